@@ -1,0 +1,114 @@
+-- What an inlet has given, and what its calls do to that.
+use Rattle.std.specs.Prelude.{◌≡◌, ◌<◌, ◌≤◌, ℕ, ℤ, pos, ◌≤ℤ◌, ◌+◌, ◌^◌, max, List, [], ◌∷◌, ◌++◌, map, take, replicate, Option, Result, Ok, Err, Bool, true, false, IfSome}
+use Rattle.std.specs.Option.{option_map}
+use Rattle.sg_device.specs.Faults.{Rose}
+use Rattle.sg_device.specs.declared.inlet.Pull.{Pull}
+use Rattle.sg_device.specs.declared.inlet.Pull.TheVariants.{Bytes, Next, Idle, End}
+use Rattle.sg_device.specs.declared.fault.InletFault.{InletFault}
+
+-- a byte, and the moment at which it came
+abbrev pub Stamped : Type 0
+Stamped = ℕ × ℤ
+
+-- what one peer gave without a break
+pub record Part : Type 0 where
+  pub peer : List ℕ
+  pub given : List Stamped
+
+pub record InletState : Type 0 where
+  -- the parts given, the present one last, where the inlet tells them
+  pub told : Option (List Part)
+  -- the bytes that a file has left, where the inlet tells them
+  pub left : Option (List ℕ)
+  -- the peer of the present part
+  pub peer : List ℕ
+  -- the place where reading began, and that plus the bytes given of the present part
+  pub from : ℕ
+  pub place : ℕ
+  -- the pulls that didn't fail, and those of them that were idle
+  pub pulls : ℕ
+  pub idles : ℕ
+  -- the bytes given, and the parts begun
+  pub bytes : ℕ
+  pub parts : ℕ
+  pub faults : ℕ
+  -- it answered End; the present part was closed
+  pub ended : Bool
+  pub hung : Bool
+
+abbrev pub stamped : List ℕ → ℤ → List Stamped
+stamped bytes at = map (λ b. (b, at)) bytes
+
+-- the parts with these bytes behind the last one, which begins with them where there is none
+abbrev pub with_bytes : List Part → List ℕ → List Stamped → List Part
+with_bytes [] peer given = (record { peer = peer; given = given }) ∷ []
+with_bytes (part ∷ []) peer given = (record part { given = part.given ++ given }) ∷ []
+with_bytes (part ∷ next ∷ parts) peer given = part ∷ with_bytes (next ∷ parts) peer given
+
+-- the parts with a new one behind them
+abbrev pub with_part : List Part → List ℕ → List Part
+with_part parts peer = parts ++ (record { peer = peer; given = [] }) ∷ []
+
+-- one byte at least, and no more than there is room for, at a moment within bounds
+abbrev pub PullIsWhole : ℕ → Result Pull InletFault → Type 0
+PullIsWhole room (Ok (Bytes len at)) = (0 < len) × (len ≤ room) × (pos 0 ≤ℤ at) × (at ≤ℤ pos 250000000000000000)
+PullIsWhole room (Ok Next) = Unit {0}
+PullIsWhole room (Ok Idle) = Unit {0}
+PullIsWhole room (Ok End) = Unit {0}
+PullIsWhole room (Err e) = Unit {0}
+
+-- Bytes go behind the last part, Next begins one, and nothing else changes the parts.
+abbrev pub PullTells : InletState → InletState → List ℕ → Result Pull InletFault → Type 0
+PullTells old new into (Ok (Bytes len at)) = (new.told ≡ option_map (λ parts. with_bytes parts new.peer (stamped (take len into) at)) old.told) × (new.peer ≡ old.peer)
+PullTells old new into (Ok Next) = new.told ≡ option_map (λ parts. with_part parts new.peer) old.told
+PullTells old new into (Ok Idle) = (new.told ≡ old.told) × (new.peer ≡ old.peer)
+PullTells old new into (Ok End) = (new.told ≡ old.told) × (new.peer ≡ old.peer)
+PullTells old new into (Err e) = (new.told ≡ old.told) × (new.peer ≡ old.peer)
+
+-- the place goes on by the bytes, stays below 2 ^ 63, and is again where reading began with a new part
+abbrev pub PullMoves : InletState → InletState → Result Pull InletFault → Type 0
+PullMoves old new (Ok (Bytes len at)) = (new.from ≡ old.from) × (new.place ≡ old.place + len) × (new.place < 2 ^ 63)
+PullMoves old new (Ok Next) = (new.from ≡ old.from) × (new.place ≡ old.from)
+PullMoves old new (Ok Idle) = (new.from ≡ old.from) × (new.place ≡ old.place)
+PullMoves old new (Ok End) = (new.from ≡ old.from) × (new.place ≡ old.place)
+PullMoves old new (Err e) = (new.from ≡ old.from) × (new.place ≡ old.place)
+
+-- the bytes left of a file lose those given, and End comes only where none is left or it was hung up
+abbrev pub PullLeaves : InletState → InletState → List ℕ → Result Pull InletFault → Type 0
+PullLeaves old new into (Ok (Bytes len at)) = old.left ≡ option_map (λ left. take len into ++ left) new.left
+PullLeaves old new into (Ok Next) = new.left ≡ old.left
+PullLeaves old new into (Ok Idle) = new.left ≡ old.left
+PullLeaves old new into (Ok End) = (new.left ≡ old.left) × (old.hung ≡ false → new.left ≡ option_map (λ _. []) old.left)
+PullLeaves old new into (Err e) = new.left ≡ old.left
+
+-- an end is for good, and a part that was hung up gives no more bytes
+abbrev pub PullCounts : InletState → InletState → Result Pull InletFault → Type 0
+PullCounts old new (Ok (Bytes len at)) = (new.pulls ≡ old.pulls + 1) × (new.idles ≡ old.idles) × (new.bytes ≡ old.bytes + len) × (new.parts ≡ max old.parts 1) × (old.ended ≡ false) × (new.ended ≡ false) × (old.hung ≡ false) × (new.hung ≡ false)
+PullCounts old new (Ok Next) = (new.pulls ≡ old.pulls + 1) × (new.idles ≡ old.idles) × (new.bytes ≡ old.bytes) × (new.parts ≡ old.parts + 1) × (old.ended ≡ false) × (new.ended ≡ false) × (new.hung ≡ false)
+PullCounts old new (Ok Idle) = (new.pulls ≡ old.pulls + 1) × (new.idles ≡ old.idles + 1) × (new.bytes ≡ old.bytes) × (new.parts ≡ old.parts) × (old.ended ≡ false) × (new.ended ≡ false) × (new.hung ≡ old.hung)
+PullCounts old new (Ok End) = (new.pulls ≡ old.pulls + 1) × (new.idles ≡ old.idles) × (new.bytes ≡ old.bytes) × (new.parts ≡ old.parts) × (new.ended ≡ true) × (new.hung ≡ old.hung)
+PullCounts old new (Err e) = (new.pulls ≡ old.pulls) × (new.idles ≡ old.idles) × (new.bytes ≡ old.bytes) × (new.parts ≡ old.parts) × (new.ended ≡ old.ended) × (new.hung ≡ old.hung)
+
+abbrev pub PullFaults : InletState → InletState → Result Pull InletFault → Type 0
+PullFaults old new (Ok pull) = old.faults ≤ new.faults
+PullFaults old new (Err e) = (old.faults ≤ new.faults) × Rose old.faults new.faults
+
+-- so many parts of this peer, with nothing given
+abbrev pub empty_parts : ℕ → List ℕ → List Part
+empty_parts count peer = replicate count (record { peer = peer; given = [] })
+
+-- nothing was given yet
+pub record IsFresh (inlet : InletState) : Type 0 where
+  pub told : IfSome inlet.told (λ parts. parts ≡ empty_parts inlet.parts inlet.peer)
+  pub one_part : inlet.parts ≤ 1
+  pub at_from : inlet.place ≡ inlet.from
+  pub in_range : inlet.from < 2 ^ 63
+  pub pulls : inlet.pulls ≡ 0
+  pub idles : inlet.idles ≡ 0
+  pub bytes : inlet.bytes ≡ 0
+  pub ended : inlet.ended ≡ false
+  pub hung : inlet.hung ≡ false
+
+-- the present part is closed, and nothing else changed
+abbrev pub HangsUp : InletState → InletState → Type 0
+HangsUp old new = new ≡ record old { hung = true }

@@ -1,0 +1,5 @@
+pub mod Faults
+pub mod Inlet
+pub mod Outlet
+pub mod Disk
+pub mod World
