@@ -21,6 +21,11 @@ pub struct InletFault;
 #[error("the outlet failed")]
 pub struct OutletFault;
 
+/// A call of a disk failed. The disk's count of faults rose.
+#[derive(Clone, Copy, Debug, PartialEq, Eq, Drop, Error)]
+#[error("the disk failed")]
+pub struct DiskFault;
+
 /// Why a frame wasn't taken.
 #[derive(Clone, Copy, Debug, PartialEq, Eq, Drop, Error)]
 pub enum SendRefusal {

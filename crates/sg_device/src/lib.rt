@@ -2,14 +2,16 @@
 //! disks, with what each call promises about them and how it can fail.
 #![tactic(auto)]
 
+mod disk;
 mod fault;
 mod inlet;
 mod name;
 mod outlet;
 mod request;
 
+pub use disk::{Disk, write_through};
 pub use fault::{
-    FileRefusal, InletFault, NoMemory, OpenRefusal, OutletFault, SayRefusal, SendRefusal,
+    DiskFault, FileRefusal, InletFault, NoMemory, OpenRefusal, OutletFault, SayRefusal, SendRefusal,
 };
 pub use inlet::{Inlet, Pull};
 pub use name::Name;
