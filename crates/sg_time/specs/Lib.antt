@@ -1,1 +1,4 @@
 pub mod Stamp
+pub mod Local
+pub mod Text
+pub mod Reading

@@ -1,0 +1,5 @@
+pub mod Numbers
+pub mod Days
+pub mod Texts
+pub mod Fractions
+pub mod Readings
