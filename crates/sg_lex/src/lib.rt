@@ -1,6 +1,16 @@
-//! The words of the configuration language: what can be wrong with a configuration, and where.
+//! The words of the configuration language: tokens with their places, what can be wrong with a
+//! configuration, and where.
 #![tactic(auto)]
 
 mod fault;
+mod lexer;
+mod piece;
+mod quoted;
+#[cfg(test)]
+mod tests;
+mod token;
+mod word;
 
 pub use fault::{ConfigFault, ConfigKind};
+pub use lexer::{TEXT_LIMIT, line_at, tokens};
+pub use token::{LexFault, Token, TokenKind};
