@@ -1,0 +1,5 @@
+pub mod Framing
+pub mod Items
+pub mod Kept
+pub mod Records
+pub mod Scans
