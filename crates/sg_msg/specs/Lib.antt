@@ -1,0 +1,3 @@
+pub mod Macros
+pub mod Message
+pub mod Places

@@ -1,0 +1,199 @@
+// The pairs of a message, in one sorted list that its handles share.
+ghost use Rattle.std.specs.Prelude.{◌≡◌, ◌<◌, [], length, remove, IfOk, IfErr, OnOk, OnErr, option_copied, slice_get, option_map};
+ghost use Rattle.sg_msg.specs.Message.{Pair as NamedValue, value_of, with_pair, without_pair, IsAscending};
+ghost use Rattle.sg_msg.specs.Places.{IsAt, IsGapFor};
+
+use bytes::Bytes;
+use std::alloc::{AllocError, Global};
+use std::marker::Model;
+use std::sync::Arc;
+
+/// A name and its value.
+#[derive(Debug, Drop)]
+pub(crate) struct Pair {
+    name: Bytes,
+    value: Bytes,
+}
+
+impl Model for Pair {
+    ghost use Rattle.sg_msg.specs.Message.{Pair as NamedValue};
+
+    ghost Value = { NamedValue };
+
+    ghost view = { λ p. record { name = p.name; value = p.value } };
+}
+
+impl Pair {
+    fn name(&self) -> &[u8]
+        ensures { result.now ≡ self.now.name }
+    {
+        &self.name
+    }
+
+    fn value(&self) -> &[u8]
+        ensures { result.now ≡ self.now.value }
+    {
+        &self.value
+    }
+
+    fn put(&mut self, value: Bytes)
+        ensures { self.new ≡ record self.old { value = value } }
+    {
+        self.value = value;
+    }
+}
+
+impl Clone for Pair {
+    ghost is_clone = { λ pair copy. copy ≡ pair };
+
+    fn clone(&self) -> Result<Pair, AllocError> {
+        Ok(Pair {
+            name: self.name.clone()?,
+            value: self.value.clone()?,
+        })
+    }
+}
+
+/// The pairs in order, and the record that they were read from.
+#[derive(Debug, Drop)]
+struct Base {
+    raw: Bytes,
+    pairs: Vec<Pair>,
+}
+
+impl Model for Base {
+    ghost use Rattle.std.specs.Prelude.{List};
+    ghost use Rattle.sg_msg.specs.Message.{Pair as NamedValue};
+
+    ghost Value = { List NamedValue };
+
+    ghost view = { λ b. b.pairs.items };
+}
+
+impl Clone for Base {
+    ghost is_clone = { λ base copy. copy ≡ base };
+
+    fn clone(&self) -> Result<Base, AllocError> {
+        Ok(Base {
+            raw: self.raw.clone()?,
+            pairs: self.pairs.clone()?,
+        })
+    }
+}
+
+impl Base {
+    // Where the name is, or where it would go.
+    fn search(&self, name: &[u8]) -> Result<usize, usize>
+        requires { IsAscending self.now }
+        ensures found { IfOk result (IsAt self.now name.now) }
+        ensures absent { IfErr result (IsGapFor self.now name.now) }
+    {
+        self.pairs.binary_search_by(|pair| pair.name().cmp(name))
+    }
+
+    fn set(&mut self, alloc: Global, name: &[u8], value: Bytes) -> Result<(), AllocError>
+        requires { IsAscending self.old }
+        ensures ok { OnOk result (self.new ≡ with_pair name.now value self.old) }
+        ensures err { OnErr result (self.new ≡ self.old) }
+    {
+        match self.search(name) {
+            Ok(place) => self.pairs[place].put(value),
+            Err(place) => {
+                let name = Bytes::copy_from_slice(alloc, name)?;
+                self.pairs.insert(place, Pair { name, value })?;
+            }
+        }
+        Ok(())
+    }
+
+    fn remove(&mut self, place: usize)
+        requires { place < length self.old }
+        ensures { self.new ≡ remove self.old place }
+    {
+        self.pairs.remove(place);
+    }
+}
+
+/// The pairs of a message, seen as their list.
+#[derive(Debug, Drop)]
+pub(crate) struct Pairs {
+    alloc: Global,
+    base: Arc<Base>,
+}
+
+impl Model for Pairs {
+    ghost use Rattle.std.specs.Prelude.{List};
+    ghost use Rattle.std.specs.Arc.{arc_value};
+    ghost use Rattle.sg_msg.specs.Message.{Pair as NamedValue};
+
+    ghost Value = { List NamedValue };
+
+    ghost view = { λ p. arc_value p.base };
+}
+
+impl Pairs {
+    pub(crate) fn new(alloc: Global, raw: Bytes) -> Result<Pairs, AllocError>
+        ensures { IfOk result (λ pairs. pairs ≡ []) }
+    {
+        let base = Base {
+            raw,
+            pairs: Vec::new(alloc),
+        };
+        Ok(Pairs {
+            alloc,
+            base: Arc::new(alloc, base)?,
+        })
+    }
+
+    pub(crate) fn share(&self) -> Result<Pairs, AllocError>
+        ensures { IfOk result (λ pairs. pairs ≡ self.now) }
+    {
+        Ok(Pairs {
+            alloc: self.alloc,
+            base: Arc::try_clone(&self.base)?,
+        })
+    }
+
+    pub(crate) fn alloc(&self) -> Global {
+        self.alloc
+    }
+
+    pub(crate) fn get(&self, name: &[u8]) -> Option<&[u8]>
+        requires { IsAscending self.now }
+        ensures { option_copied result ≡ value_of name.now self.now }
+    {
+        match self.base.search(name) {
+            Ok(place) => Some(self.base.pairs[place].value()),
+            Err(_) => None,
+        }
+    }
+
+    pub(crate) fn pair(&self, place: usize) -> Option<(&[u8], &[u8])>
+        ensures { option_map (λ pair. record { name = pair.0.now; value = pair.1.now }) result
+            ≡ slice_get self.now place }
+    {
+        let pair = self.base.pairs.get(place)?;
+        Some((pair.name(), pair.value()))
+    }
+
+    pub(crate) fn set(&mut self, name: &[u8], value: Bytes) -> Result<(), AllocError>
+        requires { IsAscending self.old }
+        ensures ok { OnOk result (self.new ≡ with_pair name.now value self.old) }
+        ensures err { OnErr result (self.new ≡ self.old) }
+    {
+        let alloc = self.alloc;
+        Arc::make_mut(&mut self.base)?.set(alloc, name, value)
+    }
+
+    pub(crate) fn unset(&mut self, name: &[u8]) -> Result<(), AllocError>
+        requires { IsAscending self.old }
+        ensures ok { OnOk result (self.new ≡ without_pair name.now self.old) }
+        ensures err { OnErr result (self.new ≡ self.old) }
+    {
+        match self.base.search(name) {
+            Ok(place) => Arc::make_mut(&mut self.base)?.remove(place),
+            Err(_) => {}
+        }
+        Ok(())
+    }
+}

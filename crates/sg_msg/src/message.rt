@@ -1,0 +1,218 @@
+// A handle to a message.
+ghost use Rattle.std.specs.Prelude.{◌≡◌, ◌≤◌, ◌↔◌, true, [], IfOk, OnOk, OnErr, length, option_copied, option_map, slice_get};
+ghost use Rattle.sg_time.specs.Stamp.{IsValid};
+ghost use Rattle.sg_msg.specs.Macros.{is_hard};
+ghost use Rattle.sg_msg.specs.Message.{IsMessage, KeepsOthers, value_of, with_pair, without_pair, with_tag, without_tag};
+
+use crate::base::Pairs;
+use crate::tags::Tags;
+use crate::{MsgRefusal, is_hard};
+use bytes::Bytes;
+use sg_time::Stamp;
+use std::alloc::{AllocError, Global};
+use std::marker::Model;
+
+/// A handle to what a record says.
+///
+/// Handles share their pairs and their tags. A change is that handle's own: every other handle says
+/// what it said before.
+#[derive(Debug, Drop)]
+pub struct Message {
+    pri: u8,
+    sent: Stamp,
+    received: Stamp,
+    pairs: Pairs,
+    tags: Tags,
+}
+
+impl Model for Message {
+    ghost use Rattle.sg_msg.specs.Message.{Content, IsMessage};
+
+    ghost Value = { Content };
+
+    ghost view = { λ m. record {
+      pri = m.pri;
+      sent = m.sent;
+      received = m.received;
+      pairs = m.pairs;
+      tags = m.tags;
+    } };
+
+    ghost invariant = { λ m. IsMessage (record {
+      pri = m.pri;
+      sent = m.sent;
+      received = m.received;
+      pairs = m.pairs;
+      tags = m.tags;
+    }) };
+}
+
+impl Message {
+    /// A message without pairs and tags. `raw` is the record that its values are slices of, which
+    /// the message keeps.
+    pub fn new(
+        alloc: Global,
+        raw: Bytes,
+        pri: u8,
+        sent: Stamp,
+        received: Stamp,
+    ) -> Result<Message, AllocError>
+        requires pri { pri ≤ 191 }
+        requires sent { IsValid sent }
+        requires received { IsValid received }
+        ensures { IfOk result (λ message. message ≡ record {
+          pri = pri;
+          sent = sent;
+          received = received;
+          pairs = [];
+          tags = [];
+        }) }
+    {
+        Ok(Message {
+            pri,
+            sent,
+            received,
+            pairs: Pairs::new(alloc, raw)?,
+            tags: Tags::new(alloc)?,
+        })
+    }
+
+    /// Another handle, which says the same. No byte is copied, and no list.
+    pub fn share(&self) -> Result<Message, AllocError>
+        ensures { IfOk result (λ message. message ≡ self.now) }
+    {
+        Ok(Message {
+            pri: self.pri,
+            sent: self.sent,
+            received: self.received,
+            pairs: self.pairs.share()?,
+            tags: self.tags.share()?,
+        })
+    }
+
+    /// The facility times 8, plus the severity (RFC 5424, 6.2.1): 0 to 191.
+    pub fn pri(&self) -> u8
+        ensures value { result ≡ self.now.pri }
+        ensures whole { IsMessage self.now }
+    {
+        self.pri
+    }
+
+    /// The message's own stamp.
+    pub fn sent(&self) -> Stamp
+        ensures { result ≡ self.now.sent }
+    {
+        self.sent
+    }
+
+    /// The stamp of its arrival.
+    pub fn received(&self) -> Stamp
+        ensures { result ≡ self.now.received }
+    {
+        self.received
+    }
+
+    /// The value of this name.
+    pub fn get(&self, name: &[u8]) -> Option<&[u8]>
+        ensures { option_copied result ≡ value_of name.now self.now.pairs }
+    {
+        self.pairs.get(name)
+    }
+
+    /// The name and the value at this place of the pairs, which stand in ascending byte order of
+    /// their names. None from the end on.
+    pub fn pair(&self, place: usize) -> Option<(&[u8], &[u8])>
+        ensures { option_map (λ pair. record { name = pair.0.now; value = pair.1.now }) result
+            ≡ slice_get self.now.pairs place }
+    {
+        self.pairs.pair(place)
+    }
+
+    /// The tag at this place of the tags, which stand in the order set. None from the end on.
+    pub fn tag(&self, place: usize) -> Option<&[u8]>
+        ensures { option_copied result ≡ slice_get self.now.tags place }
+    {
+        self.tags.get(place)
+    }
+
+    /// The number of layers over the shared list of pairs. There are none: the list is copied at the
+    /// first change after `share`.
+    pub fn layers(&self) -> u32
+        ensures { result ≡ 0 }
+    {
+        0
+    }
+
+    /// Gives the name this value, in place of the one that it had. A refusal leaves the message as
+    /// it was.
+    pub fn set(&mut self, name: &[u8], value: &[u8]) -> Result<(), MsgRefusal>
+        requires { (1 ≤ length name.now) × (length name.now ≤ 255) }
+        ensures ok { OnOk result (self.new
+            ≡ record self.old { pairs = with_pair name.now value.now self.old.pairs }) }
+        ensures value { OnOk result (value_of name.now self.new.pairs ≡ Some value.now) }
+        ensures others { OnOk result (KeepsOthers name.now self.old.pairs self.new.pairs) }
+        ensures hard { (result ≡ Err MsgRefusal.HardMacro) ↔ (is_hard name.now ≡ true) }
+        ensures err { OnErr result (self.new ≡ self.old) }
+    {
+        if is_hard(name) {
+            return Err(MsgRefusal::HardMacro);
+        }
+        let value = Bytes::copy_from_slice(self.pairs.alloc(), value)?;
+        self.pairs.set(name, value)?;
+        Ok(())
+    }
+
+    /// As `set`, with a value whose memory is shared, as a slice of the record is.
+    pub fn set_bytes(&mut self, name: &[u8], value: Bytes) -> Result<(), MsgRefusal>
+        requires { (1 ≤ length name.now) × (length name.now ≤ 255) }
+        ensures ok { OnOk result (self.new
+            ≡ record self.old { pairs = with_pair name.now value self.old.pairs }) }
+        ensures value { OnOk result (value_of name.now self.new.pairs ≡ Some value) }
+        ensures others { OnOk result (KeepsOthers name.now self.old.pairs self.new.pairs) }
+        ensures hard { (result ≡ Err MsgRefusal.HardMacro) ↔ (is_hard name.now ≡ true) }
+        ensures err { OnErr result (self.new ≡ self.old) }
+    {
+        if is_hard(name) {
+            return Err(MsgRefusal::HardMacro);
+        }
+        self.pairs.set(name, value)?;
+        Ok(())
+    }
+
+    /// Takes the pair of this name out, where there is one. A refusal leaves the message as it was.
+    pub fn unset(&mut self, name: &[u8]) -> Result<(), MsgRefusal>
+        requires { (1 ≤ length name.now) × (length name.now ≤ 255) }
+        ensures ok { OnOk result (self.new
+            ≡ record self.old { pairs = without_pair name.now self.old.pairs }) }
+        ensures value { OnOk result (value_of name.now self.new.pairs ≡ None) }
+        ensures others { OnOk result (KeepsOthers name.now self.old.pairs self.new.pairs) }
+        ensures hard { (result ≡ Err MsgRefusal.HardMacro) ↔ (is_hard name.now ≡ true) }
+        ensures err { OnErr result (self.new ≡ self.old) }
+    {
+        if is_hard(name) {
+            return Err(MsgRefusal::HardMacro);
+        }
+        self.pairs.unset(name)?;
+        Ok(())
+    }
+
+    /// Adds the tag at the end, where it isn't set. On an error the message is as it was.
+    pub fn set_tag(&mut self, tag: &[u8]) -> Result<(), AllocError>
+        ensures ok { OnOk result (self.new
+            ≡ record self.old { tags = with_tag tag.now self.old.tags }) }
+        ensures err { OnErr result (self.new ≡ self.old) }
+    {
+        self.tags.set(tag)?;
+        Ok(())
+    }
+
+    /// Takes the tag out, where it is set. On an error the message is as it was.
+    pub fn clear_tag(&mut self, tag: &[u8]) -> Result<(), AllocError>
+        ensures ok { OnOk result (self.new
+            ≡ record self.old { tags = without_tag tag.now self.old.tags }) }
+        ensures err { OnErr result (self.new ≡ self.old) }
+    {
+        self.tags.clear(tag)?;
+        Ok(())
+    }
+}

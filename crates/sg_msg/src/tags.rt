@@ -1,0 +1,128 @@
+// The tags of a message, in one list that its handles share.
+ghost use Rattle.std.specs.Prelude.{◌≡◌, ◌<◌, [], ◌∷◌, ◌++◌, length, remove, IfOk, OnOk, OnErr, option_copied, slice_get, position, bytes_eq};
+ghost use Rattle.sg_msg.specs.Message.{has_tag, with_tag, without_tag};
+
+use bytes::Bytes;
+use std::alloc::{AllocError, Global};
+use std::marker::Model;
+use std::sync::Arc;
+
+/// The tags in order.
+#[derive(Debug, Drop)]
+struct List {
+    tags: Vec<Bytes>,
+}
+
+impl Model for List {
+    ghost use Rattle.std.specs.Prelude.{ℕ, List as Sequence};
+
+    ghost Value = { Sequence (Sequence ℕ) };
+
+    ghost view = { λ l. l.tags.items };
+}
+
+impl Clone for List {
+    ghost is_clone = { λ list copy. copy ≡ list };
+
+    fn clone(&self) -> Result<List, AllocError> {
+        Ok(List {
+            tags: self.tags.clone()?,
+        })
+    }
+}
+
+impl List {
+    fn push(&mut self, tag: Bytes) -> Result<(), AllocError>
+        ensures ok { OnOk result (self.new ≡ self.old ++ tag ∷ []) }
+        ensures err { OnErr result (self.new ≡ self.old) }
+    {
+        self.tags.push(tag)?;
+        Ok(())
+    }
+
+    fn remove(&mut self, place: usize)
+        requires { place < length self.old }
+        ensures { self.new ≡ remove self.old place }
+    {
+        self.tags.remove(place);
+    }
+}
+
+/// The tags of a message, seen as their list.
+#[derive(Debug, Drop)]
+pub(crate) struct Tags {
+    alloc: Global,
+    list: Arc<List>,
+}
+
+impl Model for Tags {
+    ghost use Rattle.std.specs.Prelude.{ℕ, List as Sequence};
+    ghost use Rattle.std.specs.Arc.{arc_value};
+
+    ghost Value = { Sequence (Sequence ℕ) };
+
+    ghost view = { λ t. arc_value t.list };
+}
+
+impl Tags {
+    pub(crate) fn new(alloc: Global) -> Result<Tags, AllocError>
+        ensures { IfOk result (λ tags. tags ≡ []) }
+    {
+        let list = List {
+            tags: Vec::new(alloc),
+        };
+        Ok(Tags {
+            alloc,
+            list: Arc::new(alloc, list)?,
+        })
+    }
+
+    pub(crate) fn share(&self) -> Result<Tags, AllocError>
+        ensures { IfOk result (λ tags. tags ≡ self.now) }
+    {
+        Ok(Tags {
+            alloc: self.alloc,
+            list: Arc::try_clone(&self.list)?,
+        })
+    }
+
+    pub(crate) fn get(&self, place: usize) -> Option<&[u8]>
+        ensures { option_copied result ≡ slice_get self.now place }
+    {
+        Some(self.list.tags.get(place)?.as_slice())
+    }
+
+    pub(crate) fn set(&mut self, tag: &[u8]) -> Result<(), AllocError>
+        ensures ok { OnOk result (self.new ≡ with_tag tag.now self.old) }
+        ensures err { OnErr result (self.new ≡ self.old) }
+    {
+        if self.has(tag) {
+            return Ok(());
+        }
+        let tag = Bytes::copy_from_slice(self.alloc, tag)?;
+        Arc::make_mut(&mut self.list)?.push(tag)
+    }
+
+    pub(crate) fn clear(&mut self, tag: &[u8]) -> Result<(), AllocError>
+        ensures ok { OnOk result (self.new ≡ without_tag tag.now self.old) }
+        ensures err { OnErr result (self.new ≡ self.old) }
+    {
+        match self.place(tag) {
+            Some(place) => Arc::make_mut(&mut self.list)?.remove(place),
+            None => {}
+        }
+        Ok(())
+    }
+
+    fn has(&self, tag: &[u8]) -> bool
+        ensures { result ≡ has_tag tag.now self.now }
+    {
+        self.list.tags.iter().any(|set| set.as_slice() == tag)
+    }
+
+    fn place(&self, tag: &[u8]) -> Option<usize>
+        ensures { result ≡ position (λ set. bytes_eq set tag.now) self.now }
+    {
+        self.list.tags.iter().position(|set| set.as_slice() == tag)
+    }
+}
