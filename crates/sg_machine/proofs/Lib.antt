@@ -1,0 +1,12 @@
+pub mod LengthLemmas
+pub mod MarkLemmas
+pub mod OfferLemmas
+pub mod SpoolLemmas
+pub mod RunLemmas
+pub mod CountLemmas
+pub mod InletLemmas
+pub mod FlowLemmas
+pub mod WindowLaws
+pub mod PositionLemmas
+pub mod HeldLemmas
+pub mod SafeLemmas

@@ -1,0 +1,186 @@
+-- What the stores may hold where a run is cut off, after the events and within the one that follows.
+use Rattle.std.specs.Prelude.{◌≡◌, ◌≤◌, ℕ, ◌==◌, nat_lt, nat_le, Bool, true, false, ◌&&◌, not, if◌then◌else◌, Option, Some, None, is_some, option_to_list, option_and_then, List, [], ◌∷◌, ◌++◌, length, map, filter, take, drop, slice_get, Contains}
+use Rattle.std.specs.Option.{option_map_or}
+use Rattle.sg_msg.specs.declared.offer.Offer.{Offer}
+use Rattle.sg_list.specs.Lists.{change}
+use Rattle.sg_machine.specs.declared.event.Verdict.{Verdict}
+use Rattle.sg_machine.specs.declared.event.Verdict.TheVariants.{Spooled}
+use Rattle.sg_machine.specs.declared.event.Act.{Act}
+use Rattle.sg_machine.specs.declared.event.Act.TheVariants.{Admit, Settle, Refill, Store, Rewind, Look}
+use Rattle.sg_machine.specs.declared.event.Event.{Event}
+use Rattle.sg_machine.specs.declared.state.Origin.{Origin}
+use Rattle.sg_machine.specs.declared.state.Entry.{Entry}
+use Rattle.sg_machine.specs.declared.state.Inlet.{Inlet}
+use Rattle.sg_machine.specs.declared.state.Dest.{Dest}
+use Rattle.sg_machine.specs.declared.state.State.{State}
+use Rattle.sg_machine.specs.Verdicts.{is_listed, same_verdict, judged_at, take_offer}
+use Rattle.sg_machine.specs.Marks.{mark_of}
+use Rattle.sg_machine.specs.Legal.{store_of, is_nil}
+use Rattle.sg_machine.specs.Effects.{after, origin_of}
+use Rattle.sg_machine.specs.Runs.{Kept, after_all}
+use Rattle.sg_machine.specs.Counts.{as_kept, is_spooled}
+
+-- what the stores hold: a position for each inlet, and a list for each destination; of one without a
+-- store it says nothing
+pub record Images : Type 0 where
+  pub positions : List ℕ
+  pub lists : List (List Kept)
+
+-- one of these stores is that one
+abbrev pub has_failed : List ℕ → Option ℕ → Bool
+has_failed failed store = option_map_or (λ s. is_listed s failed) store false
+
+-- the first, or the second where there is none
+abbrev pub first_of : {A : Type 0} → Option A → Option A → Option A
+first_of None second = second
+first_of (Some x) second = Some x
+
+-- Positions.
+
+-- the position that an event in which the inlet's store fails may have written: the mark, or 0 where
+-- no record was admitted before
+abbrev pub failing_position : State → Event → ℕ → Inlet → Option ℕ
+failing_position state event i inlet =
+    if has_failed event.failed inlet.setup.store then Some (if is_nil inlet.ends then 0 else mark_of state.dests i inlet) else None
+
+-- the same of the first such event
+abbrev pub failed_position : State → List Event → ℕ → Option ℕ
+failed_position state [] i = None
+failed_position state (e ∷ es) i =
+    first_of (option_and_then (failing_position state e i) (slice_get state.inlets i)) (failed_position (after state e) es i)
+
+-- the position that the act is writing
+abbrev pub running_position : Act → ℕ → Option ℕ
+running_position (Store j w) i = if j == i then Some w else None
+running_position (Rewind j) i = if j == i then Some 0 else None
+running_position _ i = None
+
+-- Lists.
+
+-- the entries of Spooled(d), in order
+abbrev pub spooled_of : List Entry → List Kept
+spooled_of entries = map as_kept (filter is_spooled entries)
+
+-- the offers to d that an Admit spools, in order
+abbrev pub spooled_offers : ℕ → ℕ → ℕ → List Offer → List Verdict → List Kept
+spooled_offers d i end [] vs = []
+spooled_offers d i end (o ∷ os) [] = []
+spooled_offers d i end (o ∷ os) (v ∷ vs) =
+    if o.dest == d && same_verdict Spooled v
+    then record { inlet = i; end = end; flow = o.flow; message = o.message } ∷ spooled_offers d i end os vs
+    else spooled_offers d i end os vs
+
+-- the first entry that waits
+abbrev pub first_waiting : List Entry → Option Kept
+first_waiting [] = None
+first_waiting (e ∷ es) = if e.spooled then first_waiting es else Some (as_kept e)
+
+-- what an act appends at d
+abbrev pub appends : Act → ℕ → Dest → List Kept
+appends (Admit i end offers verdicts) d dest = spooled_offers d i end offers verdicts
+appends (Refill e) d dest = if e == d then option_to_list (first_waiting dest.left) else []
+appends _ d dest = []
+
+-- the first offer with which this store fails, each judged after the ones before
+abbrev pub failing_offer : ℕ → Origin → List Dest → List ℕ → List Offer → List Verdict → Option Kept
+failing_offer s origin dests failed [] vs = None
+failing_offer s origin dests failed (o ∷ os) [] = None
+failing_offer s origin dests failed (o ∷ os) (v ∷ vs) =
+    option_and_then
+    (λ failed_then.
+    if is_listed s failed_then && not (is_listed s failed)
+    then Some (record { inlet = origin.inlet; end = origin.end; flow = o.flow; message = o.message })
+    else failing_offer s origin (change dests o.dest (take_offer origin o v)) failed_then os vs)
+    (judged_at (slice_get dests o.dest) failed o v)
+
+-- the entry that an act in which this store fails may have appended: the offer at which it fails, or
+-- at a Look the first entry that waited
+abbrev pub failing_append : State → Act → ℕ → Dest → Option Kept
+failing_append state (Admit i end offers verdicts) s dest = failing_offer s (origin_of state i end) state.dests state.failed offers verdicts
+failing_append state Look s dest = first_waiting dest.left
+failing_append state _ s dest = None
+
+abbrev pub failing_entry : State → Event → Dest → Option Kept
+failing_entry state event dest =
+    option_and_then (λ s. if is_listed s event.failed then failing_append state event.act s dest else None) (store_of dest)
+
+-- the same of the first event in which the store of d fails
+abbrev pub failed_entry : State → List Event → ℕ → Option Kept
+failed_entry state [] d = None
+failed_entry state (e ∷ es) d =
+    first_of (option_and_then (failing_entry state e) (slice_get state.dests d)) (failed_entry (after state e) es d)
+
+-- the settled entries, that of a Settle(d) included
+abbrev pub settled_by : Act → ℕ → Dest → List Entry
+settled_by (Settle e) d dest = if e == d then dest.settled ++ take 1 dest.left else dest.settled
+settled_by _ d dest = dest.settled
+
+-- the entries that are left then
+abbrev pub left_by : Act → ℕ → Dest → List Entry
+left_by (Settle e) d dest = if e == d then drop 1 dest.left else dest.left
+left_by _ d dest = dest.left
+
+abbrev pub is_settle : Act → ℕ → Bool
+is_settle (Settle e) d = e == d
+is_settle _ d = false
+
+-- The list is Spooled(d) less its first entries, and behind them at first some of what the act
+-- appends and then the entry of an append that failed. Those taken away are settled, and they are all
+-- the settled ones where the store works and no Settle(d) is on.
+pub record IsSafeList (dest : Dest) (d : ℕ) (act : Act) (failed : List ℕ) (tried : Option Kept) (list : List Kept) : Type 0 where
+  pub gone : ℕ
+  pub added : ℕ
+  pub parts : list ≡ drop gone (spooled_of (dest.settled ++ dest.left)) ++ take added (appends act d dest ++ option_to_list tried)
+  pub settled : gone ≤ length (spooled_of (settled_by act d dest))
+  pub all_settled : has_failed failed (store_of dest) ≡ false → is_settle act d ≡ false → gone ≡ length (spooled_of dest.settled)
+
+-- Records.
+
+-- each end is above the one before, and the first above `from`
+abbrev pub rises : ℕ → List ℕ → Bool
+rises from [] = true
+rises from (end ∷ ends) = nat_lt from end && rises end ends
+
+-- the entry is of an offer with flow-control of a record of i, which ends at or below the position
+abbrev pub is_below : ℕ → ℕ → Entry → Bool
+is_below i position e = e.inlet == i && is_some e.number && e.flow && nat_le e.end position
+
+-- each such entry that is left is in the list
+abbrev pub AreHeld : ℕ → ℕ → List Entry → List Kept → Type 0
+AreHeld i position [] list = Unit {0}
+AreHeld i position (e ∷ es) list = (is_below i position e ≡ true → Contains list (as_kept e)) × AreHeld i position es list
+
+-- what a list holds of a destination: nothing where there is no disk-buffer
+abbrev pub held_in : List Kept → Dest → List Kept
+held_in list dest = if is_some dest.setup.buffer then list else []
+
+-- The images are of these stores: an inlet's has its stored position, the one that the act is
+-- writing or one that failed, and a disk-buffer's is a safe list.
+pub record AreImages (state : State) (event : Event) (tried_positions : ℕ → Option ℕ) (tried_entries : ℕ → Option Kept) (images : Images) : Type 0 where
+  pub every_position : length images.positions ≡ length state.inlets
+  pub every_list : length images.lists ≡ length state.dests
+  pub stored : (i : ℕ) (inlet : Inlet) (position : ℕ) → slice_get state.inlets i ≡ Some inlet → is_some inlet.setup.store ≡ true → slice_get images.positions i ≡ Some position
+      → is_listed position (inlet.stored ∷ option_to_list (running_position event.act i) ++ option_to_list (tried_positions i)) ≡ true
+  pub safe_lists : (d : ℕ) (dest : Dest) (list : List Kept) → slice_get state.dests d ≡ Some dest → is_some dest.setup.buffer ≡ true → slice_get images.lists d ≡ Some list
+      → IsSafeList dest d event.act (state.failed ++ event.failed) (tried_entries d) list
+
+-- of each inlet with a store whose ends rise from its opening place, the offers with flow-control of
+-- records that end at or below the image's position are settled, or stand in the images
+abbrev pub CoversRecords : State → Event → Images → Type 0
+CoversRecords state event images =
+    (i : ℕ) (inlet : Inlet) (position d : ℕ) (dest : Dest) (list : List Kept) → slice_get state.inlets i ≡ Some inlet → is_some inlet.setup.store ≡ true → rises inlet.opening inlet.ends ≡ true
+    → slice_get images.positions i ≡ Some position → slice_get state.dests d ≡ Some dest → slice_get images.lists d ≡ Some list → AreHeld i position (left_by event.act d dest) (held_in list dest)
+
+-- the images after these events, with the one that follows on
+abbrev pub ImagesAt : State → List Event → Event → Images → Type 0
+ImagesAt start events event images =
+    AreImages (after_all start events) event (failed_position start (events ++ event ∷ [])) (failed_entry start (events ++ event ∷ [])) images
+
+-- they are safe
+pub record Safe (start : State) (events : List Event) (event : Event) (images : Images) : Type 0 where
+  pub images_at : ImagesAt start events event images
+  pub covers : CoversRecords (after_all start events) event images
+
+-- the event that stands for none that follows
+abbrev pub nothing : Event
+nothing = record { act = Look; failed = [] }

@@ -1,0 +1,41 @@
+// What holds of every legal list of events. The functions here do nothing: their contracts are laws.
+ghost use Rattle.std.specs.Prelude.{◌≡◌, ℕ, List, [], ◌∷◌, ◌++◌, true, Some, slice_get};
+ghost use Rattle.sg_machine.specs.declared.event.Event.{Event};
+ghost use Rattle.sg_machine.specs.declared.setup.Setup.{Setup};
+ghost use Rattle.sg_machine.specs.declared.state.Dest.{Dest};
+ghost use Rattle.sg_machine.specs.declared.state.Inlet.{Inlet};
+ghost use Rattle.sg_machine.specs.declared.state.State.{State};
+ghost use Rattle.sg_machine.specs.Runs.{Opening, opened, after_all, are_legal};
+ghost use Rattle.sg_machine.specs.Safe.{Images, ImagesAt, Safe};
+ghost use Rattle.sg_machine.specs.Counts.{CountsDest, CountsInlet, KeepsOrder, WithinWindows, flow_drops};
+
+/// The state after legal events has what the events count: of each destination what is settled,
+/// kept, spooled and dropped, of each inlet its records and what is stored.
+pub fn counts_hold()
+    ensures dests { (start : State) (events : List Event) (d : ℕ) (old : Dest) → are_legal start events ≡ true → slice_get start.dests d ≡ Some old → (new : Dest) × (slice_get (after_all start events).dests d ≡ Some new) × CountsDest old new d events }
+    ensures inlets { (start : State) (events : List Event) (i : ℕ) (old : Inlet) → are_legal start events ≡ true → slice_get start.inlets i ≡ Some old → (new : Inlet) × (slice_get (after_all start events).inlets i ≡ Some new) × CountsInlet start old new i events }
+{}
+
+/// Behind what was kept before, a destination keeps the offers of each inlet in order, less the
+/// dropped ones.
+pub fn order_holds()
+    ensures { (start : State) (events : List Event) (d : ℕ) (old : Dest) → are_legal start events ≡ true → slice_get start.dests d ≡ Some old → (new : Dest) × (slice_get (after_all start events).dests d ≡ Some new) × KeepsOrder old new d events }
+{}
+
+/// No offer with flow-control is dropped.
+pub fn flow_holds()
+    ensures { (start : State) (events : List Event) → are_legal start events ≡ true → flow_drops events ≡ 0 }
+{}
+
+/// No more records are outstanding than the windows have, from each opening on, and from each state
+/// in which this holds.
+pub fn windows_hold()
+    ensures opened { (setup : Setup) (opening : Opening) → WithinWindows (opened setup opening) }
+    ensures kept { (start : State) (events : List Event) → WithinWindows start → are_legal start events ≡ true → WithinWindows (after_all start events) }
+{}
+
+/// Where the positions and the lists in the stores are what the events may leave, they are safe: no
+/// position has passed a record with an offer that is neither settled nor in its disk-buffer.
+pub fn safety_holds()
+    ensures { (setup : Setup) (opening : Opening) (events : List Event) (event : Event) (images : Images) → are_legal (opened setup opening) (events ++ event ∷ []) ≡ true → ImagesAt (opened setup opening) events event images → Safe (opened setup opening) events event images }
+{}
