@@ -1,0 +1,4 @@
+pub mod Cells
+pub mod Putting
+pub mod Positions
+pub mod Looking

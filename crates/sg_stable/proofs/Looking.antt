@@ -1,0 +1,50 @@
+-- What the first 128 bytes show of a store.
+use Rattle.std.proofs.Common.{◌≡◌, ◌∙◌, sym, ℕ, List, ◌<◌, ◌≤◌, length, get_or, arith}
+use Rattle.std.specs.Prelude.{Result, Ok, Err, IfOk, IfErr, OnOk}
+use Rattle.sg_device.specs.Disk.{DiskState, content, Preserves, Durable, WhereTold}
+use Rattle.sg_device.proofs.Disks.{told_before}
+use Rattle.sg_device.proofs.DiskCalls.{durable_same}
+use Rattle.sg_stable.specs.declared.cell.Pair.{Pair}
+use Rattle.sg_stable.specs.declared.fault.StoreRefusal.{StoreRefusal}
+use Rattle.sg_stable.specs.declared.fault.StoreRefusal.TheVariants.{Damage, DiskFault, NoMemory}
+use Rattle.sg_stable.specs.Refusal.{HasReason}
+use Rattle.sg_stable.specs.Cell.{HasCell}
+use Rattle.sg_stable.specs.Position.{IsPosition, IsFirstNonzero, IsDamagedAt, ZeroOutside}
+use Rattle.sg_stable.proofs.Cells.{value_of}
+
+module _ (b after : List ℕ) (same : (k : ℕ) → k < 128 → get_or after k 0 ≡ get_or b k 0) where
+  pub nonzero_there : (at : ℕ) → IsFirstNonzero at after → IsFirstNonzero at b
+  nonzero_there at first = record {
+    inside = first.inside;
+    outside = first.outside;
+    nonzero = λ zero. first.nonzero (same at first.inside ∙ zero);
+    before = λ k lt out. sym (same k (omega (arith, lt, first.inside))) ∙ first.before k lt out;
+  }
+
+  pub zeros_there : ZeroOutside after → ZeroOutside b
+  zeros_there zeros k lt out = sym (same k lt) ∙ zeros k lt out
+
+  pub position_there : (s v n : ℕ) → ZeroOutside after → n ≡ length b → n ≡ 128 → HasCell s v b → IsPosition v b
+  position_there s v n zeros long is cell = record {
+    shape = record { size = omega arith; zeros = zeros_there zeros };
+    holds = value_of s v b cell;
+  }
+
+-- the reason, from before a call that changed nothing
+reason_before : (d0 d1 d2 : DiskState) (refusal : StoreRefusal) → Preserves d0 d1 → d0.faults ≤ d1.faults → HasReason d1 d2 refusal → HasReason d0 d2 refusal
+reason_before d0 d1 d2 (Damage at) keeps later why = told_before d0 d1 (IsDamagedAt at) keeps why
+reason_before d0 d1 d2 DiskFault keeps later why = omega (arith, later, why)
+reason_before d0 d1 d2 NoMemory keeps later why = absurd why
+
+module _ (d0 d1 d2 : DiskState) (keeps : Preserves d0 d1) where
+  pub reasons_before : (r : Result Pair StoreRefusal) → d0.faults ≤ d1.faults → IfErr r (HasReason d1 d2) → IfErr r (HasReason d0 d2)
+  reasons_before (Ok cell) later why = why
+  reasons_before (Err refusal) later why = reason_before d0 d1 d2 refusal keeps later why
+
+  pub cells_before : (P : Pair → List ℕ → Type 0) (r : Result Pair StoreRefusal) → IfOk r (λ cell. WhereTold (content d1) (P cell)) → IfOk r (λ cell. WhereTold (content d0) (P cell))
+  cells_before P (Ok cell) told = told_before d0 d1 (P cell) keeps told
+  cells_before P (Err refusal) told = told
+
+  pub durable_before : (r : Result Pair StoreRefusal) → d2.told ≡ d1.told → Durable d1 → OnOk r (Durable d2)
+  durable_before (Ok cell) is durable = durable_same d1 d2 is durable
+  durable_before (Err refusal) is durable = tt
