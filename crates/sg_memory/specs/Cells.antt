@@ -1,0 +1,38 @@
+-- Closed devices in memory.
+use Rattle.std.specs.Prelude.{List, [], ◌∷◌, ◌++◌, Option, Some, None, Box}
+use Rattle.std.specs.declared.alloc.Global.{Global}
+use Rattle.sg_device.specs.Inlet.{InletState}
+use Rattle.sg_device.specs.Outlet.{OutletState}
+use Rattle.sg_memory.specs.Inlet.{inlet_of}
+use Rattle.sg_memory.specs.Outlet.{outlet_of}
+use Rattle.sg_memory.specs.declared.cells.InletCell.{InletCell, InletCell', Held-InletCell-before, None', Some'}
+use Rattle.sg_memory.specs.declared.cells.OutletCell.{OutletCell, OutletCell', Held-OutletCell-before, None' as NoOutlet, Some' as SomeOutlet}
+
+abbrev pub listed : {A B : Type 0} → (A → B) → Option A → List B
+listed f None = []
+listed f (Some x) = f x ∷ []
+
+abbrev mutual
+  pub inlet_cells : InletCell → List InletState
+  inlet_cells (InletCell' closed before) = inlet_cells_before before ++ listed inlet_of closed
+
+  pub inlet_cells_before : Held-InletCell-before → List InletState
+  inlet_cells_before None' = []
+  inlet_cells_before (Some' p cell) = inlet_cells cell
+
+abbrev mutual
+  pub outlet_cells : OutletCell → List OutletState
+  outlet_cells (OutletCell' closed before) = outlet_cells_before before ++ listed outlet_of closed
+
+  pub outlet_cells_before : Held-OutletCell-before → List OutletState
+  outlet_cells_before NoOutlet = []
+  outlet_cells_before (SomeOutlet p cell) = outlet_cells cell
+
+-- the states in which the inlets were closed, in order, of which this is the last
+abbrev pub inlet_states : Option (Box InletCell Global) → List InletState
+inlet_states None = []
+inlet_states (Some cell) = inlet_cells cell.value
+
+abbrev pub outlet_states : Option (Box OutletCell Global) → List OutletState
+outlet_states None = []
+outlet_states (Some cell) = outlet_cells cell.value

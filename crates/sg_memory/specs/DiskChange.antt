@@ -1,0 +1,14 @@
+-- What happened to a disk in memory.
+use Rattle.std.specs.Prelude.{List, [], ◌∷◌}
+use Rattle.sg_device.specs.Disk.{DiskEvent, Wrote, Synced}
+use Rattle.sg_memory.specs.declared.disk_change.DiskChange.{DiskChange}
+use Rattle.sg_memory.specs.declared.disk_change.DiskChange.TheVariants.{Wrote as HasWritten, Synced as HasSynced}
+
+abbrev pub event_of : DiskChange → DiskEvent
+event_of (HasWritten written) = Wrote written.at written.bytes.items
+event_of HasSynced = Synced
+
+-- these events, the newest first, and behind them what came before
+abbrev pub events_of : List DiskEvent → List DiskChange → List DiskEvent
+events_of earlier [] = earlier
+events_of earlier (change ∷ changes) = events_of (event_of change ∷ earlier) changes

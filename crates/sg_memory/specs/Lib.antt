@@ -1,0 +1,14 @@
+pub mod Plan
+pub mod Inlet
+pub mod Outlet
+pub mod Files
+pub mod Cells
+pub mod Open
+pub mod World
+pub mod DiskPlan
+pub mod DiskChange
+pub mod MemoryDisk
+pub mod Pick
+pub mod MemoryDiskLaws
+pub mod Disks
+pub mod DisksLaws

@@ -1,0 +1,66 @@
+// Closed devices. The memory for one is taken when it is opened.
+ghost use Rattle.std.specs.Prelude.{◌≡◌, ◌++◌, ◌∷◌, [], IfOk};
+ghost use Rattle.sg_memory.specs.Cells.{inlet_states, outlet_states};
+ghost use Rattle.sg_memory.specs.Inlet.{inlet_of};
+ghost use Rattle.sg_memory.specs.Outlet.{outlet_of};
+
+use crate::{MemoryInlet, MemoryOutlet};
+use std::alloc::{AllocError, Global};
+
+/// A closed inlet, and the one closed before it.
+#[derive(Debug, Drop)]
+pub struct InletCell {
+    pub closed: Option<MemoryInlet>,
+    pub before: Option<Box<InletCell>>,
+}
+
+/// A closed outlet, and the one closed before it.
+#[derive(Debug, Drop)]
+pub struct OutletCell {
+    pub closed: Option<MemoryOutlet>,
+    pub before: Option<Box<OutletCell>>,
+}
+
+/// Memory for an inlet's closing.
+pub fn inlet_cell(alloc: Global) -> Result<Box<InletCell>, AllocError> {
+    Ok(Box::new(
+        alloc,
+        InletCell {
+            closed: None,
+            before: None,
+        },
+    )?)
+}
+
+/// Memory for an outlet's closing.
+pub fn outlet_cell(alloc: Global) -> Result<Box<OutletCell>, AllocError> {
+    Ok(Box::new(
+        alloc,
+        OutletCell {
+            closed: None,
+            before: None,
+        },
+    )?)
+}
+
+/// Puts an inlet behind those that were closed before. It takes no memory.
+pub fn add_inlet(last: &mut Option<Box<InletCell>>, mut cell: Box<InletCell>, inlet: MemoryInlet)
+    ensures { inlet_states last.new ≡ inlet_states last.old ++ inlet_of inlet ∷ [] }
+{
+    cell.closed = Some(inlet);
+    cell.before = last.take();
+    *last = Some(cell);
+}
+
+/// Puts an outlet behind those that were closed before. It takes no memory.
+pub fn add_outlet(
+    last: &mut Option<Box<OutletCell>>,
+    mut cell: Box<OutletCell>,
+    outlet: MemoryOutlet,
+)
+    ensures { outlet_states last.new ≡ outlet_states last.old ++ outlet_of outlet ∷ [] }
+{
+    cell.closed = Some(outlet);
+    cell.before = last.take();
+    *last = Some(cell);
+}

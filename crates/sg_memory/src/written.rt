@@ -1,0 +1,10 @@
+// Bytes that were written to a disk in memory.
+ghost use Rattle.std.specs.Prelude.{◌+◌, ◌<◌, ◌^◌, length};
+
+/// Bytes that were written at a place.
+#[derive(Debug, Drop)]
+pub struct Written {
+    pub at: u64,
+    pub bytes: Vec<u8>,
+    ghost short: { at + length bytes.items < 2 ^ 63 },
+}
