@@ -1,0 +1,48 @@
+-- Closed real devices.
+use Rattle.std.specs.Prelude.{List, [], ◌∷◌, ◌++◌, Option, Some, None, Box}
+use Rattle.std.specs.declared.alloc.Global.{Global}
+use Rattle.sg_device.specs.Disk.{DiskState}
+use Rattle.sg_device.specs.Inlet.{InletState}
+use Rattle.sg_device.specs.Outlet.{OutletState}
+use Rattle.sg_host.specs.Counts.{inlet_state, outlet_state}
+use Rattle.sg_host.specs.Store.{disk_state}
+use Rattle.sg_host.specs.declared.cells.InletCell.{InletCell, InletCell', Held-InletCell-before, None', Some'}
+use Rattle.sg_host.specs.declared.cells.OutletCell.{OutletCell, OutletCell', Held-OutletCell-before, None' as NoOutlet, Some' as SomeOutlet}
+use Rattle.sg_host.specs.declared.cells.StoreCell.{StoreCell, StoreCell', Held-StoreCell-before, None' as NoStore, Some' as SomeStore}
+
+abbrev mutual
+  pub inlet_cells : InletCell → List InletState
+  inlet_cells (InletCell' counts before) = inlet_cells_before before ++ inlet_state counts ∷ []
+
+  pub inlet_cells_before : Held-InletCell-before → List InletState
+  inlet_cells_before None' = []
+  inlet_cells_before (Some' p cell) = inlet_cells cell
+
+abbrev mutual
+  pub outlet_cells : OutletCell → List OutletState
+  outlet_cells (OutletCell' counts before) = outlet_cells_before before ++ outlet_state counts ∷ []
+
+  pub outlet_cells_before : Held-OutletCell-before → List OutletState
+  outlet_cells_before NoOutlet = []
+  outlet_cells_before (SomeOutlet p cell) = outlet_cells cell
+
+-- the states in which the inlets were closed, in order, of which this is the last
+abbrev pub inlet_states : Option (Box InletCell Global) → List InletState
+inlet_states None = []
+inlet_states (Some cell) = inlet_cells cell.value
+
+abbrev pub outlet_states : Option (Box OutletCell Global) → List OutletState
+outlet_states None = []
+outlet_states (Some cell) = outlet_cells cell.value
+
+abbrev mutual
+  pub store_cells : StoreCell → List DiskState
+  store_cells (StoreCell' faults before) = store_cells_before before ++ disk_state faults ∷ []
+
+  pub store_cells_before : Held-StoreCell-before → List DiskState
+  store_cells_before NoStore = []
+  store_cells_before (SomeStore p cell) = store_cells cell
+
+abbrev pub store_states : Option (Box StoreCell Global) → List DiskState
+store_states None = []
+store_states (Some cell) = store_cells cell.value

@@ -1,0 +1,34 @@
+-- The inlets that a real machine opens and closes.
+use Rattle.std.specs.Prelude.{◌≡◌, ◌≤◌, ℕ, None, map}
+use Rattle.sg_device.specs.Faults.{Rose}
+use Rattle.sg_device.specs.Inlet.{InletState, IsFresh}
+use Rattle.sg_device.specs.World.{Ledger, Opened, StandsIn, with_opened}
+use Rattle.sg_device.specs.declared.fault.OpenRefusal.{OpenRefusal}
+use Rattle.sg_device.specs.declared.fault.OpenRefusal.TheVariants.{Failed, NoMemory}
+use Rattle.sg_device.specs.declared.request.InletSpec.{InletSpec}
+use Rattle.sg_host.specs.Cells.{inlet_states}
+use Rattle.sg_host.specs.Counts.{new_inlet}
+use Rattle.sg_host.specs.Inlet.{inlet_of}
+use Rattle.sg_host.specs.declared.inlets.HostFeed.{HostFeed}
+use Rattle.sg_host.specs.declared.inlets.HostInlets.{HostInlets}
+use Rattle.sg_host.specs.declared.inlets.OpenedInlet.{OpenedInlet}
+
+abbrev pub feed_of : HostFeed → InletState
+feed_of feed = inlet_of feed.inlet
+
+-- an inlet at its opening
+abbrev pub opened_inlet : OpenedInlet → Opened InletSpec InletState
+opened_inlet opened = record { spec = opened.spec; state = new_inlet opened.from }
+
+-- those opened and those closed
+abbrev pub inlets_of : HostInlets → Ledger InletSpec InletState
+inlets_of inlets = record { opened = map opened_inlet inlets.opened.items; closed = inlet_states inlets.closed }
+
+-- the inlet stands at its place, and nothing was given yet
+abbrev pub InletsOpen : HostInlets → HostInlets → InletSpec → ℕ → InletState → ℕ → Type 0
+InletsOpen old new spec from feed place = (inlets_of new ≡ with_opened (inlets_of old) spec feed) × (new.faults ≡ old.faults) × IsFresh feed × (feed.place ≡ place) × StandsIn None spec from feed
+
+-- a failure is counted
+abbrev pub InletsRefuse : HostInlets → HostInlets → OpenRefusal → Type 0
+InletsRefuse old new Failed = (inlets_of new ≡ inlets_of old) × (old.faults ≤ new.faults) × Rose old.faults new.faults
+InletsRefuse old new NoMemory = (inlets_of new ≡ inlets_of old) × (new.faults ≡ old.faults)

@@ -1,0 +1,33 @@
+-- The outlets that a real machine opens and closes.
+use Rattle.std.specs.Prelude.{◌≡◌, ◌≤◌, map}
+use Rattle.sg_device.specs.Faults.{Rose}
+use Rattle.sg_device.specs.Outlet.{OutletState, IsNew}
+use Rattle.sg_device.specs.World.{Ledger, Opened, with_opened}
+use Rattle.sg_device.specs.declared.fault.OpenRefusal.{OpenRefusal}
+use Rattle.sg_device.specs.declared.fault.OpenRefusal.TheVariants.{Failed, NoMemory}
+use Rattle.sg_device.specs.declared.request.OutletSpec.{OutletSpec}
+use Rattle.sg_host.specs.Cells.{outlet_states}
+use Rattle.sg_host.specs.Counts.{new_outlet}
+use Rattle.sg_host.specs.Outlet.{outlet_of}
+use Rattle.sg_host.specs.declared.outlets.HostDrain.{HostDrain}
+use Rattle.sg_host.specs.declared.outlets.HostOutlets.{HostOutlets}
+
+abbrev pub drain_of : HostDrain → OutletState
+drain_of drain = outlet_of drain.outlet
+
+-- an outlet at its opening
+abbrev pub opened_outlet : OutletSpec → Opened OutletSpec OutletState
+opened_outlet spec = record { spec = spec; state = new_outlet }
+
+-- those opened and those closed
+abbrev pub outlets_of : HostOutlets → Ledger OutletSpec OutletState
+outlets_of outlets = record { opened = map opened_outlet outlets.opened.items; closed = outlet_states outlets.closed }
+
+-- the outlet took nothing yet
+abbrev pub OutletsOpen : HostOutlets → HostOutlets → OutletSpec → OutletState → Type 0
+OutletsOpen old new spec drain = (outlets_of new ≡ with_opened (outlets_of old) spec drain) × (new.faults ≡ old.faults) × IsNew drain
+
+-- a failure is counted
+abbrev pub OutletsRefuse : HostOutlets → HostOutlets → OpenRefusal → Type 0
+OutletsRefuse old new Failed = (outlets_of new ≡ outlets_of old) × (old.faults ≤ new.faults) × Rose old.faults new.faults
+OutletsRefuse old new NoMemory = (outlets_of new ≡ outlets_of old) × (new.faults ≡ old.faults)

@@ -1,0 +1,31 @@
+-- The stores that a real machine opens and closes.
+use Rattle.std.specs.Prelude.{◌≡◌, ◌≤◌, map}
+use Rattle.sg_device.specs.Disk.{DiskState}
+use Rattle.sg_device.specs.Faults.{Rose}
+use Rattle.sg_device.specs.World.{Ledger, Opened, with_opened}
+use Rattle.sg_device.specs.declared.fault.OpenRefusal.{OpenRefusal}
+use Rattle.sg_device.specs.declared.fault.OpenRefusal.TheVariants.{Failed, NoMemory}
+use Rattle.sg_device.specs.declared.request.StoreSpec.{StoreSpec}
+use Rattle.sg_host.specs.Cells.{store_states}
+use Rattle.sg_host.specs.Store.{disk_of, new_disk}
+use Rattle.sg_host.specs.declared.stores.HostStore.{HostStore}
+use Rattle.sg_host.specs.declared.stores.HostStores.{HostStores}
+
+abbrev pub store_of : HostStore → DiskState
+store_of store = disk_of store.disk
+
+-- a store at its opening
+abbrev pub opened_store : StoreSpec → Opened StoreSpec DiskState
+opened_store spec = record { spec = spec; state = new_disk }
+
+-- those opened and those closed
+abbrev pub stores_of : HostStores → Ledger StoreSpec DiskState
+stores_of stores = record { opened = map opened_store stores.opened.items; closed = store_states stores.closed }
+
+abbrev pub StoresOpen : HostStores → HostStores → StoreSpec → DiskState → Type 0
+StoresOpen old new spec store = (stores_of new ≡ with_opened (stores_of old) spec store) × (new.faults ≡ old.faults)
+
+-- a failure is counted
+abbrev pub StoresRefuse : HostStores → HostStores → OpenRefusal → Type 0
+StoresRefuse old new Failed = (stores_of new ≡ stores_of old) × (old.faults ≤ new.faults) × Rose old.faults new.faults
+StoresRefuse old new NoMemory = (stores_of new ≡ stores_of old) × (new.faults ≡ old.faults)

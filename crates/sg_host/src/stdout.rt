@@ -1,0 +1,16 @@
+// Standard output.
+ghost use Rattle.sg_host.specs.Reading.{SaysOut};
+
+use sg_device::SayRefusal;
+
+/// Writes the bytes to standard output, by one write where the system takes them so. A write that
+/// fails is counted.
+pub fn say(rt: HostRuntime, faults: &mut u64, bytes: &[u8]) -> Result<(), SayRefusal>
+    ensures { SaysOut faults.old faults.new result }
+{
+    if rt.write_all(bytes).is_err() {
+        *faults = faults.saturating_add(1);
+        return Err(SayRefusal::Fault);
+    }
+    Ok(())
+}
