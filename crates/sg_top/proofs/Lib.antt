@@ -1,0 +1,5 @@
+pub mod ConfigLemmas
+pub mod RunLemmas
+pub mod ServingLemmas
+pub mod WordsLemmas
+pub mod SendingLemmas

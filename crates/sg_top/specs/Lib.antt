@@ -1,0 +1,11 @@
+pub mod Status
+pub mod Words
+pub mod Config
+pub mod Said
+pub mod Delivery
+pub mod Devices
+pub mod Run
+pub mod Verdict
+pub mod Pumping
+pub mod Serving
+pub mod Sending

@@ -1,0 +1,87 @@
+// The machine that the program runs on: real files and standard output.
+ghost use Rattle.std.specs.Prelude.{[], None};
+ghost use Rattle.sg_device.specs.World.{WorldState};
+ghost use Rattle.sg_host.specs.Inlets.{inlets_of};
+ghost use Rattle.sg_host.specs.Outlets.{outlets_of};
+
+use crate::World;
+use sg_device::{FileRefusal, InletSpec, OpenRefusal, OutletSpec, SayRefusal};
+use sg_host::{HostDrain, HostFeed, HostInlets, HostOutlets, read_file, say};
+use std::alloc::Global;
+
+/// The machine. It tells nothing of the content of files and devices.
+#[derive(Drop)]
+pub struct Machine {
+    rt: HostRuntime,
+    inlets: HostInlets,
+    outlets: HostOutlets,
+    read_faults: u64,
+    say_faults: u64,
+}
+
+impl Machine {
+    /// The machine, of which nothing was asked yet.
+    pub fn new(rt: HostRuntime) -> Machine {
+        let alloc = rt.alloc();
+        Machine {
+            rt,
+            inlets: HostInlets::new(alloc, rt),
+            outlets: HostOutlets::new(alloc, rt),
+            read_faults: 0,
+            say_faults: 0,
+        }
+    }
+}
+
+impl World for Machine {
+    type Feed = HostFeed;
+
+    type Drain = HostDrain;
+
+    ghost meaning = { λ m. record {
+      files = None;
+      inlets = inlets_of m.inlets;
+      outlets = outlets_of m.outlets;
+      stores = record { opened = []; closed = [] };
+      said = None;
+      read_faults = m.read_faults;
+      inlet_faults = m.inlets.faults;
+      outlet_faults = m.outlets.faults;
+      store_faults = 0;
+      say_faults = m.say_faults;
+    } };
+
+    fn read_file(
+        &mut self,
+        alloc: Global,
+        name: &[u8],
+        limit: u64,
+    ) -> Result<Vec<u8>, FileRefusal> {
+        read_file(alloc, self.rt, &mut self.read_faults, name, limit)
+    }
+
+    fn open_inlet(
+        &mut self,
+        alloc: Global,
+        spec: &InletSpec,
+        from: u64,
+    ) -> Result<(HostFeed, u64), OpenRefusal> {
+        self.inlets.open(alloc, spec, from)
+    }
+
+    fn open_outlet(&mut self, alloc: Global, spec: &OutletSpec) -> Result<HostDrain, OpenRefusal> {
+        self.outlets.open(alloc, spec)
+    }
+
+    fn close_inlet(&mut self, feed: HostFeed) {
+        self.inlets.close(feed);
+    }
+
+    fn close_outlet(&mut self, drain: HostDrain) {
+        self.outlets.close(drain);
+    }
+
+    fn say(&mut self, _alloc: Global, bytes: &[u8]) -> Result<(), SayRefusal> {
+        say(self.rt, &mut self.say_faults, bytes)
+    }
+}

@@ -1,0 +1,50 @@
+//! `syslogr`: moves the lines of one file to another.
+#![tactic(auto)]
+
+mod config;
+mod machine;
+mod memory;
+mod pump;
+#[cfg(test)]
+mod rows;
+mod run;
+mod say;
+mod serve;
+mod status;
+mod top;
+mod words;
+mod world;
+
+use machine::Machine;
+use sg_device::Name;
+pub use status::{Device, Status};
+use std::alloc::{AllocError, Global};
+use std::env;
+use std::io::ErrorKind;
+use std::process::ExitCode;
+pub use top::daemon;
+pub use world::World;
+
+/// The words of the command line, without the program's name. Where one of them isn't UTF-8 there
+/// are none.
+fn read_words(alloc: Global, rt: &HostRuntime) -> Result<Vec<Name>, AllocError> {
+    let mut words = Vec::new(alloc);
+    let args = match env::args(rt) {
+        Ok(args) => args,
+        Err(error) if error.kind() == ErrorKind::OutOfMemory => return Err(AllocError),
+        Err(_) => return Ok(words),
+    };
+    for word in args.skip(1) {
+        words.push(Name::from_vec(word.into_bytes()))?;
+    }
+    Ok(words)
+}
+
+fn main(rt: HostRuntime) -> ExitCode {
+    let alloc = rt.alloc();
+    let status = match read_words(alloc, &rt) {
+        Ok(words) => daemon(alloc, &words, &mut Machine::new(rt)),
+        Err(_) => Status::NoMemory,
+    };
+    ExitCode::from(status.code())
+}

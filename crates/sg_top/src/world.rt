@@ -1,0 +1,50 @@
+// The machine around the daemon.
+ghost use Rattle.std.specs.Prelude.{MatchResult};
+ghost use Rattle.sg_device.specs.World.{WorldState, Reads, InletOpens, InletRefused, OutletOpens, OutletRefused, ClosesInlet, ClosesOutlet, Says};
+
+use sg_device::{FileRefusal, Inlet, InletSpec, OpenRefusal, Outlet, OutletSpec, SayRefusal};
+use std::alloc::Global;
+
+/// A machine: it reads files, opens and closes devices, and says text to the operator.
+pub trait World {
+    type Feed: Inlet;
+
+    type Drain: Outlet;
+
+    /// The files, the devices that were opened and closed, the bytes said, and the counts of faults.
+    ghost meaning: { Self → WorldState };
+
+    /// The bytes of a file of at most `limit` bytes.
+    fn read_file(&mut self, alloc: Global, name: &[u8], limit: u64) -> Result<Vec<u8>, FileRefusal>
+        ensures { Reads (meaning self.old) (meaning self.new) name.now limit result };
+
+    /// Opens an inlet for reading from a place on, in bytes, and answers the place from which it
+    /// gives: a file shorter than that is read from its beginning.
+    fn open_inlet(
+        &mut self,
+        alloc: Global,
+        spec: &InletSpec,
+        from: u64,
+    ) -> Result<(Self::Feed, u64), OpenRefusal>
+        ensures { MatchResult result
+            (λ opened. InletOpens (meaning self.old) (meaning self.new) spec.now from (Self.Feed.state opened.0) opened.1)
+            (λ refusal. InletRefused (meaning self.old) (meaning self.new) refusal) };
+
+    /// Opens an outlet.
+    fn open_outlet(&mut self, alloc: Global, spec: &OutletSpec) -> Result<Self::Drain, OpenRefusal>
+        ensures { MatchResult result
+            (λ drain. OutletOpens (meaning self.old) (meaning self.new) spec.now (Self.Drain.state drain))
+            (λ refusal. OutletRefused (meaning self.old) (meaning self.new) refusal) };
+
+    /// Closes an inlet. It takes no memory.
+    fn close_inlet(&mut self, feed: Self::Feed)
+        ensures { ClosesInlet (meaning self.old) (meaning self.new) (Self.Feed.state feed) };
+
+    /// Closes an outlet. It takes no memory.
+    fn close_outlet(&mut self, drain: Self::Drain)
+        ensures { ClosesOutlet (meaning self.old) (meaning self.new) (Self.Drain.state drain) };
+
+    /// Says bytes to the operator, all of them or, on a refusal, nothing that is claimed.
+    fn say(&mut self, alloc: Global, bytes: &[u8]) -> Result<(), SayRefusal>
+        ensures { Says (meaning self.old) (meaning self.new) bytes.now result };
+}
