@@ -1,0 +1,5 @@
+//! Tables of tests over devices in memory and real files.
+#![tactic(auto)]
+
+#[cfg(test)]
+mod stores;
