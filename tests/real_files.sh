@@ -1,0 +1,69 @@
+#!/bin/sh
+# Runs the program through its launcher over real files: what it writes, what it says and how it ends.
+top=$(cd "$(dirname "$0")/.." && pwd)
+folder=$(mktemp -d) || exit 2
+trap 'rm -rf "$folder"' EXIT
+cd "$folder" || exit 2
+passed=0 failed=0
+
+# expect NAME STATUS SAID OUT WORD..: SAID and OUT are printf formats; OUT is the file `out`, - for none.
+expect() {
+    name=$1 status=$2 said=$3 out=$4
+    shift 4
+    rm -f out
+    "$top/syslogr" "$@" >said 2>errors
+    got=$?
+    printf "$said" >said.wanted
+    good=yes
+    [ "$got" = "$status" ] || { good=no; echo "$name: status $got, wanted $status"; }
+    cmp -s said said.wanted || { good=no; echo "$name: said:"; cat said; }
+    [ -s errors ] && { good=no; echo "$name: standard error:"; cat errors; }
+    if [ "$out" = - ]; then
+        [ -e out ] && { good=no; echo "$name: out was made"; }
+    else
+        printf "$out" >out.wanted
+        cmp -s out out.wanted || { good=no; echo "$name: out:"; cat out; }
+    fi
+    if [ $good = yes ]; then passed=$((passed + 1)); else failed=$((failed + 1)); fi
+}
+
+config() {
+    printf '@version: 4.2\nsource s { file("%s" flags(no-parse)); };\ndestination d { file("%s" template("$MSG\\n")); };\nlog { source(s); destination(d); flags(flow-control); };\n' "$1" "$2"
+}
+
+"$top/syslogr" >/dev/null 2>build || [ $? = 1 ] || { cat build; exit 2; }
+usage='usage: syslogr check FILE | trace FILE SOURCE INPUT | run FILE [--once] [--rounds N] | spool FILE | drill N\n'
+
+config in out >c
+printf 'one\ntwo\n' >in
+expect 'two lines' 0 'status 0\n' 'one\ntwo\n' run c --once
+printf 'a\r\n\nb' >in
+expect 'trimmed, empty and open lines' 0 'status 0\n' 'a\n' run c --once
+printf '# x\n' >bad
+expect 'another text' 2 'bad:1: not supported\n' - run bad --once
+head -c 1048577 /dev/zero >long
+expect 'a configuration too long' 2 'long:1: configuration too long\n' - run long --once
+expect 'no configuration' 3 'cannot read none\n' - run none --once
+config none out >c1
+expect 'no source file' 4 'cannot open inlet 0\n' - run c1 --once
+config in none/out >c2
+expect 'a destination that cannot be made' 4 'cannot open destination 0\n' - run c2 --once
+config . out >c3
+expect 'a source that is a folder' 8 'status 8\n' '' run c3 --once
+expect 'no words' 1 "$usage" -
+expect 'other words' 1 "$usage" - run c
+expect 'a word that is not UTF-8' 1 "$usage" - run "$(printf 'c\377')" --once
+if [ -w /dev/full ]; then
+    config in /dev/full >c4
+    printf 'one\n' >in
+    expect 'a full disk' 6 'status 6\n' - run c4 --once
+    "$top/syslogr" run c --once >/dev/full 2>errors
+    if [ $? = 10 ] && [ ! -s errors ]; then passed=$((passed + 1)); else failed=$((failed + 1)); echo 'a full standard output: not status 10'; fi
+fi
+rm -f out
+seq 1 100000 >in
+"$top/syslogr" run c --once >/dev/null
+if cmp -s in out; then passed=$((passed + 1)); else failed=$((failed + 1)); echo 'a hundred thousand lines: not the same'; fi
+
+echo "$passed passed, $failed failed"
+[ $failed = 0 ]
