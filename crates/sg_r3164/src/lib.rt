@@ -1,0 +1,14 @@
+//! Reading records as RFC 3164 describes them. Every record has a reading.
+#![tactic(auto)]
+
+mod laws;
+mod opts;
+mod parts;
+mod reading;
+#[cfg(test)]
+mod tests;
+
+pub use laws::readings_are_one;
+pub use opts::ReadOpts;
+pub use parts::{is_print, priority};
+pub use reading::{put, put_some, read};

@@ -1,0 +1,285 @@
+// From an item to its message.
+ghost use Rattle.std.specs.Prelude.{◌≡◌, ◌≤◌, ◌≤ℤ◌, pos, [], true, false, length, take, drop, codes, option_map, is_some, IfOk, OnOk, OnErr, IfSome, MatchOption, ℕ};
+ghost use Rattle.std.specs.Option.{ForSome};
+ghost use Rattle.sg_time.specs.declared.stamp.Stamp.{Stamp as AStamp};
+ghost use Rattle.sg_time.specs.Stamp.{IsValid};
+ghost use Rattle.sg_r3164.specs.Options.{sent_of};
+ghost use Rattle.sg_msg.specs.Macros.{is_hard};
+ghost use Rattle.sg_msg.specs.Message.{with_pair};
+ghost use Rattle.sg_r3164.specs.Parts.{priority, host_len, tag, program_of, pid_of, behind_tag};
+ghost use Rattle.sg_r3164.specs.Read3164.{is_end, HasBsd, HasIso, FindsStamp, Read3164, ReadsAs, pri_of, behind_pri, behind_stamp, host_behind, behind_host, with_some, with_parts, pairs_behind_stamp};
+
+use crate::ReadOpts;
+use crate::parts::{find_tag, has_at, host_len, past, priority};
+use bytes::Bytes;
+use sg_msg::{Message, MsgRefusal};
+use sg_time::{Stamp, read_bsd, read_iso};
+use std::alloc::{AllocError, Global};
+
+/// Gives the name this value, where the name is no macro's. An error leaves the message as it was.
+pub fn put(message: &mut Message, name: &[u8], value: Bytes) -> Result<(), AllocError>
+    requires length { (1 ≤ length name.now) × (length name.now ≤ 255) }
+    requires soft { is_hard name.now ≡ false }
+    ensures ok { OnOk result (message.new
+        ≡ record message.old { pairs = with_pair name.now value message.old.pairs }) }
+    ensures err { OnErr result (message.new ≡ message.old) }
+{
+    match message.set_bytes(name, value) {
+        Ok(()) => Ok(()),
+        Err(MsgRefusal::NoMemory) => Err(AllocError),
+        Err(MsgRefusal::HardMacro) => unreachable!(),
+    }
+}
+
+/// As `put`, where there is a value.
+pub fn put_some(message: &mut Message, name: &[u8], value: Option<Bytes>) -> Result<(), AllocError>
+    requires length { (1 ≤ length name.now) × (length name.now ≤ 255) }
+    requires soft { is_hard name.now ≡ false }
+    ensures ok { OnOk result (message.new
+        ≡ record message.old { pairs = with_some name.now value message.old.pairs }) }
+    ensures err { OnErr result (message.new ≡ message.old) }
+{
+    match value {
+        Some(value) => put(message, name, value),
+        None => Ok(()),
+    }
+}
+
+fn put_parts(
+    message: &mut Message,
+    host: Bytes,
+    program: Option<Bytes>,
+    pid: Option<Bytes>,
+    text: Bytes,
+) -> Result<(), AllocError>
+    ensures { OnOk result (message.new
+        ≡ record message.old { pairs = with_parts host program pid text message.old.pairs }) }
+{
+    put(message, b"HOST", host)?;
+    put_some(message, b"PROGRAM", program)?;
+    put_some(message, b"PID", pid)?;
+    put(message, b"MESSAGE", text)
+}
+
+fn take_pri(text: &mut Bytes, default: u8) -> u8
+    requires { default ≤ 191 }
+    ensures value { result ≡ pri_of (priority text.old) default }
+    ensures rest { text.new ≡ behind_pri (priority text.old) text.old }
+    ensures range { result ≤ 191 }
+{
+    match priority(text.as_slice()) {
+        Some((pri, len)) => {
+            text.advance(len);
+            pri
+        }
+        None => default,
+    }
+}
+
+// Whether the text ends at this place, or a space stands there.
+fn ends_at(text: &[u8], place: usize) -> bool
+    requires { place ≤ length text.now }
+    ensures { result ≡ is_end text.now place }
+{
+    place == text.len() || has_at(text, place, b' ')
+}
+
+// The stamp of RFC 3164's form at the front of the text, and its length.
+fn bsd_stamp(text: &[u8], received: Stamp) -> Option<(Stamp, usize)>
+    requires { IsValid received }
+    ensures found { MatchOption result
+        ((stamp : AStamp) (len : ℕ) → ¬ HasBsd text.now received stamp len)
+        (λ found. HasBsd text.now received found.0 found.1) }
+    ensures valid { IfSome result (λ found. IsValid found.0) }
+    ensures within { IfSome result (λ found. found.1 ≤ length text.now) }
+{
+    let Some((stamp, len)) = read_bsd(text, received) else {
+        return None;
+    };
+    if !ends_at(text, len) {
+        return None;
+    }
+    Some((stamp, len))
+}
+
+// The stamp of ISO 8601's form at the front of the text, and its length.
+fn iso_stamp(text: &[u8]) -> Option<(Stamp, usize)>
+    ensures found { MatchOption result
+        ((stamp : AStamp) (len : ℕ) → ¬ HasIso text.now stamp len)
+        (λ found. HasIso text.now found.0 found.1) }
+    ensures valid { IfSome result (λ found. IsValid found.0) }
+    ensures within { IfSome result (λ found. found.1 ≤ length text.now) }
+{
+    let Some((stamp, len)) = read_iso(text) else {
+        return None;
+    };
+    if !ends_at(text, len) {
+        return None;
+    }
+    Some((stamp, len))
+}
+
+// The stamp at the front of the text, and its length.
+fn find_stamp(text: &[u8], received: Stamp) -> Option<(Stamp, usize)>
+    requires { IsValid received }
+    ensures found { FindsStamp text.now received result }
+    ensures valid { IfSome result (λ found. IsValid found.0) }
+    ensures within { IfSome result (λ found. found.1 ≤ length text.now) }
+{
+    let Some(found) = bsd_stamp(text, received) else {
+        return iso_stamp(text);
+    };
+    Some(found)
+}
+
+fn take_stamp(text: &mut Bytes, received: Stamp) -> Option<(Stamp, usize)>
+    requires { IsValid received }
+    ensures found { FindsStamp text.old received result }
+    ensures rest { text.new ≡ behind_stamp result text.old }
+    ensures valid { IfSome result (λ found. IsValid found.0) }
+{
+    let found = find_stamp(text.as_slice(), received);
+    match found {
+        Some((_, len)) => {
+            let end = past(text.as_slice(), len, b' ');
+            text.advance(end);
+        }
+        None => {}
+    }
+    found
+}
+
+fn take_host(text: &mut Bytes, stamped: bool) -> Result<Option<Bytes>, AllocError>
+    ensures host { IfOk result (λ host. host
+        ≡ option_map (λ len. take len text.old) (host_behind stamped text.old)) }
+    ensures rest { OnOk result (text.new ≡ behind_host (host_behind stamped text.old) text.old) }
+{
+    if !stamped {
+        return Ok(None);
+    }
+    match host_len(text.as_slice()) {
+        Some(len) => {
+            let host = text.split_to(len)?;
+            text.advance(1);
+            Ok(Some(host))
+        }
+        None => Ok(None),
+    }
+}
+
+/// What a tag names.
+#[derive(Debug, Drop)]
+struct Tagged {
+    program: Option<Bytes>,
+    pid: Option<Bytes>,
+}
+
+fn take_tag(text: &mut Bytes) -> Result<Tagged, AllocError>
+    ensures program { IfOk result (λ tagged. tagged.program ≡ program_of (tag text.old) text.old) }
+    ensures pid { IfOk result (λ tagged. tagged.pid ≡ pid_of (tag text.old) text.old) }
+    ensures rest { OnOk result (text.new ≡ behind_tag (tag text.old) text.old) }
+{
+    let Some(tag) = find_tag(text.as_slice()) else {
+        return Ok(Tagged {
+            program: None,
+            pid: None,
+        });
+    };
+    let program = Some(text.slice(0..tag.program)?);
+    let from = tag.program + 1;
+    let pid = match tag.pid {
+        Some(len) => Some(text.slice(from..from + len)?),
+        None => None,
+    };
+    text.advance(tag.len);
+    Ok(Tagged { program, pid })
+}
+
+// The pairs of what stands behind the stamp.
+fn put_rest(
+    alloc: Global,
+    message: &mut Message,
+    mut text: Bytes,
+    stamped: bool,
+    peer: &[u8],
+    opts: &ReadOpts,
+) -> Result<(), AllocError>
+    requires { message.old.pairs ≡ [] }
+    ensures { OnOk result (message.new
+        ≡ record message.old { pairs = pairs_behind_stamp opts.now peer.now stamped text }) }
+{
+    let host = take_host(&mut text, stamped)?;
+    let host = opts.host(alloc, host, peer)?;
+    let tagged = take_tag(&mut text)?;
+    put_parts(message, host, tagged.program, tagged.pid, text)
+}
+
+fn sent(opts: &ReadOpts, found: Option<(Stamp, usize)>, received: Stamp) -> Stamp
+    requires received { IsValid received }
+    requires found { ForSome found (λ found. IsValid found.0) }
+    ensures value { result ≡ sent_of opts.now (option_map (λ found. found.0) found) received }
+    ensures valid { IsValid result }
+{
+    match found {
+        Some((stamp, _)) => opts.sent(Some(stamp), received),
+        None => opts.sent(None, received),
+    }
+}
+
+fn read_parsed(
+    alloc: Global,
+    item: Bytes,
+    received: Stamp,
+    peer: &[u8],
+    opts: &ReadOpts,
+) -> Result<Message, AllocError>
+    requires { IsValid received }
+    ensures { IfOk result (ReadsAs true opts.now received peer.now item) }
+{
+    let mut text = item.clone()?;
+    let pri = take_pri(&mut text, opts.pri);
+    let found = take_stamp(&mut text, received);
+    let sent = sent(opts, found, received);
+    let mut message = Message::new(alloc, item, pri, sent, received)?;
+    put_rest(alloc, &mut message, text, found.is_some(), peer, opts)?;
+    Ok(message)
+}
+
+fn read_unparsed(
+    alloc: Global,
+    item: Bytes,
+    received: Stamp,
+    peer: &[u8],
+    opts: &ReadOpts,
+) -> Result<Message, AllocError>
+    requires { IsValid received }
+    ensures { IfOk result (ReadsAs false opts.now received peer.now item) }
+{
+    let mut message = Message::new(alloc, item.clone()?, opts.pri, received, received)?;
+    let host = Bytes::copy_from_slice(alloc, peer)?;
+    put_parts(&mut message, host, None, None, item)?;
+    Ok(message)
+}
+
+/// The message of a record: every item has one. Values that stand in the item share its memory.
+///
+/// `at` is the moment of the pull, in microseconds since 1970-01-01T00:00:00Z, 0 to
+/// 250,000,000,000,000,000. HOST, PROGRAM, PID and MESSAGE are set; PROGRAM and PID only where the
+/// record has a tag.
+pub fn read(
+    alloc: Global,
+    item: Bytes,
+    at: i64,
+    peer: &[u8],
+    opts: &ReadOpts,
+) -> Result<Message, AllocError>
+    requires { (pos 0 ≤ℤ at) × (at ≤ℤ pos 250_000_000_000_000_000) }
+    ensures { IfOk result (Read3164 item at peer.now opts.now) }
+{
+    let received = opts.received(at);
+    if opts.parse {
+        read_parsed(alloc, item, received, peer, opts)
+    } else {
+        read_unparsed(alloc, item, received, peer, opts)
+    }
+}
