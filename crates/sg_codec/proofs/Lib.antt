@@ -1,0 +1,9 @@
+mod LengthLemmas
+mod FieldLaws
+mod StampLaws
+mod PairLemmas
+mod TagLemmas
+mod ListLaws
+mod EntryLaws
+mod ReadSteps
+mod WriteLemmas

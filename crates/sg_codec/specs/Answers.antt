@@ -1,0 +1,25 @@
+-- What a call answers, by what the bytes say.
+use Rattle.std.specs.Prelude.{◌≡◌, ◌⊎◌, ℕ, List, Result, Ok, Err}
+use Rattle.sg_codec.specs.declared.kept.Kept.{Kept}
+use Rattle.sg_codec.specs.declared.refusal.CodecRefusal.{CodecRefusal}
+use Rattle.sg_codec.specs.declared.refusal.CodecRefusal.TheVariants as refusals
+use Rattle.sg_codec.specs.declared.refusal.Stop.{Stop}
+use Rattle.sg_codec.specs.declared.refusal.Stop.TheVariants as stops
+
+-- A field's reader gives what the field says, seen by view, unless memory runs out.
+abbrev pub Stops : {Y : Type 0} → Stop → Result Y ℕ → Type 0
+Stops (stops.Damaged left) field = field ≡ Err left
+Stops stops.NoMemory field = Unit {0}
+
+abbrev pub Gives : {X Y : Type 0} → (X → Y) → Result X Stop → Result Y ℕ → Type 0
+Gives view (Ok x) field = field ≡ Ok (view x)
+Gives view (Err stop) field = Stops stop field
+
+-- The entry that is read, or the place of the damage, unless memory runs out.
+abbrev pub Refuses : CodecRefusal → Result Kept ℕ → Type 0
+Refuses (refusals.Damage place) entry = entry ≡ Err place
+Refuses refusals.NoMemory entry = Unit {0}
+
+abbrev pub Decodes : Result Kept CodecRefusal → Result Kept ℕ → Type 0
+Decodes (Ok kept) entry = entry ≡ Ok kept
+Decodes (Err refusal) entry = Refuses refusal entry

@@ -1,0 +1,4 @@
+pub mod Lengths
+pub mod Spelling
+pub mod Reading
+pub mod Answers

@@ -1,0 +1,160 @@
+// Entries from bytes.
+ghost use Rattle.std.specs.Prelude.{◌≡◌, ◌≤◌, ◌++◌, ◌∷◌, [], true, length, OnOk, IfOk, IsOkUnless, Ok};
+ghost use Rattle.sg_msg.specs.Message.{IsAscending};
+ghost use Rattle.sg_codec.specs.declared.kept.Kept.{Kept as Entry};
+ghost use Rattle.sg_codec.specs.Spelling.{Spells};
+ghost use Rattle.sg_codec.specs.Reading.{tags_at, tag_list_at, may_follow, last_name, pairs_at, pair_list_at, last_at, format1_at, format2_at, entry_at, reading};
+ghost use Rattle.sg_codec.specs.Answers.{Gives, Decodes};
+
+use crate::fields::{take_head, take_name, take_stamp, take_text, take_u32};
+use crate::kept::Head;
+use crate::refusal::Stop;
+use crate::{CodecRefusal, Kept};
+use bytes::Bytes;
+use sg_msg::{Message, MsgRefusal};
+use std::alloc::Global;
+
+fn take_tags(message: &mut Message, count: u32, rest: &mut Bytes) -> Result<(), Stop>
+    requires { message.old.tags ≡ [] }
+    ensures field { Gives (λ _. (message.new.tags, rest.new)) result (tags_at count [] rest.old) }
+    ensures others { OnOk result (message.new ≡ record message.old { tags = message.new.tags }) }
+{
+    for place in 0..count {
+        let left = rest.len();
+        let tag = take_text(rest)?;
+        message.set_tag(&tag)?;
+        if message.tag(place as usize).is_none() {
+            return Err(Stop::Damaged(left));
+        }
+    }
+    Ok(())
+}
+
+#[tactic(auto, unfolding(crate::specs::Reading::tag_list_at))]
+fn take_tag_list(message: &mut Message, rest: &mut Bytes) -> Result<(), Stop>
+    requires { message.old.tags ≡ [] }
+    ensures field { Gives (λ _. (message.new.tags, rest.new)) result (tag_list_at rest.old) }
+    ensures others { OnOk result (message.new ≡ record message.old { tags = message.new.tags }) }
+{
+    let count = take_u32(rest)?;
+    take_tags(message, count, rest)
+}
+
+// Puts a pair behind those that the message has.
+fn append(message: &mut Message, name: &[u8], value: Bytes) -> Result<(), Stop>
+    requires ascending { IsAscending message.old.pairs }
+    requires follows { may_follow (last_name message.old.pairs) name.now ≡ true }
+    requires size { (1 ≤ length name.now) × (length name.now ≤ 255) }
+    ensures ok { OnOk result (message.new ≡ record message.old {
+      pairs = message.old.pairs ++ (record { name = name.now; value = value }) ∷ [];
+    }) }
+    ensures memory { IsOkUnless result Stop.NoMemory }
+{
+    match message.set_bytes(name, value) {
+        Ok(()) => Ok(()),
+        Err(MsgRefusal::HardMacro) => unreachable!(),
+        Err(MsgRefusal::NoMemory) => Err(Stop::NoMemory),
+    }
+}
+
+fn take_pairs(message: &mut Message, count: u32, rest: &mut Bytes) -> Result<(), Stop>
+    requires { message.old.pairs ≡ [] }
+    ensures field { Gives (λ _. (message.new.pairs, rest.new)) result (pairs_at count [] rest.old) }
+    ensures others { OnOk result (message.new ≡ record message.old { pairs = message.new.pairs }) }
+{
+    let mut last = Bytes::new();
+    for _ in 0..count {
+        let name = take_name(&last, rest)?;
+        let value = take_text(rest)?;
+        append(message, &name, value)?;
+        last = name;
+    }
+    Ok(())
+}
+
+#[tactic(auto, unfolding(crate::specs::Reading::pair_list_at))]
+fn take_pair_list(message: &mut Message, rest: &mut Bytes) -> Result<(), Stop>
+    requires { message.old.pairs ≡ [] }
+    ensures field { Gives (λ _. (message.new.pairs, rest.new)) result (pair_list_at rest.old) }
+    ensures others { OnOk result (message.new ≡ record message.old { pairs = message.new.pairs }) }
+{
+    let count = take_u32(rest)?;
+    take_pairs(message, count, rest)
+}
+
+// The entry with this head, whose message has all but its pairs.
+#[tactic(auto, unfolding(crate::specs::Reading::last_at))]
+fn read_last(head: Head, mut message: Message, mut rest: Bytes) -> Result<Kept, Stop>
+    requires pri { message.pri ≡ head.pri }
+    requires sent { message.sent ≡ head.sent }
+    requires pairs { message.pairs ≡ [] }
+    ensures { Gives (λ kept. kept) result (last_at head message.received message.tags rest) }
+{
+    take_pair_list(&mut message, &mut rest)?;
+    if !rest.is_empty() {
+        return Err(Stop::Damaged(rest.len()));
+    }
+    Ok(Kept {
+        source: head.source,
+        end: head.end,
+        flow: head.flow,
+        message,
+    })
+}
+
+#[tactic(auto, unfolding(crate::specs::Reading::format1_at))]
+fn read_format1(alloc: Global, bytes: &[u8]) -> Result<Kept, Stop>
+    ensures { Gives (λ kept. kept) result (format1_at bytes.now) }
+{
+    let raw = Bytes::copy_from_slice(alloc, bytes)?;
+    let mut rest = raw.clone()?;
+    let head = take_head(&mut rest)?;
+    let message = Message::new(alloc, raw, head.pri, head.sent, head.sent)?;
+    read_last(head, message, rest)
+}
+
+#[tactic(auto, unfolding(crate::specs::Reading::format2_at))]
+fn read_format2(alloc: Global, bytes: &[u8]) -> Result<Kept, Stop>
+    ensures { Gives (λ kept. kept) result (format2_at bytes.now) }
+{
+    let raw = Bytes::copy_from_slice(alloc, bytes)?;
+    let mut rest = raw.clone()?;
+    let head = take_head(&mut rest)?;
+    let received = take_stamp(&mut rest)?;
+    let mut message = Message::new(alloc, raw, head.pri, head.sent, received)?;
+    take_tag_list(&mut message, &mut rest)?;
+    read_last(head, message, rest)
+}
+
+#[tactic(auto, unfolding(crate::specs::Reading::entry_at))]
+fn read_entry(alloc: Global, bytes: &[u8]) -> Result<Kept, Stop>
+    ensures { Gives (λ kept. kept) result (entry_at bytes.now) }
+{
+    match bytes {
+        [] => Err(Stop::Damaged(0)),
+        [1, rest @ ..] => read_format1(alloc, rest),
+        [2, rest @ ..] => read_format2(alloc, rest),
+        [_, ..] => Err(Stop::Damaged(bytes.len())),
+    }
+}
+
+/// The entry that the bytes spell, in format 1 or 2. What a tag or a name holds is copied; the values
+/// share one copy of the bytes.
+pub fn decode(alloc: Global, bytes: &[u8]) -> Result<Kept, CodecRefusal>
+    // What is read is spelled so.
+    ensures found { IfOk result (λ kept. Spells kept bytes.now) }
+
+    // What is spelled so is read, unless memory runs out.
+    ensures only { (kept : Entry) → Spells kept bytes.now → Decodes result (Ok kept) }
+
+    // Other bytes are damaged, and the place is that of the first damaged byte.
+    ensures exact { Decodes result (reading bytes.now) }
+{
+    match read_entry(alloc, bytes) {
+        Ok(kept) => Ok(kept),
+        Err(Stop::Damaged(left)) => Err(CodecRefusal::Damage(
+            bytes.len().saturating_sub(left) as u64,
+        )),
+        Err(Stop::NoMemory) => Err(CodecRefusal::NoMemory),
+    }
+}
