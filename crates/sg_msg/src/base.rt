@@ -168,6 +168,12 @@ impl Pairs {
         }
     }
 
+    pub(crate) fn len(&self) -> usize
+        ensures { result ≡ length self.now }
+    {
+        self.base.pairs.len()
+    }
+
     pub(crate) fn pair(&self, place: usize) -> Option<(&[u8], &[u8])>
         ensures { option_map (λ pair. record { name = pair.0.now; value = pair.1.now }) result
             ≡ slice_get self.now place }

@@ -119,6 +119,13 @@ impl Message {
         self.pairs.get(name)
     }
 
+    /// The number of pairs.
+    pub fn pair_count(&self) -> usize
+        ensures { result ≡ length self.now.pairs }
+    {
+        self.pairs.len()
+    }
+
     /// The name and the value at this place of the pairs, which stand in ascending byte order of
     /// their names. None from the end on.
     pub fn pair(&self, place: usize) -> Option<(&[u8], &[u8])>

@@ -49,7 +49,9 @@ fn says(message: &Message, pairs: &[(&[u8], &[u8])], tags: &[&[u8]]) -> bool {
             _ => return false,
         }
     }
-    message.pair(pairs.len()).is_none() && message.tag(tags.len()).is_none()
+    message.pair_count() == pairs.len()
+        && message.pair(pairs.len()).is_none()
+        && message.tag(tags.len()).is_none()
 }
 
 // A change of one handle leaves the other as it was, and a refusal leaves all as it was.
