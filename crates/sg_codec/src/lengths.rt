@@ -40,7 +40,8 @@ fn less_pairs(room: u64, message: &Message) -> Option<u64>
     Some(left)
 }
 
-fn less_entry(room: u64, message: &Message) -> Option<u64>
+/// What is left of this many bytes behind the message's entry in format 2: None where it is longer.
+pub fn less_entry(room: u64, message: &Message) -> Option<u64>
     ensures { MatchOption result (room < encoded_len message.now) (λ left. left + encoded_len message.now ≡ room) }
 {
     less_pairs(less_tags(room.checked_sub(43)?, message)?, message)
