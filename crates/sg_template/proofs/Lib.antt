@@ -1,0 +1,5 @@
+pub mod Appending
+pub mod Hard
+pub mod Parts
+pub mod Rows
+pub mod Steps
