@@ -1,0 +1,12 @@
+pub mod RunLemmas
+pub mod NameLemmas
+pub mod ValueLemmas
+pub mod HeaderLemmas
+pub mod ParamLemmas
+pub mod ElementLemmas
+pub mod ReadingLemmas
+pub mod Dates
+pub mod StampLemmas
+pub mod WrittenHeader
+pub mod WrittenData
+pub mod WrittenLine

@@ -1,0 +1,41 @@
+-- The values of parameters, and how they are written (RFC 5424, section 6.3.3: PARAM-VALUE).
+use Rattle.std.specs.Prelude.{◌≡◌, ℕ, ◌+◌, ◌==◌, ◌||◌, ◌&&◌, not, Bool, true, false, if◌then◌else◌, List, [], ◌∷◌, ◌++◌, Option, None, Some}
+
+-- a quote, a backslash or a closing bracket
+abbrev pub is_escapable : ℕ → Bool
+is_escapable b = b == 34 || (b == 92 || b == 93)
+
+-- A text spells a value: a backslash makes the byte behind it stand for itself, where that is a quote, a backslash or a closing
+-- bracket. Before another byte a backslash is itself. The three bytes stand in no other way.
+pub data Spells : List ℕ → List ℕ → Type 0 where
+  none : Spells [] []
+  escaped : (b : ℕ) (text value : List ℕ) → is_escapable b ≡ true → Spells text value → Spells (92 ∷ b ∷ text) (b ∷ value)
+  backslash : (b : ℕ) (text value : List ℕ) → is_escapable b ≡ false → Spells text value → Spells (92 ∷ b ∷ text) (92 ∷ b ∷ value)
+  plain : (b : ℕ) (text value : List ℕ) → is_escapable b ≡ false → Spells text value → Spells (b ∷ text) (b ∷ value)
+
+-- a value at the front, up to the quote that closes it
+pub record IsValue (text value rest : List ℕ) : Type 0 where
+  pub spelled : List ℕ
+  pub is_text : text ≡ spelled ++ 34 ∷ rest
+  pub spells : Spells spelled value
+
+-- the byte is this mark, and no backslash stands before it
+abbrev pub is_bare : Bool → ℕ → ℕ → Bool
+is_bare behind b mark = not behind && b == mark
+
+-- the place of the closing quote, where a backslash may stand before the text
+abbrev pub quote_from : Bool → ℕ → List ℕ → Option ℕ
+quote_from behind place [] = None
+quote_from behind place (b ∷ text) =
+    if is_bare behind b 34 then Some place
+    else (if is_bare behind b 93 then None else quote_from (is_bare behind b 92) (place + 1) text)
+
+-- what a byte adds to the value, where a backslash stands before it, or none
+abbrev pub unescaped_byte : Bool → ℕ → List ℕ
+unescaped_byte true b = if is_escapable b then b ∷ [] else 92 ∷ b ∷ []
+unescaped_byte false b = if b == 92 then [] else b ∷ []
+
+-- what a text spells, where a backslash may stand before it
+abbrev pub unescaped_from : Bool → List ℕ → List ℕ
+unescaped_from behind [] = []
+unescaped_from behind (b ∷ text) = unescaped_byte behind b ++ unescaped_from (is_bare behind b 92) text

@@ -1,0 +1,143 @@
+// The header of a record.
+ghost use Rattle.std.specs.Prelude.{◌≡◌, ◌≤◌, Some, IfSome, IfOk};
+ghost use Rattle.std.specs.Option.{ForSome};
+ghost use Rattle.sg_time.specs.Stamp.{IsValid};
+ghost use Rattle.sg_r5424.specs.Grammar.{IsStart, IsStamp, IsFront, IsNames, unless_nil};
+ghost use Rattle.sg_r5424.specs.Takes.{Takes, TryTakes};
+ghost use Rattle.sg_r5424.specs.Is5424.{header_content};
+
+use crate::take::{take_field, take_text};
+use bytes::Bytes;
+use sg_msg::Message;
+use sg_r3164::{ReadOpts, priority, put, put_some};
+use sg_time::{Stamp, read_iso};
+use std::alloc::{AllocError, Global};
+
+/// PRI and TIMESTAMP, which is none where it is nil.
+#[derive(Clone, Copy, Debug, Drop)]
+pub(crate) struct Front {
+    pub(crate) pri: u8,
+    pub(crate) stamp: Option<Stamp>,
+}
+
+/// HOSTNAME, APP-NAME, PROCID and MSGID as they are written.
+#[derive(Debug, Drop)]
+pub(crate) struct Names {
+    pub(crate) host: Bytes,
+    pub(crate) program: Bytes,
+    pub(crate) pid: Bytes,
+    pub(crate) msgid: Bytes,
+}
+
+// Takes PRI, VERSION and the space behind them.
+#[tactic(none)]
+fn take_start(text: &mut Bytes) -> Option<u8>
+    ensures start { Takes IsStart text.old text.new result }
+    ensures range { IfSome result (λ pri. pri ≤ 191) }
+{
+    let Some((pri, len)) = priority(text.as_slice()) else {
+        return None;
+    };
+    text.advance(len);
+    if !take_text(text, b"1 ") {
+        return None;
+    }
+    Some(pri)
+}
+
+// Takes a TIMESTAMP that isn't nil, and the space behind it.
+#[tactic(none)]
+fn take_iso(text: &mut Bytes) -> Option<Stamp>
+    ensures stamp { Takes (λ text stamp rest. IsStamp text (Some stamp) rest) text.old text.new result }
+    ensures valid { IfSome result IsValid }
+{
+    let Some((stamp, len)) = read_iso(text.as_slice()) else {
+        return None;
+    };
+    text.advance(len);
+    if !take_text(text, b" ") {
+        return None;
+    }
+    Some(stamp)
+}
+
+// Takes PRI, VERSION and TIMESTAMP.
+#[tactic(none)]
+pub(crate) fn take_front(text: &mut Bytes) -> Option<Front>
+    ensures front { Takes IsFront text.old text.new result }
+    ensures pri { IfSome result (λ front. front.pri ≤ 191) }
+    ensures stamp { IfSome result (λ front. ForSome front.stamp IsValid) }
+{
+    let Some(pri) = take_start(text) else {
+        return None;
+    };
+    if take_text(text, b"- ") {
+        return Some(Front { pri, stamp: None });
+    }
+    let Some(stamp) = take_iso(text) else {
+        return None;
+    };
+    Some(Front {
+        pri,
+        stamp: Some(stamp),
+    })
+}
+
+// Takes HOSTNAME, APP-NAME, PROCID and MSGID.
+pub(crate) fn take_names(text: &mut Bytes) -> Result<Option<Names>, AllocError>
+    ensures { TryTakes IsNames text.old text.new result }
+{
+    let Some(host) = take_field(text, 255)? else {
+        return Ok(None);
+    };
+    let Some(program) = take_field(text, 48)? else {
+        return Ok(None);
+    };
+    let Some(pid) = take_field(text, 128)? else {
+        return Ok(None);
+    };
+    let Some(msgid) = take_field(text, 32)? else {
+        return Ok(None);
+    };
+    Ok(Some(Names {
+        host,
+        program,
+        pid,
+        msgid,
+    }))
+}
+
+fn unless_nil(field: Bytes) -> Option<Bytes>
+    ensures { result ≡ unless_nil field }
+{
+    if field.as_slice() == b"-".as_slice() {
+        None
+    } else {
+        Some(field)
+    }
+}
+
+// The message that the header says, of this record.
+pub(crate) fn start_message(
+    alloc: Global,
+    raw: Bytes,
+    received: Stamp,
+    peer: &[u8],
+    opts: &ReadOpts,
+    front: Front,
+    names: Names,
+) -> Result<Message, AllocError>
+    requires pri { front.pri ≤ 191 }
+    requires sent { ForSome front.stamp IsValid }
+    requires received { IsValid received }
+    ensures { IfOk result (λ message. message ≡ header_content received peer.now opts.now front names) }
+{
+    let sent = opts.sent(front.stamp, received);
+    let mut message = Message::new(alloc, raw, front.pri, sent, received)?;
+    let host = opts.host(alloc, unless_nil(names.host), peer)?;
+    put(&mut message, b"HOST", host)?;
+    put_some(&mut message, b"PROGRAM", unless_nil(names.program))?;
+    put_some(&mut message, b"PID", unless_nil(names.pid))?;
+    put_some(&mut message, b"MSGID", unless_nil(names.msgid))?;
+    Ok(message)
+}

@@ -1,0 +1,21 @@
+//! Reading records of RFC 5424, and writing messages as such.
+#![tactic(auto)]
+
+mod elements;
+mod header;
+mod laws;
+mod params;
+mod reading;
+mod refusal;
+mod take;
+#[cfg(test)]
+mod tests;
+mod values;
+mod writing;
+#[cfg(test)]
+mod writing_tests;
+
+pub use laws::{lines_are_records, records_say_one_message};
+pub use reading::{read, refused};
+pub use refusal::R5424Refusal;
+pub use writing::write;
