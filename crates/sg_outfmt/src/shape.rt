@@ -1,0 +1,52 @@
+// The shapes of frames.
+ghost use Rattle.std.specs.Prelude.{◌≡◌, IfOk, Ok, is_ok, true};
+ghost use Rattle.sg_template.specs.Reading.{parts_of};
+ghost use Rattle.sg_outfmt.specs.Shape.{IsDefault};
+
+use sg_template::{Template, TemplateFault};
+use std::alloc::{AllocError, Global};
+
+/// What a frame is made of.
+#[derive(Debug, Drop)]
+pub enum Shape {
+    /// A template's text.
+    Text(Template),
+    /// A line of RFC 5424, behind its length in octets and a space (RFC 6587, 3.4.1).
+    Counted5424,
+}
+
+/// The kinds of destinations.
+#[derive(Clone, Copy, Debug, PartialEq, Eq, Drop)]
+pub enum DriverKind {
+    File,
+    Network,
+    Syslog,
+}
+
+const FILE_TEXT: &[u8] = b"${STAMP} ${HOST} ${MSGHDR}${MSG}\n";
+
+const NETWORK_TEXT: &[u8] = b"<${PRI}>${STAMP} ${HOST} ${MSGHDR}${MSG}\n";
+
+/// The shape of a destination without a template.
+#[tactic(auto, unfolding(sg_template::specs::Reading::parts_of, sg_template::specs::Macros::macro_of, sg_template::specs::Macros::macros, sg_template::specs::Macros::pair_name))]
+pub fn default_shape(alloc: Global, driver: DriverKind) -> Result<Shape, AllocError>
+    ensures { IfOk result (IsDefault driver) }
+{
+    match driver {
+        DriverKind::File => Ok(Shape::Text(sound_template(alloc, FILE_TEXT)?)),
+        DriverKind::Network => Ok(Shape::Text(sound_template(alloc, NETWORK_TEXT)?)),
+        DriverKind::Syslog => Ok(Shape::Counted5424),
+    }
+}
+
+// The template of a text without a fault.
+fn sound_template(alloc: Global, text: &[u8]) -> Result<Template, AllocError>
+    requires { is_ok (parts_of text.now) ≡ true }
+    ensures { IfOk result (λ template. parts_of text.now ≡ Ok template) }
+{
+    match Template::read(alloc, text) {
+        Ok(template) => Ok(template),
+        Err(TemplateFault::NoMemory) => Err(AllocError),
+        Err(TemplateFault::OpenBrace | TemplateFault::Function) => unreachable!(),
+    }
+}
