@@ -1,0 +1,132 @@
+-- How a ring goes on from call to call.
+use Rattle.std.proofs.Common.{◌≡◌, ◌≢◌, ◌⊎◌, inl, inr, ℕ, ◌+◌, ◌<◌, ◌≤◌, List, [], ◌∷◌, ◌++◌, length, get_or, refl, sym, ◌∙◌, ap, subst, arith, Some, None, Option}
+use Rattle.std.proofs.lemmas.Bool.{cases_eq, cases_lt}
+use Rattle.sg_device.specs.DiskBytes.{Torn, Written}
+use Rattle.sg_device.specs.Disk.{DiskState, content, clock, IsImage, IsImageAt, Changes, Elapses, Durable, Within, EachNow}
+use Rattle.sg_device.proofs.Disks.{started, goes_on, now_on, within_now, within_as, durable_now, told_on}
+use Rattle.sg_device.proofs.DiskCalls.{reads_as_image}
+use Rattle.sg_device.proofs.Parts.{part_at, torn_of_written}
+use Rattle.sg_stable.specs.declared.cell.Pair.{Pair}
+use Rattle.sg_spool.specs.Lists.{Stays, Perhaps, Appends, Follows}
+use Rattle.sg_spool.specs.Ring.{Entries, IsList}
+use Rattle.sg_spool.specs.Steps.{RingAt, Stems, After, Spares}
+use Rattle.sg_spool.proofs.Rings.{ring_spared, list_of, shut_spares}
+use Rattle.sg_spool.proofs.Unique.{list_unique}
+
+-- a step that says less
+pub elapses_as : {one two : List ℕ → List ℕ → Type 0} (old new : DiskState) → ((d c : List ℕ) → one d c → two d c) → Elapses one old new → Elapses two old new
+elapses_as old new goes time = record {
+  later = time.later;
+  past = time.past;
+  kept = time.kept;
+  since = λ t c lt le left. let from = time.since t c lt le left in (from.0, from.1, goes from.0 c from.2);
+}
+
+-- two calls of one step
+pub elapses_join : (step : List ℕ → List ℕ → Type 0) (old mid new : DiskState) → ((c : List ℕ) → step c c) → ((a b c : List ℕ) → step a b → step b c → step a c) → Elapses step old mid → Elapses step mid new → Elapses step old new
+elapses_join step old mid new same joins one two =
+    let at_mid : (c : List ℕ) → IsImage mid c → (d : List ℕ) × IsImage old d × step d c = λ c left. elim (cases_lt (clock old) (clock mid)) [
+      | inl late ↦ one.since (clock mid) c late (omega arith) left
+      | inr early ↦
+          let at_once : clock mid ≡ clock old = omega (arith, early, one.later) in
+          (c, one.past (clock old) c (omega arith) (subst (λ (n : ℕ). IsImageAt mid n c) at_once left), same c)
+    ] in
+    record {
+      later = omega (arith, one.later, two.later);
+      past = λ t c le left. one.past t c le (two.past t c (omega (arith, le, one.later)) left);
+      kept = λ t c le left. two.kept t c (omega (arith, le, one.later)) (one.kept t c le left);
+      since = λ t c lt le left. elim (cases_lt (clock mid) t) [
+        | inr early ↦ one.since t c lt early (two.past t c early left)
+        | inl late ↦
+            let from = two.since t c late le left in
+            let before = at_mid from.0 from.1 in
+            (before.0, before.1, joins before.0 from.0 c before.2 from.2)
+      ];
+    }
+
+-- two calls, the second from the images that the first left
+pub within_join : (old mid new : DiskState) (P Q : List ℕ → Type 0) → Within old mid P → Within mid new Q → ((c : List ℕ) → Q c → P c) → Within old new P
+within_join old mid new P Q one two goes = record {
+  later = omega (arith, one.later, two.later);
+  past = λ t c le left. one.past t c le (two.past t c (omega (arith, le, one.later)) left);
+  kept = λ t c le left. two.kept t c (omega (arith, le, one.later)) (one.kept t c le left);
+  each = λ t c low high left. elim (cases_lt (clock mid) t) [
+    | inr early ↦ one.each t c low early (two.past t c early left)
+    | inl late ↦ goes c (two.each t c (omega (arith, late)) high left)
+  ];
+}
+
+-- what holds of each image now
+pub stem_now : (d0 : DiskState) (P : List ℕ → Type 0) → EachNow d0 P → EachNow d0 (Stems (IsImage d0) P)
+stem_now d0 P start c left = record { origin = c; was = left; holds = start c left }
+
+pub stem_as : (from : List ℕ → Type 0) (P Q : List ℕ → Type 0) (c d : List ℕ) → Stems from P c → (P c → Q d) → Stems from Q d
+stem_as from P Q c d stem goes = record { origin = stem.origin; was = stem.was; holds = goes stem.holds }
+
+-- an image that stems from one that stems from others
+pub stem_join : (one two : List ℕ → Type 0) (P Q : List ℕ → Type 0) (c : List ℕ) → ((d : List ℕ) → two d → Stems one P d) → Stems two Q c → Stems one Q c
+stem_join one two P Q c earlier stem = let first = earlier stem.origin stem.was in record { origin = first.origin; was = first.was; holds = stem.holds }
+
+-- a list that stays, and one of one list
+pub after_stays : (step : Entries → Entries → Type 0) (es : Entries) (c : List ℕ) → IsList es c → After (Perhaps step) es c
+after_stays step es c is = (es, inl refl, is)
+
+pub after_step : (step : Entries → Entries → Type 0) (es fs : Entries) (c : List ℕ) → step es fs → IsList fs c → After (Perhaps step) es c
+after_step step es fs c goes is = (fs, inr goes, is)
+
+-- the images before stand for this list
+pub follows_of : (from : List ℕ → Type 0) (step : Entries → Entries → Type 0) (es : Entries) (c : List ℕ) → ((d : List ℕ) → from d → IsList es d) → Stems from (After step es) c → Follows from step c
+follows_of from step es c start stem = record {
+  before = stem.origin;
+  was = stem.was;
+  list = λ fs is.
+      let same = list_unique es fs stem.origin (start stem.origin stem.was) is in
+      (stem.holds.0, subst (λ (l : Entries). step l stem.holds.0) same stem.holds.1, stem.holds.2);
+}
+
+-- a file of at most this length, over one write more
+pub short_on : (most at n : ℕ) (d0 d1 d2 : DiskState) → at + n ≤ most → Within d0 d1 (λ c. length c ≤ most) → Elapses (Torn at n) d1 d2 → Within d0 d2 (λ c. length c ≤ most)
+short_on most at n d0 d1 d2 fits so_far time = goes_on d0 d1 d2 (λ c. length c ≤ most) (λ c. length c ≤ most) so_far time (within_now d0 d1 (λ c. length c ≤ most) so_far) (λ d c le torn. omega (arith, le, torn.no_longer, fits))
+
+pub short_start : (most : ℕ) (d0 : DiskState) → EachNow d0 (λ c. length c ≤ most) → Within d0 d0 (λ c. length c ≤ most)
+short_start most d0 start = started d0 (λ c. length c ≤ most) start
+
+-- writes outside a ring
+module _ (cell : Pair) (jump : Option ℕ) (head end : ℕ) (es : Entries) (d0 d1 : DiskState) (start : EachNow d0 (RingAt cell jump head end es)) (time : Elapses (Spares jump head end) d0 d1) where
+  spared_on : (d c : List ℕ) → Stems (IsImage d0) (RingAt cell jump head end es) d → Spares jump head end d c → Stems (IsImage d0) (RingAt cell jump head end es) c
+  spared_on d c at spares = stem_as (IsImage d0) (RingAt cell jump head end es) (RingAt cell jump head end es) d c at (λ ring. ring_spared cell jump head end es d c ring spares)
+
+  pub spared_within : (step : Entries → Entries → Type 0) → Within d0 d1 (Stems (IsImage d0) (After (Perhaps step) es))
+  spared_within step =
+      let P = Stems (IsImage d0) (After (Perhaps step) es) in
+      let goes : (c : List ℕ) → Stems (IsImage d0) (RingAt cell jump head end es) c → P c = λ c at. stem_as (IsImage d0) (RingAt cell jump head end es) (After (Perhaps step) es) c c at (λ ring. after_stays step es c (list_of cell jump head end es c ring)) in
+      goes_on d0 d0 d1 P (Stems (IsImage d0) (RingAt cell jump head end es)) (started d0 P (λ c left. goes c (stem_now d0 (RingAt cell jump head end es) start c left))) time (stem_now d0 (RingAt cell jump head end es) start) (λ d c at spares. goes c (spared_on d c at spares))
+
+  pub spared_now : EachNow d1 (Stems (IsImage d0) (RingAt cell jump head end es))
+  spared_now = now_on d0 d1 (Stems (IsImage d0) (RingAt cell jump head end es)) (Stems (IsImage d0) (RingAt cell jump head end es)) time (stem_now d0 (RingAt cell jump head end es) start) spared_on (λ c at. at)
+
+-- the last gate is opened, once the entry stands
+module _ (cell : Pair) (jump : Option ℕ) (head end : ℕ) (es : Entries) (longer : Option ℕ) (last : ℕ) (payload : List ℕ) (Staged : List ℕ → Type 0)
+    (ring : (c : List ℕ) → Staged c → RingAt cell jump head end es c)
+    (opens : (c d : List ℕ) → Staged c → Torn end 1 c d → get_or d end 0 ≢ 0 → RingAt cell longer head last (es ++ payload ∷ []) d)
+    (d0 d1 d2 : DiskState) (now1 : EachNow d1 (Stems (IsImage d0) Staged)) where
+  abbrev P : List ℕ → Type 0
+  P c = Stems (IsImage d0) (After (Perhaps (Appends payload)) es) c
+
+  gate_torn : (d c : List ℕ) → Stems (IsImage d0) Staged d → Torn end 1 d c → P c
+  gate_torn d c at torn = stem_as (IsImage d0) Staged (After (Perhaps (Appends payload)) es) d c at (λ staged. elim (cases_eq (get_or c end 0) 0) [
+    | inl shut ↦ after_stays (Appends payload) es c (list_of cell jump head end es c (ring_spared cell jump head end es d c (ring d staged) (shut_spares cell jump head end es d c (ring d staged) torn shut)))
+    | inr opened ↦ after_step (Appends payload) es (es ++ payload ∷ []) c refl (list_of cell longer head last (es ++ payload ∷ []) c (opens d c staged torn opened))
+  ])
+
+  gate_written : (d c : List ℕ) → Stems (IsImage d0) Staged d → Written end (1 ∷ []) d c → Stems (IsImage d0) (RingAt cell longer head last (es ++ payload ∷ [])) c
+  gate_written d c at put = stem_as (IsImage d0) Staged (RingAt cell longer head last (es ++ payload ∷ [])) d c at (λ staged.
+      let one : get_or c end 0 ≡ 1 = ap (λ (k : ℕ). get_or c k 0) (omega arith) ∙ sym (part_at end 1 c 0 (omega arith)) ∙ ap (λ (l : List ℕ). get_or l 0 0) put.there in
+      opens d c staged (torn_of_written end (1 ∷ []) d c put) (λ shut. let no : 1 ≡ 0 = sym one ∙ shut in omega (arith, no)))
+
+  pub gate_within : Within d0 d1 P → Elapses (Torn end 1) d1 d2 → Within d0 d2 P
+  gate_within so_far time = goes_on d0 d1 d2 P (Stems (IsImage d0) Staged) so_far time now1 gate_torn
+
+  pub gate_ring : Changes (Written end (1 ∷ [])) (content d1) (content d2) → Durable d2 → EachNow d2 (Stems (IsImage d0) (RingAt cell longer head last (es ++ payload ∷ [])))
+  gate_ring written durable = durable_now d2 (Stems (IsImage d0) (RingAt cell longer head last (es ++ payload ∷ []))) durable
+      (told_on (Stems (IsImage d0) Staged) (Stems (IsImage d0) (RingAt cell longer head last (es ++ payload ∷ []))) written (λ b told. now1 b (reads_as_image d1 b told)) gate_written)

@@ -1,0 +1,31 @@
+-- A fresh store is within its bound.
+use Rattle.std.proofs.Common.{◌≡◌, ℕ, ◌+◌, ◌*◌, ◌<◌, ◌≤◌, max, List, [], ◌∷◌, length, replicate, get_or, refl, sym, ◌∙◌, ap, arith, Some, None, Option}
+use Rattle.sg_device.specs.Disk.{DiskState, content, Preserves, Durable, EachNow}
+use Rattle.sg_device.proofs.Disks.{told_back}
+use Rattle.sg_device.proofs.Parts.{zeros_at}
+use Rattle.sg_stable.specs.Cell.{word, slot, cell_value}
+use Rattle.sg_spool.specs.Places.{AreCompact, bound}
+use Rattle.sg_spool.specs.Ring.{Entries, Run, IsLaid}
+
+fresh_value : cell_value (replicate 128 0) ≡ 0
+unfolding word
+fresh_value = refl
+
+fresh_run : (k : ℕ) (es : Entries) (e : ℕ) → Run (replicate 128 0) k es e → k ≡ e
+fresh_run k [] e run = run
+fresh_run k (p ∷ ps) e run = absurd (run.0.opened (zeros_at 128 k))
+
+pub fresh_compact : (capacity : ℕ) (jump : Option ℕ) (head end : ℕ) (es : Entries) → IsLaid jump head end es (replicate 128 0) → AreCompact capacity jump head end
+fresh_compact capacity None head end es laid =
+    let same = fresh_run head es end laid.row in
+    let at : 64 + 0 ≡ head = ap (λ (v : ℕ). 64 + v) (sym fresh_value) ∙ laid.buffer.at_head in
+    omega (arith, same, at)
+fresh_compact capacity (Some jump) head end es laid = absurd (laid.row.jumps.opened (zeros_at 128 jump))
+
+pub fresh_short : (capacity : ℕ) (d0 d1 : DiskState) → content d0 ≡ Some (replicate 128 0) → Preserves d0 d1 → Durable d1 → EachNow d1 (λ b. length b ≤ bound capacity)
+fresh_short capacity d0 d1 fresh keeps durable b left =
+    let was = told_back d0 d1 b keeps (durable b left) in
+    let both : Some (replicate 128 0) ≡ Some b = sym fresh ∙ was in
+    let same : replicate 128 0 ≡ b = cc in
+    let long : 128 ≡ length b = ap length same in
+    omega (arith, long)

@@ -1,0 +1,10 @@
+pub mod Answers
+pub mod Copying
+pub mod Lists
+pub mod Opening
+pub mod Places
+pub mod Rewriting
+pub mod Ring
+pub mod Steps
+pub mod View
+pub mod Walk

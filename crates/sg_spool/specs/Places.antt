@@ -1,0 +1,62 @@
+-- The places of a ring.
+use Rattle.std.specs.Prelude.{◌≡◌, ◌⊎◌, ℕ, ◌+◌, ◌-◌, ◌*◌, ◌<◌, ◌≤◌, ◌^◌, min, max, List, [], ◌∷◌, length, Option, Some, None, if◌then◌else◌, ◌==◌}
+use Rattle.sg_spool.specs.Ring.{Entries, IsEntry}
+use Rattle.sg_spool.specs.declared.places.Places.{Places}
+
+-- the order that they keep
+abbrev pub AreOrdered : Option ℕ → ℕ → ℕ → Type 0
+AreOrdered None head end = (64 ≤ head) × (head ≤ end) × (end < 2 ^ 63)
+AreOrdered (Some jump) head end = (64 ≤ end) × (end < head) × (head ≤ jump) × (jump + 5 < 2 ^ 63)
+
+-- the bytes between the head and the end, over the jump
+abbrev pub bytes_between : Option ℕ → ℕ → ℕ → ℕ
+bytes_between None head end = end - head
+bytes_between (Some jump) head end = (jump - head) + (end - 64)
+
+abbrev pub IsOrdered : Places → Type 0
+IsOrdered places = AreOrdered places.jump places.head places.end
+
+-- the bytes that the entries take, with their gates and lengths
+abbrev pub live : Places → ℕ
+live places = bytes_between places.jump places.head places.end
+
+-- the gate at which a walk that comes to this place goes on
+abbrev pub gate_past : Option ℕ → ℕ → ℕ
+gate_past None place = place
+gate_past (Some jump) place = if jump == place then 64 else place
+
+-- from this gate on these entries are left
+abbrev pub Remains : List ℕ → Option ℕ → ℕ → Entries → ℕ → Type 0
+Remains bytes jump gate [] end = gate ≡ end
+Remains bytes jump gate (payload ∷ payloads) end = IsEntry bytes gate payload × Remains bytes jump (gate_past jump (gate + 5 + length payload)) payloads end
+
+-- a payload of n bytes is within the capacity
+abbrev pub Fits : ℕ → Places → ℕ → Type 0
+Fits capacity places n = live places + n + 6 ≤ capacity
+
+-- there is room behind the end for a payload of n bytes: always in one row, else up to the head
+abbrev pub HasRoom : Option ℕ → ℕ → ℕ → ℕ → Type 0
+HasRoom None head end n = Unit {0}
+HasRoom (Some jump) head end n = end + n + 6 ≤ head
+
+-- no file is longer than this, where nothing else than appends and advances under this capacity came to it
+abbrev pub bound : ℕ → ℕ
+bound capacity = max 128 (68 + 2 * capacity)
+
+-- the places that such a ring has: what is appended in one row ends by 64 + 2 * capacity, and a jump leaves the capacity free
+abbrev pub AreCompact : ℕ → Option ℕ → ℕ → ℕ → Type 0
+AreCompact capacity None head end = end < 64 + max 1 (2 * capacity)
+AreCompact capacity (Some jump) head end = (64 + capacity < head) × (jump < 64 + max 1 (2 * capacity))
+
+-- the gate behind an entry of this size, and no place past the last
+abbrev pub behind : ℕ → ℕ → ℕ → ℕ
+behind gate size last = min (min (min (gate + 5) (2 ^ 64 - 1) + size) (2 ^ 64 - 1)) last
+
+-- the places behind the first entry, whose payload has this size
+abbrev pub first_past : Option ℕ → ℕ → ℕ → ℕ → Places
+first_past None head end size = record { jump = None; head = behind head size end; end = end }
+first_past (Some jump) head end size = if jump == head then record { jump = None; head = behind 64 size end; end = end }
+    else (if behind head size jump == jump then record { jump = None; head = 64; end = end } else record { jump = Some jump; head = behind head size jump; end = end })
+
+abbrev pub after_first : Places → ℕ → Places
+after_first places size = first_past places.jump places.head places.end size
