@@ -1,0 +1,145 @@
+-- What the turns of a round leave.
+use Rattle.std.proofs.Common.{◌≡◌, ◌≢◌, ℕ, ◌+◌, ◌<◌, ◌≤◌, List, [], ◌∷◌, ◌++◌, length, Some, None, Option, Bool, true, false, ◌||◌, refl, sym, ap, ◌∙◌, arith, subst, inl, inr, ◌⊎◌}
+use Rattle.std.specs.Prelude.{Result, Ok, Err, nat_lt, ◌==◌}
+use Rattle.std.specs.Option.{option_map, option_map_or}
+use Rattle.sg_device.specs.Inlet.{InletState}
+use Rattle.sg_device.specs.Outlet.{OutletState}
+use Rattle.sg_frame.specs.Framing.{items_left}
+use Rattle.sg_msg.specs.Message.{Content}
+use Rattle.sg_queue.specs.declared.entry.Entry.{Entry as Waiting}
+use Rattle.sg_machine.specs.declared.event.Act.TheVariants.{Settle, Look}
+use Rattle.sg_machine.specs.declared.state.State.{State}
+use Rattle.sg_core.specs.States.{CoreState}
+use Rattle.sg_core.specs.Sources.{credit_at}
+use Rattle.sg_core.specs.Sinks.{first_at}
+use Rattle.sg_core.specs.Standing.{Does, IsAt}
+use Rattle.sg_engine.specs.Path.{frame_of}
+use Rattle.sg_engine.specs.Reading.{IsReady}
+use Rattle.sg_device.specs.Outlet.{Sends}
+use Rattle.sg_device.specs.declared.fault.SendRefusal.{SendRefusal}
+use Rattle.sg_device.specs.declared.fault.SendRefusal.TheVariants.{Fault, NoMemory as SendNoMemory}
+use Rattle.sg_engine.specs.Turns.{Run, run, Steps, Stops, RunsOn, stop_of, TakesNone, PullsOn, HasNothing, ReadsNone, StoresMark, Rests, BlamesSource, SourceRests, SendsFrame, SendsNone, RoundRests, BlamesInlet, IsMemory}
+use Rattle.sg_engine.proofs.StepLemmas.{rose-later}
+use Rattle.sg_engine.proofs.RunLemmas.{steps-less, steps-then, steps-look, steps-settle, stops-sent}
+use Rattle.sg_engine.specs.declared.reader.Reader.{Reader}
+use Rattle.sg_engine.specs.declared.rounds.Stop.{Stop}
+use Rattle.sg_engine.specs.declared.rounds.Stop.TheVariants.{InletFailed, OutletFailed, StoreFailed, NoMemory}
+
+pub memory-inlet : (stop : Stop) (feed feed' : InletState) → IsMemory stop → BlamesInlet feed feed' stop
+memory-inlet InletFailed feed feed' h = absurd h
+memory-inlet OutletFailed feed feed' h = absurd h
+memory-inlet StoreFailed feed feed' h = absurd h
+memory-inlet NoMemory feed feed' h = tt
+
+-- A turn of the source.
+
+pub runs-same : (x : Bool) (a b c : Run) → Steps 0 a b → RunsOn b c (Ok x) → RunsOn a c (Ok x)
+runs-same true a b c h k = steps-less 1 (0 + 1) a c (omega arith) (steps-then 0 1 a b c h k)
+runs-same false a b c h k = steps-less 0 (0 + 0) a c (omega arith) (steps-then 0 0 a b c h k)
+
+pub reads-pulled : (x : Bool) (core core' : CoreState) (feed feed' : InletState) (reader reader' : Reader) → PullsOn feed feed' reader' (Ok x) → ReadsNone core core' feed feed' reader reader' (Ok x)
+reads-pulled true core core' feed feed' reader reader' h = h
+reads-pulled false core core' feed feed' reader reader' h = absurd h
+
+ready-still : (feed feed' : InletState) (reader reader' : Reader) → feed' ≡ feed → reader' ≡ reader → IsReady feed reader → IsReady feed' reader'
+ready-still feed feed' reader reader' f r h = subst (λ i. IsReady i reader') (sym f) (subst (λ k. IsReady feed k) (sym r) h)
+
+nothing-still : (core core' : CoreState) (reader reader' : Reader) → core'.sources ≡ core.sources → reader' ≡ reader → HasNothing core reader → HasNothing core' reader'
+nothing-still core core' reader reader' s r (inl e) = inl (ap (λ xs. credit_at xs 0) s ∙ e)
+nothing-still core core' reader reader' s r (inr e) = inr (ap (λ k. items_left k.framer) r ∙ e.0, ap (λ k. k.ended) r ∙ e.1)
+
+pub source-rests : (x : Bool) (core core1 core' : CoreState) (feed feed' : InletState) (reader reader' : Reader) → IsReady feed reader → ReadsNone core core1 feed feed' reader reader' (Ok false)
+    → StoresMark core1 core' (Ok x) → SourceRests core core' feed feed' reader reader' (Ok x)
+source-rests true core core1 core' feed feed' reader reader' ready none stores = ready-still feed feed' reader reader' none.1 none.2 ready
+source-rests false core core1 core' feed feed' reader reader' ready none stores = (
+  none.1,
+  none.2,
+  λ state at.
+      let s = stores state (subst (λ k. IsAt k state) (sym none.0) at) in
+      (nothing-still core core' reader reader' (s.0 ∙ ap (λ k. k.sources) none.0) none.2 none.3, s.2),
+)
+
+pub source-read : (x : Bool) (core core' : CoreState) (feed feed' : InletState) (reader reader' : Reader) → ReadsNone core core' feed feed' reader reader' (Ok x) → x ≡ true → IsReady feed' reader'
+source-read true core core' feed feed' reader reader' h e = h
+source-read false core core' feed feed' reader reader' h e = absurd (let g : false ≡ true = e in cc)
+
+pub reads-ready : (x : Bool) (core core' : CoreState) (feed feed' : InletState) (reader reader' : Reader) → IsReady feed reader → ReadsNone core core' feed feed' reader reader' (Ok x) → IsReady feed' reader'
+reads-ready true core core' feed feed' reader reader' ready h = h
+reads-ready false core core' feed feed' reader reader' ready h = ready-still feed feed' reader reader' h.1 h.2 ready
+
+pub source-blamed : (stop : Stop) (feed feed' : InletState) → BlamesInlet feed feed' stop → BlamesSource feed feed' stop
+source-blamed InletFailed feed feed' h = h
+source-blamed OutletFailed feed feed' h = h
+source-blamed StoreFailed feed feed' h = absurd h
+source-blamed NoMemory feed feed' h = tt
+
+pub store-blamed : (stop : Stop) (feed feed' : InletState) → stop ≡ StoreFailed → BlamesSource feed feed' stop
+store-blamed stop feed feed' h = rw h tt
+
+-- A round.
+
+pub round-rests : (x : Bool) (core core1 core' : CoreState) (feed feed' : InletState) (reader reader' : Reader) (drain drain' : OutletState) → IsReady feed reader
+    → SourceRests core core1 feed feed' reader reader' (Ok false) → SendsNone core1 core' drain drain' (Ok x) → RoundRests core core' feed feed' reader' drain drain' (Ok x)
+round-rests true core core1 core' feed feed' reader reader' drain drain' ready rests sends = ready-still feed feed' reader reader' rests.0 rests.1 ready
+round-rests false core core1 core' feed feed' reader reader' drain drain' ready rests sends = (
+  rests.0,
+  ready-still feed feed' reader reader' rests.0 rests.1 ready,
+  ap (λ k. first_at k.sinks 0) sends.0 ∙ sends.2,
+  λ state at. subst (λ k. Rests k reader') (sym sends.0) (rests.2 state at),
+)
+
+pub round-ready : (x : Bool) (core core1 : CoreState) (feed feed' : InletState) (reader reader' : Reader) → IsReady feed reader → SourceRests core core1 feed feed' reader reader' (Ok x) → IsReady feed' reader'
+round-ready true core core1 feed feed' reader reader' ready h = h
+round-ready false core core1 feed feed' reader reader' ready h = ready-still feed feed' reader reader' h.0 h.1 ready
+
+pub round-source : (stop : Stop) (core core' : CoreState) (feed feed' : InletState) (reader' : Reader) (drain drain' : OutletState) → BlamesSource feed feed' stop
+    → RoundRests core core' feed feed' reader' drain drain' (Err stop)
+round-source InletFailed core core' feed feed' reader' drain drain' h = h
+round-source OutletFailed core core' feed feed' reader' drain drain' h = absurd h
+round-source StoreFailed core core' feed feed' reader' drain drain' h = tt
+round-source NoMemory core core' feed feed' reader' drain drain' h = tt
+
+pub round-sent : (stop : Stop) (core core1 core' : CoreState) (feed feed' : InletState) (reader' : Reader) (drain drain' : OutletState) → SendsNone core1 core' drain drain' (Err stop)
+    → RoundRests core core' feed feed' reader' drain drain' (Err stop)
+round-sent InletFailed core core1 core' feed feed' reader' drain drain' h = absurd h
+round-sent OutletFailed core core1 core' feed feed' reader' drain drain' h = h.1
+round-sent StoreFailed core core1 core' feed feed' reader' drain drain' h = absurd h
+round-sent NoMemory core core1 core' feed feed' reader' drain drain' h = tt
+
+pub sends-later : (r : Result Bool Stop) (core core' : CoreState) (drain drain' : OutletState) → SendsNone core core' drain drain' r → drain.faults ≤ drain'.faults
+sends-later (Ok true) core core' drain drain' h = h
+sends-later (Ok false) core core' drain drain' h = (let e : drain'.faults ≡ drain.faults = ap (λ d. d.faults) h.1 in omega arith)
+sends-later (Err InletFailed) core core' drain drain' h = absurd h
+sends-later (Err OutletFailed) core core' drain drain' h = h.0
+sends-later (Err StoreFailed) core core' drain drain' h = absurd h
+sends-later (Err NoMemory) core core' drain drain' h = h
+
+-- A turn of the destination.
+
+-- a frame that wasn't taken
+pub frame-taken : (old new : OutletState) (frame : List ℕ) (stop : Stop) → SendsFrame old new frame (Err stop) → new.taken ≡ old.taken
+frame-taken old new frame InletFailed h = absurd h
+frame-taken old new frame OutletFailed h = h.0
+frame-taken old new frame StoreFailed h = absurd h
+frame-taken old new frame NoMemory h = h.0
+
+pub frame-other : (old new : OutletState) (frame : List ℕ) (stop : Stop) → SendsFrame old new frame (Err stop) → stop ≢ StoreFailed
+frame-other old new frame InletFailed h = absurd h
+frame-other old new frame OutletFailed h = λ e. (let g : OutletFailed ≡ StoreFailed = e in cc)
+frame-other old new frame StoreFailed h = absurd h
+frame-other old new frame NoMemory h = λ e. (let g : NoMemory ≡ StoreFailed = e in cc)
+
+pub stops-frame : (stop : Stop) (core core' : CoreState) (feed : InletState) (reader : Reader) (old new : OutletState) (frame : List ℕ) → Does core core' Look → IsReady feed reader
+    → SendsFrame old new frame (Err stop) → Stops stop (run core feed reader old.taken) (run core' feed reader new.taken)
+stops-frame stop core core' feed reader old new frame does ready h =
+    subst (λ t. Stops stop (run core feed reader old.taken) (run core' feed reader t)) (sym (frame-taken old new frame stop h))
+    (stops-sent stop core core' feed reader old.taken does ready (frame-other old new frame stop h))
+
+-- the first entry was sent and settled
+pub steps-sent : (core core1 core2 : CoreState) (feed : InletState) (reader : Reader) (old new : OutletState) (message : Content) → Does core core1 Look
+    → core1 ≡ record core { calls = core.calls + 1 } → option_map (λ (e : Waiting). e.message) (first_at core.sinks 0) ≡ Some message
+    → new.taken ≡ option_map (λ fs. fs ++ frame_of message ∷ []) old.taken → Does core1 core2 (Settle 0) → Steps 1 (run core feed reader old.taken) (run core2 feed reader new.taken)
+steps-sent core core1 core2 feed reader old new message looks same front taken settles =
+    let first : option_map (λ (e : Waiting). e.message) (first_at core1.sinks 0) ≡ Some message = ap (λ k. option_map (λ (e : Waiting). e.message) (first_at k.sinks 0)) same ∙ front in
+    steps-then 0 1 (run core feed reader old.taken) (run core1 feed reader old.taken) (run core2 feed reader new.taken)
+    (steps-look core core1 feed reader old.taken looks) (steps-settle core1 core2 feed reader old.taken new.taken message settles first taken)

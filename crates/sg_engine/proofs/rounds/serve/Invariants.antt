@@ -1,0 +1,16 @@
+use Rattle.std.proofs.Common.{◌≡◌, ◌≤◌, ◌<◌, ◌*◌, ℕ, length}
+use Rattle.sg_engine.specs.Reading.{IsReady}
+use Rattle.sg_engine.specs.Turns.{Calls}
+use Rattle.sg_engine.proofs.EndLemmas.{Ran}
+use Rattle.sg_engine.proofs.rounds.serve.Given as goal
+
+abbrev pub invariant-loop-round : goal.invariant-loop-round
+invariant-loop-round g l = record {
+  ran : Ran l.initial.core l.core (g.I.Inlet.state l.initial.feed) (g.I.Inlet.state l.feed) l.initial.reader l.reader (g.O.Outlet.state l.initial.drain) (g.O.Outlet.state l.drain) l._round;
+  room : 0 < length l.buffer.items;
+  ready : IsReady (g.I.Inlet.state l.feed) l.reader;
+  calls : Calls l.initial.core l.core (401 * l._round);
+  from : (g.I.Inlet.state l.feed).from ≡ (g.I.Inlet.state l.initial.feed).from;
+  feed_faults : (g.I.Inlet.state l.initial.feed).faults ≤ (g.I.Inlet.state l.feed).faults;
+  drain_faults : (g.O.Outlet.state l.initial.drain).faults ≤ (g.O.Outlet.state l.drain).faults;
+}

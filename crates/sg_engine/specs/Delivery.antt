@@ -1,0 +1,37 @@
+-- What an outlet has taken of what an inlet has given. Nothing is claimed where the inlet or the outlet doesn't tell.
+use Rattle.std.specs.Prelude.{◌≡◌, ℕ, List, [], ◌∷◌, ◌++◌, Option, Some, None}
+use Rattle.sg_device.specs.Inlet.{Part}
+use Rattle.sg_frame.specs.declared.kind.FrameKind.TheVariants.{Lines}
+use Rattle.sg_frame.specs.Records.{Record, records}
+use Rattle.sg_engine.specs.Path.{frames}
+
+-- the records of parts that were read from this place on, a line of at most 65,536 bytes to each
+abbrev pub line_records : ℕ → List Part → List Record
+line_records from parts = records Lines 65536 from parts
+
+-- these are the first records that the inlet gave
+abbrev pub AreFirst : ℕ → Option (List Part) → List Record → Type 0
+AreFirst from None done = Unit {0}
+AreFirst from (Some parts) done = (rest : List Record) × (line_records from parts ≡ done ++ rest)
+
+-- these are all of them
+abbrev pub AreAll : ℕ → Option (List Part) → List Record → Type 0
+AreAll from None done = Unit {0}
+AreAll from (Some parts) done = line_records from parts ≡ done
+
+-- the outlet took the frames of some first ones of the records that the inlet gave, and nothing else
+abbrev pub TookFirst : ℕ → Option (List Part) → Option (List (List ℕ)) → Type 0
+TookFirst from None taken = Unit {0}
+TookFirst from (Some parts) None = Unit {0}
+TookFirst from (Some parts) (Some taken) = (rest : List (List ℕ)) × (frames (line_records from parts) ≡ taken ++ rest)
+
+-- it took the frames of all of them
+abbrev pub TookAll : ℕ → Option (List Part) → Option (List (List ℕ)) → Type 0
+TookAll from None taken = Unit {0}
+TookAll from (Some parts) None = Unit {0}
+TookAll from (Some parts) (Some taken) = taken ≡ frames (line_records from parts)
+
+-- the place behind the last of these records, this place where there is none
+abbrev pub last_end : ℕ → List Record → ℕ
+last_end opening [] = opening
+last_end opening (r ∷ rs) = last_end r.item.end rs

@@ -1,0 +1,14 @@
+//! The rounds of a run on one thread: records move from an inlet through the flow core to an outlet.
+#![tactic(auto)]
+
+mod delivery;
+mod format;
+mod path;
+mod reader;
+mod rounds;
+mod source;
+#[cfg(test)]
+mod tests;
+
+pub use path::path_setup;
+pub use rounds::{Ended, serve};
