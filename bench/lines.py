@@ -5,7 +5,8 @@ one write call for each line, and beside syslog-ng where it is installed.
     bench/lines.py [LINES [LENGTH [ROUNDS]]]     by default 1,000,000 lines of 200 bytes, 5 rounds
 
 The programs take turns; what is printed is the median of the rounds: lines per second, the ratio to
-the C program, and the most memory that syslogr held. No threshold is tested here.
+the C program, the same with syslogr's syncs left out, how often it synced its store, the time of a run that finds nothing new, and the most
+memory that syslogr held. No threshold is tested here.
 """
 import os
 import resource
@@ -28,10 +29,28 @@ def make_input(path, lines, length):
             out.write(head + b"x" * (length - 1 - len(head)) + b"\n")
 
 
-def timed(words, folder):
+def timed(words, folder, preload=None):
+    environment = dict(os.environ, LD_PRELOAD=preload) if preload else None
     start = time.monotonic()
-    subprocess.run(words, cwd=folder, check=True, stdout=subprocess.DEVNULL)
+    subprocess.run(words, cwd=folder, check=True, stdout=subprocess.DEVNULL, env=environment)
     return time.monotonic() - start
+
+
+def syncs(words, folder):
+    """How often a run asks the system to make a file stable, where strace is installed."""
+    if not shutil.which("strace"):
+        return None
+    log = os.path.join(folder, "syncs")
+    subprocess.run(["strace", "-f", "-e", "trace=fsync,fdatasync", "-o", log] + words, cwd=folder, check=True, stdout=subprocess.DEVNULL)
+    with open(log) as lines:
+        return sum("fsync(" in line or "fdatasync(" in line for line in lines)
+
+
+def forget(folder):
+    """Takes the outputs and the stored positions away."""
+    for name in os.listdir(folder):
+        if name in ("out", "out-c") or name.startswith("pos-"):
+            os.remove(os.path.join(folder, name))
 
 
 def peak_kib(words, folder):
@@ -94,18 +113,23 @@ def main():
                 'destination d { file("out" template("$MSG\\n")); };\n'
                 'log { source(s); destination(d); flags(flow-control); };\n'
             )
-        reference = None
+        reference = unsynced = None
         if shutil.which("gcc"):
+            unsynced = os.path.join(folder, "nosync.so")
+            subprocess.run(["gcc", "-O2", "-shared", "-fPIC", "-o", unsynced, os.path.join(TOP, "bench", "nosync.c")], check=True)
             reference = os.path.join(folder, "lines")
             subprocess.run(["gcc", "-O2", "-o", reference, os.path.join(TOP, "bench", "lines.c")], check=True)
-        times = {"syslogr": [], "one write a line, in C": [], "syslog-ng": []}
+        again = []
+        times = {"syslogr": [], "syslogr without syncs": [], "one write a line, in C": [], "syslog-ng": []}
         for _ in range(rounds):
-            for name in os.listdir(folder):
-                if name == "out" or name == "out-c" or name.startswith("pos-"):
-                    os.remove(os.path.join(folder, name))
+            forget(folder)
             times["syslogr"].append(timed([PROGRAM, "run", "c", "--once"], folder))
             if os.path.getsize(os.path.join(folder, "out")) != size:
                 raise SystemExit("syslogr didn't write what it read")
+            again.append(timed([PROGRAM, "run", "c", "--once"], folder))
+            if unsynced:
+                forget(folder)
+                times["syslogr without syncs"].append(timed([PROGRAM, "run", "c", "--once"], folder, unsynced))
             if reference:
                 times["one write a line, in C"].append(timed([reference, "in", "out-c"], folder))
             if shutil.which("syslog-ng"):
@@ -120,8 +144,11 @@ def main():
             middle = statistics.median(took)
             ratio = "   %.2f of the C program's speed" % (base / middle) if base else ""
             print("%-24s %12.0f lines per second%s" % (name, lines / middle, ratio))
-        for name in ("out",):
-            os.remove(os.path.join(folder, name))
+        print("%-24s %12.3f seconds" % ("nothing new to move", statistics.median(again)))
+        forget(folder)
+        count = syncs([PROGRAM, "run", "c", "--once"], folder)
+        print("%-24s %12s syncs, of %d lines" % ("syslogr's store", "not counted" if count is None else count, lines))
+        forget(folder)
         print("%-24s %12.1f MiB at most" % ("syslogr's memory", peak_kib([PROGRAM, "run", "c", "--once"], folder) / 1024))
 
 

@@ -6,11 +6,17 @@ trap 'rm -rf "$folder"' EXIT
 cd "$folder" || exit 2
 passed=0 failed=0
 
-# expect NAME STATUS SAID OUT WORD..: SAID and OUT are printf formats; OUT is the file `out`, - for none.
+# expect NAME STATUS SAID OUT WORD..: SAID and OUT are printf formats; OUT is the file `out`, - for none. Each begins without `out` and
+# without a stored position.
 expect() {
+    rm -f out pos-*
+    again "$@"
+}
+
+# the same over what is there
+again() {
     name=$1 status=$2 said=$3 out=$4
     shift 4
-    rm -f out
     "$top/syslogr" "$@" >said 2>errors
     got=$?
     printf "$said" >said.wanted
@@ -27,6 +33,12 @@ expect() {
     if [ $good = yes ]; then passed=$((passed + 1)); else failed=$((failed + 1)); fi
 }
 
+# report RECORDS POSITION TAKEN LEFT FAULT STATUS: FAULT is a line of the report, or nothing
+report() {
+    printf 'source 0 records %s bad-frames 0 position %s\\n' "$1" "$2"
+    printf 'destination 0 taken %s dropped-full 0 dropped-disk 0 left %s\\n%sstatus %s\\n' "$3" "$4" "$5" "$6"
+}
+
 config() {
     printf '@version: 4.2\nsource s { file("%s" flags(no-parse)); };\ndestination d { file("%s" template("$MSG\\n")); };\nlog { source(s); destination(d); flags(flow-control); };\n' "$1" "$2"
 }
@@ -36,9 +48,25 @@ usage='usage: syslogr check FILE | trace FILE SOURCE INPUT | run FILE [--once] [
 
 config in out >c
 printf 'one\ntwo\n' >in
-expect 'two lines' 0 'status 0\n' 'one\ntwo\n' run c --once
+expect 'two lines' 0 "$(report 2 8 2 0 '' 0)" 'one\ntwo\n' run c --once
+printf 'three\n' >>in
+again 'a line more' 0 "$(report 1 14 1 0 '' 0)" 'one\ntwo\nthree\n' run c --once
+again 'nothing new' 0 "$(report 0 14 0 0 '' 0)" 'one\ntwo\nthree\n' run c --once
+printf 'new\n' >in
+again 'a shorter file' 0 "$(report 1 4 1 0 '' 0)" 'one\ntwo\nthree\nnew\n' run c --once
+printf x | dd of=pos-in bs=1 seek=40 conv=notrunc 2>/dev/null
+again 'a damaged store' 5 'store 0 damaged at 40\n' 'one\ntwo\nthree\nnew\n' run c --once
+: >pos-in
+again 'an empty store' 5 'store 0 damaged at 0\n' 'one\ntwo\nthree\nnew\n' run c --once
+rm -f pos-in out && mkdir pos-in
+again 'a folder in the place of the store' 4 'cannot open store 0\n' - run c --once
+rmdir pos-in
 printf 'a\r\n\nb' >in
-expect 'trimmed, empty and open lines' 0 'status 0\n' 'a\n' run c --once
+expect 'trimmed, empty and open lines' 0 "$(report 2 4 1 0 '' 0)" 'a\n' run c --once
+mkdir sub && printf 'one\n' >sub/a_b.log
+config sub/a_b.log out >c0
+expect 'a source in a folder' 0 "$(report 1 4 1 0 '' 0)" 'one\n' run c0 --once
+[ -e pos-sub_2fa_5fb.log ] || { failed=$((failed + 1)); echo 'a source in a folder: its store has another name'; }
 printf '# x\n' >bad
 expect 'another text' 2 'bad:1: not supported\n' - run bad --once
 head -c 1048577 /dev/zero >long
@@ -49,18 +77,18 @@ expect 'no source file' 4 'cannot open inlet 0\n' - run c1 --once
 config in none/out >c2
 expect 'a destination that cannot be made' 4 'cannot open destination 0\n' - run c2 --once
 config . out >c3
-expect 'a source that is a folder' 8 'status 8\n' '' run c3 --once
+expect 'a source that is a folder' 8 "$(report 0 0 0 0 'fault inlet 0\n' 8)" '' run c3 --once
 expect 'no words' 1 "$usage" -
 expect 'other words' 1 "$usage" - run c
 expect 'a word that is not UTF-8' 1 "$usage" - run "$(printf 'c\377')" --once
 if [ -w /dev/full ]; then
     config in /dev/full >c4
     printf 'one\n' >in
-    expect 'a full disk' 6 'status 6\n' - run c4 --once
+    expect 'a full disk' 6 "$(report 1 0 0 1 'fault sink 0\n' 6)" - run c4 --once
     "$top/syslogr" run c --once >/dev/full 2>errors
     if [ $? = 10 ] && [ ! -s errors ]; then passed=$((passed + 1)); else failed=$((failed + 1)); echo 'a full standard output: not status 10'; fi
 fi
-rm -f out
+rm -f out pos-*
 seq 1 100000 >in
 "$top/syslogr" run c --once >/dev/null
 if cmp -s in out; then passed=$((passed + 1)); else failed=$((failed + 1)); echo 'a hundred thousand lines: not the same'; fi

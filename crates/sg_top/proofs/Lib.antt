@@ -1,5 +1,7 @@
 pub mod ConfigLemmas
+pub mod CoreLemmas
+pub mod OpeningLemmas
 pub mod RunLemmas
+pub mod RoundsLemmas
 pub mod ServingLemmas
 pub mod WordsLemmas
-pub mod SendingLemmas

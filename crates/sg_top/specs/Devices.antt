@@ -1,5 +1,6 @@
--- The devices of a run.
+-- The devices of a run, and how far it came.
 use Rattle.std.specs.Prelude.{◌≡◌, true, ℕ, List, Option, Some, None}
+use Rattle.sg_device.specs.Disk.{DiskState}
 use Rattle.sg_device.specs.Inlet.{InletState}
 use Rattle.sg_device.specs.Outlet.{OutletState}
 use Rattle.sg_device.specs.World.{Ledger, with_opened, with_closed}
@@ -7,6 +8,9 @@ use Rattle.sg_device.specs.declared.request.InletSpec.{InletSpec}
 use Rattle.sg_device.specs.declared.request.InletSpec.TheVariants.{File}
 use Rattle.sg_device.specs.declared.request.OutletSpec.{OutletSpec}
 use Rattle.sg_device.specs.declared.request.OutletSpec.TheVariants.{File as FileTo}
+use Rattle.sg_device.specs.declared.request.StoreSpec.{StoreSpec}
+use Rattle.sg_top.specs.History.{History}
+use Rattle.sg_top.specs.StoreName.{store_name_of}
 
 -- a device that was opened and closed: what was asked for, and how it stood at both
 pub record UsedDevice (P S : Type 0) : Type 0 where
@@ -14,11 +18,45 @@ pub record UsedDevice (P S : Type 0) : Type 0 where
   pub opened : S
   pub closed : S
 
+abbrev pub Shelf : Type 0
+Shelf = UsedDevice StoreSpec DiskState
+
 abbrev pub Feed : Type 0
 Feed = UsedDevice InletSpec InletState
 
 abbrev pub Drain : Type 0
 Drain = UsedDevice OutletSpec OutletState
+
+-- How far a run came: which devices it opened, and what happened at its flow core.
+pub data Reached : Type 0 where
+  Nothing : Reached
+  -- the store, but not the core over it
+  AtStore : Shelf → Reached
+  AtCore : Shelf → History → Reached
+  AtInlet : Shelf → History → Feed → Reached
+  -- all devices, so that the rounds began
+  AtRounds : Shelf → History → Feed → Drain → Reached
+
+-- the outlet was opened or not
+abbrev pub with_drain : Shelf → History → Feed → Option Drain → Reached
+with_drain s h f None = AtInlet s h f
+with_drain s h f (Some d) = AtRounds s h f d
+
+abbrev pub store_of : Reached → Option Shelf
+store_of Nothing = None
+store_of (AtStore s) = Some s
+store_of (AtCore s h) = Some s
+store_of (AtInlet s h f) = Some s
+store_of (AtRounds s h f d) = Some s
+
+abbrev pub feed_of : Reached → Option Feed
+feed_of (AtInlet s h f) = Some f
+feed_of (AtRounds s h f d) = Some f
+feed_of reached = None
+
+abbrev pub drain_of : Reached → Option Drain
+drain_of (AtRounds s h f d) = Some d
+drain_of reached = None
 
 -- the ledger with this device opened and closed
 abbrev pub used : {P S : Type 0} → Ledger P S → Option (UsedDevice P S) → Ledger P S
@@ -30,23 +68,23 @@ abbrev pub IfUsed : {P S : Type 0} → Option (UsedDevice P S) → (UsedDevice P
 IfUsed None P = Unit {0}
 IfUsed (Some device) P = P device
 
--- a fact about the inlet and the outlet, where both were opened
-abbrev pub IfServed : Option Feed → Option Drain → (Feed → Drain → Type 0) → Type 0
-IfServed None drain P = Unit {0}
-IfServed (Some feed) None P = Unit {0}
-IfServed (Some feed) (Some drain) P = P feed drain
+-- a device was opened, and this holds of it
+abbrev pub IsUsedAnd : {P S : Type 0} → Option (UsedDevice P S) → (UsedDevice P S → Type 0) → Type 0
+IsUsedAnd None P = ⊥
+IsUsedAnd (Some device) P = P device
 
--- both were opened, and this holds of them
-abbrev pub IsServedAnd : Option Feed → Option Drain → (Feed → Drain → Type 0) → Type 0
-IsServedAnd None drain P = ⊥
-IsServedAnd (Some feed) None P = ⊥
-IsServedAnd (Some feed) (Some drain) P = P feed drain
+-- the rounds began, and this holds of what was reached
+abbrev pub ServedAnd : Reached → (Shelf → History → Feed → Drain → Type 0) → Type 0
+ServedAnd (AtRounds s h f d) P = P s h f d
+ServedAnd reached P = ⊥
 
--- no outlet is opened without an inlet
-abbrev pub InOrder : Option Feed → Option Drain → Type 0
-InOrder None drain = drain ≡ None
-InOrder (Some feed) drain = Unit {0}
+abbrev pub IfServed : Reached → (Shelf → History → Feed → Drain → Type 0) → Type 0
+IfServed (AtRounds s h f d) P = P s h f d
+IfServed reached P = Unit {0}
 
--- the inlet is the file of this path, to be read to its end, and the outlet the file of that path
-abbrev pub AreNamed : (from into : List ℕ) → Option Feed → Option Drain → Type 0
-AreNamed from into feed drain = IfUsed feed (λ f. f.spec ≡ File from true) × IfUsed drain (λ d. d.spec ≡ FileTo into)
+-- The store is that of the source file, made where it is missing; the inlet is that file, to be read
+-- to its end, and the outlet the file of the other path.
+pub record AreNamed (from into : List ℕ) (reached : Reached) : Type 0 where
+  pub store : IfUsed (store_of reached) (λ s. s.spec ≡ record { name = store_name_of from; create = true })
+  pub feed : IfUsed (feed_of reached) (λ f. f.spec ≡ File from true)
+  pub drain : IfUsed (drain_of reached) (λ d. d.spec ≡ FileTo into)

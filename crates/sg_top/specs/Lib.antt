@@ -1,11 +1,12 @@
 pub mod Status
 pub mod Words
 pub mod Config
-pub mod Said
-pub mod Delivery
+pub mod StoreName
+pub mod History
 pub mod Devices
+pub mod Said
 pub mod Run
 pub mod Verdict
-pub mod Pumping
+pub mod Opening
+pub mod Rounds
 pub mod Serving
-pub mod Sending

@@ -1,42 +1,58 @@
 -- What a run does, and when each status comes.
-use Rattle.std.specs.Prelude.{◌≡◌, ◌≤◌, ◌^◌, ℕ, true, false, List, Option, Some, None}
+use Rattle.std.specs.Prelude.{◌≡◌, ◌≤◌, ◌<◌, ◌+◌, ◌*◌, ◌^◌, ℕ, true, false, List, [], map, Option, Some, None}
+use Rattle.sg_device.specs.Disk.{content as store_content, WhereTold, Preserves}
 use Rattle.sg_device.specs.Faults.{Rose}
-use Rattle.sg_device.specs.Inlet.{IsFresh}
+use Rattle.sg_device.specs.Inlet.{InletState, IsFresh}
 use Rattle.sg_device.specs.Outlet.{IsNew}
-use Rattle.sg_device.specs.World.{WorldState, StandsIn, content}
+use Rattle.sg_device.specs.World.{WorldState, Files, StandsIn, content}
+use Rattle.sg_stable.specs.Position.{IsPosition, IsDamagedAt}
+use Rattle.sg_machine.specs.declared.event.Event.{Event}
+use Rattle.sg_engine.specs.Delivery.{AreFirst, AreAll, TookFirst, TookAll, last_end}
+use Rattle.sg_engine.specs.History.{admitted, admit_of, offer_count, settled_frames, IsTaken}
 use Rattle.sg_top.specs.Config.{IsConfig}
-use Rattle.sg_top.specs.Delivery.{TookFirst, TookAll}
-use Rattle.sg_top.specs.Devices.{Feed, Drain, used, IfUsed, IfServed, IsServedAnd, InOrder, AreNamed}
+use Rattle.sg_top.specs.Devices.{Shelf, Feed, Drain, Reached, Nothing, AtStore, AtCore, AtInlet, AtRounds, store_of, feed_of, drain_of, used, IsUsedAnd, IfServed, ServedAnd, AreNamed}
+use Rattle.sg_top.specs.History.{History, IsHistory, IsPrelude, FollowsPrelude, state_of, opening_of, stored_of}
+use Rattle.sg_top.specs.Said.{SaysStatus}
+use Rattle.sg_top.specs.Verdict.{IsRead}
 use Rattle.sg_top.specs.Words.{IsRun}
 use Rattle.sg_top.specs.declared.status.Device.TheVariants.{Store, Inlet, Dest}
 use Rattle.sg_top.specs.declared.status.Status.{Status}
 use Rattle.sg_top.specs.declared.status.Status.TheVariants.{Ok, Usage, BadConfig, ReadFault, OpenFault, Damage, SinkFault, DiskFault, InletFault, RoundsSpent, SayFault, NoMemory}
 
--- the outlet took the frames of all records
-abbrev pub TookEach : Feed → Drain → Type 0
-TookEach feed drain = TookAll feed.closed.from feed.closed.told drain.closed.taken
+-- each record of the inlet was admitted and each frame taken, and the stored position is the end of the
+-- last record, the opening place where there was none
+pub record IsClean (h : History) (feed : Feed) (drain : Drain) : Type 0 where
+  pub ended : feed.closed.ended ≡ true
+  pub all : AreAll feed.closed.from feed.closed.told h.done
+  pub took : TookAll feed.closed.from feed.closed.told drain.closed.taken
+  pub stored : stored_of (state_of h) ≡ last_end (opening_of (state_of h)) h.done
+
+-- each round moves something: there can't be many more of them than bytes, parts, offers and idle pulls
+abbrev pub most_rounds : List Event → InletState → ℕ
+most_rounds events feed = 4 * (1 + feed.bytes + feed.parts + 1 + offer_count (admitted events)) + feed.idles
 
 -- When each status comes. Want of memory is free.
-abbrev pub HasStatus : WorldState → WorldState → Option Feed → Option Drain → Status → Type 0
-HasStatus old new feed drain Ok = IsServedAnd feed drain (λ f d. TookEach f d × (f.closed.ended ≡ true))
-HasStatus old new feed drain Usage = (feed ≡ None) × (drain ≡ None)
-HasStatus old new feed drain (BadConfig fault) = (feed ≡ None) × (drain ≡ None)
-HasStatus old new feed drain ReadFault = (feed ≡ None) × (drain ≡ None) × Rose old.read_faults new.read_faults
-HasStatus old new feed drain (OpenFault (Store n)) = ⊥
-HasStatus old new feed drain (OpenFault (Inlet n)) = (feed ≡ None) × (drain ≡ None) × (n ≡ 0) × Rose old.inlet_faults new.inlet_faults
-HasStatus old new feed drain (OpenFault (Dest n)) = (drain ≡ None) × (n ≡ 0) × Rose old.outlet_faults new.outlet_faults
-HasStatus old new feed drain (Damage store at) = ⊥
-HasStatus old new feed drain (SinkFault n) = IsServedAnd feed drain (λ f d. (n ≡ 0) × Rose d.opened.faults d.closed.faults)
-HasStatus old new feed drain (DiskFault store) = ⊥
-HasStatus old new feed drain (InletFault n) = IsServedAnd feed drain (λ f d. (n ≡ 0) × Rose f.opened.faults f.closed.faults)
-HasStatus old new feed drain RoundsSpent = IsServedAnd feed drain (λ f d. TookEach f d × (f.closed.ended ≡ false) × (f.closed.pulls ≡ 2 ^ 36))
-HasStatus old new feed drain SayFault = Rose old.say_faults new.say_faults
-HasStatus old new feed drain NoMemory = Unit {0}
+abbrev pub HasStatus : WorldState → WorldState → Reached → Status → Type 0
+HasStatus old new reached Ok = ServedAnd reached (λ s h f d. IsClean h f d)
+HasStatus old new reached Usage = reached ≡ Nothing
+HasStatus old new reached (BadConfig fault) = reached ≡ Nothing
+HasStatus old new reached ReadFault = (reached ≡ Nothing) × Rose old.read_faults new.read_faults
+HasStatus old new reached (OpenFault (Store n)) = (reached ≡ Nothing) × (n ≡ 0) × Rose old.store_faults new.store_faults
+HasStatus old new reached (OpenFault (Inlet n)) = (feed_of reached ≡ None) × (n ≡ 0) × Rose old.inlet_faults new.inlet_faults
+HasStatus old new reached (OpenFault (Dest n)) = (drain_of reached ≡ None) × (n ≡ 0) × Rose old.outlet_faults new.outlet_faults
+HasStatus old new reached (Damage n at) = (feed_of reached ≡ None) × (n ≡ 0) × IsUsedAnd (store_of reached) (λ s. WhereTold (store_content s.opened) (IsDamagedAt at))
+HasStatus old new reached (SinkFault n) = ServedAnd reached (λ s h f d. (n ≡ 0) × Rose d.opened.faults d.closed.faults)
+HasStatus old new reached (DiskFault n) = (n ≡ 0) × IsUsedAnd (store_of reached) (λ s. Rose s.opened.faults s.closed.faults)
+HasStatus old new reached (InletFault n) = ServedAnd reached (λ s h f d. (n ≡ 0) × Rose f.opened.faults f.closed.faults)
+HasStatus old new reached RoundsSpent = ServedAnd reached (λ s h f d. 2 ^ 36 < most_rounds h.events f.closed)
+HasStatus old new reached SayFault = Rose old.say_faults new.say_faults
+HasStatus old new reached NoMemory = Unit {0}
 
--- all pulls were made, none was the end, and neither device failed
-pub record SpentPulls (feed : Feed) (drain : Drain) : Type 0 where
+-- all pulls were made, none was the end, and no device failed
+pub record SpentPulls (store : Shelf) (feed : Feed) (drain : Drain) : Type 0 where
   pub pulls : feed.closed.pulls ≡ 2 ^ 36
   pub going : feed.closed.ended ≡ false
+  pub store_works : ¬ Rose store.opened.faults store.closed.faults
   pub feed_works : ¬ Rose feed.opened.faults feed.closed.faults
   pub drain_works : ¬ Rose drain.opened.faults drain.closed.faults
 
@@ -47,35 +63,117 @@ IsSpent SayFault = Unit {0}
 IsSpent NoMemory = Unit {0}
 IsSpent status = ⊥
 
+-- The store was opened with this position, and closed as the history left it.
+pub record HoldsStore (store : Shelf) (h : History) : Type 0 where
+  pub found : WhereTold (store_content store.opened) (IsPosition h.position)
+  pub history : IsHistory h store.closed
+  pub later : store.opened.faults ≤ store.closed.faults
+
+-- The inlet gives from the stored position on, from its beginning where the file is shorter.
+pub record BeginsAt (files : Option Files) (h : History) (feed : Feed) : Type 0 where
+  pub fresh : IsFresh feed.opened
+  pub stands : StandsIn files feed.spec h.position feed.opened
+
+-- The records admitted are the first ones of the inlet, and the frames taken are those of the entries settled: the frames of first
+-- ones of its records.
+pub record Delivers (h : History) (feed : Feed) (drain : Drain) : Type 0 where
+  pub begins : FollowsPrelude h.position feed.opened.place h.events
+  pub from : feed.closed.from ≡ feed.opened.from
+  pub admitted : admitted h.events ≡ map admit_of h.done
+  pub read : AreFirst feed.closed.from feed.closed.told h.done
+  pub taken : IsTaken drain.closed.taken (settled_frames (state_of h))
+  pub frames : TookFirst feed.closed.from feed.closed.told drain.closed.taken
+
+-- Before the rounds the source may have begun anew. Where it hasn't, the store holds what it held, and so does each image of it.
+pub record HoldsInlet (store : Shelf) (h : History) (feed : Feed) : Type 0 where
+  pub held : HoldsStore store h
+  pub begins : IsPrelude h.position feed.opened.place h.events
+  pub still : h.events ≡ [] → Preserves store.opened store.closed
+
+-- in the rounds
+pub record HoldsRounds (store : Shelf) (h : History) (feed : Feed) (drain : Drain) : Type 0 where
+  pub held : HoldsStore store h
+  pub untaken : IsNew drain.opened
+  pub delivers : Delivers h feed drain
+
+-- what holds of the devices and of the history
+abbrev pub Holds : Option Files → Reached → Type 0
+Holds files Nothing = Unit {0}
+Holds files (AtStore s) = Preserves s.opened s.closed × (s.opened.faults ≤ s.closed.faults)
+Holds files (AtCore s h) = HoldsStore s h × Preserves s.opened s.closed × (h.events ≡ [])
+Holds files (AtInlet s h f) = BeginsAt files h f × HoldsInlet s h f
+Holds files (AtRounds s h f d) = BeginsAt files h f × HoldsRounds s h f d
+
 -- no count of faults fell
 pub record KeepsCounts (old new : WorldState) : Type 0 where
   pub read : old.read_faults ≤ new.read_faults
+  pub store : old.store_faults ≤ new.store_faults
   pub inlet : old.inlet_faults ≤ new.inlet_faults
   pub outlet : old.outlet_faults ≤ new.outlet_faults
   pub say : old.say_faults ≤ new.say_faults
 
--- a run with this inlet and this outlet
-pub record RanWith (old new : WorldState) (feed : Option Feed) (drain : Option Drain) (status : Status) : Type 0 where
-  -- these devices were opened and closed, and no others; no file and no store changed
-  pub state : new ≡ record old { inlets = used old.inlets feed; outlets = used old.outlets drain; said = new.said; read_faults = new.read_faults; inlet_faults = new.inlet_faults; outlet_faults = new.outlet_faults; say_faults = new.say_faults }
+-- a run that came so far
+pub record RanWith (old new : WorldState) (reached : Reached) (status : Status) : Type 0 where
+  -- these devices were opened and closed, and no others; no file changed
+  pub state : new ≡ record old { stores = used old.stores (store_of reached); inlets = used old.inlets (feed_of reached); outlets = used old.outlets (drain_of reached); said = new.said; read_faults = new.read_faults; store_faults = new.store_faults; inlet_faults = new.inlet_faults; outlet_faults = new.outlet_faults; say_faults = new.say_faults }
   pub counts : KeepsCounts old new
-  pub order : InOrder feed drain
-  -- reading begins at place 0
-  pub fed : IfUsed feed (λ f. IsFresh f.opened × StandsIn old.files f.spec 0 f.opened)
-  pub drained : IfUsed drain (λ d. IsNew d.opened)
-  pub frames : IfServed feed drain (λ f d. TookFirst f.closed.from f.closed.told d.closed.taken)
-  pub cause : HasStatus old new feed drain status
-  pub spent : IfServed feed drain (λ f d. SpentPulls f d → IsSpent status)
+  pub holds : Holds old.files reached
+  pub cause : HasStatus old new reached status
+  pub spent : IfServed reached (λ s h f d. SpentPulls s f d → IsSpent status)
 
 -- the devices are those that a configuration of this text names, where the text is told
-abbrev pub AreConfigured : Option (List ℕ) → Option Feed → Option Drain → Type 0
-AreConfigured None feed drain = Unit {0}
-AreConfigured (Some text) feed drain = (from into : List ℕ) → IsConfig text from into → AreNamed from into feed drain
+abbrev pub AreConfigured : Option (List ℕ) → Reached → Type 0
+AreConfigured None reached = Unit {0}
+AreConfigured (Some text) reached = (from into : List ℕ) → IsConfig text from into → AreNamed from into reached
+
+-- No count of faults rose, the store was a position store, no pull was idle, and there were not too many rounds to run.
+abbrev pub IsSpelling : Shelf → Type 0
+IsSpelling s = (bytes : List ℕ) × (store_content s.opened ≡ Some bytes) × ((position : ℕ) × IsPosition position bytes)
+
+pub record WorksStore (store : Shelf) : Type 0 where
+  pub works : ¬ Rose store.opened.faults store.closed.faults
+  pub spelling : IsSpelling store
+
+pub record WorksDevices (store : Shelf) (h : History) (feed : Feed) (drain : Drain) : Type 0 where
+  pub store_works : WorksStore store
+  pub feed_works : ¬ Rose feed.opened.faults feed.closed.faults
+  pub drain_works : ¬ Rose drain.opened.faults drain.closed.faults
+  pub no_idle : feed.closed.idles ≡ 0
+  pub few : most_rounds h.events feed.closed ≤ 2 ^ 36
+
+abbrev pub Works : Reached → Type 0
+Works Nothing = Unit {0}
+Works (AtStore s) = WorksStore s
+Works (AtCore s h) = WorksStore s
+Works (AtInlet s h f) = WorksStore s
+Works (AtRounds s h f d) = WorksDevices s h f d
+
+pub record IsUntroubled (old new : WorldState) (reached : Reached) : Type 0 where
+  pub read : ¬ Rose old.read_faults new.read_faults
+  pub store : ¬ Rose old.store_faults new.store_faults
+  pub inlet : ¬ Rose old.inlet_faults new.inlet_faults
+  pub outlet : ¬ Rose old.outlet_faults new.outlet_faults
+  pub say : ¬ Rose old.say_faults new.say_faults
+  pub devices : Works reached
+
+-- all was done, or memory ran out
+abbrev pub IsComplete : Status → Type 0
+IsComplete Ok = Unit {0}
+IsComplete NoMemory = Unit {0}
+IsComplete status = ⊥
 
 -- a run over the configuration file of this name
-abbrev pub RanFile : WorldState → WorldState → List ℕ → Status → Type 0
-RanFile old new file status = (feed : Option Feed) × (drain : Option Drain) × (RanWith old new feed drain status × AreConfigured (content old.files file) feed drain)
+pub record RanFile (old new : WorldState) (file : List ℕ) (reached : Reached) (status : Status) : Type 0 where
+  pub ran : RanWith old new reached status
+  pub configured : AreConfigured (content old.files file) reached
 
 -- a run for these words
+pub record RanFor (old new : WorldState) (words : List (List ℕ)) (reached : Reached) (status : Status) : Type 0 where
+  pub ran : RanWith old new reached status
+  pub configured : (file : List ℕ) → IsRun words file → AreConfigured (content old.files file) reached
+  pub said : SaysStatus old.said new.said words reached status
+  -- words of a run, a text that is read and no trouble give success, where memory is there
+  pub complete : (file text : List ℕ) → IsRun words file → content old.files file ≡ Some text → IsRead text → IsUntroubled old new reached → IsComplete status
+
 abbrev pub Ran : WorldState → WorldState → List (List ℕ) → Status → Type 0
-Ran old new words status = (feed : Option Feed) × (drain : Option Drain) × (RanWith old new feed drain status × ((file : List ℕ) → IsRun words file → AreConfigured (content old.files file) feed drain))
+Ran old new words status = (reached : Reached) × RanFor old new words reached status

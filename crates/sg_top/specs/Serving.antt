@@ -1,27 +1,95 @@
 -- The parts of a run that open its devices.
-use Rattle.std.specs.Prelude.{◌≡◌, ◌≤◌, ℕ, List, Option, Some}
-use Rattle.sg_device.specs.Outlet.{IsNew}
+use Rattle.std.specs.Prelude.{◌≡◌, ◌≤◌, ℕ, true, List, length, Option, Some, None}
+use Rattle.sg_device.specs.Disk.{DiskState}
 use Rattle.sg_device.specs.World.{WorldState}
+use Rattle.sg_device.specs.declared.request.InletSpec.TheVariants.{File as FileFrom}
 use Rattle.sg_device.specs.declared.request.OutletSpec.TheVariants.{File}
-use Rattle.sg_top.specs.Delivery.{TookFirst}
-use Rattle.sg_top.specs.Devices.{Feed, Drain, used, IfUsed, IfServed, AreNamed}
-use Rattle.sg_top.specs.Run.{HasStatus, RanWith}
-use Rattle.sg_top.specs.Verdict.{IsAfterConfig}
-use Rattle.sg_top.specs.declared.status.Status.{Status}
+use Rattle.sg_device.specs.declared.request.StoreSpec.{StoreSpec}
+use Rattle.sg_core.specs.States.{CoreState}
+use Rattle.sg_engine.specs.History.{stored_now}
+use Rattle.sg_top.specs.Devices.{Shelf, Feed, Drain, Reached, with_drain, store_of, feed_of, drain_of, used, IfUsed, AreNamed}
+use Rattle.sg_top.specs.History.{History}
+use Rattle.sg_top.specs.Opening.{disk_of}
+use Rattle.sg_top.specs.Run.{HasStatus, HoldsInlet, HoldsRounds, Holds, RanWith, RanFile}
+use Rattle.sg_top.specs.Said.{status_in, HasText, IsOfMain}
+use Rattle.sg_top.specs.Verdict.{IsAfterWords, IsAfterConfig}
+use Rattle.sg_top.specs.declared.ending.Ending.{Ending}
 
--- the part that has this inlet open and opens this outlet
-pub record ServesOutletWith (old new : WorldState) (feed : Feed) (drain : Option Drain) (into : List ℕ) (status : Status) : Type 0 where
+-- the store that was opened on this disk, as the core leaves it
+abbrev pub shelf : StoreSpec → DiskState → CoreState → Shelf
+shelf spec disk core = record { spec = spec; opened = disk; closed = disk_of core }
+
+abbrev pub HoldsFrom : Shelf → History → Feed → Option Drain → Type 0
+HoldsFrom s h f None = HoldsInlet s h f
+HoldsFrom s h f (Some d) = HoldsRounds s h f d
+
+-- the part that has the core and the inlet open
+pub record ServesInletWith (old new : WorldState) (core core' : CoreState) (spec : StoreSpec) (disk : DiskState) (feed : Feed) (into : List ℕ) (ending : Ending) (h : History) (drain : Option Drain) : Type 0 where
   pub state : new ≡ record old { outlets = used old.outlets drain; outlet_faults = new.outlet_faults }
   pub counts : old.outlet_faults ≤ new.outlet_faults
   pub named : IfUsed drain (λ d. d.spec ≡ File into)
-  pub drained : IfUsed drain (λ d. IsNew d.opened)
-  pub frames : IfServed (Some feed) drain (λ f d. TookFirst f.closed.from f.closed.told d.closed.taken)
-  pub cause : HasStatus old new (Some feed) drain status
-  pub after : IsAfterConfig status
+  pub one : length core'.stores ≡ 1
+  pub holds : HoldsFrom (shelf spec disk core') h feed drain
+  pub position : h.position ≡ stored_now core
+  pub cause : HasStatus old new (with_drain (shelf spec disk core') h feed drain) (status_in ending)
+  pub after : IsAfterConfig (status_in ending)
+  pub text : (file : List ℕ) → HasText file (with_drain (shelf spec disk core') h feed drain) ending
 
-abbrev pub ServesOutlet : WorldState → WorldState → Feed → List ℕ → Status → Type 0
-ServesOutlet old new feed into status = (drain : Option Drain) × ServesOutletWith old new feed drain into status
+abbrev pub ServesInlet : WorldState → WorldState → CoreState → CoreState → StoreSpec → DiskState → Feed → List ℕ → Ending → Type 0
+ServesInlet old new core core' spec disk feed into ending =
+    (h : History) × ((drain : Option Drain) × ServesInletWith old new core core' spec disk feed into ending h drain)
 
--- the part that opens the inlet from the one path, and the outlet to the other
-abbrev pub Serves : WorldState → WorldState → (from into : List ℕ) → Status → Type 0
-Serves old new from into status = (feed : Option Feed) × (drain : Option Drain) × (RanWith old new feed drain status × AreNamed from into feed drain)
+-- the part that has the core open
+pub record ServesCoreWith (old new : WorldState) (core core' : CoreState) (spec : StoreSpec) (disk : DiskState) (from into : List ℕ) (ending : Ending) (reached : Reached) : Type 0 where
+  pub state : new ≡ record old { inlets = used old.inlets (feed_of reached); outlets = used old.outlets (drain_of reached); inlet_faults = new.inlet_faults; outlet_faults = new.outlet_faults }
+  pub inlet_later : old.inlet_faults ≤ new.inlet_faults
+  pub outlet_later : old.outlet_faults ≤ new.outlet_faults
+  pub from_named : IfUsed (feed_of reached) (λ f. f.spec ≡ FileFrom from true)
+  pub into_named : IfUsed (drain_of reached) (λ d. d.spec ≡ File into)
+  pub one : length core'.stores ≡ 1
+  pub store : store_of reached ≡ Some (shelf spec disk core')
+  pub holds : Holds old.files reached
+  pub cause : HasStatus old new reached (status_in ending)
+  pub after : IsAfterConfig (status_in ending)
+  pub text : (file : List ℕ) → HasText file reached ending
+
+abbrev pub ServesCore : WorldState → WorldState → CoreState → CoreState → StoreSpec → DiskState → (from into : List ℕ) → Ending → Type 0
+ServesCore old new core core' spec disk from into ending = (reached : Reached) × ServesCoreWith old new core core' spec disk from into ending reached
+
+-- the part that has the store open, which comes back
+pub record ServesStoreWith (old new : WorldState) (spec : StoreSpec) (disk disk' : DiskState) (from into : List ℕ) (ending : Ending) (reached : Reached) : Type 0 where
+  pub state : new ≡ record old { inlets = used old.inlets (feed_of reached); outlets = used old.outlets (drain_of reached); inlet_faults = new.inlet_faults; outlet_faults = new.outlet_faults }
+  pub inlet_later : old.inlet_faults ≤ new.inlet_faults
+  pub outlet_later : old.outlet_faults ≤ new.outlet_faults
+  pub from_named : IfUsed (feed_of reached) (λ f. f.spec ≡ FileFrom from true)
+  pub into_named : IfUsed (drain_of reached) (λ d. d.spec ≡ File into)
+  pub store : store_of reached ≡ Some (record { spec = spec; opened = disk; closed = disk' })
+  pub holds : Holds old.files reached
+  pub cause : HasStatus old new reached (status_in ending)
+  pub after : IsAfterConfig (status_in ending)
+  pub text : (file : List ℕ) → HasText file reached ending
+
+abbrev pub ServesStore : WorldState → WorldState → StoreSpec → DiskState → DiskState → (from into : List ℕ) → Ending → Type 0
+ServesStore old new spec disk disk' from into ending = (reached : Reached) × ServesStoreWith old new spec disk disk' from into ending reached
+
+-- the part that opens all devices, for these paths
+pub record ServesWith (old new : WorldState) (from into : List ℕ) (ending : Ending) (reached : Reached) : Type 0 where
+  pub ran : RanWith old new reached (status_in ending)
+  pub named : AreNamed from into reached
+  pub said : new.said ≡ old.said
+  pub after : IsAfterConfig (status_in ending)
+  pub text : (file : List ℕ) → HasText file reached ending
+
+abbrev pub Serves : WorldState → WorldState → (from into : List ℕ) → Ending → Type 0
+Serves old new from into ending = (reached : Reached) × ServesWith old new from into ending reached
+
+-- a run over the configuration file of this name, of which nothing was said yet
+pub record RunsFileWith (old new : WorldState) (file : List ℕ) (ending : Ending) (reached : Reached) : Type 0 where
+  pub ran : RanFile old new file reached (status_in ending)
+  pub said : new.said ≡ old.said
+  pub after : IsAfterWords (status_in ending)
+  pub main : IsOfMain (status_in ending)
+  pub text : HasText file reached ending
+
+abbrev pub RunsFile : WorldState → WorldState → List ℕ → Ending → Type 0
+RunsFile old new file ending = (reached : Reached) × RunsFileWith old new file ending reached

@@ -1,12 +1,15 @@
 // The machine that the program runs on: real files and standard output.
-ghost use Rattle.std.specs.Prelude.{[], None};
+ghost use Rattle.std.specs.Prelude.{None};
 ghost use Rattle.sg_device.specs.World.{WorldState};
 ghost use Rattle.sg_host.specs.Inlets.{inlets_of};
 ghost use Rattle.sg_host.specs.Outlets.{outlets_of};
+ghost use Rattle.sg_host.specs.Stores.{stores_of};
 
 use crate::World;
-use sg_device::{FileRefusal, InletSpec, OpenRefusal, OutletSpec, SayRefusal};
-use sg_host::{HostDrain, HostFeed, HostInlets, HostOutlets, read_file, say};
+use sg_device::{FileRefusal, InletSpec, OpenRefusal, OutletSpec, SayRefusal, StoreSpec};
+use sg_host::{
+    HostDrain, HostFeed, HostInlets, HostOutlets, HostStore, HostStores, read_file, say,
+};
 use std::alloc::Global;
 
 /// The machine. It tells nothing of the content of files and devices.
@@ -15,6 +18,7 @@ pub struct Machine {
     rt: HostRuntime,
     inlets: HostInlets,
     outlets: HostOutlets,
+    stores: HostStores,
     read_faults: u64,
     say_faults: u64,
 }
@@ -27,6 +31,7 @@ impl Machine {
             rt,
             inlets: HostInlets::new(alloc, rt),
             outlets: HostOutlets::new(alloc, rt),
+            stores: HostStores::new(alloc, rt),
             read_faults: 0,
             say_faults: 0,
         }
@@ -38,16 +43,18 @@ impl World for Machine {
 
     type Drain = HostDrain;
 
+    type Store = HostStore;
+
     ghost meaning = { λ m. record {
       files = None;
       inlets = inlets_of m.inlets;
       outlets = outlets_of m.outlets;
-      stores = record { opened = []; closed = [] };
+      stores = stores_of m.stores;
       said = None;
       read_faults = m.read_faults;
       inlet_faults = m.inlets.faults;
       outlet_faults = m.outlets.faults;
-      store_faults = 0;
+      store_faults = m.stores.faults;
       say_faults = m.say_faults;
     } };
 
@@ -58,6 +65,10 @@ impl World for Machine {
         limit: u64,
     ) -> Result<Vec<u8>, FileRefusal> {
         read_file(alloc, self.rt, &mut self.read_faults, name, limit)
+    }
+
+    fn open_store(&mut self, alloc: Global, spec: &StoreSpec) -> Result<HostStore, OpenRefusal> {
+        self.stores.open(alloc, spec)
     }
 
     fn open_inlet(
@@ -71,6 +82,10 @@ impl World for Machine {
 
     fn open_outlet(&mut self, alloc: Global, spec: &OutletSpec) -> Result<HostDrain, OpenRefusal> {
         self.outlets.open(alloc, spec)
+    }
+
+    fn close_store(&mut self, store: HostStore) {
+        self.stores.close(store);
     }
 
     fn close_inlet(&mut self, feed: HostFeed) {

@@ -2,15 +2,18 @@
 #![tactic(auto)]
 
 mod config;
+mod ending;
 mod machine;
 mod memory;
-mod pump;
+mod opening;
+mod rounds;
 #[cfg(test)]
 mod rows;
 mod run;
 mod say;
 mod serve;
 mod status;
+mod store;
 mod top;
 mod words;
 mod world;

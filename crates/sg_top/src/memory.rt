@@ -2,14 +2,16 @@
 ghost use Rattle.sg_memory.specs.World.{world_of};
 
 use crate::World;
-use sg_device::{FileRefusal, InletSpec, OpenRefusal, OutletSpec, SayRefusal};
-use sg_memory::{MemoryDrain, MemoryFeed, MemoryWorld};
+use sg_device::{FileRefusal, InletSpec, OpenRefusal, OutletSpec, SayRefusal, StoreSpec};
+use sg_memory::{MemoryDrain, MemoryFeed, MemoryStore, MemoryWorld};
 use std::alloc::Global;
 
 impl World for MemoryWorld {
     type Feed = MemoryFeed;
 
     type Drain = MemoryDrain;
+
+    type Store = MemoryStore;
 
     ghost meaning = { world_of };
 
@@ -20,6 +22,10 @@ impl World for MemoryWorld {
         limit: u64,
     ) -> Result<Vec<u8>, FileRefusal> {
         MemoryWorld::read_file(self, alloc, name, limit)
+    }
+
+    fn open_store(&mut self, alloc: Global, spec: &StoreSpec) -> Result<MemoryStore, OpenRefusal> {
+        MemoryWorld::open_store(self, alloc, spec)
     }
 
     fn open_inlet(
@@ -37,6 +43,10 @@ impl World for MemoryWorld {
         spec: &OutletSpec,
     ) -> Result<MemoryDrain, OpenRefusal> {
         MemoryWorld::open_outlet(self, alloc, spec)
+    }
+
+    fn close_store(&mut self, store: MemoryStore) {
+        MemoryWorld::close_store(self, store);
     }
 
     fn close_inlet(&mut self, feed: MemoryFeed) {

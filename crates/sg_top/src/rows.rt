@@ -1,6 +1,6 @@
 // Whole runs over the machine in memory.
 use crate::daemon;
-use sg_device::Name;
+use sg_device::{Disk, Name, StoreSpec};
 use sg_memory::{MemoryFile, MemoryWorld, Pace, Plan, WorldPlans};
 use std::alloc::{AllocError, Global};
 use std::test::Fail;
@@ -8,138 +8,110 @@ use std::test::Fail;
 const CONFIG: &[u8] =
     b"@version: 4.2\nsource s { file(\"in\" flags(no-parse)); };\ndestination d { file(\"out\" template(\"$MSG\\n\")); };\nlog { source(s); destination(d); flags(flow-control); };\n";
 
-/// The call that fails.
-#[derive(Clone, Copy, Drop)]
-enum Fails {
-    None,
-    OpenInlet,
-    OpenOutlet,
-    SecondPull,
-    SecondSend,
-    Say,
+// A row: the input; the stored position, x for a damaged store; the call that fails, with its number
+// among its kind; the exit status; the frames taken; what is said. `~` is LF, and D stands for
+// `destination 0 taken`, E for `dropped-full 0 dropped-disk 0 left`. The calls are those of opening a
+// store, of its disk, of opening the inlet and of pulling, of opening the outlet and of sending, and
+// of saying. A disk is called four times at its opening, and four times for a position.
+const ROWS: &str = "\
+one~two~;0;;0;one~two~;source 0 records 2 bad-frames 0 position 8~D 2 E 0~status 0~
+;0;;0;;source 0 records 0 bad-frames 0 position 0~D 0 E 0~status 0~
+one~two;0;;0;one~;source 0 records 1 bad-frames 0 position 4~D 1 E 0~status 0~
+one~two~;100;;0;one~two~;source 0 records 2 bad-frames 0 position 8~D 2 E 0~status 0~
+one~two~;4;;0;two~;source 0 records 1 bad-frames 0 position 8~D 1 E 0~status 0~
+one~two~;8;;0;;source 0 records 0 bad-frames 0 position 8~D 0 E 0~status 0~
+a\r~~b;0;;0;a~;source 0 records 2 bad-frames 0 position 4~D 1 E 0~status 0~
+one~;x;;5;;store 0 damaged at 40~
+one~;0;store 0;4;;cannot open store 0~
+one~;0;inlet 0;4;;cannot open inlet 0~
+one~;0;outlet 0;4;;cannot open destination 0~
+one~;0;disk 0;7;;store 0 failed~
+one~;0;disk 1;7;;store 0 failed~
+one~;0;disk 2;7;;store 0 failed~
+one~;0;disk 3;7;;store 0 failed~
+one~;100;disk 4;7;;store 0 failed~
+one~;100;disk 7;7;;store 0 failed~
+one~;0;disk 4;7;one~;source 0 records 1 bad-frames 0 position 0~D 1 E 0~fault store 0~status 7~
+one~;0;disk 5;7;one~;source 0 records 1 bad-frames 0 position 0~D 1 E 0~fault store 0~status 7~
+one~;0;disk 6;7;one~;source 0 records 1 bad-frames 0 position 0~D 1 E 0~fault store 0~status 7~
+one~;0;disk 7;7;one~;source 0 records 1 bad-frames 0 position 0~D 1 E 0~fault store 0~status 7~
+one~two~;0;send 1;6;one~;source 0 records 2 bad-frames 0 position 4~D 1 E 1~fault sink 0~status 6~
+one~two~;0;pull 1;8;one~;source 0 records 1 bad-frames 0 position 0~D 1 E 0~fault inlet 0~status 8~
+one~;0;say 0;10;one~;
+";
+
+/// The field before the next `;`, and the rest.
+fn field(row: &str) -> (&str, &str) {
+    match row.split_once(';') {
+        Some((field, rest)) => (field, rest),
+        None => (row, ""),
+    }
 }
 
-struct Row {
-    config: &'static [u8],
-    file: &'static [u8],
-    input: &'static [u8],
-    fails: Fails,
-    taken: &'static [u8],
-    said: &'static [u8],
-    code: u8,
+/// The bytes that a field stands for.
+fn bytes(alloc: Global, field: &str) -> Result<Vec<u8>, AllocError> {
+    let mut bytes = Vec::new(alloc);
+    for byte in field.as_bytes() {
+        match byte {
+            b'~' => bytes.push(b'\n')?,
+            b'D' => bytes.extend_from_slice(b"destination 0 taken")?,
+            b'E' => bytes.extend_from_slice(b"dropped-full 0 dropped-disk 0 left")?,
+            _ => bytes.push(*byte)?,
+        }
+    }
+    Ok(bytes)
 }
-
-const ROWS: [Row; 9] = [
-    Row {
-        config: CONFIG,
-        file: b"c",
-        input: b"one\ntwo\n",
-        fails: Fails::None,
-        taken: b"one\ntwo\n",
-        said: b"status 0\n",
-        code: 0,
-    },
-    Row {
-        config: CONFIG,
-        file: b"c",
-        input: b"a\r\n\nb",
-        fails: Fails::None,
-        taken: b"a\n",
-        said: b"status 0\n",
-        code: 0,
-    },
-    Row {
-        config: b"# x\n",
-        file: b"c",
-        input: b"",
-        fails: Fails::None,
-        taken: b"",
-        said: b"c:1: not supported\n",
-        code: 2,
-    },
-    Row {
-        config: CONFIG,
-        file: b"d",
-        input: b"",
-        fails: Fails::None,
-        taken: b"",
-        said: b"cannot read d\n",
-        code: 3,
-    },
-    Row {
-        config: CONFIG,
-        file: b"c",
-        input: b"one\n",
-        fails: Fails::OpenInlet,
-        taken: b"",
-        said: b"cannot open inlet 0\n",
-        code: 4,
-    },
-    Row {
-        config: CONFIG,
-        file: b"c",
-        input: b"one\n",
-        fails: Fails::OpenOutlet,
-        taken: b"",
-        said: b"cannot open destination 0\n",
-        code: 4,
-    },
-    Row {
-        config: CONFIG,
-        file: b"c",
-        input: b"one\ntwo\n",
-        fails: Fails::SecondSend,
-        taken: b"one\n",
-        said: b"status 6\n",
-        code: 6,
-    },
-    Row {
-        config: CONFIG,
-        file: b"c",
-        input: b"a\nb\n",
-        fails: Fails::SecondPull,
-        taken: b"a\n",
-        said: b"status 8\n",
-        code: 8,
-    },
-    Row {
-        config: CONFIG,
-        file: b"c",
-        input: b"one\n",
-        fails: Fails::Say,
-        taken: b"one\n",
-        said: b"",
-        code: 10,
-    },
-];
 
 fn plan(alloc: Global, call: u64) -> Result<Plan, AllocError> {
     Ok(Plan::new(vec![in alloc; call]?))
 }
 
-fn plans(alloc: Global, fails: Fails) -> Result<WorldPlans, AllocError> {
-    let mut plans = WorldPlans::never(alloc);
-    match fails {
-        Fails::None => {}
-        Fails::OpenInlet => plans.inlet_opens = plan(alloc, 0)?,
-        Fails::OpenOutlet => plans.outlet_opens = plan(alloc, 0)?,
-        Fails::SecondPull => plans.inlets.push_back(plan(alloc, 1)?)?,
-        Fails::SecondSend => plans.outlets.push_back(plan(alloc, 1)?)?,
-        Fails::Say => plans.says = plan(alloc, 0)?,
+/// Lets the call fail that a row names.
+fn fail(alloc: Global, fails: &str, world: &mut MemoryWorld) -> Result<(), AllocError> {
+    let Some((kind, number)) = fails.split_once(' ') else {
+        return Ok(());
+    };
+    let call = number.parse().unwrap_or(0);
+    let plan = plan(alloc, call)?;
+    match kind {
+        "store" => world.stores.opens = plan,
+        "disk" => world.stores.plans.push_back(plan)?,
+        "inlet" => world.plans.inlet_opens = plan,
+        "pull" => world.plans.inlets.push_back(plan)?,
+        "outlet" => world.plans.outlet_opens = plan,
+        "send" => world.plans.outlets.push_back(plan)?,
+        _ => world.plans.says = plan,
     }
-    Ok(plans)
+    Ok(())
 }
 
-/// The machine of a row: its inlets give three bytes a pull, received at 2026-02-05T17:32:21Z.
-fn machine(alloc: Global, row: &Row) -> Result<MemoryWorld, AllocError> {
+/// Lets the store have this position, or a byte that no position store has.
+fn keep(alloc: Global, stored: &str, world: &mut MemoryWorld) -> Result<(), Fail> {
+    let spec = StoreSpec {
+        name: Name::new(alloc, b"pos-in")?,
+        create: true,
+    };
+    let mut store = world.open_store(alloc, &spec)?;
+    match stored.parse::<u64>() {
+        Ok(position) => store.write_at(16, &position.to_be_bytes())?,
+        Err(_) => store.write_at(40, b"x")?,
+    }
+    store.sync()?;
+    world.close_store(store);
+    Ok(())
+}
+
+/// A machine with this input: its inlets give four bytes a pull, received at 2026-02-05T17:32:21Z.
+fn machine(alloc: Global, input: &[u8]) -> Result<MemoryWorld, AllocError> {
     let mut files = Vec::new(alloc);
-    files.push(MemoryFile::new(alloc, b"c", row.config)?)?;
-    files.push(MemoryFile::new(alloc, b"in", row.input)?)?;
+    files.push(MemoryFile::new(alloc, b"c", CONFIG)?)?;
+    files.push(MemoryFile::new(alloc, b"bad", b"# x\n")?)?;
+    files.push(MemoryFile::new(alloc, b"in", input)?)?;
     let pace = Pace {
-        piece: 3,
+        piece: 4,
         at: 1_770_312_741_000_000,
     };
-    Ok(MemoryWorld::failing(alloc, files, pace, plans(alloc, row.fails)?))
+    Ok(MemoryWorld::new(alloc, files, pace))
 }
 
 fn words(alloc: Global, file: &[u8]) -> Result<Vec<Name>, AllocError> {
@@ -166,16 +138,59 @@ fn taken(alloc: Global, world: &MemoryWorld) -> Result<Vec<u8>, AllocError> {
 #[test]
 fn runs(rt: HostRuntime) -> Result<(), Fail> {
     let alloc = rt.alloc();
-    for row in &ROWS {
-        let mut world = machine(alloc, row)?;
-        let words = words(alloc, row.file)?;
-        let status = daemon(alloc, &words, &mut world);
-        assert_eq!(rt; status.code(), row.code);
-        assert_eq!(rt; taken(alloc, &world)?.as_slice(), row.taken);
-        assert_eq!(rt; world.said(), row.said);
+    for row in ROWS.lines() {
+        let (input, rest) = field(row);
+        let (stored, rest) = field(rest);
+        let (fails, rest) = field(rest);
+        let (code, rest) = field(rest);
+        let (frames, said) = field(rest);
+        let mut world = machine(alloc, &bytes(alloc, input)?)?;
+        keep(alloc, stored, &mut world)?;
+        fail(alloc, fails, &mut world)?;
+        let status = daemon(alloc, &words(alloc, b"c")?, &mut world);
+        assert_eq!(rt; Ok(status.code()), code.parse());
+        assert_eq!(rt; taken(alloc, &world)?, bytes(alloc, frames)?);
+        assert_eq!(rt; world.said(), bytes(alloc, said)?.as_slice());
     }
-    let mut world = machine(alloc, &ROWS[0])?;
+    Ok(())
+}
+
+#[test]
+fn other_words_and_texts(rt: HostRuntime) -> Result<(), Fail> {
+    let alloc = rt.alloc();
+    let mut world = machine(alloc, b"")?;
     assert_eq!(rt; daemon(alloc, &[], &mut world).code(), 1);
     assert!(rt; world.said().starts_with(b"usage: syslogr check FILE"));
+    let mut world = machine(alloc, b"")?;
+    assert_eq!(rt; daemon(alloc, &words(alloc, b"bad")?, &mut world).code(), 2);
+    assert_eq!(rt; world.said(), b"bad:1: not supported\n".as_slice());
+    let mut world = machine(alloc, b"")?;
+    assert_eq!(rt;
+        daemon(alloc, &words(alloc, b"none")?, &mut world).code(),
+        3
+    );
+    assert_eq!(rt; world.said(), b"cannot read none\n".as_slice());
+    Ok(())
+}
+
+#[test]
+fn a_second_run_takes_new_lines_alone(rt: HostRuntime) -> Result<(), Fail> {
+    let alloc = rt.alloc();
+    let words = words(alloc, b"c")?;
+    let mut first = machine(alloc, b"one\ntw")?;
+    assert_eq!(rt; daemon(alloc, &words, &mut first).code(), 0);
+    assert_eq!(rt; taken(alloc, &first)?.as_slice(), b"one\n".as_slice());
+    let mut second = machine(alloc, b"one\ntwo\nthree\n")?;
+    second.stores = first.stores;
+    assert_eq!(rt; daemon(alloc, &words, &mut second).code(), 0);
+    assert_eq!(rt;
+        taken(alloc, &second)?.as_slice(),
+        b"two\nthree\n".as_slice()
+    );
+    assert!(rt;
+        second
+            .said()
+            .starts_with(b"source 0 records 2 bad-frames 0 position 14\n")
+    );
     Ok(())
 }

@@ -1,49 +1,19 @@
 // What is said at the end of a run.
 ghost use Rattle.std.specs.Prelude.{◌≡◌, IfOk, ◌++◌};
-ghost use Rattle.sg_top.specs.Said.{text_of, kind_text_of, Concludes};
+ghost use Rattle.sg_top.specs.Said.{text_of, status_in, text_in, IsOfMain, Concludes};
 
 use crate::World;
+use crate::ending::Ending;
 use crate::status::{Device, Status};
-use sg_device::SayRefusal;
-use sg_lex::ConfigKind;
+use sg_device::{Name, NoMemory, SayRefusal};
+use sg_lex::ConfigFault;
+use sg_report::fault_text;
 use std::alloc::{AllocError, Global};
 
 const USAGE: &[u8] =
     b"usage: syslogr check FILE | trace FILE SOURCE INPUT | run FILE [--once] [--rounds N] | spool FILE | drill N\n";
 
-fn kind_text(kind: ConfigKind) -> &'static str
-    ensures { result.now ≡ kind_text_of kind }
-{
-    match kind {
-        ConfigKind::OpenString => "string not closed",
-        ConfigKind::BadByte => "unexpected byte",
-        ConfigKind::Version => "version not supported",
-        ConfigKind::IncludeDepth => "includes nested too deep",
-        ConfigKind::UnknownVariable => "unknown variable",
-        ConfigKind::MissingArgument => "argument missing",
-        ConfigKind::UnknownArgument => "unknown argument",
-        ConfigKind::TooLong => "configuration too long",
-        ConfigKind::Unexpected => "unexpected token",
-        ConfigKind::Unsupported => "not supported",
-        ConfigKind::BadNumber => "not a number",
-        ConfigKind::DepthOver64 => "nested too deep",
-        ConfigKind::OpenBrace => "template brace not closed",
-        ConfigKind::Function => "template function",
-        ConfigKind::UnknownName => "unknown name",
-        ConfigKind::DuplicateName => "name defined twice",
-        ConfigKind::MissingOption => "option missing",
-        ConfigKind::BadValue => "value out of range",
-        ConfigKind::HardMacro => "macro cannot be set",
-        ConfigKind::BadPattern => "pattern not valid",
-        ConfigKind::FilterCycle => "filter refers to itself",
-        ConfigKind::SourcePlace => "source not allowed here",
-        ConfigKind::Limit => "too many",
-        ConfigKind::TooManyOffers => "too many offers",
-        ConfigKind::PatternTooLarge => "pattern too large",
-    }
-}
-
-fn joined(alloc: Global, front: &[u8], middle: &[u8], back: &[u8]) -> Result<Vec<u8>, AllocError>
+fn joined(alloc: Global, front: &[u8], middle: &[u8], back: &[u8]) -> Result<Vec<u8>, NoMemory>
     ensures { IfOk result (λ text. text.items ≡ front.now ++ (middle.now ++ back.now)) }
 {
     let mut text = front.to_vec(alloc)?;
@@ -52,17 +22,23 @@ fn joined(alloc: Global, front: &[u8], middle: &[u8], back: &[u8]) -> Result<Vec
     Ok(text)
 }
 
-fn status_text(alloc: Global, file: &[u8], status: Status) -> Result<Vec<u8>, AllocError>
+fn config_text(alloc: Global, file: &[u8], fault: ConfigFault) -> Result<Vec<u8>, NoMemory>
+    requires { IsOfMain (Status.BadConfig fault) }
+    ensures { IfOk result (λ text. text.items ≡ text_of file.now (Status.BadConfig fault)) }
+{
+    let names = [Name::new(alloc, file)?];
+    let mut text = Vec::new(alloc);
+    fault_text(alloc, &fault, &names, &mut text)?;
+    Ok(text)
+}
+
+fn status_text(alloc: Global, file: &[u8], status: Status) -> Result<Vec<u8>, NoMemory>
+    requires { IsOfMain status }
     ensures { IfOk result (λ text. text.items ≡ text_of file.now status) }
 {
     match status {
         Status::Usage => USAGE.to_vec(alloc),
-        Status::BadConfig(fault) => {
-            let line = fault.line;
-            let kind = kind_text(fault.kind);
-            let rest = format!(in alloc; ":{line}: {kind}\n")?;
-            joined(alloc, file, rest.as_bytes(), b"")
-        }
+        Status::BadConfig(fault) => config_text(alloc, file, fault),
         Status::ReadFault => joined(alloc, b"cannot read ", file, b"\n"),
         Status::OpenFault(Device::Store(n)) => Ok(format!(in alloc;
             "cannot open store {n}\n"
@@ -76,18 +52,29 @@ fn status_text(alloc: Global, file: &[u8], status: Status) -> Result<Vec<u8>, Al
         Status::Damage { store, at } => Ok(format!(in alloc;
             "store {store} damaged at {at}\n"
         )?.into_bytes()),
-        _ => {
-            let code = status.code();
-            Ok(format!(in alloc; "status {code}\n")?.into_bytes())
-        }
+        Status::DiskFault(n) => Ok(format!(in alloc; "store {n} failed\n")?.into_bytes()),
+        _ => Ok(Vec::new(alloc)),
     }
 }
 
-/// Says how the run of this file ended, and answers its status, or that it couldn't be said.
-pub fn conclude<W: World>(alloc: Global, file: &[u8], status: Status, world: &mut W) -> Status
-    ensures { Concludes (W.meaning world.old) (W.meaning world.new) file.now status result }
+fn ending_text(alloc: Global, file: &[u8], ending: Ending) -> Result<(Status, Vec<u8>), NoMemory>
+    requires { IsOfMain (status_in ending) }
+    ensures { IfOk result (λ said. (said.0 ≡ status_in ending) × (said.1.items ≡ text_in file.now ending)) }
 {
-    let Ok(text) = status_text(alloc, file, status) else {
+    match ending {
+        Ending::Early(Status::NoMemory) => Err(AllocError),
+        Ending::Early(status) => Ok((status, status_text(alloc, file, status)?)),
+        Ending::Reported(status, text) => Ok((status, text)),
+    }
+}
+
+/// Says how the run of this file ended, and answers its status, or that it couldn't be said. Without
+/// memory it says nothing.
+pub fn conclude<W: World>(alloc: Global, file: &[u8], ending: Ending, world: &mut W) -> Status
+    requires { IsOfMain (status_in ending) }
+    ensures { Concludes (W.meaning world.old) (W.meaning world.new) file.now ending result }
+{
+    let Ok((status, text)) = ending_text(alloc, file, ending) else {
         return Status::NoMemory;
     };
     match world.say(alloc, &text) {

@@ -4,9 +4,9 @@ ghost use Rattle.sg_device.specs.World.{content};
 ghost use Rattle.sg_top.specs.Run.{Ran};
 ghost use Rattle.sg_top.specs.Words.{IsRun, JudgesWords};
 ghost use Rattle.sg_top.specs.Verdict.{Judges};
-ghost use Rattle.sg_top.specs.Said.{SaysStatus};
 
 use crate::World;
+use crate::ending::Ending;
 use crate::run::run;
 use crate::say::conclude;
 use crate::status::Status;
@@ -16,18 +16,20 @@ use std::alloc::Global;
 
 /// Does what the words of the command line ask for, without the program's name, and answers how it
 /// ended. `run FILE --once` reads the configuration FILE and moves the lines of the file that it
-/// names as source to the one that it names as destination.
+/// names as source to the one that it names as destination, from the place on to which the runs before
+/// have come.
 pub fn daemon<W: World>(alloc: Global, words: &[Name], world: &mut W) -> Status
-    // The devices of the configuration were opened and closed, the frames taken are those of the
-    // first records, and the status has its cause.
+    // The devices of the configuration were opened and closed, and what happened at the flow core is a
+    // legal history: its records are the first ones of the source, the frames taken are those that it
+    // settled, the window holds, and what a crash leaves in the store is safe. The status has its cause,
+    // and its text was said.
     ensures ran { Ran (W.meaning world.old) (W.meaning world.new) words.now result }
     ensures usage { JudgesWords words.now result }
     ensures config { (file : List ℕ) → IsRun words.now file → Judges (content (W.meaning world.old).files file) result }
-    ensures said { SaysStatus (W.meaning world.old).said (W.meaning world.new).said words.now result }
 {
     let Some(file) = run_file(words) else {
-        return conclude(alloc, b"", Status::Usage, world);
+        return conclude(alloc, b"", Ending::Early(Status::Usage), world);
     };
-    let status = run(alloc, file, world);
-    conclude(alloc, file, status, world)
+    let ending = run(alloc, file, world);
+    conclude(alloc, file, ending, world)
 }

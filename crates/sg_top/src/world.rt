@@ -1,8 +1,10 @@
 // The machine around the daemon.
 ghost use Rattle.std.specs.Prelude.{MatchResult};
-ghost use Rattle.sg_device.specs.World.{WorldState, Reads, InletOpens, InletRefused, OutletOpens, OutletRefused, ClosesInlet, ClosesOutlet, Says};
+ghost use Rattle.sg_device.specs.World.{WorldState, Reads, InletOpens, InletRefused, OutletOpens, OutletRefused, StoreOpens, StoreRefused, ClosesInlet, ClosesOutlet, ClosesStore, Says};
 
-use sg_device::{FileRefusal, Inlet, InletSpec, OpenRefusal, Outlet, OutletSpec, SayRefusal};
+use sg_device::{
+    Disk, FileRefusal, Inlet, InletSpec, OpenRefusal, Outlet, OutletSpec, SayRefusal, StoreSpec,
+};
 use std::alloc::Global;
 
 /// A machine: it reads files, opens and closes devices, and says text to the operator.
@@ -11,12 +13,21 @@ pub trait World {
 
     type Drain: Outlet;
 
+    type Store: Disk;
+
     /// The files, the devices that were opened and closed, the bytes said, and the counts of faults.
     ghost meaning: { Self → WorldState };
 
     /// The bytes of a file of at most `limit` bytes.
     fn read_file(&mut self, alloc: Global, name: &[u8], limit: u64) -> Result<Vec<u8>, FileRefusal>
         ensures { Reads (meaning self.old) (meaning self.new) name.now limit result };
+
+    /// Opens a store. Where its file is missing and is to be made, it comes to be with 128 zero
+    /// bytes, all of them stable.
+    fn open_store(&mut self, alloc: Global, spec: &StoreSpec) -> Result<Self::Store, OpenRefusal>
+        ensures { MatchResult result
+            (λ store. StoreOpens (meaning self.old) (meaning self.new) spec.now (Self.Store.state store))
+            (λ refusal. StoreRefused (meaning self.old) (meaning self.new) refusal) };
 
     /// Opens an inlet for reading from a place on, in bytes, and answers the place from which it
     /// gives: a file shorter than that is read from its beginning.
@@ -35,6 +46,10 @@ pub trait World {
         ensures { MatchResult result
             (λ drain. OutletOpens (meaning self.old) (meaning self.new) spec.now (Self.Drain.state drain))
             (λ refusal. OutletRefused (meaning self.old) (meaning self.new) refusal) };
+
+    /// Closes a store. It takes no memory.
+    fn close_store(&mut self, store: Self::Store)
+        ensures { ClosesStore (meaning self.old) (meaning self.new) (Self.Store.state store) };
 
     /// Closes an inlet. It takes no memory.
     fn close_inlet(&mut self, feed: Self::Feed)
