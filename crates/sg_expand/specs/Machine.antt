@@ -1,0 +1,230 @@
+-- What a step does to an expander, for what the front of the tokens asks for.
+use Rattle.std.specs.Prelude.{◌≡◌, ◌⊎◌, ℕ, ◌+◌, ◌<◌, ◌≤◌, Bool, true, false, List, [], ◌∷◌, ◌++◌, length, Option, Some, None, Result, Ok, Err, Vec}
+use Rattle.std.specs.FinMap as map
+use Rattle.std.specs.declared.alloc.Global.{Global}
+use Rattle.sg_device.specs.World.{WorldState, Reads}
+use Rattle.sg_device.specs.declared.fault.FileRefusal.TheVariants.{Failed, TooLong as FileTooLong}
+use Rattle.sg_lex.specs.Tokens.{tokens_of}
+use Rattle.sg_lex.specs.declared.token.Token.{Token}
+use Rattle.sg_lex.specs.declared.token.LexFault.{LexFault}
+use Rattle.sg_lex.specs.declared.fault.ConfigKind.{ConfigKind}
+use Rattle.sg_lex.specs.declared.fault.ConfigKind.TheVariants.{TooLong, UnknownVariable, MissingArgument, UnknownArgument, Unsupported}
+use Rattle.sg_expand.specs.declared.argument.Argument.{Argument}
+use Rattle.sg_expand.specs.declared.block.Block.{Block}
+use Rattle.sg_expand.specs.declared.expander.Expander.{Expander}
+use Rattle.sg_expand.specs.declared.fault.Stop.{Stop}
+use Rattle.sg_expand.specs.declared.fault.Stop.TheVariants.{Fault, ReadFault, NoMemory}
+use Rattle.sg_expand.specs.declared.frame.Call.{Call}
+use Rattle.sg_expand.specs.declared.frame.Context.{Context}
+use Rattle.sg_expand.specs.declared.frame.Frame.{Frame}
+use Rattle.sg_expand.specs.declared.frame.Frame.TheVariants.{Expands, Binds}
+use Rattle.sg_expand.specs.declared.frame.Wait.{Wait}
+use Rattle.sg_expand.specs.declared.token.Line.{Line}
+use Rattle.sg_expand.specs.declared.uses.Asked.{Asked}
+use Rattle.sg_expand.specs.Arguments.{is_missing, is_unknown, bindings}
+use Rattle.sg_expand.specs.Expansion.{State, Step, Ends, Moves, Faults, Includes, Uses, body_context, file_context, fault_in, with_file, with_total, has_wildcard, charged, plain, word_or_use, IsPassed}
+use Rattle.sg_expand.specs.Faults.{fault_at}
+use Rattle.sg_expand.specs.Made.{Made, empty_value}
+use Rattle.sg_expand.specs.Output.{Emits, IsSize}
+use Rattle.sg_expand.specs.Tokens.{size_of, text_at, line_at}
+use Rattle.sg_expand.specs.Trimmed.{trimmed}
+
+-- the state in which an expander stands, over a machine
+abbrev pub state_of : Expander → WorldState → State
+state_of expander world = record {
+  variables = expander.variables;
+  blocks = expander.blocks;
+  serial = expander.serial;
+  total = expander.total;
+  names = expander.names;
+  world = world;
+  out = expander.out;
+}
+
+-- nothing stops but for want of memory
+abbrev pub IsDone : Result Unit Stop → Type 0
+IsDone (Ok done) = Unit {0}
+IsDone (Err (Fault fault)) = ⊥
+IsDone (Err (ReadFault name)) = ⊥
+IsDone (Err NoMemory) = Unit {0}
+
+-- these tokens are expanded next
+abbrev pub tokens_frame : Context → Bool → List Token → Frame
+tokens_frame context fresh tokens = Expands (record { context = context; fresh = fresh; tokens = tokens })
+
+-- frames stand on those before, the first of them to be done the last
+abbrev pub Pushes : List Frame → Expander → Expander → Result Unit Stop → Type 0
+Pushes frames old new (Ok done) = (new ≡ record old { frames = new.frames }) × (new.frames.items ≡ old.frames.items ++ frames)
+Pushes frames old new (Err (Fault fault)) = ⊥
+Pushes frames old new (Err (ReadFault name)) = ⊥
+Pushes frames old new (Err NoMemory) = Unit {0}
+
+-- the frames with which the binding of a use goes on, and what comes out then
+abbrev pub call_frames : Call → List Argument → Made → List Frame
+call_frames call [] out = tokens_frame (body_context call.context call.bound call.serial) true (trimmed call.body) ∷ []
+call_frames call (argument ∷ left) out =
+    Binds (record { call = record call { left = left }; name = argument.name; out = out })
+    ∷ tokens_frame call.context false argument.tokens ∷ []
+
+abbrev pub call_out : List Argument → Made → Made
+call_out [] out = out
+call_out (argument ∷ left) out = empty_value
+
+-- the binding of a use goes on with the next argument, or with the body
+abbrev pub Calls : Call → Expander → Expander → Result Unit Stop → Type 0
+Calls call old new (Ok done) =
+    (new ≡ record old { frames = new.frames; out = call_out call.left old.out })
+    × (new.frames.items ≡ old.frames.items ++ call_frames call call.left old.out)
+Calls call old new (Err (Fault fault)) = ⊥
+Calls call old new (Err (ReadFault name)) = ⊥
+Calls call old new (Err NoMemory) = Unit {0}
+
+-- a use begins: the tokens behind it wait
+abbrev pub call_of : Context → Line → Block → List Argument → Call
+call_of context line block given = record {
+  context = context;
+  line = line;
+  serial = block.serial;
+  body = block.body;
+  left = bindings block.parameters given;
+  bound = map.empty;
+}
+
+abbrev pub DoesUse : Context → Call → List Token → State → Expander → WorldState → Expander → Result Unit Stop → Type 0
+DoesUse context call rest next old world new (Ok done) =
+    (middle : Expander) × ((state_of middle world ≡ next)
+    × ((middle.frames.items ≡ old.frames.items ++ tokens_frame context false rest ∷ []) × Calls call middle new (Ok done)))
+DoesUse context call rest next old world new (Err (Fault fault)) = ⊥
+DoesUse context call rest next old world new (Err (ReadFault name)) = ⊥
+DoesUse context call rest next old world new (Err NoMemory) = Unit {0}
+
+-- nothing is left to be done
+abbrev pub DoesNothing : Expander → Expander → Result Unit Stop → Type 0
+DoesNothing old new (Ok done) = new ≡ old
+DoesNothing old new (Err (Fault fault)) = ⊥
+DoesNothing old new (Err (ReadFault name)) = ⊥
+DoesNothing old new (Err NoMemory) = Unit {0}
+
+abbrev pub IsNoMemory : Result Unit Stop → Type 0
+IsNoMemory (Ok done) = ⊥
+IsNoMemory (Err (Fault fault)) = ⊥
+IsNoMemory (Err (ReadFault name)) = ⊥
+IsNoMemory (Err NoMemory) = Unit {0}
+
+abbrev pub DoesMove : Context → Bool → List Token → State → Expander → WorldState → Expander → Result Unit Stop → Type 0
+DoesMove context fresh rest next old world new (Ok done) =
+    (state_of new world ≡ next) × (new.frames.items ≡ old.frames.items ++ tokens_frame context fresh rest ∷ [])
+DoesMove context fresh rest next old world new (Err (Fault fault)) = ⊥
+DoesMove context fresh rest next old world new (Err (ReadFault name)) = ⊥
+DoesMove context fresh rest next old world new (Err NoMemory) = Unit {0}
+
+abbrev pub DoesFault : ConfigKind → Line → Expander → Expander → Result Unit Stop → Type 0
+DoesFault kind line old new (Ok done) = ⊥
+DoesFault kind line old new (Err (Fault fault)) = (fault ≡ fault_at kind line) × (new.names ≡ old.names)
+DoesFault kind line old new (Err (ReadFault name)) = ⊥
+DoesFault kind line old new (Err NoMemory) = Unit {0}
+
+-- a token comes out as these, unless it names what is unknown
+abbrev pub EmitsToken : Option (List Token) → Line → Expander → Expander → Result Unit Stop → Type 0
+EmitsToken None line old new result = DoesFault UnknownVariable line old new result
+EmitsToken (Some tokens) line old new result =
+    (new ≡ record old { total = new.total; out = new.out }) × Emits tokens old.out old.total new.out new.total result
+
+-- a step that reads no file does what is asked for
+abbrev pub Does : Step → Context → Expander → WorldState → Expander → Result Unit Stop → Type 0
+Does Ends context old world new result = DoesNothing old new result
+Does (Moves fresh rest next) context old world new result = DoesMove context fresh rest next old world new result
+Does (Faults kind line) context old world new result = DoesFault kind line old new result
+Does (Includes line name rest next) context old world new result = IsNoMemory result
+Does (Uses line block given rest next) context old world new result = DoesUse context (call_of context line block given) rest next old world new result
+
+-- what a use asks for is the block's
+pub record IsAskedFor (asked : Asked) (size : ℕ) (block : Block) (given : List Argument) : Type 0 where
+  pub size_is : IsSize size asked.size
+  pub serial_is : asked.serial ≡ block.serial
+  pub body_is : asked.body ≡ block.body
+  pub left_is : asked.left ≡ bindings block.parameters given
+
+-- a use's word and its block's body, as they are counted
+abbrev pub use_size_of : List Token → Block → ℕ
+use_size_of tokens block = length (text_at tokens 0) + 1 + size_of block.body
+
+-- a use that gives these arguments, or what is wrong with it
+abbrev pub IsAsked : List Token → Block → List Argument → Result Asked Stop → Type 0
+IsAsked tokens block given (Ok asked) =
+    (is_missing block.parameters given ≡ false) × ((is_unknown block.parameters given ≡ false) × IsAskedFor asked (use_size_of tokens block) block given)
+IsAsked tokens block given (Err (Fault fault)) =
+    ((is_missing block.parameters given ≡ true) × (fault ≡ fault_at MissingArgument (line_at tokens 0)))
+    ⊎ ((is_missing block.parameters given ≡ false) × ((is_unknown block.parameters given ≡ true) × (fault ≡ fault_at UnknownArgument (line_at tokens 0))))
+IsAsked tokens block given (Err (ReadFault name)) = ⊥
+IsAsked tokens block given (Err NoMemory) = Unit {0}
+
+-- the use at the front, if one stands there, or what is wrong with it
+abbrev pub FindsUse : Context → Bool → List Token → State → Result (Option (Asked × List Token)) Stop → Type 0
+FindsUse context fresh tokens state (Ok None) = word_or_use context fresh tokens state ≡ plain context tokens state
+FindsUse context fresh tokens state (Ok (Some found)) =
+    (block : Block) × ((given : List Argument) × (IsAskedFor found.0 (use_size_of tokens block) block given
+    × (word_or_use context fresh tokens state ≡ charged (use_size_of tokens block) (line_at tokens 0) state (Uses (line_at tokens 0) block given found.1))))
+FindsUse context fresh tokens state (Err (Fault fault)) =
+    (kind : ConfigKind) × ((word_or_use context fresh tokens state ≡ Faults kind (line_at tokens 0)) × (fault ≡ fault_at kind (line_at tokens 0)))
+FindsUse context fresh tokens state (Err (ReadFault name)) = ⊥
+FindsUse context fresh tokens state (Err NoMemory) = Unit {0}
+
+-- the use of a block begins, whichever block it is that asks so
+abbrev pub BeginsUse : Context → Line → Asked → List Token → Expander → WorldState → Expander → Result Unit Stop → Type 0
+BeginsUse context line asked rest old world new result =
+    (size : ℕ) (block : Block) (given : List Argument) → IsAskedFor asked size block given
+    → Does (charged size line (state_of old world) (Uses line block given rest)) context old world new result
+
+-- the name of the file that an `@include` asks for, which is counted, or what is wrong with it
+abbrev pub NamesFile : Step → Line → List Token → Expander → WorldState → Expander → Result (List ℕ) Stop → Type 0
+NamesFile step line rest old world new (Ok name) = (step ≡ Includes line name rest (state_of new world)) × (new.frames.items ≡ old.frames.items)
+NamesFile step line rest old world new (Err (Fault fault)) = (kind : ConfigKind) × ((place : Line) × ((step ≡ Faults kind place) × ((fault ≡ fault_at kind place) × (new.names ≡ old.names))))
+NamesFile step line rest old world new (Err (ReadFault name)) = ⊥
+NamesFile step line rest old world new (Err NoMemory) = Unit {0}
+
+-- whether a file of this name may be read, as the next one
+abbrev pub ChecksName : List (List ℕ) → List ℕ → Line → Result Unit Stop → Type 0
+ChecksName names name line (Ok done) = (length names < 65536) × (has_wildcard name ≡ false)
+ChecksName names name line (Err (Fault fault)) =
+    ((65536 ≤ length names) × (fault ≡ fault_at TooLong line))
+    ⊎ ((length names < 65536) × (has_wildcard name ≡ true) × (fault ≡ fault_at Unsupported line))
+ChecksName names name line (Err (ReadFault other)) = ⊥
+ChecksName names name line (Err NoMemory) = ⊥
+
+-- a file was read, and its tokens are expanded before those behind the `@include`
+abbrev pub TakesFile : Context → Bool → List ℕ → List Token → State → List ℕ → Expander → WorldState → Expander → WorldState → Line → Result Unit Stop → Type 0
+TakesFile context fresh name rest next bytes old world new world' line (Ok done) =
+    (found : List Token) × ((tokens_of (length next.names) bytes ≡ Ok found) × ((next.total + (length bytes + 1) ≤ 1048576)
+    × ((state_of new world' ≡ with_total (length bytes + 1) (with_file name world' next))
+    × (new.frames.items ≡ old.frames.items ++ tokens_frame context fresh rest ∷ tokens_frame (file_context context) true found ∷ []))))
+TakesFile context fresh name rest next bytes old world new world' line (Err (Fault fault)) =
+    (new.names ≡ next.names ++ name ∷ [])
+    × (((1048576 < next.total + (length bytes + 1)) × (fault ≡ fault_at TooLong line))
+    ⊎ ((next.total + (length bytes + 1) ≤ 1048576)
+    × ((wrong : LexFault) × ((tokens_of (length next.names) bytes ≡ Err wrong) × (fault ≡ fault_in (length next.names) bytes wrong)))))
+TakesFile context fresh name rest next bytes old world new world' line (Err (ReadFault other)) = ⊥
+TakesFile context fresh name rest next bytes old world new world' line (Err NoMemory) = Unit {0}
+
+-- what an `@include` of a name that may be read does
+abbrev pub DoesInclude : Context → Bool → Line → List ℕ → List Token → State → Expander → WorldState → Expander → WorldState → Result Unit Stop → Type 0
+DoesInclude context fresh line name rest next old world new world' (Err NoMemory) = Unit {0}
+DoesInclude context fresh line name rest next old world new world' (Err (ReadFault other)) =
+    (other ≡ name) × (Reads world world' name 1048576 (Err Failed) × (new.names ≡ next.names))
+DoesInclude context fresh line name rest next old world new world' result =
+    ((bytes : Vec ℕ Global) × (Reads world world' name 1048576 (Ok bytes) × TakesFile context fresh name rest next bytes.items old world new world' line result))
+    ⊎ (Reads world world' name 1048576 (Err FileTooLong) × ((result ≡ Err (Fault (fault_at TooLong line))) × (new.names ≡ next.names)))
+
+-- a step does what is asked for
+abbrev pub DoesStep : Step → Context → Bool → Expander → WorldState → Expander → WorldState → Result Unit Stop → Type 0
+DoesStep (Includes line name rest next) context fresh old world new world' result = DoesInclude context fresh line name rest next old world new world' result
+DoesStep step context fresh old world new world' result = (world' ≡ world) × Does step context old world new result
+
+-- the value that is whole is bound, unless it can't be counted any more
+abbrev pub DoesBind : Wait → Option (List Token) → Expander → Expander → Result Unit Stop → Type 0
+DoesBind wait value old new (Ok done) =
+    (tokens : List Token) × ((value ≡ Some tokens) × ((old.total + size_of tokens ≤ 1048576)
+    × Calls (record wait.call { bound = map.insert wait.call.bound wait.name tokens }) (record old { total = old.total + size_of tokens; out = wait.out }) new (Ok done)))
+DoesBind wait value old new (Err (Fault fault)) = (fault ≡ fault_at TooLong wait.call.line) × (IsPassed old.total value × (new.names ≡ old.names))
+DoesBind wait value old new (Err (ReadFault name)) = ⊥
+DoesBind wait value old new (Err NoMemory) = Unit {0}

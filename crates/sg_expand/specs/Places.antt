@@ -1,0 +1,13 @@
+-- The files in which tokens and faults stand.
+use Rattle.std.specs.Prelude.{◌<◌, length, Result, Ok, Err}
+use Rattle.std.specs.List.{All}
+use Rattle.sg_expand.specs.declared.fault.Expanded.{Expanded}
+use Rattle.sg_expand.specs.declared.fault.ExpandRefusal.{ExpandRefusal}
+use Rattle.sg_expand.specs.declared.fault.ExpandRefusal.TheVariants.{Bad, ReadFault, NoMemory}
+
+-- the file of each token, or of a fault, is one of the names
+abbrev pub IsPlaced : Result Expanded ExpandRefusal → Type 0
+IsPlaced (Ok expanded) = All (λ token. token.file < length expanded.names) expanded.tokens
+IsPlaced (Err (Bad fault names)) = fault.file < length names
+IsPlaced (Err (ReadFault file)) = Unit {0}
+IsPlaced (Err NoMemory) = Unit {0}

@@ -1,0 +1,203 @@
+// The state of an expansion, and its end.
+ghost use Rattle.std.specs.Prelude.{◌≡◌, ◌<◌, ◌≤◌, [], ◌∷◌, length, IfOk, OnOk};
+ghost use Rattle.sg_lex.specs.Tokens.{tokens_of};
+ghost use Rattle.sg_expand.specs.Lexed.{IsLexedPart, PlaceWithin, FaultIn};
+ghost use Rattle.sg_expand.specs.Expansion.{first_line, IsExpanded};
+ghost use Rattle.sg_expand.specs.Places.{IsPlaced};
+ghost use Rattle.sg_expand.specs.Whole.{IsNew, ChecksVersion, BeginsText, DoesFrame, Works, RunsWhole};
+ghost use Rattle.sg_device.specs.World.{WorldState, OnlyReads};
+
+use crate::block::Block;
+use crate::directive::{begins_version, is_version};
+use crate::fault::{ExpandRefusal, Expanded, Stop, fault_at};
+use crate::files::Files;
+use crate::frame::{Context, Frame, Rest, Scope, push_frame};
+use crate::output::{Output, Total};
+use crate::part::Part;
+use crate::table::Table;
+use crate::token::Line;
+use crate::values::Values;
+use sg_device::{Name, NoMemory};
+use sg_lex::{ConfigFault, ConfigKind, LexFault, TEXT_LIMIT, Token, line_at, tokens};
+use sg_list::Seq;
+use std::alloc::Global;
+
+#[derive(Drop)]
+pub struct Expander {
+    pub alloc: Global,
+    /// What is to be done, the first last.
+    pub frames: Vec<Frame>,
+    pub variables: Values,
+    pub blocks: Table<Block>,
+    /// How many blocks were defined.
+    pub serial: u64,
+    pub total: Total,
+    /// The files read, in order.
+    pub names: Seq<Name>,
+    pub out: Output,
+}
+
+fn fault_in(file: u32, text: &[u8], fault: LexFault) -> Stop
+    requires text { length text.now ≤ TEXT_LIMIT }
+    requires place { PlaceWithin (length text.now) fault }
+    ensures { FaultIn file text.now fault result }
+{
+    match fault {
+        LexFault::OpenString(place) => Stop::Fault(ConfigFault {
+            kind: ConfigKind::OpenString,
+            file,
+            line: line_at(text, place),
+        }),
+        LexFault::BadByte(place) => Stop::Fault(ConfigFault {
+            kind: ConfigKind::BadByte,
+            file,
+            line: line_at(text, place),
+        }),
+        LexFault::NoMemory => Stop::NoMemory,
+    }
+}
+
+/// The tokens of a file.
+pub fn lex(alloc: Global, file: u32, text: &[u8]) -> Result<Part, Stop>
+    requires { length text.now ≤ TEXT_LIMIT }
+    ensures { IsLexedPart file text.now (tokens_of file text.now) result }
+{
+    match tokens(alloc, file, text) {
+        Ok(found) => Ok(Part::new(alloc, found)?),
+        Err(fault) => Err(fault_in(file, text, fault)),
+    }
+}
+
+fn first_line(tokens: &Part) -> Line
+    ensures { result ≡ first_line tokens.now }
+{
+    if tokens.is_empty() {
+        Line { file: 0, line: 1 }
+    } else {
+        tokens.line(0)
+    }
+}
+
+/// A main file begins with a version.
+fn check_version(tokens: &Part) -> Result<(), Stop>
+    ensures value { ChecksVersion tokens.now result }
+    ensures within { OnOk result (2 < length tokens.now) }
+{
+    if begins_version(tokens) && is_version(tokens.text(2)) {
+        return Ok(());
+    }
+    Err(Stop::Fault(fault_at(ConfigKind::Version, first_line(tokens))))
+}
+
+impl Expander {
+    fn new(alloc: Global, name: Name) -> Result<Expander, NoMemory>
+        ensures { IfOk result (λ expander. IsNew name expander) }
+    {
+        let mut names = Seq::empty(alloc);
+        names.push(name)?;
+        Ok(Expander {
+            alloc,
+            frames: Vec::new(alloc),
+            variables: Values::new(alloc),
+            blocks: Table::new(alloc),
+            serial: 0,
+            total: Total::new(),
+            names,
+            out: Output::list(alloc),
+        })
+    }
+
+    /// Does what is to be done until nothing is left.
+    fn work<F: Files>(&mut self, files: &mut F) -> Result<(), Stop>
+        ensures does { Works self.old (F.state files.old) self.new (F.state files.new) result }
+        ensures reads { OnlyReads (F.state files.old) (F.state files.new) }
+    {
+        'steps: for _ in 0..u64::MAX {
+            match self.frames.pop() {
+                Some(frame) => self.do_frame(files, frame)?,
+                None => return Ok(()),
+            }
+        }
+        Err(Stop::NoMemory)
+    }
+
+    /// Does what was to be done first.
+    fn do_frame<F: Files>(&mut self, files: &mut F, frame: Frame) -> Result<(), Stop>
+        ensures does { DoesFrame frame self.old (F.state files.old) self.new (F.state files.new) result }
+        ensures reads { OnlyReads (F.state files.old) (F.state files.new) }
+    {
+        match frame {
+            Frame::Expands(rest) => self.step(files, rest),
+            Frame::Binds(wait) => self.bind(wait),
+        }
+    }
+
+    fn begin(&mut self, text: &[u8]) -> Result<(), Stop>
+        requires { self.old.frames.items ≡ [] }
+        ensures { (world : WorldState) → BeginsText text.now self.old world self.new result }
+    {
+        if text.len() > TEXT_LIMIT {
+            return Err(Stop::Fault(fault_at(ConfigKind::TooLong, Line { file: 0, line: 1 })));
+        }
+        let tokens = lex(self.alloc, 0, text)?;
+        match check_version(&tokens) {
+            Ok(()) => {}
+            Err(stop) => return Err(stop),
+        }
+        let context = Context {
+            depth: 0,
+            scope: Scope::empty(self.alloc)?,
+            limit: None,
+        };
+        let rest = Rest {
+            context,
+            fresh: true,
+            tokens: tokens.behind(3),
+        };
+        push_frame(&mut self.frames, Frame::Expands(rest))?;
+        Ok(())
+    }
+
+    fn run<F: Files>(&mut self, files: &mut F, text: &[u8]) -> Result<(), Stop>
+        requires { self.old.frames.items ≡ [] }
+        ensures does { RunsWhole text.now self.old (F.state files.old) self.new (F.state files.new) result }
+        ensures reads { OnlyReads (F.state files.old) (F.state files.new) }
+    {
+        self.begin(text)?;
+        self.work(files)?;
+        Ok(())
+    }
+}
+
+/// Expands the main file of this name and text, and the files that it includes.
+///
+/// The tokens that come out, the values that are bound, the bodies that are used and the files that
+/// are included have together at most 1,048,576 bytes, one more counted for each. A value is counted
+/// once it is whole.
+pub fn expand<F: Files>(
+    alloc: Global,
+    name: Name,
+    main: &[u8],
+    files: &mut F,
+) -> Result<Expanded, ExpandRefusal>
+    ensures exact { IsExpanded (F.state files.old) (F.state files.new) name main.now result }
+    ensures place { IsPlaced result }
+    ensures reads { OnlyReads (F.state files.old) (F.state files.new) }
+{
+    let mut expander = match Expander::new(alloc, name) {
+        Ok(expander) => expander,
+        Err(_) => return Err(ExpandRefusal::NoMemory),
+    };
+    match expander.run(files, main) {
+        Ok(()) => Ok(Expanded {
+            tokens: expander.out.into_tokens(),
+            names: expander.names,
+        }),
+        Err(Stop::Fault(fault)) => Err(ExpandRefusal::Bad {
+            fault,
+            names: expander.names,
+        }),
+        Err(Stop::ReadFault(name)) => Err(ExpandRefusal::ReadFault(name)),
+        Err(Stop::NoMemory) => Err(ExpandRefusal::NoMemory),
+    }
+}

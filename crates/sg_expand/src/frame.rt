@@ -1,0 +1,85 @@
+// What is still to be done.
+ghost use Rattle.std.specs.Prelude.{◌≡◌, [], ◌∷◌, ◌++◌, IfOk, OnOk};
+
+use crate::argument::Arguments;
+use crate::output::Output;
+use crate::part::Part;
+use crate::table::Shared;
+use crate::token::Line;
+use crate::values::Values;
+use sg_device::{Name, NoMemory};
+use sg_lex::Token;
+use sg_list::Seq;
+
+/// The arguments in reach, which the tokens of a body share.
+pub type Scope = Shared<Seq<Token>>;
+
+/// Where tokens stand.
+#[derive(Drop)]
+pub struct Context {
+    /// How deep their file is included.
+    pub depth: u32,
+    /// The arguments in reach.
+    pub scope: Scope,
+    /// Only the blocks before this one may be used, where it is one.
+    pub limit: Option<u64>,
+}
+
+impl Context {
+    pub fn share(&self) -> Result<Context, NoMemory>
+        ensures { IfOk result (λ context. context ≡ self.now) }
+    {
+        Ok(Context {
+            depth: self.depth,
+            scope: self.scope.share()?,
+            limit: self.limit,
+        })
+    }
+}
+
+/// Tokens that are still to be expanded.
+#[derive(Drop)]
+pub struct Rest {
+    pub context: Context,
+    /// Whether a use may stand at the front.
+    pub fresh: bool,
+    pub tokens: Part,
+}
+
+/// A use whose arguments are being bound.
+#[derive(Drop)]
+pub struct Call {
+    /// Where the use stands.
+    pub context: Context,
+    pub line: Line,
+    /// The block's number, and its body.
+    pub serial: u64,
+    pub body: Part,
+    /// The arguments that are left.
+    pub left: Arguments,
+    pub bound: Values,
+}
+
+/// A use that waits for a value.
+#[derive(Drop)]
+pub struct Wait {
+    pub call: Call,
+    /// The name to which the value is bound.
+    pub name: Name,
+    /// What came out before the value began.
+    pub out: Output,
+}
+
+#[derive(Drop)]
+pub enum Frame {
+    Expands(Rest),
+    Binds(Wait),
+}
+
+/// Puts what is to be done first at the end.
+pub fn push_frame(frames: &mut Vec<Frame>, frame: Frame) -> Result<(), NoMemory>
+    ensures { OnOk result (frames.new.items ≡ frames.old.items ++ frame ∷ []) }
+{
+    frames.push(frame)?;
+    Ok(())
+}
