@@ -68,7 +68,33 @@ config sub/a_b.log out >c0
 expect 'a source in a folder' 0 "$(report 1 4 1 0 '' 0)" 'one\n' run c0 --once
 [ -e pos-sub_2fa_5fb.log ] || { failed=$((failed + 1)); echo 'a source in a folder: its store has another name'; }
 printf '# x\n' >bad
-expect 'another text' 2 'bad:1: not supported\n' - run bad --once
+expect 'a text without a version' 2 'bad:1: version not supported\n' - run bad --once
+printf '@version: 4.2\n' >bad
+expect 'another configuration' 2 'bad:1: not supported\n' - run bad --once
+printf '@version: 4.2\nlog { `NO`; };\n' >bad
+expect 'an unknown variable' 2 'bad:2: unknown variable\n' - run bad --once
+printf '@version: 4.2\n@include "bad"\n' >bad
+expect 'a file that includes itself' 2 'bad:2: includes nested too deep\n' - run bad --once
+printf '# one\n# two\n  "\n' >part
+printf '@version: 4.2\n@include "part"\n' >bad
+expect 'a fault in an included file' 2 'part:3: string not closed\n' - run bad --once
+printf '@version: 4.2\n@include "none"\n' >bad
+expect 'an included file that is missing' 3 'cannot read none\n' - run bad --once
+cat >sub/blocks.conf <<'END'
+# what a source and a destination are made of
+block source lines_of(path()) { file("`path`" flags(no-parse)); };
+block destination lines_to(path(out)) { file("`path`" template("$MSG\n")); };
+END
+cat >blocks <<'END'
+@version: 4.2
+@define folder sub
+@include "`folder`/blocks.conf"   # from the folder in which the program runs
+source s { lines_of(path("in")); };
+destination d { lines_to(); };
+log { source(s); destination(d); flags(flow-control); };
+END
+printf 'one\ntwo\n' >in
+expect 'blocks in an included file' 0 "$(report 2 8 2 0 '' 0)" 'one\ntwo\n' run blocks --once
 head -c 1048577 /dev/zero >long
 expect 'a configuration too long' 2 'long:1: configuration too long\n' - run long --once
 expect 'no configuration' 3 'cannot read none\n' - run none --once

@@ -1,6 +1,6 @@
 // What is wrong with a configuration.
-ghost use Rattle.std.specs.Prelude.{◌≡◌, ◌<◌, ◌++◌, length, OnOk, OnErr, IfOk};
-ghost use Rattle.sg_report.specs.Fault.{kind_text_of, fault_text_of};
+ghost use Rattle.std.specs.Prelude.{◌≡◌, ◌++◌, OnOk, OnErr, IfOk};
+ghost use Rattle.sg_report.specs.Fault.{kind_text_of, name_at, fault_text_of};
 
 use sg_device::Name;
 use sg_lex::{ConfigFault, ConfigKind};
@@ -38,11 +38,20 @@ fn kind_text(kind: ConfigKind) -> &'static str
     }
 }
 
+/// The name of the file of that number, empty where there is none.
+fn name_at(names: &[Name], file: u32) -> &[u8]
+    ensures { result.now ≡ name_at names.now file }
+{
+    match names.get(file as usize) {
+        Some(name) => name.bytes(),
+        None => b"",
+    }
+}
+
 fn fault_line(alloc: Global, fault: &ConfigFault, names: &[Name]) -> Result<Vec<u8>, AllocError>
-    requires { fault.now.file < length names.now }
     ensures { IfOk result (λ text. text.items ≡ fault_text_of fault.now names.now) }
 {
-    let mut text = names[fault.file as usize].bytes().to_vec(alloc)?;
+    let mut text = name_at(names, fault.file).to_vec(alloc)?;
     let line = fault.line;
     let kind = kind_text(fault.kind);
     let rest = format!(in alloc; ":{line}: {kind}\n")?;
@@ -51,14 +60,14 @@ fn fault_line(alloc: Global, fault: &ConfigFault, names: &[Name]) -> Result<Vec<
 }
 
 /// Appends the line that tells what is wrong with a configuration, and where: the file's name, the
-/// line's number and what it is. Without memory `out` stays as it was.
+/// line's number and what it is. A file that has no name has an empty one. Without memory `out` stays
+/// as it was.
 pub fn fault_text(
     alloc: Global,
     fault: &ConfigFault,
     names: &[Name],
     out: &mut Vec<u8>,
 ) -> Result<(), AllocError>
-    requires { fault.now.file < length names.now }
     ensures ok { OnOk result (out.new.items ≡ out.old.items ++ fault_text_of fault.now names.now) }
     ensures err { OnErr result (out.new.items ≡ out.old.items) }
 {

@@ -1,4 +1,5 @@
 pub mod ConfigLemmas
+pub mod ReadingLemmas
 pub mod CoreLemmas
 pub mod OpeningLemmas
 pub mod RunLemmas

@@ -25,7 +25,7 @@ use Rattle.sg_top.specs.Run.{HasStatus}
 use Rattle.sg_top.specs.Said.{status_in, HasText}
 use Rattle.sg_top.specs.Verdict.{IsAfterConfig}
 use Rattle.sg_top.specs.declared.ending.Ending.{Ending}
-use Rattle.sg_top.specs.declared.ending.Ending.TheVariants.{Early, Reported}
+use Rattle.sg_top.specs.declared.ending.Ending.TheVariants.{Early, Refused, Unread, Reported}
 use Rattle.sg_top.proofs.CoreLemmas.{one-of, only-store, stored-same, opening-same}
 
 -- What a rewind, or none, comes to.
@@ -140,12 +140,17 @@ pub end-cause : (w w' : WorldState) (core : CoreState) (reached : Reached) (ende
     → HasStatus w w' reached (status_in ending)
 end-cause w w' core reached ended (Early status) e cause = subst (HasStatus w w' reached) (sym e) tt
 end-cause w w' core reached ended (Reported status text) e cause = subst (HasStatus w w' reached) (sym e.0) cause
+end-cause w w' core reached ended (Refused fault names) e cause = absurd e
+end-cause w w' core reached ended (Unread name) e cause = absurd e
 
 pub end-after : (core : CoreState) (ended : Ended) (ending : Ending) → EndsRounds core ended ending → IsAfterConfig (status_in ending)
 end-after core ended (Early status) e = subst IsAfterConfig (sym e) tt
 end-after core ended (Reported status text) e = subst IsAfterConfig (sym e.0) (rounds-after ended)
+end-after core ended (Refused fault names) e = absurd e
+end-after core ended (Unread name) e = absurd e
 
-pub end-text : (core : CoreState) (s : Shelf) (h : History) (f : Feed) (d : Drain) (ended : Ended) (ending : Ending) → EndsRounds core ended ending → IsAt core (state_of h) → (file : List ℕ)
-    → HasText file (AtRounds s h f d) ending
-end-text core s h f d ended (Early status) e at file = inl e
-end-text core s h f d ended (Reported status text) e at file = inr (e.1 (state_of h) at)
+pub end-text : (core : CoreState) (s : Shelf) (h : History) (f : Feed) (d : Drain) (ended : Ended) (ending : Ending) → EndsRounds core ended ending → IsAt core (state_of h) → HasText (AtRounds s h f d) ending
+end-text core s h f d ended (Early status) e at = inl e
+end-text core s h f d ended (Reported status text) e at = inr (e.1 (state_of h) at)
+end-text core s h f d ended (Refused fault names) e at = absurd e
+end-text core s h f d ended (Unread name) e at = absurd e

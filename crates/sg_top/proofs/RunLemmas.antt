@@ -1,6 +1,5 @@
 -- Lemmas on the causes of statuses.
-use Rattle.std.proofs.Common.{◌≡◌, ◌≤◌, ℕ, List, Some, None, arith, subst, inl, inr}
-use Rattle.std.specs.Prelude.{Option}
+use Rattle.std.proofs.Common.{◌≡◌, ◌≤◌, ℕ, List, Some, arith}
 use Rattle.sg_device.specs.Faults.{Rose}
 use Rattle.sg_device.specs.World.{WorldState}
 use Rattle.sg_device.specs.Disk.{content as store_content}
@@ -10,11 +9,16 @@ use Rattle.sg_top.specs.Devices.{Shelf, Feed, Drain, Reached, Nothing, AtStore, 
 use Rattle.sg_top.specs.History.{History}
 use Rattle.sg_top.specs.Run.{HasStatus, SpentPulls, IsSpent, IsUntroubled, Works, WorksStore, WorksDevices, IsComplete}
 use Rattle.sg_lex.specs.declared.fault.ConfigFault.{ConfigFault}
-use Rattle.sg_top.specs.Verdict.{IsRead, IsFaultOf, Judges}
+use Rattle.sg_lex.specs.declared.token.Token.{Token}
+use Rattle.sg_expand.specs.Expansion.{State}
+use Rattle.sg_expand.specs.One.{AreTold}
+use Rattle.sg_top.specs.Reading.{Configures}
+use Rattle.sg_top.specs.Verdict.{Judges}
 use Rattle.sg_top.specs.Words.{IsRun, JudgesWords}
 use Rattle.sg_top.specs.declared.status.Device.TheVariants.{Store, Inlet, Dest}
 use Rattle.sg_top.specs.declared.status.Status.{Status}
 use Rattle.sg_top.specs.declared.status.Status.TheVariants.{Ok, Usage, BadConfig, ReadFault, OpenFault, Damage, SinkFault, DiskFault, InletFault, RoundsSpent, SayFault, NoMemory}
+use Rattle.sg_top.proofs.ReadingLemmas.{not-faulty}
 
 Rose-wider : (a b c d : ℕ) → a ≤ b → c ≤ d → Rose b c → Rose a d
 Rose-wider a b c d low high rose = omega arith
@@ -96,28 +100,24 @@ served-none (AtCore s p) P none works h = h
 served-none (AtInlet s p f) P none works h = h
 served-none (AtRounds s p f d) P none works h = none s p f d works h
 
-fault-read : (text : List ℕ) (fault : ConfigFault) → IsFaultOf text fault → IsRead text → ⊥
-fault-read text fault (inl long) read = let few = read.0 in let many = long.0 in omega arith
-fault-read text fault (inr unread) read = let (from, (into, is)) = read.1 in unread.1 from into is
+bad-read : (world : WorldState) (file : List ℕ) (fault : ConfigFault) (last : State) (tokens : List Token) (from into : List ℕ)
+    → Judges world file (BadConfig fault) → Configures world file last tokens from into → AreTold world.files last.names → ⊥
+bad-read world file fault last tokens from into (names, wrong) configures told = not-faulty world file fault names last tokens from into wrong configures told
 
-bad-read : (told : Option (List ℕ)) (text : List ℕ) (fault : ConfigFault) → Judges told (BadConfig fault) → told ≡ Some text → IsRead text → ⊥
-bad-read None text fault j is read = cc
-bad-read (Some other) text fault j is read = let same : other ≡ text = cc in fault-read text fault (subst (λ t. IsFaultOf t fault) same j) read
-
--- without trouble a run of the words, over a text that is read, ends with success
-pub complete : (old new : WorldState) (words : List (List ℕ)) (file text : List ℕ) (told : Option (List ℕ)) (reached : Reached) (status : Status)
-    → HasStatus old new reached status → JudgesWords words status → Judges told status → IsRun words file → told ≡ Some text → IsRead text → IsUntroubled old new reached → IsComplete status
-complete old new words file text told reached Ok cause w j run is read u = tt
-complete old new words file text told reached Usage cause w j run is read u = w file run
-complete old new words file text told reached (BadConfig fault) cause w j run is read u = bad-read told text fault j is read
-complete old new words file text told reached ReadFault cause w j run is read u = u.read cause.1
-complete old new words file text told reached (OpenFault (Store n)) cause w j run is read u = u.store cause.2
-complete old new words file text told reached (OpenFault (Inlet n)) cause w j run is read u = u.inlet cause.2
-complete old new words file text told reached (OpenFault (Dest n)) cause w j run is read u = u.outlet cause.2
-complete old new words file text told reached (Damage n at) cause w j run is read u = damage-none reached at u.devices cause.2
-complete old new words file text told reached (SinkFault n) cause w j run is read u = served-none reached _ (λ s h f d works c. works.drain_works c.1) u.devices cause
-complete old new words file text told reached (DiskFault n) cause w j run is read u = fault-none reached u.devices cause.1
-complete old new words file text told reached (InletFault n) cause w j run is read u = served-none reached _ (λ s h f d works c. works.feed_works c.1) u.devices cause
-complete old new words file text told reached RoundsSpent cause w j run is read u = served-none reached _ (λ s h f d works c. let few = works.few in omega arith) u.devices cause
-complete old new words file text told reached SayFault cause w j run is read u = u.say cause
-complete old new words file text told reached NoMemory cause w j run is read u = tt
+-- without trouble a run of the words, over a text that is expanded to a configuration, ends with success
+pub complete : (old new : WorldState) (words : List (List ℕ)) (file : List ℕ) (last : State) (tokens : List Token) (from into : List ℕ) (reached : Reached) (status : Status)
+    → HasStatus old new reached status → JudgesWords words status → Judges old file status → IsRun words file → Configures old file last tokens from into → AreTold old.files last.names → IsUntroubled old new reached → IsComplete status
+complete old new words file last tokens from into reached Ok cause w j run is told u = tt
+complete old new words file last tokens from into reached Usage cause w j run is told u = w file run
+complete old new words file last tokens from into reached (BadConfig fault) cause w j run is told u = bad-read old file fault last tokens from into j is told
+complete old new words file last tokens from into reached ReadFault cause w j run is told u = u.read cause.1
+complete old new words file last tokens from into reached (OpenFault (Store n)) cause w j run is told u = u.store cause.2
+complete old new words file last tokens from into reached (OpenFault (Inlet n)) cause w j run is told u = u.inlet cause.2
+complete old new words file last tokens from into reached (OpenFault (Dest n)) cause w j run is told u = u.outlet cause.2
+complete old new words file last tokens from into reached (Damage n at) cause w j run is told u = damage-none reached at u.devices cause.2
+complete old new words file last tokens from into reached (SinkFault n) cause w j run is told u = served-none reached _ (λ s h f d works c. works.drain_works c.1) u.devices cause
+complete old new words file last tokens from into reached (DiskFault n) cause w j run is told u = fault-none reached u.devices cause.1
+complete old new words file last tokens from into reached (InletFault n) cause w j run is told u = served-none reached _ (λ s h f d works c. works.feed_works c.1) u.devices cause
+complete old new words file last tokens from into reached RoundsSpent cause w j run is told u = served-none reached _ (λ s h f d works c. let few = works.few in omega arith) u.devices cause
+complete old new words file last tokens from into reached SayFault cause w j run is told u = u.say cause
+complete old new words file last tokens from into reached NoMemory cause w j run is told u = tt

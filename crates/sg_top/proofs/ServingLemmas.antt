@@ -84,7 +84,7 @@ waits old new core core' spec disk feed into status events over begun begins sta
           position = refl;
           cause = cause;
           after = after;
-          text = λ file. inr refl;
+          text = inr refl;
         },
       ),
     )
@@ -167,7 +167,7 @@ at-core old new core spec disk from into status ready over state counts cause af
         holds = (holds-store spec disk core core h over refl ready.setup ready.one ready.stands (omega arith), preserves-at disk core over, refl);
         cause = cause;
         after = after;
-        text = λ file. inr refl;
+        text = inr refl;
       },
     )
 
@@ -267,7 +267,7 @@ refused-store w spec disk disk' from into refusal r = (
     holds = (r.preserved, r.later);
     cause = refused-cause w spec disk disk' refusal r;
     after = refused-after refusal;
-    text = λ file. inr refl;
+    text = inr refl;
   },
 )
 
@@ -288,7 +288,7 @@ nothing-opened old new from into status state later cause after = (
     named = record { store = tt; feed = tt; drain = tt };
     said = grind arith;
     after = after;
-    text = λ file. inr refl;
+    text = inr refl;
   },
 )
 

@@ -1,63 +1,61 @@
 -- Lemmas on runs over a configuration file, and on what they say.
-use Rattle.std.proofs.Common.{◌≡◌, ◌≤◌, ◌⊎◌, inl, inr, ◌++◌, ℕ, List, [], ◌∷◌, codes, Option, subst, sym, ap, ◌∙◌, refl, Some, None, arith}
+use Rattle.std.proofs.Common.{◌≡◌, ◌≤◌, ◌⊎◌, inl, inr, ◌++◌, ℕ, List, [], ◌∷◌, codes, subst, sym, ap, ◌∙◌, refl, Some, arith}
 use Rattle.std.specs.Option.{option_map}
 use Rattle.sg_device.specs.Faults.{Rose}
-use Rattle.sg_device.specs.World.{WorldState, OnlyReads, IsContent, content}
+use Rattle.sg_device.specs.World.{WorldState, OnlyReads, IsContent, IsBeyond, content}
+use Rattle.sg_lex.specs.declared.fault.ConfigFault.{ConfigFault}
+use Rattle.sg_lex.specs.declared.fault.ConfigKind.{ConfigKind}
+use Rattle.sg_lex.specs.declared.fault.ConfigKind.TheVariants.{TooLong, Unsupported}
+use Rattle.sg_lex.specs.declared.token.Token.{Token}
+use Rattle.sg_expand.specs.Expansion.{State, Outcome, Goes, Stops, Faulty, Unread as UnreadFile, RunsMain}
 use Rattle.sg_top.specs.Config.{IsConfig}
-use Rattle.sg_top.specs.Devices.{Reached, Nothing, AreNamed}
-use Rattle.sg_top.specs.Run.{HasStatus, Holds, KeepsCounts, RanWith, RanFor, Ran, AreConfigured}
-use Rattle.sg_top.specs.Said.{status_in, text_in, said_text, IsOfMain, Concludes, SaysStatus}
-use Rattle.sg_top.specs.Serving.{Serves, RunsFile, RunsFileWith}
-use Rattle.sg_top.specs.Verdict.{IsAfterWords, IsAfterConfig, Judges}
+use Rattle.sg_top.specs.Devices.{Reached, Nothing, AtStore, AtCore, AtInlet, AtRounds}
+use Rattle.sg_top.specs.Reading.{ComesTo, Configures, IsRead, IsFaultOf, at_main}
+use Rattle.sg_top.specs.Run.{HasStatus, Holds, KeepsCounts, RanWith, RanFor, Ran, IfOpened, AreConfigured}
+use Rattle.sg_top.specs.Said.{status_in, text_in, said_text, Concludes, SaidText, SaysStatus}
+use Rattle.sg_top.specs.Serving.{Serves, IsMainRefused, IsMainUnread, EndsFile, RunsFile, RunsFileWith}
+use Rattle.sg_top.specs.Verdict.{IsAfterConfig, Judges}
 use Rattle.sg_top.specs.Words.{IsRun, JudgesWords}
 use Rattle.sg_top.specs.declared.ending.Ending.{Ending}
-use Rattle.sg_top.specs.declared.ending.Ending.TheVariants.{Early}
+use Rattle.sg_top.specs.declared.ending.Ending.TheVariants.{Early, Refused, Unread, Reported}
 use Rattle.sg_top.specs.declared.status.Status.{Status}
 use Rattle.sg_top.specs.declared.status.Status.TheVariants.{Ok, Usage, BadConfig, ReadFault, OpenFault, Damage, SinkFault, DiskFault, InletFault, RoundsSpent, SayFault, NoMemory}
-use Rattle.sg_top.proofs.ConfigLemmas.{config-one}
 use Rattle.sg_top.proofs.RunLemmas.{Widens, HasStatus-wider, cause-spent, complete}
 
-configured : (told : Option (List ℕ)) (text from into : List ℕ) (reached : Reached)
-    → IsContent told text → IsConfig text from into → AreNamed from into reached → AreConfigured told reached
-configured None text from into reached same is named = tt
-configured (Some told) text from into reached same is named = λ from' into' is'.
-    let first : IsConfig told from into = subst (λ t. IsConfig t from into) same is in
-    let one = config-one told from into from' into' first is' in
-    subst (λ f. AreNamed f into' reached) one.0 (subst (λ i. AreNamed from i reached) one.1 named)
+-- The configuration was read.
 
-after-words : (status : Status) → IsAfterConfig status → IsAfterWords status
-after-words Ok h = tt
-after-words Usage h = h
-after-words (BadConfig fault) h = tt
-after-words ReadFault h = tt
-after-words (OpenFault device) h = tt
-after-words (Damage n at) h = tt
-after-words (SinkFault n) h = tt
-after-words (DiskFault n) h = tt
-after-words (InletFault n) h = tt
-after-words RoundsSpent h = tt
-after-words SayFault h = h
-after-words NoMemory h = tt
+if-opened : (reached : Reached) (P : Type 0) → P → IfOpened reached P
+if-opened Nothing P p = tt
+if-opened (AtStore s) P p = p
+if-opened (AtCore s h) P p = p
+if-opened (AtInlet s h f) P p = p
+if-opened (AtRounds s h f d) P p = p
 
-of-main : (status : Status) → IsAfterConfig status → IsOfMain status
-of-main Ok h = tt
-of-main Usage h = tt
-of-main (BadConfig fault) h = absurd h
-of-main ReadFault h = tt
-of-main (OpenFault device) h = tt
-of-main (Damage n at) h = tt
-of-main (SinkFault n) h = tt
-of-main (DiskFault n) h = tt
-of-main (InletFault n) h = tt
-of-main RoundsSpent h = tt
-of-main SayFault h = tt
-of-main NoMemory h = tt
+judged-read : (world : WorldState) (file : List ℕ) (status : Status) → IsAfterConfig status → IsRead world file → Judges world file status
+judged-read world file Ok after read = read
+judged-read world file Usage after read = absurd after
+judged-read world file (BadConfig fault) after read = absurd after
+judged-read world file ReadFault after read = absurd after
+judged-read world file (OpenFault device) after read = read
+judged-read world file (Damage n at) after read = read
+judged-read world file (SinkFault n) after read = read
+judged-read world file (DiskFault n) after read = read
+judged-read world file (InletFault n) after read = read
+judged-read world file RoundsSpent after read = read
+judged-read world file SayFault after read = absurd after
+judged-read world file NoMemory after read = tt
 
--- the text was read, and is a configuration
-pub serves-file : (old w new : WorldState) (file text from into : List ℕ) (ending : Ending)
-    → OnlyReads old w → IsContent (content old.files file) text → IsConfig text from into → Serves w new from into ending
-    → RunsFile old new file ending
-serves-file old w new file text from into ending reads same is (reached, part) =
+ends-read : (old : WorldState) (file : List ℕ) (reached : Reached) (ending : Ending) → IsAfterConfig (status_in ending) → (status_in ending ≡ NoMemory) ⊎ (text_in ending ≡ said_text reached (status_in ending))
+    → EndsFile old file reached ending
+ends-read old file reached (Early status) after text = (after, text)
+ends-read old file reached (Refused fault names) after text = absurd after
+ends-read old file reached (Unread name) after text = absurd after
+ends-read old file reached (Reported status text) after is = (after, is)
+
+-- the text was read, and is expanded to a configuration
+pub serves-file : (old w new : WorldState) (file : List ℕ) (last : State) (tokens : List Token) (from into : List ℕ) (ending : Ending)
+    → OnlyReads old w → Configures old file last tokens from into → Serves w new from into ending → RunsFile old new file ending
+serves-file old w new file last tokens from into ending reads is (reached, part) =
     let files : w.files ≡ old.files = grind arith in
     let ran = part.ran in
     let counts = ran.counts in
@@ -72,51 +70,96 @@ serves-file old w new file text from into ending reads same is (reached, part) =
       reached,
       record {
         ran = record {
-          ran = record {
-            state = grind arith;
-            counts = record { read = grind arith; store = grind arith; inlet = grind arith; outlet = grind arith; say = grind arith };
-            holds = subst (λ fs. Holds fs reached) files ran.holds;
-            cause = cause;
-            spent = cause-spent old new reached (status_in ending) cause;
-          };
-          configured = configured (content old.files file) text from into reached same is part.named;
+          state = grind arith;
+          counts = record { read = grind arith; store = grind arith; inlet = grind arith; outlet = grind arith; say = grind arith };
+          holds = subst (λ fs. Holds fs reached) files ran.holds;
+          cause = cause;
+          spent = cause-spent old new reached (status_in ending) cause;
         };
+        configured = if-opened reached _ (last, (tokens, (from, (into, (is, part.named)))));
         said = grind arith;
-        after = after-words (status_in ending) part.after;
-        main = of-main (status_in ending) part.after;
-        text = part.text file;
+        ends = ends-read old file reached ending part.after part.text;
+        judged = judged-read old file (status_in ending) part.after (last, (tokens, (from, (into, is))));
       },
     )
 
-nothing-named : (from into : List ℕ) → AreNamed from into Nothing
-nothing-named from into = record { store = tt; feed = tt; drain = tt }
+-- Nothing was opened.
 
-nothing-configured : (told : Option (List ℕ)) → AreConfigured told Nothing
-nothing-configured None = tt
-nothing-configured (Some text) = λ from into is. nothing-named from into
-
--- nothing was opened
-pub reads-file : (old new : WorldState) (file : List ℕ) (status : Status) → OnlyReads old new → HasStatus old new Nothing status → IsAfterWords status → IsOfMain status
-    → RunsFile old new file (Early status)
-reads-file old new file status reads cause after main = (
+pub reads-file : (old new : WorldState) (file : List ℕ) (ending : Ending) → OnlyReads old new → HasStatus old new Nothing (status_in ending) → EndsFile old file Nothing ending → Judges old file (status_in ending)
+    → RunsFile old new file ending
+reads-file old new file ending reads cause ends judged = (
   Nothing,
   record {
     ran = record {
-      ran = record {
-        state = grind arith;
-        counts = record { read = grind arith; store = grind arith; inlet = grind arith; outlet = grind arith; say = grind arith };
-        holds = tt;
-        cause = cause;
-        spent = tt;
-      };
-      configured = nothing-configured (content old.files file);
+      state = grind arith;
+      counts = record { read = grind arith; store = grind arith; inlet = grind arith; outlet = grind arith; say = grind arith };
+      holds = tt;
+      cause = cause;
+      spent = tt;
     };
+    configured = tt;
     said = grind arith;
-    after = after;
-    main = main;
-    text = inr refl;
+    ends = ends;
+    judged = judged;
   },
 )
+
+-- memory ran out
+pub spends-memory : (old new : WorldState) (file : List ℕ) → OnlyReads old new → RunsFile old new file (Early NoMemory)
+spends-memory old new file reads = reads-file old new file (Early NoMemory) reads tt (tt, inl refl) tt
+
+-- the configuration is at fault
+refuses-file : (old new : WorldState) (file : List ℕ) (fault : ConfigFault) (names : List (List ℕ)) → OnlyReads old new → IsFaultOf old file fault names → RunsFile old new file (Refused fault names)
+refuses-file old new file fault names reads wrong = reads-file old new file (Refused fault names) reads refl wrong (names, wrong)
+
+-- the main file as a whole is
+main-refused : (old new : WorldState) (file : List ℕ) (kind : ConfigKind) (ending : Ending) → OnlyReads old new → IsMainRefused file kind ending
+    → IsFaultOf old file (at_main kind) (file ∷ []) → RunsFile old new file ending
+main-refused old new file kind (Early status) reads is wrong = subst (λ s. RunsFile old new file (Early s)) (sym is) (spends-memory old new file reads)
+main-refused old new file kind (Refused fault names) reads is wrong =
+    subst (λ f. RunsFile old new file (Refused f names)) (sym is.0) (subst (λ ns. RunsFile old new file (Refused (at_main kind) ns)) (sym is.1) (refuses-file old new file (at_main kind) (file ∷ []) reads wrong))
+main-refused old new file kind (Unread name) reads is wrong = absurd is
+main-refused old new file kind (Reported status text) reads is wrong = absurd is
+
+pub main-too-long : (old new : WorldState) (file : List ℕ) (ending : Ending) → OnlyReads old new → IsBeyond (content old.files file) 1048576 → IsMainRefused file TooLong ending → RunsFile old new file ending
+main-too-long old new file ending reads long is = main-refused old new file TooLong ending reads is (inl (long, refl, refl))
+
+pub main-unsupported : (old new : WorldState) (file : List ℕ) (last : State) (tokens : List Token) (ending : Ending) → OnlyReads old new → ComesTo old file (Goes last) → last.out.tokens ≡ Some tokens
+    → ((from into : List ℕ) → ¬ IsConfig tokens from into) → IsMainRefused file Unsupported ending → RunsFile old new file ending
+main-unsupported old new file last tokens ending reads comes expanded unread is =
+    main-refused old new file Unsupported ending reads is (inr (inr (last, (tokens, (record { comes = comes; expanded = expanded; unread = unread }, refl, refl)))))
+
+pub main-unread : (old new : WorldState) (file : List ℕ) (ending : Ending) → OnlyReads old new → Rose old.read_faults new.read_faults → IsMainUnread file ending → RunsFile old new file ending
+main-unread old new file (Early status) reads rose is = subst (λ s. RunsFile old new file (Early s)) (sym is) (spends-memory old new file reads)
+main-unread old new file (Refused fault names) reads rose is = absurd is
+main-unread old new file (Unread name) reads rose is = reads-file old new file (Unread name) reads (refl, rose) (inl is) tt
+main-unread old new file (Reported status text) reads rose is = absurd is
+
+-- The text was read, and its files were read behind it.
+
+pub reads-none : (w : WorldState) → OnlyReads w w
+reads-none w = (refl, omega arith)
+
+pub reads-on : (old w new : WorldState) → OnlyReads old w → OnlyReads w new → OnlyReads old new
+reads-on old w new first more = (grind arith, grind arith)
+
+pub comes-to : (old w : WorldState) (file name text : List ℕ) (outcome : Outcome) → OnlyReads old w → IsContent (content old.files file) text → name ≡ file → RunsMain name text w outcome → ComesTo old file outcome
+comes-to old w file name text outcome reads is named runs = (text, (is, (w, (reads, subst (λ n. RunsMain n text w outcome) named runs))))
+
+pub text-faulty : (old w new : WorldState) (file name text : List ℕ) (fault : ConfigFault) (names : List (List ℕ)) (last : State) → OnlyReads old w → OnlyReads w new → IsContent (content old.files file) text → name ≡ file
+    → RunsMain name text w (Stops (Faulty fault) last) → names ≡ last.names → RunsFile old new file (Refused fault names)
+text-faulty old w new file name text fault names last reads more is named runs same =
+    refuses-file old new file fault names (reads-on old w new reads more) (inr (inl (last, (comes-to old w file name text (Stops (Faulty fault) last) reads is named runs, same))))
+
+pub text-unread : (old w new : WorldState) (file name text asked : List ℕ) (last : State) → OnlyReads old w → OnlyReads w new → IsContent (content old.files file) text → name ≡ file
+    → RunsMain name text w (Stops (UnreadFile asked) last) → Rose w.read_faults new.read_faults → RunsFile old new file (Unread asked)
+text-unread old w new file name text asked last reads more is named runs rose =
+    let low = reads.1 in
+    let cause : Rose old.read_faults new.read_faults = omega arith in
+    reads-file old new file (Unread asked) (reads-on old w new reads more) (refl, cause) (inr (last, comes-to old w file name text (Stops (UnreadFile asked) last) reads is named runs)) tt
+
+pub text-spends : (old w new : WorldState) (file : List ℕ) → OnlyReads old w → OnlyReads w new → RunsFile old new file (Early NoMemory)
+text-spends old w new file reads more = spends-memory old new file (reads-on old w new reads more)
 
 -- What is said.
 
@@ -132,65 +175,68 @@ wide-ran old w new reached status result ran state later cause =
       spent = cause-spent old new reached result cause;
     }
 
-says : (old new : Option (List ℕ)) (words : List (List ℕ)) (file text : List ℕ) (reached : Reached) (status : Status) → IsRun words file → IsAfterWords status
-    → (status ≡ NoMemory) ⊎ (text ≡ said_text file reached status) → new ≡ option_map (λ said. said ++ text) old → SaysStatus old new words reached status
-says old new words file text reached Ok run after (inl wrong) said = cc
-says old new words file text reached Ok run after (inr is) said = (file, (run, said ∙ ap (λ t. option_map (λ s. s ++ t) old) is))
-says old new words file text reached Usage run after is said = absurd after
-says old new words file text reached (BadConfig fault) run after (inl wrong) said = cc
-says old new words file text reached (BadConfig fault) run after (inr is) said = (file, (run, said ∙ ap (λ t. option_map (λ s. s ++ t) old) is))
-says old new words file text reached ReadFault run after (inl wrong) said = cc
-says old new words file text reached ReadFault run after (inr is) said = (file, (run, said ∙ ap (λ t. option_map (λ s. s ++ t) old) is))
-says old new words file text reached (OpenFault device) run after (inl wrong) said = cc
-says old new words file text reached (OpenFault device) run after (inr is) said = (file, (run, said ∙ ap (λ t. option_map (λ s. s ++ t) old) is))
-says old new words file text reached (Damage n at) run after (inl wrong) said = cc
-says old new words file text reached (Damage n at) run after (inr is) said = (file, (run, said ∙ ap (λ t. option_map (λ s. s ++ t) old) is))
-says old new words file text reached (SinkFault n) run after (inl wrong) said = cc
-says old new words file text reached (SinkFault n) run after (inr is) said = (file, (run, said ∙ ap (λ t. option_map (λ s. s ++ t) old) is))
-says old new words file text reached (DiskFault n) run after (inl wrong) said = cc
-says old new words file text reached (DiskFault n) run after (inr is) said = (file, (run, said ∙ ap (λ t. option_map (λ s. s ++ t) old) is))
-says old new words file text reached (InletFault n) run after (inl wrong) said = cc
-says old new words file text reached (InletFault n) run after (inr is) said = (file, (run, said ∙ ap (λ t. option_map (λ s. s ++ t) old) is))
-says old new words file text reached RoundsSpent run after (inl wrong) said = cc
-says old new words file text reached RoundsSpent run after (inr is) said = (file, (run, said ∙ ap (λ t. option_map (λ s. s ++ t) old) is))
-says old new words file text reached SayFault run after is said = absurd after
-says old new words file text reached NoMemory run after is said = tt
+says-read : (old new : WorldState) (words : List (List ℕ)) (text : List ℕ) (reached : Reached) (status : Status) → IsAfterConfig status
+    → (status ≡ NoMemory) ⊎ (text ≡ said_text reached status) → SaidText old new text → SaysStatus old new words reached status
+says-read old new words text reached Ok after (inl wrong) said = cc
+says-read old new words text reached Ok after (inr is) said = said ∙ ap (λ t. option_map (λ s. s ++ t) old.said) is
+says-read old new words text reached Usage after is said = absurd after
+says-read old new words text reached (BadConfig fault) after is said = absurd after
+says-read old new words text reached ReadFault after is said = absurd after
+says-read old new words text reached (OpenFault device) after (inl wrong) said = cc
+says-read old new words text reached (OpenFault device) after (inr is) said = said ∙ ap (λ t. option_map (λ s. s ++ t) old.said) is
+says-read old new words text reached (Damage n at) after (inl wrong) said = cc
+says-read old new words text reached (Damage n at) after (inr is) said = said ∙ ap (λ t. option_map (λ s. s ++ t) old.said) is
+says-read old new words text reached (SinkFault n) after (inl wrong) said = cc
+says-read old new words text reached (SinkFault n) after (inr is) said = said ∙ ap (λ t. option_map (λ s. s ++ t) old.said) is
+says-read old new words text reached (DiskFault n) after (inl wrong) said = cc
+says-read old new words text reached (DiskFault n) after (inr is) said = said ∙ ap (λ t. option_map (λ s. s ++ t) old.said) is
+says-read old new words text reached (InletFault n) after (inl wrong) said = cc
+says-read old new words text reached (InletFault n) after (inr is) said = said ∙ ap (λ t. option_map (λ s. s ++ t) old.said) is
+says-read old new words text reached RoundsSpent after (inl wrong) said = cc
+says-read old new words text reached RoundsSpent after (inr is) said = said ∙ ap (λ t. option_map (λ s. s ++ t) old.said) is
+says-read old new words text reached SayFault after is said = absurd after
+says-read old new words text reached NoMemory after is said = tt
+
+says : (old new : WorldState) (words : List (List ℕ)) (file : List ℕ) (reached : Reached) (ending : Ending) → IsRun words file → EndsFile old file reached ending → SaidText old new (text_in ending)
+    → SaysStatus old new words reached (status_in ending)
+says old new words file reached (Early status) run ends said = says-read old new words (text_in (Early status)) reached status ends.0 ends.1 said
+says old new words file reached (Refused fault names) run ends said = (file, (run, (names, (ends, said))))
+says old new words file reached (Unread name) run ends said = (file, (run, (name, (ends, said))))
+says old new words file reached (Reported status text) run ends said = says-read old new words text.items reached status ends.0 ends.1 said
 
 -- the run was said, or it couldn't be
-judged-words : (words : List (List ℕ)) (file : List ℕ) (status : Status) → IsRun words file → IsAfterWords status → JudgesWords words status
-judged-words words file Ok run after = (file, run)
-judged-words words file Usage run after = absurd after
-judged-words words file (BadConfig fault) run after = (file, run)
-judged-words words file ReadFault run after = (file, run)
-judged-words words file (OpenFault device) run after = (file, run)
-judged-words words file (Damage n at) run after = (file, run)
-judged-words words file (SinkFault n) run after = (file, run)
-judged-words words file (DiskFault n) run after = (file, run)
-judged-words words file (InletFault n) run after = (file, run)
-judged-words words file RoundsSpent run after = (file, run)
-judged-words words file SayFault run after = absurd after
-judged-words words file NoMemory run after = tt
+judged-read-words : (words : List (List ℕ)) (file : List ℕ) (status : Status) → IsRun words file → IsAfterConfig status → JudgesWords words status
+judged-read-words words file Ok run after = (file, run)
+judged-read-words words file Usage run after = absurd after
+judged-read-words words file (BadConfig fault) run after = absurd after
+judged-read-words words file ReadFault run after = absurd after
+judged-read-words words file (OpenFault device) run after = (file, run)
+judged-read-words words file (Damage n at) run after = (file, run)
+judged-read-words words file (SinkFault n) run after = (file, run)
+judged-read-words words file (DiskFault n) run after = (file, run)
+judged-read-words words file (InletFault n) run after = (file, run)
+judged-read-words words file RoundsSpent run after = (file, run)
+judged-read-words words file SayFault run after = absurd after
+judged-read-words words file NoMemory run after = tt
+
+judged-words : (old : WorldState) (words : List (List ℕ)) (file : List ℕ) (reached : Reached) (ending : Ending) → IsRun words file → EndsFile old file reached ending → JudgesWords words (status_in ending)
+judged-words old words file reached (Early status) run ends = judged-read-words words file status run ends.0
+judged-words old words file reached (Refused fault names) run ends = (file, run)
+judged-words old words file reached (Unread name) run ends = (file, run)
+judged-words old words file reached (Reported status text) run ends = judged-read-words words file status run ends.0
 
 one-file : (words : List (List ℕ)) (file other : List ℕ) → IsRun words file → IsRun words other → file ≡ other
 one-file words file other a b = let e : codes "run" ∷ file ∷ codes "--once" ∷ [] ≡ codes "run" ∷ other ∷ codes "--once" ∷ [] = sym a ∙ b in cc
 
-judges-say : (told : Option (List ℕ)) → Judges told SayFault
-judges-say None = tt
-judges-say (Some text) = tt
-
-judges-memory : (told : Option (List ℕ)) → Judges told NoMemory
-judges-memory None = tt
-judges-memory (Some text) = tt
-
 conclude-for : (old w new : WorldState) (words : List (List ℕ)) (file : List ℕ) (reached : Reached) (ending : Ending) (result : Status) → IsRun words file → RunsFileWith old w file ending reached
     → new ≡ record w { say_faults = new.say_faults; said = new.said } → w.say_faults ≤ new.say_faults
-    → HasStatus old new reached result → JudgesWords words result → Judges (content old.files file) result → SaysStatus old.said new.said words reached result
+    → HasStatus old new reached result → JudgesWords words result → Judges old file result → SaysStatus old new words reached result
     → RanFor old new words reached result
 conclude-for old w new words file reached ending result run part state later cause judged judges said = record {
-  ran = wide-ran old w new reached (status_in ending) result part.ran.ran state later cause;
-  configured = λ other is. subst (λ f. AreConfigured (content old.files f) reached) (one-file words file other run is) part.ran.configured;
+  ran = wide-ran old w new reached (status_in ending) result part.ran state later cause;
+  configured = λ other is. subst (λ f. AreConfigured old f reached) (one-file words file other run is) part.configured;
   said = said;
-  complete = λ other text is told read u. complete old new words other text (content old.files other) reached result cause judged (subst (λ f. Judges (content old.files f) result) (one-file words file other run is) judges) is told read u;
+  complete = λ other last tokens from into is configures told u. complete old new words other last tokens from into reached result cause judged (subst (λ f. Judges old f result) (one-file words file other run is) judges) is configures told u;
 }
 
 same-counts : (w new : WorldState) → new ≡ record w { say_faults = new.say_faults; said = new.said } → w.say_faults ≤ new.say_faults → (old : WorldState) → KeepsCounts old w → Widens old old w new
@@ -202,31 +248,30 @@ same-counts w new state later old counts = record {
   say = (omega arith, later);
 }
 
-pub conclude-ran : (old w new : WorldState) (words : List (List ℕ)) (file : List ℕ) (ending : Ending) (result : Status) → IsRun words file → RunsFile old w file ending
-    → Judges (content old.files file) (status_in ending) → Concludes w new file ending result → Ran old new words result
-conclude-ran old w new words file ending result run (reached, part) judges (state, later, inl said) =
+pub conclude-ran : (old w new : WorldState) (words : List (List ℕ)) (file : List ℕ) (ending : Ending) (result : Status) → IsRun words file → RunsFile old w file ending → Concludes w new ending result → Ran old new words result
+conclude-ran old w new words file ending result run (reached, part) (state, later, inl said) =
     let P : Status → Type 0 = λ s. RanFor old new words reached s in
-    let wide = same-counts w new state later old part.ran.ran.counts in
-    let cause = HasStatus-wider old old w new reached (status_in ending) wide part.ran.ran.cause in
-    let told = ap (option_map (λ s. s ++ text_in file ending)) part.said in (
+    let wide = same-counts w new state later old part.ran.counts in
+    let cause = HasStatus-wider old old w new reached (status_in ending) wide part.ran.cause in
+    let told = ap (option_map (λ s. s ++ text_in ending)) part.said in (
       reached,
-      subst P (sym said.0) (conclude-for old w new words file reached ending (status_in ending) run part state later cause (judged-words words file (status_in ending) run part.after) judges
-          (says old.said new.said words file (text_in file ending) reached (status_in ending) run part.after part.text (said.1 ∙ told))),
+      subst P (sym said.0) (conclude-for old w new words file reached ending (status_in ending) run part state later cause (judged-words old words file reached ending run part.ends) part.judged
+          (says old new words file reached ending run part.ends (said.1 ∙ told))),
     )
-conclude-ran old w new words file ending result run (reached, part) judges (state, later, inr (inl fault)) =
+conclude-ran old w new words file ending result run (reached, part) (state, later, inr (inl fault)) =
     let P : Status → Type 0 = λ s. RanFor old new words reached s in
-    let counts = part.ran.ran.counts in
+    let counts = part.ran.counts in
     let low = counts.say in
     let rose = fault.1 in
     let cause : Rose old.say_faults new.say_faults = omega arith in
-    (reached, subst P (sym fault.0) (conclude-for old w new words file reached ending SayFault run part state later cause tt (judges-say (content old.files file)) tt))
-conclude-ran old w new words file ending result run (reached, part) judges (state, later, inr (inr none)) =
+    (reached, subst P (sym fault.0) (conclude-for old w new words file reached ending SayFault run part state later cause tt tt tt))
+conclude-ran old w new words file ending result run (reached, part) (state, later, inr (inr none)) =
     let P : Status → Type 0 = λ s. RanFor old new words reached s in
-    (reached, subst P (sym none) (conclude-for old w new words file reached ending NoMemory run part state later tt tt (judges-memory (content old.files file)) tt))
+    (reached, subst P (sym none) (conclude-for old w new words file reached ending NoMemory run part state later tt tt tt tt))
 
 -- other words
 other-for : (old new : WorldState) (words : List (List ℕ)) (result : Status) → ((file : List ℕ) → ¬ IsRun words file) → new ≡ record old { say_faults = new.say_faults; said = new.said } → old.say_faults ≤ new.say_faults
-    → HasStatus old new Nothing result → SaysStatus old.said new.said words Nothing result → RanFor old new words Nothing result
+    → HasStatus old new Nothing result → SaysStatus old new words Nothing result → RanFor old new words Nothing result
 other-for old new words result none state later cause said = record {
   ran = record {
     state = grind arith;
@@ -237,10 +282,10 @@ other-for old new words result none state later cause said = record {
   };
   configured = λ file run. absurd (none file run);
   said = said;
-  complete = λ file text run told read u. absurd (none file run);
+  complete = λ file last tokens from into run is told u. absurd (none file run);
 }
 
-pub other-words : (old new : WorldState) (words : List (List ℕ)) (result : Status) → ((file : List ℕ) → ¬ IsRun words file) → Concludes old new [] (Early Usage) result → Ran old new words result
+pub other-words : (old new : WorldState) (words : List (List ℕ)) (result : Status) → ((file : List ℕ) → ¬ IsRun words file) → Concludes old new (Early Usage) result → Ran old new words result
 other-words old new words result none (state, later, inl said) =
     (Nothing, subst (λ s. RanFor old new words Nothing s) (sym said.0) (other-for old new words Usage none state later refl said.1))
 other-words old new words result none (state, later, inr (inl fault)) =
@@ -250,23 +295,21 @@ other-words old new words result none (state, later, inr (inr memory)) =
 
 -- the same of the clauses on the words and on the text
 
-pub conclude-usage : (old w new : WorldState) (words : List (List ℕ)) (file : List ℕ) (ending : Ending) (result : Status) → IsRun words file → RunsFile old w file ending
-    → Concludes w new file ending result → JudgesWords words result
-conclude-usage old w new words file ending result run (reached, part) (state, later, inl said) = subst (JudgesWords words) (sym said.0) (judged-words words file (status_in ending) run part.after)
+pub conclude-usage : (old w new : WorldState) (words : List (List ℕ)) (file : List ℕ) (ending : Ending) (result : Status) → IsRun words file → RunsFile old w file ending → Concludes w new ending result → JudgesWords words result
+conclude-usage old w new words file ending result run (reached, part) (state, later, inl said) = subst (JudgesWords words) (sym said.0) (judged-words old words file reached ending run part.ends)
 conclude-usage old w new words file ending result run ran (state, later, inr (inl fault)) = subst (JudgesWords words) (sym fault.0) tt
 conclude-usage old w new words file ending result run ran (state, later, inr (inr none)) = subst (JudgesWords words) (sym none) tt
 
-judges-result : (told : Option (List ℕ)) (w new : WorldState) (file : List ℕ) (ending : Ending) (result : Status) → Judges told (status_in ending) → Concludes w new file ending result → Judges told result
-judges-result told w new file ending result judges (state, later, inl said) = subst (Judges told) (sym said.0) judges
-judges-result told w new file ending result judges (state, later, inr (inl fault)) = subst (Judges told) (sym fault.0) (judges-say told)
-judges-result told w new file ending result judges (state, later, inr (inr none)) = subst (Judges told) (sym none) (judges-memory told)
+judges-result : (old w new : WorldState) (file : List ℕ) (ending : Ending) (result : Status) → RunsFile old w file ending → Concludes w new ending result → Judges old file result
+judges-result old w new file ending result (reached, part) (state, later, inl said) = subst (Judges old file) (sym said.0) part.judged
+judges-result old w new file ending result ran (state, later, inr (inl fault)) = subst (Judges old file) (sym fault.0) tt
+judges-result old w new file ending result ran (state, later, inr (inr none)) = subst (Judges old file) (sym none) tt
 
-pub conclude-config : (old w new : WorldState) (words : List (List ℕ)) (file : List ℕ) (ending : Ending) (result : Status) → IsRun words file → Judges (content old.files file) (status_in ending)
-    → Concludes w new file ending result → (other : List ℕ) → IsRun words other → Judges (content old.files other) result
-conclude-config old w new words file ending result run judges concludes other is =
-    subst (λ f. Judges (content old.files f) result) (one-file words file other run is) (judges-result (content old.files file) w new file ending result judges concludes)
+pub conclude-config : (old w new : WorldState) (words : List (List ℕ)) (file : List ℕ) (ending : Ending) (result : Status) → IsRun words file → RunsFile old w file ending → Concludes w new ending result
+    → (other : List ℕ) → IsRun words other → Judges old other result
+conclude-config old w new words file ending result run ran concludes other is = subst (λ f. Judges old f result) (one-file words file other run is) (judges-result old w new file ending result ran concludes)
 
-pub other-usage : (old new : WorldState) (words : List (List ℕ)) (result : Status) → ((file : List ℕ) → ¬ IsRun words file) → Concludes old new [] (Early Usage) result → JudgesWords words result
+pub other-usage : (old new : WorldState) (words : List (List ℕ)) (result : Status) → ((file : List ℕ) → ¬ IsRun words file) → Concludes old new (Early Usage) result → JudgesWords words result
 other-usage old new words result none (state, later, inl said) = subst (JudgesWords words) (sym said.0) none
 other-usage old new words result none (state, later, inr (inl fault)) = subst (JudgesWords words) (sym fault.0) tt
 other-usage old new words result none (state, later, inr (inr memory)) = subst (JudgesWords words) (sym memory) tt

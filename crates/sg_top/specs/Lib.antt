@@ -1,6 +1,7 @@
 pub mod Status
 pub mod Words
 pub mod Config
+pub mod Reading
 pub mod StoreName
 pub mod History
 pub mod Devices

@@ -16,7 +16,7 @@ use Rattle.sg_engine.specs.declared.rounds.Ended.TheVariants.{Quiet, RoundsSpent
 use Rattle.sg_report.specs.Report.{report_text}
 use Rattle.sg_top.specs.Said.{shown_of}
 use Rattle.sg_top.specs.declared.ending.Ending.{Ending}
-use Rattle.sg_top.specs.declared.ending.Ending.TheVariants.{Early, Reported}
+use Rattle.sg_top.specs.declared.ending.Ending.TheVariants.{Early, Refused, Unread, Reported}
 use Rattle.sg_top.specs.declared.status.Status.{Status}
 use Rattle.sg_top.specs.declared.status.Status.TheVariants.{Ok, SinkFault, DiskFault, InletFault, RoundsSpent as StatusSpent, NoMemory as StatusNoMemory}
 
@@ -35,6 +35,8 @@ Reports core status text = (state : State) → IsAt core state → text.items �
 -- the rounds ended so, and there is a report, or memory ran out
 abbrev pub EndsRounds : CoreState → Ended → Ending → Type 0
 EndsRounds core ended (Early status) = status ≡ StatusNoMemory
+EndsRounds core ended (Refused fault names) = ⊥
+EndsRounds core ended (Unread name) = ⊥
 EndsRounds core ended (Reported status text) = (status ≡ status_after ended) × Reports core status text
 
 -- what the rounds do, and how they ended

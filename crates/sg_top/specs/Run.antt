@@ -4,16 +4,18 @@ use Rattle.sg_device.specs.Disk.{content as store_content, WhereTold, Preserves}
 use Rattle.sg_device.specs.Faults.{Rose}
 use Rattle.sg_device.specs.Inlet.{InletState, IsFresh}
 use Rattle.sg_device.specs.Outlet.{IsNew}
-use Rattle.sg_device.specs.World.{WorldState, Files, StandsIn, content}
+use Rattle.sg_device.specs.World.{WorldState, Files, StandsIn}
 use Rattle.sg_stable.specs.Position.{IsPosition, IsDamagedAt}
 use Rattle.sg_machine.specs.declared.event.Event.{Event}
+use Rattle.sg_lex.specs.declared.token.Token.{Token}
+use Rattle.sg_expand.specs.Expansion.{State}
+use Rattle.sg_expand.specs.One.{AreTold}
 use Rattle.sg_engine.specs.Delivery.{AreFirst, AreAll, TookFirst, TookAll, last_end}
 use Rattle.sg_engine.specs.History.{admitted, admit_of, offer_count, settled_frames, IsTaken}
-use Rattle.sg_top.specs.Config.{IsConfig}
 use Rattle.sg_top.specs.Devices.{Shelf, Feed, Drain, Reached, Nothing, AtStore, AtCore, AtInlet, AtRounds, store_of, feed_of, drain_of, used, IsUsedAnd, IfServed, ServedAnd, AreNamed}
 use Rattle.sg_top.specs.History.{History, IsHistory, IsPrelude, FollowsPrelude, state_of, opening_of, stored_of}
+use Rattle.sg_top.specs.Reading.{Configures}
 use Rattle.sg_top.specs.Said.{SaysStatus}
-use Rattle.sg_top.specs.Verdict.{IsRead}
 use Rattle.sg_top.specs.Words.{IsRun}
 use Rattle.sg_top.specs.declared.status.Device.TheVariants.{Store, Inlet, Dest}
 use Rattle.sg_top.specs.declared.status.Status.{Status}
@@ -121,10 +123,21 @@ pub record RanWith (old new : WorldState) (reached : Reached) (status : Status) 
   pub cause : HasStatus old new reached status
   pub spent : IfServed reached (λ s h f d. SpentPulls s f d → IsSpent status)
 
--- the devices are those that a configuration of this text names, where the text is told
-abbrev pub AreConfigured : Option (List ℕ) → Reached → Type 0
-AreConfigured None reached = Unit {0}
-AreConfigured (Some text) reached = (from into : List ℕ) → IsConfig text from into → AreNamed from into reached
+-- this holds where anything was opened
+abbrev pub IfOpened : Reached → Type 0 → Type 0
+IfOpened Nothing P = Unit {0}
+IfOpened (AtStore s) P = P
+IfOpened (AtCore s h) P = P
+IfOpened (AtInlet s h f) P = P
+IfOpened (AtRounds s h f d) P = P
+
+-- the file's text is expanded to a configuration, and the devices are those that it names
+abbrev pub NamesDevices : WorldState → List ℕ → Reached → Type 0
+NamesDevices old file reached =
+    (last : State) × ((tokens : List Token) × ((from : List ℕ) × ((into : List ℕ) × (Configures old file last tokens from into × AreNamed from into reached))))
+
+abbrev pub AreConfigured : WorldState → List ℕ → Reached → Type 0
+AreConfigured old file reached = IfOpened reached (NamesDevices old file reached)
 
 -- No count of faults rose, the store was a position store, no pull was idle, and there were not too many rounds to run.
 abbrev pub IsSpelling : Shelf → Type 0
@@ -162,18 +175,13 @@ IsComplete Ok = Unit {0}
 IsComplete NoMemory = Unit {0}
 IsComplete status = ⊥
 
--- a run over the configuration file of this name
-pub record RanFile (old new : WorldState) (file : List ℕ) (reached : Reached) (status : Status) : Type 0 where
-  pub ran : RanWith old new reached status
-  pub configured : AreConfigured (content old.files file) reached
-
 -- a run for these words
 pub record RanFor (old new : WorldState) (words : List (List ℕ)) (reached : Reached) (status : Status) : Type 0 where
   pub ran : RanWith old new reached status
-  pub configured : (file : List ℕ) → IsRun words file → AreConfigured (content old.files file) reached
-  pub said : SaysStatus old.said new.said words reached status
-  -- words of a run, a text that is read and no trouble give success, where memory is there
-  pub complete : (file text : List ℕ) → IsRun words file → content old.files file ≡ Some text → IsRead text → IsUntroubled old new reached → IsComplete status
+  pub configured : (file : List ℕ) → IsRun words file → AreConfigured old file reached
+  pub said : SaysStatus old new words reached status
+  -- words of a run, a text that is expanded to a configuration, all of whose files are told, and no trouble give success, where memory is there
+  pub complete : (file : List ℕ) (last : State) (tokens : List Token) (from into : List ℕ) → IsRun words file → Configures old file last tokens from into → AreTold old.files last.names → IsUntroubled old new reached → IsComplete status
 
 abbrev pub Ran : WorldState → WorldState → List (List ℕ) → Status → Type 0
 Ran old new words status = (reached : Reached) × RanFor old new words reached status

@@ -1,19 +1,23 @@
 -- The parts of a run that open its devices.
-use Rattle.std.specs.Prelude.{◌≡◌, ◌≤◌, ℕ, true, List, length, Option, Some, None}
+use Rattle.std.specs.Prelude.{◌≡◌, ◌≤◌, ℕ, true, List, [], ◌∷◌, length, Option, Some, None}
 use Rattle.sg_device.specs.Disk.{DiskState}
 use Rattle.sg_device.specs.World.{WorldState}
 use Rattle.sg_device.specs.declared.request.InletSpec.TheVariants.{File as FileFrom}
 use Rattle.sg_device.specs.declared.request.OutletSpec.TheVariants.{File}
 use Rattle.sg_device.specs.declared.request.StoreSpec.{StoreSpec}
+use Rattle.sg_lex.specs.declared.fault.ConfigKind.{ConfigKind}
 use Rattle.sg_core.specs.States.{CoreState}
 use Rattle.sg_engine.specs.History.{stored_now}
 use Rattle.sg_top.specs.Devices.{Shelf, Feed, Drain, Reached, with_drain, store_of, feed_of, drain_of, used, IfUsed, AreNamed}
 use Rattle.sg_top.specs.History.{History}
 use Rattle.sg_top.specs.Opening.{disk_of}
-use Rattle.sg_top.specs.Run.{HasStatus, HoldsInlet, HoldsRounds, Holds, RanWith, RanFile}
-use Rattle.sg_top.specs.Said.{status_in, HasText, IsOfMain}
-use Rattle.sg_top.specs.Verdict.{IsAfterWords, IsAfterConfig}
+use Rattle.sg_top.specs.Reading.{at_main, IsFaultOf, IsUnreadName}
+use Rattle.sg_top.specs.Run.{HasStatus, HoldsInlet, HoldsRounds, Holds, RanWith, AreConfigured}
+use Rattle.sg_top.specs.Said.{status_in, HasText}
+use Rattle.sg_top.specs.Verdict.{Judges, IsAfterConfig}
 use Rattle.sg_top.specs.declared.ending.Ending.{Ending}
+use Rattle.sg_top.specs.declared.ending.Ending.TheVariants.{Early, Refused, Unread, Reported}
+use Rattle.sg_top.specs.declared.status.Status.TheVariants.{NoMemory}
 
 -- the store that was opened on this disk, as the core leaves it
 abbrev pub shelf : StoreSpec → DiskState → CoreState → Shelf
@@ -33,7 +37,7 @@ pub record ServesInletWith (old new : WorldState) (core core' : CoreState) (spec
   pub position : h.position ≡ stored_now core
   pub cause : HasStatus old new (with_drain (shelf spec disk core') h feed drain) (status_in ending)
   pub after : IsAfterConfig (status_in ending)
-  pub text : (file : List ℕ) → HasText file (with_drain (shelf spec disk core') h feed drain) ending
+  pub text : HasText (with_drain (shelf spec disk core') h feed drain) ending
 
 abbrev pub ServesInlet : WorldState → WorldState → CoreState → CoreState → StoreSpec → DiskState → Feed → List ℕ → Ending → Type 0
 ServesInlet old new core core' spec disk feed into ending =
@@ -51,7 +55,7 @@ pub record ServesCoreWith (old new : WorldState) (core core' : CoreState) (spec 
   pub holds : Holds old.files reached
   pub cause : HasStatus old new reached (status_in ending)
   pub after : IsAfterConfig (status_in ending)
-  pub text : (file : List ℕ) → HasText file reached ending
+  pub text : HasText reached ending
 
 abbrev pub ServesCore : WorldState → WorldState → CoreState → CoreState → StoreSpec → DiskState → (from into : List ℕ) → Ending → Type 0
 ServesCore old new core core' spec disk from into ending = (reached : Reached) × ServesCoreWith old new core core' spec disk from into ending reached
@@ -67,7 +71,7 @@ pub record ServesStoreWith (old new : WorldState) (spec : StoreSpec) (disk disk'
   pub holds : Holds old.files reached
   pub cause : HasStatus old new reached (status_in ending)
   pub after : IsAfterConfig (status_in ending)
-  pub text : (file : List ℕ) → HasText file reached ending
+  pub text : HasText reached ending
 
 abbrev pub ServesStore : WorldState → WorldState → StoreSpec → DiskState → DiskState → (from into : List ℕ) → Ending → Type 0
 ServesStore old new spec disk disk' from into ending = (reached : Reached) × ServesStoreWith old new spec disk disk' from into ending reached
@@ -78,18 +82,40 @@ pub record ServesWith (old new : WorldState) (from into : List ℕ) (ending : En
   pub named : AreNamed from into reached
   pub said : new.said ≡ old.said
   pub after : IsAfterConfig (status_in ending)
-  pub text : (file : List ℕ) → HasText file reached ending
+  pub text : HasText reached ending
 
 abbrev pub Serves : WorldState → WorldState → (from into : List ℕ) → Ending → Type 0
 Serves old new from into ending = (reached : Reached) × ServesWith old new from into ending reached
 
+-- the main file as a whole isn't a configuration that is read, or memory ran out
+abbrev pub IsMainRefused : List ℕ → ConfigKind → Ending → Type 0
+IsMainRefused file kind (Early status) = status ≡ NoMemory
+IsMainRefused file kind (Refused fault names) = (fault ≡ at_main kind) × (names ≡ file ∷ [])
+IsMainRefused file kind (Unread name) = ⊥
+IsMainRefused file kind (Reported status text) = ⊥
+
+-- the main file couldn't be read, or memory ran out
+abbrev pub IsMainUnread : List ℕ → Ending → Type 0
+IsMainUnread file (Early status) = status ≡ NoMemory
+IsMainUnread file (Refused fault names) = ⊥
+IsMainUnread file (Unread name) = name ≡ file
+IsMainUnread file (Reported status text) = ⊥
+
+-- what an ending says of the configuration file of this name: what is wrong with it, or which file couldn't be read, or else the
+-- text of a status behind it
+abbrev pub EndsFile : WorldState → List ℕ → Reached → Ending → Type 0
+EndsFile old file reached (Early status) = IsAfterConfig status × HasText reached (Early status)
+EndsFile old file reached (Refused fault names) = IsFaultOf old file fault names
+EndsFile old file reached (Unread name) = IsUnreadName old file name
+EndsFile old file reached (Reported status text) = IsAfterConfig status × HasText reached (Reported status text)
+
 -- a run over the configuration file of this name, of which nothing was said yet
 pub record RunsFileWith (old new : WorldState) (file : List ℕ) (ending : Ending) (reached : Reached) : Type 0 where
-  pub ran : RanFile old new file reached (status_in ending)
+  pub ran : RanWith old new reached (status_in ending)
+  pub configured : AreConfigured old file reached
   pub said : new.said ≡ old.said
-  pub after : IsAfterWords (status_in ending)
-  pub main : IsOfMain (status_in ending)
-  pub text : HasText file reached ending
+  pub ends : EndsFile old file reached ending
+  pub judged : Judges old file (status_in ending)
 
 abbrev pub RunsFile : WorldState → WorldState → List ℕ → Ending → Type 0
 RunsFile old new file ending = (reached : Reached) × RunsFileWith old new file ending reached

@@ -1,16 +1,71 @@
-// The configuration that is read: four lines, with a path in two of them.
-ghost use Rattle.std.specs.Prelude.{◌≡◌, ℕ, List, MatchOption, ◌≢◌, ◌++◌, ◌≤◌, length, take};
-ghost use Rattle.sg_top.specs.Config.{is_path_byte_of, IsPath, IsConfig, path_of};
+// The configuration that is read, by its tokens.
+ghost use Rattle.std.specs.Prelude.{◌≡◌, ◌↔◌, ◌<◌, ℕ, List, MatchOption, IsTrue, length, map, true};
+ghost use Rattle.sg_top.specs.Config.{IsPath, IsConfig, spelling_of, spelled, text_at, has_dollar, config_tokens};
 
-const HEAD: &[u8] = b"@version: 4.2\nsource s { file(\"";
+use sg_lex::Token;
+use sg_lex::TokenKind::{self, Str, Sym, Word};
 
-const MIDDLE: &[u8] = b"\" flags(no-parse)); };\ndestination d { file(\"";
-
-const TAIL: &[u8] =
-    b"\" template(\"$MSG\\n\")); };\nlog { source(s); destination(d); flags(flow-control); };\n";
-
-/// The longest path.
+/// The longest path, in bytes.
 const LONGEST: usize = 60;
+
+/// The places of the paths among the tokens.
+const FROM: usize = 5;
+
+const INTO: usize = 19;
+
+/// A token's kind and text.
+pub type Spelling<'a> = (TokenKind, &'a [u8]);
+
+/// The tokens, with an empty text in the place of each path.
+const TOKENS: [Spelling<'static>; 47] = [
+    (Word, b"source"),
+    (Word, b"s"),
+    (Sym, b"{"),
+    (Word, b"file"),
+    (Sym, b"("),
+    (Str, b""),
+    (Word, b"flags"),
+    (Sym, b"("),
+    (Word, b"no-parse"),
+    (Sym, b")"),
+    (Sym, b")"),
+    (Sym, b";"),
+    (Sym, b"}"),
+    (Sym, b";"),
+    (Word, b"destination"),
+    (Word, b"d"),
+    (Sym, b"{"),
+    (Word, b"file"),
+    (Sym, b"("),
+    (Str, b""),
+    (Word, b"template"),
+    (Sym, b"("),
+    (Str, b"$MSG\n"),
+    (Sym, b")"),
+    (Sym, b")"),
+    (Sym, b";"),
+    (Sym, b"}"),
+    (Sym, b";"),
+    (Word, b"log"),
+    (Sym, b"{"),
+    (Word, b"source"),
+    (Sym, b"("),
+    (Word, b"s"),
+    (Sym, b")"),
+    (Sym, b";"),
+    (Word, b"destination"),
+    (Sym, b"("),
+    (Word, b"d"),
+    (Sym, b")"),
+    (Sym, b";"),
+    (Word, b"flags"),
+    (Sym, b"("),
+    (Word, b"flow-control"),
+    (Sym, b")"),
+    (Sym, b";"),
+    (Sym, b"}"),
+    (Sym, b";"),
+];
 
 #[derive(Clone, Copy, Drop)]
 pub struct Paths<'a> {
@@ -18,63 +73,71 @@ pub struct Paths<'a> {
     pub into: &'a [u8],
 }
 
-fn is_path_byte(byte: u8) -> bool
-    ensures { result ≡ is_path_byte_of byte }
+/// The tokens with these paths.
+fn spellings<'a>(from: &'a [u8], into: &'a [u8]) -> [Spelling<'a>; 47]
+    ensures { map spelled result ≡ config_tokens from.now into.now }
 {
-    byte.is_ascii_alphanumeric() || byte == b'.' || byte == b'/' || byte == b'_' || byte == b'-'
+    let mut spellings = TOKENS;
+    spellings[FROM] = (Str, from);
+    spellings[INTO] = (Str, into);
+    spellings
 }
 
-fn path_len(text: &[u8]) -> usize
-    ensures within { result ≤ length text.now }
-    ensures front { take result text.now ≡ path_of text.now }
+fn is_spelled(token: &Token, spelling: &Spelling<'_>) -> bool
+    ensures { IsTrue result ↔ spelling_of token.now ≡ spelled spelling.now }
 {
-    for (i, byte) in text.iter().enumerate() {
-        if !is_path_byte(*byte) {
-            return i;
+    token.kind == spelling.0 && token.text.bytes() == spelling.1
+}
+
+/// Whether the tokens are spelled so, one by one.
+fn are_spelled(tokens: &[Token], spellings: &[Spelling<'_>]) -> bool
+    ensures { IsTrue result ↔ map spelling_of tokens.now ≡ map spelled spellings.now }
+{
+    if tokens.len() != spellings.len() {
+        return false;
+    }
+    for (i, token) in tokens.iter().enumerate() {
+        if !is_spelled(token, &spellings[i]) {
+            return false;
         }
     }
-    text.len()
+    true
 }
 
-/// What stands behind a front, if the text begins with it.
-fn after<'a>(text: &'a [u8], front: &[u8]) -> Option<&'a [u8]>
-    ensures { MatchOption result ((rest : List ℕ) → text.now ≢ front.now ++ rest) (λ rest. text.now ≡ front.now ++ rest.now) }
+/// The text of the token at that place, empty where there is none.
+fn text_at(tokens: &[Token], place: usize) -> &[u8]
+    ensures { result.now ≡ text_at tokens.now place }
 {
-    text.strip_prefix(front)
+    match tokens.get(place) {
+        Some(token) => token.text.bytes(),
+        None => b"",
+    }
 }
 
-/// The path at the front and the rest, where it isn't empty or too long.
-fn split_path(text: &[u8]) -> Option<(&[u8], &[u8])>
-    ensures { MatchOption result (¬ IsPath (path_of text.now))
-        (λ p. IsPath (path_of text.now) × (p.0.now ≡ path_of text.now) × (text.now ≡ p.0.now ++ p.1.now)) }
+fn is_path(path: &[u8]) -> bool
+    ensures { IsTrue result ↔ IsPath path.now }
 {
-    let len = path_len(text);
-    if len == 0 || len > LONGEST {
+    !path.is_empty() && path.len() <= LONGEST
+}
+
+fn has_dollar(path: &[u8]) -> bool
+    ensures { result ≡ has_dollar path.now }
+{
+    path.iter().any(|byte| *byte == b'$')
+}
+
+/// The paths, where the tokens are those of the configuration.
+pub fn read_config(tokens: &[Token]) -> Option<Paths<'_>>
+    ensures { MatchOption result ((from into : List ℕ) → ¬ IsConfig tokens.now from into)
+        (λ paths. IsConfig tokens.now paths.from.now paths.into.now) }
+{
+    let from = text_at(tokens, FROM);
+    let into = text_at(tokens, INTO);
+    if !is_path(from) || !is_path(into) || has_dollar(into) {
         return None;
     }
-    Some(text.split_at(len))
-}
-
-/// The paths of a configuration.
-pub fn read_config(text: &[u8]) -> Option<Paths<'_>>
-    ensures { MatchOption result ((from into : List ℕ) → ¬ IsConfig text.now from into)
-        (λ paths. IsConfig text.now paths.from.now paths.into.now) }
-{
-    let Some(rest) = after(text, HEAD) else {
+    if !are_spelled(tokens, &spellings(from, into)) {
         return None;
-    };
-    let Some((from, rest)) = split_path(rest) else {
-        return None;
-    };
-    let Some(rest) = after(rest, MIDDLE) else {
-        return None;
-    };
-    let Some((into, rest)) = split_path(rest) else {
-        return None;
-    };
-    if rest == TAIL {
-        Some(Paths { from, into })
-    } else {
-        None
     }
+    Some(Paths { from, into })
 }

@@ -6,7 +6,9 @@ ghost use Rattle.sg_host.specs.Outlets.{outlets_of};
 ghost use Rattle.sg_host.specs.Stores.{stores_of};
 
 use crate::World;
+use crate::world::LONGEST;
 use sg_device::{FileRefusal, InletSpec, OpenRefusal, OutletSpec, SayRefusal, StoreSpec};
+use sg_expand::Files;
 use sg_host::{
     HostDrain, HostFeed, HostInlets, HostOutlets, HostStore, HostStores, read_file, say,
 };
@@ -38,14 +40,8 @@ impl Machine {
     }
 }
 
-impl World for Machine {
-    type Feed = HostFeed;
-
-    type Drain = HostDrain;
-
-    type Store = HostStore;
-
-    ghost meaning = { λ m. record {
+impl Files for Machine {
+    ghost state = { λ m. record {
       files = None;
       inlets = inlets_of m.inlets;
       outlets = outlets_of m.outlets;
@@ -58,14 +54,17 @@ impl World for Machine {
       say_faults = m.say_faults;
     } };
 
-    fn read_file(
-        &mut self,
-        alloc: Global,
-        name: &[u8],
-        limit: u64,
-    ) -> Result<Vec<u8>, FileRefusal> {
-        read_file(alloc, self.rt, &mut self.read_faults, name, limit)
+    fn read(&mut self, alloc: Global, name: &[u8]) -> Result<Vec<u8>, FileRefusal> {
+        read_file(alloc, self.rt, &mut self.read_faults, name, LONGEST)
     }
+}
+
+impl World for Machine {
+    type Feed = HostFeed;
+
+    type Drain = HostDrain;
+
+    type Store = HostStore;
 
     fn open_store(&mut self, alloc: Global, spec: &StoreSpec) -> Result<HostStore, OpenRefusal> {
         self.stores.open(alloc, spec)

@@ -1,31 +1,36 @@
-// The machine in memory as a World: each call is passed on.
+// The machine in memory: each call is passed on.
 ghost use Rattle.sg_memory.specs.World.{world_of};
 
 use crate::World;
+use crate::world::LONGEST;
 use sg_device::{FileRefusal, InletSpec, OpenRefusal, OutletSpec, SayRefusal, StoreSpec};
+use sg_expand::Files;
 use sg_memory::{MemoryDrain, MemoryFeed, MemoryStore, MemoryWorld};
 use std::alloc::Global;
 
-impl World for MemoryWorld {
+/// A machine in memory. It tells all that it holds.
+#[derive(Debug, Drop)]
+pub struct MemoryMachine {
+    pub world: MemoryWorld,
+}
+
+impl Files for MemoryMachine {
+    ghost state = { λ m. world_of m.world };
+
+    fn read(&mut self, alloc: Global, name: &[u8]) -> Result<Vec<u8>, FileRefusal> {
+        self.world.read_file(alloc, name, LONGEST)
+    }
+}
+
+impl World for MemoryMachine {
     type Feed = MemoryFeed;
 
     type Drain = MemoryDrain;
 
     type Store = MemoryStore;
 
-    ghost meaning = { world_of };
-
-    fn read_file(
-        &mut self,
-        alloc: Global,
-        name: &[u8],
-        limit: u64,
-    ) -> Result<Vec<u8>, FileRefusal> {
-        MemoryWorld::read_file(self, alloc, name, limit)
-    }
-
     fn open_store(&mut self, alloc: Global, spec: &StoreSpec) -> Result<MemoryStore, OpenRefusal> {
-        MemoryWorld::open_store(self, alloc, spec)
+        self.world.open_store(alloc, spec)
     }
 
     fn open_inlet(
@@ -34,7 +39,7 @@ impl World for MemoryWorld {
         spec: &InletSpec,
         from: u64,
     ) -> Result<(MemoryFeed, u64), OpenRefusal> {
-        MemoryWorld::open_inlet(self, alloc, spec, from)
+        self.world.open_inlet(alloc, spec, from)
     }
 
     fn open_outlet(
@@ -42,22 +47,22 @@ impl World for MemoryWorld {
         alloc: Global,
         spec: &OutletSpec,
     ) -> Result<MemoryDrain, OpenRefusal> {
-        MemoryWorld::open_outlet(self, alloc, spec)
+        self.world.open_outlet(alloc, spec)
     }
 
     fn close_store(&mut self, store: MemoryStore) {
-        MemoryWorld::close_store(self, store);
+        self.world.close_store(store);
     }
 
     fn close_inlet(&mut self, feed: MemoryFeed) {
-        MemoryWorld::close_inlet(self, feed);
+        self.world.close_inlet(feed);
     }
 
     fn close_outlet(&mut self, drain: MemoryDrain) {
-        MemoryWorld::close_outlet(self, drain);
+        self.world.close_outlet(drain);
     }
 
     fn say(&mut self, _alloc: Global, bytes: &[u8]) -> Result<(), SayRefusal> {
-        MemoryWorld::say(self, bytes)
+        self.world.say(bytes)
     }
 }

@@ -1,5 +1,6 @@
 // Whole runs over the machine in memory.
 use crate::daemon;
+use crate::memory::MemoryMachine;
 use sg_device::{Disk, Name, StoreSpec};
 use sg_memory::{MemoryFile, MemoryWorld, Pace, Plan, WorldPlans};
 use std::alloc::{AllocError, Global};
@@ -39,6 +40,54 @@ one~two~;0;send 1;6;one~;source 0 records 2 bad-frames 0 position 4~D 1 E 1~faul
 one~two~;0;pull 1;8;one~;source 0 records 1 bad-frames 0 position 0~D 1 E 0~fault inlet 0~status 8~
 one~;0;say 0;10;one~;
 ";
+
+// Files that configurations include.
+const PARTS: &str =
+    r#"blocks => # sources and destinations~block source local(path()) { file("`path`" flags(no-parse)); };~block destination lines(path(out)) { file("`path`" template("$MSG\n")); };~
+log => log { source(s); destination(d); flags(flow-control); };~
+faulty => x~~y "~
+h01 => *h02
+h02 => *h03
+h03 => *h04
+h04 => *h05
+h05 => *h06
+h06 => *h07
+h07 => *h08
+h08 => *h09
+h09 => *h10
+h10 => *h11
+h11 => *h12
+h12 => *h13
+h13 => *h14
+"#;
+
+// A configuration `c`, the exit status of its run, and where that isn't 0, what is said.
+const TEXTS: &str =
+    r#"@version: 4.2~@define OUT out~source s { file("in" flags(no-parse)); }; # a comment~destination d { file("`OUT`" template("$MSG\n")); };~log { source(s); destination(d); flags(flow-control); };~ => 0
+@version: 4.2~block source local(path()) { file("`path`" flags(no-parse)); };~source s { local(path("in")); };~destination d { file("out" template("$MSG\n")); };~log { source(s); destination(d); flags(flow-control); };~ => 0
+@version: 4.2~block source local(path()) { file("`path`" flags(no-parse)); };~source s { local(); };~destination d { file("out" template("$MSG\n")); };~log { source(s); destination(d); flags(flow-control); };~ => 2 => c:3: argument missing~
+@version: 4.2~log { `NO`; };~ => 2 => c:2: unknown variable~
+@version: 3.38~ => 2 => c:1: version not supported~
+@version: 4.2~@include "conf.d/*.conf"~ => 2 => c:2: not supported~
+@version: 4.2~@include "c"~ => 2 => c:2: includes nested too deep~
+@version: 4.2~@include "h01"~ => 2 => h12:11: configuration too long~
+@version: 4.2~@include "faulty"~ => 2 => faulty:3: string not closed~
+@version: 4.2~@include "none"~ => 3 => cannot read none~
+@version: 4.2~@include "blocks"~source s{local(path('in'));};destination d{lines();};@include "log"~ => 0
+@version:4.10 source s { file("in" flags(no-parse)); }; destination d { file("out" template("$MSG~")); }; @include 'log' => 0
+@version: 4.2~source s { file("\x69\x6e" flags(no-parse)); };~destination d { file('out' template("$MSG\n")); };~@include "log" => 0
+@version: 4.2~source s { file("0123456789$123456789012345678901234567890123456789\x00\xff23456789" flags(no-parse)); };~destination d { file("out" template("$MSG\n")); };~@include "log" => 4 => cannot open inlet 0~
+@version: 4.2~source s { file("0123456789$123456789012345678901234567890123456789\x00\xff234567890" flags(no-parse)); };~destination d { file("out" template("$MSG\n")); };~@include "log" => 2 => c:1: not supported~
+@version: 4.2~source s { file("" flags(no-parse)); };~destination d { file("out" template("$MSG\n")); };~@include "log" => 2 => c:1: not supported~
+@version: 4.2~source s { file("in" flags(no-parse)); };~destination d { file("$out" template("$MSG\n")); };~@include "log" => 2 => c:1: not supported~
+@version: 4.2~source s { file(in flags(no-parse)); };~destination d { file("out" template("$MSG\n")); };~@include "log" => 2 => c:1: not supported~
+@version: 4.2~source "s" { file("in" flags(no-parse)); };~destination d { file("out" template("$MSG\n")); };~@include "log" => 2 => c:1: not supported~
+@version: 4.2~source s { file("in", flags(no-parse)); };~destination d { file("out" template("$MSG\n")); };~@include "log" => 2 => c:1: not supported~
+@version: 4.2~source s { file("in" flags(no-parse)); };~destination d { file("out" template("$MSG\n")); };~ => 2 => c:1: not supported~
+"#;
+
+/// What a run says that took the input in.
+const DONE: &str = "source 0 records 2 bad-frames 0 position 8~D 2 E 0~status 0~";
 
 /// The field before the next `;`, and the rest.
 fn field(row: &str) -> (&str, &str) {
@@ -101,17 +150,56 @@ fn keep(alloc: Global, stored: &str, world: &mut MemoryWorld) -> Result<(), Fail
     Ok(())
 }
 
-/// A machine with this input: its inlets give four bytes a pull, received at 2026-02-05T17:32:21Z.
-fn machine(alloc: Global, input: &[u8]) -> Result<MemoryWorld, AllocError> {
-    let mut files = Vec::new(alloc);
-    files.push(MemoryFile::new(alloc, b"c", CONFIG)?)?;
-    files.push(MemoryFile::new(alloc, b"bad", b"# x\n")?)?;
-    files.push(MemoryFile::new(alloc, b"in", input)?)?;
+/// A machine with these files: its inlets give four bytes a pull, received at 2026-02-05T17:32:21Z.
+fn with_files(alloc: Global, files: Vec<MemoryFile>) -> MemoryMachine {
     let pace = Pace {
         piece: 4,
         at: 1_770_312_741_000_000,
     };
-    Ok(MemoryWorld::new(alloc, files, pace))
+    let world = MemoryWorld::new(alloc, files, pace);
+    MemoryMachine { world }
+}
+
+/// A machine with this input.
+fn with_input(alloc: Global, input: &[u8]) -> Result<MemoryMachine, AllocError> {
+    let mut files = Vec::new(alloc);
+    files.push(MemoryFile::new(alloc, b"c", CONFIG)?)?;
+    files.push(MemoryFile::new(alloc, b"bad", b"# x\n")?)?;
+    files.push(MemoryFile::new(alloc, b"in", input)?)?;
+    Ok(with_files(alloc, files))
+}
+
+/// A text, with `~` for LF, or where a name stands behind `*`, a hundred lines that include the file of
+/// that name.
+fn text(alloc: Global, row: &str) -> Result<Vec<u8>, AllocError> {
+    let mut text = Vec::new(alloc);
+    if let Some(next) = row.strip_prefix("*") {
+        for _ in 0..100 {
+            text.extend_from_slice(b"@include \"")?;
+            text.extend_from_slice(next.as_bytes())?;
+            text.extend_from_slice(b"\"\n")?;
+        }
+        return Ok(text);
+    }
+    for byte in row.as_bytes() {
+        text.push(if *byte == b'~' { b'\n' } else { *byte })?;
+    }
+    Ok(text)
+}
+
+/// A machine with this configuration, the input `one` and `two`, and the files that configurations
+/// include.
+fn with_config(alloc: Global, config: &[u8]) -> Result<MemoryMachine, AllocError> {
+    let mut files = Vec::new(alloc);
+    files.push(MemoryFile::new(alloc, b"c", config)?)?;
+    files.push(MemoryFile::new(alloc, b"in", b"one\ntwo\n")?)?;
+    files.push(MemoryFile::new(alloc, b"h14", b"")?)?;
+    for row in PARTS.lines() {
+        if let Some((name, part)) = row.split_once(" => ") {
+            files.push(MemoryFile::new(alloc, name.as_bytes(), &text(alloc, part)?)?)?;
+        }
+    }
+    Ok(with_files(alloc, files))
 }
 
 fn words(alloc: Global, file: &[u8]) -> Result<Vec<Name>, AllocError> {
@@ -144,13 +232,13 @@ fn runs(rt: HostRuntime) -> Result<(), Fail> {
         let (fails, rest) = field(rest);
         let (code, rest) = field(rest);
         let (frames, said) = field(rest);
-        let mut world = machine(alloc, &bytes(alloc, input)?)?;
-        keep(alloc, stored, &mut world)?;
-        fail(alloc, fails, &mut world)?;
-        let status = daemon(alloc, &words(alloc, b"c")?, &mut world);
+        let mut machine = with_input(alloc, &bytes(alloc, input)?)?;
+        keep(alloc, stored, &mut machine.world)?;
+        fail(alloc, fails, &mut machine.world)?;
+        let status = daemon(alloc, &words(alloc, b"c")?, &mut machine);
         assert_eq!(rt; Ok(status.code()), code.parse());
-        assert_eq!(rt; taken(alloc, &world)?, bytes(alloc, frames)?);
-        assert_eq!(rt; world.said(), bytes(alloc, said)?.as_slice());
+        assert_eq!(rt; taken(alloc, &machine.world)?, bytes(alloc, frames)?);
+        assert_eq!(rt; machine.world.said(), bytes(alloc, said)?.as_slice());
     }
     Ok(())
 }
@@ -158,18 +246,68 @@ fn runs(rt: HostRuntime) -> Result<(), Fail> {
 #[test]
 fn other_words_and_texts(rt: HostRuntime) -> Result<(), Fail> {
     let alloc = rt.alloc();
-    let mut world = machine(alloc, b"")?;
-    assert_eq!(rt; daemon(alloc, &[], &mut world).code(), 1);
-    assert!(rt; world.said().starts_with(b"usage: syslogr check FILE"));
-    let mut world = machine(alloc, b"")?;
-    assert_eq!(rt; daemon(alloc, &words(alloc, b"bad")?, &mut world).code(), 2);
-    assert_eq!(rt; world.said(), b"bad:1: not supported\n".as_slice());
-    let mut world = machine(alloc, b"")?;
+    let mut machine = with_input(alloc, b"")?;
+    assert_eq!(rt; daemon(alloc, &[], &mut machine).code(), 1);
+    assert!(rt;
+        machine
+            .world
+            .said()
+            .starts_with(b"usage: syslogr check FILE")
+    );
+    let mut machine = with_input(alloc, b"")?;
     assert_eq!(rt;
-        daemon(alloc, &words(alloc, b"none")?, &mut world).code(),
+        daemon(alloc, &words(alloc, b"bad")?, &mut machine).code(),
+        2
+    );
+    assert_eq!(rt;
+        machine.world.said(),
+        b"bad:1: version not supported\n".as_slice()
+    );
+    let mut machine = with_input(alloc, b"")?;
+    assert_eq!(rt;
+        daemon(alloc, &words(alloc, b"none")?, &mut machine).code(),
         3
     );
-    assert_eq!(rt; world.said(), b"cannot read none\n".as_slice());
+    assert_eq!(rt; machine.world.said(), b"cannot read none\n".as_slice());
+    Ok(())
+}
+
+#[test]
+fn texts(rt: HostRuntime) -> Result<(), Fail> {
+    let alloc = rt.alloc();
+    for row in TEXTS.lines() {
+        let Some((config, rest)) = row.split_once(" => ") else {
+            continue;
+        };
+        let (code, said) = rest.split_once(" => ").unwrap_or((rest, ""));
+        let said = if code == "0" { DONE } else { said };
+        let frames = if code == "0" { "one~two~" } else { "" };
+        let mut machine = with_config(alloc, &text(alloc, config)?)?;
+        let status = daemon(alloc, &words(alloc, b"c")?, &mut machine);
+        assert_eq!(rt; machine.world.said(), bytes(alloc, said)?.as_slice());
+        assert_eq!(rt; Ok(status.code()), code.parse());
+        assert_eq!(rt; taken(alloc, &machine.world)?, bytes(alloc, frames)?);
+    }
+    Ok(())
+}
+
+/// A definition that names the one before twice, on each line from the third: on the 18th the whole is
+/// too long.
+#[test]
+fn doubling_is_too_long(rt: HostRuntime) -> Result<(), Fail> {
+    let alloc = rt.alloc();
+    let mut config = b"@version: 4.2\n@define a0 \"0123456789\"\n".to_vec(alloc)?;
+    for k in 1..21u32 {
+        let line = format!(in alloc; "@define a{} \"`a{}``a{}`\"\n", k, k - 1, k - 1)?;
+        config.extend_from_slice(line.as_bytes())?;
+    }
+    let mut machine = with_config(alloc, &config)?;
+    let status = daemon(alloc, &words(alloc, b"c")?, &mut machine);
+    assert_eq!(rt; status.code(), 2);
+    assert_eq!(rt;
+        machine.world.said(),
+        b"c:18: configuration too long\n".as_slice()
+    );
     Ok(())
 }
 
@@ -177,18 +315,21 @@ fn other_words_and_texts(rt: HostRuntime) -> Result<(), Fail> {
 fn a_second_run_takes_new_lines_alone(rt: HostRuntime) -> Result<(), Fail> {
     let alloc = rt.alloc();
     let words = words(alloc, b"c")?;
-    let mut first = machine(alloc, b"one\ntw")?;
+    let mut first = with_input(alloc, b"one\ntw")?;
     assert_eq!(rt; daemon(alloc, &words, &mut first).code(), 0);
-    assert_eq!(rt; taken(alloc, &first)?.as_slice(), b"one\n".as_slice());
-    let mut second = machine(alloc, b"one\ntwo\nthree\n")?;
-    second.stores = first.stores;
+    assert_eq!(rt; taken(alloc, &first.world)?.as_slice(), b"one\n".as_slice());
+    let MemoryMachine { world: before } = first;
+    let MemoryMachine { mut world } = with_input(alloc, b"one\ntwo\nthree\n")?;
+    world.stores = before.stores;
+    let mut second = MemoryMachine { world };
     assert_eq!(rt; daemon(alloc, &words, &mut second).code(), 0);
     assert_eq!(rt;
-        taken(alloc, &second)?.as_slice(),
+        taken(alloc, &second.world)?.as_slice(),
         b"two\nthree\n".as_slice()
     );
     assert!(rt;
         second
+            .world
             .said()
             .starts_with(b"source 0 records 2 bad-frames 0 position 14\n")
     );

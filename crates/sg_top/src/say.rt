@@ -1,12 +1,14 @@
 // What is said at the end of a run.
 ghost use Rattle.std.specs.Prelude.{◌≡◌, IfOk, ◌++◌};
-ghost use Rattle.sg_top.specs.Said.{text_of, status_in, text_in, IsOfMain, Concludes};
+ghost use Rattle.sg_report.specs.Fault.{fault_text_of};
+ghost use Rattle.sg_top.specs.Said.{text_of, unread_text_of, status_in, text_in, Concludes};
 
 use crate::World;
 use crate::ending::Ending;
 use crate::status::{Device, Status};
 use sg_device::{Name, NoMemory, SayRefusal};
 use sg_lex::ConfigFault;
+use sg_list::Seq;
 use sg_report::fault_text;
 use std::alloc::{AllocError, Global};
 
@@ -22,24 +24,25 @@ fn joined(alloc: Global, front: &[u8], middle: &[u8], back: &[u8]) -> Result<Vec
     Ok(text)
 }
 
-fn config_text(alloc: Global, file: &[u8], fault: ConfigFault) -> Result<Vec<u8>, NoMemory>
-    requires { IsOfMain (Status.BadConfig fault) }
-    ensures { IfOk result (λ text. text.items ≡ text_of file.now (Status.BadConfig fault)) }
+fn refusal_text(alloc: Global, fault: ConfigFault, names: &Seq<Name>) -> Result<Vec<u8>, NoMemory>
+    ensures { IfOk result (λ text. text.items ≡ fault_text_of fault names.now) }
 {
-    let names = [Name::new(alloc, file)?];
     let mut text = Vec::new(alloc);
-    fault_text(alloc, &fault, &names, &mut text)?;
+    fault_text(alloc, &fault, names.as_slice(), &mut text)?;
     Ok(text)
 }
 
-fn status_text(alloc: Global, file: &[u8], status: Status) -> Result<Vec<u8>, NoMemory>
-    requires { IsOfMain status }
-    ensures { IfOk result (λ text. text.items ≡ text_of file.now status) }
+fn unread_text(alloc: Global, name: &Name) -> Result<Vec<u8>, NoMemory>
+    ensures { IfOk result (λ text. text.items ≡ unread_text_of name.now) }
+{
+    joined(alloc, b"cannot read ", name.bytes(), b"\n")
+}
+
+fn status_text(alloc: Global, status: Status) -> Result<Vec<u8>, NoMemory>
+    ensures { IfOk result (λ text. text.items ≡ text_of status) }
 {
     match status {
         Status::Usage => USAGE.to_vec(alloc),
-        Status::BadConfig(fault) => config_text(alloc, file, fault),
-        Status::ReadFault => joined(alloc, b"cannot read ", file, b"\n"),
         Status::OpenFault(Device::Store(n)) => Ok(format!(in alloc;
             "cannot open store {n}\n"
         )?.into_bytes()),
@@ -57,24 +60,27 @@ fn status_text(alloc: Global, file: &[u8], status: Status) -> Result<Vec<u8>, No
     }
 }
 
-fn ending_text(alloc: Global, file: &[u8], ending: Ending) -> Result<(Status, Vec<u8>), NoMemory>
-    requires { IsOfMain (status_in ending) }
-    ensures { IfOk result (λ said. (said.0 ≡ status_in ending) × (said.1.items ≡ text_in file.now ending)) }
+fn ending_text(alloc: Global, ending: Ending) -> Result<(Status, Vec<u8>), NoMemory>
+    ensures { IfOk result (λ said. (said.0 ≡ status_in ending) × (said.1.items ≡ text_in ending)) }
 {
     match ending {
         Ending::Early(Status::NoMemory) => Err(AllocError),
-        Ending::Early(status) => Ok((status, status_text(alloc, file, status)?)),
+        Ending::Early(status) => Ok((status, status_text(alloc, status)?)),
+        Ending::Refused(fault, names) => {
+            let text = refusal_text(alloc, fault, &names)?;
+            Ok((Status::BadConfig(fault), text))
+        }
+        Ending::Unread(name) => Ok((Status::ReadFault, unread_text(alloc, &name)?)),
         Ending::Reported(status, text) => Ok((status, text)),
     }
 }
 
-/// Says how the run of this file ended, and answers its status, or that it couldn't be said. Without
-/// memory it says nothing.
-pub fn conclude<W: World>(alloc: Global, file: &[u8], ending: Ending, world: &mut W) -> Status
-    requires { IsOfMain (status_in ending) }
-    ensures { Concludes (W.meaning world.old) (W.meaning world.new) file.now ending result }
+/// Says how the run ended, and answers its status, or that it couldn't be said. Without memory it says
+/// nothing.
+pub fn conclude<W: World>(alloc: Global, ending: Ending, world: &mut W) -> Status
+    ensures { Concludes (W.state world.old) (W.state world.new) ending result }
 {
-    let Ok((status, text)) = ending_text(alloc, file, ending) else {
+    let Ok((status, text)) = ending_text(alloc, ending) else {
         return Status::NoMemory;
     };
     match world.say(alloc, &text) {

@@ -46,7 +46,7 @@ fn serve_inlet<W: World>(
     requires ready { IsReady core.old }
     requires fresh { IsFresh (W.Feed.state feed.old) }
     requires place { place ≡ (W.Feed.state feed.old).place }
-    ensures { (store : StoreSpec) (spec : InletSpec) (disk : DiskState) → IsOver disk core.old → ServesInlet (W.meaning world.old) (W.meaning world.new) core.old core.new store disk
+    ensures { (store : StoreSpec) (spec : InletSpec) (disk : DiskState) → IsOver disk core.old → ServesInlet (W.state world.old) (W.state world.new) core.old core.new store disk
         (record { spec = spec; opened = W.Feed.state feed.old; closed = W.Feed.state feed.new }) into.now result }
 {
     if !begin(core, place) {
@@ -74,7 +74,7 @@ fn serve_core<W: World>(
     world: &mut W,
 ) -> Ending
     requires ready { IsReady core.old }
-    ensures { (store : StoreSpec) (disk : DiskState) → IsOver disk core.old → ServesCore (W.meaning world.old) (W.meaning world.new) core.old core.new store disk from.now into.now result }
+    ensures { (store : StoreSpec) (disk : DiskState) → IsOver disk core.old → ServesCore (W.state world.old) (W.state world.new) core.old core.new store disk from.now into.now result }
 {
     let Ok(path) = Name::new(alloc, from) else {
         return Ending::Early(Status::NoMemory);
@@ -98,7 +98,7 @@ fn serve_store<W: World>(
     store: W::Store,
     world: &mut W,
 ) -> (W::Store, Ending)
-    ensures { (spec : StoreSpec) → ServesStore (W.meaning world.old) (W.meaning world.new) spec (W.Store.state store) (W.Store.state result.0) from.now into.now result.1 }
+    ensures { (spec : StoreSpec) → ServesStore (W.state world.old) (W.state world.new) spec (W.Store.state store) (W.Store.state result.0) from.now into.now result.1 }
 {
     match open_core(alloc, store) {
         Ok(core) => {
@@ -112,7 +112,7 @@ fn serve_store<W: World>(
 
 /// Moves the records of the one file to the other, from the stored position on.
 pub fn serve<W: World>(alloc: Global, from: &[u8], into: &[u8], world: &mut W) -> Ending
-    ensures { Serves (W.meaning world.old) (W.meaning world.new) from.now into.now result }
+    ensures { Serves (W.state world.old) (W.state world.new) from.now into.now result }
 {
     let Ok(spec) = position_store(alloc, from) else {
         return Ending::Early(Status::NoMemory);

@@ -1,6 +1,5 @@
 // The top call.
 ghost use Rattle.std.specs.Prelude.{ℕ, List};
-ghost use Rattle.sg_device.specs.World.{content};
 ghost use Rattle.sg_top.specs.Run.{Ran};
 ghost use Rattle.sg_top.specs.Words.{IsRun, JudgesWords};
 ghost use Rattle.sg_top.specs.Verdict.{Judges};
@@ -23,13 +22,13 @@ pub fn daemon<W: World>(alloc: Global, words: &[Name], world: &mut W) -> Status
     // legal history: its records are the first ones of the source, the frames taken are those that it
     // settled, the window holds, and what a crash leaves in the store is safe. The status has its cause,
     // and its text was said.
-    ensures ran { Ran (W.meaning world.old) (W.meaning world.new) words.now result }
+    ensures ran { Ran (W.state world.old) (W.state world.new) words.now result }
     ensures usage { JudgesWords words.now result }
-    ensures config { (file : List ℕ) → IsRun words.now file → Judges (content (W.meaning world.old).files file) result }
+    ensures config { (file : List ℕ) → IsRun words.now file → Judges (W.state world.old) file result }
 {
     let Some(file) = run_file(words) else {
-        return conclude(alloc, b"", Ending::Early(Status::Usage), world);
+        return conclude(alloc, Ending::Early(Status::Usage), world);
     };
     let ending = run(alloc, file, world);
-    conclude(alloc, file, ending, world)
+    conclude(alloc, ending, world)
 }

@@ -1,33 +1,30 @@
 // The machine around the daemon.
 ghost use Rattle.std.specs.Prelude.{MatchResult};
-ghost use Rattle.sg_device.specs.World.{WorldState, Reads, InletOpens, InletRefused, OutletOpens, OutletRefused, StoreOpens, StoreRefused, ClosesInlet, ClosesOutlet, ClosesStore, Says};
+ghost use Rattle.sg_device.specs.World.{InletOpens, InletRefused, OutletOpens, OutletRefused, StoreOpens, StoreRefused, ClosesInlet, ClosesOutlet, ClosesStore, Says};
 
-use sg_device::{
-    Disk, FileRefusal, Inlet, InletSpec, OpenRefusal, Outlet, OutletSpec, SayRefusal, StoreSpec,
-};
+use sg_device::{Disk, Inlet, InletSpec, OpenRefusal, Outlet, OutletSpec, SayRefusal, StoreSpec};
+use sg_expand::Files;
 use std::alloc::Global;
 
-/// A machine: it reads files, opens and closes devices, and says text to the operator.
-pub trait World {
+/// The bytes of the longest file of a configuration.
+pub const LONGEST: u64 = 1_048_576;
+
+/// A machine: it reads files, opens and closes devices, and says text to the operator. What it holds
+/// is its `state` as `Files`: the files, the devices that were opened and closed, the bytes said, and
+/// the counts of faults.
+pub trait World: Files {
     type Feed: Inlet;
 
     type Drain: Outlet;
 
     type Store: Disk;
 
-    /// The files, the devices that were opened and closed, the bytes said, and the counts of faults.
-    ghost meaning: { Self → WorldState };
-
-    /// The bytes of a file of at most `limit` bytes.
-    fn read_file(&mut self, alloc: Global, name: &[u8], limit: u64) -> Result<Vec<u8>, FileRefusal>
-        ensures { Reads (meaning self.old) (meaning self.new) name.now limit result };
-
     /// Opens a store. Where its file is missing and is to be made, it comes to be with 128 zero
     /// bytes, all of them stable.
     fn open_store(&mut self, alloc: Global, spec: &StoreSpec) -> Result<Self::Store, OpenRefusal>
         ensures { MatchResult result
-            (λ store. StoreOpens (meaning self.old) (meaning self.new) spec.now (Self.Store.state store))
-            (λ refusal. StoreRefused (meaning self.old) (meaning self.new) refusal) };
+            (λ store. StoreOpens (Self.state self.old) (Self.state self.new) spec.now (Self.Store.state store))
+            (λ refusal. StoreRefused (Self.state self.old) (Self.state self.new) refusal) };
 
     /// Opens an inlet for reading from a place on, in bytes, and answers the place from which it
     /// gives: a file shorter than that is read from its beginning.
@@ -38,28 +35,28 @@ pub trait World {
         from: u64,
     ) -> Result<(Self::Feed, u64), OpenRefusal>
         ensures { MatchResult result
-            (λ opened. InletOpens (meaning self.old) (meaning self.new) spec.now from (Self.Feed.state opened.0) opened.1)
-            (λ refusal. InletRefused (meaning self.old) (meaning self.new) refusal) };
+            (λ opened. InletOpens (Self.state self.old) (Self.state self.new) spec.now from (Self.Feed.state opened.0) opened.1)
+            (λ refusal. InletRefused (Self.state self.old) (Self.state self.new) refusal) };
 
     /// Opens an outlet.
     fn open_outlet(&mut self, alloc: Global, spec: &OutletSpec) -> Result<Self::Drain, OpenRefusal>
         ensures { MatchResult result
-            (λ drain. OutletOpens (meaning self.old) (meaning self.new) spec.now (Self.Drain.state drain))
-            (λ refusal. OutletRefused (meaning self.old) (meaning self.new) refusal) };
+            (λ drain. OutletOpens (Self.state self.old) (Self.state self.new) spec.now (Self.Drain.state drain))
+            (λ refusal. OutletRefused (Self.state self.old) (Self.state self.new) refusal) };
 
     /// Closes a store. It takes no memory.
     fn close_store(&mut self, store: Self::Store)
-        ensures { ClosesStore (meaning self.old) (meaning self.new) (Self.Store.state store) };
+        ensures { ClosesStore (Self.state self.old) (Self.state self.new) (Self.Store.state store) };
 
     /// Closes an inlet. It takes no memory.
     fn close_inlet(&mut self, feed: Self::Feed)
-        ensures { ClosesInlet (meaning self.old) (meaning self.new) (Self.Feed.state feed) };
+        ensures { ClosesInlet (Self.state self.old) (Self.state self.new) (Self.Feed.state feed) };
 
     /// Closes an outlet. It takes no memory.
     fn close_outlet(&mut self, drain: Self::Drain)
-        ensures { ClosesOutlet (meaning self.old) (meaning self.new) (Self.Drain.state drain) };
+        ensures { ClosesOutlet (Self.state self.old) (Self.state self.new) (Self.Drain.state drain) };
 
     /// Says bytes to the operator, all of them or, on a refusal, nothing that is claimed.
     fn say(&mut self, alloc: Global, bytes: &[u8]) -> Result<(), SayRefusal>
-        ensures { Says (meaning self.old) (meaning self.new) bytes.now result };
+        ensures { Says (Self.state self.old) (Self.state self.new) bytes.now result };
 }
