@@ -1,7 +1,7 @@
 // What is asked for at an opening.
 ghost use Rattle.std.specs.Prelude.{◌≡◌, IfOk};
 
-use crate::{Name, NoMemory};
+use sg_device::{Name, NoMemory};
 
 /// A store: a file of the daemon's own, made where it is missing if `create` says so.
 #[derive(Debug, Drop)]
@@ -25,10 +25,12 @@ impl StoreSpec {
 /// An inlet. With `once` a file ends at its end, and a slot after its first connection.
 #[derive(Debug, Drop)]
 pub enum InletSpec {
-    /// The file of this path.
+    /// The file of this path, whose lines are cut into pieces of at most `limit` bytes
+    /// (`log-msg-size()`).
     File {
         path: Name,
         once: bool,
+        limit: u32,
     },
     /// One of the slots that share the TCP listener on this address.
     Slot {
@@ -45,9 +47,10 @@ impl InletSpec {
         ensures { IfOk result (λ spec. spec ≡ self.now) }
     {
         match self {
-            InletSpec::File { path, once } => Ok(InletSpec::File {
+            InletSpec::File { path, once, limit } => Ok(InletSpec::File {
                 path: path.copy()?,
                 once: *once,
+                limit: *limit,
             }),
             InletSpec::Slot {
                 ip,
@@ -64,13 +67,30 @@ impl InletSpec {
     }
 }
 
-/// An outlet.
+/// An outlet. `reopen` is the time in seconds from one try to open it to the next
+/// (`time-reopen()`), 0 where it is tried again at once.
 #[derive(Debug, Drop)]
 pub enum OutletSpec {
-    /// The file of this path, made where it is missing and appended to.
-    File { path: Name },
+    /// The file of this path, appended to, and made with this mode where it is missing (`perm()`).
+    /// With `fsync` a frame counts as taken once it is on the disk.
+    File {
+        path: Name,
+        fsync: bool,
+        mode: u16,
+        reopen: u32,
+    },
     /// A TCP connection to this host.
-    Tcp { host: Name, port: u16 },
+    Tcp {
+        host: Name,
+        port: u16,
+        reopen: u32,
+    },
+    /// Files whose paths come with the texts, each as `File`.
+    ByPath {
+        fsync: bool,
+        mode: u16,
+        reopen: u32,
+    },
 }
 
 impl OutletSpec {
@@ -79,10 +99,30 @@ impl OutletSpec {
         ensures { IfOk result (λ spec. spec ≡ self.now) }
     {
         match self {
-            OutletSpec::File { path } => Ok(OutletSpec::File { path: path.copy()? }),
-            OutletSpec::Tcp { host, port } => Ok(OutletSpec::Tcp {
+            OutletSpec::File {
+                path,
+                fsync,
+                mode,
+                reopen,
+            } => Ok(OutletSpec::File {
+                path: path.copy()?,
+                fsync: *fsync,
+                mode: *mode,
+                reopen: *reopen,
+            }),
+            OutletSpec::Tcp { host, port, reopen } => Ok(OutletSpec::Tcp {
                 host: host.copy()?,
                 port: *port,
+                reopen: *reopen,
+            }),
+            OutletSpec::ByPath {
+                fsync,
+                mode,
+                reopen,
+            } => Ok(OutletSpec::ByPath {
+                fsync: *fsync,
+                mode: *mode,
+                reopen: *reopen,
             }),
         }
     }
