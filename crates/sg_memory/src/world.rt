@@ -289,6 +289,3 @@ impl MemoryWorld {
         Ok(())
     }
 }
-
-#[cfg(test)]
-mod tests;
