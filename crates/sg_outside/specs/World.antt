@@ -18,6 +18,7 @@ use Rattle.sg_device.specs.declared.fault.SayRefusal.TheVariants.{Fault, NoMemor
 use Rattle.sg_outside.specs.declared.request.InletSpec.{InletSpec}
 use Rattle.sg_outside.specs.declared.request.InletSpec.TheVariants.{File, Slot}
 use Rattle.sg_outside.specs.declared.request.OutletSpec.{OutletSpec}
+use Rattle.sg_outside.specs.declared.request.OutletSpec.TheVariants.{File as OutletFile, Tcp, ByPath}
 use Rattle.sg_outside.specs.declared.request.StoreSpec.{StoreSpec}
 
 -- a device that was opened: what was asked for, and its state then
@@ -148,6 +149,12 @@ StoreOpens old new spec store = (new ≡ record old { store_faults = new.store_f
 abbrev pub StoreRefused : WorldState → WorldState → OpenRefusal → Type 0
 StoreRefused old new OpenFailed = (new ≡ record old { store_faults = new.store_faults }) × (old.store_faults ≤ new.store_faults) × Rose old.store_faults new.store_faults
 StoreRefused old new OpenNoMemory = (new ≡ record old { store_faults = new.store_faults }) × (old.store_faults ≤ new.store_faults)
+
+-- the paths of the files come with their texts
+abbrev pub IsByPath : OutletSpec → Type 0
+IsByPath (OutletFile path fsync mode reopen) = ⊥
+IsByPath (Tcp host port reopen) = ⊥
+IsByPath (ByPath fsync mode reopen) = Unit {0}
 
 abbrev pub PathsOpen : WorldState → WorldState → OutletSpec → PathsState → Type 0
 PathsOpen old new spec opener = (new ≡ record old { paths_faults = new.paths_faults; paths = with_opened old.paths spec opener }) × (old.paths_faults ≤ new.paths_faults) × IsNewOpener opener
