@@ -5,6 +5,7 @@
 mod fault;
 mod lexer;
 mod piece;
+mod place;
 mod quoted;
 #[cfg(test)]
 mod tests;
@@ -13,4 +14,5 @@ mod word;
 
 pub use fault::{ConfigFault, ConfigKind};
 pub use lexer::{TEXT_LIMIT, line_at, tokens};
+pub use place::{Cmp, Line};
 pub use token::{LexFault, Token, TokenKind};

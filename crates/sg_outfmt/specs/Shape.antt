@@ -1,6 +1,6 @@
 -- The shapes of frames where a configuration gives no template (syslog-ng's administration guide, "Default templates").
 use Rattle.std.specs.Prelude.{◌≡◌, ℕ, List, Ok, codes}
-use Rattle.sg_template.specs.Reading.{parts_of}
+use Rattle.sg_macro.specs.Reading.{parts_of}
 use Rattle.sg_outfmt.specs.declared.shape.DriverKind.{DriverKind}
 use Rattle.sg_outfmt.specs.declared.shape.DriverKind.TheVariants.{File, Network, Syslog}
 use Rattle.sg_outfmt.specs.declared.shape.Shape.{Shape}

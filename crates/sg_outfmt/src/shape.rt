@@ -1,6 +1,6 @@
 // The shapes of frames.
 ghost use Rattle.std.specs.Prelude.{◌≡◌, IfOk, Ok, is_ok, true};
-ghost use Rattle.sg_template.specs.Reading.{parts_of};
+ghost use Rattle.sg_macro.specs.Reading.{parts_of};
 ghost use Rattle.sg_outfmt.specs.Shape.{IsDefault};
 
 use sg_template::{Template, TemplateFault};
@@ -28,7 +28,7 @@ const FILE_TEXT: &[u8] = b"${STAMP} ${HOST} ${MSGHDR}${MSG}\n";
 const NETWORK_TEXT: &[u8] = b"<${PRI}>${STAMP} ${HOST} ${MSGHDR}${MSG}\n";
 
 /// The shape of a destination without a template.
-#[tactic(auto, unfolding(sg_template::specs::Reading::parts_of, sg_template::specs::Macros::macro_of, sg_template::specs::Macros::macros, sg_template::specs::Macros::pair_name))]
+#[tactic(auto, unfolding(sg_macro::specs::Reading::parts_of, sg_macro::specs::Macros::macro_of, sg_macro::specs::Macros::macros, sg_macro::specs::Macros::pair_name))]
 pub fn default_shape(alloc: Global, driver: DriverKind) -> Result<Shape, AllocError>
     ensures { IfOk result (IsDefault driver) }
 {

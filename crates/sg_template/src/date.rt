@@ -7,8 +7,9 @@ ghost use Rattle.sg_template.specs.Begins.{BeginsWith};
 ghost use Rattle.sg_template.specs.Texts.{date_text, unix_text};
 
 use crate::append::append;
-use crate::{DatePart, Env};
+use crate::Env;
 use itoa::Buffer;
+use sg_macro::DatePart;
 use sg_time::{
     Stamp, bsd_text, four_digits, iso_text, month_abbrev, offset_bytes, six_digits, two_digits,
 };

@@ -1,9 +1,9 @@
 -- The macros of templates, by name (syslog-ng's administration guide, "Macros of syslog-ng").
 use Rattle.std.specs.Prelude.{ℕ, List, [], ◌∷◌, if◌then◌else◌, Option, Some, None, codes, bytes_eq}
-use Rattle.sg_template.specs.declared.macros.StampKind.TheVariants.{Sent, Received}
-use Rattle.sg_template.specs.declared.macros.DatePart.TheVariants.{Date, FullDate, IsoDate, ChosenDate, UnixTime, Year, Month, Day, Hour, Minute, Second, MonthAbbrev, Offset}
-use Rattle.sg_template.specs.declared.macros.Macro.{Macro}
-use Rattle.sg_template.specs.declared.macros.Macro.TheVariants.{Pri, FacilityNumber, SeverityNumber, Facility, Severity, PriHex, Tags, Header, Sdata, OldValue, OfStamp}
+use Rattle.sg_macro.specs.declared.macros.StampKind.TheVariants.{Sent, Received}
+use Rattle.sg_macro.specs.declared.macros.DatePart.TheVariants.{Date, FullDate, IsoDate, ChosenDate, UnixTime, Year, Month, Day, Hour, Minute, Second, MonthAbbrev, Offset}
+use Rattle.sg_macro.specs.declared.macros.Macro.{Macro}
+use Rattle.sg_macro.specs.declared.macros.Macro.TheVariants.{Pri, FacilityNumber, SeverityNumber, Facility, Severity, PriHex, Tags, Header, Sdata, OldValue, OfStamp}
 
 -- Without a prefix and behind S_, the parts of the message's own stamp; behind R_, those of the stamp of its arrival.
 unfoldable pub macros : List (List ℕ × Macro)

@@ -17,7 +17,7 @@ pub enum Part {
 }
 
 impl Part {
-    ghost use Rattle.sg_template.specs.Reading.{named};
+    ghost use Rattle.sg_macro.specs.Reading.{named};
 
     // What `${NAME:-default}` stands for.
     pub(crate) fn named(alloc: Global, name: &[u8], default: &[u8]) -> Result<Part, AllocError>

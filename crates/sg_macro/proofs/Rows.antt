@@ -2,8 +2,8 @@
 use Rattle.std.proofs.Common.{◌≡◌, ℕ, ◌+◌, ◌<◌, List, ◌∷◌, map, drop, length, get_or, cond, sym, ap, ◌∙◌, Some, Bor}
 use Rattle.std.specs.Prelude.{bytes_eq}
 use Rattle.std.proofs.lemmas.List.{at_drop_more}
-use Rattle.sg_template.specs.declared.macros.Macro.{Macro}
-use Rattle.sg_template.specs.Macros.{row_of}
+use Rattle.sg_macro.specs.declared.macros.Macro.{Macro}
+use Rattle.sg_macro.specs.Macros.{row_of}
 
 abbrev pub row_view : (Bor (List ℕ) × Macro) → (List ℕ × Macro)
 row_view row = (row.0.now, row.1)

@@ -1,7 +1,6 @@
 // The macros of templates, by name.
-ghost use Rattle.std.specs.Prelude.{◌≡◌, map, is_some};
-ghost use Rattle.sg_msg.specs.Macros.{is_hard};
-ghost use Rattle.sg_template.specs.Macros.{macro_of, pair_name, row_of};
+ghost use Rattle.std.specs.Prelude.{◌≡◌, map};
+ghost use Rattle.sg_macro.specs.Macros.{macro_of, pair_name, row_of};
 
 use DatePart::*;
 use Macro::OfStamp;
@@ -115,10 +114,9 @@ const MACROS: [(&[u8], Macro); 51] = [
     (b"R_TZOFFSET", OfStamp(Received, Offset)),
 ];
 
-/// The macro of that name, for the hard names alone. Names are compared byte for byte.
+/// The macro of that name. Names are compared byte for byte.
 pub fn macro_of(name: &[u8]) -> Option<Macro>
-    ensures value { result ≡ macro_of name.now }
-    ensures hard { is_some result ≡ is_hard name.now }
+    ensures { result ≡ macro_of name.now }
 {
     row_of(&MACROS, name)
 }

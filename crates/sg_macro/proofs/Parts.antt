@@ -1,11 +1,11 @@
 -- Reading a text part by part.
 use Rattle.std.proofs.Common.{◌≡◌, ℕ, zero, suc, ◌-◌, ◌<◌, List, [], ◌∷◌, ◌++◌, drop, length, refl, ap, ◌∙◌, sym, arith, Result, Ok, Err}
 use Rattle.std.proofs.lemmas.List.{append-nil, append_assoc}
-use Rattle.sg_template.specs.declared.part.Part.{Part}
-use Rattle.sg_template.specs.declared.cut.Cut.{Cut}
-use Rattle.sg_template.specs.declared.fault.TemplateFault.{TemplateFault}
-use Rattle.sg_template.specs.declared.fault.TemplateFault.TheVariants.{OpenBrace, Function, NoMemory}
-use Rattle.sg_template.specs.Reading.{first_cut, with_cut, parts_behind, parts_of, Refuses}
+use Rattle.sg_macro.specs.declared.part.Part.{Part}
+use Rattle.sg_macro.specs.declared.cut.Cut.{Cut}
+use Rattle.sg_macro.specs.declared.fault.TemplateFault.{TemplateFault}
+use Rattle.sg_macro.specs.declared.fault.TemplateFault.TheVariants.{OpenBrace, Function, NoMemory}
+use Rattle.sg_macro.specs.Reading.{first_cut, with_cut, parts_behind, parts_of, Refuses}
 
 -- the parts behind these
 abbrev pub ahead : List Part → Result (List Part) TemplateFault → Result (List Part) TemplateFault

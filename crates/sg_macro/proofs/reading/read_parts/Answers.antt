@@ -1,10 +1,10 @@
 use Rattle.std.proofs.Common.{ℕ, ◌≡◌, ◌<◌, List, [], ◌∷◌, ◌++◌, length, drop, ap, ◌∙◌, arith}
 use Rattle.std.proofs.lemmas.Bool.Decides.{nat_tests}
 use Rattle.std.proofs.lemmas.List.{nil_from_length}
-use Rattle.sg_template.specs.declared.part.Part.{Part}
-use Rattle.sg_template.specs.Reading.{parts_behind}
-use Rattle.sg_template.proofs.Parts.{ahead, ahead-more, ahead-all, ahead-fault}
-use Rattle.sg_template.proofs.template.Template.read.Goals as goal
+use Rattle.sg_macro.specs.declared.part.Part.{Part}
+use Rattle.sg_macro.specs.Reading.{parts_behind}
+use Rattle.sg_macro.proofs.Parts.{ahead, ahead-more, ahead-all, ahead-fault}
+use Rattle.sg_macro.proofs.reading.read_parts.Goals as goal
 
 pub loop-rest-preserved : goal.loop-rest-preserved
 loop-rest-preserved c =

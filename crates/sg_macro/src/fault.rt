@@ -1,6 +1,6 @@
 // What is wrong with a template.
 ghost use Rattle.std.specs.Prelude.{◌≡◌};
-ghost use Rattle.sg_template.specs.declared.fault.TemplateFault.TheVariants.{NoMemory as TemplateNoMemory};
+ghost use Rattle.sg_macro.specs.declared.fault.TemplateFault.TheVariants.{NoMemory as TemplateNoMemory};
 
 use std::alloc::AllocError;
 use thiserror::Error;

@@ -2,13 +2,13 @@
 use Rattle.std.specs.Prelude.{◌≡◌, ℕ, zero, suc, ◌+◌, ◌-◌, Bool, false, ◌==◌, ◌&&◌, ◌||◌, if◌then◌else◌, List, [], ◌∷◌, length, take, drop, Option, Some, None, Result, Ok, Err, codes}
 use Rattle.std.specs.List.{prefix_len, position_or_len}
 use Rattle.std.specs.Char.{is_ascii_alphanumeric}
-use Rattle.sg_template.specs.declared.macros.Macro.{Macro as MacroKind}
-use Rattle.sg_template.specs.declared.part.Part.{Part}
-use Rattle.sg_template.specs.declared.part.Part.TheVariants.{Literal, Macro, Pair}
-use Rattle.sg_template.specs.declared.cut.Cut.{Cut}
-use Rattle.sg_template.specs.declared.fault.TemplateFault.{TemplateFault}
-use Rattle.sg_template.specs.declared.fault.TemplateFault.TheVariants.{OpenBrace, Function, NoMemory}
-use Rattle.sg_template.specs.Macros.{macro_of, pair_name}
+use Rattle.sg_macro.specs.declared.macros.Macro.{Macro as MacroKind}
+use Rattle.sg_macro.specs.declared.part.Part.{Part}
+use Rattle.sg_macro.specs.declared.part.Part.TheVariants.{Literal, Macro, Pair}
+use Rattle.sg_macro.specs.declared.cut.Cut.{Cut}
+use Rattle.sg_macro.specs.declared.fault.TemplateFault.{TemplateFault}
+use Rattle.sg_macro.specs.declared.fault.TemplateFault.TheVariants.{OpenBrace, Function, NoMemory}
+use Rattle.sg_macro.specs.Macros.{macro_of, pair_name}
 
 -- letters, digits and `_`
 abbrev pub is_name_byte : ℕ → Bool

@@ -1,6 +1,6 @@
 use Rattle.std.proofs.Common.{◌≡◌, ◌+◌, ◌≤◌, length}
-use Rattle.sg_template.specs.Reading.{length_before_default}
-use Rattle.sg_template.proofs.cut.length_before_default.Given as goal
+use Rattle.sg_macro.specs.Reading.{length_before_default}
+use Rattle.sg_macro.proofs.cut.length_before_default.Given as goal
 
 abbrev pub invariant-loop-rest : goal.invariant-loop-rest
 invariant-loop-rest l = record {

@@ -1,7 +1,7 @@
 // Reading the first part of a template's text.
 ghost use Rattle.std.specs.Prelude.{◌≡◌, ◌+◌, ◌≤◌, ◌<◌, length, drop, IfOk, IfErr, IsTrue, Ok};
 ghost use Rattle.std.specs.List.{prefix_len};
-ghost use Rattle.sg_template.specs.Reading.{is_name_byte, length_before, begins_with, length_before_default, brace_cut, word_cut, dollar_cut, first_cut, Refuses};
+ghost use Rattle.sg_macro.specs.Reading.{is_name_byte, length_before, begins_with, length_before_default, brace_cut, word_cut, dollar_cut, first_cut, Refuses};
 
 use crate::{Part, TemplateFault};
 use std::alloc::Global;
