@@ -1,6 +1,6 @@
 -- The path of a file, from a template over a message: no macro's text can leave the directory that the template names
 -- (a file's name has no `/` and no NUL, and `.` and `..` are directories: POSIX.1-2017, 3.170 and 4.13).
-use Rattle.std.specs.Prelude.{ℕ, ◌==◌, ◌||◌, if◌then◌else◌, List, [], ◌∷◌, length, take, map, codes}
+use Rattle.std.specs.Prelude.{ℕ, ◌==◌, ◌||◌, if◌then◌else◌, List, [], ◌∷◌, take, map, codes}
 use Rattle.std.specs.List.{flat_map}
 use Rattle.sg_msg.specs.Message.{Content}
 use Rattle.sg_macro.specs.declared.part.Part.{Part}
@@ -28,7 +28,8 @@ path_part content env (Pair name default) = name_text (part_text content env (Pa
 
 -- a path is some bytes, at most 4,095
 abbrev pub fitted : List ℕ → List ℕ
-fitted text = if length text == 0 then codes "_" else take 4095 text
+fitted [] = codes "_"
+fitted (b ∷ bytes) = take 4095 (b ∷ bytes)
 
 -- the path that the parts come to
 unfoldable pub path_of : List Part → Content → Env → List ℕ

@@ -120,9 +120,9 @@ fn append_run<'v>(value: &'v [u8], out: &mut Vec<u8>) -> Result<&'v [u8], AllocE
     ensures shorter { IfOk result (λ rest. length rest.now < length value.now) }
     ensures begins { BeginsWith out.old.items out.new.items }
 {
-    let plain = plain_length(value);
-    append(&value[..plain], out)?;
-    match &value[plain..] {
+    let (plain, behind) = value.split_at(plain_length(value));
+    append(plain, out)?;
+    match behind {
         [byte, rest @ ..] => {
             append(&[b'\\', *byte], out)?;
             Ok(rest)

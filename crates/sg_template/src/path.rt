@@ -87,7 +87,8 @@ pub(crate) fn append_path(
     append_path_parts(parts, message, env, out)?;
     if out.len() == before {
         append(b"_", out)?;
+        return Ok(());
     }
-    out.truncate(before.saturating_add(LONGEST));
+    out.truncate(before + LONGEST);
     Ok(())
 }
