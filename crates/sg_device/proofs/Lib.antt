@@ -1,3 +1,4 @@
 pub mod Parts
 pub mod Disks
 pub mod DiskCalls
+pub mod FrameLemmas

@@ -7,8 +7,6 @@ mod lexer;
 mod piece;
 mod place;
 mod quoted;
-#[cfg(test)]
-mod tests;
 mod token;
 mod word;
 

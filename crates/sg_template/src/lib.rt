@@ -10,8 +10,6 @@ mod laws;
 mod names;
 mod path;
 mod template;
-#[cfg(test)]
-mod tests;
 
 pub use append::text_of;
 pub use elements::sdata_text;

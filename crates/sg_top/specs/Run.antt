@@ -4,7 +4,7 @@ use Rattle.sg_device.specs.Disk.{content as store_content, WhereTold, Preserves}
 use Rattle.sg_device.specs.Faults.{Rose}
 use Rattle.sg_device.specs.Inlet.{InletState, IsFresh}
 use Rattle.sg_device.specs.Outlet.{IsNew}
-use Rattle.sg_device.specs.World.{WorldState, Files, StandsIn}
+use Rattle.sg_outside.specs.World.{WorldState, Files, StandsIn}
 use Rattle.sg_stable.specs.Position.{IsPosition, IsDamagedAt}
 use Rattle.sg_machine.specs.declared.event.Event.{Event}
 use Rattle.sg_lex.specs.declared.token.Token.{Token}
