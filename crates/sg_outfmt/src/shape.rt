@@ -13,6 +13,9 @@ pub enum Shape {
     Text(Template),
     /// A line of RFC 5424, behind its length in octets and a space (RFC 6587, 3.4.1).
     Counted5424,
+    /// The text of a template behind the path of the file that it goes to, which another template
+    /// gives. `unpacked` tells them apart.
+    ByPath { path: Template, text: Template },
 }
 
 /// The kinds of destinations.
@@ -49,4 +52,11 @@ fn sound_template(alloc: Global, text: &[u8]) -> Result<Template, AllocError>
         Err(TemplateFault::NoMemory) => Err(AllocError),
         Err(TemplateFault::OpenBrace | TemplateFault::Function) => unreachable!(),
     }
+}
+
+// A shape may be handed to another thread.
+fn is_send<T: Send>() {}
+
+fn shape_is_send() {
+    is_send::<Shape>();
 }

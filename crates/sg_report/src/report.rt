@@ -129,12 +129,7 @@ fn append_dests(alloc: Global, dests: &[DestTally], text: &mut Vec<u8>) -> Resul
 }
 
 // Nothing is said of a buffer that holds nothing.
-fn append_held(
-    alloc: Global,
-    d: u32,
-    frames: u64,
-    text: &mut Vec<u8>,
-) -> Result<(), AllocError>
+fn append_held(alloc: Global, d: u32, frames: u64, text: &mut Vec<u8>) -> Result<(), AllocError>
     ensures { OnOk result (text.new.items ≡ text.old.items ++ held_line (d, frames)) }
 {
     if frames == 0 {
@@ -145,11 +140,7 @@ fn append_held(
     Ok(())
 }
 
-fn append_buffers(
-    alloc: Global,
-    held: &[(u32, u64)],
-    text: &mut Vec<u8>,
-) -> Result<(), AllocError>
+fn append_buffers(alloc: Global, held: &[(u32, u64)], text: &mut Vec<u8>) -> Result<(), AllocError>
     ensures { OnOk result (text.new.items ≡ text.old.items ++ held_lines held.now) }
 {
     for buffer in held {

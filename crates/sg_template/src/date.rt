@@ -6,8 +6,8 @@ ghost use Rattle.sg_time.specs.Text.{digits as digits_of, fraction_text, iso_sta
 ghost use Rattle.sg_template.specs.Begins.{BeginsWith};
 ghost use Rattle.sg_template.specs.Texts.{date_text, unix_text};
 
-use crate::append::append;
 use crate::Env;
+use crate::append::append;
 use itoa::Buffer;
 use sg_macro::DatePart;
 use sg_time::{

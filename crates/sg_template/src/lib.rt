@@ -10,6 +10,7 @@ mod laws;
 mod names;
 mod path;
 mod template;
+mod threads;
 
 pub use append::text_of;
 pub use elements::sdata_text;

@@ -15,7 +15,11 @@ const LONGEST: usize = 4095;
 fn name_byte(byte: u8) -> u8
     ensures { result ≡ name_byte byte }
 {
-    if byte == b'/' || byte == 0 { b'_' } else { byte }
+    if byte == b'/' || byte == 0 {
+        b'_'
+    } else {
+        byte
+    }
 }
 
 fn make_name_bytes(text: &mut [u8])

@@ -71,10 +71,10 @@ impl Template {
         ensures ok { OnOk result (out.new.items ≡ out.old.items ++ path_of self.now message.now env.now) }
         ensures err { OnErr result (out.new.items ≡ out.old.items) }
     {
-        let before = out.len();
+        let start = out.len();
         let appended = append_path(self.parts.as_slice(), message, env, out);
         if appended.is_err() {
-            out.truncate(before);
+            out.truncate(start);
         }
         appended
     }

@@ -13,4 +13,4 @@ returns-clause-ok c =
     let all : length (front ++ text) ≡ length front + length text = length-append front text in
     let long : length c.append_path_parts.new.out.items ≡ length (front ++ text) = ap length whole in
     let some : 0 < length text = grind (arith, c.if-len-before.false, c.len.ensures, c.len-before.ensures, all, long) in
-    c.truncate.ensures.items ∙ (ap (take (c.len-before.result + 4095)) whole ∙ fitted-cut front text (c.len-before.result + 4095) some (ap (λ (k : ℕ). k + 4095) c.len-before.ensures))
+    c.truncate.ensures.items ∙ (ap (take (c.len-before.result + 4095)) whole ∙ fitted-cut front text (c.len-before.result + 4095) some (omega (arith, c.len-before.ensures)))
