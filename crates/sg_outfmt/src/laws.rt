@@ -1,5 +1,5 @@
 // What holds of frames with a path. The functions here do nothing: their contracts are laws.
-ghost use Rattle.std.specs.Prelude.{◌≡◌, ◌<◌, ◌≤◌, ℕ, List, length};
+ghost use Rattle.std.specs.Prelude.{◌≡◌, ◌<◌, ℕ, List, length};
 ghost use Rattle.sg_msg.specs.Message.{Content};
 ghost use Rattle.sg_macro.specs.declared.part.Part.{Part};
 ghost use Rattle.sg_template.specs.declared.env.Env.{Env};
@@ -9,10 +9,10 @@ ghost use Rattle.sg_outfmt.specs.declared.shape.Shape.TheVariants.{ByPath};
 ghost use Rattle.sg_outfmt.specs.Frame.{frame_of};
 ghost use Rattle.sg_outfmt.specs.Packed.{packed, unpacked};
 
-/// What is packed is unpacked again, where the path has 1 to 65,535 bytes: two paths or texts that
-/// differ never make one frame.
+/// What is packed is unpacked again, where the path isn't empty: two paths or texts that differ never
+/// make one frame.
 pub fn packed_unpacks()
-    ensures { (path text : List ℕ) → 0 < length path → length path < 65536 → unpacked (packed path text) ≡ (path, text) }
+    ensures { (path text : List ℕ) → 0 < length path → unpacked (packed path text) ≡ (path, text) }
 {}
 
 /// A frame of `Shape::ByPath` is the path and the text that its two templates give.

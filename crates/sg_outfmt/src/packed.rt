@@ -47,7 +47,7 @@ fn append_packed(
 }
 
 // Appends the path behind its length.
-#[tactic(auto, using(sg_template::proofs::Appending::appending))]
+#[tactic(auto, using(sg_template::proofs::Appending::appending, sg_template::proofs::Paths::path_most))]
 fn append_path(
     path: &Template,
     message: &Message,

@@ -5,8 +5,8 @@ use std::test::Fail;
 
 // Texts, and how many parts they have or what is wrong with them.
 const READINGS: &str = "\
- => 0
 a$b ${C:-d}e => 5
+ => 0
 $$ => 1
 $$$ => 2
 ${} => 1
