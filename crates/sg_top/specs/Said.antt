@@ -55,6 +55,7 @@ shown_of status = record {
   drivers = 0 ∷ [];
   files = true ∷ [];
   bad_frames = 0 ∷ [];
+  held = [];
   sinks = failed_sinks status;
   stores = failed_stores status;
   inlets = failed_inlets status;
