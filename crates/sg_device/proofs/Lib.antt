@@ -2,4 +2,3 @@ pub mod Parts
 pub mod Disks
 pub mod DiskCalls
 pub mod FrameLemmas
-pub mod Inlets
