@@ -6,3 +6,4 @@ mod KeptTags
 mod TagPlaces
 mod Prefixes
 mod ValueLaws
+pub mod LengthLemmas

@@ -1,3 +1,4 @@
 pub mod Macros
 pub mod Message
+pub mod Length
 pub mod Places

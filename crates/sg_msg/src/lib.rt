@@ -2,12 +2,14 @@
 #![tactic(auto)]
 
 mod base;
+mod length;
 mod macros;
 mod message;
 mod offer;
 mod refusal;
 mod tags;
 
+pub use length::less_entry;
 pub use macros::is_hard;
 pub use message::Message;
 pub use offer::Offer;
