@@ -1,5 +1,5 @@
 -- What is packed is unpacked again.
-use Rattle.std.proofs.Common.{◌≡◌, ℕ, ◌+◌, ◌*◌, ◌/◌, ◌%◌, ◌<◌, ◌≤◌, Bool, false, ◌||◌, cond, List, ◌∷◌, ◌++◌, length, [], take, drop, slice_set, length-append, append_assoc, arith, refl, ap, ◌∙◌}
+use Rattle.std.proofs.Common.{◌≡◌, ℕ, ◌+◌, ◌-◌, ◌*◌, ◌/◌, ◌%◌, ◌<◌, ◌≤◌, List, [], ◌∷◌, ◌++◌, length, take, drop, length-append, length-take, length-drop, arith, ap, ◌∙◌}
 use Rattle.std.proofs.lemmas.Bool.{ne_eqb, le-ltb}
 use Rattle.std.proofs.lemmas.Nat.{div-add-mod'}
 use Rattle.std.proofs.Math.Seq.{take-append_seam, drop-append_seam}
@@ -17,13 +17,10 @@ pub unpacked-packed : (path text : List ℕ) → 0 < length path → unpacked (p
 unpacked-packed path text some =
     cut-keeps (length path / 256 * 256 + length path % 256) (packed path text) path text (div-add-mod' (length path) 256) some
 
--- two bytes written over the first two
-pub written : (bytes : List ℕ) (a b : ℕ) → 2 ≤ length bytes → slice_set (slice_set bytes 0 a) 1 b ≡ a ∷ b ∷ drop 2 bytes
-written [] a b h = absurd (omega arith)
-written (x ∷ []) a b h = absurd (omega arith)
-written (x ∷ y ∷ bytes) a b h = refl
-
--- what stands behind a front, once two bytes and a path were appended
-pub behind_front : (front mid whole path : List ℕ) → mid ≡ front ++ 0 ∷ 0 ∷ [] → whole ≡ mid ++ path → whole ≡ front ++ 0 ∷ 0 ∷ path
-behind_front front mid whole path first second =
-    second ∙ (ap (λ (t : List ℕ). t ++ path) first ∙ append_assoc front (0 ∷ 0 ∷ []) path)
+-- how many bytes stand behind a front, once two and a path were appended
+pub behind_fits : (front mid whole path : List ℕ) (before : ℕ) → mid ≡ front ++ 0 ∷ 0 ∷ [] → whole ≡ mid ++ path → before ≡ length front → length path ≤ 4095
+    → length (take (length whole - before) (drop before whole)) < 65538
+behind_fits front mid whole path before first second e most =
+    let mid_long : length mid ≡ length front + 2 = ap length first ∙ length-append front (0 ∷ 0 ∷ []) in
+    let long : length whole ≡ length mid + length path = ap length second ∙ length-append mid path in
+    omega (arith, mid_long, long, e, most, length-drop before whole, length-take (length whole - before) (drop before whole))

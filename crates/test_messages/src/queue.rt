@@ -1,5 +1,4 @@
 // A queue from end to end.
-use bytes::Bytes;
 use sg_msg::Message;
 use sg_queue::{Entry, Queue};
 use sg_time::Stamp;
@@ -11,7 +10,7 @@ const STAMP: Stamp = Stamp { at: 0, offset: 0 };
 fn first_in_first_out(rt: HostRuntime) -> Result<(), Fail> {
     let mut queue = Queue::new(rt.alloc());
     for (place, flow) in [(4, true), (5, false), (6, false)] {
-        let message = Message::new(rt.alloc(), Bytes::new(), 13, STAMP, STAMP)?;
+        let message = Message::new(rt.alloc(), 13, STAMP, STAMP)?;
         queue.reserve(1)?;
         queue.push(Entry {
             place,

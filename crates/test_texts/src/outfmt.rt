@@ -1,5 +1,4 @@
 // Frames of the three kinds of destinations.
-use bytes::Bytes;
 use sg_msg::Message;
 use sg_outfmt::{DriverKind, Shape, default_shape, frame, unpacked};
 use sg_template::{Env, Template};
@@ -36,7 +35,7 @@ fn frames(rt: HostRuntime) -> Result<(), Fail> {
         iso: false,
         old: None,
     };
-    let mut message = Message::new(alloc, Bytes::new(), 165, sent, EPOCH)?;
+    let mut message = Message::new(alloc, 165, sent, EPOCH)?;
     message.set(b"HOST", b"h").ok();
     message.set(b"PROGRAM", b"evntslog").ok();
     message.set(b"MSGID", b"ID47").ok();

@@ -1,5 +1,4 @@
 // Templates over messages.
-use bytes::Bytes;
 use sg_device::Name;
 use sg_msg::Message;
 use sg_template::{Env, Template, TemplateFault, sdata_text, text_of};
@@ -67,8 +66,8 @@ fn stamps_as_gnu_date_prints_them(rt: HostRuntime) -> Result<(), Fail> {
             offset: offset.parse::<i16>()?,
         };
         assert!(rt; stamp.is_valid(), "{row}");
-        let sent = Message::new(alloc, Bytes::new(), 13, stamp, EPOCH)?;
-        let received = Message::new(alloc, Bytes::new(), 13, EPOCH, stamp)?;
+        let sent = Message::new(alloc, 13, stamp, EPOCH)?;
+        let received = Message::new(alloc, 13, EPOCH, stamp)?;
         for template in [PLAIN, SENT] {
             let out = text(alloc, template, &sent, &env)?;
             assert_eq!(rt; out.as_slice(), shown.as_bytes(), "{row}");
@@ -91,7 +90,7 @@ fn event(alloc: Global) -> Result<Message, Fail> {
         at: 253_402_300_799_999_999,
         offset: 0,
     };
-    let mut message = Message::new(alloc, Bytes::new(), 165, sent, received)?;
+    let mut message = Message::new(alloc, 165, sent, received)?;
     message.set(b"HOST", b"h").ok();
     message.set(b"PROGRAM", b"evntslog").ok();
     message.set(b"PID", b"7").ok();
@@ -145,7 +144,7 @@ ${HOST:-/}||_
 a$$b|h|a$b";
 
 fn path(alloc: Global, template: &[u8], host: &[u8]) -> Result<Vec<u8>, Fail> {
-    let mut message = Message::new(alloc, Bytes::new(), 13, EPOCH, EPOCH)?;
+    let mut message = Message::new(alloc, 13, EPOCH, EPOCH)?;
     message.set(b"HOST", host).ok();
     let env = Env {
         zone: None,
@@ -169,7 +168,7 @@ fn paths_of_files(rt: HostRuntime) -> Result<(), Fail> {
     }
     let long = [b'x'; 3000];
     assert_eq!(rt; path(alloc, b"$HOST/$HOST", &long)?.len(), 4095);
-    let message = Message::new(alloc, Bytes::new(), 13, EPOCH, EPOCH)?;
+    let message = Message::new(alloc, 13, EPOCH, EPOCH)?;
     let mut out = Vec::new(alloc);
     sdata_text(&message, &mut out)?;
     assert_eq!(rt; out.as_slice(), b"-".as_slice());
