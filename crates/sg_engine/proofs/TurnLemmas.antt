@@ -127,8 +127,8 @@ none-first zero old new frame less takes = takes.taken ∙ none-taken old.taken
 none-first (suc k) old new frame less takes = absurd (omega arith)
 
 pub frame-refused : (refusal : SendRefusal) (old new : OutletState) (frame : List ℕ) → Sends old new (frame ∷ []) (Err refusal) → SendsFrame old new frame (Err (stop_of refusal))
-frame-refused Fault old new frame ((k, (less, (takes, failing))), rose) = (none-first k old new frame less takes, takes.faults, rose)
-frame-refused SendNoMemory old new frame (k, (less, (takes, failing))) = (none-first k old new frame less takes, takes.faults)
+frame-refused Fault old new frame ((k, less, takes, failing), rose) = (none-first k old new frame less takes, takes.faults, rose)
+frame-refused SendNoMemory old new frame (k, less, takes, failing) = (none-first k old new frame less takes, takes.faults)
 
 -- a frame that wasn't taken
 pub frame-taken : (old new : OutletState) (frame : List ℕ) (stop : Stop) → SendsFrame old new frame (Err stop) → new.taken ≡ old.taken

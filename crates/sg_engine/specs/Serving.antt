@@ -58,7 +58,7 @@ pub record IsQuiet (old new : CoreState) (done : List Record) (feed : InletState
   pub mark : mark_now new ≡ last_end (opening_in old) done
   pub pulls : feed.pulls < rounds
 
--- So many rounds were run: in each the source's position was stored, where it had moved, and the first entry was asked for.
+-- So many rounds were run: each makes two calls on the core at least, to store the position and to ask for the first entry.
 abbrev pub WereRun : List Event → ℕ → Type 0
 WereRun more rounds = 2 * rounds ≤ length more
 

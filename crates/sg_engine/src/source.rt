@@ -133,7 +133,6 @@ fn pull_on<D: Disk, I: Inlet>(
 }
 
 /// Takes whole records, and where there was none, pulls once. Tells whether anything was taken or pulled.
-#[tactic(auto, using(crate::proofs::GivenLemmas::pulls_none))]
 fn read_on<D: Disk, I: Inlet>(
     alloc: Global,
     core: &mut Core<D>,

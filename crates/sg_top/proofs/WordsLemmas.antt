@@ -127,10 +127,10 @@ main-refused old new file kind (Reported status text) reads is wrong = absurd is
 pub main-too-long : (old new : WorldState) (file : List ℕ) (ending : Ending) → OnlyReads old new → IsBeyond old.files file 1048576 → IsMainRefused file TooLong ending → RunsFile old new file ending
 main-too-long old new file ending reads long is = main-refused old new file TooLong ending reads is (inl (long, refl, refl))
 
-pub main-unsupported : (old new : WorldState) (file : List ℕ) (last : State) (tokens : List Token) (ending : Ending) → OnlyReads old new → ComesTo old file (Goes last) → last.out.tokens ≡ Some tokens
+pub main-unsupported : (old read new : WorldState) (file : List ℕ) (last : State) (tokens : List Token) (ending : Ending) → OnlyReads old new → ComesTo old file (Goes last read) → tokens ≡ last.out
     → ((from into : List ℕ) → ¬ IsConfig tokens from into) → IsMainRefused file Unsupported ending → RunsFile old new file ending
-main-unsupported old new file last tokens ending reads comes expanded unread is =
-    main-refused old new file Unsupported ending reads is (inr (inr (last, (tokens, (record { comes = comes; expanded = expanded; unread = unread }, refl, refl)))))
+main-unsupported old read new file last tokens ending reads comes expanded unread is =
+    main-refused old new file Unsupported ending reads is (inr (inr (last, (tokens, (record { read = read; comes = comes; expanded = expanded; unread = unread }, refl, refl)))))
 
 pub main-unread : (old new : WorldState) (file : List ℕ) (ending : Ending) → OnlyReads old new → Rose old.read_faults new.read_faults → new.unread ≡ Some file → IsMainUnread file ending → RunsFile old new file ending
 main-unread old new file (Early status) reads rose unread is = subst (λ s. RunsFile old new file (Early s)) (sym is) (spends-memory old new file reads)
@@ -149,17 +149,17 @@ reads-on old w new first more = (grind arith, grind arith)
 pub comes-to : (old w : WorldState) (file name text : List ℕ) (outcome : Outcome) → OnlyReads old w → IsContent old.files file text → name ≡ file → RunsMain name text w outcome → ComesTo old file outcome
 comes-to old w file name text outcome reads is named runs = (text, (is, (w, (reads, subst (λ n. RunsMain n text w outcome) named runs))))
 
-pub text-faulty : (old w new : WorldState) (file name text : List ℕ) (fault : ConfigFault) (names : List (List ℕ)) (last : State) → OnlyReads old w → OnlyReads w new → IsContent old.files file text → name ≡ file
-    → RunsMain name text w (Stops (Faulty fault) last) → names ≡ last.names → RunsFile old new file (Refused fault names)
-text-faulty old w new file name text fault names last reads more is named runs same =
-    refuses-file old new file fault names (reads-on old w new reads more) (inr (inl (last, (comes-to old w file name text (Stops (Faulty fault) last) reads is named runs, same))))
+pub text-faulty : (old w new : WorldState) (file name text : List ℕ) (fault : ConfigFault) (names : List (List ℕ)) → OnlyReads old w → OnlyReads w new → IsContent old.files file text → name ≡ file
+    → RunsMain name text w (Stops (Faulty fault) names new) → RunsFile old new file (Refused fault names)
+text-faulty old w new file name text fault names reads more is named runs =
+    refuses-file old new file fault names (reads-on old w new reads more) (inr (inl (new, comes-to old w file name text (Stops (Faulty fault) names new) reads is named runs)))
 
-pub text-unread : (old w new : WorldState) (file name text asked : List ℕ) (last : State) → OnlyReads old w → OnlyReads w new → IsContent old.files file text → name ≡ file
-    → RunsMain name text w (Stops (UnreadFile asked) last) → Rose w.read_faults new.read_faults → new.unread ≡ Some asked → RunsFile old new file (Unread asked)
-text-unread old w new file name text asked last reads more is named runs rose unread =
+pub text-unread : (old w new : WorldState) (file name text asked : List ℕ) (names : List (List ℕ)) → OnlyReads old w → OnlyReads w new → IsContent old.files file text → name ≡ file
+    → RunsMain name text w (Stops (UnreadFile asked) names new) → Rose w.read_faults new.read_faults → new.unread ≡ Some asked → RunsFile old new file (Unread asked)
+text-unread old w new file name text asked names reads more is named runs rose unread =
     let low = reads.1 in
     let cause : Rose old.read_faults new.read_faults = omega arith in
-    reads-file old new file (Unread asked) (reads-on old w new reads more) (refl, cause) (inr (last, comes-to old w file name text (Stops (UnreadFile asked) last) reads is named runs), unread) tt
+    reads-file old new file (Unread asked) (reads-on old w new reads more) (refl, cause) (inr (names, (new, comes-to old w file name text (Stops (UnreadFile asked) names new) reads is named runs)), unread) tt
 
 pub text-spends : (old w new : WorldState) (file : List ℕ) → OnlyReads old w → OnlyReads w new → RunsFile old new file (Early NoMemory)
 text-spends old w new file reads more = spends-memory old new file (reads-on old w new reads more)
@@ -241,7 +241,7 @@ conclude-for old w new words file reached ending result run part state later cau
   ran = wide-ran old w new reached (status_in ending) result part.ran state later cause;
   configured = λ other is. subst (λ f. AreConfigured old f reached) (one-file words file other run is) part.configured;
   said = said;
-  complete = λ other last tokens from into is configures told u. complete old new words other last tokens from into reached result cause judged (subst (λ f. Judges old f result) (one-file words file other run is) judges) is configures told u;
+  complete = λ other last tokens from into files is configures told u. complete old new words other last tokens from into files reached result cause judged (subst (λ f. Judges old f result) (one-file words file other run is) judges) is configures told u;
 }
 
 same-counts : (w new : WorldState) → new ≡ record w { say_faults = new.say_faults; said = new.said } → w.say_faults ≤ new.say_faults → (old : WorldState) → KeepsCounts old w → Widens old old w new
@@ -289,7 +289,7 @@ other-for old new words result none state later cause said = record {
   };
   configured = λ file run. absurd (none file run);
   said = said;
-  complete = λ file last tokens from into run is told u. absurd (none file run);
+  complete = λ file last tokens from into files run is told u. absurd (none file run);
 }
 
 pub other-words : (old new : WorldState) (words : List (List ℕ)) (result : Status) → ((file : List ℕ) → ¬ IsRun words file) → Concludes old new (Early Usage) result → Ran old new words result

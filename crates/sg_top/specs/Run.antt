@@ -9,7 +9,6 @@ use Rattle.sg_stable.specs.Position.{IsPosition, IsDamagedAt}
 use Rattle.sg_machine.specs.declared.event.Event.{Event}
 use Rattle.sg_lex.specs.declared.token.Token.{Token}
 use Rattle.sg_expand.specs.Expansion.{State}
-use Rattle.sg_expand.specs.One.{AreTold}
 use Rattle.sg_machine.specs.Verdicts.{is_listed}
 use Rattle.sg_engine.specs.Delivery.{AreFirst, AreAll, TookFirst, TookAll, AreOf, IsDrained, last_end}
 use Rattle.sg_engine.specs.History.{admitted, admit_of, offer_count, settled_frames, IsTaken}
@@ -192,8 +191,8 @@ pub record RanFor (old new : WorldState) (words : List (List ℕ)) (reached : Re
   pub ran : RanWith old new reached status
   pub configured : (file : List ℕ) → IsRun words file → AreConfigured old file reached
   pub said : SaysStatus old new words reached status
-  -- words of a run, a text that is expanded to a configuration, all of whose files are told, and no trouble give success, where memory is there
-  pub complete : (file : List ℕ) (last : State) (tokens : List Token) (from into : List ℕ) → IsRun words file → Configures old file last tokens from into → AreTold old.files last.names → IsUntroubled old new reached → IsComplete status
+  -- words of a run, a text that is expanded to a configuration, files that are told, and no trouble give success, where memory is there
+  pub complete : (file : List ℕ) (last : State) (tokens : List Token) (from into : List ℕ) (files : Files) → IsRun words file → Configures old file last tokens from into → old.files ≡ Some files → IsUntroubled old new reached → IsComplete status
 
 abbrev pub Ran : WorldState → WorldState → List (List ℕ) → Status → Type 0
 Ran old new words status = (reached : Reached) × RanFor old new words reached status

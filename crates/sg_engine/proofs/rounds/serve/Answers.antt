@@ -76,7 +76,6 @@ loop-round-preserved g c =
     let e : c.in-Ok-true.field-0 ≡ true = search (rules, tests) in
     let runs = rw e at c.in-Ok-true.ensures.runs in
     let rests = rw e at c.in-Ok-true.ensures.rests in
-    let asks = rw e at c.in-Ok-true.ensures.asks in
     record {
       ran = record {
         fresh_feed = ran.fresh_feed;
@@ -84,7 +83,7 @@ loop-round-preserved g c =
         framed = ran.framed;
         steps = steps-then n 1 _ (run c.loop-round.core feed c.loop-round.reader drain.taken) (run c.run_round.new.core feed' c.run_round.new.reader drain'.taken) ran.steps runs;
         pulls = omega (arith, ran.pulls, c.in-Ok-true.ensures.pulls.pulls);
-        asks = omega (arith, ran.asks, asks);
+        asks = omega (arith, ran.asks, c.in-Ok-true.ensures.asks);
       };
       room = take-some c.loop-round.buffer.len c.run_round.new.buffer _ some held;
       ready = rests;

@@ -2,7 +2,7 @@
 use Rattle.std.proofs.Common.{◌≡◌, ℕ, ◌+◌, ◌*◌, ◌≤◌, List, [], ◌∷◌, length, drop, Some, None, refl, arith, slice_get}
 use Rattle.sg_list.proofs.ListLemmas.{drop-get, slice_get-all}
 use Rattle.sg_msg.specs.Message.{Pair}
-use Rattle.sg_codec.specs.Lengths.{tag_lengths, pair_lengths}
+use Rattle.sg_msg.specs.Length.{tag_lengths, pair_lengths}
 
 pub tag_lengths-step : (tags : List (List ℕ)) (k : ℕ) (tag : List ℕ) → Some tag ≡ slice_get tags k → tag_lengths (drop k tags) ≡ 4 + length tag + tag_lengths (drop (k + 1) tags)
 tag_lengths-step tags k tag e = rw (drop-get tags k tag (let r : slice_get tags k ≡ Some tag = cc in r)) refl

@@ -1,6 +1,6 @@
 use Rattle.std.proofs.Common.{◌≡◌, ◌≤◌, ◌+◌, ◌*◌, drop}
-use Rattle.sg_codec.specs.Lengths.{tag_lengths}
-use Rattle.sg_codec.proofs.lengths.less_tags.Given as goal
+use Rattle.sg_msg.specs.Length.{tag_lengths}
+use Rattle.sg_msg.proofs.length.less_tags.Given as goal
 
 abbrev pub invariant-loop-tag : goal.invariant-loop-tag
 invariant-loop-tag l = record {

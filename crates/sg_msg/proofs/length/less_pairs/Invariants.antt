@@ -1,6 +1,6 @@
 use Rattle.std.proofs.Common.{◌≡◌, ◌≤◌, ◌+◌, ◌*◌, drop}
-use Rattle.sg_codec.specs.Lengths.{pair_lengths}
-use Rattle.sg_codec.proofs.lengths.less_pairs.Given as goal
+use Rattle.sg_msg.specs.Length.{pair_lengths}
+use Rattle.sg_msg.proofs.length.less_pairs.Given as goal
 
 abbrev pub invariant-loop-name : goal.invariant-loop-name
 invariant-loop-name l = record {

@@ -1,6 +1,6 @@
 use Rattle.std.proofs.Common.{arith}
-use Rattle.sg_codec.proofs.LengthLemmas.{tag_lengths-step, tag_lengths-end}
-use Rattle.sg_codec.proofs.lengths.less_tags.Goals as goal
+use Rattle.sg_msg.proofs.LengthLemmas.{tag_lengths-step, tag_lengths-end}
+use Rattle.sg_msg.proofs.length.less_tags.Goals as goal
 
 pub returns-in_err-left : goal.returns-in_err-left
 returns-in_err-left c =

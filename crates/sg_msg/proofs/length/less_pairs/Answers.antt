@@ -1,6 +1,6 @@
 use Rattle.std.proofs.Common.{arith}
-use Rattle.sg_codec.proofs.LengthLemmas.{pair_lengths-step, pair_lengths-end}
-use Rattle.sg_codec.proofs.lengths.less_pairs.Goals as goal
+use Rattle.sg_msg.proofs.LengthLemmas.{pair_lengths-step, pair_lengths-end}
+use Rattle.sg_msg.proofs.length.less_pairs.Goals as goal
 
 pub returns-in_err-left : goal.returns-in_err-left
 returns-in_err-left c =

@@ -1,4 +1,4 @@
--- How many bytes an entry has in format 2.
+-- How many bytes the entry of a message has in a disk-buffer of format 2.
 use Rattle.std.specs.Prelude.{ℕ, ◌+◌, List, [], ◌∷◌, length}
 use Rattle.sg_msg.specs.Message.{Content, Pair}
 
