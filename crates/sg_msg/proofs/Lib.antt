@@ -8,3 +8,4 @@ mod Prefixes
 pub mod ValueLaws
 pub mod ManyPairs
 mod SortedPairs
+mod KnownNames
