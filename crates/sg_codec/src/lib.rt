@@ -7,13 +7,11 @@ mod laws;
 mod lengths;
 mod reading;
 mod refusal;
-#[cfg(test)]
-mod tests;
 mod writing;
 
 pub use kept::Kept;
 pub use laws::spellings_are_read;
-pub use lengths::{encoded_len, less_entry};
+pub use lengths::encoded_len;
 pub use reading::decode;
 pub use refusal::CodecRefusal;
 pub use writing::encode;

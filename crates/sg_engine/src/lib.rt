@@ -3,12 +3,11 @@
 
 mod delivery;
 mod format;
+mod outgoing;
 mod path;
 mod reader;
 mod rounds;
 mod source;
-#[cfg(test)]
-mod tests;
 
 pub use path::path_setup;
 pub use rounds::{Ended, serve};

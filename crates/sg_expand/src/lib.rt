@@ -16,8 +16,6 @@ mod part;
 mod source;
 mod step;
 mod table;
-#[cfg(test)]
-mod tests;
 mod token;
 mod uses;
 mod values;

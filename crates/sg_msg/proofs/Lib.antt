@@ -9,3 +9,4 @@ pub mod ValueLaws
 pub mod ManyPairs
 mod SortedPairs
 mod KnownNames
+pub mod LengthLemmas

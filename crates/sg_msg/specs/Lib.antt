@@ -1,5 +1,6 @@
 pub mod Macros
 pub mod Message
+pub mod Length
 pub mod Places
 pub mod Sorting
 pub mod Build

@@ -5,6 +5,7 @@ mod base;
 mod builder;
 mod copy;
 mod front;
+mod length;
 mod macros;
 mod message;
 mod offer;
@@ -13,12 +14,11 @@ mod refusal;
 mod sets;
 mod sorting;
 mod tags;
-#[cfg(test)]
-mod tests;
 
 pub use builder::{MessageBuilder, PairName};
 pub use copy::copied;
 pub use front::{has_at, priority};
+pub use length::less_entry;
 pub use macros::is_hard;
 pub use message::Message;
 pub use offer::Offer;
