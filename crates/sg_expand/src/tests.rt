@@ -6,6 +6,7 @@ use crate::{ExpandRefusal, Expanded, Files, expand};
 use sg_device::{FileRefusal, Name, NoMemory};
 use sg_lex::{ConfigFault, Token, TokenKind};
 use sg_list::Seq;
+use sg_outside::Machine;
 use std::alloc::{AllocError, Global};
 use std::test::Fail;
 
@@ -16,7 +17,7 @@ struct Texts {
     faults: u64,
 }
 
-impl Files for Texts {
+impl Machine for Texts {
     ghost use Rattle.std.specs.Prelude.{None, []};
 
     ghost state = { λ texts. record {
@@ -26,12 +27,15 @@ impl Files for Texts {
       stores = record { opened = []; closed = [] };
       said = None;
       read_faults = texts.faults;
+      unread = None;
       inlet_faults = 0;
       outlet_faults = 0;
       store_faults = 0;
       say_faults = 0;
     } };
+}
 
+impl Files for Texts {
     fn read(&mut self, alloc: Global, name: &[u8]) -> Result<Vec<u8>, FileRefusal> {
         if name == b"broken".as_slice() {
             self.faults = self.faults.saturating_add(1);
