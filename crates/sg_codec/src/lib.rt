@@ -7,8 +7,6 @@ mod laws;
 mod lengths;
 mod reading;
 mod refusal;
-#[cfg(test)]
-mod tests;
 mod writing;
 
 pub use kept::Kept;

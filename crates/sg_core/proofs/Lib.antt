@@ -15,4 +15,3 @@ pub mod ImageLaws
 pub mod OpenSteps
 pub mod OpenLemmas
 pub mod CallLemmas
-pub mod TestLemmas

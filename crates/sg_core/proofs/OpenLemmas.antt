@@ -3,6 +3,7 @@ use Rattle.std.proofs.Common.{◌≡◌, ◌≢◌, ℕ, ◌+◌, ◌*◌, ◌<�
 use Rattle.std.specs.Prelude.{option_to_list}
 use Rattle.sg_list.proofs.ListLemmas.{some-same, slice_get-some}
 use Rattle.sg_device.specs.Disk.{DiskState, content, IsImage, EachNow, Durable, Preserves}
+use Rattle.sg_device.proofs.DiskCalls.{tells_same}
 use Rattle.sg_stable.specs.Position.{IsPosition}
 use Rattle.sg_machine.specs.declared.setup.SourceSetup.{SourceSetup}
 use Rattle.sg_machine.specs.declared.setup.DestSetup.{DestSetup}
@@ -144,7 +145,7 @@ pub preserved-opened : (disks : List DiskState) (stores : List StoreState) → A
 preserved-opened [] [] o = tt
 preserved-opened [] (s ∷ stores) o = absurd o
 preserved-opened (d ∷ disks) [] o = absurd o
-preserved-opened (d ∷ disks) (s ∷ stores) o = ((o.0).preserves, (o.0).later, preserved-opened disks stores o.1)
+preserved-opened (d ∷ disks) (s ∷ stores) o = (tells_same d s.disk (o.0).preserves, (o.0).later, preserved-opened disks stores o.1)
 
 setups-sources : (stores : List StoreState) (ss : List SourceSetup) → map (λ (x : Source). x.setup) (map (opened_source stores) ss) ≡ ss
 setups-sources stores [] = refl

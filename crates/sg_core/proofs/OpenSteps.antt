@@ -1,9 +1,9 @@
 -- Stores that are opened one after another.
 use Rattle.std.proofs.Common.{◌≡◌, ℕ, ◌+◌, ◌<◌, ◌≤◌, List, [], ◌∷◌, ◌++◌, length, Some, None, Option, refl, sym, ap, ◌∙◌, arith, suc, zero, slice_get, slice_index_or, subst, map, take}
 use Rattle.std.proofs.lemmas.List.{append-nil}
-use Rattle.sg_device.specs.Disk.{DiskState, content, WhereTold, Preserves}
+use Rattle.sg_device.specs.Disk.{DiskState, content, WhereTold, Rests}
 use Rattle.sg_device.proofs.Disks.{preserves_refl}
-use Rattle.sg_device.proofs.DiskCalls.{unchanged}
+use Rattle.sg_device.proofs.DiskCalls.{unchanged, tells_same}
 use Rattle.sg_stable.specs.Position.{IsPosition}
 use Rattle.sg_stable.specs.Refusal.{HasReason as StoreReason}
 use Rattle.sg_stable.specs.declared.fault.StoreRefusal.{StoreRefusal}
@@ -51,14 +51,14 @@ opening-done all held o = subst (λ (ds : List DiskState). AreOpened ds held) (s
 
 pub preserved-refl : (disks : List DiskState) → ArePreserved disks disks
 preserved-refl [] = tt
-preserved-refl (d ∷ disks) = (unchanged d d refl, omega arith, preserved-refl disks)
+preserved-refl (d ∷ disks) = (tells_same d d (unchanged d d refl), omega arith, preserved-refl disks)
 
-preserved-back : (done : List DiskState) (held : List StoreState) (disk new : DiskState) (rest : List DiskState) → AreOpened done held → Preserves disk new → disk.faults ≤ new.faults
+preserved-back : (done : List DiskState) (held : List StoreState) (disk new : DiskState) (rest : List DiskState) → AreOpened done held → Rests disk new → disk.faults ≤ new.faults
     → ArePreserved (done ++ disk ∷ rest) (map (λ (s : StoreState). s.disk) held ++ new ∷ rest)
 preserved-back [] [] disk new rest all one later = (one, later, preserved-refl rest)
 preserved-back [] (s ∷ held) disk new rest all one later = absurd all
 preserved-back (d ∷ done) [] disk new rest all one later = absurd all
-preserved-back (d ∷ done) (s ∷ held) disk new rest all one later = ((all.0).preserves, (all.0).later, preserved-back done held disk new rest all.1 one later)
+preserved-back (d ∷ done) (s ∷ held) disk new rest all one later = (tells_same d s.disk (all.0).preserves, (all.0).later, preserved-back done held disk new rest all.1 one later)
 
 stores-opened : (done : List DiskState) (held : List StoreState) → AreOpened done held → AreStores done
 stores-opened [] held all = tt
@@ -98,7 +98,7 @@ reason-back done held disk new rest DiskFault all why = (
 reason-back done held disk new rest NoMemory all why = tt
 
 -- the store behind those that were opened is refused
-pub opening-refused : (all : List DiskState) (held : List StoreState) (disk new : DiskState) (rest : List DiskState) (refusal : StoreRefusal) → IsOpening all held (disk ∷ rest) → Preserves disk new → disk.faults ≤ new.faults → StoreReason disk new refusal
+pub opening-refused : (all : List DiskState) (held : List StoreState) (disk new : DiskState) (rest : List DiskState) (refusal : StoreRefusal) → IsOpening all held (disk ∷ rest) → Rests disk new → disk.faults ≤ new.faults → StoreReason disk new refusal
     → IsRefused all (map (λ (s : StoreState). s.disk) held ++ new ∷ rest) (refusal_of (length held) refusal)
 opening-refused all held disk new rest refusal o same later why =
     let back : IsRefused (o.done ++ disk ∷ rest) (map (λ (s : StoreState). s.disk) held ++ new ∷ rest) (refusal_of (length held) refusal) = record {

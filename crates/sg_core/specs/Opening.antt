@@ -1,6 +1,6 @@
 -- The opening of a core.
 use Rattle.std.specs.Prelude.{◌≡◌, ◌≤◌, ◌<◌, ℕ, Option, Some, None, List, [], ◌∷◌, length, map, take, slice_get}
-use Rattle.sg_device.specs.Disk.{DiskState, content, WhereTold, Preserves}
+use Rattle.sg_device.specs.Disk.{DiskState, content, WhereTold, Rests}
 use Rattle.sg_device.specs.Faults.{Rose}
 use Rattle.sg_stable.specs.Position.{IsPosition, IsDamagedAt}
 use Rattle.sg_stable.specs.declared.fault.StoreRefusal.{StoreRefusal}
@@ -52,12 +52,12 @@ pub record IsOpen (setup : Setup) (disks : List DiskState) (core : CoreState) : 
   pub calls : core.calls ≡ 0
   pub setups : setup_of core ≡ setup
 
--- the disks come back, and hold what they held
+-- the disks come back, and hold what they held: no image is added
 abbrev pub ArePreserved : List DiskState → List DiskState → Type 0
 ArePreserved [] [] = Unit {0}
 ArePreserved [] (new ∷ news) = ⊥
 ArePreserved (old ∷ olds) [] = ⊥
-ArePreserved (old ∷ olds) (new ∷ news) = Preserves old new × (old.faults ≤ new.faults) × ArePreserved olds news
+ArePreserved (old ∷ olds) (new ∷ news) = Rests old new × (old.faults ≤ new.faults) × ArePreserved olds news
 
 -- each of these disks holds a position, where it tells its bytes
 abbrev pub AreStores : List DiskState → Type 0

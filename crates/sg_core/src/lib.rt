@@ -19,6 +19,3 @@ pub use calls::{CoreCall, CoreReply};
 pub use counter::{Counter, calls_are_events};
 pub use flow::Core;
 pub use laws::{images_are_safe, images_open_again, images_within_are_safe};
-
-#[cfg(test)]
-mod tests;

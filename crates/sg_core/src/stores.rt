@@ -1,7 +1,7 @@
 // The position stores of the core.
 ghost use Rattle.std.specs.Prelude.{◌≡◌, ◌≤◌, ◌<◌, [], IfOk, IfErr, map, length, slice_get, vec_capacity, option_map, Some};
 ghost use Rattle.sg_stable.specs.Refusal.{HasReason as StoreReason};
-ghost use Rattle.sg_device.specs.Disk.{Preserves};
+ghost use Rattle.sg_device.specs.Disk.{Rests};
 ghost use Rattle.sg_core.specs.Stores.{IsOpened, Writes, WritesAt, Goes, stored_in};
 ghost use Rattle.sg_core.specs.Parts.{IsThere};
 
@@ -33,7 +33,7 @@ impl<D: Disk> Store<D> {
     /// Opens a store. A refusal gives the disk back.
     pub fn open(disk: D) -> Result<Store<D>, (D, StoreRefusal)>
         ensures opened { IfOk result (IsOpened (D.state disk)) }
-        ensures err_preserves { IfErr result (λ e. Preserves (D.state disk) (D.state e.0)) }
+        ensures err_rests { IfErr result (λ e. Rests (D.state disk) (D.state e.0)) }
         ensures err_later { IfErr result (λ e. (D.state disk).faults ≤ (D.state e.0).faults) }
         ensures reason { IfErr result (λ e. StoreReason (D.state disk) (D.state e.0) e.1) }
     {

@@ -1,9 +1,9 @@
 -- What each call of a disk does to its bytes and to what a crash may leave.
-use Rattle.std.proofs.Common.{◌≡◌, inl, inr, ℕ, suc, ◌-◌, ◌≤◌, List, [], ◌∷◌, length, take, drop, refl, sym, ap, subst, arith, Some, None, Option, length-take}
-use Rattle.std.specs.Prelude.{Result, Ok, Err}
+use Rattle.std.proofs.Common.{◌≡◌, inl, inr, ⊎_elim, ℕ, suc, ◌-◌, ◌≤◌, List, [], ◌∷◌, length, take, drop, refl, sym, ap, subst, arith, Some, None, Option, length-take}
+use Rattle.std.specs.Prelude.{Result, Ok, Err, is_some}
 use Rattle.std.specs.Option.{option_map}
 use Rattle.sg_device.specs.DiskBytes.{overwritten, Torn, Written, Same}
-use Rattle.sg_device.specs.Disk.{DiskEvent, Wrote, Tore, Synced, DiskLog, DiskState, with_event, bytes_after, IsLeft, content, IsImage, Changes, Elapses, Preserves, Durable, Writes, Syncs, Moves}
+use Rattle.sg_device.specs.Disk.{DiskEvent, Wrote, Tore, Synced, Lost, DiskLog, DiskState, with_event, bytes_after, IsLeft, content, IsImage, Changes, Elapses, Preserves, Rests, Durable, Writes, Syncs, Moves}
 use Rattle.sg_device.specs.declared.fault.DiskFault.{DiskFault}
 use Rattle.sg_device.proofs.Parts.{written_by, torn_of_written, torn_refl}
 use Rattle.sg_device.proofs.Disks.{changed, preserves_refl}
@@ -27,6 +27,7 @@ left_as_read first [] = refl
 left_as_read first (Wrote at bytes ∷ earlier) = (bytes_after first earlier, left_as_read first earlier, torn_of_written at bytes _ _ (written_by at bytes (bytes_after first earlier)))
 left_as_read first (Tore at n bytes ∷ earlier) = (bytes_after first earlier, left_as_read first earlier, torn_by at n bytes (bytes_after first earlier))
 left_as_read first (Synced ∷ earlier) = refl
+left_as_read first (Lost left ∷ earlier) = inr refl
 
 -- all events, at their number or later
 all_events : (t : ℕ) (events : List DiskEvent) → length events ≤ t → drop (length events - t) events ≡ events
@@ -45,6 +46,10 @@ told_as_image (Some log) f b is =
 -- the disk as it reads is one of its images
 pub reads_as_image : (disk : DiskState) (b : List ℕ) → content disk ≡ Some b → IsImage disk b
 reads_as_image disk b is = told_as_image disk.told disk.faults b is
+
+-- what is left after all events is an image
+pub image_now : (log : DiskLog) (f : ℕ) (c : List ℕ) → IsLeft log.first log.events c → IsImage (record { told = Some log; faults = f }) c
+image_now log f c left = subst (λ (l : List DiskEvent). IsLeft log.first l c) (sym (all_events (length log.events) log.events (omega arith))) left
 
 -- one event more leads each image on by a step
 module _ (step : List ℕ → List ℕ → Type 0) (event : DiskEvent) (goes : (first : List ℕ) (earlier : List DiskEvent) (c : List ℕ) → IsLeft first (event ∷ earlier) c → (d : List ℕ) × IsLeft first earlier d × step d c) where
@@ -96,13 +101,38 @@ write_changes old new at bytes (Err e) (inr torn) = changes_by (Torn at (length 
 pub write_written : (old new : DiskState) (at : ℕ) (bytes : List ℕ) → new.told ≡ option_map (with_event (Wrote at bytes)) old.told → Changes (Written at bytes) (content old) (content new)
 write_written old new at bytes is = changes_by (Written at bytes) (Wrote at bytes) (λ first earlier. written_by at bytes (bytes_after first earlier)) old new is
 
--- a sync, whatever it answers
-pub sync_preserves : (old new : DiskState) (result : Result Unit DiskFault) → Syncs old new result → Preserves old new
-sync_preserves old new (Ok done) is = record {
+-- a call after which bytes are told exactly where they were told before
+pub tells_same : (old new : DiskState) → Preserves old new → Rests old new
+tells_same old new keeps = record { tells = keeps.told.tells; still = keeps.still }
+
+-- a sync that succeeds
+pub sync_preserves : (old new : DiskState) → new.told ≡ option_map (with_event Synced) old.told → Preserves old new
+sync_preserves old new is = record {
   told = changes_by Same Synced (λ first earlier. refl) old new is;
   still = elapses_by Same Synced (λ first earlier c left. (bytes_after first earlier, left_as_read first earlier, left)) old new is;
 }
-sync_preserves old new (Err e) is = unchanged old new is
+
+-- one that fails, and of which a read gives this image since
+lost_elapses : (f g : ℕ) (told : Option DiskLog) (lost : List ℕ) → IsImage (record { told = told; faults = f }) lost → Elapses Same (record { told = told; faults = f }) (record { told = option_map (with_event (Lost lost)) told; faults = g })
+lost_elapses f g None lost is = absurd is
+lost_elapses f g (Some log) lost is = record {
+  later = omega arith;
+  past = λ t c le left. subst (λ (l : List DiskEvent). IsLeft log.first l c) (past_events t (Lost lost) log.events le) left;
+  kept = λ t c le left. subst (λ (l : List DiskEvent). IsLeft log.first l c) (sym (past_events t (Lost lost) log.events le)) left;
+  since = λ t c lt le left.
+      let now : IsLeft log.first (Lost lost ∷ log.events) c = subst (λ (l : List DiskEvent). IsLeft log.first l c) (all_events t (Lost lost ∷ log.events) (omega (arith, lt))) left in
+      ⊎_elim (λ (before : IsLeft log.first log.events c). (c, image_now log f c before, refl)) (λ (same : c ≡ lost). (lost, is, same)) now;
+}
+
+told_lost : (f : ℕ) (told : Option DiskLog) (lost : List ℕ) → is_some (content (record { told = option_map (with_event (Lost lost)) told; faults = f })) ≡ is_some (content (record { told = told; faults = f }))
+told_lost f None lost = refl
+told_lost f (Some log) lost = refl
+
+-- a sync, whatever it answers
+pub sync_rests : (old new : DiskState) (result : Result Unit DiskFault) → Syncs old new result → Rests old new
+sync_rests old new (Ok done) is = tells_same old new (sync_preserves old new is)
+sync_rests old new (Err e) (inl is) = tells_same old new (unchanged old new is)
+sync_rests old new (Err e) (inr lost) = subst (λ (told : Option DiskLog). Rests old (record { told = told; faults = new.faults })) (sym lost.2) (let after : Rests old (record { told = option_map (with_event (Lost lost.0)) old.told; faults = new.faults }) = record { tells = told_lost 0 old.told lost.0; still = lost_elapses old.faults new.faults old.told lost.0 lost.1 } in after)
 
 event_durable : (g : ℕ) (told : Option DiskLog) → Durable (record { told = option_map (with_event Synced) told; faults = g })
 event_durable g None c left = absurd left
@@ -131,7 +161,3 @@ content_same old new is = ap (λ (told : Option DiskLog). content (record { told
 
 pub durable_same : (old new : DiskState) → new.told ≡ old.told → Durable old → Durable new
 durable_same old new is durable = subst (λ (told : Option DiskLog). Durable (record { told = told; faults = new.faults })) (sym is) durable
-
--- what is left after all events is an image
-pub image_now : (log : DiskLog) (f : ℕ) (c : List ℕ) → IsLeft log.first log.events c → IsImage (record { told = Some log; faults = f }) c
-image_now log f c left = subst (λ (l : List DiskEvent). IsLeft log.first l c) (sym (all_events (length log.events) log.events (omega arith))) left

@@ -1,3 +1,5 @@
 pub mod Parts
 pub mod Disks
 pub mod DiskCalls
+pub mod FrameLemmas
+pub mod Inlets

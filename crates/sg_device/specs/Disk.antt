@@ -2,7 +2,8 @@
 --
 -- Between two syncs each range that was written, and the part past the old end, may hold any bytes after a crash; all other
 -- bytes stay. After a sync that succeeded a crash leaves what a read gives. A write that fails may leave any bytes in its
--- range. POSIX.1-2017 (pwrite, fsync) promises no more; a gap before a write's place reads as zeros (lseek).
+-- range. After a sync that failed a read may give any of the images: Linux marks the pages as clean and may drop them (fsync(2),
+-- Errors). POSIX.1-2017 (pwrite, fsync) promises no more; a gap before a write's place reads as zeros (lseek).
 use Rattle.std.specs.Prelude.{◌≡◌, ◌⊎◌, ℕ, ◌-◌, ◌<◌, ◌≤◌, ◌^◌, List, [], ◌∷◌, length, take, drop, Option, Some, None, is_some, Result, Ok, Err, OnErr, IfOk}
 use Rattle.std.specs.Option.{option_map}
 use Rattle.sg_device.specs.DiskBytes.{overwritten, Torn, IsRead, Same}
@@ -10,11 +11,12 @@ use Rattle.sg_device.specs.Faults.{Rose}
 use Rattle.sg_device.specs.declared.fault.DiskFault.{DiskFault}
 
 -- What happened: bytes were written at a place; a write of so many bytes at a place failed, and these bytes, or as many of
--- them as there was to write, stand there since; a sync succeeded.
+-- them as there was to write, stand there since; a sync succeeded; a sync failed, and a read gives these bytes since.
 pub data DiskEvent : Type 0 where
   Wrote : ℕ → List ℕ → DiskEvent
   Tore : ℕ → ℕ → List ℕ → DiskEvent
   Synced : DiskEvent
+  Lost : List ℕ → DiskEvent
 
 pub record DiskLog : Type 0 where
   -- the bytes at first, all of them stable
@@ -41,13 +43,16 @@ bytes_after first [] = first
 bytes_after first (Wrote at bytes ∷ earlier) = overwritten at bytes (bytes_after first earlier)
 bytes_after first (Tore at n bytes ∷ earlier) = overwritten at (take n bytes) (bytes_after first earlier)
 bytes_after first (Synced ∷ earlier) = bytes_after first earlier
+bytes_after first (Lost left ∷ earlier) = left
 
--- what a crash may leave after these events
+-- What a crash may leave after these events. What a failed sync leaves to be read is one of the images before it (Syncs), so
+-- none is added by it.
 abbrev pub IsLeft : List ℕ → List DiskEvent → List ℕ → Type 0
 IsLeft first [] bytes = bytes ≡ first
 IsLeft first (Wrote at written ∷ earlier) bytes = (before : List ℕ) × IsLeft first earlier before × Torn at (length written) before bytes
 IsLeft first (Tore at n written ∷ earlier) bytes = (before : List ℕ) × IsLeft first earlier before × Torn at n before bytes
 IsLeft first (Synced ∷ earlier) bytes = bytes ≡ bytes_after first earlier
+IsLeft first (Lost left ∷ earlier) bytes = IsLeft first earlier bytes ⊎ (bytes ≡ left)
 
 -- the same at a moment: after so many of the events
 abbrev pub IsLeftAt : Option DiskLog → ℕ → List ℕ → Type 0
@@ -109,10 +114,10 @@ abbrev pub Writes : DiskState → DiskState → ℕ → List ℕ → Result Unit
 Writes old new at bytes (Ok done) = new.told ≡ option_map (with_event (Wrote at bytes)) old.told
 Writes old new at bytes (Err e) = (new.told ≡ old.told) ⊎ ((left : List ℕ) × (new.told ≡ option_map (with_event (Tore at (length bytes) left)) old.told))
 
--- a sync that succeeds is an event
+-- A sync that succeeds is an event. One that fails is none, or a read gives one of the images since.
 abbrev pub Syncs : DiskState → DiskState → Result Unit DiskFault → Type 0
 Syncs old new (Ok done) = new.told ≡ option_map (with_event Synced) old.told
-Syncs old new (Err e) = new.told ≡ old.told
+Syncs old new (Err e) = (new.told ≡ old.told) ⊎ ((left : List ℕ) × IsImage old left × (new.told ≡ option_map (with_event (Lost left)) old.told))
 
 -- Where a disk tells its bytes after a call, it told them before it, and the step leads from those to these.
 -- A disk that tells its bytes goes on to.
@@ -130,6 +135,11 @@ pub record Elapses (step : List ℕ → List ℕ → Type 0) (old new : DiskStat
 -- The bytes stay, and so do the images, but that a sync may take some away.
 pub record Preserves (old new : DiskState) : Type 0 where
   pub told : Changes Same (content old) (content new)
+  pub still : Elapses Same old new
+
+-- No image is added, and what was told is told on; but a read may give another of the images.
+pub record Rests (old new : DiskState) : Type 0 where
+  pub tells : is_some (content new) ≡ is_some (content old)
   pub still : Elapses Same old new
 
 -- from old to new time goes on, and the past stays as it was

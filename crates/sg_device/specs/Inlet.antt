@@ -1,5 +1,5 @@
 -- What an inlet has given, and what its calls do to that.
-use Rattle.std.specs.Prelude.{◌≡◌, ◌<◌, ◌≤◌, ℕ, ℤ, pos, ◌≤ℤ◌, ◌+◌, ◌^◌, max, List, [], ◌∷◌, ◌++◌, map, take, replicate, Option, Result, Ok, Err, Bool, true, false, IfSome}
+use Rattle.std.specs.Prelude.{◌≡◌, ◌<◌, ◌≤◌, ℕ, ℤ, pos, ◌≤ℤ◌, ◌+◌, ◌^◌, max, List, [], ◌∷◌, ◌++◌, length, map, take, replicate, Option, Some, None, Result, Ok, Err, Bool, true, false, IfSome}
 use Rattle.std.specs.Option.{option_map}
 use Rattle.sg_device.specs.Faults.{Rose}
 use Rattle.sg_device.specs.declared.inlet.Pull.{Pull}
@@ -35,6 +35,8 @@ pub record InletState : Type 0 where
   -- it answered End; the present part was closed
   pub ended : Bool
   pub hung : Bool
+  -- all its bytes are one part, as those of a file are
+  pub single : Bool
 
 abbrev pub stamped : List ℕ → ℤ → List Stamped
 stamped bytes at = map (λ b. (b, at)) bytes
@@ -81,13 +83,13 @@ PullLeaves old new into (Ok Idle) = new.left ≡ old.left
 PullLeaves old new into (Ok End) = (new.left ≡ old.left) × (old.hung ≡ false → new.left ≡ option_map (λ _. []) old.left)
 PullLeaves old new into (Err e) = new.left ≡ old.left
 
--- an end is for good, and a part that was hung up gives no more bytes
+-- an end is for good, a part that was hung up gives no more bytes, and a file has no second part
 abbrev pub PullCounts : InletState → InletState → Result Pull InletFault → Type 0
-PullCounts old new (Ok (Bytes len at)) = (new.pulls ≡ old.pulls + 1) × (new.idles ≡ old.idles) × (new.bytes ≡ old.bytes + len) × (new.parts ≡ max old.parts 1) × (old.ended ≡ false) × (new.ended ≡ false) × (old.hung ≡ false) × (new.hung ≡ false)
-PullCounts old new (Ok Next) = (new.pulls ≡ old.pulls + 1) × (new.idles ≡ old.idles) × (new.bytes ≡ old.bytes) × (new.parts ≡ old.parts + 1) × (old.ended ≡ false) × (new.ended ≡ false) × (new.hung ≡ false)
-PullCounts old new (Ok Idle) = (new.pulls ≡ old.pulls + 1) × (new.idles ≡ old.idles + 1) × (new.bytes ≡ old.bytes) × (new.parts ≡ old.parts) × (old.ended ≡ false) × (new.ended ≡ false) × (new.hung ≡ old.hung)
-PullCounts old new (Ok End) = (new.pulls ≡ old.pulls + 1) × (new.idles ≡ old.idles) × (new.bytes ≡ old.bytes) × (new.parts ≡ old.parts) × (new.ended ≡ true) × (new.hung ≡ old.hung)
-PullCounts old new (Err e) = (new.pulls ≡ old.pulls) × (new.idles ≡ old.idles) × (new.bytes ≡ old.bytes) × (new.parts ≡ old.parts) × (new.ended ≡ old.ended) × (new.hung ≡ old.hung)
+PullCounts old new (Ok (Bytes len at)) = (new.pulls ≡ old.pulls + 1) × (new.idles ≡ old.idles) × (new.bytes ≡ old.bytes + len) × (new.parts ≡ max old.parts 1) × (old.ended ≡ false) × (new.ended ≡ false) × (old.hung ≡ false) × (new.hung ≡ false) × (new.single ≡ old.single)
+PullCounts old new (Ok Next) = (new.pulls ≡ old.pulls + 1) × (new.idles ≡ old.idles) × (new.bytes ≡ old.bytes) × (new.parts ≡ old.parts + 1) × (old.ended ≡ false) × (new.ended ≡ false) × (new.hung ≡ false) × (old.single ≡ false) × (new.single ≡ false)
+PullCounts old new (Ok Idle) = (new.pulls ≡ old.pulls + 1) × (new.idles ≡ old.idles + 1) × (new.bytes ≡ old.bytes) × (new.parts ≡ old.parts) × (old.ended ≡ false) × (new.ended ≡ false) × (new.hung ≡ old.hung) × (new.single ≡ old.single)
+PullCounts old new (Ok End) = (new.pulls ≡ old.pulls + 1) × (new.idles ≡ old.idles) × (new.bytes ≡ old.bytes) × (new.parts ≡ old.parts) × (new.ended ≡ true) × (new.hung ≡ old.hung) × (new.single ≡ old.single)
+PullCounts old new (Err e) = (new.pulls ≡ old.pulls) × (new.idles ≡ old.idles) × (new.bytes ≡ old.bytes) × (new.parts ≡ old.parts) × (new.ended ≡ old.ended) × (new.hung ≡ old.hung) × (new.single ≡ old.single)
 
 abbrev pub PullFaults : InletState → InletState → Result Pull InletFault → Type 0
 PullFaults old new (Ok pull) = old.faults ≤ new.faults
@@ -112,3 +114,33 @@ pub record IsFresh (inlet : InletState) : Type 0 where
 -- the present part is closed, and nothing else changed
 abbrev pub HangsUp : InletState → InletState → Type 0
 HangsUp old new = new ≡ record old { hung = true }
+
+-- the parts go on: the earlier ones stay, the last one has more bytes or as many, and others may follow
+abbrev pub GoesOn : List Part → List Part → Type 0
+GoesOn [] later = Unit {0}
+GoesOn (part ∷ []) later = (more : List Stamped) × ((rest : List Part) × (later ≡ (record part { given = part.given ++ more }) ∷ rest))
+GoesOn (part ∷ next ∷ parts) later = (rest : List Part) × ((later ≡ part ∷ rest) × GoesOn (next ∷ parts) rest)
+
+-- the same, where the parts are told; and an inlet that tells them goes on to
+abbrev pub TellsOn : Option (List Part) → Option (List Part) → Type 0
+TellsOn None later = later ≡ None
+TellsOn (Some parts) None = ⊥
+TellsOn (Some parts) (Some later) = GoesOn parts later
+
+-- What any calls leave of an inlet's past: what was given only grows, and came off the front of what a file had left.
+pub record Advances (old new : InletState) : Type 0 where
+  pub told : TellsOn old.told new.told
+  -- the bytes that a file gave meanwhile
+  pub given : List ℕ
+  pub left : old.left ≡ option_map (λ left. given ++ left) new.left
+  pub bytes : new.bytes ≡ old.bytes + length given
+  pub from : new.from ≡ old.from
+  pub parts : old.parts ≤ new.parts
+  pub pulls : old.pulls ≤ new.pulls
+  pub idles : old.idles ≤ new.idles
+  pub faults : old.faults ≤ new.faults
+  pub ended : old.ended ≡ true → new.ended ≡ true
+  pub single : new.single ≡ old.single
+  -- a file's place goes on by what it gave, and it has no second part
+  pub place : old.single ≡ true → new.place ≡ old.place + length given
+  pub one : old.single ≡ true → new.parts ≤ max old.parts 1

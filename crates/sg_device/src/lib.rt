@@ -4,16 +4,18 @@
 
 mod disk;
 mod fault;
+mod frames;
 mod inlet;
 mod name;
+mod opener;
 mod outlet;
-mod request;
 
 pub use disk::{Disk, write_through};
 pub use fault::{
     DiskFault, FileRefusal, InletFault, NoMemory, OpenRefusal, OutletFault, SayRefusal, SendRefusal,
 };
+pub use frames::Frames;
 pub use inlet::{Inlet, Pull};
 pub use name::Name;
-pub use outlet::{Outlet, Taken};
-pub use request::{InletSpec, OutletSpec, StoreSpec};
+pub use opener::Opener;
+pub use outlet::{Outlet, Reopened};

@@ -1,12 +1,16 @@
 // Where frames go.
+ghost use Rattle.std.specs.Prelude.{◌≡◌, ◌≢◌, []};
 ghost use Rattle.sg_device.specs.Outlet.{OutletState, Sends, Reopens};
 
-use crate::{OutletFault, SendRefusal};
+use crate::{Frames, OutletFault, SendRefusal};
 
-/// A frame was taken: the number of frames taken so far, this one included.
+/// What a reopening came to.
 #[derive(Clone, Copy, Debug, PartialEq, Eq, Drop)]
-pub struct Taken {
-    pub count: u64,
+pub enum Reopened {
+    /// The file or the connection is open anew.
+    Ready,
+    /// It is too early to try. This is no fault.
+    Later,
 }
 
 /// A taker of whole frames, in order.
@@ -14,11 +18,17 @@ pub trait Outlet {
     /// The frames taken since the outlet was made, and its counts.
     ghost state: { Self → OutletState };
 
-    /// Takes the frame whole, or nothing that is claimed.
-    fn send(&mut self, frame: &[u8]) -> Result<Taken, SendRefusal>
-        ensures { Sends (state self.old) (state self.new) frame.now result };
+    /// Takes the frames in order. A refusal took the first ones of them, fewer than all, perhaps
+    /// none, and never a part of one.
+    fn send(&mut self, frames: &Frames) -> Result<(), SendRefusal>
+        requires { frames.now ≢ [] }
+        ensures { Sends (state self.old) (state self.new) frames.now result };
+
+    /// The number of frames taken since the outlet was made.
+    fn taken(&self) -> u64
+        ensures { result ≡ (state self.now).count };
 
     /// Opens the file or the connection behind the outlet anew.
-    fn reopen(&mut self) -> Result<(), OutletFault>
+    fn reopen(&mut self) -> Result<Reopened, OutletFault>
         ensures { Reopens (state self.old) (state self.new) result };
 }

@@ -7,8 +7,6 @@ mod path;
 mod reader;
 mod rounds;
 mod source;
-#[cfg(test)]
-mod tests;
 
 pub use path::path_setup;
 pub use rounds::{Ended, serve};

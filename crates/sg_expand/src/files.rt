@@ -10,5 +10,5 @@ use std::alloc::Global;
 pub trait Files: Machine {
     /// The whole file of this name, if it has at most 1,048,576 bytes.
     fn read(&mut self, alloc: Global, name: &[u8]) -> Result<Vec<u8>, FileRefusal>
-        ensures { Reads (state self.old) (state self.new) name.now 1048576 result };
+        ensures { Reads (Self.state self.old) (Self.state self.new) name.now 1048576 result };
 }

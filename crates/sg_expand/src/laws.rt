@@ -1,5 +1,5 @@
 // What holds of every expansion. The functions here do nothing: their contracts are laws.
-ghost use Rattle.std.specs.Prelude.{◌≡◌, ℕ, List, Some};
+ghost use Rattle.std.specs.Prelude.{◌≡◌, ℕ, List, Some, true};
 ghost use Rattle.sg_outside.specs.World.{WorldState, Files};
 ghost use Rattle.sg_lex.specs.declared.token.Token.{Token};
 ghost use Rattle.sg_expand.specs.Expansion.{Outcome, Tokens, Runs, RunsMain, first_context, first_state};

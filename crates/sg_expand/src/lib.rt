@@ -10,8 +10,6 @@ mod frame;
 mod include;
 mod laws;
 mod step;
-#[cfg(test)]
-mod tests;
 mod total;
 mod uses;
 

@@ -1,5 +1,5 @@
 // Uses of blocks.
-ghost use Rattle.std.specs.Prelude.{◌≡◌, ◌+◌, ◌^◌, ◌<◌, ◌≤◌, [], ◌∷◌, length, OnOk};
+ghost use Rattle.std.specs.Prelude.{◌≡◌, ◌+◌, ◌^◌, ◌<◌, ◌≤◌, [], ◌∷◌, true, length, OnOk};
 ghost use Rattle.std.specs.FinMap as map;
 ghost use Rattle.sg_block.specs.Trimmed.{trimmed};
 ghost use Rattle.sg_block.specs.Tokens.{size_of, line_at};

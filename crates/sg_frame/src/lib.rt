@@ -8,6 +8,3 @@ mod scan;
 
 pub use framer::{Framed, Framer};
 pub use kind::FrameKind;
-
-#[cfg(test)]
-mod tests;

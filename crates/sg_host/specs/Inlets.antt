@@ -2,10 +2,10 @@
 use Rattle.std.specs.Prelude.{◌≡◌, ◌≤◌, ℕ, None, map}
 use Rattle.sg_device.specs.Faults.{Rose}
 use Rattle.sg_device.specs.Inlet.{InletState, IsFresh}
-use Rattle.sg_device.specs.World.{Ledger, Opened, StandsIn, with_opened}
+use Rattle.sg_outside.specs.World.{Ledger, Opened, StandsIn, with_opened}
 use Rattle.sg_device.specs.declared.fault.OpenRefusal.{OpenRefusal}
 use Rattle.sg_device.specs.declared.fault.OpenRefusal.TheVariants.{Failed, NoMemory}
-use Rattle.sg_device.specs.declared.request.InletSpec.{InletSpec}
+use Rattle.sg_outside.specs.declared.request.InletSpec.{InletSpec}
 use Rattle.sg_host.specs.Cells.{inlet_states}
 use Rattle.sg_host.specs.Counts.{new_inlet}
 use Rattle.sg_host.specs.Inlet.{inlet_of}

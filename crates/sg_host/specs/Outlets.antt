@@ -2,10 +2,10 @@
 use Rattle.std.specs.Prelude.{◌≡◌, ◌≤◌, map}
 use Rattle.sg_device.specs.Faults.{Rose}
 use Rattle.sg_device.specs.Outlet.{OutletState, IsNew}
-use Rattle.sg_device.specs.World.{Ledger, Opened, with_opened}
+use Rattle.sg_outside.specs.World.{Ledger, Opened, with_opened}
 use Rattle.sg_device.specs.declared.fault.OpenRefusal.{OpenRefusal}
 use Rattle.sg_device.specs.declared.fault.OpenRefusal.TheVariants.{Failed, NoMemory}
-use Rattle.sg_device.specs.declared.request.OutletSpec.{OutletSpec}
+use Rattle.sg_outside.specs.declared.request.OutletSpec.{OutletSpec}
 use Rattle.sg_host.specs.Cells.{outlet_states}
 use Rattle.sg_host.specs.Counts.{new_outlet}
 use Rattle.sg_host.specs.Outlet.{outlet_of}

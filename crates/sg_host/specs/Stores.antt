@@ -2,10 +2,10 @@
 use Rattle.std.specs.Prelude.{◌≡◌, ◌≤◌, map}
 use Rattle.sg_device.specs.Disk.{DiskState}
 use Rattle.sg_device.specs.Faults.{Rose}
-use Rattle.sg_device.specs.World.{Ledger, Opened, with_opened}
+use Rattle.sg_outside.specs.World.{Ledger, Opened, with_opened}
 use Rattle.sg_device.specs.declared.fault.OpenRefusal.{OpenRefusal}
 use Rattle.sg_device.specs.declared.fault.OpenRefusal.TheVariants.{Failed, NoMemory}
-use Rattle.sg_device.specs.declared.request.StoreSpec.{StoreSpec}
+use Rattle.sg_outside.specs.declared.request.StoreSpec.{StoreSpec}
 use Rattle.sg_host.specs.Cells.{store_states}
 use Rattle.sg_host.specs.Store.{disk_of, new_disk}
 use Rattle.sg_host.specs.declared.stores.HostStore.{HostStore}

@@ -25,6 +25,3 @@ pub use read::read_file;
 pub use stdout::say;
 pub use store::FileDisk;
 pub use stores::{HostStore, HostStores};
-
-#[cfg(test)]
-mod tests;

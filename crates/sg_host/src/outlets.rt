@@ -1,6 +1,6 @@
 // The outlets that a real machine opens and closes.
 ghost use Rattle.std.specs.Prelude.{◌≡◌, [], MatchResult};
-ghost use Rattle.sg_device.specs.World.{with_closed};
+ghost use Rattle.sg_outside.specs.World.{with_closed};
 ghost use Rattle.sg_host.specs.Counts.{outlet_state};
 ghost use Rattle.sg_host.specs.Outlets.{drain_of, outlets_of, OutletsOpen, OutletsRefuse};
 

@@ -1,6 +1,6 @@
 // The stores that a real machine opens and closes.
 ghost use Rattle.std.specs.Prelude.{◌≡◌, [], MatchResult};
-ghost use Rattle.sg_device.specs.World.{with_closed};
+ghost use Rattle.sg_outside.specs.World.{with_closed};
 ghost use Rattle.sg_host.specs.Store.{disk_of};
 ghost use Rattle.sg_host.specs.Stores.{store_of, stores_of, StoresOpen, StoresRefuse};
 

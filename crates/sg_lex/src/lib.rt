@@ -6,8 +6,6 @@ mod fault;
 mod lexer;
 mod piece;
 mod quoted;
-#[cfg(test)]
-mod tests;
 mod token;
 mod word;
 

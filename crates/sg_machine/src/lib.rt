@@ -19,6 +19,3 @@ pub use replays::replay;
 pub use setup::{BufferSetup, DestSetup, Setup, SourceSetup};
 pub use state::{Dest, Entry, Inlet, Origin, State};
 pub use tally::{DestTally, SourceTally, Tally};
-
-#[cfg(test)]
-mod tests;

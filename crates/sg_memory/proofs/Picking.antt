@@ -1,7 +1,7 @@
 -- Images that are picked are images.
-use Rattle.std.proofs.Common.{◌≡◌, ℕ, ◌+◌, ◌<◌, ◌≤◌, Some, List, [], ◌∷◌, ◌++◌, length, get_or, take, drop, replicate, refl, sym, ◌∙◌, ap, subst, arith, length-take}
+use Rattle.std.proofs.Common.{◌≡◌, inl, ℕ, ◌+◌, ◌<◌, ◌≤◌, Some, List, [], ◌∷◌, ◌++◌, length, get_or, take, drop, replicate, refl, sym, ◌∙◌, ap, subst, arith, length-take}
 use Rattle.std.proofs.lemmas.List.{length-replicate, take_more, take_all}
-use Rattle.sg_device.specs.Disk.{DiskEvent, Wrote, Tore, Synced, bytes_after, IsLeft, IsImage}
+use Rattle.sg_device.specs.Disk.{DiskEvent, Wrote, Tore, Synced, Lost, bytes_after, IsLeft, IsImage}
 use Rattle.sg_device.specs.DiskBytes.{Torn, overlaid}
 use Rattle.sg_device.proofs.Parts.{overlaid_by, torn_of_written, torn_refl}
 use Rattle.sg_device.proofs.DiskCalls.{torn_wider, image_now}
@@ -9,6 +9,7 @@ use Rattle.sg_memory.specs.DiskChange.{event_of, events_of}
 use Rattle.sg_memory.specs.Pick.{laid, picked, replayed}
 use Rattle.sg_memory.proofs.Changes.{events_of-push}
 use Rattle.sg_memory.specs.declared.disk_change.DiskChange.{DiskChange}
+use Rattle.sg_memory.specs.declared.disk_change.DiskChange.TheVariants.{Wrote as HasWritten, Synced as HasSynced}
 use Rattle.sg_memory.specs.declared.disk_image.Pick.{Pick}
 use Rattle.sg_memory.specs.declared.disk_image.Pick.TheVariants.{Old, New, Ones, Zeros}
 
@@ -26,16 +27,17 @@ picked_left pick first [] = refl
 picked_left pick first (Wrote at bytes ∷ earlier) = (picked pick first earlier, picked_left pick first earlier, laid_torn pick at bytes (picked pick first earlier))
 picked_left pick first (Tore at n bytes ∷ earlier) = (picked pick first earlier, picked_left pick first earlier, torn_wider at (length (take n bytes)) n (picked pick first earlier) _ (omega (arith, length-take n bytes)) (laid_torn pick at (take n bytes) (picked pick first earlier)))
 picked_left pick first (Synced ∷ earlier) = refl
+picked_left pick first (Lost left ∷ earlier) = inl (picked_left pick first earlier)
 
 picked-event : (pick : Pick) (first : List ℕ) (event : DiskEvent) (earlier : List DiskEvent) → picked pick first (event ∷ earlier) ≡ replayed pick event (bytes_after first earlier) (picked pick first earlier)
 picked-event pick first (Wrote at bytes) earlier = refl
 picked-event pick first (Tore at n bytes) earlier = refl
 picked-event pick first Synced earlier = refl
+picked-event pick first (Lost left) earlier = refl
 
-bytes_after-event : (first : List ℕ) (event : DiskEvent) (earlier : List DiskEvent) → bytes_after first (event ∷ earlier) ≡ replayed New event (bytes_after first earlier) (bytes_after first earlier)
-bytes_after-event first (Wrote at bytes) earlier = refl
-bytes_after-event first (Tore at n bytes) earlier = refl
-bytes_after-event first Synced earlier = refl
+bytes_after-change : (first : List ℕ) (change : DiskChange) (earlier : List DiskEvent) → bytes_after first (event_of change ∷ earlier) ≡ replayed New (event_of change) (bytes_after first earlier) (bytes_after first earlier)
+bytes_after-change first (HasWritten written) earlier = refl
+bytes_after-change first HasSynced earlier = refl
 
 pub events_of-more : (changes : List DiskChange) (i : ℕ) (change : DiskChange) → i < length changes → change ≡ get_or changes i change → events_of [] (take (i + 1) changes) ≡ event_of change ∷ events_of [] (take i changes)
 events_of-more changes i change lt is = ap (λ (l : List DiskChange). events_of [] l) (take_more changes i change lt ∙ ap (λ (x : DiskChange). take i changes ++ x ∷ []) (sym is)) ∙ events_of-push [] (take i changes) change
@@ -53,7 +55,7 @@ module _ (first : List ℕ) (changes : List DiskChange) (i : ℕ) (change : Disk
   bytes_more now goes =
       goes
       ∙ ap (λ (l : List ℕ). replayed New (event_of change) l l) read
-      ∙ sym (bytes_after-event first (event_of change) (events_of [] (take i changes)))
+      ∙ sym (bytes_after-change first change (events_of [] (take i changes)))
       ∙ ap (λ (l : List DiskEvent). bytes_after first l) (sym (events_of-more changes i change lt is))
 
 -- all changes

@@ -1,6 +1,6 @@
 -- The images of a disk in memory that can be made.
 use Rattle.std.specs.Prelude.{ℕ, List, [], ◌∷◌, length, take, replicate}
-use Rattle.sg_device.specs.Disk.{DiskEvent, Wrote, Tore, Synced, bytes_after}
+use Rattle.sg_device.specs.Disk.{DiskEvent, Wrote, Tore, Synced, Lost, bytes_after}
 use Rattle.sg_device.specs.DiskBytes.{overlaid, overwritten}
 use Rattle.sg_memory.specs.declared.disk_image.Pick.{Pick}
 use Rattle.sg_memory.specs.declared.disk_image.Pick.TheVariants.{Old, New, Ones, Zeros}
@@ -18,9 +18,11 @@ picked pick first [] = first
 picked pick first (Wrote at bytes ∷ earlier) = laid pick at bytes (picked pick first earlier)
 picked pick first (Tore at n bytes ∷ earlier) = laid pick at (take n bytes) (picked pick first earlier)
 picked pick first (Synced ∷ earlier) = bytes_after first earlier
+picked pick first (Lost left ∷ earlier) = picked pick first earlier
 
 -- the image after one event more, where the bytes read so
 abbrev pub replayed : Pick → DiskEvent → List ℕ → List ℕ → List ℕ
 replayed pick (Wrote at written) bytes image = laid pick at written image
 replayed pick (Tore at n written) bytes image = laid pick at (take n written) image
 replayed pick Synced bytes image = bytes
+replayed pick (Lost left) bytes image = image

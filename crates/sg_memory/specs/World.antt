@@ -4,18 +4,18 @@ use Rattle.std.specs.declared.alloc.Global.{Global}
 use Rattle.sg_device.specs.Disk.{DiskState}
 use Rattle.sg_device.specs.Inlet.{InletState}
 use Rattle.sg_device.specs.Outlet.{OutletState}
-use Rattle.sg_device.specs.World.{WorldState, Ledger, Opened, with_opened}
+use Rattle.sg_outside.specs.World.{WorldState, Ledger, Opened, with_opened}
 use Rattle.sg_device.specs.declared.fault.FileRefusal.{FileRefusal}
 use Rattle.sg_device.specs.declared.fault.FileRefusal.TheVariants.{Failed, TooLong, NoMemory}
 use Rattle.sg_device.specs.declared.fault.OpenRefusal.{OpenRefusal}
 use Rattle.sg_device.specs.declared.fault.OpenRefusal.TheVariants.{Failed as OpenFailed, NoMemory as OpenNoMemory}
 use Rattle.sg_device.specs.declared.fault.SayRefusal.{SayRefusal}
 use Rattle.sg_device.specs.declared.fault.SayRefusal.TheVariants.{Fault, NoMemory as SayNoMemory}
-use Rattle.sg_device.specs.declared.request.InletSpec.{InletSpec}
-use Rattle.sg_device.specs.declared.request.InletSpec.TheVariants.{File as InletFile, Slot}
-use Rattle.sg_device.specs.declared.request.OutletSpec.{OutletSpec}
-use Rattle.sg_device.specs.declared.request.OutletSpec.TheVariants.{File as OutletFile, Tcp}
-use Rattle.sg_device.specs.declared.request.StoreSpec.{StoreSpec}
+use Rattle.sg_outside.specs.declared.request.InletSpec.{InletSpec}
+use Rattle.sg_outside.specs.declared.request.InletSpec.TheVariants.{File as InletFile, Slot}
+use Rattle.sg_outside.specs.declared.request.OutletSpec.{OutletSpec}
+use Rattle.sg_outside.specs.declared.request.OutletSpec.TheVariants.{File as OutletFile, Tcp}
+use Rattle.sg_outside.specs.declared.request.StoreSpec.{StoreSpec}
 use Rattle.sg_memory.specs.Cells.{inlet_states, outlet_states}
 use Rattle.sg_memory.specs.Disks.{stores_of}
 use Rattle.sg_memory.specs.Files.{file_of}

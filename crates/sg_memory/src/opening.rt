@@ -1,6 +1,6 @@
 // What an inlet in memory is opened for.
 ghost use Rattle.std.specs.Prelude.{◌≡◌, ◌+◌, ◌≤◌, ◌<◌, ◌^◌, length, drop, IfOk};
-ghost use Rattle.sg_device.specs.World.{place_in};
+ghost use Rattle.sg_outside.specs.World.{place_in};
 
 use sg_device::{InletSpec, NoMemory};
 use std::alloc::Global;

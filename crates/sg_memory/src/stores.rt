@@ -1,7 +1,7 @@
 // The stores that a machine in memory opens and closes.
 ghost use Rattle.std.specs.Prelude.{◌≡◌, ◌++◌, ◌∷◌, [], replicate, IfOk, MatchResult};
 ghost use Rattle.std.specs.Option.{option_map};
-ghost use Rattle.sg_device.specs.World.{with_closed};
+ghost use Rattle.sg_outside.specs.World.{with_closed};
 ghost use Rattle.sg_memory.specs.Disks.{store_of, stores_of, store_states, latest, some_starved, any_starved, StoresOpen, StoresRefuse, OpensAsPlanned};
 ghost use Rattle.sg_memory.specs.MemoryDisk.{disk_of, fresh_disk};
 ghost use Rattle.sg_memory.specs.Plan.{IsQuiet, AllQuiet, after_call, failing, first_failing};

@@ -1,6 +1,6 @@
 // A machine in memory: files by name, devices over them, and the bytes said.
 ghost use Rattle.std.specs.Prelude.{◌≡◌, ◌||◌, if◌then◌else◌, is_none, is_ok, drop, MatchResult, IfOk};
-ghost use Rattle.sg_device.specs.World.{Reads, InletOpens, InletRefused, OutletOpens, OutletRefused, StoreOpens, StoreRefused, ClosesInlet, ClosesOutlet, ClosesStore, Says};
+ghost use Rattle.sg_outside.specs.World.{Reads, InletOpens, InletRefused, OutletOpens, OutletRefused, StoreOpens, StoreRefused, ClosesInlet, ClosesOutlet, ClosesStore, Says};
 ghost use Rattle.sg_memory.specs.Disks.{store_of, at_opening as store_at_opening, any_starved, AreDisksQuiet, OpensAsPlanned};
 ghost use Rattle.sg_memory.specs.Files.{file_of};
 ghost use Rattle.sg_memory.specs.Inlet.{at_opening, GoesBy};
@@ -289,6 +289,3 @@ impl MemoryWorld {
         Ok(())
     }
 }
-
-#[cfg(test)]
-mod tests;

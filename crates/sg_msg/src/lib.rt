@@ -7,8 +7,6 @@ mod message;
 mod offer;
 mod refusal;
 mod tags;
-#[cfg(test)]
-mod tests;
 
 pub use macros::is_hard;
 pub use message::Message;

@@ -3,8 +3,6 @@
 
 mod frames;
 mod shape;
-#[cfg(test)]
-mod tests;
 
 pub use frames::frame;
 pub use shape::{DriverKind, Shape, default_shape};

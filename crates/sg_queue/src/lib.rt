@@ -3,8 +3,6 @@
 
 mod entry;
 mod queue;
-#[cfg(test)]
-mod tests;
 
 pub use entry::Entry;
 pub use queue::Queue;

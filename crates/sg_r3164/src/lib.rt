@@ -5,8 +5,6 @@ mod laws;
 mod opts;
 mod parts;
 mod reading;
-#[cfg(test)]
-mod tests;
 
 pub use laws::readings_are_one;
 pub use opts::ReadOpts;

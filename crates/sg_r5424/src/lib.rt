@@ -8,12 +8,8 @@ mod params;
 mod reading;
 mod refusal;
 mod take;
-#[cfg(test)]
-mod tests;
 mod values;
 mod writing;
-#[cfg(test)]
-mod writing_tests;
 
 pub use laws::{lines_are_records, records_say_one_message};
 pub use reading::{read, refused};

@@ -5,8 +5,6 @@ mod fault;
 mod line;
 mod report;
 mod shown;
-#[cfg(test)]
-mod tests;
 
 pub use fault::fault_text;
 pub use report::tally_text;

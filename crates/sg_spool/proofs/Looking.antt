@@ -93,3 +93,7 @@ module _ (d0 d1 d2 : DiskState) (keeps : Preserves d0 d1) where
 -- the cell, read from the front
 pub cell_there : (b after : List ℕ) → ((k : ℕ) → k < 64 → get_or after k 0 ≡ get_or b k 0) → length after ≡ 64 → 128 ≤ length b → (cell : Pair) → HasCell cell.selector cell.value after → HasCell cell.selector cell.value b
 cell_there b after same long whole cell has = has_cell_same cell.selector cell.value after b has (omega (arith, long, whole)) (λ k lt. sym (same k (omega (arith, lt))))
+
+pub preserved_on : {old new : DiskState} (r : Result Found StoreRefusal) → Preserves old new → OnOk r (Preserves old new)
+preserved_on (Ok found) keeps = keeps
+preserved_on (Err refusal) keeps = tt

@@ -1,9 +1,9 @@
 -- Spelling a list anew, call by call.
 use Rattle.std.proofs.Common.{◌≡◌, ◌⊎◌, inl, inr, ℕ, ◌+◌, ◌-◌, ◌<◌, ◌≤◌, List, length, map, refl, sym, ◌∙◌, ap, subst, arith, ◌^◌, Some, None, Option, Bool, true, false}
 use Rattle.std.specs.Prelude.{is_some}
-use Rattle.sg_device.specs.DiskBytes.{Written}
+use Rattle.sg_device.specs.DiskBytes.{Written, Same}
 use Rattle.sg_device.specs.Disk.{DiskState, content, IsImage, Changes, Elapses, Preserves, Durable, Within, EachNow, WhereTold}
-use Rattle.sg_device.proofs.Disks.{durable_now, told_same, within_preserves}
+use Rattle.sg_device.proofs.Disks.{durable_now, told_same, same_on}
 use Rattle.sg_device.proofs.DiskCalls.{reads_as_image}
 use Rattle.sg_stable.specs.Cell.{HasCell, Puts}
 use Rattle.sg_stable.specs.declared.cell.Pair.{Pair}
@@ -40,11 +40,11 @@ module _ (cell : Pair) (places : Places) (es : Entries) (meaning : List ℕ → 
   pub unchanged_ring : EachNow d1 (Stems (IsImage d0) (IsRing cell places es))
   unchanged_ring = spared_now cell places.jump places.head places.end es d0 d1 start time
 
-  module _ (d2 : DiskState) (keeps : Preserves d1 d2) where
-    pub rewriting_on : Within d0 d2 P
-    rewriting_on = within_preserves d0 d1 d2 P rewriting keeps
+  module _ (d2 : DiskState) where
+    pub rewriting_on : Elapses Same d1 d2 → Within d0 d2 P
+    rewriting_on still = same_on d0 d1 d2 P rewriting still
 
-    module _ (end : ℕ) (long : EachNow d0 (λ c. count ≡ length es)) (after : past places ≤ end) (spelled : Changes (Spells meaning places count end) (content d0) (content d1)) (durable : Durable d2) (value : ℕ) (is : 64 + value ≡ past places) (d3 : DiskState) (put : Within d2 d3 (Puts (IsImage d2) cell.value value)) where
+    module _ (keeps : Preserves d1 d2) (end : ℕ) (long : EachNow d0 (λ c. count ≡ length es)) (after : past places ≤ end) (spelled : Changes (Spells meaning places count end) (content d0) (content d1)) (durable : Durable d2) (value : ℕ) (is : 64 + value ≡ past places) (d3 : DiskState) (put : Within d2 d3 (Puts (IsImage d2) cell.value value)) where
       abbrev Prepared : List ℕ → Type 0
       Prepared c = IsPrepared cell places.jump places.head places.end es None (past places) end (map meaning es) c
 
@@ -66,7 +66,7 @@ module _ (cell : Pair) (places : Places) (es : Entries) (meaning : List ℕ → 
       now2 = durable_now d2 (Stems (IsImage d0) Prepared) durable (told_same (Stems (IsImage d0) Prepared) keeps.told told1)
 
       pub rewritten : Within d0 d3 P
-      rewritten = put_within cell places.jump places.head places.end es None (past places) end (map meaning es) (Recodes meaning) refl value is d0 d2 d3 now2 put rewriting_on
+      rewritten = put_within cell places.jump places.head places.end es None (past places) end (map meaning es) (Recodes meaning) refl value is d0 d2 d3 now2 put (rewriting_on keeps.still)
 
       pub new_ring : (next : Pair) → next.value ≡ value → EachNow d3 (HasCell next.selector next.value) → EachNow d3 (Stems (IsImage d0) (RingAt next None (past places) end (map meaning es)))
       new_ring next same has = put_ring cell places.jump places.head places.end es None (past places) end (map meaning es) (Recodes meaning) refl value is d0 d2 d3 now2 put next same has

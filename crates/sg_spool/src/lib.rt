@@ -14,8 +14,6 @@ mod read;
 mod rewrite;
 mod room;
 mod spool;
-#[cfg(test)]
-mod tests;
 mod walk;
 
 pub use answers::{Appended, Front, RewriteRefusal, Walked};

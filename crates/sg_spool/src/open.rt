@@ -1,6 +1,6 @@
 // Opening a disk-buffer's store.
 ghost use Rattle.std.specs.Prelude.{◌≡◌, ◌↔◌, ◌<◌, ◌≤◌, ◌+◌, ◌^◌, ℕ, length, slice_index, false, IsTrue, IfOk, IfErr, IfNone, IfSome, OnOk, None};
-ghost use Rattle.sg_device.specs.Disk.{content, Preserves, Durable, WhereTold, IsImage};
+ghost use Rattle.sg_device.specs.Disk.{content, Preserves, Rests, Durable, WhereTold, IsImage};
 ghost use Rattle.sg_stable.specs.Cell.{IsOutside, HasCell, word, slot};
 ghost use Rattle.sg_spool.specs.Ring.{Entries};
 ghost use Rattle.sg_spool.specs.Places.{IsOrdered};
@@ -26,7 +26,8 @@ pub(crate) fn look<D: Disk>(disk: &mut D) -> Result<Found, StoreRefusal>
     ensures ordered { IfOk result (λ f. IsOrdered f.places) }
     ensures opened { IfOk result (λ f. f.cell.closed ≡ false) }
     ensures durable { OnOk result (Durable (D.state disk.new)) }
-    ensures preserves { Preserves (D.state disk.old) (D.state disk.new) }
+    ensures preserves { OnOk result (Preserves (D.state disk.old) (D.state disk.new)) }
+    ensures rests { Rests (D.state disk.old) (D.state disk.new) }
     ensures later { (D.state disk.old).faults ≤ (D.state disk.new).faults }
     ensures reason { IfErr result (HasReason (D.state disk.old) (D.state disk.new)) }
 {

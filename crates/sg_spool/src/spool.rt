@@ -1,7 +1,7 @@
 // The disk-buffer on its disk.
 ghost use Rattle.std.specs.Prelude.{◌≡◌, ◌⊎◌, ◌↔◌, ◌≤◌, ◌<◌, ◌+◌, ◌-◌, ◌^◌, List, ℕ, length, min, OnOk, OnErr, IfOk, IfErr, Some, None, true, false, IsTrue, is_err};
 ghost use Rattle.std.specs.Option.{option_map};
-ghost use Rattle.sg_device.specs.Disk.{content, IsImage, Preserves, Durable, Moves, Within, EachNow, WhereTold, HasCause};
+ghost use Rattle.sg_device.specs.Disk.{content, IsImage, Preserves, Rests, Durable, Moves, Within, EachNow, WhereTold, HasCause};
 ghost use Rattle.sg_device.specs.Faults.{Rose};
 ghost use Rattle.sg_spool.specs.Answers.{IsAppended, WhereDone, WhereNoRoom, IsFronted, IsFirst, IsWalked, IsNext, IsRefused, HasFailed};
 ghost use Rattle.sg_spool.specs.Lists.{Stays, Perhaps, Appends, Advances, Recodes, Follows};
@@ -51,7 +51,8 @@ impl<D: Disk> Model for Spool<D> {
 
 impl<D: Disk> Spool<D> {
     /// Opens a store under this capacity, in bytes; what stands there already may exceed it. It begins
-    /// with a sync, changes nothing, and takes no memory. A refusal gives the disk back.
+    /// with a sync, changes nothing, and takes no memory; but where that sync fails, a read may give another
+    /// of the images since. A refusal gives the disk back.
     pub fn open(disk: D, capacity: u64) -> Result<Spool<D>, (D, StoreRefusal)>
         ensures list { IfOk result (λ spool. WhereTold (content (D.state disk)) (λ bytes. (entries : Entries) × IsLaid spool.places.jump spool.places.head spool.places.end entries bytes × (spool.count ≡ length entries))) }
         ensures opened { IfOk result (λ spool. spool.closed ≡ false) }
@@ -64,7 +65,7 @@ impl<D: Disk> Spool<D> {
         // On a fresh store the bound on the file's length begins.
         ensures compact { IfOk result (λ spool. IsFresh (D.state disk) → IsCompact D.state spool) }
 
-        ensures err_preserves { IfErr result (λ e. Preserves (D.state disk) (D.state e.0)) }
+        ensures err_rests { IfErr result (λ e. Rests (D.state disk) (D.state e.0)) }
         ensures err_later { IfErr result (λ e. (D.state disk).faults ≤ (D.state e.0).faults) }
         ensures reason { IfErr result (λ e. HasReason (D.state disk) (D.state e.0) e.1) }
     {

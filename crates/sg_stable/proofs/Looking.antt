@@ -48,3 +48,7 @@ module _ (d0 d1 d2 : DiskState) (keeps : Preserves d0 d1) where
   pub durable_before : (r : Result Pair StoreRefusal) → d2.told ≡ d1.told → Durable d1 → OnOk r (Durable d2)
   durable_before (Ok cell) is durable = durable_same d1 d2 is durable
   durable_before (Err refusal) is durable = tt
+
+pub preserved_on : {old new : DiskState} (r : Result Pair StoreRefusal) → Preserves old new → OnOk r (Preserves old new)
+preserved_on (Ok cell) keeps = keeps
+preserved_on (Err refusal) keeps = tt

@@ -5,6 +5,7 @@ use Rattle.sg_device.specs.DiskBytes.{Torn, Written}
 use Rattle.sg_device.specs.Disk.{DiskState, content, IsImage, Changes, Elapses, Durable, Within, EachNow}
 use Rattle.sg_device.proofs.Disks.{started, goes_on, durable_now, told_on}
 use Rattle.sg_device.proofs.DiskCalls.{reads_as_image}
+use Rattle.sg_device.proofs.Parts.{torn_of_written}
 use Rattle.sg_stable.specs.Cell.{word, slot, HasCell, SameOutside, Puts}
 use Rattle.sg_stable.proofs.Cells.{slot_torn, slot_written, selector_torn, selector_written, slot_keeps, selector_keeps, outside_refl, outside_trans, value_of}
 
@@ -59,22 +60,13 @@ module _ (s t v w : ℕ) (other : slot t + slot s ≡ 48) (fits : w < 2 ^ 64) (d
         now2 written2 durable2 = durable_now d2 (HasCell t w) durable2 (told_on Staged (HasCell t w) written2 (λ b told. now1 b (reads_as_image d1 b told)) (λ a b at_a put. (selector_written s t v w other a b at_a.first.cell at_a.staged put).0))
 
   -- what is told keeps all bytes outside the cell
-  long : (b : List ℕ) → content d0 ≡ Some b → 40 ≤ length b
-  long b told = (start b (reads_as_image d0 b told)).size
-
-  pub outside1 : {new : Option (List ℕ)} → Changes (Torn (slot t) 8) (content d0) new → Changes SameOutside (content d0) new
-  outside1 change = record {
-    back = λ b is. let from = change.back b is in (from.0, from.1, slot_keeps t from.0 b (long from.0 from.1) from.2);
-    tells = change.tells;
+  pub outside2 : {mid new : Option (List ℕ)} → Changes (Written (slot t) (to_be_bytes w64 w)) (content d0) mid → Changes (Written 0 (t ∷ [])) mid new → Changes SameOutside (content d0) new
+  outside2 first second = record {
+    back = λ c is.
+        let b = second.back c is in
+        let a = first.back b.0 b.1 in
+        let long : 40 ≤ length a.0 = (start a.0 (reads_as_image d0 a.0 a.1)).size in
+        let one = slot_keeps t a.0 b.0 long (torn_of_written (slot t) (to_be_bytes w64 w) a.0 b.0 a.2) in
+        (a.0, a.1, outside_trans a.0 b.0 c one (selector_keeps b.0 c (omega (arith, long, one.size)) (torn_of_written 0 (t ∷ []) b.0 c b.2)));
+    tells = second.tells ∙ first.tells;
   }
-
-  pub outside2 : {mid new : Option (List ℕ)} → Changes (Torn (slot t) 8) (content d0) mid → Changes (Torn 0 1) mid new → Changes SameOutside (content d0) new
-  outside2 first change =
-      let so_far = outside1 first in
-      record {
-        back = λ c is.
-            let b = change.back c is in
-            let a = so_far.back b.0 b.1 in
-            (a.0, a.1, outside_trans a.0 b.0 c a.2 (selector_keeps b.0 c (omega (arith, long a.0 a.1, a.2.size)) b.2));
-        tells = change.tells ∙ so_far.tells;
-      }

@@ -54,7 +54,7 @@ impl Pair {
 
         // Within the call each image is one from before it with the old number or the new one in its cell.
         ensures within { self.old.closed ≡ false → Within (D.state disk.old) (D.state disk.new) (Puts (IsImage (D.state disk.old)) self.old.value value) }
-        ensures outside { Changes SameOutside (content (D.state disk.old)) (content (D.state disk.new)) }
+        ensures outside { OnOk result (Changes SameOutside (content (D.state disk.old)) (content (D.state disk.new))) }
 
         ensures cause { self.old.closed ≡ false → HasCause (D.state disk.old).faults (D.state disk.new).faults result }
         ensures stays { self.old.closed ≡ true → is_err result ≡ true }
@@ -78,7 +78,6 @@ impl Pair {
 fn write_slot<D: Disk>(disk: &mut D, selector: u8, value: u64) -> Result<(), DiskFault>
     ensures written { OnOk result (Changes (Written (slot selector) (to_be_bytes w64 value)) (content (D.state disk.old)) (content (D.state disk.new))) }
     ensures durable { OnOk result (Durable (D.state disk.new)) }
-    ensures content { Changes (Torn (slot selector) 8) (content (D.state disk.old)) (content (D.state disk.new)) }
     ensures images { Elapses (Torn (slot selector) 8) (D.state disk.old) (D.state disk.new) }
     ensures cause { HasCause (D.state disk.old).faults (D.state disk.new).faults result }
 {
@@ -91,7 +90,6 @@ fn write_slot<D: Disk>(disk: &mut D, selector: u8, value: u64) -> Result<(), Dis
 fn write_selector<D: Disk>(disk: &mut D, selector: u8) -> Result<(), DiskFault>
     ensures written { OnOk result (Changes (Written 0 (selector ∷ [])) (content (D.state disk.old)) (content (D.state disk.new))) }
     ensures durable { OnOk result (Durable (D.state disk.new)) }
-    ensures content { Changes (Torn 0 1) (content (D.state disk.old)) (content (D.state disk.new)) }
     ensures images { Elapses (Torn 0 1) (D.state disk.old) (D.state disk.new) }
     ensures cause { HasCause (D.state disk.old).faults (D.state disk.new).faults result }
 {

@@ -1,6 +1,6 @@
 // The store of one position.
 ghost use Rattle.std.specs.Prelude.{◌≡◌, ◌≢◌, ◌⊎◌, ◌<◌, ◌≤◌, ℕ, length, slice_index, true, false, IfOk, IfErr, OnOk, OnErr, IfNone, IfSome, is_err, IsTrue, ◌↔◌};
-ghost use Rattle.sg_device.specs.Disk.{content, Preserves, Durable, Moves, Within, EachNow, WhereTold, HasCause};
+ghost use Rattle.sg_device.specs.Disk.{content, Preserves, Rests, Durable, Moves, Within, EachNow, WhereTold, HasCause};
 ghost use Rattle.sg_device.specs.Faults.{Rose};
 ghost use Rattle.sg_stable.specs.Cell.{HasCell, IsOutside};
 ghost use Rattle.sg_stable.specs.Refusal.{HasReason};
@@ -23,7 +23,8 @@ pub struct Stable<D: Disk> {
 }
 
 impl<D: Disk> Stable<D> {
-    /// Opens a store. It begins with a sync, and changes nothing. A refusal gives the disk back.
+    /// Opens a store. It begins with a sync, and changes nothing; but where that sync fails, a read may
+    /// give another of the images since. A refusal gives the disk back.
     pub fn open(disk: D) -> Result<Stable<D>, (D, StoreRefusal)>
         ensures position { IfOk result (λ stable. WhereTold (content (D.state disk)) (IsPosition stable.cell.value)) }
         ensures opened { IfOk result (λ stable. stable.cell.closed ≡ false) }
@@ -32,7 +33,7 @@ impl<D: Disk> Stable<D> {
         ensures preserves { IfOk result (λ stable. Preserves (D.state disk) (D.state stable.disk)) }
         ensures later { IfOk result (λ stable. (D.state disk).faults ≤ (D.state stable.disk).faults) }
 
-        ensures err_preserves { IfErr result (λ e. Preserves (D.state disk) (D.state e.0)) }
+        ensures err_rests { IfErr result (λ e. Rests (D.state disk) (D.state e.0)) }
         ensures err_later { IfErr result (λ e. (D.state disk).faults ≤ (D.state e.0).faults) }
         ensures reason { IfErr result (λ e. HasReason (D.state disk) (D.state e.0) e.1) }
     {
@@ -102,7 +103,8 @@ fn look<D: Disk>(disk: &mut D) -> Result<Pair, StoreRefusal>
     ensures cell { IfOk result (λ cell. WhereTold (content (D.state disk.old)) (HasCell cell.selector cell.value)) }
     ensures opened { IfOk result (λ cell. cell.closed ≡ false) }
     ensures durable { OnOk result (Durable (D.state disk.new)) }
-    ensures preserves { Preserves (D.state disk.old) (D.state disk.new) }
+    ensures preserves { OnOk result (Preserves (D.state disk.old) (D.state disk.new)) }
+    ensures rests { Rests (D.state disk.old) (D.state disk.new) }
     ensures later { (D.state disk.old).faults ≤ (D.state disk.new).faults }
     ensures reason { IfErr result (HasReason (D.state disk.old) (D.state disk.new)) }
 {

@@ -12,8 +12,6 @@ mod macros;
 mod names;
 mod part;
 mod template;
-#[cfg(test)]
-mod tests;
 
 pub use append::text_of;
 pub use elements::sdata_text;

@@ -6,8 +6,6 @@ mod local;
 mod number;
 mod read;
 mod stamp;
-#[cfg(test)]
-mod tests;
 mod text;
 
 pub use local::LocalTime;

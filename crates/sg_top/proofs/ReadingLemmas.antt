@@ -1,7 +1,7 @@
 -- Lemmas on what the configuration in a file comes to.
 use Rattle.std.proofs.Common.{◌≡◌, ◌≤◌, ◌&&◌, ℕ, Bool, true, false, nat_le, List, [], length, Option, Some, None, IsSome, Result, Ok, Err, refl, ap, sym, ◌∙◌, subst, inl, inr, arith}
 use Rattle.std.proofs.lemmas.Bool.Decides.{nat_tests}
-use Rattle.sg_device.specs.World.{Files, WorldState, OnlyReads, IsContent, IsBeyond, content}
+use Rattle.sg_outside.specs.World.{Files, WorldState, OnlyReads, IsContent, IsBeyond, content}
 use Rattle.sg_lex.specs.declared.fault.ConfigFault.{ConfigFault}
 use Rattle.sg_lex.specs.declared.token.LexFault.{LexFault}
 use Rattle.sg_lex.specs.declared.token.Token.{Token}

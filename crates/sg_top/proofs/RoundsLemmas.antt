@@ -4,7 +4,7 @@ use Rattle.std.specs.Prelude.{IfSome}
 use Rattle.sg_device.specs.Disk.{DiskState}
 use Rattle.sg_device.specs.Faults.{Rose}
 use Rattle.sg_device.specs.Outlet.{OutletState, IsNew}
-use Rattle.sg_device.specs.World.{WorldState}
+use Rattle.sg_outside.specs.World.{WorldState}
 use Rattle.sg_frame.specs.Records.{Record}
 use Rattle.sg_machine.specs.declared.event.Event.{Event}
 use Rattle.sg_machine.specs.Runs.{after_all}

@@ -1,7 +1,7 @@
 -- Lemmas on the causes of statuses.
 use Rattle.std.proofs.Common.{◌≡◌, ◌≤◌, ℕ, List, Some, arith}
 use Rattle.sg_device.specs.Faults.{Rose}
-use Rattle.sg_device.specs.World.{WorldState}
+use Rattle.sg_outside.specs.World.{WorldState}
 use Rattle.sg_device.specs.Disk.{content as store_content}
 use Rattle.sg_stable.specs.Position.{IsDamagedAt}
 use Rattle.sg_core.proofs.ImageLaws.{not-damaged}

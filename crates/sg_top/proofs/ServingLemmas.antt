@@ -4,10 +4,10 @@ use Rattle.sg_device.specs.Disk.{DiskState, content as store_content, WhereTold,
 use Rattle.sg_device.specs.Faults.{Rose}
 use Rattle.sg_device.specs.Inlet.{InletState}
 use Rattle.sg_device.specs.Outlet.{OutletState}
-use Rattle.sg_device.specs.World.{WorldState, Files, StandsIn, StoreOpens, ClosesStore, InletOpens, OutletOpens, ClosesInlet, ClosesOutlet}
-use Rattle.sg_device.specs.declared.request.InletSpec.TheVariants.{File}
-use Rattle.sg_device.specs.declared.request.OutletSpec.TheVariants.{File as FileTo}
-use Rattle.sg_device.specs.declared.request.StoreSpec.{StoreSpec}
+use Rattle.sg_outside.specs.World.{WorldState, Files, StandsIn, StoreOpens, ClosesStore, InletOpens, OutletOpens, ClosesInlet, ClosesOutlet}
+use Rattle.sg_outside.specs.declared.request.InletSpec.TheVariants.{File}
+use Rattle.sg_outside.specs.declared.request.OutletSpec.TheVariants.{File as FileTo}
+use Rattle.sg_outside.specs.declared.request.StoreSpec.{StoreSpec}
 use Rattle.sg_stable.specs.Position.{IsPosition}
 use Rattle.sg_machine.specs.declared.event.Event.{Event}
 use Rattle.sg_core.specs.States.{CoreState}

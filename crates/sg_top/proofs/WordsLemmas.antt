@@ -2,7 +2,7 @@
 use Rattle.std.proofs.Common.{◌≡◌, ◌≤◌, ◌⊎◌, inl, inr, ◌++◌, ℕ, List, [], ◌∷◌, codes, subst, sym, ap, ◌∙◌, refl, Some, arith}
 use Rattle.std.specs.Option.{option_map}
 use Rattle.sg_device.specs.Faults.{Rose}
-use Rattle.sg_device.specs.World.{WorldState, OnlyReads, IsContent, IsBeyond, content}
+use Rattle.sg_outside.specs.World.{WorldState, OnlyReads, IsContent, IsBeyond, content}
 use Rattle.sg_lex.specs.declared.fault.ConfigFault.{ConfigFault}
 use Rattle.sg_lex.specs.declared.fault.ConfigKind.{ConfigKind}
 use Rattle.sg_lex.specs.declared.fault.ConfigKind.TheVariants.{TooLong, Unsupported}

@@ -3,12 +3,12 @@ use Rattle.std.specs.Prelude.{◌≡◌, true, ℕ, List, Option, Some, None}
 use Rattle.sg_device.specs.Disk.{DiskState}
 use Rattle.sg_device.specs.Inlet.{InletState}
 use Rattle.sg_device.specs.Outlet.{OutletState}
-use Rattle.sg_device.specs.World.{Ledger, with_opened, with_closed}
-use Rattle.sg_device.specs.declared.request.InletSpec.{InletSpec}
-use Rattle.sg_device.specs.declared.request.InletSpec.TheVariants.{File}
-use Rattle.sg_device.specs.declared.request.OutletSpec.{OutletSpec}
-use Rattle.sg_device.specs.declared.request.OutletSpec.TheVariants.{File as FileTo}
-use Rattle.sg_device.specs.declared.request.StoreSpec.{StoreSpec}
+use Rattle.sg_outside.specs.World.{Ledger, with_opened, with_closed}
+use Rattle.sg_outside.specs.declared.request.InletSpec.{InletSpec}
+use Rattle.sg_outside.specs.declared.request.InletSpec.TheVariants.{File}
+use Rattle.sg_outside.specs.declared.request.OutletSpec.{OutletSpec}
+use Rattle.sg_outside.specs.declared.request.OutletSpec.TheVariants.{File as FileTo}
+use Rattle.sg_outside.specs.declared.request.StoreSpec.{StoreSpec}
 use Rattle.sg_top.specs.History.{History}
 use Rattle.sg_top.specs.StoreName.{store_name_of}
 

@@ -1,6 +1,6 @@
 -- The flow core over the one position store: at its opening, and as its source begins anew.
 use Rattle.std.specs.Prelude.{◌≡◌, ◌<◌, ◌≤◌, ℕ, Bool, true, false, None, List, [], ◌∷◌, length}
-use Rattle.sg_device.specs.Disk.{DiskState, content, WhereTold, Preserves}
+use Rattle.sg_device.specs.Disk.{DiskState, content, WhereTold, Rests}
 use Rattle.sg_device.specs.Faults.{Rose}
 use Rattle.sg_stable.specs.Position.{IsDamagedAt}
 use Rattle.sg_machine.specs.declared.event.Event.{Event}
@@ -45,9 +45,9 @@ HasReason old new (Damage n at) = (n ≡ 0) × WhereTold (content old) (IsDamage
 HasReason old new (DiskFault n) = (n ≡ 0) × Rose old.faults new.faults
 HasReason old new NoMemory = Unit {0}
 
--- the store comes back, and holds what it held
+-- the store comes back, and holds what it held: no image is added
 pub record RefusesCore (old new : DiskState) (refusal : CoreRefusal) : Type 0 where
-  pub preserved : Preserves old new
+  pub preserved : Rests old new
   pub later : old.faults ≤ new.faults
   pub reason : HasReason old new refusal
 

@@ -1,6 +1,6 @@
 -- What the configuration in a file comes to: the tokens of a whole expansion, or why there is none.
 use Rattle.std.specs.Prelude.{◌≡◌, ◌⊎◌, ℕ, List, [], ◌∷◌, Some}
-use Rattle.sg_device.specs.World.{WorldState, OnlyReads, IsContent, IsBeyond, content}
+use Rattle.sg_outside.specs.World.{WorldState, OnlyReads, IsContent, IsBeyond, content}
 use Rattle.sg_lex.specs.declared.fault.ConfigFault.{ConfigFault}
 use Rattle.sg_lex.specs.declared.fault.ConfigKind.{ConfigKind}
 use Rattle.sg_lex.specs.declared.fault.ConfigKind.TheVariants.{TooLong, Unsupported}

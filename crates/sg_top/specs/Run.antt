@@ -1,10 +1,10 @@
 -- What a run does, and when each status comes.
 use Rattle.std.specs.Prelude.{◌≡◌, ◌≤◌, ◌<◌, ◌+◌, ◌*◌, ◌^◌, ℕ, true, false, List, [], map, Option, Some, None}
-use Rattle.sg_device.specs.Disk.{content as store_content, WhereTold, Preserves}
+use Rattle.sg_device.specs.Disk.{content as store_content, WhereTold, Preserves, Rests}
 use Rattle.sg_device.specs.Faults.{Rose}
 use Rattle.sg_device.specs.Inlet.{InletState, IsFresh}
 use Rattle.sg_device.specs.Outlet.{IsNew}
-use Rattle.sg_device.specs.World.{WorldState, Files, StandsIn}
+use Rattle.sg_outside.specs.World.{WorldState, Files, StandsIn}
 use Rattle.sg_stable.specs.Position.{IsPosition, IsDamagedAt}
 use Rattle.sg_machine.specs.declared.event.Event.{Event}
 use Rattle.sg_lex.specs.declared.token.Token.{Token}
@@ -101,7 +101,7 @@ pub record HoldsRounds (store : Shelf) (h : History) (feed : Feed) (drain : Drai
 -- what holds of the devices and of the history
 abbrev pub Holds : Option Files → Reached → Type 0
 Holds files Nothing = Unit {0}
-Holds files (AtStore s) = Preserves s.opened s.closed × (s.opened.faults ≤ s.closed.faults)
+Holds files (AtStore s) = Rests s.opened s.closed × (s.opened.faults ≤ s.closed.faults)
 Holds files (AtCore s h) = HoldsStore s h × Preserves s.opened s.closed × (h.events ≡ [])
 Holds files (AtInlet s h f) = BeginsAt files h f × HoldsInlet s h f
 Holds files (AtRounds s h f d) = BeginsAt files h f × HoldsRounds s h f d

@@ -3,7 +3,7 @@ use Rattle.std.specs.Prelude.{◌≡◌, ◌⊎◌, ◌≤◌, ℕ, true, List, 
 use Rattle.std.specs.Option.{option_map}
 use Rattle.std.specs.Fmt.{decimal}
 use Rattle.sg_device.specs.Faults.{Rose}
-use Rattle.sg_device.specs.World.{WorldState}
+use Rattle.sg_outside.specs.World.{WorldState}
 use Rattle.sg_lex.specs.declared.fault.ConfigFault.{ConfigFault}
 use Rattle.sg_machine.specs.Tallies.{tally_of}
 use Rattle.sg_report.specs.Fault.{fault_text_of}

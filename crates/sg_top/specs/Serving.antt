@@ -1,10 +1,10 @@
 -- The parts of a run that open its devices.
 use Rattle.std.specs.Prelude.{◌≡◌, ◌≤◌, ℕ, true, List, [], ◌∷◌, length, Option, Some, None}
 use Rattle.sg_device.specs.Disk.{DiskState}
-use Rattle.sg_device.specs.World.{WorldState}
-use Rattle.sg_device.specs.declared.request.InletSpec.TheVariants.{File as FileFrom}
-use Rattle.sg_device.specs.declared.request.OutletSpec.TheVariants.{File}
-use Rattle.sg_device.specs.declared.request.StoreSpec.{StoreSpec}
+use Rattle.sg_outside.specs.World.{WorldState}
+use Rattle.sg_outside.specs.declared.request.InletSpec.TheVariants.{File as FileFrom}
+use Rattle.sg_outside.specs.declared.request.OutletSpec.TheVariants.{File}
+use Rattle.sg_outside.specs.declared.request.StoreSpec.{StoreSpec}
 use Rattle.sg_lex.specs.declared.fault.ConfigKind.{ConfigKind}
 use Rattle.sg_core.specs.States.{CoreState}
 use Rattle.sg_engine.specs.History.{stored_now}

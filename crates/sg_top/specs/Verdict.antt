@@ -1,6 +1,6 @@
 -- What a status says of the configuration.
 use Rattle.std.specs.Prelude.{ℕ, List}
-use Rattle.sg_device.specs.World.{WorldState}
+use Rattle.sg_outside.specs.World.{WorldState}
 use Rattle.sg_top.specs.Reading.{IsRead, IsFaultOf}
 use Rattle.sg_top.specs.declared.status.Status.{Status}
 use Rattle.sg_top.specs.declared.status.Status.TheVariants.{Usage, BadConfig, ReadFault, SayFault, NoMemory}

@@ -1,6 +1,6 @@
 // The machine that the program runs on: real files and standard output.
 ghost use Rattle.std.specs.Prelude.{None};
-ghost use Rattle.sg_device.specs.World.{WorldState};
+ghost use Rattle.sg_outside.specs.World.{WorldState};
 ghost use Rattle.sg_host.specs.Inlets.{inlets_of};
 ghost use Rattle.sg_host.specs.Outlets.{outlets_of};
 ghost use Rattle.sg_host.specs.Stores.{stores_of};

@@ -1,6 +1,6 @@
 // Reads the configuration and moves the records.
 ghost use Rattle.std.specs.Prelude.{◌≡◌, ◌∷◌, [], List, Some, IfOk};
-ghost use Rattle.sg_device.specs.World.{WorldState, OnlyReads, IsContent, content};
+ghost use Rattle.sg_outside.specs.World.{WorldState, OnlyReads, IsContent, content};
 ghost use Rattle.sg_expand.specs.Expansion.{State, Goes};
 ghost use Rattle.sg_top.specs.Reading.{ComesTo};
 ghost use Rattle.sg_top.specs.Serving.{IsMainRefused, IsMainUnread, RunsFile};

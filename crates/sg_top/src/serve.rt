@@ -2,8 +2,8 @@
 ghost use Rattle.std.specs.Prelude.{◌≡◌, ◌∷◌, [], length};
 ghost use Rattle.sg_device.specs.Disk.{DiskState};
 ghost use Rattle.sg_device.specs.Inlet.{IsFresh};
-ghost use Rattle.sg_device.specs.declared.request.InletSpec.{InletSpec};
-ghost use Rattle.sg_device.specs.declared.request.StoreSpec.{StoreSpec};
+ghost use Rattle.sg_outside.specs.declared.request.InletSpec.{InletSpec};
+ghost use Rattle.sg_outside.specs.declared.request.StoreSpec.{StoreSpec};
 ghost use Rattle.sg_top.specs.Opening.{IsReady, IsOver, Begun};
 ghost use Rattle.sg_top.specs.Serving.{ServesInlet, ServesCore, ServesStore, Serves};
 

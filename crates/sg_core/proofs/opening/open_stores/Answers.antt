@@ -33,5 +33,5 @@ returns-in-Err-open-clause-refused g c =
     let e = c.in-Err-open.ensures in
     let n : c.len-s.result ≡ length c.loop-disk.held.items = omega (arith, c.len-s.ensures, c.loop-disk.held.ok.0) in
     let at : c.refusal_at.result ≡ refusal_of (length c.loop-disk.held.items) c.in-Err-open.refusal = c.refusal_at.ensures ∙ ap (λ n. refusal_of n c.in-Err-open.refusal) n in
-    let back = opening-refused all c.loop-disk.held.items (g.D.Disk.state c.in-Some.disk) (g.D.Disk.state c.in-Err-open.disk) rest c.in-Err-open.refusal opening e.err_preserves e.err_later e.reason in
+    let back = opening-refused all c.loop-disk.held.items (g.D.Disk.state c.in-Some.disk) (g.D.Disk.state c.in-Err-open.disk) rest c.in-Err-open.refusal opening e.err_rests e.err_later e.reason in
     rw (c.give_back.ensures, at) back

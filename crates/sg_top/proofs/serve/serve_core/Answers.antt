@@ -2,7 +2,7 @@ use Rattle.std.proofs.Common.{◌≡◌, refl, ap, ◌∙◌, arith}
 use Rattle.sg_engine.specs.History.{stored_now}
 use Rattle.sg_core.specs.Stores.{stored_in}
 use Rattle.std.proofs.Common.{true}
-use Rattle.sg_device.specs.declared.request.InletSpec.TheVariants.{File}
+use Rattle.sg_outside.specs.declared.request.InletSpec.TheVariants.{File}
 use Rattle.sg_top.specs.declared.status.Device.TheVariants.{Inlet}
 use Rattle.sg_top.specs.declared.status.Status.TheVariants.{OpenFault, NoMemory}
 use Rattle.sg_top.proofs.OpeningLemmas.{store-is}

@@ -1,0 +1,75 @@
+-- Booths and desks as their callers see them.
+use Rattle.std.specs.Prelude.{◌≡◌, ℕ, ◌+◌, ◌-◌, List, [], ◌∷◌, ◌++◌, length, Option, Some}
+use Rattle.atomic_table.specs.Seated.{TableId}
+use Rattle.sg_booth.specs.Lists.{times, joined_up, CountsOnce, Rises, AllRise, StartsWith, entries_at}
+use Rattle.sg_booth.specs.Rule.{Makes}
+use Rattle.sg_booth.specs.declared.office.Exchange.{Exchange}
+
+-- which booth it is, what it was made with, and for how many turns
+pub record BoothState (V : Type 0) : Type 0 where
+  pub id : TableId
+  pub made : V
+  pub turns : ℕ
+
+-- The booth and what that was made with; the turns that are left; the history that was seen; the places in it of the desk's own calls,
+-- and those of each desk that was joined into it
+pub record DeskState (V C R : Type 0) : Type 0 where
+  pub booth : TableId
+  pub made : Option V
+  pub left : ℕ
+  pub seen : List (Exchange C R)
+  pub own : List ℕ
+  pub joined : List (List ℕ)
+
+-- the desk was made from this booth
+abbrev pub IsDeskOf : {V C R : Type 0} → BoothState V → DeskState V C R → Type 0
+IsDeskOf booth desk = (desk.booth ≡ booth.id) × (desk.made ≡ Some booth.made)
+
+-- the first desk of a booth
+abbrev pub first_desk : {V C R : Type 0} → BoothState V → DeskState V C R
+first_desk booth = record { booth = booth.id; made = Some booth.made; left = booth.turns; seen = []; own = []; joined = [] }
+
+-- the office of one thread can have made these calls, with these replies
+abbrev pub IsLegal : {V C R : Type 0} → (V → C → R → V → Type 0) → V → List (Exchange C R) → Type 0
+IsLegal {V} step made history = (last : V) × Makes step made history last
+
+-- all places of a desk's calls
+abbrev pub places : {V C R : Type 0} → DeskState V C R → List ℕ
+places desk = desk.own ++ joined_up desk.joined
+
+-- each list of places rises, and they are places of what was seen
+abbrev pub AreOrdered : {V C R : Type 0} → DeskState V C R → Type 0
+AreOrdered desk = Rises 0 desk.own (length desk.seen) × AllRise desk.joined (length desk.seen)
+
+module _ {V C R : Type 0} where
+  abbrev pub turned : DeskState V C R → List (Exchange C R) → Exchange C R → DeskState V C R
+  turned desk between e = record desk { left = desk.left - 1; seen = (desk.seen ++ between) ++ e ∷ []; own = desk.own ++ length (desk.seen ++ between) ∷ [] }
+
+  -- A turn was taken. What is seen begins with all that was seen and ends with this call and reply, and the call is one more of the desk's own.
+  -- The history up to the call gives an office, which makes this reply
+  pub record HasTurned (step : V → C → R → V → Type 0) (made : V) (old : DeskState V C R) (call : C) (reply : R) (new : DeskState V C R) : Type 0 where
+    pub between : List (Exchange C R)
+    pub desk : new ≡ turned old between (record { call = call; reply = reply })
+    pub calls : entries_at new.seen new.own ≡ entries_at old.seen old.own ++ record { call = call; reply = reply } ∷ []
+    pub before : V
+    pub after : V
+    pub gives : Makes step made (old.seen ++ between) before
+    pub serves : step before call reply after
+
+  -- a desk that has seen as much, with these turns
+  abbrev pub fresh_desk : DeskState V C R → ℕ → DeskState V C R
+  fresh_desk desk turns = record desk { left = turns; own = []; joined = [] }
+
+  -- two desks are one, which has seen what both had
+  pub record HasJoined (old other new : DeskState V C R) : Type 0 where
+    pub more : List (Exchange C R)
+    pub desk : new ≡ record old { left = old.left + other.left; seen = old.seen ++ more; joined = old.joined ++ other.own ∷ other.joined }
+    pub told : StartsWith new.seen other.seen
+
+  -- The history gives this office, and begins with what the desk has seen. Where the desk's calls and turns are all that the booth was
+  -- made with, the history has the desk's calls and no others
+  pub record HasClosed (step : V → C → R → V → Type 0) (booth : BoothState V) (desk : DeskState V C R) (office : V) : Type 0 where
+    pub history : List (Exchange C R)
+    pub gives : Makes step booth.made history office
+    pub seen : StartsWith history desk.seen
+    pub all : length (places desk) + desk.left ≡ booth.turns → CountsOnce 0 (length history) (λ x. times x (places desk))

@@ -1,0 +1,7 @@
+//! The machine that the program runs on, as one trait, and its two adapters: real files, sockets and
+//! standard output, and a machine in memory.
+#![tactic(auto)]
+
+mod world;
+
+pub use world::{LONGEST, World};

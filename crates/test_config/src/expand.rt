@@ -1,0 +1,679 @@
+// Expansions of whole configurations, by the guide's rules for directives, blocks and variables. A row
+// has a configuration, in which `~` ends a line and `^` is a thousand variables, and what it is expanded
+// to: its tokens, or what is wrong with it, with the file's number and name and the line.
+
+use sg_device::{FileRefusal, Name, NoMemory};
+use sg_expand::{ExpandRefusal, Expanded, Files, expand};
+use sg_lex::{ConfigFault, Token, TokenKind};
+use sg_list::Seq;
+use sg_outside::Machine;
+use std::alloc::{AllocError, Global};
+use std::test::Fail;
+
+/// Files in memory.
+#[derive(Drop)]
+struct Texts {
+    /// How many readings failed.
+    faults: u64,
+}
+
+impl Machine for Texts {
+    ghost use Rattle.std.specs.Prelude.{None, []};
+
+    ghost state = { λ texts. record {
+      files = None;
+      inlets = record { opened = []; closed = [] };
+      outlets = record { opened = []; closed = [] };
+      stores = record { opened = []; closed = [] };
+      said = None;
+      read_faults = texts.faults;
+      unread = None;
+      inlet_faults = 0;
+      outlet_faults = 0;
+      store_faults = 0;
+      say_faults = 0;
+    } };
+}
+
+impl Files for Texts {
+    fn read(&mut self, alloc: Global, name: &[u8]) -> Result<Vec<u8>, FileRefusal> {
+        if name == b"broken".as_slice() {
+            self.faults = self.faults.saturating_add(1);
+            return Err(FileRefusal::Failed);
+        }
+        if name == b"long".as_slice() {
+            return Err(FileRefusal::TooLong);
+        }
+        if name == b"e".as_slice() || name == b"h14".as_slice() {
+            return Ok(Vec::new(alloc));
+        }
+        let text = file_of(alloc, row_of(name))?;
+        if text.len() > 1_048_576 {
+            return Err(FileRefusal::TooLong);
+        }
+        Ok(text)
+    }
+}
+
+/// What stands behind a file's name.
+fn row_of(name: &[u8]) -> &'static str {
+    for row in FILES.lines() {
+        if let Some((known, text)) = row.split_once(" => ") {
+            if known.as_bytes() == name {
+                return text;
+            }
+        }
+    }
+    ""
+}
+
+/// A file's text, or where a name stands behind `*`, a hundred lines that include the file of that name.
+fn file_of(alloc: Global, row: &str) -> Result<Vec<u8>, NoMemory> {
+    let mut text = Vec::new(alloc);
+    match row.strip_prefix("*") {
+        Some(next) => {
+            for _ in 0..100 {
+                text.extend_from_slice(b"@include \"")?;
+                text.extend_from_slice(next.as_bytes())?;
+                text.extend_from_slice(b"\"\n")?;
+            }
+        }
+        None => push_text(&mut text, row)?,
+    }
+    Ok(text)
+}
+
+/// Included files by name. Another is empty, but for `broken` and `long`, which can't be read.
+const FILES: &str = r#"h13 => *h14
+h12 => *h13
+h11 => *h12
+h10 => *h11
+h09 => *h10
+h08 => *h09
+h07 => *h08
+h06 => *h07
+h05 => *h06
+h04 => *h05
+h03 => *h04
+h02 => *h03
+h01 => *h02
+d01 => @include "d02"
+d02 => @include "d03"
+d03 => @include "d04"
+d04 => @include "d05"
+d05 => @include "d06"
+d06 => @include "d07"
+d07 => @include "d08"
+d08 => @include "d09"
+d09 => @include "d10"
+d10 => @include "d11"
+d11 => @include "d12"
+d12 => @include "d13"
+d13 => @include "d14"
+d14 => @include "d15"
+d15 => @include "d16"
+d16 => deep(); block root deep() {@include "out.conf"};
+c => @version: 4.2 ~@include "c"
+out.conf => file("out")
+later.conf => @version: 4.7 @version: current y
+old.conf => ~@version: 3.2
+bad => x~`NO` "
+worse => x~`NO` =
+tick => `k`
+use => b();
+semi => s;
+sets => @define V 1 block root b() {y};
+"#;
+
+/// The first token, and later versions.
+const VERSIONS: &str = r#" => Version 0 c:1
+~# c => Version 0 c:1
+~~x => Version 0 c:3
+# c~@version: 4.2~a => a
+@version~:~4.10 a => a
+@version: 3.38 => Version 0 c:1
+@version: 4 => Version 0 c:1
+@version: 4. => Version 0 c:1
+@version: 4.2.1 => Version 0 c:1
+@version: 4.2a => Version 0 c:1
+@version: 14.2 => Version 0 c:1
+@version: current => Version 0 c:1
+@version: "4.2" => Version 0 c:1
+@version 4.2 => Version 0 c:1
+version: 4.2 => Version 0 c:1
+@define V 1~@version: 4.2 => Version 0 c:1
+@version: 4.2~@version: 4.99 @version: current a => a
+@version: 4.2~@version~: 5.1 => Version 0 c:2
+@version: 4.2~@version: 4.2.1 => Version 0 c:2
+@version: 4.2 @version x @version: "y" => @version x @version : "y"
+@version: 4.2 @include "later.conf" => y
+@version: 4.2 @include "old.conf" => Version 1 old.conf:2
+@version: 4.2 block root a() {x~@version: 5.0}; a() => Version 0 c:2
+x~" => OpenString 0 c:2
+x~= => BadByte 0 c:2
+@version: 4.2~" => OpenString 0 c:2
+@version: 4.2 `NO`~$ => BadByte 0 c:2
+"#;
+
+/// Variables, directives without effect, and those that lack their parts.
+const DIRECTIVES: &str = r#"@define V x `V` @define V y `V` => x y
+@define S "a b" `S` "`S`" => "a b" "a b"
+@define A 1 @define B "`A`" @define A 2 `B` => "1"
+@define a 1 @define A 2 `a` `A` => 1 2
+@define a-b 1 @define a_b 2 `a-b` => 1
+@define E "" "a`E`b" `E` => "ab" ""
+{@define V x} `V` => { } x
+block root a() {@define V 1}; a(); `V` => ; 1
+@define "N" v @define N ; @define => @define "N" v @define N ; @define
+@define V v @define N `V` => @define N v
+@define @define x y `x` => @define y
+@define V~"~`NO`" => UnknownVariable 0 c:2
+@module x @requires y @module json-plugin =>
+@module "x" @requires => @module "x" @requires
+@other x @Define a b @module: y => @other x @Define a b @module : y
+@include out.conf => @include out.conf
+@define V x @include `V` => @include x
+level(err..emerg) 1 .. 2 => level ( err .. emerg ) 1 .. 2
+"#;
+
+/// Included files.
+const INCLUDES: &str = r#"d {@include "out.conf"; } => d { file ( "out" ) ; }
+@include 'out.conf' => file ( "out" )
+@define F out @include "`F`.conf" => file ( "out" )
+@include "e" @include "out.conf" x => file ( "out" ) x
+@include "sets" `V` {b()} => 1 { y }
+@include "x*.conf" => Unsupported 0 c:1
+~@include~"a?" => Unsupported 0 c:2
+@define W "*" @include "`W`" => Unsupported 0 c:1
+@include~"`NO`" => UnknownVariable 0 c:2
+@include "`NO`*" => UnknownVariable 0 c:1
+@include "broken" => broken not read 1
+@define V "*" @include "`V`broken" => Unsupported 0 c:1
+~x @include~"long" => TooLong 0 c:2
+@include "bad" => OpenString 1 bad:2
+@include "worse" `NO` => BadByte 1 worse:2
+~`NO`~@include "bad" => UnknownVariable 0 c:2
+@include "e" @include "e" @include "bad" => OpenString 3 bad:2
+@include "d02" => deep ( ) ;
+@include "d01" => IncludeDepth 15 d15:1
+block root deep() {x}; @include "d02" => x ;
+block root deep() {~@include "out.conf"}; @include "d02" => IncludeDepth 0 c:2
+block root deep() {@include "`NO`"}; @include "d02" => IncludeDepth 0 c:1
+{@include "d02"}~deep(); => { deep ( ) ; } file ( "out" ) ;
+~@include "c" => IncludeDepth 15 c:2
+block root a(k(1)) {@include "tick"}; a() => UnknownVariable 1 tick:1
+@define k 7 block root a(k(1)) {@include "tick" `k`}; a() => 7 1
+block root a(f()) {@include "`f`.conf"}; a(f(out)) => file ( "out" )
+block root a() {@include "use"}; block root b() {x}; a() => x ;
+block root b() {~@include "use"}; b() => IncludeDepth 0 c:2
+"#;
+
+/// Definitions of blocks.
+const BLOCKS: &str = r#"block root a() {1}; block source b() {2}; a(); b(); => 1 ; 2 ;
+block destination a() {1}; block filter b() {2}; a(); b(); => 1 ; 2 ;
+block rewrite a() {1}; block log b() {2}; a(); b(); => 1 ; 2 ;
+block parser a() {1}; block options b() {2}; a(); b(); => 1 ; 2 ;
+block template a() {}; => block template a ( ) { } ;
+block "root" a() {}; => block "root" a ( ) { } ;
+x block root a() {y}; a(); => x y ;
+block root "a" () {x}; a(); => x ;
+block root 'a-1.b' () {x}; a-1.b(); => x ;
+block root a-b() {x}; a_b(); A-b(); a-b(); => a_b ( ) ; A-b ( ) ; x ;
+block root a() {x} a(); => block root a ( ) { x } a ( ) ;
+block root a() {x}, a(); => block root a ( ) { x } , a ( ) ;
+block root a() x; => block root a ( ) x ;
+block root a {x}; => block root a { x } ;
+block root () {x}; => block root ( ) { x } ;
+block root a(k) {x}; => block root a ( k ) { x } ;
+block root a("k"()) {x}; => block root a ( "k" ( ) ) { x } ;
+block root a(,k(1)) {x}; => block root a ( , k ( 1 ) ) { x } ;
+block root a(k(1),) {x}; => block root a ( k ( 1 ) , ) { x } ;
+block root a(k({)}) {x}; => block root a ( k ( { ) } ) { x } ;
+block root a() {(}; => block root a ( ) { ( } ;
+block root a() {x)}; => block root a ( ) { x ) } ;
+block root a(k(1) l(2), m(3) ,, n((4) {5})) {`k` `l` `m` `n`}; a() => 1 2 3 ( 4 ) { 5 }
+block root a(k(1) k(2)) {`k`}; a() => 2
+block root a(k() k(1)) {`k`}; a() => 1
+block root a(k(1) k()) {};~a() => MissingArgument 0 c:2
+block root a() {`NO`}; x => x
+block root a() {`V`}; @define V 1 a(); @define V 2 a(); => 1 ; 2 ;
+block root a() {x}; a(); block root a() {y}; a(); => x ; y ;
+block root a(k()) {x}; block root a() {y}; a(); => y ;
+block root a() {x}; block root b() {a()}; block root a() {y}; b(); a(); => a ( ) ; y ;
+block root a() {block root c() {z};;}; a(); c(); => ; z ;
+block root a() {block root c() {z};}; a(); => block root c ( ) { z } ;
+block root a(k()) {x}; a(k(block root c() {z};)); c(); => x ; z ;
+"#;
+
+/// Uses of blocks.
+const USES: &str = r#"block root a() {x}; a() {a()} a() y a(); a() => x { x } x y a ( ) ; x
+block root a() {x}; (a()), a() :a() => ( a ( ) ) , a ( ) : a ( )
+block root a() {x}; "a"(); a a {} a => "a" ( ) ; a a { } a
+block root a() {x}; a()a() => x a ( )
+block root a() {x}; @define N a ;`N`() => ; a ( )
+block root a() {x}; a(1); a(k); a("k"()); a(k() 1); => a ( 1 ) ; a ( k ) ; a ( "k" ( ) ) ; a ( k ( ) 1 ) ;
+block root a() {x}; a(,); a(k(),); a({)}); a(k(); => a ( , ) ; a ( k ( ) , ) ; a ( { ) } ) ; a ( k ( ) ;
+block root a() {x}; @include "semi" a(); => s ; x ;
+block root a() {x}; y @include "semi" a(); => y s ; a ( ) ;
+block root a() {x}; y @module z a(); @define z 1 a(); => y a ( ) ; x ;
+block root a() {x}; @version: current a(); => x ;
+block root a() {x}; block root s() {s;;}; s() a(); => s ; a ( ) ;
+block root a() {x}; block root b(k()) {`k` a()}; b(k(y;)) => y ; a ( )
+block root b() {x}; y @include "use" z => y x ; z
+block root a() {x}; block root b() {a(); y a() {a()}}; b() => x ; y a ( ) { x }
+block root a() {x;;}; a(); => x ; ;
+block root a() {;}; block root b() {}; a() y; b() z => y ; z
+block root a() {b()}; block root b() {x}; a(); b(); => b ( ) ; x ;
+block root a() {a()}; a(); => a ( ) ;
+block root a() {x}; block root b() {a(); a()}; block root c() {b(); b()}; c() => x ; x ; x ; x
+block root a(k()) {x `k` "`k`"}; a(k()); a(k(1 "2" ;)); => x "" ; x 1 "2" ; "1 2 ;" ;
+block root a(k(1)) {`k`}; a(k(2) , , k(3)); a(); a(k((4) {5;} k(6))); => 3 ; 1 ; ( 4 ) { 5 ; } k ( 6 ) ;
+block root a(k()) {};~~a(l(`NO`)); => MissingArgument 0 c:3
+block root a(k()) {};~a(k() l(`NO`)); => UnknownArgument 0 c:2
+block root a(k()) {};~a(k(~`NO`)); => UnknownVariable 0 c:3
+block root a(k-l()) {};~a(k_l()); => MissingArgument 0 c:2
+block root a(k-l(1)) {};~a(k_l()); => UnknownArgument 0 c:2
+block root a(k() l()) {};~a(l(~`NO`) k(~`NO`)); => UnknownVariable 0 c:3
+block root a(k() l(~`NO`)) {};~a(k(~`NO`)); => UnknownVariable 0 c:4
+block root a(k(~`NO`) l(~`NO`)) {};~a(); => UnknownVariable 0 c:2
+block root a(k(~`NO`) l(~`NO`)) {};~a(k()); => UnknownVariable 0 c:3
+block root a(k() l()) {}; a(k() l(~`NO`) k(~`NO`)); => UnknownVariable 0 c:2
+block root a(k(`V`)) {`k`}; block root b(V(1)) {a()}; @define V 2 b(); a(); => 1 ; 2 ;
+block root a(p(1) q(`p`)) {`q`};~a(); => UnknownVariable 0 c:1
+@define p 9 block root a(p(1) q(`p`)) {`q`}; a(); => 9 ;
+block root a(p(1)) {`p`}; block root b(q(2)) {a(p(`q`))}; b() => 2
+block root a() {`q`}; block root b(q(2)) {a()}; b() => UnknownVariable 0 c:1
+@define N 1 block root a(N(2)) { {`N` @define N 3 `N`} }; a(); `N` => { 2 2 } ; 3
+block root b() {x}; block root a(k()) { {`k`} }; a(k(b() {b()})) => { b ( ) { x } }
+block root a(k({b()})) {`k`}; block root b() {x}; a() => { x }
+block root a(k()) {`k`}; block root c() {a(k({b()}))}; block root b() {x}; c() => { b ( ) }
+"#;
+
+/// Variables in strings.
+const STRINGS: &str =
+    r#"@define N v "\x60N\x60" "\`N\`" '`N`' '\x60N\x60' => "v" "v" "v" "\x60N\x60"
+@define N 1 "`N`N`" "``N`" "`N" "`" "` `" "``" "`N N`" => "1N`" "`1" "`N" "`" "` `" "``" "`N N`"
+@define N 1 @define B "`" "`B`N`B`" @define C "`B`N`B`" `C` "`C`" => "`N`" "`N`" "`N`"
+@define N 1 @define N "`N``N`" `N` => "11"
+@define N 1 @x `N` "@`N`" `N`..`N` => @x 1 "@1" 1 .. 1
+@define O out~d {file("`O`-`O`") `O`} => d { file ( "out-out" ) out }
+@define a.b 1 "`a.b`" => "`a.b`"
+block root l(p()) {"`p`"}; l(p("in" a, 'b c' ;)) => "in a , b c ;"
+"`a`N`" => UnknownVariable 0 c:1
+~x "~`NO`" => UnknownVariable 0 c:2
+~"a" `NO` => UnknownVariable 0 c:2
+"#;
+
+/// Whole configurations.
+const WHOLE: &str =
+    r#"~@define OUT out~source s { file("in" flags(no-parse)); }; # in~destination d { file("`OUT`" template("$MSG\n")); };~log { source(s); destination(d); flags(flow-control); }; => source s { file ( "in" flags ( no-parse ) ) ; } ; destination d { file ( "out" template ( "$MSG~" ) ) ; } ; log { source ( s ) ; destination ( d ) ; flags ( flow-control ) ; } ;
+~block source local(path()) { file("`path`" flags(no-parse)); };~source s { local(path("in")); };~destination d { file("out"); }; => source s { file ( "in" flags ( no-parse ) ) ; } ; destination d { file ( "out" ) ; } ;
+~block source local(path()) { file("`path`" flags(no-parse)); };~source s { local(); }; => MissingArgument 0 c:3
+~log { `NO`; }; => UnknownVariable 0 c:2
+~@include "conf.d/*.conf" => Unsupported 0 c:2
+"#;
+
+/// What the running total counts, behind the room that is left for it. The text begins on line 2.
+const TOTALS: &str = r#"4: abc => abc
+3: abc => TooLong 0 c:2
+4: a b => a b
+3: a~b => TooLong 0 c:3
+3: "\x41b" => "Ab"
+2: "\x41b" => TooLong 0 c:2
+5: @xy ; => @xy ;
+4: @xy~; => TooLong 0 c:3
+3: .. => ..
+2: .. => TooLong 0 c:2
+6: @define W vw `W` => vw
+5: @define W vw~`W` => TooLong 0 c:2
+8: @define W vw "`W``W`" => "vwvw"
+7: @define W vw~"`W``W`" => TooLong 0 c:3
+4: @define W abc =>
+3: ~@define W~abc => TooLong 0 c:3
+9: @define W abc @define X "`W`x" =>
+8: @define W abc~@define X "`W`x" => TooLong 0 c:3
+0: @define W~"`NO`" => UnknownVariable 0 c:3
+0: @module x @requires y @version: 4.3 block root a() {x y z}; =>
+12: block root a() {b c;}; a() => b c
+11: block root a() {b~c;}; a() => TooLong 0 c:3
+8: block root a() {b c;};~a() => TooLong 0 c:2
+7: block root a() {b c;};~a() => TooLong 0 c:3
+4: block root abc() {}; abc() =>
+3: block root abc() {};~abc() => TooLong 0 c:3
+11: block root a() {@module x}; a() =>
+10: block root a() {@module x};~a() => TooLong 0 c:3
+5: block root a(k()) {}; a(k(bc)) =>
+4: block root a(k()) {};~a(k(~bc)) => TooLong 0 c:3
+5: block root a(k(bc)) {}; a() =>
+4: block root a(k(bc)) {};~a() => TooLong 0 c:3
+24: block root a(k()) {}; block root b(x()) {a(k(`x`))}; b(x(cd)) =>
+23: block root a(k()) {}; block root b(x()) {~a(k(`x`))};~b(x(cd)) => TooLong 0 c:3
+18: block root a(k()) {}; block root b(x()) {~a(k(`x`))};~b(x(cd)) => TooLong 0 c:4
+15: block root a(k()) {}; block root b(x()) {~a(k(`x`))};~b(x(cd)) => TooLong 0 c:4
+2: block root a(k()) {};~a(k(bc~`NO`)) => UnknownVariable 0 c:4
+1: block root a(k()) {};~a(k(bc~`NO`)) => TooLong 0 c:3
+0: block root a(k()) {};~a() => MissingArgument 0 c:3
+3: @include "e" =>
+2: ~@include~"e" => TooLong 0 c:3
+1: ~@include~"e" => TooLong 0 c:3
+34: @include "out.conf" => file ( "out" )
+33: @include "out.conf" => TooLong 1 out.conf:1
+21: @include "out.conf" => TooLong 1 out.conf:1
+20: @include "out.conf" => TooLong 0 c:2
+7: @define W ab @include "`W`" =>
+6: @define W ab~@include "`W`" => TooLong 0 c:3
+5: @define W ab~@include "`W`" => TooLong 0 c:3
+0: ~@include~"`NO`" => UnknownVariable 0 c:4
+4: @include "a*b" => Unsupported 0 c:2
+3: @include "a*b" => TooLong 0 c:2
+7: @include "broken" => broken not read 1
+6: @include "broken" => TooLong 0 c:2
+5: @include "long" => TooLong 0 c:2
+13: @include "bad" => OpenString 1 bad:2
+12: @include "bad" => TooLong 0 c:2
+"#;
+
+/// Values over the limit. The text begins on line 2.
+const LONG: &str = r#"block root a(k()) {};~a(k(~^)) => TooLong 0 c:3
+block root a(k()) {};~a(k(^~`NO`)) => UnknownVariable 0 c:4
+block root a(k()) {};~a(k(~"^")) => TooLong 0 c:3
+block root a(k()) {};~a(k("^`NO`")) => UnknownVariable 0 c:3
+block root a(k()) {};~a(k(^~"^" ^; a())) => MissingArgument 0 c:4
+block root a(k(^)) {};~a() => TooLong 0 c:3
+^ => TooLong 0 c:1
+~"^" => TooLong 0 c:3
+"^~`NO`" => UnknownVariable 0 c:2
+@define W "^" => TooLong 0 c:2
+@define W~"^`NO`" => UnknownVariable 0 c:3
+@include "^" => TooLong 0 c:2
+@include~"^`NO`" => UnknownVariable 0 c:3
+"#;
+
+/// The places at which tokens were written, and the files' names.
+const PLACES: &str = r#"@version: 4.2~a "b~c" d; => a@0:2:1 "b~c"@0:2:3 d@0:3:4 ;@0:3:5 c
+@version: 4.2~@define V~"x"~block root a(k()) {~`k` `V` "`V`"};~a(k(~b));~@include "out.conf" => b@0:7:1 "x"@0:3:1 "x"@0:5:9 ;@0:7:4 file@1:1:1 (@1:1:5 "out"@1:1:6 )@1:1:11 c out.conf
+@version: 4.2 @include "e" @include "semi" @include "e" => s@2:1:1 ;@2:1:2 c e semi e
+"#;
+
+/// A row's text.
+fn push_text(text: &mut Vec<u8>, row: &str) -> Result<(), NoMemory> {
+    for byte in row.as_bytes() {
+        match *byte {
+            b'~' => text.push(b'\n')?,
+            b'^' => push_variables(text)?,
+            _ => text.push(*byte)?,
+        }
+    }
+    Ok(())
+}
+
+/// More variables of 999 bytes than a value holds.
+fn push_variables(text: &mut Vec<u8>) -> Result<(), NoMemory> {
+    for _ in 0..1050 {
+        text.extend_from_slice(b"`V`")?;
+    }
+    Ok(())
+}
+
+/// A definition of a variable, of so many bytes.
+fn push_definition(text: &mut Vec<u8>, name: u8, count: usize) -> Result<(), NoMemory> {
+    text.extend_from_slice(b"@define ")?;
+    text.push(name)?;
+    text.extend_from_slice(b" \"")?;
+    for _ in 0..count {
+        text.push(name)?;
+    }
+    text.extend_from_slice(b"\" ")?;
+    Ok(())
+}
+
+/// A text behind a first line that leaves so much room, up to 175: two hundred uses of a block whose
+/// body comes to nothing count 5,242 each, and the value of a variable the rest.
+fn text_with_room(alloc: Global, room: usize, tail: &str) -> Result<Vec<u8>, NoMemory> {
+    let mut text = Vec::new(alloc);
+    text.extend_from_slice(b"@version: 4.2 block root f() {@module ")?;
+    for _ in 0..5232 {
+        text.push(b'm')?;
+    }
+    text.extend_from_slice(b"};")?;
+    for _ in 0..200 {
+        text.extend_from_slice(b"f() block root g() {};")?;
+    }
+    push_definition(&mut text, b'W', 175usize.saturating_sub(room))?;
+    text.push(b'\n')?;
+    push_text(&mut text, tail)?;
+    Ok(text)
+}
+
+/// A text behind a first line.
+fn text_behind(alloc: Global, head: &str, tail: &str) -> Result<Vec<u8>, NoMemory> {
+    let mut text = Vec::new(alloc);
+    push_text(&mut text, head)?;
+    push_text(&mut text, tail)?;
+    Ok(text)
+}
+
+/// A token's text behind a space, with what shows its kind.
+fn push_token(shown: &mut Vec<u8>, token: &Token) -> Result<(), NoMemory> {
+    shown.push(b' ')?;
+    match token.kind {
+        TokenKind::Str => {
+            shown.push(b'"')?;
+            shown.extend_from_slice(token.text.bytes())?;
+            shown.push(b'"')?;
+        }
+        TokenKind::At => {
+            shown.push(b'@')?;
+            shown.extend_from_slice(token.text.bytes())?;
+        }
+        _ => shown.extend_from_slice(token.text.bytes())?,
+    }
+    Ok(())
+}
+
+/// The tokens, one space before each.
+fn told(alloc: Global, expanded: &Expanded) -> Result<Vec<u8>, NoMemory> {
+    let mut shown = Vec::new(alloc);
+    for token in expanded.tokens.as_slice() {
+        push_token(&mut shown, token)?;
+    }
+    Ok(shown)
+}
+
+/// The tokens with their places, and the files' names.
+fn placed(alloc: Global, expanded: &Expanded) -> Result<Vec<u8>, NoMemory> {
+    let mut shown = Vec::new(alloc);
+    for token in expanded.tokens.as_slice() {
+        push_token(&mut shown, token)?;
+        let place = format!(in alloc; "@{}:{}:{}", token.file, token.line, token.column)?;
+        shown.extend_from_slice(place.as_bytes())?;
+    }
+    for name in expanded.names.as_slice() {
+        shown.push(b' ')?;
+        shown.extend_from_slice(name.bytes())?;
+    }
+    Ok(shown)
+}
+
+/// What is wrong, and where: the number of the file, its name and the line.
+fn blamed(alloc: Global, fault: ConfigFault, names: &Seq<Name>) -> Result<Vec<u8>, NoMemory> {
+    let mut shown = format!(in alloc; " {:?} {} ", fault.kind, fault.file)?.into_bytes();
+    if let Some(name) = names.get(fault.file as usize) {
+        shown.extend_from_slice(name.bytes())?;
+    }
+    let line = format!(in alloc; ":{}", fault.line)?;
+    shown.extend_from_slice(line.as_bytes())?;
+    Ok(shown)
+}
+
+/// The file that wasn't read, and how many readings failed.
+fn unread(alloc: Global, name: &Name, faults: u64) -> Result<Vec<u8>, NoMemory> {
+    let mut shown = Vec::new(alloc);
+    shown.push(b' ')?;
+    shown.extend_from_slice(name.bytes())?;
+    let count = format!(in alloc; " not read {faults}")?;
+    shown.extend_from_slice(count.as_bytes())?;
+    Ok(shown)
+}
+
+fn answer(alloc: Global, text: &[u8], with_places: bool) -> Result<Vec<u8>, NoMemory> {
+    let mut files = Texts { faults: 0 };
+    match expand(alloc, Name::new(alloc, b"c")?, text, &mut files) {
+        Ok(expanded) if with_places => placed(alloc, &expanded),
+        Ok(expanded) => told(alloc, &expanded),
+        Err(ExpandRefusal::Bad { fault, names }) => blamed(alloc, fault, &names),
+        Err(ExpandRefusal::ReadFault(name)) => unread(alloc, &name, files.faults),
+        Err(ExpandRefusal::NoMemory) => Err(AllocError),
+    }
+}
+
+/// Adds a row and the answer, where it isn't the one that is wanted.
+fn compare(wrong: &mut Vec<u8>, row: &str, shown: &[u8], want: &[u8]) -> Result<(), NoMemory> {
+    if shown != want {
+        wrong.extend_from_slice(row.as_bytes())?;
+        wrong.extend_from_slice(b" but")?;
+        wrong.extend_from_slice(shown)?;
+        wrong.push(b'\n')?;
+    }
+    Ok(())
+}
+
+/// The rows with another answer, where each text stands behind this one.
+fn wrong_behind(
+    alloc: Global,
+    head: &str,
+    rows: &str,
+    with_places: bool,
+) -> Result<Vec<u8>, NoMemory> {
+    let mut wrong = Vec::new(alloc);
+    for row in rows.lines() {
+        if let Some((tail, want)) = row.split_once(" =>") {
+            let text = text_behind(alloc, head, tail)?;
+            let shown = answer(alloc, &text, with_places)?;
+            compare(&mut wrong, row, &shown, &text_behind(alloc, "", want)?)?;
+        }
+    }
+    Ok(wrong)
+}
+
+/// The rows with another answer, where each text stands behind one that leaves so much room.
+fn wrong_in_room(alloc: Global, rows: &str) -> Result<Vec<u8>, NoMemory> {
+    let mut wrong = Vec::new(alloc);
+    for row in rows.lines() {
+        if let (Some((room, _)), Some((text, want))) = (
+            row.split_once(": "),
+            row.split_once(" =>"),
+        ) {
+            let tail = text
+                .strip_prefix(room)
+                .unwrap_or("")
+                .strip_prefix(": ")
+                .unwrap_or("");
+            let text = text_with_room(alloc, room.parse::<usize>().unwrap_or(0), tail)?;
+            let shown = answer(alloc, &text, false)?;
+            compare(&mut wrong, row, &shown, want.as_bytes())?;
+        }
+    }
+    Ok(wrong)
+}
+
+#[test]
+fn directives(rt: HostRuntime) -> Result<(), Fail> {
+    let alloc = rt.alloc();
+    for (head, rows) in [
+        ("", VERSIONS),
+        ("@version: 4.2 ", DIRECTIVES),
+        ("@version: 4.2 ", INCLUDES),
+    ] {
+        let wrong = wrong_behind(alloc, head, rows, false)?;
+        assert_eq!(rt; str::from_utf8(&wrong)?, "");
+    }
+    Ok(())
+}
+
+#[test]
+fn blocks(rt: HostRuntime) -> Result<(), Fail> {
+    let alloc = rt.alloc();
+    for rows in [BLOCKS, USES, STRINGS, WHOLE] {
+        let wrong = wrong_behind(alloc, "@version: 4.2 ", rows, false)?;
+        assert_eq!(rt; str::from_utf8(&wrong)?, "");
+    }
+    let wrong = wrong_behind(alloc, "", PLACES, true)?;
+    assert_eq!(rt; str::from_utf8(&wrong)?, "");
+    Ok(())
+}
+
+#[test]
+fn totals(rt: HostRuntime) -> Result<(), Fail> {
+    let wrong = wrong_in_room(rt.alloc(), TOTALS)?;
+    assert_eq!(rt; str::from_utf8(&wrong)?, "");
+    Ok(())
+}
+
+#[test]
+fn long_values(rt: HostRuntime) -> Result<(), Fail> {
+    let alloc = rt.alloc();
+    let mut head = Vec::new(alloc);
+    head.extend_from_slice(b"@version: 4.2 ")?;
+    push_definition(&mut head, b'V', 999)?;
+    head.push(b'\n')?;
+    let wrong = wrong_behind(alloc, str::from_utf8(&head)?, LONG, false)?;
+    assert_eq!(rt; str::from_utf8(&wrong)?, "");
+    Ok(())
+}
+
+/// A definition that names the one before twice, on each line from the third: from the 18th on the
+/// whole is too long.
+#[test]
+fn doubling_is_too_long(rt: HostRuntime) -> Result<(), Fail> {
+    let alloc = rt.alloc();
+    let mut text = Vec::new(alloc);
+    text.extend_from_slice(b"@version: 4.2\n@define a0 \"0123456789\"\n")?;
+    for k in 1..21u32 {
+        let line = format!(in alloc; "@define a{} \"`a{}``a{}`\"\n", k, k - 1, k - 1)?;
+        text.extend_from_slice(line.as_bytes())?;
+    }
+    let shown = answer(alloc, &text, false)?;
+    assert_eq!(rt; str::from_utf8(&shown)?, " TooLong 0 c:18");
+    Ok(())
+}
+
+/// Files of a hundred lines that include the next of 14 each: 12 files of 1,505 bytes with their names
+/// come first, five more of them with a hundred files of 2,005 each follow, and ten more of these.
+#[test]
+fn many_lines_are_too_long(rt: HostRuntime) -> Result<(), Fail> {
+    let shown = answer(rt.alloc(), b"@version: 4.2 @include \"h01\"", false)?;
+    assert_eq!(rt; str::from_utf8(&shown)?, " TooLong 50517 h12:11");
+    Ok(())
+}
+
+/// The main file counts as the first of 65,536. The one after those isn't asked for.
+#[test]
+fn too_many_files(rt: HostRuntime) -> Result<(), Fail> {
+    let alloc = rt.alloc();
+    let mut text = Vec::new(alloc);
+    text.extend_from_slice(b"@version: 4.2\n")?;
+    for _ in 0..65535 {
+        text.extend_from_slice(b"@include\"e\"\n")?;
+    }
+    text.extend_from_slice(b"@include\"*\"")?;
+    let shown = answer(alloc, &text, false)?;
+    assert_eq!(rt; str::from_utf8(&shown)?, " TooLong 0 c:65537");
+    Ok(())
+}
+
+/// A main file has at most 1,048,576 bytes, and a longer one isn't looked at.
+#[test]
+fn main_file_of_the_limit(rt: HostRuntime) -> Result<(), Fail> {
+    let alloc = rt.alloc();
+    let mut text = Vec::new(alloc);
+    text.extend_from_slice(b"@version: 4.2 a;#")?;
+    text.resize(1_048_576, b'$')?;
+    let shown = answer(alloc, &text, false)?;
+    assert_eq!(rt; str::from_utf8(&shown)?, " a ;");
+    text.push(b'\n')?;
+    text[0] = b'$';
+    let shown = answer(alloc, &text, false)?;
+    assert_eq!(rt; str::from_utf8(&shown)?, " TooLong 0 c:1");
+    Ok(())
+}

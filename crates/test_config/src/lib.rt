@@ -1,0 +1,7 @@
+//! Tests of configurations: tokens and expansion.
+#![tactic(auto)]
+
+#[cfg(test)]
+mod expand;
+#[cfg(test)]
+mod lex;

@@ -1,0 +1,327 @@
+// The device calls and answers of small lists, over disks in memory.
+use sg_device::NoMemory;
+use sg_memory::{DiskChange, MemoryDisk};
+use sg_spool::{Appended, Block, Front, Recode, Spool, Walked};
+use sg_stable::StoreRefusal;
+use std::alloc::Global;
+use std::test::Fail;
+
+// An entry of a message in the older format.
+const FORMAT1: &[u8; 47] =
+    b"\x01\x01\0\0\0\0\0\0\0\0\0\0\0\x04\x0d\0\0\0\0\0\0\0\0\0\0\0\0\0\x01\0\0\0\x07MESSAGE\0\0\0\x03one";
+
+// A call, the answer, and the list after it; each line goes on from the one before.
+const CAPACITY: &str = "append abcd: Done, abcd
+append efgh: Done, abcd efgh
+append ijkl: NoRoom, abcd efgh
+advance: Done, efgh
+append ijkl: Done, efgh ijkl
+append m: NoRoom, efgh ijkl
+advance: Done, ijkl
+advance: Done,";
+
+// The same, from a fresh store over the end of the ring.
+const RING: &str = "append abcd: Done, abcd
+append efgh: Done, abcd efgh
+advance: Done, efgh
+append ijkl: Done, efgh ijkl
+advance: Done, ijkl
+append mnop: Done, ijkl mnop
+advance: Done, mnop";
+
+// The changes since an opening: a write's place and bytes in hexadecimal, or a sync.
+const APPENDED: &str = "sync
+65 00000002616200
+sync
+64 01
+sync
+32 0000000000000007
+sync
+0 01
+sync";
+
+const WRAPPED: &str = "sync
+64 01000000047172737400
+101 00000000
+sync
+100 01
+sync
+16 0000000000000000
+sync
+0 04
+sync";
+
+const GATHERED: &str = "sync
+105 01000000046d6e6f70
+114 01000000047172737400
+sync
+16 0000000000000029
+sync
+0 04
+sync
+124 0000000e303030303030303030303030303000
+sync
+123 01
+sync";
+
+const MIGRATED: &str = "sync
+117 010000002f01010000000000000000000000040d0000000000000000000000000001000000074d455353414745000000036f6e6500
+sync
+32 0000000000000035
+sync
+0 01
+sync";
+
+fn fresh(alloc: Global) -> Result<MemoryDisk, Fail> {
+    Ok(MemoryDisk::new(alloc, vec![in alloc; 0u8; 128]?)?)
+}
+
+fn block(alloc: Global, payload: &[u8]) -> Result<Block, Fail> {
+    if payload.is_empty() || payload.len() > 100 {
+        return Err(Fail::from("no payload"));
+    }
+    Ok(Block::new(alloc, payload.to_vec(alloc)?)?)
+}
+
+// Opens a store and gives it back with the answer to an append and what was made stable by it.
+fn open(disk: MemoryDisk, capacity: u64) -> Result<Spool<MemoryDisk>, StoreRefusal> {
+    match Spool::open(disk, capacity) {
+        Ok(spool) => Ok(spool),
+        Err((_, refusal)) => Err(refusal),
+    }
+}
+
+// The payloads of a list, each behind a space. They are taken off it.
+fn drain(alloc: Global, disk: MemoryDisk) -> Result<String, Fail> {
+    let mut spool = open(disk, 0)?;
+    let mut text = String::new(alloc);
+    let result = take_all(alloc, &mut spool, &mut text);
+    let _ = spool.into_disk();
+    result?;
+    Ok(text)
+}
+
+fn take_all(alloc: Global, spool: &mut Spool<MemoryDisk>, text: &mut String) -> Result<(), Fail> {
+    for _ in 0..spool.count() {
+        if let Front::Item(payload) = spool.front(alloc)? {
+            text.push(' ')?;
+            text.push_str(str::from_utf8(&payload)?)?;
+        }
+        if spool.count() > 0 {
+            spool.advance()?;
+        }
+    }
+    Ok(())
+}
+
+fn perform(alloc: Global, spool: &mut Spool<MemoryDisk>, call: &str) -> Result<&'static str, Fail> {
+    if let Some(("append", payload)) = call.split_once(' ') {
+        let block = block(alloc, payload.as_bytes())?;
+        return Ok(match spool.append(&block) {
+            Appended::Done => "Done",
+            Appended::NoRoom => "NoRoom",
+            Appended::DiskFailed => "DiskFailed",
+        });
+    }
+    if spool.count() == 0 {
+        return Ok("empty");
+    }
+    spool.advance()?;
+    Ok("Done")
+}
+
+// The changes of a disk as text.
+fn changes(alloc: Global, disk: &MemoryDisk) -> Result<String, Fail> {
+    let mut text = String::new(alloc);
+    for change in disk.changes() {
+        if !text.is_empty() {
+            text.push('\n')?;
+        }
+        match change {
+            DiskChange::Synced => text.push_str("sync")?,
+            DiskChange::Wrote(written) => {
+                text.push_str(format!(in alloc; "{} ", written.at)?.as_str())?;
+                for byte in written.bytes.as_slice() {
+                    text.push_str(format!(in alloc; "{byte:02x}")?.as_str())?;
+                }
+            }
+        }
+    }
+    Ok(text)
+}
+
+// One call on a store: whether it answers as the row says and leaves that list; and the disk.
+fn row(
+    alloc: Global,
+    disk: MemoryDisk,
+    capacity: u64,
+    row: &str,
+) -> Result<(bool, MemoryDisk), Fail> {
+    let (call, wanted) = row.split_once(": ").ok_or("no colon")?;
+    let (answer, list) = wanted.split_once(',').ok_or("no comma")?;
+    let mut spool = open(disk, capacity)?;
+    let said = perform(alloc, &mut spool, call);
+    let disk = spool.into_disk();
+    let said = said?;
+    let bytes = disk.bytes().to_vec(alloc)?;
+    let listed = drain(alloc, MemoryDisk::new(alloc, bytes)?)?;
+    Ok((said == answer && listed.as_str() == list, disk))
+}
+
+// Runs a table of calls from a fresh store, and counts the rows that come out as they say.
+fn rows(alloc: Global, table: &str, capacity: u64) -> Result<(usize, MemoryDisk), Fail> {
+    let mut disk = fresh(alloc)?;
+    let mut good: usize = 0;
+    for line in table.lines() {
+        let (same, next) = row(alloc, disk, capacity, line)?;
+        disk = next;
+        if same {
+            good = good.saturating_add(1);
+        }
+    }
+    Ok((good, disk))
+}
+
+#[test]
+fn tables(rt: HostRuntime) -> Result<(), Fail> {
+    for (table, capacity) in [(CAPACITY, 20), (RING, 20)] {
+        let (good, _) = rows(rt.alloc(), table, capacity)?;
+        assert_eq!(rt; good, table.lines().count());
+    }
+    Ok(())
+}
+
+// The changes that these calls make, on a store of these bytes.
+fn traced(
+    alloc: Global,
+    bytes: &[u8],
+    capacity: u64,
+    calls: &[&str],
+) -> Result<(String, MemoryDisk), Fail> {
+    let disk = MemoryDisk::new(alloc, bytes.to_vec(alloc)?)?;
+    let mut spool = open(disk, capacity)?;
+    let result = perform_all(alloc, &mut spool, calls);
+    let disk = spool.into_disk();
+    result?;
+    Ok((changes(alloc, &disk)?, disk))
+}
+
+fn perform_all(alloc: Global, spool: &mut Spool<MemoryDisk>, calls: &[&str]) -> Result<(), Fail> {
+    for call in calls {
+        perform(alloc, spool, call)?;
+    }
+    Ok(())
+}
+
+#[test]
+fn device_calls(rt: HostRuntime) -> Result<(), Fail> {
+    let alloc = rt.alloc();
+    let (text, _) = traced(alloc, &[0; 128], 20, &["append ab", "advance"])?;
+    assert_eq!(rt; text.as_str(), APPENDED);
+    let (_, ring) = rows(alloc, RING, 20)?;
+    let (text, _) = traced(alloc, ring.bytes(), 20, &["append qrst", "advance"])?;
+    assert_eq!(rt; text.as_str(), WRAPPED);
+    let (_, wrapped) = traced(alloc, ring.bytes(), 20, &["append qrst"])?;
+    let (text, _) = traced(alloc, wrapped.bytes(), 60, &["append 00000000000000"])?;
+    assert_eq!(rt; text.as_str(), GATHERED);
+    Ok(())
+}
+
+// Spells each payload as it is.
+#[derive(Drop)]
+struct Same;
+
+impl Recode for Same {
+    ghost meaning = { λ _ payload. payload };
+
+    ghost fits = { λ _ payload is. is };
+
+    fn recode(&mut self, alloc: Global, payload: &[u8]) -> Result<Vec<u8>, NoMemory> {
+        Ok(payload.to_vec(alloc)?)
+    }
+}
+
+// A store with one entry, spelled anew.
+fn migrated(alloc: Global) -> Result<MemoryDisk, Fail> {
+    let mut spool = open(fresh(alloc)?, 1000)?;
+    let result = append_bytes(alloc, &mut spool, FORMAT1);
+    let disk = spool.into_disk();
+    result?;
+    let bytes = disk.bytes().to_vec(alloc)?;
+    let mut spool = open(MemoryDisk::new(alloc, bytes)?, 1000)?;
+    let mut same = Same;
+    let result = spool.rewrite(alloc, &mut same);
+    let disk = spool.into_disk();
+    result?;
+    Ok(disk)
+}
+
+fn append_bytes(alloc: Global, spool: &mut Spool<MemoryDisk>, payload: &[u8]) -> Result<(), Fail> {
+    if payload.is_empty() || payload.len() > 100 {
+        return Err(Fail::from("no payload"));
+    }
+    let block = Block::new(alloc, payload.to_vec(alloc)?)?;
+    if spool.append(&block) != Appended::Done {
+        return Err(Fail::from("not appended"));
+    }
+    Ok(())
+}
+
+#[test]
+fn migration(rt: HostRuntime) -> Result<(), Fail> {
+    let alloc = rt.alloc();
+    let disk = migrated(alloc)?;
+    assert_eq!(rt; changes(alloc, &disk)?.as_str(), MIGRATED);
+    let mut spool = open(disk, 1000)?;
+    let gate = spool.head();
+    let walked = spool.item(alloc, gate);
+    let _ = spool.into_disk();
+    let Walked::Item { payload, next } = walked? else {
+        return Err(Fail::from("no item"));
+    };
+    assert_eq!(rt; (gate, next), (117, 169));
+    assert_eq!(rt; payload.as_slice(), FORMAT1.as_slice());
+    Ok(())
+}
+
+// Damaged stores of 128 bytes: a place, its byte, and the place of the damage.
+const DAMAGED: &str = "1 1 1
+15 255 15
+24 1 24
+40 9 40
+63 1 63
+16 1 72057594037928000
+23 64 128
+64 1 64
+64 255 64";
+
+#[test]
+fn damaged(rt: HostRuntime) -> Result<(), Fail> {
+    let alloc = rt.alloc();
+    let mut good: usize = 0;
+    for line in DAMAGED.lines() {
+        if is_damaged(alloc, line)? {
+            good = good.saturating_add(1);
+        }
+    }
+    assert_eq!(rt; good, DAMAGED.lines().count());
+    Ok(())
+}
+
+fn is_damaged(alloc: Global, line: &str) -> Result<bool, Fail> {
+    let (at, rest) = line.split_once(' ').ok_or("no place")?;
+    let (byte, damage) = rest.split_once(' ').ok_or("no byte")?;
+    let at: usize = at.parse()?;
+    let mut bytes = vec![in alloc; 0u8; 128]?;
+    if at < bytes.len() {
+        bytes[at] = byte.parse()?;
+    }
+    let damage: u64 = damage.parse()?;
+    match open(MemoryDisk::new(alloc, bytes)?, 20) {
+        Ok(spool) => {
+            let _ = spool.into_disk();
+            Ok(false)
+        }
+        Err(refusal) => Ok(refusal == StoreRefusal::Damage(damage)),
+    }
+}

@@ -1,0 +1,11 @@
+//! Tests of texts: stamps, templates, frames and reports.
+#![tactic(auto)]
+
+#[cfg(test)]
+mod outfmt;
+#[cfg(test)]
+mod report;
+#[cfg(test)]
+mod template;
+#[cfg(test)]
+mod time;
