@@ -1,1 +1,14 @@
 pub mod Lexing
+pub mod Putting
+pub mod Leading
+pub mod Turning
+pub mod Using
+pub mod Including
+pub mod Reading
+pub mod Beginning
+pub mod Bounding
+pub mod OneFront
+pub mod OneRun
+pub mod Places
+pub mod PlacesStep
+pub mod PlacesRun

@@ -207,15 +207,17 @@ include_read context tokens state =
     if nat_le 15 context.depth then Faults IncludeDepth (line_at tokens 0)
     else included tokens state (replaced context.scope state.variables 0 (text_at tokens 1))
 
--- what stands at the front: a directive with its parts, a definition, a use or a token
+-- what stands at the front: a directive that reads nothing, a definition, a use or a token
+abbrev pub front : Context → Bool → List Token → State → Step
+front context fresh tokens state =
+    if length tokens == 0 then Ends
+    else (if begins_version tokens then version_read fresh tokens state
+    else (if begins_define tokens then define_read fresh tokens state (text_of context state tokens 2)
+    else (if begins_ignored tokens then Moves fresh (drop 2 tokens) state
+    else definition_or_word context fresh tokens state (definition tokens))))
+
 abbrev pub step : Context → Bool → List Token → State → Step
-step context fresh [] state = Ends
-step context fresh (token ∷ tokens) state =
-    if begins_version (token ∷ tokens) then version_read fresh (token ∷ tokens) state
-    else (if begins_define (token ∷ tokens) then define_read fresh (token ∷ tokens) state (text_of context state (token ∷ tokens) 2)
-    else (if begins_include (token ∷ tokens) then include_read context (token ∷ tokens) state
-    else (if begins_ignored (token ∷ tokens) then Moves fresh (drop 2 (token ∷ tokens)) state
-    else definition_or_word context fresh (token ∷ tokens) state (definition (token ∷ tokens)))))
+step context fresh tokens state = if begins_include tokens then include_read context tokens state else front context fresh tokens state
 
 -- what is to be expanded
 pub data Job : Type 0 where

@@ -6,7 +6,7 @@ ghost use Rattle.sg_outside.specs.World.{OnlyReads};
 ghost use Rattle.sg_list.specs.Lists.{passes_at};
 ghost use Rattle.sg_block.specs.Tokens.{is_front, is_tick, is_string, text_at, line_at};
 ghost use Rattle.sg_block.specs.Values.{reached, IsReplaced};
-ghost use Rattle.sg_expand.specs.Expansion.{Moves, retold, step, version_read, define_read, text_of, text_in, plain, with_block, with_variable};
+ghost use Rattle.sg_expand.specs.Expansion.{Moves, retold, front, step, version_read, define_read, text_of, text_in, plain, with_block, with_variable};
 ghost use Rattle.sg_expand.specs.Machine.{Does, DoesStep, Pushes, tokens_frame, state_of, EmitsToken};
 
 use crate::block::Block;
@@ -60,6 +60,15 @@ impl Expander {
         ensures does { DoesStep (step rest.context rest.fresh rest.tokens (state_of self.old)) rest.context rest.fresh self.old (F.state files.old) self.new (F.state files.new) result }
         ensures reads { OnlyReads (F.state files.old) (F.state files.new) }
     {
+        if begins_include(&rest.tokens) {
+            return self.include(files, rest);
+        }
+        self.step_without_files(rest)
+    }
+
+    fn step_without_files(&mut self, rest: Rest) -> Result<(), Stop>
+        ensures { Does (front rest.context rest.fresh rest.tokens (state_of self.old)) rest.context self.old self.new result }
+    {
         if rest.tokens.is_empty() {
             return Ok(());
         }
@@ -68,9 +77,6 @@ impl Expander {
         }
         if begins_define(&rest.tokens) {
             return self.define(rest);
-        }
-        if begins_include(&rest.tokens) {
-            return self.include(files, rest);
         }
         if begins_ignored(&rest.tokens) {
             return self.go_on(rest.context, rest.fresh, rest.tokens.behind(2));
