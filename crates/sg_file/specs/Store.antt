@@ -1,7 +1,7 @@
 -- A real file that holds a store. It tells nothing of its bytes.
 use Rattle.std.specs.Prelude.{ℕ, None}
 use Rattle.sg_device.specs.Disk.{DiskState}
-use Rattle.sg_host.specs.declared.store.FileDisk.{FileDisk}
+use Rattle.sg_file.specs.declared.store.FileDisk.{FileDisk}
 
 -- a disk that tells nothing, with so many faults
 abbrev pub disk_state : ℕ → DiskState

@@ -4,8 +4,8 @@ use Rattle.sg_device.specs.Inlet.{InletState}
 use Rattle.sg_device.specs.declared.fault.InletFault.{InletFault}
 use Rattle.sg_device.specs.declared.inlet.Pull.{Pull}
 use Rattle.sg_device.specs.declared.inlet.Pull.TheVariants.{Bytes, Next, Idle, End}
-use Rattle.sg_host.specs.Counts.{inlet_state}
-use Rattle.sg_host.specs.declared.inlet.FileInlet.{FileInlet}
+use Rattle.sg_file.specs.Counts.{inlet_state}
+use Rattle.sg_file.specs.declared.inlet.FileInlet.{FileInlet}
 
 abbrev pub inlet_of : FileInlet → InletState
 inlet_of inlet = inlet_state inlet.counts
@@ -17,3 +17,11 @@ EndsBy old (Ok Next) = ⊥
 EndsBy old (Ok Idle) = old.once ≡ false
 EndsBy old (Ok End) = IsTrue (old.once || old.counts.ended || old.counts.hung)
 EndsBy old (Err e) = Unit {0}
+
+-- it brought no bytes
+abbrev pub IsNoBytes : Result Pull InletFault → Type 0
+IsNoBytes (Ok (Bytes len at)) = ⊥
+IsNoBytes (Ok Next) = Unit {0}
+IsNoBytes (Ok Idle) = Unit {0}
+IsNoBytes (Ok End) = Unit {0}
+IsNoBytes (Err e) = Unit {0}

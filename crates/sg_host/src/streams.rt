@@ -1,7 +1,8 @@
-// Standard output.
-ghost use Rattle.sg_host.specs.Reading.{SaysOut};
+// Standard output and standard error.
+ghost use Rattle.sg_host.specs.Saying.{SaysOut};
 
 use sg_device::SayRefusal;
+use std::io::Write;
 
 /// Writes the bytes to standard output, by one write where the system takes them so. A write that
 /// fails is counted.
@@ -13,4 +14,9 @@ pub fn say(rt: HostRuntime, faults: &mut u64, bytes: &[u8]) -> Result<(), SayRef
         return Err(SayRefusal::Fault);
     }
     Ok(())
+}
+
+/// Writes the bytes to standard error, and passes over a failure.
+pub fn tell(rt: HostRuntime, bytes: &[u8]) {
+    let _told = rt.stderr().write_all(bytes);
 }
