@@ -2,3 +2,4 @@ pub mod Parts
 pub mod Disks
 pub mod DiskCalls
 pub mod FrameLemmas
+pub mod Inlets

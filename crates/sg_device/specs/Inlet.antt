@@ -141,5 +141,6 @@ pub record Advances (old new : InletState) : Type 0 where
   pub faults : old.faults ≤ new.faults
   pub ended : old.ended ≡ true → new.ended ≡ true
   pub single : new.single ≡ old.single
-  -- a file's place goes on by what it gave
-  pub place : old.single ≡ true → (new.parts ≡ old.parts) × (new.place ≡ old.place + length given)
+  -- a file's place goes on by what it gave, and it has no second part
+  pub place : old.single ≡ true → new.place ≡ old.place + length given
+  pub one : old.single ≡ true → new.parts ≤ max old.parts 1
