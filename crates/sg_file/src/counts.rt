@@ -1,9 +1,9 @@
 // What real devices count. They tell nothing of content.
-ghost use Rattle.std.specs.Prelude.{◌≡◌, ◌<◌, ◌≤◌, ◌^◌, List, ℕ, length, IfErr};
+ghost use Rattle.std.specs.Prelude.{◌≡◌, ◌<◌, ◌≤◌, ◌^◌, List, ℕ, length, IfOk};
 ghost use Rattle.sg_device.specs.Outlet.{Sends, Reopens};
 ghost use Rattle.sg_file.specs.Counts.{inlet_state, new_inlet, outlet_state, new_outlet, IsAnswered};
 
-use sg_device::{InletFault, OutletFault, Pull, Reopened, SendRefusal};
+use sg_device::{InletFault, NoMemory, OutletFault, Pull, Reopened, SendRefusal};
 use std::mem;
 
 // Places stay below this.
@@ -47,6 +47,25 @@ impl InletCounts {
             hung: false,
             single,
         }
+    }
+
+    /// Equal counts.
+    pub fn copy(&self) -> Result<InletCounts, NoMemory>
+        ensures { IfOk result (λ copy. inlet_state copy ≡ inlet_state self.now) }
+    {
+        Ok(InletCounts {
+            peer: self.peer.clone()?,
+            from: self.from,
+            place: self.place,
+            bytes: self.bytes,
+            pulls: self.pulls,
+            idles: self.idles,
+            parts: self.parts,
+            faults: self.faults,
+            ended: self.ended,
+            hung: self.hung,
+            single: self.single,
+        })
     }
 
     /// Whether so many bytes more can be counted.

@@ -20,6 +20,7 @@ pub use counts::{InletCounts, OutletCounts};
 pub use health::Health;
 pub use inlet::FileInlet;
 pub use clock::moment;
+pub use open::path_text;
 pub use outlet::FileOutlet;
 pub use read::{read_file, read_some};
 pub use rest::Rest;

@@ -3,7 +3,7 @@ ghost use Rattle.std.specs.Prelude.{◌≡◌, IfOk};
 ghost use Rattle.sg_file.specs.Counts.{outlet_state, new_outlet};
 ghost use Rattle.sg_file.specs.Outlet.{outlet_of};
 
-use crate::{Appending, OutletCounts, Target};
+use crate::{Appending, OutletCounts, Rest, Target};
 use sg_device::{Frames, OpenRefusal, Outlet, OutletFault, Reopened, SendRefusal};
 use std::alloc::Global;
 
@@ -24,11 +24,12 @@ impl FileOutlet {
         rt: HostRuntime,
         path: &[u8],
         how: Appending,
+        rest: Rest,
     ) -> Result<FileOutlet, OpenRefusal>
         ensures { IfOk result (λ outlet. outlet_of outlet ≡ new_outlet) }
     {
         Ok(FileOutlet {
-            target: Target::open(alloc, rt, path, how)?,
+            target: Target::open(alloc, rt, path, how, rest)?,
             counts: OutletCounts::new(),
         })
     }

@@ -2,7 +2,7 @@
 ghost use Rattle.std.specs.Prelude.{◌≤◌, length};
 
 use crate::open::{is_free, open_known, path_text, sync_folder};
-use crate::{Health, Retry};
+use crate::{Health, Rest, Retry};
 use sg_device::{OpenRefusal, OutletFault, Reopened};
 use std::alloc::Global;
 use std::fs::{File, OpenOptions, Permissions};
@@ -31,6 +31,7 @@ pub struct Target {
     end: u64,
     retry: Retry,
     health: Health,
+    rest: Rest,
 }
 
 impl Target {
@@ -41,6 +42,7 @@ impl Target {
         rt: HostRuntime,
         path: &[u8],
         how: Appending,
+        rest: Rest,
     ) -> Result<Target, OpenRefusal> {
         let mut health = Health::new(alloc, rt, "destination", path)?;
         let mut retry = Retry::new(rt, how.reopen);
@@ -61,12 +63,14 @@ impl Target {
             end,
             retry,
             health,
+            rest,
         })
     }
 
     /// Opens the file anew, where it isn't too early for another try.
     pub fn reopen(&mut self) -> Result<Reopened, OutletFault> {
         if self.retry.is_early() {
+            self.rest.wait();
             return Ok(Reopened::Later);
         }
         self.retry.begin();
@@ -109,6 +113,19 @@ impl Target {
         done
     }
 
+    /// Appends a text whole, and tells whether it counts. What was appended of one that doesn't is
+    /// cut off again, where nobody else changed the file's length.
+    pub fn put(&mut self, text: &[u8]) -> bool {
+        let appended = self.append(text);
+        if appended == text.len() && self.settle() {
+            self.keep(appended);
+            return true;
+        }
+        self.cut(appended, 0);
+        self.keep_what_is_there();
+        false
+    }
+
     /// Makes what was appended stable, where that is asked, and tells whether it counts. A failure
     /// is told on standard error.
     pub fn settle(&mut self) -> bool {
@@ -140,6 +157,7 @@ impl Target {
     pub fn keep(&mut self, appended: usize) {
         self.end = self.end.saturating_add(appended as u64);
         self.health.works();
+        self.rest.happened();
     }
 
     /// Not all that was appended counts. The file's length is what it is now.

@@ -1,6 +1,7 @@
-// A real file in the temporary folder, written, read in pieces, and opened at a place.
-use sg_device::{FileRefusal, Inlet, InletSpec, Name, Outlet, OutletSpec, Pull};
-use sg_host::{HostFeed, HostInlets, HostOutlets, read_file, say};
+// Real files in a temporary folder.
+use sg_device::{Frames, Inlet, Name, Outlet, Pull};
+use sg_host::{HostFeed, HostInlets, HostOutlets, Rest};
+use sg_outside::{InletSpec, OutletSpec};
 use std::alloc::Global;
 use std::test::Fail;
 use std::{env, fs, process};
@@ -13,21 +14,24 @@ fn path(rt: HostRuntime) -> Result<String, Fail> {
     Ok(format!(in rt.alloc(); "{folder}/sg_host_test_{id}")?)
 }
 
-// A device that can move between threads.
-fn is_send<T: Send>(_device: &T) {}
-
 // Appends two frames, with the file opened anew between them, and tells the counts.
 fn append(rt: HostRuntime, path: &str) -> Result<[u64; 2], Fail> {
     let alloc = rt.alloc();
-    let mut outlets = HostOutlets::new(alloc, rt);
+    let mut outlets = HostOutlets::new(alloc, rt, Rest::new(alloc, rt)?);
     let spec = OutletSpec::File {
         path: Name::new(alloc, path.as_bytes())?,
+        fsync: true,
+        mode: 0o640,
+        reopen: 0,
     };
     let mut drain = outlets.open(alloc, &spec)?;
-    is_send(&drain);
-    let first = drain.send(b"one\n")?.count;
+    let mut frames = Frames::new(alloc);
+    frames.push(b"one\n")?;
+    drain.send(&frames)?;
+    let first = drain.taken();
     drain.reopen()?;
-    let second = drain.send(b"two\n")?.count;
+    drain.send(&frames)?;
+    let second = drain.taken();
     outlets.close(drain);
     Ok([first, second])
 }
@@ -52,29 +56,25 @@ fn one_file(rt: HostRuntime) -> Result<(), Fail> {
     let alloc = rt.alloc();
     let path = path(rt)?;
     assert!(rt; append(rt, path.as_str())? == [1, 2]);
-    let mut faults = 0;
-    let bytes = read_file(alloc, rt, &mut faults, path.as_bytes(), 8)?;
-    assert_eq!(rt; bytes.as_slice(), b"one\ntwo\n".as_slice());
-    let long = read_file(alloc, rt, &mut faults, path.as_bytes(), 7);
-    assert!(rt; long == Err(FileRefusal::TooLong));
-    let mut inlets = HostInlets::new(alloc, rt);
+    let mut inlets = HostInlets::new(alloc, rt, Rest::new(alloc, rt)?);
     for (once, from, place, want) in [
-        (true, 0, 0, b"one\ntwo\n..".as_slice()),
-        (false, 4, 4, b"two\n---"),
+        (true, 0, 0, b"one\none\n..".as_slice()),
+        (false, 4, 4, b"one\n---"),
         (true, 8, 8, b"....."),
-        (true, 9, 0, b"one\ntwo\n.."),
+        (true, 9, 0, b"one\none\n.."),
+        (true, 3, 0, b"one\none\n.."),
     ] {
         let path = Name::new(alloc, path.as_bytes())?;
-        let (mut feed, at) = inlets.open(alloc, &InletSpec::File { path, once }, from)?;
-        is_send(&feed);
+        let spec = InletSpec::File {
+            path,
+            once,
+            limit: 8,
+        };
+        let (mut feed, at) = inlets.open(alloc, &spec, from)?;
         assert_eq!(rt; at, place);
         assert_eq!(rt; pulled(alloc, &mut feed)?.as_slice(), want);
         inlets.close(feed);
     }
     fs::remove_file(&rt, path.as_str())?;
-    let gone = read_file(alloc, rt, &mut faults, path.as_bytes(), 8);
-    assert!(rt; gone == Err(FileRefusal::Failed));
-    assert_eq!(rt; faults, 1);
-    say(rt, &mut faults, b"said\n")?;
     Ok(())
 }

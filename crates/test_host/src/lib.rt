@@ -1,0 +1,6 @@
+//! Tests of the real devices, over files in a temporary folder and sockets with both ends in one
+//! process.
+#![tactic(auto)]
+
+#[cfg(test)]
+mod files;
