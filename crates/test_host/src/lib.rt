@@ -3,4 +3,12 @@
 #![tactic(auto)]
 
 #[cfg(test)]
+mod destinations;
+#[cfg(test)]
 mod files;
+#[cfg(test)]
+mod folder;
+#[cfg(test)]
+mod sources;
+#[cfg(test)]
+mod stores;
