@@ -1,6 +1,9 @@
 // What real devices count. They tell nothing of content.
-ghost use Rattle.std.specs.Prelude.{◌≡◌, ◌<◌, ◌≤◌, ◌^◌, List, ℕ, length, IfOk};
-ghost use Rattle.sg_device.specs.Outlet.{Sends, Reopens};
+ghost use Rattle.std.specs.Prelude.{◌≡◌, ◌↔◌, ◌+◌, ◌<◌, ◌^◌, ◌-◌, List, ℕ, length, Result, Ok, IfOk, IsTrue};
+ghost use Rattle.sg_device.specs.Outlet.{Sends, Reopens, one_more};
+ghost use Rattle.sg_device.specs.declared.inlet.Pull.{Pull as AnyPull};
+ghost use Rattle.sg_device.specs.declared.inlet.Pull.TheVariants.{Bytes, Next, Idle};
+ghost use Rattle.sg_device.specs.declared.fault.InletFault.{InletFault as AnyFault};
 ghost use Rattle.sg_file.specs.Counts.{inlet_state, new_inlet, outlet_state, new_outlet, IsAnswered};
 
 use sg_device::{InletFault, NoMemory, OutletFault, Pull, Reopened, SendRefusal};
@@ -69,10 +72,13 @@ impl InletCounts {
     }
 
     /// Whether so many bytes more can be counted.
-    pub fn has_room(&self, len: usize) -> bool {
-        self.place < PLACES
-            && (len as u64) < PLACES - self.place
-            && len as u64 <= u64::MAX - self.bytes
+    pub fn has_room(&self, len: usize) -> bool
+        ensures { IsTrue result → (self.now.place + len < 2 ^ 63) × (self.now.bytes + len < 2 ^ 64) }
+    {
+        if self.place >= PLACES || len as u64 >= PLACES - self.place {
+            return false;
+        }
+        len as u64 <= u64::MAX - self.bytes
     }
 
     /// Counts what a pull came to, and answers it; or counts a fault where that can't be counted.
@@ -100,12 +106,17 @@ impl InletCounts {
         }
     }
 
-    fn fail(&mut self) -> Result<Pull, InletFault> {
+    fn fail(&mut self) -> Result<Pull, InletFault>
+        ensures { (got : Result AnyPull AnyFault) → IsAnswered (inlet_state self.old) (inlet_state self.new) got result }
+    {
         self.faults = self.faults.saturating_add(1);
         Err(InletFault)
     }
 
-    fn give(&mut self, len: usize, at: i64) -> Result<Pull, InletFault> {
+    fn give(&mut self, len: usize, at: i64) -> Result<Pull, InletFault>
+        requires { self.old.pulls < 2 ^ 64 - 1 }
+        ensures { IsAnswered (inlet_state self.old) (inlet_state self.new) (Ok (Bytes len at)) result }
+    {
         if self.ended || self.hung || !self.has_room(len) {
             return self.fail();
         }
@@ -116,7 +127,10 @@ impl InletCounts {
         Ok(Pull::Bytes { len, at })
     }
 
-    fn begin(&mut self, name: &mut Vec<u8>) -> Result<Pull, InletFault> {
+    fn begin(&mut self, name: &mut Vec<u8>) -> Result<Pull, InletFault>
+        requires { self.old.pulls < 2 ^ 64 - 1 }
+        ensures { IsAnswered (inlet_state self.old) (inlet_state self.new) (Ok Next) result }
+    {
         if self.ended || self.single || self.parts == u64::MAX {
             return self.fail();
         }
@@ -128,7 +142,10 @@ impl InletCounts {
         Ok(Pull::Next)
     }
 
-    fn wait(&mut self) -> Result<Pull, InletFault> {
+    fn wait(&mut self) -> Result<Pull, InletFault>
+        requires { self.old.pulls < 2 ^ 64 - 1 }
+        ensures { IsAnswered (inlet_state self.old) (inlet_state self.new) (Ok Idle) result }
+    {
         if self.ended || self.idles == u64::MAX {
             return self.fail();
         }
@@ -162,7 +179,9 @@ impl OutletCounts {
     }
 
     /// Whether so many frames more can be counted.
-    pub fn has_room(&self, count: usize) -> bool {
+    pub fn has_room(&self, count: usize) -> bool
+        ensures { IsTrue result ↔ (self.now.taken + count < 2 ^ 64) }
+    {
         count as u64 <= u64::MAX - self.taken
     }
 
@@ -208,7 +227,9 @@ impl OutletCounts {
         }
     }
 
-    fn fail(&mut self) {
+    fn fail(&mut self)
+        ensures { self.new ≡ record self.old { faults = one_more self.old.faults; failing = one_more self.old.failing } }
+    {
         self.faults = self.faults.saturating_add(1);
         self.failing = self.failing.saturating_add(1);
     }

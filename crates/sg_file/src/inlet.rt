@@ -1,5 +1,5 @@
 // A real file that is read.
-ghost use Rattle.std.specs.Prelude.{◌≡◌, ◌≤◌, ◌<◌, length, codes, true, IfOk};
+ghost use Rattle.std.specs.Prelude.{◌≡◌, ◌≤◌, ◌<◌, length, codes, true, IfOk, IsErr};
 ghost use Rattle.sg_device.specs.Inlet.{PullIsWhole, PullTells, PullMoves, PullLeaves, PullCounts, PullFaults};
 ghost use Rattle.sg_file.specs.Counts.{inlet_state, new_inlet};
 ghost use Rattle.sg_file.specs.Inlet.{inlet_of, EndsBy, IsNoBytes};
@@ -175,7 +175,11 @@ impl FileInlet {
         }
     }
 
-    fn fails(&mut self, what: &str, words: &str) -> Result<Pull, InletFault> {
+    fn fails(&mut self, what: &str, words: &str) -> Result<Pull, InletFault>
+        ensures counts { self.new.counts ≡ self.old.counts }
+        ensures once { self.new.once ≡ self.old.once }
+        ensures err { IsErr result }
+    {
         self.health.fails(what, &io::Error::other(words));
         Err(InletFault)
     }

