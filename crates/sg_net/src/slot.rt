@@ -1,8 +1,9 @@
 // A slot of a listener: one connection after another.
-ghost use Rattle.std.specs.Prelude.{◌≡◌, ◌<◌, ◌⊎◌, [], length, false, IfOk};
+ghost use Rattle.std.specs.Prelude.{◌≡◌, ◌<◌, [], length, false, IfOk, IsErr};
 ghost use Rattle.sg_device.specs.Inlet.{PullIsWhole};
 ghost use Rattle.sg_file.specs.Counts.{inlet_state, new_inlet};
-ghost use Rattle.sg_net.specs.Slot.{slot_of};
+ghost use Rattle.sg_file.specs.Inlet.{IsNoBytes};
+ghost use Rattle.sg_net.specs.Slot.{slot_of, IsGiven};
 
 use sg_device::{Inlet, InletFault, NoMemory, Pull};
 use sg_file::{Health, InletCounts, Rest, moment, read_some};
@@ -26,6 +27,13 @@ pub struct SlotInlet {
     next: Vec<u8>,
     health: Health,
     rest: Rest,
+}
+
+/// What a connection gives: so many bytes, none at present, or none for good.
+pub enum Given {
+    Bytes(usize),
+    Nothing,
+    Over,
 }
 
 impl SlotInlet {
@@ -85,35 +93,42 @@ impl SlotInlet {
             return self.fails("no place beyond 2^63 can be told");
         }
         match self.read_stream(into) {
-            Some(Ok(len)) => {
+            Given::Bytes(len) => {
                 self.rest.happened();
                 Ok(Pull::Bytes { len, at })
             }
-            Some(Err(_)) => {
+            Given::Nothing => {
                 self.rest.wait();
                 Ok(Pull::Idle)
             }
-            None => self.accept(),
+            Given::Over => self.accept(),
         }
     }
 
-    // Bytes of the connection, or the error that there are none at present; None where it is over.
-    fn read_stream(&mut self, into: &mut [u8]) -> Option<io::Result<usize>> {
+    // What the connection gives. One that is over is closed.
+    fn read_stream(&mut self, into: &mut [u8]) -> Given
+        ensures given { IsGiven (length into.old) result }
+        ensures size { length into.new ≡ length into.old }
+        ensures counts { self.new.counts ≡ self.old.counts }
+    {
         let Some(stream) = &mut self.stream else {
-            return None;
+            return Given::Over;
         };
         match read_some(stream, into) {
-            Ok(len) if len > 0 => Some(Ok(len)),
-            Err(error) if error.kind() == ErrorKind::WouldBlock => Some(Err(error)),
+            Ok(len) if len > 0 => Given::Bytes(len),
+            Err(error) if error.kind() == ErrorKind::WouldBlock => Given::Nothing,
             _ => {
                 self.stream = None;
-                None
+                Given::Over
             }
         }
     }
 
     // The next connection, where there is one.
-    fn accept(&mut self) -> Result<Pull, InletFault> {
+    fn accept(&mut self) -> Result<Pull, InletFault>
+        ensures no_bytes { IsNoBytes result }
+        ensures counts { self.new.counts ≡ self.old.counts }
+    {
         if self.once && self.served {
             return Ok(Pull::End);
         }
@@ -141,7 +156,10 @@ impl SlotInlet {
         }
     }
 
-    fn fails(&mut self, words: &str) -> Result<Pull, InletFault> {
+    fn fails(&mut self, words: &str) -> Result<Pull, InletFault>
+        ensures err { IsErr result }
+        ensures counts { self.new.counts ≡ self.old.counts }
+    {
         self.health.fails("read", &io::Error::other(words));
         Err(InletFault)
     }
