@@ -9,6 +9,12 @@ mod files;
 #[cfg(test)]
 mod folder;
 #[cfg(test)]
+mod peers;
+#[cfg(test)]
+mod slots;
+#[cfg(test)]
+mod sockets;
+#[cfg(test)]
 mod sources;
 #[cfg(test)]
 mod stores;
