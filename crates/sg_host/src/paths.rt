@@ -63,6 +63,13 @@ fn find(paths: &[Name], path: &[u8]) -> Option<usize> {
 }
 
 impl HostOpener {
+    /// What was counted so far.
+    pub fn counts(&self) -> &PathCounts
+        ensures { paths_state result.now ≡ opener_of self.now }
+    {
+        &self.counts
+    }
+
     // Whether a text was taken whole for the file of a path.
     fn put(&mut self, path: &[u8], text: &[u8]) -> bool
         ensures { self.new.counts ≡ self.old.counts }

@@ -9,6 +9,8 @@ mod files;
 #[cfg(test)]
 mod folder;
 #[cfg(test)]
+mod ledgers;
+#[cfg(test)]
 mod peers;
 #[cfg(test)]
 mod slots;
