@@ -61,7 +61,7 @@ fn put(target: &mut Target, frames: &Frames) -> usize {
 // Of so many bytes that were appended, keeps the whole frames, and tells how many of them count.
 fn keep_whole(target: &mut Target, frames: &Frames, appended: usize) -> usize {
     let mut whole = frames.whole_within(appended);
-    let keep = end_of_whole(frames, appended);
+    let keep = bytes_of(frames, whole);
     target.cut(appended, keep);
     if whole > 0 && !target.settle() {
         target.cut(keep, 0);
@@ -71,24 +71,13 @@ fn keep_whole(target: &mut Target, frames: &Frames, appended: usize) -> usize {
     whole
 }
 
-// Where the last frame ends that is whole within the first `count` bytes of them all: the least
-// number of bytes within which as many are whole.
-fn end_of_whole(frames: &Frames, count: usize) -> usize {
-    let whole = frames.whole_within(count);
-    let mut low = 0;
-    let mut high = count;
-    for _ in 0..64 {
-        if low >= high {
-            return low;
-        }
-        let middle = low + (high - low) / 2;
-        if frames.whole_within(middle) < whole {
-            low = middle + 1;
-        } else {
-            high = middle;
-        }
+// The number of bytes of the first `whole` frames.
+fn bytes_of(frames: &Frames, whole: usize) -> usize {
+    let mut bytes = 0usize;
+    for size in frames.sizes().iter().take(whole) {
+        bytes = bytes.saturating_add(*size);
     }
-    low
+    bytes
 }
 
 impl Outlet for FileOutlet {

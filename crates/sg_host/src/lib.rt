@@ -13,6 +13,6 @@ pub use cells::{InletCell, OutletCell, PathsCell, StoreCell};
 pub use inlets::{HostFeed, HostInlets, OpenedInlet, Source};
 pub use outlets::{HostDrain, HostOutlets, Sink};
 pub use paths::{HostOpener, HostPaths, PathCounts};
-pub use sg_file::{Rest, read_file};
+pub use sg_file::{FileDisk, Rest, read_file};
 pub use stores::{HostStore, HostStores};
 pub use streams::{say, tell};

@@ -1,7 +1,8 @@
 // Files that are opened and closed by their paths.
-ghost use Rattle.std.specs.Prelude.{◌≡◌, [], IfOk, MatchResult};
+ghost use Rattle.std.specs.Prelude.{◌≡◌, ◌<◌, ◌+◌, [], ◌++◌, length, take, drop, IfOk, MatchOption, MatchResult};
 ghost use Rattle.sg_outside.specs.World.{with_closed, IsByPath};
-ghost use Rattle.sg_device.specs.Paths.{without_path};
+ghost use Rattle.sg_device.specs.Faults.{Rose};
+ghost use Rattle.sg_device.specs.Paths.{KeepsPaths, without_path};
 ghost use Rattle.sg_host.specs.Counts.{paths_state, new_paths};
 ghost use Rattle.sg_host.specs.Paths.{opener_of, paths_of, PathsOpen, PathsRefuse};
 
@@ -33,7 +34,10 @@ impl PathCounts {
     }
 
     // One fault more.
-    fn fail(&mut self) {
+    fn fail(&mut self)
+        ensures keeps { KeepsPaths (paths_state self.old) (paths_state self.new) }
+        ensures rose { Rose self.old.faults self.new.faults }
+    {
         self.faults = self.faults.saturating_add(1);
     }
 }
@@ -53,13 +57,26 @@ pub struct HostOpener {
 }
 
 // The number of the first of the paths that is this one.
-fn find(paths: &[Name], path: &[u8]) -> Option<usize> {
-    for (i, name) in paths.iter().enumerate() {
-        if name.bytes() == path {
+fn find(paths: &[Name], path: &[u8]) -> Option<usize>
+    ensures { MatchOption result
+        (without_path path.now paths.now ≡ paths.now)
+        (λ i. (i < length paths.now) × (without_path path.now paths.now ≡ take i paths.now ++ drop (i + 1) paths.now)) }
+{
+    for i in 0..paths.len() {
+        if paths[i].bytes() == path {
             return Some(i);
         }
     }
     None
+}
+
+// Takes a path out of the list, and tells its number.
+fn take_out(paths: &mut Vec<Name>, path: &[u8]) -> Option<usize>
+    ensures { paths.new.items ≡ without_path path.now paths.old.items }
+{
+    let i = find(paths, path)?;
+    paths.remove(i);
+    Some(i)
 }
 
 impl HostOpener {
@@ -102,10 +119,13 @@ impl Opener for HostOpener {
     fn open(&mut self, path: &[u8]) -> Result<(), OpenRefusal> {
         let name = Name::new(self.alloc, path)?;
         let rest = self.rest.share()?;
-        self.counts.opened.reserve(1)?;
         match Target::open(self.alloc, self.rt, path, self.how, rest) {
             Ok(file) => {
-                if self.files.push(file).is_err() || self.counts.opened.push(name).is_err() {
+                if self.files.push(file).is_err() {
+                    return Err(OpenRefusal::NoMemory);
+                }
+                if self.counts.opened.push(name).is_err() {
+                    drop(self.files.pop());
                     return Err(OpenRefusal::NoMemory);
                 }
                 Ok(())
@@ -141,8 +161,7 @@ impl Opener for HostOpener {
     }
 
     fn close(&mut self, path: &[u8]) {
-        if let Some(i) = find(&self.counts.opened, path) {
-            self.counts.opened.remove(i);
+        if let Some(i) = take_out(&mut self.counts.opened, path) {
             if i < self.files.len() {
                 self.files.remove(i);
             }

@@ -37,7 +37,10 @@ impl TcpOutlet {
     ) -> Result<TcpOutlet, OpenRefusal>
         ensures { IfOk result (λ outlet. tcp_of outlet ≡ new_outlet) }
     {
-        let mut health = Health::new(alloc, rt, "destination", host)?;
+        let mut name = host.to_vec(alloc)?;
+        let behind = format!(in alloc; ":{port}")?;
+        name.extend_from_slice(behind.as_bytes())?;
+        let mut health = Health::new(alloc, rt, "destination", &name)?;
         let host = match path_text(host) {
             Ok(host) => String::from_str(alloc, host)?,
             Err(error) => {
