@@ -2,13 +2,23 @@
 #![tactic(auto)]
 
 mod base;
+mod builder;
+mod copy;
+mod front;
 mod macros;
 mod message;
 mod offer;
+mod pair;
 mod refusal;
+mod sets;
+mod sorting;
 mod tags;
 
+pub use builder::{MessageBuilder, PairName};
+pub use copy::copied;
+pub use front::{has_at, priority};
 pub use macros::is_hard;
 pub use message::Message;
 pub use offer::Offer;
 pub use refusal::MsgRefusal;
+pub use sets::{is_escaped, is_print, is_sd_byte};

@@ -1,5 +1,5 @@
 pub mod Appending
 pub mod Hard
-pub mod Parts
-pub mod Rows
+pub mod Paths
+pub mod Runs
 pub mod Steps

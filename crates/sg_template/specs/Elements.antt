@@ -47,9 +47,13 @@ sd_name name = if bytes_eq (take 7 name) (codes ".SDATA.") then checked (split_n
 abbrev pub item_of : Pair → Option Item
 item_of pair = option_map (λ found. record { id = found.id; param = found.param; value = pair.value }) (sd_name pair.name)
 
--- `"`, `\` and `]` stand behind a backslash
+-- `"`, `\` and `]`
+abbrev pub is_escaped : ℕ → Bool
+is_escaped b = ((b == 34) || (b == 92)) || (b == 93)
+
+-- they stand behind a backslash
 abbrev pub escaped_byte : ℕ → List ℕ
-escaped_byte b = if ((b == 34) || (b == 92)) || (b == 93) then 92 ∷ b ∷ [] else b ∷ []
+escaped_byte b = if is_escaped b then 92 ∷ b ∷ [] else b ∷ []
 
 abbrev pub escaped : List ℕ → List ℕ
 escaped value = flat_map escaped_byte value

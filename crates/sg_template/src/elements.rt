@@ -1,9 +1,9 @@
 // STRUCTURED-DATA, from the pairs of a message.
-ghost use Rattle.std.specs.Prelude.{◌≡◌, ◌≤◌, [], ◌++◌, List, length, OnOk, OnErr, IfOk, option_copied};
+ghost use Rattle.std.specs.Prelude.{◌≡◌, ◌≤◌, ◌<◌, not, [], ◌++◌, List, length, OnOk, OnErr, IfOk, option_copied};
 ghost use Rattle.std.specs.Option.{option_map};
-ghost use Rattle.std.specs.List.{suffix_len, list_all, cons_option};
+ghost use Rattle.std.specs.List.{prefix_len, suffix_len, list_all, cons_option};
 ghost use Rattle.sg_template.specs.Begins.{BeginsWith};
-ghost use Rattle.sg_template.specs.Elements.{is_sd_byte, is_sd_name, is_param_name, is_no_dot, split_name, checked, sd_name, Item, item_of, escaped, param_text, opening_text, elements_text, sdata_text};
+ghost use Rattle.sg_template.specs.Elements.{is_sd_byte, is_sd_name, is_param_name, is_no_dot, split_name, checked, sd_name, Item, item_of, is_escaped, escaped, param_text, opening_text, elements_text, sdata_text};
 
 use crate::append::append;
 use sg_msg::Message;
@@ -98,17 +98,46 @@ fn sd_name(name: &[u8]) -> Option<SdName<'_>>
     }
 }
 
+fn is_escaped(byte: u8) -> bool
+    ensures { result ≡ is_escaped byte }
+{
+    byte == b'"' || byte == b'\\' || byte == b']'
+}
+
+// The bytes before the first that stands behind a backslash.
+fn plain_length(value: &[u8]) -> usize
+    ensures value { result ≡ prefix_len (λ b. not (is_escaped b)) value.now }
+    ensures within { result ≤ length value.now }
+{
+    value.iter().take_while(|byte| !is_escaped(**byte)).count()
+}
+
+// Appends a run of plain bytes and the byte behind them, and gives what is left.
 #[tactic(auto, using(crate::proofs::Appending::appending))]
+fn append_run<'v>(value: &'v [u8], out: &mut Vec<u8>) -> Result<&'v [u8], AllocError>
+    requires { 0 < length value.now }
+    ensures ok { IfOk result (λ rest. out.new.items ++ escaped rest.now ≡ out.old.items ++ escaped value.now) }
+    ensures shorter { IfOk result (λ rest. length rest.now < length value.now) }
+    ensures begins { BeginsWith out.old.items out.new.items }
+{
+    let (plain, behind) = value.split_at(plain_length(value));
+    append(plain, out)?;
+    match behind {
+        [byte, rest @ ..] => {
+            append(&[b'\\', *byte], out)?;
+            Ok(rest)
+        }
+        [] => Ok(b""),
+    }
+}
+
 fn append_escaped(value: &[u8], out: &mut Vec<u8>) -> Result<(), AllocError>
     ensures ok { OnOk result (out.new.items ≡ out.old.items ++ escaped value.now) }
     ensures err { OnErr result (BeginsWith out.old.items out.new.items) }
 {
-    for byte in value {
-        if *byte == b'"' || *byte == b'\\' || *byte == b']' {
-            append(&[b'\\', *byte], out)?;
-        } else {
-            append(&[*byte], out)?;
-        }
+    let mut rest = value;
+    while !rest.is_empty() {
+        rest = append_run(rest, out)?;
     }
     Ok(())
 }

@@ -1,6 +1,6 @@
 -- What the configuration in a file comes to: the tokens of a whole expansion, or why there is none.
 use Rattle.std.specs.Prelude.{◌≡◌, ◌⊎◌, ℕ, List, [], ◌∷◌, Some}
-use Rattle.sg_outside.specs.World.{WorldState, OnlyReads, IsContent, IsBeyond, content}
+use Rattle.sg_outside.specs.World.{WorldState, OnlyReads, IsContent, IsBeyond}
 use Rattle.sg_lex.specs.declared.fault.ConfigFault.{ConfigFault}
 use Rattle.sg_lex.specs.declared.fault.ConfigKind.{ConfigKind}
 use Rattle.sg_lex.specs.declared.fault.ConfigKind.TheVariants.{TooLong, Unsupported}
@@ -11,7 +11,7 @@ use Rattle.sg_top.specs.Config.{IsConfig}
 -- The text of the file of this name comes to this outcome. It is the file's content, where the machine tells it; and the
 -- included files are read once it was read.
 abbrev pub ComesTo : WorldState → List ℕ → Outcome → Type 0
-ComesTo world file outcome = (text : List ℕ) × (IsContent (content world.files file) text × ((start : WorldState) × (OnlyReads world start × RunsMain file text start outcome)))
+ComesTo world file outcome = (text : List ℕ) × (IsContent world.files file text × ((start : WorldState) × (OnlyReads world start × RunsMain file text start outcome)))
 
 -- it is expanded to a configuration that is read
 pub record Configures (world : WorldState) (file : List ℕ) (last : State) (tokens : List Token) (from into : List ℕ) : Type 0 where
@@ -34,7 +34,7 @@ at_main kind = record { kind = kind; file = 0; line = 1 }
 
 -- what is wrong with it, and the names of its files by number: it is too long, it isn't expanded, or it is expanded to other tokens
 abbrev pub IsTooLong : WorldState → List ℕ → ConfigFault → List (List ℕ) → Type 0
-IsTooLong world file fault names = IsBeyond (content world.files file) 1048576 × (fault ≡ at_main TooLong) × (names ≡ file ∷ [])
+IsTooLong world file fault names = IsBeyond world.files file 1048576 × (fault ≡ at_main TooLong) × (names ≡ file ∷ [])
 
 abbrev pub IsFaulty : WorldState → List ℕ → ConfigFault → List (List ℕ) → Type 0
 IsFaulty world file fault names = (last : State) × (ComesTo world file (Stops (Faulty fault) last) × (names ≡ last.names))

@@ -5,7 +5,6 @@ ghost use Rattle.sg_expand.specs.Expansion.{State, Goes};
 ghost use Rattle.sg_top.specs.Reading.{ComesTo};
 ghost use Rattle.sg_top.specs.Serving.{IsMainRefused, IsMainUnread, RunsFile};
 
-use crate::World;
 use crate::config::read_config;
 use crate::ending::Ending;
 use crate::serve::serve;
@@ -14,6 +13,7 @@ use sg_device::{FileRefusal, Name, NoMemory};
 use sg_expand::{ExpandRefusal, expand};
 use sg_lex::{ConfigFault, ConfigKind, Token};
 use sg_list::Seq;
+use sg_world::World;
 use std::alloc::Global;
 
 fn names_of(alloc: Global, file: &[u8]) -> Result<Seq<Name>, NoMemory>

@@ -7,7 +7,6 @@ ghost use Rattle.sg_core.specs.Opening.{NumberStores, HaveWindows, HaveNoBuffers
 
 use bytes::Bytes;
 use sg_core::{Core, CoreFront, CoreRefusal, Counter, Refill, Refused, Settled, Stored};
-use sg_device::Taken;
 use sg_list::Seq;
 use sg_machine::{Act, DestSetup, Event, Setup, SourceSetup, Tally, Verdict, replay};
 use sg_memory::{DiskChange, MemoryDisk};
@@ -207,7 +206,7 @@ fn answers<C: Counter, T: Wait>(
             Ok(place == expected)
         }
         Step::Settle(place, settled) => {
-            Ok(counter.settle(rt, 0, place, Taken { count: 1 }) == settled)
+            Ok(counter.settle(rt, 0, place) == settled)
         }
         Step::Store(stored) => Ok(counter.store(rt, 0) == stored),
         Step::Credit(credit) => Ok(counter.credit(rt, 0) == credit),
@@ -358,7 +357,7 @@ fn drain<C: Counter, T: Wait>(
         CoreFront::Empty | CoreFront::Broken => 0,
     };
     log.add(alloc, Act::Look)?;
-    let act = match counter.settle(rt, d, place, Taken { count: 1 }) {
+    let act = match counter.settle(rt, d, place) {
         Settled::Done | Settled::DiskFailed => Act::Settle(d),
         Settled::NotFront => Act::Look,
     };

@@ -23,6 +23,8 @@ fn first_in_first_out(rt: HostRuntime) -> Result<(), Fail> {
     }
     assert_eq!(rt; (queue.len(), queue.unflowed()), (3, 2));
     assert_eq!(rt; queue.front().map(|entry| entry.place), Some(4));
+    assert_eq!(rt; queue.get(2).map(|entry| entry.place), Some(6));
+    assert!(rt; queue.get(3).is_none());
     for (place, unflowed) in [(4, 2), (5, 1), (6, 0)] {
         let entry = queue.pop();
         assert_eq!(rt; entry.map(|entry| entry.place), Some(place));
