@@ -61,11 +61,61 @@ expect 'a store that is free again' 'opened\nstatus 0\n'
 [ "$(ls)" = "$(printf 'd\nfifo\ngot\nheld\nhold\nq\nsaid\ntold\nwanted')" ] && echo yes >got || ls >got
 expect 'nothing is left of the making of a store' 'yes\n'
 
-# A limit on the size of a file: what is left of a frame that wasn't taken is cut off again.
+# A limit on the size of a file: what is left of a frame that wasn't taken is cut off again, also with fsync.
 trap '' XFSZ
-seq -f 'line %%05g' 1 1000 >lines
 seq -f 'line %05g' 1 1000 >lines
-(ulimit -f 1; run send limited <lines; echo "bytes $(stat -c %s limited)" >>got; tail -n 1 limited >>got)
-block=$( (ulimit -f 1; head -c 3000 /dev/zero >sized) 2>/dev/null; stat -c %s sized)
-whole=$((block / 11))
-expect 'a limit on the size' "taken $whole\ndestination limited: cannot write: File too large (os error 27)\nstatus 0\nbytes $((whole * 11))\n$(printf 'line %05d' $whole)\n"
+(ulimit -f 1 && head -c 3000 /dev/zero >sized) 2>/dev/null
+whole=$(($(stat -c %s sized) / 11))
+for fsync in '' fsync; do
+    (ulimit -f 1 && run send limited$fsync $fsync <lines && echo "bytes $(stat -c %s limited$fsync)" >>got)
+    expect "a limit on the size $fsync" "taken $whole\ndestination limited$fsync: cannot write: File too large (os error 27)\nstatus 0\nbytes $((whole * 11))\n"
+    head -n $whole lines | cmp -s - limited$fsync && echo same >got || echo other >got
+    expect "whole lines under a limit $fsync" 'same\n'
+done
+
+# A full disk, and what comes once it has space again: no line is torn, and what was told.
+mkdir small
+if mount -t tmpfs -o size=16k none small 2>/dev/null; then
+    mounted=yes
+    head -c 9000 /dev/zero >small/filler
+    mkfifo more
+    timeout 20 "$program" lines small/out <more >said 2>told &
+    exec 3>more
+    seq -f 'first %05g' 1 1500 >&3
+    for try in 1 2 3 4 5 6 7 8 9 10; do [ -s told ] && break; sleep 0.1; done
+    sleep 0.5
+    rm small/filler
+    seq -f 'second %05g' 1 10 >&3
+    exec 3>&-
+    wait
+    sed 's/^[0-9T:+-]* //' told >got
+    expect 'a full disk is told' 'destination small/out: cannot write: No space left on device (os error 28)\ndestination small/out: works again\n'
+    grep -v -x -E 'first [0-9]{5}|second [0-9]{5}' small/out >got
+    expect 'no line is torn' ''
+    tail -n 1 small/out >got
+    expect 'the last line' 'second 00010\n'
+    echo "taken $(grep -c '' small/out)" >wanted.taken
+    cmp -s said wanted.taken && echo same >got || cat said wanted.taken >got
+    expect 'the lines taken are those that are there' 'same\n'
+    # another one appends at the same time: the file is left as it is
+    rm small/out
+    head -c 11000 /dev/zero >small/filler
+    rm more
+    mkfifo more
+    timeout 20 "$program" lines small/out <more >said 2>told &
+    exec 3>more
+    seq -f 'mine %05g' 1 2 >&3
+    for try in 1 2 3 4 5 6 7 8 9 10; do [ -s small/out ] && break; sleep 0.1; done
+    printf 'of another\n' >>small/out
+    seq -f 'mine %05g' 3 1500 >&3
+    exec 3>&-
+    wait
+    grep -c -x 'of another' small/out >got
+    expect 'lines of another one stay' '1\n'
+    umount small && mounted=
+else
+    echo 'no file system of its own can be mounted here: a full disk is tried by a limit on the size alone'
+fi
+
+echo "$passed passed, $failed failed"
+[ $failed = 0 ]
