@@ -41,9 +41,8 @@ fn read_words(alloc: Global, rt: &HostRuntime) -> Result<Vec<Name>, AllocError> 
 
 fn main(rt: HostRuntime) -> ExitCode {
     let alloc = rt.alloc();
-    let status = match read_words(alloc, &rt) {
-        Ok(words) => daemon(alloc, &words, &mut HostMachine::new(rt)),
-        Err(_) => Status::NoMemory,
+    let (Ok(words), Ok(mut machine)) = (read_words(alloc, &rt), HostMachine::new(rt)) else {
+        return ExitCode::from(Status::NoMemory.code());
     };
-    ExitCode::from(status.code())
+    ExitCode::from(daemon(alloc, &words, &mut machine).code())
 }
