@@ -2,6 +2,8 @@
 //! standard output, and a machine in memory.
 #![tactic(auto)]
 
+mod memory;
 mod world;
 
+pub use memory::MemoryMachine;
 pub use world::{LONGEST, World};
