@@ -6,8 +6,7 @@ use Rattle.sg_lex.specs.declared.fault.ConfigFault.{ConfigFault}
 use Rattle.sg_lex.specs.declared.fault.ConfigKind.TheVariants.{TooLong}
 use Rattle.sg_lex.specs.Tokens.{tokens_of}
 use Rattle.sg_lex.specs.declared.token.Token.{Token}
-use Rattle.sg_expand.specs.Expansion.{State, Outcome, Goes, Stops, Faulty, RunsTokens, RunsMain, first_state, versioned}
-use Rattle.sg_expand.specs.Lexed.{lexed}
+use Rattle.sg_expand.specs.Expansion.{State, Outcome, Goes, Stops, Faulty, RunsTokens, RunsMain, first_state, lexed, versioned}
 use Rattle.sg_expand.specs.One.{AreAlike}
 use Rattle.sg_expand.proofs.OneRun.{one-outcome}
 use Rattle.sg_top.specs.Config.{IsConfig}
