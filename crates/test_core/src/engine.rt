@@ -93,12 +93,7 @@ fn name(ended: Ended) -> &'static str {
 }
 
 // How a run ended, the stored position and the frames, as a row has them.
-fn told(
-    alloc: Global,
-    ended: Ended,
-    position: u64,
-    frames: &[u8],
-) -> Result<String, NoMemory> {
+fn told(alloc: Global, ended: Ended, position: u64, frames: &[u8]) -> Result<String, NoMemory> {
     let mut text = format!(in alloc; "{} {position} ", name(ended))?;
     if frames.is_empty() {
         text.push('=')?;

@@ -204,9 +204,7 @@ fn answers<C: Counter, T: Wait>(
             };
             Ok(place == expected)
         }
-        Step::Settle(place, settled) => {
-            Ok(counter.settle(rt, 0, place) == settled)
-        }
+        Step::Settle(place, settled) => { Ok(counter.settle(rt, 0, place) == settled) }
         Step::Store(stored) => Ok(counter.store(rt, 0) == stored),
         Step::Credit(credit) => Ok(counter.credit(rt, 0) == credit),
         Step::Refill(refill) => Ok(counter.refill(rt, 0) == refill),
