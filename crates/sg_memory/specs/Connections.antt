@@ -2,7 +2,7 @@
 use Rattle.std.specs.Prelude.{ℕ, List, [], ◌∷◌, ◌==◌, ◌&&◌, if◌then◌else◌}
 use Rattle.std.specs.Str.{bytes_eq}
 use Rattle.sg_memory.specs.declared.connection.MemoryConnection.{MemoryConnection}
-use Rattle.sg_memory.specs.declared.parts.MemoryPart.{MemoryPart}
+use Rattle.sg_memory.specs.declared.part.MemoryPart.{MemoryPart}
 
 -- a peer, and the bytes that it sends
 abbrev pub sent : MemoryPart → List ℕ × List ℕ

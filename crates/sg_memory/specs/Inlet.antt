@@ -4,7 +4,8 @@ use Rattle.sg_device.specs.Inlet.{InletState}
 use Rattle.sg_device.specs.declared.fault.InletFault.{InletFault}
 use Rattle.sg_device.specs.declared.inlet.Pull.{Pull}
 use Rattle.sg_device.specs.declared.inlet.Pull.TheVariants.{Bytes, Next, Idle, End}
-use Rattle.sg_memory.specs.Parts.{part_of, begun, peer_of, given_of, left_of, listed, total_given}
+use Rattle.sg_memory.specs.Part.{part_of, peer_of, given_of, left_of, total_given}
+use Rattle.sg_memory.specs.Parts.{begun}
 use Rattle.sg_memory_disk.specs.Plan.{failing, fails_now}
 use Rattle.sg_memory.specs.declared.inlet.MemoryInlet.{MemoryInlet}
 use Rattle.sg_memory.specs.declared.inlet.Pace.{Pace}

@@ -1,6 +1,5 @@
 -- An opener of files in memory by their paths.
-use Rattle.std.specs.Prelude.{◌≡◌, ◌≤◌, ◌+◌, ◌^◌, ◌-◌, ◌==◌, ◌&&◌, not, min, ℕ, List, [], ◌∷◌, ◌++◌, take, drop, map, Some, Bool, true, false, if◌then◌else◌, Result, Ok, Err}
-use Rattle.sg_device.specs.Faults.{Rose}
+use Rattle.std.specs.Prelude.{◌≡◌, ◌+◌, ℕ, List, [], ◌++◌, take, drop, map, Some, Bool, true, false, Result, Ok, Err}
 use Rattle.sg_device.specs.Paths.{PathsState, PathText}
 use Rattle.sg_device.specs.declared.fault.OpenRefusal.{OpenRefusal}
 use Rattle.sg_device.specs.declared.fault.OpenRefusal.TheVariants.{Failed, NoMemory as OpenNoMemory}
@@ -27,10 +26,6 @@ new_paths = record { opened = []; taken = Some []; faults = 0; laters = 0 }
 -- the names but for the one at this place
 abbrev pub without_at : ℕ → List (List ℕ) → List (List ℕ)
 without_at place names = take place names ++ drop (place + 1) names
-
--- a call was counted, and it fails exactly where the plan says so
-abbrev pub Counts : MemoryPaths → MemoryPaths → Bool → Type 0
-Counts old new fails = (fails ≡ fails_now old.plan.fails) × (paths_of new ≡ record (paths_of old) { faults = if fails then min (old.faults + 1) (2 ^ 64 - 1) else old.faults }) × (new.plan.laters ≡ old.plan.laters) × (new.alloc ≡ old.alloc)
 
 -- a call fails exactly where this says so
 abbrev pub OpenFails : Bool → Result Unit OpenRefusal → Type 0

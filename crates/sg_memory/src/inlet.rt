@@ -1,6 +1,6 @@
 // A file or a slot in memory that is read.
 ghost use Rattle.std.specs.Prelude.{true, false, [], ◌≡◌, ◌≤◌, ◌<◌, ◌+◌, ◌^◌, ◌≤ℤ◌, pos, is_some, length, IfOk};
-ghost use Rattle.sg_memory.specs.Parts.{left_of, size_of};
+ghost use Rattle.sg_memory.specs.Part.{left_of, size_of};
 
 use crate::{MemoryPart, MemoryParts};
 use sg_device::{Inlet, InletFault, NoMemory, Pull};

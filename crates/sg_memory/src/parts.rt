@@ -1,51 +1,12 @@
 // What the peers of an inlet in memory send, in parts.
-ghost use Rattle.std.specs.Prelude.{◌≡◌, ◌≤◌, ◌+◌, ◌==◌, [], Some, true, false, not, is_some, min, take, length, vec_len, vec_capacity, IfOk};
+ghost use Rattle.std.specs.Prelude.{◌≡◌, ◌≤◌, ◌+◌, [], Some, None, is_some, min, take, length, vec_len, vec_capacity, IfOk};
 ghost use Rattle.std.specs.Option.{option_map};
-ghost use Rattle.sg_memory.specs.Parts.{Begins, given_of, left_of, more, peer_of, size_of};
+ghost use Rattle.sg_memory.specs.Part.{given_of, left_of, more, peer_of, size_of};
 
-use crate::copying::copy_front;
-use sg_device::{Name, NoMemory};
+use crate::MemoryPart;
+use sg_device::NoMemory;
 use std::alloc::Global;
 use std::collections::VecDeque;
-
-/// What a peer sends in one part.
-#[derive(Debug, Drop)]
-pub struct MemoryPart {
-    pub peer: Name,
-    pub bytes: Vec<u8>,
-    /// The number of bytes given.
-    given: usize,
-}
-
-impl MemoryPart {
-    /// These bytes, of which none was given.
-    pub fn new(alloc: Global, peer: &[u8], bytes: Vec<u8>) -> Result<MemoryPart, NoMemory>
-        ensures peer { IfOk result (λ part. part.peer ≡ peer.now) }
-        ensures bytes { IfOk result (λ part. part.bytes ≡ bytes) }
-        ensures given { IfOk result (λ part. part.given ≡ 0) }
-    {
-        Ok(MemoryPart {
-            peer: Name::new(alloc, peer)?,
-            bytes,
-            given: 0,
-        })
-    }
-
-    // Gives at most a piece of what is left.
-    fn give(&mut self, piece: usize, into: &mut [u8]) -> usize
-        requires { self.old.given ≤ length self.old.bytes.items }
-        ensures size { length into.new ≡ length into.old }
-        ensures value { result ≡ min (min (length (left_of (Some self.old))) piece) (length into.old) }
-        ensures front { take result into.new ≡ take result (left_of (Some self.old)) }
-        ensures more { self.new ≡ more result self.old }
-    {
-        let left = self.bytes.len() - self.given;
-        let len = left.min(piece).min(into.len());
-        copy_front(into, &self.bytes[self.given..self.given + len]);
-        self.given += len;
-        len
-    }
-}
 
 /// The parts of an inlet: those that are over, the present one and those to come.
 #[derive(Debug, Drop)]
@@ -58,6 +19,8 @@ pub struct MemoryParts {
 }
 
 impl MemoryParts {
+    ghost use Rattle.sg_memory.specs.Parts.{Begins};
+
     /// One part, which is there from the start.
     pub fn whole(alloc: Global, part: MemoryPart) -> MemoryParts
         requires { part.given ≡ 0 }

@@ -1,7 +1,9 @@
 // An opener of files in memory by their paths.
-ghost use Rattle.std.specs.Prelude.{◌≡◌, ◌≤◌, length};
+ghost use Rattle.std.specs.Prelude.{◌≡◌, ◌≤◌, false, length};
+ghost use Rattle.std.specs.Bool.{OnTrue};
 ghost use Rattle.std.specs.List.{Contains};
-ghost use Rattle.sg_device.specs.Paths.{PathOpens, PathSends, PathReopens, PathCloses, without_path};
+ghost use Rattle.sg_device.specs.Faults.{Rose};
+ghost use Rattle.sg_device.specs.Paths.{KeepsPaths, PathOpens, PathSends, PathReopens, PathCloses, without_path};
 ghost use Rattle.sg_memory.specs.Paths.{without_at};
 
 use crate::PathsPlan;
@@ -28,7 +30,8 @@ pub struct MemoryPaths {
 }
 
 impl MemoryPaths {
-    ghost use Rattle.sg_memory.specs.Paths.{paths_of, new_paths, Counts};
+    ghost use Rattle.sg_memory.specs.Paths.{paths_of, new_paths};
+    ghost use Rattle.sg_memory_disk.specs.Plan.{fails_now};
 
     /// An opener with no open file.
     pub fn new(alloc: Global, plan: PathsPlan) -> MemoryPaths
@@ -61,7 +64,10 @@ impl MemoryPaths {
 
     // Counts a call, and counts its fault where it fails.
     fn next(&mut self) -> bool
-        ensures { Counts self.old self.new result }
+        ensures fails { result ≡ fails_now self.old.plan.fails }
+        ensures kept { KeepsPaths (paths_of self.old) (paths_of self.new) }
+        ensures same { result ≡ false → paths_of self.new ≡ paths_of self.old }
+        ensures rose { OnTrue result (Rose self.old.faults self.new.faults) }
     {
         let fails = self.plan.fails.next();
         if fails {

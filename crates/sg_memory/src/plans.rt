@@ -1,6 +1,6 @@
 // Which calls of a machine in memory, and of the devices that it opens, are to fail.
 ghost use Rattle.std.specs.Prelude.{◌≡◌, drop};
-ghost use Rattle.sg_memory_disk.specs.Plan.{failing};
+ghost use Rattle.sg_memory_disk.specs.Plan.{failing, IsQuiet};
 ghost use Rattle.sg_memory.specs.Plans.{AreQuiet, IsOutletQuiet, IsPathsQuiet, first_failing, IsFirstOutlet, IsFirstPaths};
 
 use sg_memory_disk::Plan;
@@ -28,7 +28,8 @@ impl OutletPlan {
 
     /// These calls fail, and take nothing.
     pub fn failing(alloc: Global, fails: Plan) -> OutletPlan
-        ensures { result.fails ≡ fails }
+        ensures fails { result.fails ≡ fails }
+        ensures laters { IsQuiet result.laters }
     {
         OutletPlan {
             fails,
