@@ -8,4 +8,5 @@ mod Prefixes
 pub mod ValueLaws
 pub mod ManyPairs
 mod SortedPairs
+mod KnownNames
 pub mod LengthLemmas

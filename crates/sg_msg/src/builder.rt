@@ -1,13 +1,14 @@
 // Messages made of many pairs at once.
-ghost use Rattle.std.specs.Prelude.{◌≡◌, ◌≤◌, ◌++◌, [], ◌∷◌, IfOk, OnOk, OnErr};
+ghost use Rattle.std.specs.Prelude.{◌≡◌, ◌≤◌, ◌++◌, [], ◌∷◌, IfOk, OnOk, OnErr, option_copied, slice_get};
+ghost use Rattle.sg_msg.specs.Message.{with_tag};
 ghost use Rattle.sg_time.specs.Stamp.{IsValid};
-ghost use Rattle.sg_msg.specs.Message.{IsName};
-ghost use Rattle.sg_msg.specs.Build.{name_of, built};
+ghost use Rattle.sg_msg.specs.Build.{name_of, MayName, some_pair, built};
 
 use crate::Message;
 use crate::base::{FEW, Pairs};
 use crate::pair::Pair;
 use crate::sorting::sorted;
+use crate::tags::Tags;
 use bytes::Bytes;
 use sg_time::Stamp;
 use smallvec::SmallVec;
@@ -55,12 +56,13 @@ pub struct MessageBuilder {
     sent: Stamp,
     received: Stamp,
     pairs: SmallVec<Pair, FEW>,
+    tags: Tags,
 }
 
 impl Model for MessageBuilder {
     ghost use Rattle.std.specs.Prelude.{◌≤◌};
     ghost use Rattle.sg_time.specs.Stamp.{IsValid};
-    ghost use Rattle.sg_msg.specs.Message.{HaveNames};
+    ghost use Rattle.sg_msg.specs.Message.{HaveNames, AreDistinct};
     ghost use Rattle.sg_msg.specs.Build.{Build};
 
     ghost Value = { Build };
@@ -70,18 +72,26 @@ impl Model for MessageBuilder {
       sent = b.sent;
       received = b.received;
       put = b.pairs.items;
+      tags = b.tags;
     } };
 
-    ghost invariant = { λ b. (b.pri ≤ 191) × IsValid b.sent × IsValid b.received × HaveNames b.pairs.items };
+    ghost invariant = { λ b. (b.pri ≤ 191) × IsValid b.sent × IsValid b.received
+        × HaveNames b.pairs.items × AreDistinct b.tags };
 }
 
 impl MessageBuilder {
-    /// A message without pairs and tags. It takes no memory.
+    /// The builder of a message without pairs and tags. It takes no memory.
     pub fn new(alloc: Global, pri: u8, sent: Stamp, received: Stamp) -> MessageBuilder
         requires pri { pri ≤ 191 }
         requires sent { IsValid sent }
         requires received { IsValid received }
-        ensures { result ≡ record { pri = pri; sent = sent; received = received; put = [] } }
+        ensures { result ≡ record {
+          pri = pri;
+          sent = sent;
+          received = received;
+          put = [];
+          tags = [];
+        } }
     {
         MessageBuilder {
             alloc,
@@ -89,13 +99,14 @@ impl MessageBuilder {
             sent,
             received,
             pairs: SmallVec::new(alloc),
+            tags: Tags::new(alloc),
         }
     }
 
     /// Gives the name this value, in place of the one that it was given before. The value's memory is
     /// shared. On an error the builder is as it was.
     pub fn put(&mut self, name: PairName, value: Bytes) -> Result<(), AllocError>
-        requires { IsName (name_of name) }
+        requires { MayName name }
         ensures ok { OnOk result (self.new ≡ record self.old {
           put = self.old.put ++ (record { name = name_of name; value = value }) ∷ [];
         }) }
@@ -105,12 +116,43 @@ impl MessageBuilder {
         Ok(())
     }
 
-    /// The message, without tags.
+    /// As `put`, where there is a value.
+    pub fn put_some(&mut self, name: PairName, value: Option<Bytes>) -> Result<(), AllocError>
+        requires { MayName name }
+        ensures ok { OnOk result (self.new ≡ record self.old {
+          put = self.old.put ++ some_pair (name_of name) value;
+        }) }
+        ensures err { OnErr result (self.new ≡ self.old) }
+    {
+        match value {
+            Some(value) => self.put(name, value),
+            None => Ok(()),
+        }
+    }
+
+    /// Adds the tag at the end, where it isn't set. On an error the builder is as it was.
+    pub fn set_tag(&mut self, tag: &[u8]) -> Result<(), AllocError>
+        ensures ok { OnOk result (self.new
+            ≡ record self.old { tags = with_tag tag.now self.old.tags }) }
+        ensures err { OnErr result (self.new ≡ self.old) }
+    {
+        self.tags.set(tag)?;
+        Ok(())
+    }
+
+    /// The tag at this place of the tags, which stand in the order set. None from the end on.
+    pub fn tag(&self, place: usize) -> Option<&[u8]>
+        ensures { option_copied result ≡ slice_get self.now.tags place }
+    {
+        self.tags.get(place)
+    }
+
+    /// The message.
     pub fn message(self) -> Result<Message, AllocError>
         ensures { IfOk result (λ message. message ≡ built self) }
     {
         let pairs = sorted(self.alloc, self.pairs)?;
         let pairs = Pairs::of(self.alloc, pairs)?;
-        Ok(Message::of(self.alloc, self.pri, self.sent, self.received, pairs))
+        Ok(Message::of(self.pri, self.sent, self.received, pairs, self.tags))
     }
 }

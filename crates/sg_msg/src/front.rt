@@ -3,7 +3,8 @@ ghost use Rattle.std.specs.Prelude.{◌≡◌, ◌+◌, ◌-◌, ◌≤◌, ◌<
 ghost use Rattle.std.specs.List.{prefix_len};
 ghost use Rattle.sg_msg.specs.Priority.{is_digit, has_at, at_most, priority_value, priority};
 
-fn is_digit(byte: u8) -> bool
+/// Whether the byte is an ASCII digit.
+pub fn is_digit(byte: u8) -> bool
     ensures { result ≡ is_digit byte }
 {
     byte >= b'0' && byte <= b'9'

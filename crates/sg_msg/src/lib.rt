@@ -14,10 +14,11 @@ mod refusal;
 mod sets;
 mod sorting;
 mod tags;
+mod threads;
 
 pub use builder::{MessageBuilder, PairName};
 pub use copy::copied;
-pub use front::{has_at, priority};
+pub use front::{has_at, is_digit, priority};
 pub use length::less_entry;
 pub use macros::is_hard;
 pub use message::Message;

@@ -2,7 +2,7 @@
 ghost use Rattle.std.specs.Prelude.{◌≡◌, ◌≤◌, ◌↔◌, true, [], IfOk, OnOk, OnErr, length, option_copied, option_map, slice_get};
 ghost use Rattle.sg_time.specs.Stamp.{IsValid};
 ghost use Rattle.sg_msg.specs.Macros.{is_hard};
-ghost use Rattle.sg_msg.specs.Message.{IsAscending, HaveNames, IsMessage, KeepsOthers, value_of, with_pair, without_pair, with_tag, without_tag};
+ghost use Rattle.sg_msg.specs.Message.{IsAscending, HaveNames, AreDistinct, IsMessage, KeepsOthers, value_of, with_pair, without_pair, with_tag, without_tag};
 
 use crate::base::Pairs;
 use crate::tags::Tags;
@@ -70,18 +70,19 @@ impl Message {
         })
     }
 
-    pub(crate) fn of(alloc: Global, pri: u8, sent: Stamp, received: Stamp, pairs: Pairs) -> Message
+    pub(crate) fn of(pri: u8, sent: Stamp, received: Stamp, pairs: Pairs, tags: Tags) -> Message
         requires pri { pri ≤ 191 }
         requires sent { IsValid sent }
         requires received { IsValid received }
         requires ascending { IsAscending pairs }
         requires names { HaveNames pairs }
+        requires tags { AreDistinct tags }
         ensures { result ≡ record {
           pri = pri;
           sent = sent;
           received = received;
           pairs = pairs;
-          tags = [];
+          tags = tags;
         } }
     {
         Message {
@@ -89,7 +90,7 @@ impl Message {
             sent,
             received,
             pairs,
-            tags: Tags::new(alloc),
+            tags,
         }
     }
 

@@ -5,7 +5,6 @@ pub mod HeaderLemmas
 pub mod ParamLemmas
 pub mod ElementLemmas
 pub mod ReadingLemmas
-pub mod Dates
 pub mod StampLemmas
 pub mod WrittenHeader
 pub mod WrittenData

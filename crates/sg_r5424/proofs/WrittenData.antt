@@ -5,15 +5,15 @@ use Rattle.std.specs.Option.{option_map}
 use Rattle.std.proofs.lemmas.Bool.{false≢true, ne_eqb}
 use Rattle.std.proofs.lemmas.List.Elements.{All-nil, All-cons}
 use Rattle.sg_msg.specs.Message.{Pair}
-use Rattle.sg_r3164.specs.Parts.{is_print}
+use Rattle.sg_msg.specs.Sets.{is_print}
 use Rattle.std.proofs.lemmas.Bool.Decides.{nat_tests}
 use Rattle.sg_template.specs.Elements.{SdName, Item, is_sd_byte, is_sd_name, is_param_name, split_name, checked, sd_name, item_of, escaped_byte, escaped, param_text, opening_text, elements_text, sdata_text}
 use Rattle.sg_r5424.specs.declared.params.Param.{Param}
 use Rattle.sg_r5424.specs.Grammar.{IsMessage, without_bom}
-use Rattle.sg_r5424.specs.Data.{is_name_byte, Stops, IsName, IsParam, Params, IsElement, Elements, IsData, element_pairs}
+use Rattle.sg_r5424.specs.Data.{Stops, IsName, IsParam, Params, IsElement, Elements, IsData, element_pairs}
 use Rattle.sg_r5424.specs.Data.Params.{closed, more as another}
 use Rattle.sg_r5424.specs.Data.Elements.{none, more}
-use Rattle.sg_r5424.specs.Values.{is_escapable, Spells, IsValue}
+use Rattle.sg_r5424.specs.Values.{Spells, IsValue}
 use Rattle.sg_r5424.specs.Values.Spells.{none as nothing, escaped as behind_slash, plain}
 use Rattle.sg_r5424.specs.Write.{message_text}
 use Rattle.sg_r5424.proofs.RunLemmas.{and_true}

@@ -7,7 +7,8 @@ use Rattle.std.proofs.lemmas.Bool.Decides.{nat_tests}
 use Rattle.std.proofs.lemmas.Fmt.{decimal_digit, decimal_step}
 use Rattle.std.proofs.lemmas.List.{length-take, length-map}
 use Rattle.std.proofs.lemmas.List.Elements.{All-nil, All-cons}
-use Rattle.sg_r3164.specs.Parts.{priority, is_digit, is_print}
+use Rattle.sg_msg.specs.Priority.{priority, is_digit}
+use Rattle.sg_msg.specs.Sets.{is_print}
 use Rattle.sg_r5424.specs.declared.header.Names.{Names}
 use Rattle.sg_r5424.specs.Grammar.{IsStart, IsField, IsNames}
 use Rattle.sg_r5424.specs.Write.{printed, field_text, pri_text}

@@ -17,7 +17,7 @@ use Rattle.sg_r5424.specs.Grammar.{IsStart, IsStamp, IsFront, IsNames, IsMessage
 use Rattle.sg_r5424.specs.Data.{IsData}
 use Rattle.sg_r5424.specs.Is5424.{header_content, whole_content, Behind, Reads}
 use Rattle.sg_r5424.specs.Write.{field_text, message_text, pri_text, fields_text, line_text, HasYear}
-use Rattle.sg_r5424.proofs.Dates.{IsShownBy, shows}
+use Rattle.sg_time.proofs.Dates.{IsShownBy, shows}
 use Rattle.sg_r5424.proofs.StampLemmas.{stamp_read, shown_valid}
 use Rattle.sg_r5424.proofs.WrittenHeader.{pri_read, names_read}
 use Rattle.sg_r5424.proofs.WrittenData.{data_read, message_read, message_stops}

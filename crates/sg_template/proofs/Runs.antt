@@ -2,7 +2,8 @@
 use Rattle.std.proofs.Common.{◌≡◌, ℕ, suc, ◌+◌, ◌-◌, ◌≤◌, Bool, true, false, not, List, [], ◌∷◌, ◌++◌, length, take, drop, get_or, refl, ap, sym, ◌∙◌, arith, subst, append_assoc, append-nil}
 use Rattle.std.specs.List.{prefix_len}
 use Rattle.std.proofs.lemmas.List.{take_all}
-use Rattle.sg_template.specs.Elements.{is_escaped, escaped_byte, escaped}
+use Rattle.sg_msg.specs.Sets.{is_escaped}
+use Rattle.sg_template.specs.Elements.{escaped}
 
 abbrev pub plain_length : List ℕ → ℕ
 plain_length value = prefix_len (λ (b : ℕ). not (is_escaped b)) value
