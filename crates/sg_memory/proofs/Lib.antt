@@ -1,3 +1,3 @@
 pub mod Giving
-pub mod Changes
-pub mod Picking
+pub mod FrameParts
+pub mod PathLemmas
