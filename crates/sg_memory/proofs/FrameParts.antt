@@ -19,3 +19,9 @@ frame-there (frame ∷ frames) (suc i) lt =
     let behind : drop (length frame + total (take i (map length frames))) (frame ++ joined frames) ≡ drop (total (take i (map length frames))) (joined frames) =
         sym (drop-drop (total (take i (map length frames))) (length frame) (frame ++ joined frames)) ∙ ap (λ (l : List ℕ). drop (total (take i (map length frames))) l) rest in
     ap (λ (l : List ℕ). take (get_or (map length frames) i 0) l) behind ∙ frame-there frames i (omega (arith, lt))
+
+-- the sizes up to and with this one
+pub total-more : (sizes : List ℕ) (i : ℕ) → i < length sizes → total (take (i + 1) sizes) ≡ total (take i sizes) + get_or sizes i 0
+total-more [] i lt = grind (arith, lt)
+total-more (size ∷ sizes) zero lt = omega arith
+total-more (size ∷ sizes) (suc i) lt = let next : suc i + 1 ≡ suc (i + 1) = omega arith in rw next (omega (arith, total-more sizes i (omega (arith, lt))))

@@ -2,7 +2,7 @@
 use Rattle.std.proofs.lemmas.List.{take-append-drop, length-take-le, append-nil}
 use Rattle.std.proofs.Math.Seq.{take-append-add}
 use Rattle.std.proofs.Common.{zero, suc, zero-add, max, ◌+◌, ◌≤◌, ◌<◌, take, drop, ◌≡◌, ℕ, List, [], ◌∷◌, ◌++◌, refl, ap, sym, ◌∙◌, arith, length, length-append}
-use Rattle.std.specs.Prelude.{ℤ, map, Option, Some, None, true, false, is_some}
+use Rattle.std.specs.Prelude.{ℤ, map, Option, Some, None, Bool, true, false, is_some, if◌then◌else◌}
 use Rattle.std.specs.Option.{option_map}
 use Rattle.sg_device.specs.Inlet.{Part, Stamped, stamped, with_bytes, with_part}
 use Rattle.sg_memory.specs.Part.{part_of, listed, peer_of, size_of, given_of, left_of, more, total_given}
@@ -116,3 +116,13 @@ begins_total before past (Some part) is none = ap (λ (l : List MemoryPart). tot
 pub begins_count : (before past : List MemoryPart) (present : Option MemoryPart) → past ≡ before → is_some present ≡ true → length (past ++ listed present) ≡ length before + 1
 begins_count before past None is some = let wrong : false ≡ true = some in cc
 begins_count before past (Some part) is some = ap (λ (l : List MemoryPart). length (l ++ part ∷ [])) is ∙ length-append before (part ∷ [])
+
+-- what a file has left, where it tells it
+pub left-told : (single : Bool) (before next after : List ℕ) → before ≡ next ++ after → (if single then Some before else None) ≡ option_map (λ left. next ++ left) (if single then Some after else None)
+left-told true before next after is = ap (λ (l : List ℕ). Some l) is
+left-told false before next after is = refl
+
+-- a file has no second part
+pub not-single : (single : Bool) (waiting : List MemoryPart) (m : ℕ) → (single ≡ true → waiting ≡ []) → length waiting ≡ m + 1 → single ≡ false
+not-single false waiting m alone long = refl
+not-single true waiting m alone long = let none : length waiting ≡ 0 = ap length (alone refl) in grind (arith, none, long)

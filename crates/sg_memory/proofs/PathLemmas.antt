@@ -15,10 +15,10 @@ if_else true x y is = let wrong : true ≡ false = is in cc
 pub without-other : (path : List ℕ) (names : List (List ℕ)) (i : ℕ) → i < length names → bytes_eq (get_or names i []) path ≡ false → take i names ++ without_path path (drop i names) ≡ take (i + 1) names ++ without_path path (drop (i + 1) names)
 without-other path [] i lt is = grind (arith, lt)
 without-other path (name ∷ names) zero lt is = if_else (bytes_eq name path) names (name ∷ without_path path names) is
-without-other path (name ∷ names) (suc i) lt is = ap (λ (l : List (List ℕ)). name ∷ l) (without-other path names i (omega (arith, lt)) is)
+without-other path (name ∷ names) (suc i) lt is = let next : suc i + 1 ≡ suc (i + 1) = omega arith in rw next (ap (λ (l : List (List ℕ)). name ∷ l) (without-other path names i (omega (arith, lt)) is))
 
 -- this one goes
 pub without-here : (path : List ℕ) (names : List (List ℕ)) (i : ℕ) → i < length names → bytes_eq (get_or names i []) path ≡ true → without_path path (drop i names) ≡ drop (i + 1) names
 without-here path [] i lt is = grind (arith, lt)
 without-here path (name ∷ names) zero lt is = if_then (bytes_eq name path) names (name ∷ without_path path names) is
-without-here path (name ∷ names) (suc i) lt is = without-here path names i (omega (arith, lt)) is
+without-here path (name ∷ names) (suc i) lt is = let next : suc i + 1 ≡ suc (i + 1) = omega arith in rw next (without-here path names i (omega (arith, lt)) is)
