@@ -8,7 +8,7 @@ use Rattle.sg_stable.specs.declared.cell.Pair.{Pair}
 use Rattle.sg_spool.specs.Lists.{IsOneOf, Stays}
 use Rattle.sg_spool.specs.Places.{AreOrdered, IsOrdered, AreCompact, HasRoom, bytes_between, bound, live}
 use Rattle.sg_spool.specs.Ring.{Entries, IsList}
-use Rattle.sg_spool.specs.Rows.{AreRows, IsAhead, IsPast, listed}
+use Rattle.sg_spool.specs.Rows.{AreRows, IsAhead, IsPast, listed, total}
 use Rattle.sg_spool.specs.Staging.{IsStaged}
 use Rattle.sg_spool.specs.Steps.{RingAt, Stems, After, Spares}
 use Rattle.sg_spool.specs.View.{IsRing, AreHeld, AreHeldAfter}
@@ -102,7 +102,7 @@ listed_rows rows count is ordered = subst AreRows (sym is) (let are : AreRows (l
 pub listed_ahead : (rows : Rows) (count : ℕ) → rows ≡ listed rows.list count → rows.ahead ≡ rows.list
 listed_ahead rows count is = ap (λ (r : Rows). r.ahead) is
 
-pub gathered_held : (cell : Pair) (old next : Rows) (list staged : Entries) (d : DiskState) → next ≡ listed next.list (min (old.count + old.staged) (2 ^ 64 - 1)) → EachNow d (IsRing cell next.list (list ++ staged)) → AreHeldAfter d cell old next list staged []
+pub gathered_held : (cell : Pair) (old next : Rows) (list staged : Entries) (d : DiskState) → next ≡ listed next.list (total old) → EachNow d (IsRing cell next.list (list ++ staged)) → AreHeldAfter d cell old next list staged []
 gathered_held cell old next list staged d is rings = inr (record { rings = rings; opens = λ b told. tt; waits = ap (λ (r : Rows). r.staged) is }, ap (λ (r : Rows). r.count) is)
 
 -- a ring, while nothing that it uses is written

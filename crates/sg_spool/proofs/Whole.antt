@@ -383,3 +383,6 @@ advanced_holds cell places count next list d is rings = subst (λ (r : Rows). Ho
 
 pub advanced_compact : (places : Places) (count : ℕ) (next : Rows) (capacity : ℕ) (d : DiskState) → next ≡ listed places count → AreCompact capacity places.jump places.head places.end → EachNow d (IsCompactIn capacity) → IsCompactAt d capacity next
 advanced_compact places count next capacity d is compact now = subst (IsCompactAt d capacity) (sym is) (let all : IsCompactAt d capacity (listed places count) = record { list = compact; ahead = compact; images = now } in all)
+
+pub listed_same : (places : Places) (count : ℕ) (next : Rows) → next ≡ listed places count → next ≡ listed next.list count
+listed_same places count next is = is ∙ ap (λ (p : Places). listed p count) (sym (ap (λ (r : Rows). r.list) is))

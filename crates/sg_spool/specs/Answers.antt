@@ -4,7 +4,7 @@ use Rattle.sg_device.specs.Disk.{DiskState, content, WhereTold}
 use Rattle.sg_device.specs.Faults.{Rose}
 use Rattle.sg_spool.specs.Places.{Fits, Remains, live}
 use Rattle.sg_spool.specs.Ring.{Entries, IsList}
-use Rattle.sg_spool.specs.Rows.{committed}
+use Rattle.sg_spool.specs.Rows.{listed, committed, total}
 use Rattle.sg_spool.specs.View.{View, Holds}
 use Rattle.sg_spool.specs.declared.answers.Appended.{Appended}
 use Rattle.sg_spool.specs.declared.answers.Appended.TheVariants.{Done, NoRoom, DiskFailed}
@@ -25,18 +25,19 @@ HasFailed closed before now = (closed ≡ true) ⊎ Rose before now
 -- failed now; it is closed, and nothing is staged.
 abbrev pub Stages : {D : Type 0} → (D → DiskState) → View D → View D → List ℕ → Appended → Type 0
 Stages state old new payload Done = (old.closed ≡ false) × Fits old.capacity old.rows.ahead (length payload) × (new.closed ≡ false) × (live new.rows.ahead ≡ live old.rows.ahead + 5 + length payload)
+    × (total new.rows ≡ min (total old.rows + 1) (2 ^ 64 - 1))
     × ((list staged : Entries) → Holds state old list staged
-    → (Holds state new list (staged ++ payload ∷ []) × (new.rows.count ≡ old.rows.count)) ⊎ (Holds state new (list ++ staged) (payload ∷ []) × (new.rows.count ≡ min (old.rows.count + old.rows.staged) (2 ^ 64 - 1))))
+    → (Holds state new list (staged ++ payload ∷ []) × (new.rows.count ≡ old.rows.count)) ⊎ (Holds state new (list ++ staged) (payload ∷ []) × (new.rows.count ≡ total old.rows)))
 Stages state old new payload NoRoom = (old.closed ≡ false) × (Fits old.capacity old.rows.ahead (length payload) → ⊥) × (new ≡ old)
 Stages state old new payload DiskFailed = ((old.closed ≡ true) ⊎ (Fits old.capacity old.rows.ahead (length payload) × Rose (state old.disk).faults (state new.disk).faults)) × (new.closed ≡ true) × (new.rows.staged ≡ 0)
 
 -- the same of staging and committing, where nothing was staged
 abbrev pub Appends : {D : Type 0} → (D → DiskState) → View D → View D → List ℕ → Appended → Type 0
-Appends state old new payload Done = (old.closed ≡ false) × Fits old.capacity old.rows.list (length payload) × (new.closed ≡ false) × (new.rows.staged ≡ 0)
-    × (new.rows.count ≡ min (old.rows.count + 1) (2 ^ 64 - 1)) × (live new.rows.list ≡ live old.rows.list + 5 + length payload)
+Appends state old new payload Done = (old.closed ≡ false) × Fits old.capacity old.rows.ahead (length payload) × (new.closed ≡ false) × (live new.rows.list ≡ live old.rows.ahead + 5 + length payload)
+    × (new.rows ≡ listed new.rows.list (min (old.rows.count + 1) (2 ^ 64 - 1)))
     × ((list : Entries) → Holds state old list [] → Holds state new (list ++ payload ∷ []) [])
-Appends state old new payload NoRoom = (old.closed ≡ false) × (Fits old.capacity old.rows.list (length payload) → ⊥) × (new ≡ old)
-Appends state old new payload DiskFailed = ((old.closed ≡ true) ⊎ (Fits old.capacity old.rows.list (length payload) × Rose (state old.disk).faults (state new.disk).faults)) × (new.closed ≡ true) × (new.rows.staged ≡ 0)
+Appends state old new payload NoRoom = (old.closed ≡ false) × (Fits old.capacity old.rows.ahead (length payload) → ⊥) × (new ≡ old)
+Appends state old new payload DiskFailed = ((old.closed ≡ true) ⊎ (Fits old.capacity old.rows.ahead (length payload) × Rose (state old.disk).faults (state new.disk).faults)) × (new.closed ≡ true) × (new.rows.staged ≡ 0)
 
 -- Ok: it was open, and the list has taken what was staged. A fault: the disk failed, it is closed, and nothing is staged.
 abbrev pub Commits : {D : Type 0} → (D → DiskState) → View D → View D → Result Unit DeviceFault → Type 0
@@ -46,14 +47,14 @@ Commits state old new (Err e) = HasFailed old.closed (state old.disk).faults (st
 
 -- Ok: it was open, and the list is without its first entries. A fault: the disk failed, and it is closed.
 abbrev pub Advances : {D : Type 0} → (D → DiskState) → View D → View D → ℕ → Result Unit DeviceFault → Type 0
-Advances state old new n (Ok done) = (old.closed ≡ false) × (new.closed ≡ false) × (new.rows.count + n ≡ old.rows.count) × (new.rows.staged ≡ 0) × (new.front ≡ None)
+Advances state old new n (Ok done) = (old.closed ≡ false) × (new.closed ≡ false) × (new.rows ≡ listed new.rows.list (old.rows.count - n)) × (new.front ≡ None)
     × ((list : Entries) → Holds state old list [] → Holds state new (drop n list) [])
 Advances state old new n (Err e) = HasFailed old.closed (state old.disk).faults (state new.disk).faults × (new.closed ≡ true) × (new.rows ≡ old.rows)
 
 -- Ok: it was open, and each entry is spelled anew. DiskFault: the disk failed, and it is closed. NoMemory: it is open, and has
 -- the same list.
 abbrev pub Respells : {D : Type 0} → (D → DiskState) → View D → View D → (List ℕ → List ℕ) → Result Unit RewriteRefusal → Type 0
-Respells state old new meaning (Ok done) = (old.closed ≡ false) × (new.closed ≡ false) × (new.rows.count ≡ old.rows.count) × (new.rows.staged ≡ 0)
+Respells state old new meaning (Ok done) = (old.closed ≡ false) × (new.closed ≡ false) × (new.rows ≡ listed new.rows.list old.rows.count)
     × ((list : Entries) → Holds state old list [] → Holds state new (map meaning list) [])
 Respells state old new meaning (Err DiskFault) = HasFailed old.closed (state old.disk).faults (state new.disk).faults × (new.closed ≡ true) × (new.rows ≡ old.rows)
 Respells state old new meaning (Err NoMemory) = (old.closed ≡ false) × (new.closed ≡ false) × (new.rows ≡ old.rows) × (new.front ≡ old.front)

@@ -8,9 +8,13 @@ use Rattle.sg_spool.specs.declared.rows.Rows.{Rows}
 abbrev pub listed : Places → ℕ → Rows
 listed list count = record { list = list; ahead = list; count = count; staged = 0 }
 
+-- the number of entries, with those that are staged
+abbrev pub total : Rows → ℕ
+total rows = min (rows.count + rows.staged) (2 ^ 64 - 1)
+
 -- all that was staged is in the list
 abbrev pub committed : Rows → Rows
-committed rows = listed rows.ahead (min (rows.count + rows.staged) (2 ^ 64 - 1))
+committed rows = listed rows.ahead (total rows)
 
 -- What is staged stands behind the list's end: behind a jump of its own, or below the head as the list's end.
 abbrev pub IsPast : Option ℕ → ℕ → Option ℕ → ℕ → Type 0

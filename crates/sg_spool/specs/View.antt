@@ -7,7 +7,7 @@ use Rattle.sg_spool.specs.Ring.{Entries, IsLaid, IsList}
 use Rattle.sg_spool.specs.Steps.{RingAt}
 use Rattle.sg_spool.specs.Staging.{OpensTo}
 use Rattle.sg_spool.specs.Places.{AreCompact, bound}
-use Rattle.sg_spool.specs.Rows.{AreRows}
+use Rattle.sg_spool.specs.Rows.{AreRows, total}
 use Rattle.sg_spool.specs.declared.places.Places.{Places}
 use Rattle.sg_spool.specs.declared.rows.Rows.{Rows}
 
@@ -62,7 +62,7 @@ pub record AreHeld (disk : DiskState) (cell : Pair) (rows : Rows) (list staged :
 -- More payloads are staged, behind the others or behind a list that has taken those.
 abbrev pub AreHeldAfter : DiskState → Pair → Rows → Rows → Entries → Entries → Entries → Type 0
 AreHeldAfter disk cell old new list staged more = (AreHeld disk cell new list (staged ++ more) × (new.count ≡ old.count))
-    ⊎ (AreHeld disk cell new (list ++ staged) more × (new.count ≡ min (old.count + old.staged) (2 ^ 64 - 1)))
+    ⊎ (AreHeld disk cell new (list ++ staged) more × (new.count ≡ total old))
 
 -- the first payload, where it was read
 abbrev pub IsFront : Option (List ℕ) → Entries → Type 0

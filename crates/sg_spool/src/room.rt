@@ -5,7 +5,7 @@ ghost use Rattle.sg_stable.specs.Cell.{HasCell};
 ghost use Rattle.sg_spool.specs.Lists.{IsOneOf};
 ghost use Rattle.sg_spool.specs.Places.{IsOrdered, live, Fits, HasRoom, AreCompact, bound};
 ghost use Rattle.sg_spool.specs.Ring.{Entries};
-ghost use Rattle.sg_spool.specs.Rows.{AreRows, listed};
+ghost use Rattle.sg_spool.specs.Rows.{AreRows, listed, total};
 ghost use Rattle.sg_spool.specs.Staging.{OpensTo};
 ghost use Rattle.sg_spool.specs.Steps.{Spares, Grows};
 ghost use Rattle.sg_spool.specs.View.{IsRing, AreHeld, AreHeldAfter};
@@ -47,6 +47,7 @@ pub(crate) fn stage_block<D: Disk>(
         → AreHeldAfter (D.state disk.new) cell.new rows next list staged (block.now ∷ [])) }
 
     ensures rows { IfOk result (λ next. AreRows next) }
+    ensures total { IfOk result (λ next. total next ≡ min (total rows + 1) (2 ^ 64 - 1)) }
     ensures live { IfOk result (λ next. live next.ahead ≡ live rows.ahead + 5 + length block.now) }
 
     // Where there is room, the images keep the ring, and nothing grows past the bound.
@@ -88,6 +89,7 @@ fn make_room<D: Disk>(
         → AreHeldAfter (D.state disk.new) cell.new rows next list staged []) }
 
     ensures rows { IfOk result (λ next. AreRows next) }
+    ensures total { IfOk result (λ next. total next ≡ total rows) }
     ensures room { IfOk result (λ next. HasRoom next.ahead.jump next.ahead.head next.ahead.end size) }
     ensures live { IfOk result (λ next. live next.ahead ≡ live rows.ahead) }
     ensures untouched { HasRoom rows.ahead.jump rows.ahead.head rows.ahead.end size → disk.new ≡ disk.old }
@@ -125,7 +127,7 @@ fn gather_rows<D: Disk>(
     ensures ring { IfOk result (λ next. (list staged : Entries) → AreHeld (D.state disk.old) cell.old rows list staged
         → EachNow (D.state disk.new) (IsRing cell.new next.list (list ++ staged))) }
 
-    ensures rows { IfOk result (λ next. next ≡ listed next.list (min (rows.count + rows.staged) (2 ^ 64 - 1))) }
+    ensures rows { IfOk result (λ next. next ≡ listed next.list (total rows)) }
     ensures ordered { IfOk result (λ next. IsOrdered next.list) }
     ensures row { IfOk result (λ next. next.list.jump ≡ None) }
     ensures live { IfOk result (λ next. live next.list ≡ live rows.ahead) }

@@ -6,9 +6,8 @@ use Rattle.sg_device.proofs.Disks.{within_now, moves_within}
 use Rattle.sg_spool.specs.Advancing.{HasEntries}
 use Rattle.sg_spool.specs.Places.{bound, AreCompact}
 use Rattle.sg_spool.specs.View.{IsCompactIn}
-use Rattle.sg_spool.specs.declared.rows.Rows.{Rows}
 use Rattle.sg_spool.proofs.Calls.{lasts_open}
-use Rattle.sg_spool.proofs.Whole.{holds, has_entries, advance_one, advance_short, whole_advanced, advanced_rows, advanced_whole, advanced_holds, advanced_compact}
+use Rattle.sg_spool.proofs.Whole.{holds, has_entries, advance_one, advance_short, whole_advanced, advanced_rows, advanced_whole, advanced_holds, advanced_compact, listed_same}
 use Rattle.sg_spool.proofs.spool.Spool.advance.Goals as goal
 
 pub returns-in_err-next-clause-lasts : goal.returns-in_err-next-clause-lasts
@@ -55,8 +54,7 @@ returns-clause-answer g c =
     rw (← c.self.view_is) (
       c.if-self.false,
       refl,
-      ap (λ (r : Rows). r.count + c.args.n) c.listed-self-inside.ensures ∙ omega (arith, enough),
-      ap (λ (r : Rows). r.staged) c.listed-self-inside.ensures,
+      listed_same c.in_ok-next.next (m.rows.count - c.args.n) c.listed-self-inside.result c.listed-self-inside.ensures,
       refl,
       λ list at. advanced_holds c.advance_past.new.cell c.in_ok-next.next (m.rows.count - c.args.n) c.listed-self-inside.result (drop c.args.n list) (g.D.Disk.state c.advance_past.new.disk) c.listed-self-inside.ensures (c.in_ok-next.ensures.ring list (subst (λ (s : Option ℕ). EachNow (g.D.Disk.state m.disk) (HasEntries m.cell m.rows.list c.args.n s list)) (sym c.length_of-first.ensures) (has_entries m.cell m.rows (option_map (λ v. v.items) m.front) (g.D.Disk.state m.disk) whole c.args.n enough list [] at))),
     )

@@ -54,6 +54,7 @@ returns-clause-answer g c =
       fits,
       refl,
       c.in-Ok.ensures.live,
+      c.in-Ok.ensures.total,
       λ list staged at. ⊎_elim
           (λ one. inl (held_holds c.stage_block.new.cell c.in-Ok.next list (staged ++ c.args.block.now ∷ []) (g.D.Disk.state c.stage_block.new.disk) one.0, one.1))
           (λ two. inr (held_holds c.stage_block.new.cell c.in-Ok.next (list ++ staged) (c.args.block.now ∷ []) (g.D.Disk.state c.stage_block.new.disk) two.0, two.1))
