@@ -1,7 +1,7 @@
 // Templates over messages.
 use sg_device::Name;
 use sg_msg::Message;
-use sg_template::{Env, Template, TemplateFault, sdata_text, text_of};
+use sg_template::{Env, Template, TemplateFault};
 use sg_time::Stamp;
 use std::alloc::Global;
 use std::test::Fail;
@@ -23,7 +23,8 @@ const SENT: &str =
 const RECEIVED: &str =
     "$R_DATE|$R_FULLDATE|$R_ISODATE|$R_STAMP|$R_UNIXTIME|$R_YEAR|$R_MONTH|$R_DAY|$R_HOUR|$R_MIN|$R_SEC|$R_MONTH_ABBREV|$R_TZOFFSET";
 
-// Templates, and their texts over one message, in a zone an hour east of its stamp.
+// Templates, and their texts (`=>`) or paths (`->`) over one message, in a zone an hour east of its
+// stamp.
 const TEXTS: &str = "\
 $PRI $FACILITY_NUM $LEVEL_NUM $FACILITY $LEVEL $PRIORITY $SEVERITY $TAG => 165 20 5 local4 notice notice notice a5
 $TAGS|$_|$MSG|$MSGONLY|$HOST|$FULLHOST => one,two|old|An event|An event|h|h
@@ -35,7 +36,15 @@ $HOST.$PROGRAM-$PID$ => h.evntslog-7$
 $1$PRIX$ $ => $ $
 a$b ${MSGID:-x} => a x
 $UNIXTIME => 1065910455.003
-$S_TZOFFSET$R_TZOFFSET => +01:00+00:00";
+$S_TZOFFSET$R_TZOFFSET => +01:00+00:00
+out-${A:-../x} -> out-_._x
+/var/log/${A:-.}/$PROGRAM.log -> /var/log/_/evntslog.log
+/a/${A:-b/c}$HOST -> /a/b_ch
+/a/../$PRI.${A:-.h} -> /a/../165._h
+${A:-a\0b.} -> a_b.
+$A -> _
+${A:-/} -> _
+a$$b -> a$b";
 
 fn text(
     alloc: Global,
@@ -47,6 +56,26 @@ fn text(
     let mut out = Vec::new(alloc);
     template.render(message, env, &mut out)?;
     Ok(out)
+}
+
+fn path(
+    alloc: Global,
+    template: &str,
+    message: &Message,
+    env: &Env,
+) -> Result<Vec<u8>, TemplateFault> {
+    let template = Template::read(alloc, template.as_bytes())?;
+    let mut out = Vec::new(alloc);
+    template.render_path(message, env, &mut out)?;
+    Ok(out)
+}
+
+fn is_shown(alloc: Global, row: &str, message: &Message, env: &Env) -> Result<bool, Fail> {
+    if let Some((template, shown)) = row.split_once(" -> ") {
+        return Ok(path(alloc, template, message, env)?.as_slice() == shown.as_bytes());
+    }
+    let (template, shown) = row.split_once(" => ").ok_or("no text")?;
+    Ok(text(alloc, template, message, env)?.as_slice() == shown.as_bytes())
 }
 
 #[test]
@@ -110,7 +139,7 @@ fn event(alloc: Global) -> Result<Message, Fail> {
 }
 
 #[test]
-fn texts_of_an_event(rt: HostRuntime) -> Result<(), Fail> {
+fn texts_and_paths_of_an_event(rt: HostRuntime) -> Result<(), Fail> {
     let alloc = rt.alloc();
     let message = event(alloc)?;
     let env = Env {
@@ -120,58 +149,14 @@ fn texts_of_an_event(rt: HostRuntime) -> Result<(), Fail> {
         old: Some(Name::new(alloc, b"old")?),
     };
     for row in TEXTS.lines() {
-        let (template, shown) = row.split_once(" => ").ok_or("no text")?;
-        let out = text(alloc, template, &message, &env)?;
-        assert_eq!(rt; out.as_slice(), shown.as_bytes(), "{row}");
+        assert!(rt; is_shown(alloc, row, &message, &env)?, "{row}");
     }
     let function = text(alloc, "$( ${A", &message, &env).err();
     assert_eq!(rt; function, Some(TemplateFault::Function));
     let open = text(alloc, "${A $(", &message, &env).err();
     assert_eq!(rt; open, Some(TemplateFault::OpenBrace));
-    Ok(())
-}
-
-// Templates, hosts, and the paths that they come to.
-const PATHS: &str = "\
-out-${HOST}|../x|out-_._x
-/var/log/$HOST/${HOST}.log|.|/var/log/_/_.log
-/a/$HOST$HOST|b/c|/a/b_cb_c
-/a/../$PRI.$HOST|.h|/a/../13._h
-$HOST|a\0b.|a_b.
-$HOST$NOPE||_
-${NOPE:-../a}|h|_._a
-${HOST:-/}||_
-a$$b|h|a$b";
-
-fn path(alloc: Global, template: &[u8], host: &[u8]) -> Result<Vec<u8>, Fail> {
-    let mut message = Message::new(alloc, 13, EPOCH, EPOCH)?;
-    message.set(b"HOST", host).ok();
-    let env = Env {
-        zone: None,
-        digits: 0,
-        iso: false,
-        old: None,
-    };
     let mut out = Vec::new(alloc);
-    Template::read(alloc, template)?.render_path(&message, &env, &mut out)?;
-    Ok(out)
-}
-
-#[test]
-fn paths_of_files(rt: HostRuntime) -> Result<(), Fail> {
-    let alloc = rt.alloc();
-    for row in PATHS.lines() {
-        let (template, rest) = row.split_once('|').ok_or("no host")?;
-        let (host, shown) = rest.split_once('|').ok_or("no path")?;
-        let out = path(alloc, template.as_bytes(), host.as_bytes())?;
-        assert_eq!(rt; out.as_slice(), shown.as_bytes(), "{row}");
-    }
-    let long = [b'x'; 3000];
-    assert_eq!(rt; path(alloc, b"$HOST/$HOST", &long)?.len(), 4095);
-    let message = Message::new(alloc, 13, EPOCH, EPOCH)?;
-    let mut out = Vec::new(alloc);
-    sdata_text(&message, &mut out)?;
-    assert_eq!(rt; out.as_slice(), b"-".as_slice());
-    assert!(rt; text_of(&message, b"HOST").is_empty());
+    Template::read(alloc, &[b'x'; 5000])?.render_path(&message, &env, &mut out)?;
+    assert_eq!(rt; out.len(), 4095);
     Ok(())
 }
