@@ -57,7 +57,8 @@ fn is_tick_at(tokens: &Part, place: usize) -> bool
 impl Expander {
     /// Does what the front of these tokens asks for.
     pub fn step<F: Files>(&mut self, files: &mut F, rest: Rest) -> Result<(), Stop>
-        ensures does { DoesStep (step rest.context rest.fresh rest.tokens (state_of self.old)) rest.context rest.fresh self.old (F.state files.old) self.new (F.state files.new) result }
+        ensures does { DoesStep (step rest.context rest.fresh rest.tokens (state_of self.old)) rest.context rest.fresh
+            self.old (F.state files.old) self.new (F.state files.new) result }
         ensures reads { OnlyReads (F.state files.old) (F.state files.new) }
     {
         if begins_include(&rest.tokens) {
@@ -120,7 +121,8 @@ impl Expander {
         room: u64,
     ) -> Result<Replaced, NoMemory>
         requires { place < length tokens.now }
-        ensures { IfOk result (λ replaced. IsReplaced room (text_in context.now.scope self.now.variables tokens.now place) replaced) }
+        ensures { IfOk result
+            (IsReplaced room (text_in context.now.scope self.now.variables tokens.now place)) }
     {
         let text = tokens.text(place);
         if tokens.is_string_at(place) {
@@ -140,7 +142,9 @@ impl Expander {
 
     fn define(&mut self, rest: Rest) -> Result<(), Stop>
         requires { 2 < length rest.tokens }
-        ensures { Does (define_read rest.fresh rest.tokens (state_of self.old) (text_of rest.context (state_of self.old) rest.tokens 2)) rest.context self.old self.new result }
+        ensures { Does
+            (define_read rest.fresh rest.tokens (state_of self.old) (text_of rest.context (state_of self.old) rest.tokens 2))
+            rest.context self.old self.new result }
     {
         let line = rest.tokens.line(0);
         match self.text_of(&rest.context, &rest.tokens, 2, self.total.room())? {
@@ -159,7 +163,9 @@ impl Expander {
 
     fn set_variable(&mut self, tokens: &Part, text: Name) -> Result<(), NoMemory>
         requires { 2 < length tokens.now }
-        ensures { OnOk result (self.new ≡ record self.old { variables = map.insert self.old.variables (text_at tokens.now 1) (retold (slice_get tokens.now 2) text) }) }
+        ensures { OnOk result (self.new ≡ record self.old {
+          variables = map.insert self.old.variables (text_at tokens.now 1) (retold (slice_get tokens.now 2) text);
+        }) }
     {
         let name = tokens.text(1).to_vec(self.alloc)?;
         let mut value = Seq::empty(self.alloc);
@@ -198,7 +204,8 @@ impl Expander {
 
     fn emit_variable(&mut self, rest: &Rest) -> Result<(), Stop>
         requires { 0 < length rest.now.tokens }
-        ensures { EmitsToken (reached rest.now.context.scope self.old.variables (text_at rest.now.tokens 0)) (line_at rest.now.tokens 0) self.old self.new result }
+        ensures { EmitsToken (reached rest.now.context.scope self.old.variables (text_at rest.now.tokens 0))
+            (line_at rest.now.tokens 0) self.old self.new result }
     {
         match find(
             rest.context.scope.values(),
@@ -212,7 +219,9 @@ impl Expander {
 
     fn emit_text(&mut self, rest: &Rest) -> Result<(), Stop>
         requires { 0 < length rest.now.tokens }
-        ensures { EmitsToken (option_map (retold (slice_get rest.now.tokens 0)) (text_in rest.now.context.scope self.old.variables rest.now.tokens 0)) (line_at rest.now.tokens 0) self.old self.new result }
+        ensures { EmitsToken
+            (option_map (retold (slice_get rest.now.tokens 0)) (text_in rest.now.context.scope self.old.variables rest.now.tokens 0))
+            (line_at rest.now.tokens 0) self.old self.new result }
     {
         let line = rest.tokens.line(0);
         match self.text_of(&rest.context, &rest.tokens, 0, self.total.room())? {

@@ -100,7 +100,8 @@ impl Expander {
     /// Begins the use at the front, or puts out the token.
     pub fn use_or_emit(&mut self, rest: Rest) -> Result<(), Stop>
         requires { 0 < length rest.tokens }
-        ensures { Does (word_or_use rest.context rest.fresh rest.tokens (state_of self.old)) rest.context self.old self.new result }
+        ensures { Does (word_or_use rest.context rest.fresh rest.tokens (state_of self.old))
+            rest.context self.old self.new result }
     {
         match self.find_use(&rest)? {
             Some((asked, behind)) => self.begin_use(rest, asked, behind),
@@ -154,7 +155,8 @@ impl Expander {
     }
 
     fn expand_body(&mut self, call: Call) -> Result<(), Stop>
-        ensures { Pushes (tokens_frame (body_context call.context call.bound call.serial) true (trimmed call.body) ∷ []) self.old self.new result }
+        ensures { Pushes (tokens_frame (body_context call.context call.bound call.serial) true (trimmed call.body) ∷ [])
+            self.old self.new result }
     {
         let context = Context {
             depth: call.context.depth,
