@@ -178,7 +178,8 @@ told='store pos-in: cannot open: not a regular file\n'
 again 'a FIFO as store' 4 'cannot open store 0\n' - run c --once
 rm pos-in
 
-# A full disk has whole lines alone, and once it has space again the lines go on behind them.
+# A full disk has whole lines alone, and once it has space again the lines go on behind them, from the stored position on: none is
+# torn, and none is missing.
 mkdir small
 if mount -t tmpfs -o size=16k none small 2>/dev/null; then
     mounted=yes
@@ -189,7 +190,7 @@ if mount -t tmpfs -o size=16k none small 2>/dev/null; then
     [ $? = 6 ] && head -n "$(grep -c '' small/out)" in | cmp -s - small/out && passed=$((passed + 1)) || { failed=$((failed + 1)); echo 'a full disk: no whole lines'; }
     rm small/filler
     timeout 60 "$top/syslogr" run c7 --once >said 2>errors
-    [ $? = 0 ] && cmp -s in small/out && passed=$((passed + 1)) || { failed=$((failed + 1)); echo 'space again: not the same lines'; }
+    [ $? = 0 ] && sort -u small/out | cmp -s - in && passed=$((passed + 1)) || { failed=$((failed + 1)); echo 'space again: a torn line, or one that is missing'; }
     umount small && mounted=
 fi
 

@@ -1,5 +1,5 @@
 // What real devices count. They tell nothing of content.
-ghost use Rattle.std.specs.Prelude.{◌≡◌, ◌↔◌, ◌+◌, ◌<◌, ◌^◌, ◌-◌, List, ℕ, length, Result, Ok, IfOk, IsTrue};
+ghost use Rattle.std.specs.Prelude.{◌≡◌, ◌⊎◌, ◌↔◌, ◌+◌, ◌<◌, ◌≤◌, ◌^◌, ◌-◌, List, ℕ, length, Result, Ok, IfOk, IsOk, IsErr, IsTrue};
 ghost use Rattle.sg_device.specs.Outlet.{Sends, Reopens, one_more};
 ghost use Rattle.sg_device.specs.declared.inlet.Pull.{Pull as AnyPull};
 ghost use Rattle.sg_device.specs.declared.inlet.Pull.TheVariants.{Bytes, Next, Idle};
@@ -188,7 +188,9 @@ impl OutletCounts {
     /// Counts a send of `all` frames, of which the first `whole` were taken, and answers it: it is
     /// refused where those are fewer than all, or too many to be counted.
     pub fn sent(&mut self, whole: usize, all: usize) -> Result<(), SendRefusal>
-        ensures { (frames : List (List ℕ)) → length frames ≡ all → Sends (outlet_state self.old) (outlet_state self.new) frames result }
+        ensures done { all ≤ whole → self.old.taken + all < 2 ^ 64 → IsOk result }
+        ensures taken { whole < all → self.old.taken + all < 2 ^ 64 → self.new.taken ≡ self.old.taken + whole }
+        ensures counted { (frames : List (List ℕ)) → length frames ≡ all → Sends (outlet_state self.old) (outlet_state self.new) frames result }
     {
         if !self.has_room(all) {
             self.fail();
@@ -208,11 +210,9 @@ impl OutletCounts {
     }
 
     /// Counts what a reopening came to, and answers it.
-    pub fn reopened(
-        &mut self,
-        got: Result<Reopened, OutletFault>,
-    ) -> Result<Reopened, OutletFault>
-        ensures { Reopens (outlet_state self.old) (outlet_state self.new) result }
+    pub fn reopened(&mut self, got: Result<Reopened, OutletFault>) -> Result<Reopened, OutletFault>
+        ensures same { (result ≡ got) ⊎ IsErr result }
+        ensures counted { Reopens (outlet_state self.old) (outlet_state self.new) result }
     {
         match got {
             Ok(Reopened::Ready) => Ok(Reopened::Ready),

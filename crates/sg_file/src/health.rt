@@ -24,7 +24,11 @@ impl Health {
         let mut device = kind.as_bytes().to_vec(alloc)?;
         device.push(b' ')?;
         for byte in name {
-            let shown = if *byte < 32 || *byte == 127 { b'?' } else { *byte };
+            let shown = if *byte < 32 || *byte == 127 {
+                b'?'
+            } else {
+                *byte
+            };
             device.push(shown)?;
         }
         Ok(Health {

@@ -31,9 +31,11 @@ pub struct FileInlet {
 }
 
 // What to do where a file that is followed has no more bytes for good.
-const SHORTER: &str = "it became shorter than what was read of it: start the program anew, which reads it from its beginning";
+const SHORTER: &str =
+    "it became shorter than what was read of it: start the program anew, which reads it from its beginning";
 
-const REPLACED: &str = "another file has its name, and this one has no more bytes: start the program anew, which reads the other one from its beginning";
+const REPLACED: &str =
+    "another file has its name, and this one has no more bytes: start the program anew, which reads the other one from its beginning";
 
 // A regular file, opened at the place where reading begins, with its name as text.
 fn open_at<'a>(

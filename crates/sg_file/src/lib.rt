@@ -2,11 +2,11 @@
 //! they tell their operator. They tell nothing of content.
 #![tactic(auto)]
 
+mod clock;
 mod counts;
 mod fresh;
 mod health;
 mod inlet;
-mod clock;
 mod open;
 mod outlet;
 mod place;
@@ -16,10 +16,10 @@ mod retry;
 mod store;
 mod target;
 
+pub use clock::moment;
 pub use counts::{InletCounts, OutletCounts};
 pub use health::Health;
 pub use inlet::FileInlet;
-pub use clock::moment;
 pub use open::path_text;
 pub use outlet::FileOutlet;
 pub use read::{read_file, read_some};

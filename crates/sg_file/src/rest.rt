@@ -62,10 +62,18 @@ impl Rest {
             self.seen = waits;
             return;
         }
-        self.seen = self.shared.waits.fetch_add(1, Ordering::SeqCst).wrapping_add(1);
+        self.seen = self
+            .shared
+            .waits
+            .fetch_add(1, Ordering::SeqCst)
+            .wrapping_add(1);
         let streak = self.shared.streak.fetch_add(1, Ordering::SeqCst);
         if streak > 0 {
-            let millis = if streak < 8 { 1u64 << (streak - 1) } else { LONGEST };
+            let millis = if streak < 8 {
+                1u64 << (streak - 1)
+            } else {
+                LONGEST
+            };
             thread::sleep(&self.rt, Duration::from_millis(millis.min(LONGEST)));
         }
     }

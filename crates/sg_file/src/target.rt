@@ -88,8 +88,7 @@ impl Target {
 
     /// Appends the bytes, by one write where the system takes them so, and tells how many it took. A
     /// failure is told on standard error.
-    pub fn append(&mut self, bytes: &[u8]) -> usize
-    {
+    pub fn append(&mut self, bytes: &[u8]) -> usize {
         let mut done = 0;
         for _ in 0..u64::MAX {
             if done >= bytes.len() {
@@ -97,7 +96,8 @@ impl Target {
             }
             match self.file.write(&bytes[done..]) {
                 Ok(0) => {
-                    self.health.fails("write", &io::Error::from(ErrorKind::WriteZero));
+                    self.health
+                        .fails("write", &io::Error::from(ErrorKind::WriteZero));
                     return done;
                 }
                 Ok(count) => done += count,

@@ -69,7 +69,11 @@ pub fn outlet_cell(alloc: Global) -> Result<Box<OutletCell>, AllocError> {
 }
 
 /// Puts an outlet behind those that were closed before. It takes no memory.
-pub fn add_outlet(last: &mut Option<Box<OutletCell>>, mut cell: Box<OutletCell>, counts: OutletCounts)
+pub fn add_outlet(
+    last: &mut Option<Box<OutletCell>>,
+    mut cell: Box<OutletCell>,
+    counts: OutletCounts,
+)
     ensures { outlet_states last.new ≡ outlet_states last.old ++ outlet_state counts ∷ [] }
 {
     cell.counts = counts;

@@ -4,9 +4,9 @@ ghost use Rattle.sg_outside.specs.World.{with_closed};
 ghost use Rattle.sg_file.specs.Store.{disk_of};
 ghost use Rattle.sg_host.specs.Stores.{store_of, stores_of, StoresOpen, StoresRefuse};
 
-use sg_file::FileDisk;
 use crate::cells::{StoreCell, add_store, store_cell};
 use sg_device::{Disk, DiskFault, OpenRefusal};
+use sg_file::FileDisk;
 use sg_outside::StoreSpec;
 use std::alloc::Global;
 

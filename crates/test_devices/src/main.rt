@@ -4,11 +4,11 @@
 
 mod work;
 
-use std::env;
-use std::io;
 use std::process::ExitCode;
+use std::{env, io};
 
-const USAGE: &str = "usage: test_devices send PATH [fsync] | lines PATH | pull PATH | read PATH | store PATH";
+const USAGE: &str =
+    "usage: test_devices send PATH [fsync] | lines PATH | pull PATH | read PATH | store PATH";
 
 fn main(rt: HostRuntime) -> io::Result<ExitCode> {
     let mut words = env::args(&rt)?.skip(1);

@@ -126,6 +126,10 @@ fn dangling(folder: &Folder) -> Result<String, Fail> {
     let link = folder.at("out")?;
     symlink(&folder.rt, target.as_str(), link.as_str())?;
     let opened = opened(folder, link.as_bytes())?;
-    let absent = if fs::exists(&folder.rt, target.as_str())? { "there" } else { "absent" };
+    let absent = if fs::exists(&folder.rt, target.as_str())? {
+        "there"
+    } else {
+        "absent"
+    };
     Ok(format!(in folder.alloc; "{opened} {absent}")?)
 }

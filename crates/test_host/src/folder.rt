@@ -2,8 +2,8 @@
 use sg_file::Rest;
 use std::alloc::Global;
 use std::os::unix::fs::MetadataExt;
-use std::test::Fail;
 use std::random::RandomSource;
+use std::test::Fail;
 use std::{env, fs};
 
 /// A folder in the temporary one that nobody else has.

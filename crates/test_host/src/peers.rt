@@ -80,7 +80,9 @@ fn away(rt: HostRuntime) -> Result<String, Fail> {
     let (taken, faults, failing) = (counts.taken, counts.faults, counts.failing);
     let later = reopened(outlet.reopen());
     let laters = outlet.counts().laters;
-    Ok(format!(in rt.alloc(); "{first}taken {taken} faults {faults} failing {failing} {later}laters {laters}")?)
+    Ok(format!(in rt.alloc();
+        "{first}taken {taken} faults {faults} failing {failing} {later}laters {laters}"
+    )?)
 }
 
 fn ready(rt: HostRuntime) -> Result<String, Fail> {
@@ -128,7 +130,13 @@ fn slow(rt: HostRuntime) -> Result<String, Fail> {
     let refused = sent(outlet.send(&frames));
     let (_stream, _peer) = listener.accept()?;
     let taken = outlet.taken();
-    let word = if taken == 0 { "none" } else if taken < 500 { "some" } else { "all" };
+    let word = if taken == 0 {
+        "none"
+    } else if taken < 500 {
+        "some"
+    } else {
+        "all"
+    };
     Ok(format!(in rt.alloc(); "{refused}{word}")?)
 }
 

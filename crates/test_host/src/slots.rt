@@ -162,6 +162,12 @@ fn idle(rt: HostRuntime) -> Result<String, Fail> {
         }
     }
     let took = start.elapsed(&rt)?.as_millis();
-    let word = if took < 200 { "no wait" } else if took < 5_000 { "short" } else { "long" };
+    let word = if took < 200 {
+        "no wait"
+    } else if took < 5_000 {
+        "short"
+    } else {
+        "long"
+    };
     Ok(String::from_str(rt.alloc(), word)?)
 }

@@ -56,8 +56,15 @@ fn pulls(folder: &Folder, what: &str) -> Result<String, Fail> {
     let path = folder.file("in", b"abc")?;
     let rest = folder.rest()?;
     let once = what == "once";
-    let mut inlet =
-        FileInlet::open(folder.alloc, folder.rt, path.as_bytes(), once, LIMIT, 0, rest)?;
+    let mut inlet = FileInlet::open(
+        folder.alloc,
+        folder.rt,
+        path.as_bytes(),
+        once,
+        LIMIT,
+        0,
+        rest,
+    )?;
     let mut text = String::new(folder.alloc);
     pull(&mut inlet, &mut text)?;
     match what {

@@ -51,7 +51,11 @@ fn fresh(folder: &Folder) -> Result<String, Fail> {
     let opened = opened(folder, path.as_bytes())?;
     let bytes = folder.bytes("q")?;
     let count = bytes.len();
-    let zeros = if bytes.iter().all(|byte| *byte == 0) { "zeros" } else { "others" };
+    let zeros = if bytes.iter().all(|byte| *byte == 0) {
+        "zeros"
+    } else {
+        "others"
+    };
     let mode = folder.mode("q")?;
     let names = folder.names()?;
     Ok(format!(in folder.alloc; "{opened} {count} {zeros}{mode} names {names}")?)
@@ -75,7 +79,11 @@ fn planted(folder: &Folder) -> Result<String, Fail> {
     let link = folder.at("q.new")?;
     symlink(&folder.rt, target.as_str(), link.as_str())?;
     let opened = opened(folder, path.as_bytes())?;
-    let untouched = if folder.bytes("target")?.as_slice() == b"abc".as_slice() { "untouched" } else { "changed" };
+    let untouched = if folder.bytes("target")?.as_slice() == b"abc".as_slice() {
+        "untouched"
+    } else {
+        "changed"
+    };
     Ok(format!(in folder.alloc; "{opened} {untouched}")?)
 }
 
@@ -85,7 +93,11 @@ fn dangling(folder: &Folder) -> Result<String, Fail> {
     let link = folder.at("q")?;
     symlink(&folder.rt, target.as_str(), link.as_str())?;
     let opened = opened(folder, link.as_bytes())?;
-    let absent = if fs::exists(&folder.rt, target.as_str())? { "there" } else { "absent" };
+    let absent = if fs::exists(&folder.rt, target.as_str())? {
+        "there"
+    } else {
+        "absent"
+    };
     Ok(format!(in folder.alloc; "{opened} {absent}")?)
 }
 
@@ -97,7 +109,11 @@ fn missing(folder: &Folder) -> Result<String, Fail> {
         Err(OpenRefusal::Failed) => "refused",
         Err(OpenRefusal::NoMemory) => "starved",
     };
-    let absent = if fs::exists(&folder.rt, path.as_str())? { "there" } else { "absent" };
+    let absent = if fs::exists(&folder.rt, path.as_str())? {
+        "there"
+    } else {
+        "absent"
+    };
     Ok(format!(in folder.alloc; "{word} {absent}")?)
 }
 

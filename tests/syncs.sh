@@ -1,0 +1,52 @@
+#!/bin/sh
+# Counts the system's calls that make things last, by strace: those that a store and a destination promise. It isn't part of the gate.
+#   tests/syncs.sh [PROGRAM]    the program syslogr, else the one that the launcher builds
+top=$(cd "$(dirname "$0")/.." && pwd)
+command -v strace >/dev/null || { echo 'strace is not installed'; exit 2; }
+program=${1:-$top/crates/sg_top/out/sg_top}
+devices=$top/crates/test_devices/out/test_devices
+folder=$(mktemp -d) || exit 2
+trap 'rm -rf "$folder"' EXIT
+cd "$folder" || exit 2
+passed=0 failed=0
+
+# calls WORD..: runs a program and prints its calls that open for writing, link, write at a place or sync, one a line, with the file
+calls() {
+    strace -f -y -s 0 -e trace=fsync,fdatasync,link,linkat,pwrite64,flock -o trace "$@" >said 2>told
+    sed -n 's/^[0-9]* *\([a-z0-9]*\)(.*<\([^>]*\)>.*/\1 \2/p; s/^[0-9]* *\(link\|linkat\)(.*/link/p' trace | sed "s|$folder/*||; s| $| .|; s/\.[0-9a-f]\{16\}\.new/.new/" >got
+}
+
+# expect NAME WANTED: compares the calls with a printf format
+expect() {
+    printf "$2" >wanted
+    if cmp -s got wanted; then
+        passed=$((passed + 1))
+    else
+        failed=$((failed + 1))
+        echo "$1: got"
+        cat got
+    fi
+}
+
+if [ -x "$devices" ]; then
+    calls "$devices" store q </dev/null
+    expect 'a store that is made: locked, synced, linked, and its folder synced' 'flock q.new\nfsync q.new\nlink\nfsync .\n'
+    calls "$devices" store q </dev/null
+    expect 'a store that is there: locked, and its folder synced' 'flock q\nfsync .\n'
+    printf 'one\ntwo\n' | calls "$devices" send d fsync
+    expect 'a destination made under fsync: its folder, and then the frames' 'fsync .\nfdatasync d\n'
+    printf 'one\ntwo\n' | calls "$devices" send d fsync
+    expect 'a destination that is there' 'fdatasync d\n'
+    printf 'one\ntwo\n' | calls "$devices" send e
+    expect 'a destination without fsync' ''
+fi
+if [ -x "$program" ]; then
+    printf '@version: 4.2\nsource s { file("in" flags(no-parse)); };\ndestination d { file("out" template("$MSG\\n")); };\nlog { source(s); destination(d); flags(flow-control); };\n' >c
+    printf 'one\ntwo\n' >in
+    calls "$program" run c --once
+    expect 'a run: each put of a position is two writes, each synced' 'flock pos-in.new\nfsync pos-in.new\nlink\nfsync .\npwrite64 pos-in\nfsync pos-in\npwrite64 pos-in\nfsync pos-in\n'
+    calls "$program" run c --once
+    expect 'a run with nothing new' 'flock pos-in\nfsync .\n'
+fi
+echo "$passed passed, $failed failed"
+[ $failed = 0 ]
