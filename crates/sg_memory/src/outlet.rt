@@ -103,13 +103,14 @@ fn take_first(taken: &mut Frames, frames: &Frames, wanted: usize) -> usize
     ensures taken { taken.new ≡ taken.old ++ take result frames.now }
     ensures bound { result ≤ wanted }
 {
-    let mut start = 0;
+    let mut rest = frames.bytes();
     let mut count = 0;
     for size in &frames.sizes()[..wanted] {
-        if taken.push(&frames.bytes()[start..start + *size]).is_err() {
+        let (frame, behind) = rest.split_at(*size);
+        if taken.push(frame).is_err() {
             return count;
         }
-        start += *size;
+        rest = behind;
         count += 1;
     }
     count

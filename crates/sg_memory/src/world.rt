@@ -1,5 +1,5 @@
 // A machine in memory: files by name, devices over them, and the bytes said.
-ghost use Rattle.std.specs.Prelude.{◌≡◌, ◌||◌, ◌++◌, ◌∷◌, [], not, MatchResult, IfOk, OnOk, OnErr};
+ghost use Rattle.std.specs.Prelude.{◌≡◌, ◌||◌, ◌++◌, ◌∷◌, [], is_none, MatchResult, IfOk, OnOk, OnErr};
 ghost use Rattle.std.specs.Bool.{OnTrue};
 ghost use Rattle.sg_device.specs.Faults.{Rose};
 ghost use Rattle.sg_outside.specs.World.{Reads, InletOpens, InletRefused, OutletOpens, OutletRefused, StoreOpens, StoreRefused, PathsOpen, PathsRefused, ClosesInlet, ClosesOutlet, ClosesStore, ClosesPaths, OnlyBuilds, Says};
@@ -181,7 +181,7 @@ impl MemoryWorld {
         ensures quiet { AreQuiet self.old.plans → AreQuiet self.new.plans }
         ensures quiet_inlet { IfOk result (λ opened. AreQuiet self.old.plans → IsQuiet opened.0.inlet.plan) }
     {
-        if self.plans.inlet_opens.next() || !self.has_file(spec) {
+        if self.plans.inlet_opens.next() || self.lacks_file(spec) {
             self.inlet_faults = self.inlet_faults.saturating_add(1);
             return Err(OpenRefusal::Failed);
         }
@@ -190,13 +190,13 @@ impl MemoryWorld {
         Ok(self.begin_inlet(alloc, opened, inlet)?)
     }
 
-    // Whether the file is there that is asked for, if one is.
-    fn has_file(&self, spec: &InletSpec) -> bool
-        ensures { result ≡ not (lacks_file self.now.files.items spec.now) }
+    // Whether a file is asked for that isn't there.
+    fn lacks_file(&self, spec: &InletSpec) -> bool
+        ensures { result ≡ lacks_file self.now.files.items spec.now }
     {
         match spec {
-            InletSpec::File { path, .. } => find(&self.files, path.bytes()).is_some(),
-            InletSpec::Slot { .. } => true,
+            InletSpec::File { path, .. } => find(&self.files, path.bytes()).is_none(),
+            InletSpec::Slot { .. } => false,
         }
     }
 
