@@ -230,6 +230,60 @@ fn taken(alloc: Global, world: &MemoryWorld) -> Result<Vec<u8>, AllocError> {
     Ok(bytes)
 }
 
+/// Whether a run for these words ends with this status, and begins with this what it says.
+fn answers(alloc: Global, words: &[Name], code: u8, said: &[u8]) -> Result<bool, AllocError> {
+    let mut machine = with_input(alloc, b"")?;
+    let status = daemon(alloc, words, &mut machine);
+    Ok(status.code() == code && machine.world.said().starts_with(said))
+}
+
+/// Whether other words, a file that is no configuration and one that isn't there are told.
+fn tells_what_is_wrong(alloc: Global) -> Result<bool, AllocError> {
+    let bad = words(alloc, b"bad")?;
+    let none = words(alloc, b"none")?;
+    Ok(
+        answers(alloc, &[], 1, b"usage: syslogr check FILE")?
+            && answers(alloc, &bad, 2, b"bad:1: version not supported\n")?
+            && answers(alloc, &none, 3, b"cannot read none\n")?,
+    )
+}
+
+/// Whether a definition that names the one before twice, on each line from the third, is too long on
+/// the 18th.
+fn doubling_is_too_long(alloc: Global) -> Result<bool, Fail> {
+    let mut config = b"@version: 4.2\n@define a0 \"0123456789\"\n".to_vec(alloc)?;
+    for k in 1..21u32 {
+        let line = format!(in alloc; "@define a{} \"`a{}``a{}`\"\n", k, k - 1, k - 1)?;
+        config.extend_from_slice(line.as_bytes())?;
+    }
+    let mut machine = with_config(alloc, &config)?;
+    let status = daemon(alloc, &words(alloc, b"c")?, &mut machine);
+    let said = b"c:18: configuration too long\n".as_slice();
+    Ok(status.code() == 2 && machine.world.said() == said)
+}
+
+/// Whether a second run takes the new lines alone.
+fn takes_new_lines_alone(alloc: Global) -> Result<bool, AllocError> {
+    let words = words(alloc, b"c")?;
+    let mut first = with_input(alloc, b"one\ntw")?;
+    let status = daemon(alloc, &words, &mut first);
+    if status.code() != 0 || taken(alloc, &first.world)?.as_slice() != b"one\n".as_slice() {
+        return Ok(false);
+    }
+    let MemoryMachine { world: before } = first;
+    let MemoryMachine { mut world } = with_input(alloc, b"one\ntwo\nthree\n")?;
+    world.stores = before.stores;
+    let mut second = MemoryMachine { world };
+    let status = daemon(alloc, &words, &mut second);
+    let frames = taken(alloc, &second.world)?;
+    let said = b"source 0 records 2 bad-frames 0 position 14\n";
+    Ok(
+        status.code() == 0
+            && frames.as_slice() == b"two\nthree\n".as_slice()
+            && second.world.said().starts_with(said),
+    )
+}
+
 #[test]
 fn runs(rt: HostRuntime) -> Result<(), Fail> {
     let alloc = rt.alloc();
@@ -247,35 +301,7 @@ fn runs(rt: HostRuntime) -> Result<(), Fail> {
         assert_eq!(rt; taken(alloc, &machine.world)?, bytes(alloc, frames)?);
         assert_eq!(rt; machine.world.said(), bytes(alloc, said)?.as_slice());
     }
-    Ok(())
-}
-
-#[test]
-fn other_words_and_texts(rt: HostRuntime) -> Result<(), Fail> {
-    let alloc = rt.alloc();
-    let mut machine = with_input(alloc, b"")?;
-    assert_eq!(rt; daemon(alloc, &[], &mut machine).code(), 1);
-    assert!(rt;
-        machine
-            .world
-            .said()
-            .starts_with(b"usage: syslogr check FILE")
-    );
-    let mut machine = with_input(alloc, b"")?;
-    assert_eq!(rt;
-        daemon(alloc, &words(alloc, b"bad")?, &mut machine).code(),
-        2
-    );
-    assert_eq!(rt;
-        machine.world.said(),
-        b"bad:1: version not supported\n".as_slice()
-    );
-    let mut machine = with_input(alloc, b"")?;
-    assert_eq!(rt;
-        daemon(alloc, &words(alloc, b"none")?, &mut machine).code(),
-        3
-    );
-    assert_eq!(rt; machine.world.said(), b"cannot read none\n".as_slice());
+    assert!(rt; takes_new_lines_alone(alloc)?);
     Ok(())
 }
 
@@ -284,7 +310,7 @@ fn texts(rt: HostRuntime) -> Result<(), Fail> {
     let alloc = rt.alloc();
     for row in TEXTS.lines() {
         let Some((config, rest)) = row.split_once(" => ") else {
-            continue;
+            return Err(Fail::new("a row"));
         };
         let (code, said) = rest.split_once(" => ").unwrap_or((rest, ""));
         let said = if code == "0" { DONE } else { said };
@@ -295,50 +321,7 @@ fn texts(rt: HostRuntime) -> Result<(), Fail> {
         assert_eq!(rt; Ok(status.code()), code.parse());
         assert_eq!(rt; taken(alloc, &machine.world)?, bytes(alloc, frames)?);
     }
-    Ok(())
-}
-
-/// A definition that names the one before twice, on each line from the third: on the 18th the whole is
-/// too long.
-#[test]
-fn doubling_is_too_long(rt: HostRuntime) -> Result<(), Fail> {
-    let alloc = rt.alloc();
-    let mut config = b"@version: 4.2\n@define a0 \"0123456789\"\n".to_vec(alloc)?;
-    for k in 1..21u32 {
-        let line = format!(in alloc; "@define a{} \"`a{}``a{}`\"\n", k, k - 1, k - 1)?;
-        config.extend_from_slice(line.as_bytes())?;
-    }
-    let mut machine = with_config(alloc, &config)?;
-    let status = daemon(alloc, &words(alloc, b"c")?, &mut machine);
-    assert_eq!(rt; status.code(), 2);
-    assert_eq!(rt;
-        machine.world.said(),
-        b"c:18: configuration too long\n".as_slice()
-    );
-    Ok(())
-}
-
-#[test]
-fn a_second_run_takes_new_lines_alone(rt: HostRuntime) -> Result<(), Fail> {
-    let alloc = rt.alloc();
-    let words = words(alloc, b"c")?;
-    let mut first = with_input(alloc, b"one\ntw")?;
-    assert_eq!(rt; daemon(alloc, &words, &mut first).code(), 0);
-    assert_eq!(rt; taken(alloc, &first.world)?.as_slice(), b"one\n".as_slice());
-    let MemoryMachine { world: before } = first;
-    let MemoryMachine { mut world } = with_input(alloc, b"one\ntwo\nthree\n")?;
-    world.stores = before.stores;
-    let mut second = MemoryMachine { world };
-    assert_eq!(rt; daemon(alloc, &words, &mut second).code(), 0);
-    assert_eq!(rt;
-        taken(alloc, &second.world)?.as_slice(),
-        b"two\nthree\n".as_slice()
-    );
-    assert!(rt;
-        second
-            .world
-            .said()
-            .starts_with(b"source 0 records 2 bad-frames 0 position 14\n")
-    );
+    assert!(rt; tells_what_is_wrong(alloc)?);
+    assert!(rt; doubling_is_too_long(alloc)?);
     Ok(())
 }

@@ -490,6 +490,41 @@ const OPENINGS: [([usize; 2], [u64; 2], Option<CoreRefusal>); 7] = [
     ([127, 128], [u64::MAX, 0], Some(CoreRefusal::Damage(0, 127))),
 ];
 
+// Whether a core that wrote a position finds it when it is opened again, and gives it up by a rewind.
+fn keeps_its_place<T: Wait>(rt: &T, alloc: Global) -> Result<bool, Fail> {
+    let mut core = open(alloc, 1, 1, disks(alloc, [128, 128], [u64::MAX; 2])?)?;
+    let failed = core.failed(1);
+    let admitted = answers(
+        rt,
+        alloc,
+        &mut core,
+        Step::Admit(8, false, Some(Verdict::Queued)),
+    );
+    let settled = answers(rt, alloc, &mut core, Step::Settle(0, Settled::Done));
+    let stored = answers(rt, alloc, &mut core, Step::Store(Stored::Wrote(8)));
+    let disks = core.into_stores();
+    let done = !failed && admitted? && settled? && stored?;
+    if !done || disks.len() != 2 || !holds_eight(&disks[0]) {
+        return Ok(false);
+    }
+    let mut core = open(alloc, 1, 1, disks)?;
+    let places = (core.position(0), core.position(1));
+    let rewound = core.rewind(0);
+    let calls = core.calls();
+    let _disks = core.into_stores();
+    Ok(places == (8, 0) && rewound == Stored::Wrote(0) && calls == 1)
+}
+
+// Whether the core and the machine agree, also where a store fails from a call on.
+fn agree<T: Wait>(rt: &T, alloc: Global) -> Result<bool, Fail> {
+    for (stop, failed) in [(5, 1), (10, 1), (20, 1), (u64::MAX, 0)] {
+        if !agrees(rt, alloc, stop, failed)? {
+            return Ok(false);
+        }
+    }
+    Ok(true)
+}
+
 #[test]
 fn openings(rt: HostRuntime) -> Result<(), Fail> {
     let alloc = rt.alloc();
@@ -503,6 +538,7 @@ fn openings(rt: HostRuntime) -> Result<(), Fail> {
         };
         assert!(rt; refusal == expected);
     }
+    assert!(rt; keeps_its_place(&rt, alloc)?);
     Ok(())
 }
 
@@ -521,40 +557,6 @@ fn runs(rt: HostRuntime) -> Result<(), Fail> {
         let _disks = core.into_stores();
         assert!(rt; answered?);
     }
-    Ok(())
-}
-
-#[test]
-fn replays(rt: HostRuntime) -> Result<(), Fail> {
-    let alloc = rt.alloc();
-    for (stop, failed) in [(5, 1), (10, 1), (20, 1), (u64::MAX, 0)] {
-        assert!(rt; agrees(&rt, alloc, stop, failed)?);
-    }
-    Ok(())
-}
-
-#[test]
-fn positions(rt: HostRuntime) -> Result<(), Fail> {
-    let alloc = rt.alloc();
-    let mut core = open(alloc, 1, 1, disks(alloc, [128, 128], [u64::MAX; 2])?)?;
-    let failed = core.failed(1);
-    let admitted = answers(
-        &rt,
-        alloc,
-        &mut core,
-        Step::Admit(8, false, Some(Verdict::Queued)),
-    );
-    let settled = answers(&rt, alloc, &mut core, Step::Settle(0, Settled::Done));
-    let stored = answers(&rt, alloc, &mut core, Step::Store(Stored::Wrote(8)));
-    let disks = core.into_stores();
-    assert!(rt; !failed && admitted? && settled? && stored?);
-    assert!(rt; disks.len() == 2 && holds_eight(&disks[0]));
-    let mut core = open(alloc, 1, 1, disks)?;
-    let places = (core.position(0), core.position(1));
-    let rewound = core.rewind(0);
-    let calls = core.calls();
-    let _disks = core.into_stores();
-    assert!(rt; places == (8, 0));
-    assert!(rt; rewound == Stored::Wrote(0) && calls == 1);
+    assert!(rt; agree(&rt, alloc)?);
     Ok(())
 }
