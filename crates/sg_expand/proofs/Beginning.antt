@@ -1,8 +1,6 @@
 -- The main file, from its text to the answer.
-use Rattle.std.proofs.Common.{◌≡◌, ℕ, ◌+◌, ◌≤◌, true, List, [], ◌∷◌, Option, Some, Result, Ok, Err, Vec, refl, ap, sym, ◌∙◌, subst, arith}
+use Rattle.std.proofs.Common.{◌≡◌, ℕ, ◌≤◌, true, List, [], ◌∷◌, Some, Result, Ok, Err, refl, ap, sym, subst, arith}
 use Rattle.std.specs.Prelude.{reverse}
-use Rattle.std.specs.FinMap as map
-use Rattle.std.specs.declared.alloc.Global.{Global}
 use Rattle.sg_device.specs.Faults.{Rose}
 use Rattle.sg_outside.specs.World.{WorldState}
 use Rattle.sg_lex.specs.declared.token.Token.{Token}

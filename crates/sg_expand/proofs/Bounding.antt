@@ -1,9 +1,8 @@
 -- The tokens that came out are never more than the total.
-use Rattle.std.proofs.Common.{◌≡◌, ℕ, ◌+◌, ◌<◌, ◌≤◌, ⊎_elim, Bool, true, false, cond, nat_le, List, [], ◌∷◌, ◌++◌, length, drop, Option, Some, None, Result, Ok, Err, Vec, refl, sym, subst, ◌∙◌, arith}
+use Rattle.std.proofs.Common.{◌≡◌, ℕ, ◌+◌, ◌<◌, ◌≤◌, ⊎_elim, Bool, true, false, cond, nat_le, List, [], ◌∷◌, length, drop, Option, Some, None, Result, Ok, Err, refl, sym, subst, ◌∙◌, arith}
 use Rattle.std.specs.Prelude.{slice_get, ◌&&◌, ◌||◌, ◌==◌, codes}
 use Rattle.std.specs.Str.{bytes_eq}
 use Rattle.std.specs.FinMap as map
-use Rattle.std.specs.declared.alloc.Global.{Global}
 use Rattle.std.proofs.lemmas.Bool.{cases_lt, le-leb, lt-leb}
 use Rattle.std.proofs.lemmas.List.{length-append}
 use Rattle.sg_outside.specs.World.{WorldState}
@@ -11,29 +10,28 @@ use Rattle.sg_list.specs.Lists.{passes_at}
 use Rattle.sg_lex.specs.declared.token.Token.{Token}
 use Rattle.sg_lex.specs.declared.fault.ConfigKind.TheVariants.{IncludeDepth, MissingArgument, UnknownArgument, TooLong, Unsupported, Version}
 use Rattle.sg_lex.specs.Tokens.{tokens_of}
-use Rattle.sg_block.specs.Arguments.{is_missing, is_unknown, bindings}
+use Rattle.sg_block.specs.Arguments.{is_missing, is_unknown}
 use Rattle.sg_block.specs.Forms.{Use, definition, use_form}
 use Rattle.sg_block.specs.Tokens.{is_word, is_tick, is_front, token_size, line_of, text_at, line_at}
-use Rattle.sg_block.specs.Trimmed.{trimmed}
 use Rattle.sg_block.specs.Values.{reached, replaced}
 use Rattle.sg_block.specs.declared.form.Definition.{Definition}
 use Rattle.sg_block.specs.declared.token.Line.{Line}
 use Rattle.sg_expand.specs.declared.block.Block.{Block}
 use Rattle.sg_expand.specs.declared.frame.Context.{Context}
 use Rattle.sg_expand.specs.Bounded.{HoldsWithin, StaysWithin}
-use Rattle.sg_expand.specs.Expansion.{State, Outcome, Goes, Stops, Step, Ends, Moves, Faults, Includes, Uses, Job, Tokens, Binding, Runs, charged, emitted_by, emitted, plain_text, variable_tokens, plain, text_of, retold, is_in_reach, use_size, used, use_of, word_or_use, with_block, definition_or_word, is_version, begins_version, begins_define, begins_include, begins_ignored, version_read, with_variable, define_read, has_wildcard, named_file, included, include_read, front, step, with_out, with_file, body_context, file_context, file_tokens, lexed, first_context, first_state}
+use Rattle.sg_expand.specs.Expansion.{State, Outcome, Goes, Stops, Step, Ends, Moves, Faults, Includes, Uses, Job, Tokens, Runs, charged, emitted_by, plain_text, variable_tokens, plain, text_of, retold, is_in_reach, use_size, used, use_of, word_or_use, definition_or_word, is_version, begins_version, begins_define, begins_include, begins_ignored, version_read, with_variable, define_read, has_wildcard, named_file, included, include_read, front, step, with_out, with_file, file_tokens, lexed, first_context, first_state}
 use Rattle.sg_expand.specs.Expansion.Runs.{ends, moves, faults, includes, included_stops, file_faults, file_too_long, file_unread, uses, use_stops, binds, value_stops, body_runs}
 use Rattle.sg_expand.specs.Faults.{fault_at}
 use Rattle.sg_expand.specs.Total.{counted}
 
 -- so many tokens beside those that came out are no more than the total, which is within the limit
-abbrev Holds : ℕ → State → Type 0
+abbrev pub Holds : ℕ → State → Type 0
 Holds held s = (held + length s.out ≤ s.total) × (s.total ≤ 1048576)
 
-abbrev Keeps : State → State → Type 0
+abbrev pub Keeps : State → State → Type 0
 Keeps s next = (held : ℕ) → Holds held s → Holds held next
 
-abbrev StepKeeps : State → Step → Type 0
+abbrev pub StepKeeps : State → Step → Type 0
 StepKeeps s Ends = Unit {0}
 StepKeeps s (Moves fresh rest next) = Keeps s next
 StepKeeps s (Faults kind line) = Unit {0}
@@ -150,12 +148,12 @@ front-keeps context fresh tokens s =
     (keeps-if s (begins_ignored tokens) (Moves fresh (drop 2 tokens) s) (definition_or_word context fresh tokens s (definition tokens)) (λ held h. h)
     (definition-keeps context fresh tokens s (definition tokens)))))
 
-step-keeps : (context : Context) (fresh : Bool) (tokens : List Token) (s : State) (asked : Step) → step context fresh tokens s ≡ asked → StepKeeps s asked
+pub step-keeps : (context : Context) (fresh : Bool) (tokens : List Token) (s : State) (asked : Step) → step context fresh tokens s ≡ asked → StepKeeps s asked
 step-keeps context fresh tokens s asked e =
     subst (StepKeeps s) e (keeps-if s (begins_include tokens) (include_read context tokens s) (front context fresh tokens s) (include-keeps context tokens s) (front-keeps context fresh tokens s))
 
 -- the bytes of a file that are counted
-file-keeps : (line : Line) (name text : List ℕ) (s : State) (found : List Token) → file_tokens line s text ≡ Ok found → Keeps s (with_file name text s)
+pub file-keeps : (line : Line) (name text : List ℕ) (s : State) (found : List Token) → file_tokens line s text ≡ Ok found → Keeps s (with_file name text s)
 file-keeps line name text s found e =
     ⊎_elim (λ (over : 1048576 < s.total + (length text + 1)). let wrong : Err (fault_at TooLong line) ≡ Ok found = sym (fork (lt-leb (s.total + (length text + 1)) 1048576 over)) ∙ e in cc)
     (λ (fits : s.total + (length text + 1) ≤ 1048576). charge-keeps (length text + 1) s (with_file name text s) refl refl fits)

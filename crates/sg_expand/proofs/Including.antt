@@ -1,5 +1,5 @@
 -- What a step does, from what its parts do.
-use Rattle.std.proofs.Common.{◌≡◌, ℕ, Bool, true, List, [], ◌∷◌, ◌++◌, Result, Ok, Err, inl, refl, sym, subst}
+use Rattle.std.proofs.Common.{◌≡◌, ℕ, Bool, List, Result, Ok, Err, inl, refl, sym, subst}
 use Rattle.std.specs.Prelude.{Vec}
 use Rattle.std.specs.declared.alloc.Global.{Global}
 use Rattle.sg_outside.specs.World.{WorldState, Reads}
@@ -9,7 +9,7 @@ use Rattle.sg_expand.specs.declared.expander.Expander.{Expander}
 use Rattle.sg_expand.specs.declared.fault.Stop.{Stop}
 use Rattle.sg_expand.specs.declared.fault.Stop.TheVariants.{Fault, ReadFault, NoMemory}
 use Rattle.sg_expand.specs.declared.frame.Context.{Context}
-use Rattle.sg_expand.specs.Expansion.{State, Step, Ends, Moves, Faults, Includes, Uses}
+use Rattle.sg_expand.specs.Expansion.{Step, Ends, Moves, Faults, Includes, Uses}
 use Rattle.sg_expand.specs.Machine.{Does, DoesInclude, DoesStep, NamesFile, TakesFile, state_of}
 
 -- want of memory is free

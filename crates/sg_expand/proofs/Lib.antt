@@ -12,3 +12,4 @@ pub mod OneRun
 pub mod Places
 pub mod PlacesStep
 pub mod PlacesRun
+pub mod Turns

@@ -1,5 +1,5 @@
 -- What a derivation does first.
-use Rattle.std.proofs.Common.{◌≡◌, ℕ, ◌+◌, Bool, true, false, List, [], ◌∷◌, ◌++◌, length, Result, Ok, Err, Vec, refl, sym, subst}
+use Rattle.std.proofs.Common.{◌≡◌, ℕ, Bool, true, false, List, [], ◌∷◌, ◌++◌, Result, Ok, Err, Vec, refl, sym, subst}
 use Rattle.std.specs.FinMap as map
 use Rattle.std.specs.declared.alloc.Global.{Global}
 use Rattle.sg_outside.specs.World.{WorldState, Reads}

@@ -10,7 +10,7 @@ use Rattle.sg_lex.specs.declared.fault.ConfigFault.{ConfigFault}
 use Rattle.sg_lex.specs.declared.fault.ConfigKind.TheVariants.{TooLong}
 use Rattle.sg_block.specs.Arguments.{bindings}
 use Rattle.sg_expand.specs.declared.frame.Context.{Context}
-use Rattle.sg_expand.specs.Expansion.{State, Outcome, Goes, Stops, Refusal, Faulty, Unread, Step, Ends, Moves, Faults, Includes, Uses, step, Job, Tokens, Binding, Runs, file_context, file_tokens, with_file, with_out, main_tokens, first_state, RunsTokens, RunsMain}
+use Rattle.sg_expand.specs.Expansion.{State, Outcome, Goes, Stops, Faulty, Unread, Step, Ends, Moves, Faults, Includes, Uses, step, Job, Tokens, Binding, Runs, file_context, file_tokens, with_file, with_out, main_tokens, first_state, RunsTokens, RunsMain}
 use Rattle.sg_expand.specs.Expansion.Runs.{ends, moves, faults, includes, included_stops, file_faults, file_too_long, file_unread, uses, use_stops, binds, value_stops, body_runs}
 use Rattle.sg_expand.specs.Faults.{fault_at}
 use Rattle.sg_expand.specs.One.{AreAlike}

@@ -16,7 +16,7 @@ use Rattle.sg_block.specs.Arguments.{has_name, last_named, defaults, bindings}
 use Rattle.sg_block.specs.Brackets.{Parted, bracket, open_behind, inner_behind, parted_behind, inside, bracketed}
 use Rattle.sg_block.specs.Forms.{Next, Use, separated, argument_of, next_argument, and_others, arguments_within, arguments, begins_definition, with_body, defined, definition, given_in, use_form}
 use Rattle.sg_expand.specs.Total.{counted}
-use Rattle.sg_block.specs.Tokens.{is_word, is_symbol, token_size, size_of, line_of, text_at, line_at}
+use Rattle.sg_block.specs.Tokens.{is_word, is_symbol, token_size, line_of, text_at, line_at}
 use Rattle.sg_block.specs.Trimmed.{trimmed}
 use Rattle.sg_block.specs.Values.{Values, first_of, reached}
 

@@ -1,5 +1,5 @@
 -- An expansion's faults stand in files that were read.
-use Rattle.std.proofs.Common.{◌≡◌, ℕ, zero, suc, ◌+◌, ◌-◌, ◌<◌, ◌≤◌, Bool, true, false, cond, ◌&&◌, nat_le, drop, List, [], ◌∷◌, ◌++◌, length, Option, Result, Ok, Err, refl, sym, subst, arith}
+use Rattle.std.proofs.Common.{◌≡◌, ℕ, zero, suc, ◌+◌, ◌-◌, ◌<◌, ◌≤◌, Bool, true, false, cond, ◌&&◌, nat_le, drop, List, [], ◌∷◌, ◌++◌, length, Result, Ok, Err, refl, sym, subst, arith}
 use Rattle.std.proofs.lemmas.List.{length-append}
 use Rattle.std.proofs.lemmas.List.Elements.{All-from_recursion}
 use Rattle.std.specs.List.{All}
@@ -27,7 +27,7 @@ use Rattle.sg_block.specs.declared.token.Line.{Line}
 use Rattle.sg_expand.specs.Places.{IsPlaced}
 use Rattle.sg_block.specs.Tokens.{text_at}
 use Rattle.sg_block.specs.Values.{Values}
-use Rattle.sg_expand.proofs.Places.{IfThere, Tabled, IsOf, AreOf, ArgumentOf, ArgumentsOf, BlockOf, each-drop, each-weaker, there-weaker, tabled-empty, tabled-insert, tabled-weaker, bindings-of, trimmed-of}
+use Rattle.sg_expand.proofs.Places.{Tabled, IsOf, AreOf, ArgumentOf, ArgumentsOf, BlockOf, each-drop, each-weaker, tabled-empty, tabled-insert, tabled-weaker, bindings-of, trimmed-of}
 use Rattle.sg_expand.proofs.PlacesStep.{StateOf, ContextOf, StepOf, step-of}
 
 -- what a text is lexed to stands in its file

@@ -1,5 +1,5 @@
 -- What the front of a token list asks for stands in files that were read.
-use Rattle.std.proofs.Common.{◌≡◌, ℕ, ◌+◌, ◌<◌, Bool, true, false, cond, nat_le, List, [], ◌∷◌, length, drop, Option, Some, None, Result, Ok, Err}
+use Rattle.std.proofs.Common.{◌≡◌, ℕ, ◌+◌, ◌<◌, Bool, true, false, cond, nat_le, List, length, drop, Option, Some, None, Result, Ok, Err}
 use Rattle.std.specs.Prelude.{slice_get, ◌&&◌, ◌||◌, ◌==◌, codes}
 use Rattle.std.specs.Str.{bytes_eq}
 use Rattle.std.specs.FinMap.{get}
@@ -14,7 +14,7 @@ use Rattle.sg_block.specs.Arguments.{is_missing, is_unknown}
 use Rattle.sg_expand.specs.Expansion.{State, Step, Ends, Moves, Faults, Includes, Uses, charged, emitted_by, emitted, text_of, plain_text, variable_tokens, plain, is_in_reach, use_size, used, use_of, word_or_use, definition_or_word, is_version, begins_version, begins_define, begins_include, begins_ignored, version_read, retold, with_variable, define_read, has_wildcard, named_file, included, include_read, front, step}
 use Rattle.sg_block.specs.Forms.{Use, definition, use_form}
 use Rattle.sg_expand.specs.Total.{counted}
-use Rattle.sg_block.specs.Tokens.{is_word, is_tick, is_front, size_of, text_at, line_at}
+use Rattle.sg_block.specs.Tokens.{is_word, is_tick, is_front, text_at, line_at}
 use Rattle.sg_block.specs.Values.{reached, replaced}
 use Rattle.sg_expand.proofs.Places.{IfThere, Tabled, IsOf, AreOf, ArgumentsOf, BlockOf, DefinitionOf, UseOf, CountOf, each-drop, each-get, tabled-insert, line-of, definition-of, use_form-of, reached-of, counted-of, each-append}
 

@@ -1,5 +1,6 @@
 // The state of an expansion, and its end.
-ghost use Rattle.std.specs.Prelude.{◌≡◌, ◌≤◌, [], ◌∷◌, length, IfOk};
+ghost use Rattle.std.specs.Prelude.{◌≡◌, ◌≤◌, [], ◌∷◌, length, IfOk, OnOk};
+ghost use Rattle.sg_expand.specs.Bounded.{IsBounded};
 ghost use Rattle.sg_lex.specs.Tokens.{tokens_of};
 ghost use Rattle.sg_expand.specs.Lexed.{PlaceWithin, FaultIn};
 ghost use Rattle.sg_expand.specs.Expansion.{lexed, first_line, behind_version, main_tokens, IsExpanded};
@@ -119,6 +120,7 @@ impl Expander {
 
     /// Does what is to be done until nothing is left.
     fn work<F: Files>(&mut self, files: &mut F) -> Result<(), Stop>
+        requires bounded { IsBounded self.old.frames.items self.old }
         ensures does { Works self.old (F.state files.old) self.new (F.state files.new) result }
         ensures reads { OnlyReads (F.state files.old) (F.state files.new) }
     {
@@ -131,8 +133,11 @@ impl Expander {
         Err(Stop::NoMemory)
     }
 
-    /// Does what was to be done first.
+    /// Does what was to be done first. The tokens of the list and of the values that are expanded are
+    /// together at most 1,048,576 before and after it.
     fn do_frame<F: Files>(&mut self, files: &mut F, frame: Frame) -> Result<(), Stop>
+        requires bounded { IsBounded (frame ∷ self.old.frames.items) self.old }
+        ensures bounded { OnOk result (IsBounded self.new.frames.items self.new) }
         ensures does { DoesFrame frame self.old (F.state files.old) self.new (F.state files.new) result }
         ensures reads { OnlyReads (F.state files.old) (F.state files.new) }
     {
@@ -162,7 +167,8 @@ impl Expander {
     }
 
     fn run<F: Files>(&mut self, files: &mut F, text: &[u8]) -> Result<(), Stop>
-        requires { self.old.frames.items ≡ [] }
+        requires empty { self.old.frames.items ≡ [] }
+        requires bounded { IsBounded [] self.old }
         ensures does { RunsWhole text.now self.old (F.state files.old) self.new (F.state files.new) result }
         ensures reads { OnlyReads (F.state files.old) (F.state files.new) }
     {

@@ -3,7 +3,7 @@ use Rattle.std.proofs.Common.{◌≡◌, ℕ, ◌≤◌, List, ◌∷◌, ◌++�
 use Rattle.std.specs.List.{prefix_len}
 use Rattle.std.proofs.Math.Seq.{drop-append_seam}
 use Rattle.std.proofs.lemmas.List.{take-append-drop, length-take-le}
-use Rattle.sg_msg.specs.Sets.{is_print}
+use Rattle.sg_msg.specs.Sets.{is_print, is_sd_byte}
 use Rattle.sg_r5424.specs.Data.{IsName}
 use Rattle.sg_r5424.specs.Grammar.{IsField}
 use Rattle.sg_r5424.proofs.RunLemmas.{run_len, run_stops, run_passes, cut_same}

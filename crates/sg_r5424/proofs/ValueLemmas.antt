@@ -4,6 +4,7 @@ use Rattle.std.specs.List.{list_any}
 use Rattle.std.proofs.lemmas.Bool.{true≢false, false≢true, eqb-true}
 use Rattle.std.proofs.lemmas.List.{drop_all}
 use Rattle.std.proofs.Math.Seq.{take-append_seam, drop-append_seam}
+use Rattle.sg_msg.specs.Sets.{is_escaped}
 use Rattle.sg_r5424.specs.Values.{is_bare, Spells, IsValue, quote_from, unescaped_byte, unescaped_from}
 use Rattle.sg_r5424.specs.Values.Spells.{none, escaped, backslash, plain}
 use Rattle.sg_r5424.proofs.RunLemmas.{cut_same}

@@ -536,13 +536,13 @@ fn push_times(text: &mut Vec<u8>, count: usize, bytes: &[u8]) -> Result<(), NoMe
     Ok(())
 }
 
-/// Uses in the values of uses, 6,800 deep, over a variable of 10,000 bytes.
+/// Uses in the values of uses, 1,000 deep, over a variable of 10,000 bytes.
 fn push_nested(text: &mut Vec<u8>) -> Result<(), NoMemory> {
     push_definition(text, b'V', 10_000)?;
     text.extend_from_slice(b"block root a(k()) {`k`};\n")?;
-    push_times(text, 6_800, b"{a(k(")?;
+    push_times(text, 1_000, b"{a(k(")?;
     text.extend_from_slice(b"`V`")?;
-    push_times(text, 6_800, b"))}")?;
+    push_times(text, 1_000, b"))}")?;
     Ok(())
 }
 
@@ -566,7 +566,7 @@ fn made_text(alloc: Global, name: &str) -> Result<Vec<u8>, NoMemory> {
         "pairs" => push_pairs(&mut text, alloc)?,
         "defaults" => {
             text.extend_from_slice(b"block root a(")?;
-            push_times(&mut text, 10_000, b"k(@module x)")?;
+            push_times(&mut text, 1_000, b"k(@module x)")?;
             text.extend_from_slice(b") {};\n")?;
             push_times(&mut text, 100, b"{a();}")?;
         }

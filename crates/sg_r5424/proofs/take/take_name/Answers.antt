@@ -3,6 +3,7 @@ use Rattle.std.specs.List.{prefix_len}
 use Rattle.sg_r5424.specs.Data.{IsName}
 use Rattle.sg_r5424.proofs.NameLemmas.{name_len_is, name_found}
 use Rattle.sg_r5424.proofs.take.take_name.Goals.{then-len-eq0-via-then-len-eq0, then-len-eq0-via-else-len-eq0+then-len-gt32}
+use Rattle.sg_msg.specs.Sets.{is_sd_byte}
 use Rattle.sg_r5424.proofs.take.take_name.Goals as goal
 
 pub returns-then-len-eq0 : goal.returns-then-len-eq0

@@ -4,17 +4,19 @@ use Rattle.sg_expand.specs.Expansion.{Goes}
 use Rattle.sg_expand.specs.Machine.{state_of}
 use Rattle.sg_expand.specs.Pending.{Leads}
 use Rattle.sg_expand.proofs.Reading.{reads-same, reads-then}
+use Rattle.sg_expand.proofs.Turns.{popped-bounded}
 use Rattle.sg_expand.proofs.Turning.{answers-then, ends-here, frame-leads}
 use Rattle.sg_expand.proofs.expander.Expander.work.Goals as goal
 
 pub steps-init : goal.steps-init
-steps-init g c = record { leads = λ o h. h; reads = reads-same (g.F.Machine.state c.args.files.now) }
+steps-init g c = record { leads = λ o h. h; bounded = c.requires.bounded; reads = reads-same (g.F.Machine.state c.args.files.now) }
 
 pub steps-preserved : goal.steps-preserved
 steps-preserved g c =
     let world = g.F.Machine.state c.steps.files in
     record {
       leads = λ o h. c.steps.invariant.leads o (frame-leads c.steps.self.frames.items c.pop.new.self.items c.in-Some.frame (state_of c.steps.self) world o c.in-Some.ensures.items (c.in_ok-do_frame-in-Some.ensures.does o h));
+      bounded = c.in_ok-do_frame-in-Some.ensures.bounded;
       reads = reads-then (g.F.Machine.state c.args.files.now) world (g.F.Machine.state c.do_frame.new.files) c.steps.invariant.reads c.do_frame.ensures.reads;
     }
 
@@ -41,3 +43,6 @@ returns-in_err-do_frame-in-Some-clause-does g c =
 pub returns-in_err-do_frame-in-Some-clause-reads : goal.returns-in_err-do_frame-in-Some-clause-reads
 returns-in_err-do_frame-in-Some-clause-reads g c =
     reads-then (g.F.Machine.state c.args.files.now) (g.F.Machine.state c.steps.files) (g.F.Machine.state c.do_frame.new.files) c.steps.invariant.reads c.do_frame.ensures.reads
+
+pub do_frame-requires : goal.do_frame-requires
+do_frame-requires g c = record { bounded = popped-bounded c.steps.self.frames.items c.pop.new.self c.in-Some.frame c.steps.self c.in-Some.ensures.items c.steps.invariant.bounded }
