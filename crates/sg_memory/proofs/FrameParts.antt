@@ -17,7 +17,7 @@ frame-there (frame ∷ frames) zero lt = take_at frame (joined frames) (length f
 frame-there (frame ∷ frames) (suc i) lt =
     let rest : drop (length frame) (frame ++ joined frames) ≡ joined frames = drop_at frame (joined frames) (length frame) refl in
     let behind : drop (length frame + total (take i (map length frames))) (frame ++ joined frames) ≡ drop (total (take i (map length frames))) (joined frames) =
-        sym (drop-drop (total (take i (map length frames))) (length frame) (frame ++ joined frames)) ∙ ap (λ (l : List ℕ). drop (total (take i (map length frames))) l) rest in
+    sym (drop-drop (total (take i (map length frames))) (length frame) (frame ++ joined frames)) ∙ ap (λ (l : List ℕ). drop (total (take i (map length frames))) l) rest in
     ap (λ (l : List ℕ). take (get_or (map length frames) i 0) l) behind ∙ frame-there frames i (omega (arith, lt))
 
 -- the sizes up to and with this one

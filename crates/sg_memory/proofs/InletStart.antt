@@ -1,12 +1,12 @@
 -- Inlets at their opening.
-use Rattle.std.proofs.Common.{◌≡◌, ◌∙◌, ◌<◌, ◌≤◌, ◌^◌, ℕ, List, drop, refl, sym, ap, subst, arith}
-use Rattle.std.specs.Prelude.{Option, Some, None, Bool, true, false, is_none}
+use Rattle.std.proofs.Common.{◌≡◌, ◌∙◌, ◌<◌, ◌^◌, ℕ, List, refl, sym, ap, arith}
+use Rattle.std.specs.Prelude.{Option, Some, None, true, false, is_none}
 use Rattle.sg_device.specs.Inlet.{InletState, IsFresh}
-use Rattle.sg_outside.specs.World.{WorldState, LeavesFile, StandsIn, place_in, with_opened}
+use Rattle.sg_outside.specs.World.{WorldState, LeavesFile, StandsIn, with_opened}
 use Rattle.sg_outside.specs.declared.request.InletSpec.{InletSpec}
 use Rattle.sg_outside.specs.declared.request.InletSpec.TheVariants.{File, Slot}
 use Rattle.sg_memory.specs.Files.{file_of}
-use Rattle.sg_memory.specs.Inlet.{file_start, slot_start}
+use Rattle.sg_memory.specs.Inlet.{file_start}
 use Rattle.sg_memory.specs.World.{start_of, opened_state, lacks_file, IsRest, IsSource, with_inlet}
 use Rattle.sg_memory.specs.declared.files.MemoryFile.{MemoryFile}
 use Rattle.sg_memory.specs.declared.opening.OpenedInlet.{OpenedInlet}

@@ -1,5 +1,5 @@
 -- A file or a slot in memory that is read.
-use Rattle.std.specs.Prelude.{◌≡◌, ℕ, ◌+◌, ◌-◌, ◌^◌, ◌==◌, ◌||◌, ◌&&◌, not, min, List, [], ◌∷◌, ◌++◌, Some, None, Bool, true, false, is_some, if◌then◌else◌, codes, map, length, Result, Ok, Err}
+use Rattle.std.specs.Prelude.{◌≡◌, ℕ, ◌+◌, ◌-◌, ◌^◌, ◌==◌, ◌||◌, ◌&&◌, not, min, List, [], ◌∷◌, Some, None, Bool, true, false, is_some, if◌then◌else◌, codes, map, length, Result, Ok, Err}
 use Rattle.sg_device.specs.Inlet.{InletState}
 use Rattle.sg_device.specs.declared.fault.InletFault.{InletFault}
 use Rattle.sg_device.specs.declared.inlet.Pull.{Pull}

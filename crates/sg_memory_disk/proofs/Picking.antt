@@ -1,5 +1,5 @@
 -- Images that are picked are images.
-use Rattle.std.proofs.Common.{◌≡◌, inl, ℕ, suc, ◌+◌, ◌-◌, ◌<◌, ◌≤◌, min, Some, List, [], ◌∷◌, ◌++◌, length, get_or, take, drop, replicate, refl, sym, ◌∙◌, ap, subst, arith, length-take}
+use Rattle.std.proofs.Common.{◌≡◌, inl, ℕ, ◌+◌, ◌-◌, ◌<◌, ◌≤◌, min, Some, List, [], ◌∷◌, ◌++◌, length, get_or, take, replicate, refl, sym, ◌∙◌, ap, subst, arith, length-take}
 use Rattle.std.proofs.lemmas.List.{length-replicate, take_more, take_all}
 use Rattle.sg_device.specs.Disk.{DiskEvent, Wrote, Tore, Synced, Lost, bytes_after, IsLeft, IsImage}
 use Rattle.sg_device.specs.DiskBytes.{Torn, Written, overlaid}

@@ -4,6 +4,7 @@ pub mod DiskChange
 pub mod MemoryDisk
 pub mod MemoryDiskLaws
 pub mod Pick
+pub mod Images
 pub mod Tear
 pub mod Stores
 pub mod StoresLaws

@@ -1,5 +1,5 @@
 -- A law of disks in memory.
-use Rattle.std.proofs.Common.{◌≡◌, ◌<◌, ◌^◌, ◌∙◌, sym, subst, ℕ, List, length, Some}
+use Rattle.std.proofs.Common.{◌≡◌, ◌<◌, ◌^◌, ◌∙◌, subst, ℕ, List, length}
 use Rattle.sg_device.specs.Disk.{IsShort}
 use Rattle.sg_memory_disk.specs.declared.disk.MemoryDisk.{MemoryDisk}
 use Rattle.sg_memory_disk.specs.MemoryDisk.{disk_of}

@@ -1,5 +1,5 @@
 -- What calls of a disk in memory leave that fail.
-use Rattle.std.specs.Prelude.{◌≡◌, ◌⊎◌, ℕ, List, Option}
+use Rattle.std.specs.Prelude.{◌≡◌, ◌⊎◌, ℕ, List}
 use Rattle.std.specs.Option.{option_map}
 use Rattle.sg_device.specs.Disk.{Tore, Lost, IsImage, with_event}
 use Rattle.sg_memory_disk.specs.declared.disk.MemoryDisk.{MemoryDisk}

@@ -28,7 +28,16 @@ impl MemoryDisk {
             }
         };
         let size = from.len() as u64;
-        if tear_over(self.alloc, &mut self.bytes, &mut self.changes, at, size, &torn).is_err() {
+        if tear_over(
+            self.alloc,
+            &mut self.bytes,
+            &mut self.changes,
+            at,
+            size,
+            &torn,
+        )
+        .is_err()
+        {
             self.calls.starve();
         }
     }

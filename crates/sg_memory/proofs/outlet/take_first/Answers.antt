@@ -1,4 +1,4 @@
-use Rattle.std.proofs.Common.{◌≡◌, ◌∙◌, ◌<◌, ◌≤◌, ◌+◌, ◌++◌, [], ◌∷◌, ℕ, List, get_or, get_or-take, length, length-take, length-drop, take, drop, ap, sym, arith, rules}
+use Rattle.std.proofs.Common.{◌≡◌, ◌∙◌, ◌<◌, ◌+◌, ◌++◌, [], ◌∷◌, ℕ, List, get_or, get_or-take, length, length-take, length-drop, take, drop, ap, sym, arith, rules}
 use Rattle.std.proofs.lemmas.List.{take_more, drop-drop, length-map, append_assoc}
 use Rattle.std.specs.Prelude.{map}
 use Rattle.sg_device.specs.Frames.{joined, total}
@@ -28,15 +28,15 @@ loop-size-preserved c =
     let is : size ≡ get_or (map length frames) i 0 = get_or-take c.args.wanted sizes i 0 near ∙ ap (λ (l : List ℕ). get_or l i 0) c.sizes.ensures in
     let sum : before + size ≡ total (take (i + 1) (map length frames)) = omega (arith, is, total-more (map length frames) i (omega (arith, inside, length-map frames length))) in
     let behind : c.split_at.result.1.now ≡ drop (total (take (i + 1) (map length frames))) (joined frames) =
-        c.split_at.ensures.back
-        ∙ ap (λ (l : List ℕ). drop size l) c.loop-size.invariant.rest
-        ∙ drop-drop size before (joined frames)
-        ∙ ap (λ (n : ℕ). drop n (joined frames)) sum in
+    c.split_at.ensures.back
+    ∙ ap (λ (l : List ℕ). drop size l) c.loop-size.invariant.rest
+    ∙ drop-drop size before (joined frames)
+    ∙ ap (λ (n : ℕ). drop n (joined frames)) sum in
     let front : c.split_at.result.0.now ≡ get_or frames i [] =
-        c.split_at.ensures.front
-        ∙ ap (λ (l : List ℕ). take size l) c.loop-size.invariant.rest
-        ∙ ap (λ (n : ℕ). take n (drop before (joined frames))) is
-        ∙ frame-there frames i inside in
+    c.split_at.ensures.front
+    ∙ ap (λ (l : List ℕ). take size l) c.loop-size.invariant.rest
+    ∙ ap (λ (n : ℕ). take n (drop before (joined frames))) is
+    ∙ frame-there frames i inside in
     let pushed : c.push.new.self ≡ c.loop-size.taken ++ c.split_at.result.0.now ∷ [] = search rules in
     record {
       counted = ap (λ (n : ℕ). n + 1) c.loop-size.invariant.counted;

@@ -1,4 +1,4 @@
-use Rattle.std.proofs.Common.{◌≡◌, ◌∙◌, ◌+◌, ◌-◌, ◌++◌, ap, sym, refl, arith, List, ℕ, length, take, drop, replicate, vec_len}
+use Rattle.std.proofs.Common.{◌≡◌, ◌∙◌, ◌+◌, ◌-◌, ◌++◌, ap, refl, List, ℕ, length, take, drop, replicate}
 use Rattle.std.proofs.lemmas.List.{take_at}
 use Rattle.sg_device.proofs.Parts.{overlaid_grown}
 use Rattle.sg_memory_disk.proofs.disk.put.Goals as goal

@@ -1,4 +1,4 @@
-use Rattle.std.proofs.Common.{◌≡◌, ◌∙◌, ◌<◌, [], ◌∷◌, List, ap, sym, length, arith}
+use Rattle.std.proofs.Common.{◌∙◌, ◌<◌, [], ◌∷◌, List, ap, sym, length, arith}
 use Rattle.sg_device.specs.Disk.{DiskEvent}
 use Rattle.sg_memory_disk.specs.DiskChange.{event_of, events_of}
 use Rattle.sg_memory_disk.specs.declared.disk_change.DiskChange.{DiskChange}

@@ -1,8 +1,8 @@
-use Rattle.std.proofs.Common.{◌≡◌, ◌∙◌, ◌<◌, ap, sym, take, arith, rules, refl, ℕ, List, ◌++◌, length, to_z, of_z, w64}
+use Rattle.std.proofs.Common.{◌≡◌, ◌∙◌, ◌<◌, ap, take, arith, rules, refl, ℕ, List, ◌++◌, length, to_z, of_z, w64}
 use Rattle.std.proofs.lemmas.Int.{to_z-of_z}
-use Rattle.std.specs.Prelude.{map, max, Some, true, false, is_some, ◌+◌}
+use Rattle.std.specs.Prelude.{map, max, Some, false, ◌+◌}
 use Rattle.sg_device.specs.Inlet.{Part, stamped, with_bytes}
-use Rattle.sg_memory.specs.Part.{part_of, listed, peer_of, left_of, given_of, total_given}
+use Rattle.sg_memory.specs.Part.{part_of, listed, peer_of, left_of, total_given}
 use Rattle.sg_memory.specs.Parts.{begun}
 use Rattle.sg_memory.specs.declared.part.MemoryPart.{MemoryPart}
 use Rattle.sg_memory.proofs.Giving.{gives_told, gives_left, gives_peer, gives_total, gives_count, begins_total, begins_count, left-told, not-single}
@@ -19,9 +19,9 @@ returns-then-left-gt0-clause-told c =
     let some : 0 < length (left_of parts.present) = grind (arith, c.left.ensures, c.if-left-gt0.true) in
     let past : begun c.give-len.new.self ≡ parts.past.items ++ listed now = ap (λ p. p.items ++ listed now) c.give-len.ensures.past in
     let told : map (part_of old.at) (parts.past.items ++ listed now) ≡ with_bytes (map (part_of old.at) (begun parts)) (peer_of now) (stamped next old.at) =
-        gives_told old.at parts.past.items parts.present now len next (peer_of now) some c.give-len.ensures.present parts.within c.give-len.ensures.front in
+    gives_told old.at parts.past.items parts.present now len next (peer_of now) some c.give-len.ensures.present parts.within c.give-len.ensures.front in
     let all : map (part_of old.at) (begun c.give-len.new.self) ≡ with_bytes (map (part_of old.at) (begun parts)) (peer_of now) (stamped next old.at) =
-        ap (λ (l : List MemoryPart). map (part_of old.at) l) past ∙ told in
+    ap (λ (l : List MemoryPart). map (part_of old.at) l) past ∙ told in
     rw moment (ap (λ (l : List Part). Some l) all, gives_peer parts.present now len c.give-len.ensures.present)
 
 pub returns-then-left-gt0-clause-left : goal.returns-then-left-gt0-clause-left

@@ -1,4 +1,4 @@
-use Rattle.std.proofs.Common.{◌≡◌, ◌∙◌, ◌<◌, ◌≤◌, ◌^◌, ap, sym, refl, subst, arith, rules}
+use Rattle.std.proofs.Common.{◌≡◌, ◌∙◌, ◌<◌, ◌≤◌, ◌^◌, ap, sym, subst, arith}
 use Rattle.std.specs.Prelude.{Some, false}
 use Rattle.sg_device.specs.Inlet.{InletState, IsFresh}
 use Rattle.sg_outside.specs.World.{WorldState, StandsIn}
@@ -24,11 +24,10 @@ returns-clause-opens c =
     let start : opened_state opened ≡ start_of spec opened.from opened.left.items = ap (λ (s : InletSpec). start_of s opened.from opened.left.items) same in
     let state : feed ≡ opened_state opened = begun.1 ∙ c.in_ok-inlet.ensures.state in
     let is : feed ≡ start_of spec opened.from opened.left.items = state ∙ start in
-    let later : old.inlet_faults ≤ c.begin_inlet.new.self.inlet_faults = omega (arith, ap (λ (w : WorldState). w.inlet_faults) begun.0) in
-    (
+    let later : old.inlet_faults ≤ c.begin_inlet.new.self.inlet_faults = omega (arith, ap (λ (w : WorldState). w.inlet_faults) begun.0) in (
       opens_world (world_of old) (world_of c.begin_inlet.new.self) opened spec feed begun.0 same state,
       later,
       subst (λ (i : InletState). IsFresh i) (sym is) (starts_fresh spec opened.from opened.left.items short),
       ap (λ (i : InletState). i.place) is ∙ starts_at files spec c.args.from opened source ∙ sym begun.2,
-      subst (λ (i : InletState). StandsIn (Some (file_of files)) spec c.args.from i) (sym is) (stands files spec c.args.from opened there source)
+      subst (λ (i : InletState). StandsIn (Some (file_of files)) spec c.args.from i) (sym is) (stands files spec c.args.from opened there source),
     )

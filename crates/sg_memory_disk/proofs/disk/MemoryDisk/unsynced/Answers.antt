@@ -1,4 +1,4 @@
-use Rattle.std.proofs.Common.{◌≡◌, ◌∙◌, ◌<◌, [], List, ap, length, get_or, arith}
+use Rattle.std.proofs.Common.{◌≡◌, ◌∙◌, ◌<◌, List, ap, length, get_or, arith}
 use Rattle.sg_memory_disk.specs.declared.disk_change.DiskChange.{DiskChange}
 use Rattle.sg_memory_disk.proofs.Picking.{unsynced_more, unsynced_all}
 use Rattle.sg_memory_disk.proofs.disk.MemoryDisk.unsynced.Goals as goal

@@ -1,4 +1,4 @@
-use Rattle.std.proofs.Common.{◌≡◌, ◌∙◌, ◌∷◌, ℕ, List, replicate, sym, refl, rules, arith}
+use Rattle.std.proofs.Common.{◌≡◌, ◌∷◌, replicate, refl, rules}
 use Rattle.std.specs.Prelude.{Option, None, Bool, false, not, ◌||◌, ◌&&◌, is_none, if◌then◌else◌, unwrap_or}
 use Rattle.sg_device.specs.Disk.{DiskState}
 use Rattle.sg_memory_disk.specs.MemoryDisk.{fresh_disk}
