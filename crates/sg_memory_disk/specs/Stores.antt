@@ -6,7 +6,7 @@ use Rattle.std.specs.declared.alloc.AllocError.{AllocError}
 use Rattle.std.specs.declared.alloc.Global.{Global}
 use Rattle.sg_device.specs.Disk.{DiskState}
 use Rattle.sg_device.specs.Faults.{Rose}
-use Rattle.sg_outside.specs.World.{Ledger, Opened, with_opened, IsShelved}
+use Rattle.sg_outside.specs.World.{Ledger, Opened, with_opened}
 use Rattle.sg_device.specs.declared.fault.OpenRefusal.{OpenRefusal}
 use Rattle.sg_device.specs.declared.fault.OpenRefusal.TheVariants.{Failed, NoMemory}
 use Rattle.sg_outside.specs.declared.request.StoreSpec.{StoreSpec}
@@ -99,7 +99,7 @@ abbrev pub AreStoresQuiet : MemoryStores → Type 0
 AreStoresQuiet stores = IsQuiet stores.opens × AreDisksQuiet stores.plans.items
 
 abbrev pub StoresOpen : MemoryStores → MemoryStores → StoreSpec → DiskState → Type 0
-StoresOpen old new spec store = (stores_of new ≡ with_opened (stores_of old) spec store) × (new.faults ≡ old.faults) × (store ≡ at_opening old spec) × IsShelved old.names.items spec store new.names.items
+StoresOpen old new spec store = (stores_of new ≡ with_opened (stores_of old) spec store) × (new.faults ≡ old.faults) × (store ≡ at_opening old spec)
 
 -- a failure is counted
 abbrev pub StoresRefuse : MemoryStores → MemoryStores → OpenRefusal → Type 0

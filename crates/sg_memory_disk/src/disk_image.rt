@@ -1,5 +1,5 @@
 // What a crash leaves of a disk in memory.
-ghost use Rattle.std.specs.Prelude.{◌≡◌, [], length, IfOk, OnOk, ◌-◌, ◌<◌, ◌^◌};
+ghost use Rattle.std.specs.Prelude.{◌≡◌, ◌+◌, ◌-◌, ◌<◌, ◌≤◌, ◌^◌, [], IfOk, OnOk};
 ghost use Rattle.sg_device.specs.Disk.{IsImage};
 ghost use Rattle.sg_memory_disk.specs.DiskChange.{event_of, events_of};
 ghost use Rattle.sg_memory_disk.specs.MemoryDisk.{disk_of};
@@ -85,7 +85,8 @@ fn read_on(alloc: Global, bytes: &mut Vec<u8>, change: &DiskChange) -> Result<()
 // The number of the writes since the last sync, after one change more.
 fn number_after(number: usize, change: &DiskChange) -> usize
     requires { number < 2 ^ 64 - 1 }
-    ensures { result ≡ unsynced_after (event_of change.now) number }
+    ensures counted { result ≡ unsynced_after (event_of change.now) number }
+    ensures few { result ≤ number + 1 }
 {
     match change {
         DiskChange::Wrote(_) => number + 1,

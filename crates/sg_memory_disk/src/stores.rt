@@ -1,11 +1,11 @@
 // The stores that a machine in memory opens and closes.
-ghost use Rattle.std.specs.Prelude.{◌≡◌, ◌≤◌, ◌++◌, ◌∷◌, [], replicate, vec_len, vec_capacity, IfOk, OnErr, OnOk, MatchResult};
+ghost use Rattle.std.specs.Prelude.{◌≡◌, ◌≤◌, None, if◌then◌else◌, ◌++◌, ◌∷◌, [], replicate, vec_len, vec_capacity, IfOk, OnErr, OnOk, MatchResult};
 ghost use Rattle.std.specs.Option.{option_map};
-ghost use Rattle.sg_outside.specs.World.{with_closed};
+ghost use Rattle.sg_outside.specs.World.{with_closed, IsShelved};
 ghost use Rattle.sg_memory_disk.specs.DiskPlan.{IsDiskQuiet, AreDisksQuiet, first_plan};
 ghost use Rattle.sg_memory_disk.specs.MemoryDisk.{disk_of, fresh_disk};
 ghost use Rattle.sg_memory_disk.specs.Plan.{IsQuiet, after_call};
-ghost use Rattle.sg_memory_disk.specs.Stores.{store_of, stores_of, store_states, latest, is_shelved, found, some_starved, any_starved, StoresOpen, StoresRefuse, OpensAsPlanned, Begins};
+ghost use Rattle.sg_memory_disk.specs.Stores.{store_of, stores_of, store_states, latest, latest_state, is_shelved, some_starved, any_starved, StoresOpen, StoresRefuse, OpensAsPlanned, Begins};
 
 use crate::disk_plan::take_plan;
 use crate::{DiskPlan, MemoryDisk, Plan};
@@ -133,6 +133,7 @@ impl MemoryStores {
         ensures opened { MatchResult result
             (λ store. StoresOpen self.old self.new spec.now (store_of store))
             (λ refusal. StoresRefuse self.old self.new refusal) }
+        ensures shelf { IfOk result (λ store. IsShelved self.old.names.items spec.now (store_of store) self.new.names.items) }
         ensures fails { OpensAsPlanned self.old spec.now result }
         ensures opens { self.new.opens ≡ after_call self.old.opens }
         ensures plan { IfOk result (λ store. first_plan self.old.plans.items store.disk.calls.plan) }
@@ -140,10 +141,7 @@ impl MemoryStores {
     {
         let fails = self.opens.next();
         let there = is_there(&self.names, spec.name.bytes());
-        let last = match &self.closed {
-            Some(cell) if there => find_closed(cell, spec.name.bytes()),
-            _ => None,
-        };
+        let last = self.last(there, &spec.name);
         if fails || (last.is_none() && (there || !spec.create)) {
             self.faults = self.faults.saturating_add(1);
             return Err(OpenRefusal::Failed);
@@ -153,6 +151,19 @@ impl MemoryStores {
             None => fresh(alloc)?,
         };
         Ok(self.begin(alloc, spec, disk, there)?)
+    }
+
+    // The disk of a store that is there, as it was closed last.
+    fn last(&self, there: bool, name: &Name) -> Option<&MemoryDisk>
+        ensures { option_map (λ disk. disk_of disk.now) result ≡ (if there then latest_state self.now.closed name.now else None) }
+    {
+        if !there {
+            return None;
+        }
+        match &self.closed {
+            Some(cell) => find_closed(cell, name.bytes()),
+            None => None,
+        }
     }
 
     // Opens a store over this disk. Where memory runs out all stays as it was.

@@ -4,7 +4,7 @@ use Rattle.sg_macro.specs.Reading.{parts_of}
 use Rattle.sg_outfmt.specs.declared.shape.DriverKind.{DriverKind}
 use Rattle.sg_outfmt.specs.declared.shape.DriverKind.TheVariants.{File, Network, Syslog}
 use Rattle.sg_outfmt.specs.declared.shape.Shape.{Shape}
-use Rattle.sg_outfmt.specs.declared.shape.Shape.TheVariants.{Text, Counted5424, ByPath}
+use Rattle.sg_outfmt.specs.declared.shape.Shape.TheVariants.{Text, Counted5424}
 
 abbrev pub file_text : List ℕ
 file_text = codes "${STAMP} ${HOST} ${MSGHDR}${MSG}\n"

@@ -1,12 +1,12 @@
 -- The places behind the first entry.
-use Rattle.std.proofs.Common.{◌≡◌, ◌≢◌, ◌⊎◌, inl, inr, ⊎_elim, ℕ, ◌+◌, ◌-◌, ◌<◌, ◌≤◌, ◌^◌, min, List, [], ◌∷◌, ◌++◌, length, get_or, refl, sym, ◌∙◌, ap, subst, arith, Some, None, Option}
+use Rattle.std.proofs.Common.{◌≡◌, ◌≢◌, ◌⊎◌, inl, inr, ⊎_elim, ℕ, zero, suc, ◌+◌, ◌-◌, ◌<◌, ◌≤◌, ◌^◌, min, List, [], ◌∷◌, ◌++◌, length, drop, get_or, refl, sym, ◌∙◌, ap, subst, arith, Some, None, Option}
 use Rattle.std.proofs.lemmas.Bool.{cases_eq}
 use Rattle.std.proofs.lemmas.Bool.Decides.{nat_tests}
-use Rattle.sg_spool.specs.Places.{AreOrdered, behind, first_past, gate_past}
+use Rattle.sg_spool.specs.Places.{AreOrdered, behind, first_past, after_first, gate_past}
 use Rattle.sg_spool.specs.Ring.{Entries, Run, IsEntry, IsJump, IsEnd, IsWrapped, IsRow, IsBelow, IsLaid}
 use Rattle.sg_spool.specs.declared.places.Places.{Places}
-use Rattle.sg_spool.proofs.Rings.{run_grows, head_above, end_above}
-use Rattle.sg_spool.proofs.CellPuts.{IsReady}
+use Rattle.sg_spool.proofs.Rings.{run_grows}
+use Rattle.sg_spool.specs.Advancing.{IsReady, IsReadyAt, IsFirstSize}
 
 pub behind_is : (gate size last : ℕ) → gate + 5 + size ≤ last → last < 2 ^ 63 → behind gate size last ≡ gate + 5 + size
 behind_is gate size last le small = omega (arith, le, small)
@@ -33,13 +33,13 @@ first_entry (Some jump) head end p es c row = wrapped row.first row.second row.b
         subst (λ (k : ℕ). IsEntry c k p) (sym here) (subst (λ (l : List ℕ). IsEntry c head l) (sym same) to_jump.0)
 
 -- behind the first entry the others stand
-pub ready_behind : (jump : Option ℕ) (head end : ℕ) (p : List ℕ) (es : Entries) (c : List ℕ) → AreOrdered jump head end → IsLaid jump head end (p ∷ es) c → ReadyAt (first_past jump head end (length p)) es c
+pub ready_behind : (jump : Option ℕ) (head end : ℕ) (p : List ℕ) (es : Entries) (c : List ℕ) → AreOrdered jump head end → IsReady jump head end (p ∷ es) c → ReadyAt (first_past jump head end (length p)) es c
 ready_behind None head end p es c ordered laid =
-    let high = head_above c head laid.buffer in
+    let high = laid.high in
     let up = run_grows c (head + 5 + length p) es end laid.row.1 in
     let is : behind head (length p) end ≡ head + 5 + length p = behind_is head (length p) end up ordered.2 in
     subst (λ (k : ℕ). IsReady None k end es c) (sym is) (record {
-      size = laid.buffer.size;
+      size = laid.size;
       high = omega (arith, high);
       low = omega (arith, high, up);
       inside = laid.row.0.next;
@@ -50,13 +50,13 @@ ready_behind None head end p es c ordered laid =
 ready_behind (Some jump) head end p es c ordered laid = wrapped laid.row.first laid.row.second laid.row.both laid.row.to_jump laid.row.from_front
   where
     high : 64 ≤ head
-    high = head_above c head laid.buffer
+    high = laid.high
 
     low : 64 ≤ end
-    low = end_above (Some jump) c head end (p ∷ es) laid.buffer laid.row
+    low = laid.low
 
     size : 128 ≤ length c
-    size = laid.buffer.size
+    size = laid.size
 
     below : end < head
     below = laid.below
@@ -119,3 +119,29 @@ ready_behind (Some jump) head end p es c ordered laid = wrapped laid.row.first l
         none_left : (qs : Entries) → Run c (head + 5 + length q) qs jump → head + 5 + length q ≡ jump → qs ≡ []
         none_left [] run last = refl
         none_left (r ∷ rs) run last = absurd (let up = run_grows c (head + 5 + length q + 5 + length r) rs jump run.1 in omega (arith, up, last))
+
+-- the entry behind so many others
+pub drop_split : (k : ℕ) (es : Entries) → k < length es → (p : List ℕ) × (ps : Entries) × (drop k es ≡ p ∷ ps) × (drop (suc k) es ≡ ps)
+drop_split k [] lt = absurd (omega (arith, lt))
+drop_split zero (e ∷ es) lt = (e, es, refl, refl)
+drop_split (suc k) (e ∷ es) lt = drop_split k es (omega (arith, lt))
+
+pub known_size : (known : Option ℕ) (p : List ℕ) (ps : Entries) → IsFirstSize known (p ∷ ps) → (known ≡ None) ⊎ (known ≡ Some (length p))
+known_size None p ps is = inl refl
+known_size (Some n) p ps is = inr (ap (λ (k : ℕ). Some k) is)
+
+-- One entry more is skipped: its length is told by one image, and is the same in all.
+pub skip_step : (places next : Places) (known : Option ℕ) (k size : ℕ) (es : Entries) (b : List ℕ) → AreOrdered next.jump next.head next.end → k < length es → ((c : List ℕ) → IsLaid places.jump places.head places.end es c → IsReadyAt next (drop k es) c)
+    → IsFirstSize known (drop k es) → IsLaid places.jump places.head places.end es b → ((p : List ℕ) → (known ≡ None) ⊎ (known ≡ Some (length p)) → IsEntry b (gate_past next.jump next.head) p → size ≡ length p)
+    → (c : List ℕ) → IsLaid places.jump places.head places.end es c → IsReadyAt (after_first next size) (drop (suc k) es) c
+skip_step places next known k size es b ordered lt ready first laid_b sized c laid_c =
+    let split = drop_split k es lt in
+    let p = split.0 in
+    let ps = split.1 in
+    let at_b = subst (λ (l : Entries). IsReadyAt next l b) split.2 (ready b laid_b) in
+    let at_c = subst (λ (l : Entries). IsReadyAt next l c) split.2 (ready c laid_c) in
+    let is : size ≡ length p = sized p (known_size known p ps (subst (λ (l : Entries). IsFirstSize known l) split.2 first)) (first_entry next.jump next.head next.end p ps b at_b.row) in
+    subst (λ (l : Entries). IsReadyAt (after_first next size) l c) (sym split.3) (subst (λ (n : ℕ). IsReadyAt (after_first next n) ps c) (sym is) (ready_behind next.jump next.head next.end p ps c ordered at_c))
+
+pub first_none : (es : Entries) → IsFirstSize None es
+first_none es = tt

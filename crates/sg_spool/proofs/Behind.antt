@@ -4,17 +4,12 @@ use Rattle.std.proofs.lemmas.Bool.{cases_lt}
 use Rattle.std.proofs.lemmas.List.{take_all}
 use Rattle.std.specs.Int.{to_be_bytes, w32}
 use Rattle.sg_device.specs.DiskBytes.{part, Torn, Written}
-use Rattle.sg_device.specs.Disk.{DiskState, content, IsImage, Changes, Elapses, Durable, Within, EachNow}
-use Rattle.sg_device.proofs.Disks.{durable_now, told_on}
-use Rattle.sg_device.proofs.DiskCalls.{reads_as_image}
 use Rattle.sg_device.proofs.Parts.{part_at, part_same, part_front, part_back, torn_length, torn_elsewhere, torn_of_written}
 use Rattle.sg_stable.specs.declared.cell.Pair.{Pair}
-use Rattle.sg_spool.specs.Lists.{Perhaps, Appends}
 use Rattle.sg_spool.specs.Places.{HasRoom}
 use Rattle.sg_spool.specs.Ring.{Entries, IsPayload, IsEntry, IsRow, IsBuffer, IsLaid, block_of, payload_of}
-use Rattle.sg_spool.specs.Steps.{RingAt, Stems, After, Spares}
-use Rattle.sg_spool.proofs.Rings.{size_of, has_cell_same, ring_spared, spares_torn, behind_away, buffer_kept, row_kept, row_push, below_room}
-use Rattle.sg_spool.proofs.Chains.{stem_now, stem_as, elapses_as, spared_within, spared_now, gate_within, gate_ring}
+use Rattle.sg_spool.specs.Steps.{RingAt}
+use Rattle.sg_spool.proofs.Rings.{SameButEnd, size_of, has_cell_same, used_front, buffer_kept, row_kept, row_push, below_room}
 
 pub length-block : (payload : List ℕ) → length (block_of payload) ≡ length payload + 5
 unfolding block_of
@@ -24,44 +19,11 @@ module _ (cell : Pair) (jump : Option ℕ) (head end : ℕ) (es : Entries) (payl
   abbrev n : ℕ
   n = length payload
 
-  -- the entry stands behind the end, its gate still closed
-  pub record IsStaged (c : List ℕ) : Type 0 where
-    pub ring : RingAt cell jump head end es c
-    pub block : part (end + 1) (n + 5) c ≡ block_of payload
-    pub inside : end + 1 + (n + 5) ≤ length c
-
-  block_spares : (c d : List ℕ) → Torn (end + 1) (n + 5) c d → Spares jump head end c d
-  block_spares c d torn = spares_torn jump head end (end + 1) (n + 5) c d (behind_away jump head end n low room) torn
-
-  block_written : (c d : List ℕ) → RingAt cell jump head end es c → Written (end + 1) (block_of payload) c d → IsStaged d
-  block_written c d ring put =
-      let torn = torn_of_written (end + 1) (block_of payload) c d put in
-      let long = length-block payload in
-      record {
-        ring = ring_spared cell jump head end es c d ring (block_spares c d (subst (λ (m : ℕ). Torn (end + 1) m c d) long torn));
-        block = ap (λ (m : ℕ). part (end + 1) m d) (sym long) ∙ put.there;
-        inside = omega (arith, put.size, long);
-      }
-
-  module _ (c d : List ℕ) (staged : IsStaged c) (torn : Torn end 1 c d) (opened : get_or d end 0 ≢ 0) where
-    inside_c : end + 1 + (n + 5) ≤ length c
-    inside_c = staged.inside
-
-    fits_c : end + 1 ≤ length c
-    fits_c = omega (arith, inside_c)
-
-    long : length d ≡ length c
-    long = torn_length end 1 c d fits_c torn
-
-    keeps : (k : ℕ) → (k < end) ⊎ (end + 1 ≤ k) → get_or d k 0 ≡ get_or c k 0
-    keeps = torn_elsewhere end 1 c d fits_c torn
-
-    -- the block's bytes stand in both
+  -- the block stands behind the end, and its gate is open
+  module _ (c d : List ℕ) (ring : RingAt cell jump head end es c) (longer : length c ≤ length d) (same : SameButEnd jump head end c d) (block : part (end + 1) (n + 5) d ≡ block_of payload) (inside : end + 1 + (n + 5) ≤ length d) (opened : get_or d end 0 ≢ 0) where
     block_d : part (end + 1) (4 + (n + 1)) d ≡ to_be_bytes w32 n ++ (payload ++ 0 ∷ [])
     unfolding block_of
-    block_d = ap (λ (m : ℕ). part (end + 1) m d) (omega arith)
-        ∙ part_same (end + 1) (n + 5) c d inside_c (omega (arith, inside_c, long)) (λ k from to. keeps k (inr from))
-        ∙ staged.block ∙ append_assoc (to_be_bytes w32 n) payload (0 ∷ [])
+    block_d = ap (λ (m : ℕ). part (end + 1) m d) (omega arith) ∙ block ∙ append_assoc (to_be_bytes w32 n) payload (0 ∷ [])
 
     behind : part (end + 1 + 4) (n + 1) d ≡ payload ++ 0 ∷ []
     behind = part_back (end + 1) 4 (n + 1) d (to_be_bytes w32 n) (payload ++ 0 ∷ []) block_d refl (length-append payload (0 ∷ []))
@@ -80,42 +42,19 @@ module _ (cell : Pair) (jump : Option ℕ) (head end : ℕ) (es : Entries) (payl
       size = size_of (end + 1) n d (let limit = fits.limit in omega (arith, limit)) (part_front (end + 1) 4 (n + 1) d (to_be_bytes w32 n) (payload ++ 0 ∷ []) block_d refl);
       fits = fits;
       there = payload_d;
-      next = omega (arith, inside_c, long);
+      next = omega (arith, inside);
     }
 
-    same : (k : ℕ) → (k ≡ end → ⊥) → get_or d k 0 ≡ get_or c k 0
-    same k differs = keeps k (elim (cases_lt k end) [ inl low ↦ inl low | inr high ↦ inr (omega (arith, high, differs)) ])
-
-    opens : RingAt cell jump head (end + 5 + n) (es ++ payload ∷ []) d
-    opens = record {
+    pub opened_behind : RingAt cell jump head (end + 5 + n) (es ++ payload ∷ []) d
+    opened_behind = record {
       laid = record {
-        buffer = buffer_kept jump head end es c d staged.ring.laid (omega (arith, long)) (λ k used differs lt. same k differs);
-        row = row_push jump d head end es payload (row_kept jump head end es c d staged.ring.laid (omega (arith, long)) (λ k used differs lt. same k differs)) entry;
-        ends = record { inside = omega (arith, inside_c, long); shut = next_d };
+        buffer = buffer_kept jump head end es c d ring.laid longer same;
+        row = row_push jump d head end es payload (row_kept jump head end es c d ring.laid longer same) entry;
+        ends = record { inside = omega (arith, inside); shut = next_d };
         below = below_room jump head end n room;
       };
-      has_cell = has_cell_same cell.selector cell.value c d staged.ring.has_cell (omega (arith, long)) (λ k lt. keeps k (inl (omega (arith, lt, low))));
+      has_cell = has_cell_same cell.selector cell.value c d ring.has_cell longer (λ k lt. same k (used_front jump head end k (omega (arith, lt))) (λ (e : k ≡ end). omega (arith, e, lt, low)) (let long = ring.has_cell.size in omega (arith, long, lt)));
     }
-
-  -- call by call
-  module _ (d0 d1 : DiskState) (start : EachNow d0 (RingAt cell jump head end es)) (images1 : Elapses (Torn (end + 1) (n + 5)) d0 d1) where
-    time1 : Elapses (Spares jump head end) d0 d1
-    time1 = elapses_as d0 d1 block_spares images1
-
-    pub within1 : Within d0 d1 (Stems (IsImage d0) (After (Perhaps (Appends payload)) es))
-    within1 = spared_within cell jump head end es d0 d1 start time1 (Appends payload)
-
-    module _ (written1 : Changes (Written (end + 1) (block_of payload)) (content d0) (content d1)) (durable1 : Durable d1) (d2 : DiskState) where
-      now1 : EachNow d1 (Stems (IsImage d0) IsStaged)
-      now1 = durable_now d1 (Stems (IsImage d0) IsStaged) durable1 (told_on (Stems (IsImage d0) (RingAt cell jump head end es)) (Stems (IsImage d0) IsStaged) written1
-          (λ b told. stem_now d0 (RingAt cell jump head end es) start b (reads_as_image d0 b told))
-          (λ a b at put. stem_as (IsImage d0) (RingAt cell jump head end es) IsStaged a b at (λ ring. block_written a b ring put)))
-
-      pub within2 : Elapses (Torn end 1) d1 d2 → Within d0 d2 (Stems (IsImage d0) (After (Perhaps (Appends payload)) es))
-      within2 images2 = gate_within cell jump head end es jump (end + 5 + n) payload IsStaged (λ c staged. staged.ring) opens d0 d1 d2 now1 within1 images2
-
-      pub ring2 : Changes (Written end (1 ∷ [])) (content d1) (content d2) → Durable d2 → EachNow d2 (Stems (IsImage d0) (RingAt cell jump head (end + 5 + n) (es ++ payload ∷ [])))
-      ring2 written2 durable2 = gate_ring cell jump head end es jump (end + 5 + n) payload IsStaged (λ c staged. staged.ring) opens d0 d1 d2 now1 written2 durable2
 
 pub length_front : (payload : List ℕ) → length (1 ∷ block_of payload) ≡ length payload + 6
 length_front payload = omega (arith, length-block payload)

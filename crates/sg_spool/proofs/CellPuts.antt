@@ -1,10 +1,11 @@
 -- What a change of the cell makes of a ring.
 use Rattle.std.proofs.Common.{◌≡◌, ◌≢◌, ◌⊎◌, inl, inr, ⊎_elim, ℕ, ◌+◌, ◌<◌, ◌≤◌, List, [], ◌∷◌, ◌++◌, length, get_or, refl, sym, ◌∙◌, ap, subst, arith, Some, None, Option}
 use Rattle.sg_device.specs.Disk.{DiskState, IsImage, Within, EachNow}
-use Rattle.sg_device.proofs.Disks.{within_now}
+use Rattle.sg_device.proofs.Disks.{within_now, within_as}
 use Rattle.sg_stable.specs.Cell.{cell_value, HasCell, SameOutside, Puts}
 use Rattle.sg_stable.specs.declared.cell.Pair.{Pair}
 use Rattle.sg_stable.proofs.Cells.{value_of}
+use Rattle.sg_spool.specs.Advancing.{IsReady}
 use Rattle.sg_spool.specs.Lists.{Perhaps}
 use Rattle.sg_spool.specs.Ring.{Entries, IsEnd, IsBuffer, IsRow, IsBelow, IsLaid, IsList}
 use Rattle.sg_spool.specs.Steps.{RingAt, Stems, After}
@@ -32,16 +33,6 @@ row_outside (Some j) c d head end es high same row =
       };
       from_front = run_same c d 64 row.second end row.from_front (λ k low to. behind c d same k (omega arith)) (omega (arith, same.size));
     }
-
--- a ring stands at these places, but for the cell's value
-pub record IsReady (jump : Option ℕ) (head end : ℕ) (es : Entries) (c : List ℕ) : Type 0 where
-  pub size : 128 ≤ length c
-  pub high : 64 ≤ head
-  pub low : 64 ≤ end
-  pub inside : head < length c
-  pub row : IsRow jump c head end es
-  pub ends : IsEnd c end
-  pub below : IsBelow jump head end
 
 pub ready_of : (jump : Option ℕ) (head end : ℕ) (es : Entries) (c : List ℕ) → IsLaid jump head end es c → IsReady jump head end es c
 ready_of jump head end es c laid = record {
@@ -74,21 +65,28 @@ module _ (cell : Pair) (jump : Option ℕ) (head end : ℕ) (es : Entries) (long
     pub ring : RingAt cell jump head end es c
     pub ready : IsReady longer first last fs c
 
+  old_laid : (c d : List ℕ) → IsPrepared c → SameOutside c d → cell_value d ≡ cell.value → IsLaid jump head end es d
+  old_laid c d at same value_is =
+      laid_by jump head end es head c d (ready_of jump head end es c at.ring.laid) at.ring.laid.buffer same
+      (ap (λ (v : ℕ). 64 + v) (value_is ∙ sym (value_of cell.selector cell.value c at.ring.has_cell)) ∙ at.ring.laid.buffer.at_head)
+
+  new_laid : (value : ℕ) (is : 64 + value ≡ first) (c d : List ℕ) → IsPrepared c → SameOutside c d → cell_value d ≡ value → IsLaid longer first last fs d
+  new_laid value is c d at same value_is = laid_by longer first last fs head c d at.ready at.ring.laid.buffer same (ap (λ (v : ℕ). 64 + v) value_is ∙ is)
+
+  module _ (value : ℕ) (is : 64 + value ≡ first) (d1 d2 : DiskState) (now1 : EachNow d1 IsPrepared) (put : Within d1 d2 (Puts (IsImage d1) cell.value value)) where
+    pub put_laid : Within d1 d2 (λ c. IsLaid jump head end es c ⊎ IsLaid longer first last fs c)
+    put_laid = within_as d1 d2 (Puts (IsImage d1) cell.value value) (λ c. IsLaid jump head end es c ⊎ IsLaid longer first last fs c) put (λ c puts.
+        let at = now1 puts.before puts.was in
+        ⊎_elim (λ old. inl (old_laid puts.before c at puts.outside old)) (λ new. inr (new_laid value is puts.before c at puts.outside new)) puts.value)
+
+    pub put_new : (after : Pair) → after.value ≡ value → EachNow d2 (HasCell after.selector after.value) → EachNow d2 (RingAt after longer first last fs)
+    put_new after same has c left =
+        let puts = within_now d1 d2 (Puts (IsImage d1) cell.value value) put c left in
+        record { laid = new_laid value is puts.before c (now1 puts.before puts.was) puts.outside (value_of after.selector after.value c (has c left) ∙ same); has_cell = has c left }
+
   module _ (step : Entries → Entries → Type 0) (goes : step es fs) (value : ℕ) (is : 64 + value ≡ first) (d0 d1 d2 : DiskState) (now1 : EachNow d1 (Stems (IsImage d0) IsPrepared)) (put : Within d1 d2 (Puts (IsImage d1) cell.value value)) where
     abbrev P : List ℕ → Type 0
     P c = Stems (IsImage d0) (After (Perhaps step) es) c
-
-    old_laid : (c d : List ℕ) → IsPrepared c → SameOutside c d → cell_value d ≡ cell.value → IsList es d
-    old_laid c d at same value_is = record {
-      jump = jump;
-      head = head;
-      end = end;
-      laid = laid_by jump head end es head c d (ready_of jump head end es c at.ring.laid) at.ring.laid.buffer same
-          (ap (λ (v : ℕ). 64 + v) (value_is ∙ sym (value_of cell.selector cell.value c at.ring.has_cell)) ∙ at.ring.laid.buffer.at_head);
-    }
-
-    new_laid : (c d : List ℕ) → IsPrepared c → SameOutside c d → cell_value d ≡ value → IsLaid longer first last fs d
-    new_laid c d at same value_is = laid_by longer first last fs head c d at.ready at.ring.laid.buffer same (ap (λ (v : ℕ). 64 + v) value_is ∙ is)
 
     each : (c : List ℕ) → Puts (IsImage d1) cell.value value c → P c
     each c puts =
@@ -96,8 +94,8 @@ module _ (cell : Pair) (jump : Option ℕ) (head end : ℕ) (es : Entries) (long
         record {
           origin = at.origin;
           was = at.was;
-          holds = ⊎_elim (λ old. after_stays step es c (old_laid puts.before c at.holds puts.outside old))
-              (λ new. after_step step es fs c goes (record { jump = longer; head = first; end = last; laid = new_laid puts.before c at.holds puts.outside new })) puts.value;
+          holds = ⊎_elim (λ old. after_stays step es c (record { jump = jump; head = head; end = end; laid = old_laid puts.before c at.holds puts.outside old }))
+              (λ new. after_step step es fs c goes (record { jump = longer; head = first; end = last; laid = new_laid value is puts.before c at.holds puts.outside new })) puts.value;
         }
 
     pub put_within : Within d0 d1 P → Within d0 d2 P
@@ -110,5 +108,5 @@ module _ (cell : Pair) (jump : Option ℕ) (head end : ℕ) (es : Entries) (long
         record {
           origin = at.origin;
           was = at.was;
-          holds = record { laid = new_laid puts.before c at.holds puts.outside (value_of after.selector after.value c (has c left) ∙ same); has_cell = has c left };
+          holds = record { laid = new_laid value is puts.before c at.holds puts.outside (value_of after.selector after.value c (has c left) ∙ same); has_cell = has c left };
         }

@@ -7,7 +7,7 @@ use Rattle.sg_device.proofs.Disks.{started, goes_on, now_on, within_now, within_
 use Rattle.sg_device.proofs.DiskCalls.{reads_as_image}
 use Rattle.sg_device.proofs.Parts.{part_at, torn_of_written}
 use Rattle.sg_stable.specs.declared.cell.Pair.{Pair}
-use Rattle.sg_spool.specs.Lists.{Stays, Perhaps, Appends, Follows}
+use Rattle.sg_spool.specs.Lists.{Stays, Perhaps}
 use Rattle.sg_spool.specs.Ring.{Entries, IsList}
 use Rattle.sg_spool.specs.Steps.{RingAt, Stems, After, Spares}
 use Rattle.sg_spool.proofs.Rings.{ring_spared, list_of, shut_spares}
@@ -74,23 +74,6 @@ after_stays step es c is = (es, inl refl, is)
 pub after_step : (step : Entries → Entries → Type 0) (es fs : Entries) (c : List ℕ) → step es fs → IsList fs c → After (Perhaps step) es c
 after_step step es fs c goes is = (fs, inr goes, is)
 
--- the images before stand for this list
-pub follows_of : (from : List ℕ → Type 0) (step : Entries → Entries → Type 0) (es : Entries) (c : List ℕ) → ((d : List ℕ) → from d → IsList es d) → Stems from (After step es) c → Follows from step c
-follows_of from step es c start stem = record {
-  before = stem.origin;
-  was = stem.was;
-  list = λ fs is.
-      let same = list_unique es fs stem.origin (start stem.origin stem.was) is in
-      (stem.holds.0, subst (λ (l : Entries). step l stem.holds.0) same stem.holds.1, stem.holds.2);
-}
-
--- a file of at most this length, over one write more
-pub short_on : (most at n : ℕ) (d0 d1 d2 : DiskState) → at + n ≤ most → Within d0 d1 (λ c. length c ≤ most) → Elapses (Torn at n) d1 d2 → Within d0 d2 (λ c. length c ≤ most)
-short_on most at n d0 d1 d2 fits so_far time = goes_on d0 d1 d2 (λ c. length c ≤ most) (λ c. length c ≤ most) so_far time (within_now d0 d1 (λ c. length c ≤ most) so_far) (λ d c le torn. omega (arith, le, torn.no_longer, fits))
-
-pub short_start : (most : ℕ) (d0 : DiskState) → EachNow d0 (λ c. length c ≤ most) → Within d0 d0 (λ c. length c ≤ most)
-short_start most d0 start = started d0 (λ c. length c ≤ most) start
-
 -- writes outside a ring
 module _ (cell : Pair) (jump : Option ℕ) (head end : ℕ) (es : Entries) (d0 d1 : DiskState) (start : EachNow d0 (RingAt cell jump head end es)) (time : Elapses (Spares jump head end) d0 d1) where
   spared_on : (d c : List ℕ) → Stems (IsImage d0) (RingAt cell jump head end es) d → Spares jump head end d c → Stems (IsImage d0) (RingAt cell jump head end es) c
@@ -104,29 +87,3 @@ module _ (cell : Pair) (jump : Option ℕ) (head end : ℕ) (es : Entries) (d0 d
 
   pub spared_now : EachNow d1 (Stems (IsImage d0) (RingAt cell jump head end es))
   spared_now = now_on d0 d1 (Stems (IsImage d0) (RingAt cell jump head end es)) (Stems (IsImage d0) (RingAt cell jump head end es)) time (stem_now d0 (RingAt cell jump head end es) start) spared_on (λ c at. at)
-
--- the last gate is opened, once the entry stands
-module _ (cell : Pair) (jump : Option ℕ) (head end : ℕ) (es : Entries) (longer : Option ℕ) (last : ℕ) (payload : List ℕ) (Staged : List ℕ → Type 0)
-    (ring : (c : List ℕ) → Staged c → RingAt cell jump head end es c)
-    (opens : (c d : List ℕ) → Staged c → Torn end 1 c d → get_or d end 0 ≢ 0 → RingAt cell longer head last (es ++ payload ∷ []) d)
-    (d0 d1 d2 : DiskState) (now1 : EachNow d1 (Stems (IsImage d0) Staged)) where
-  abbrev P : List ℕ → Type 0
-  P c = Stems (IsImage d0) (After (Perhaps (Appends payload)) es) c
-
-  gate_torn : (d c : List ℕ) → Stems (IsImage d0) Staged d → Torn end 1 d c → P c
-  gate_torn d c at torn = stem_as (IsImage d0) Staged (After (Perhaps (Appends payload)) es) d c at (λ staged. elim (cases_eq (get_or c end 0) 0) [
-    | inl shut ↦ after_stays (Appends payload) es c (list_of cell jump head end es c (ring_spared cell jump head end es d c (ring d staged) (shut_spares cell jump head end es d c (ring d staged) torn shut)))
-    | inr opened ↦ after_step (Appends payload) es (es ++ payload ∷ []) c refl (list_of cell longer head last (es ++ payload ∷ []) c (opens d c staged torn opened))
-  ])
-
-  gate_written : (d c : List ℕ) → Stems (IsImage d0) Staged d → Written end (1 ∷ []) d c → Stems (IsImage d0) (RingAt cell longer head last (es ++ payload ∷ [])) c
-  gate_written d c at put = stem_as (IsImage d0) Staged (RingAt cell longer head last (es ++ payload ∷ [])) d c at (λ staged.
-      let one : get_or c end 0 ≡ 1 = ap (λ (k : ℕ). get_or c k 0) (omega arith) ∙ sym (part_at end 1 c 0 (omega arith)) ∙ ap (λ (l : List ℕ). get_or l 0 0) put.there in
-      opens d c staged (torn_of_written end (1 ∷ []) d c put) (λ shut. let no : 1 ≡ 0 = sym one ∙ shut in omega (arith, no)))
-
-  pub gate_within : Within d0 d1 P → Elapses (Torn end 1) d1 d2 → Within d0 d2 P
-  gate_within so_far time = goes_on d0 d1 d2 P (Stems (IsImage d0) Staged) so_far time now1 gate_torn
-
-  pub gate_ring : Changes (Written end (1 ∷ [])) (content d1) (content d2) → Durable d2 → EachNow d2 (Stems (IsImage d0) (RingAt cell longer head last (es ++ payload ∷ [])))
-  gate_ring written durable = durable_now d2 (Stems (IsImage d0) (RingAt cell longer head last (es ++ payload ∷ []))) durable
-      (told_on (Stems (IsImage d0) Staged) (Stems (IsImage d0) (RingAt cell longer head last (es ++ payload ∷ []))) written (λ b told. now1 b (reads_as_image d1 b told)) gate_written)

@@ -10,7 +10,7 @@ use Rattle.sg_spool.specs.Places.{AreOrdered}
 use Rattle.sg_spool.specs.Rewriting.{past_end}
 use Rattle.sg_spool.specs.Ring.{size_at, Entries, IsEntry, Run, IsEnd, IsLaid}
 use Rattle.sg_spool.specs.Steps.{IsUsed, Spares}
-use Rattle.sg_spool.proofs.CellPuts.{IsReady}
+use Rattle.sg_spool.specs.Advancing.{IsReady}
 use Rattle.sg_spool.proofs.Rings.{run_grows}
 
 pub beyond_refl : (at : ℕ) (c : List ℕ) → Beyond at c c

@@ -1,8 +1,8 @@
 -- Bytes that stand for a list are damaged nowhere.
 use Rattle.std.proofs.Common.{◌≡◌, ◌≢◌, ◌⊎◌, inl, inr, ⊎_elim, ℕ, ◌+◌, ◌<◌, ◌≤◌, List, [], ◌∷◌, ◌++◌, length, get_or, refl, sym, ◌∙◌, ap, subst, arith, Some, None, Option}
 use Rattle.std.proofs.lemmas.Bool.{cases_lt}
-use Rattle.sg_stable.specs.Cell.{cell_value}
-use Rattle.sg_spool.specs.Opening.{IsFrontNonzero, IsReached, IsBadGate, IsDamagedWalk, IsDamagedBehind, IsDamagedAt}
+use Rattle.sg_stable.specs.Cell.{cell_value, IsFirstNonzero}
+use Rattle.sg_spool.specs.Opening.{IsReached, IsBadGate, IsDamagedWalk, IsDamagedBehind, IsDamagedAt}
 use Rattle.sg_spool.specs.Ring.{Entries, IsEntry, Run, IsEnd, IsJump, IsRow, IsLaid, IsList}
 use Rattle.sg_spool.proofs.Rings.{run_grows}
 use Rattle.sg_spool.proofs.Unique.{run_unique, at_end, at_jump}
@@ -74,7 +74,7 @@ one_gate (Some j) (Some i) head at bt es fs c one two here there bad worse =
     (λ p entry le. bad.no_entry p entry (in_time head bt (at + 5 + length p) c at low_at there le (omega arith)))
     (λ p entry le. worse.no_entry p entry (in_time head at (bt + 5 + length p) c bt low_bt here le (omega arith)))
 
-first_one : (at bt : ℕ) (c : List ℕ) → IsFrontNonzero at c → IsFrontNonzero bt c → at ≡ bt
+first_one : (at bt : ℕ) (c : List ℕ) → IsFirstNonzero 64 at c → IsFirstNonzero 64 bt c → at ≡ bt
 first_one at bt c one two = elim (cases_lt at bt) [
   | inl less ↦ absurd (one.nonzero (two.before at less one.outside))
   | inr most ↦ elim (cases_lt bt at) [

@@ -1,10 +1,9 @@
 -- A fresh store is within its bound.
 use Rattle.std.proofs.Common.{◌≡◌, ℕ, ◌+◌, ◌*◌, ◌<◌, ◌≤◌, max, List, [], ◌∷◌, length, replicate, get_or, refl, sym, ◌∙◌, ap, arith, Some, None, Option}
-use Rattle.sg_device.specs.Disk.{DiskState, content, Preserves, Durable, EachNow}
-use Rattle.sg_device.proofs.Disks.{told_back}
 use Rattle.sg_device.proofs.Parts.{zeros_at}
 use Rattle.sg_stable.specs.Cell.{word, slot, cell_value}
 use Rattle.sg_spool.specs.Places.{AreCompact, bound}
+use Rattle.sg_spool.specs.View.{IsCompactIn}
 use Rattle.sg_spool.specs.Ring.{Entries, Run, IsLaid}
 
 fresh_value : cell_value (replicate 128 0) ≡ 0
@@ -22,10 +21,5 @@ fresh_compact capacity None head end es laid =
     omega (arith, same, at)
 fresh_compact capacity (Some jump) head end es laid = absurd (laid.row.jumps.opened (zeros_at 128 jump))
 
-pub fresh_short : (capacity : ℕ) (d0 d1 : DiskState) → content d0 ≡ Some (replicate 128 0) → Preserves d0 d1 → Durable d1 → EachNow d1 (λ b. length b ≤ bound capacity)
-fresh_short capacity d0 d1 fresh keeps durable b left =
-    let was = told_back d0 d1 b keeps (durable b left) in
-    let both : Some (replicate 128 0) ≡ Some b = sym fresh ∙ was in
-    let same : replicate 128 0 ≡ b = cc in
-    let long : 128 ≡ length b = ap length same in
-    omega (arith, long)
+pub fresh_in : (capacity : ℕ) → IsCompactIn capacity (replicate 128 0)
+fresh_in capacity = record { short = omega arith; placed = λ jump head end es laid. fresh_compact capacity jump head end es laid }

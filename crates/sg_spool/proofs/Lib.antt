@@ -1,8 +1,10 @@
 pub mod AdvanceCalls
 pub mod Advancing
 pub mod Behind
+pub mod Calls
 pub mod CellPuts
 pub mod Chains
+pub mod Committing
 pub mod Copying
 pub mod Damages
 pub mod Fresh
@@ -14,6 +16,7 @@ pub mod RewriteCalls
 pub mod Rewriting
 pub mod Rings
 pub mod Rooms
+pub mod Staging
 pub mod Unique
 pub mod Walking
 pub mod Whole

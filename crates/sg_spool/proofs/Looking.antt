@@ -4,7 +4,7 @@ use Rattle.sg_device.specs.Disk.{DiskState, content, Preserves, Durable, WhereTo
 use Rattle.sg_device.specs.Faults.{Rose}
 use Rattle.sg_device.proofs.Disks.{told_before}
 use Rattle.sg_device.proofs.DiskCalls.{durable_same}
-use Rattle.sg_stable.specs.Cell.{cell_value, IsOutside, HasCell}
+use Rattle.sg_stable.specs.Cell.{cell_value, HasCell, AreZero}
 use Rattle.sg_stable.proofs.Cells.{value_of}
 use Rattle.sg_stable.specs.declared.fault.StoreRefusal.{StoreRefusal}
 use Rattle.sg_stable.specs.declared.fault.StoreRefusal.TheVariants.{Damage, DiskFault, NoMemory}
@@ -17,19 +17,7 @@ use Rattle.sg_spool.specs.declared.open.Found.{Found}
 use Rattle.sg_spool.proofs.Rings.{has_cell_same, length_space, row_between}
 use Rattle.std.specs.Prelude.{Result, Ok, Err, IfOk, IfErr, OnOk}
 use Rattle.sg_spool.specs.declared.walk.Place.{Place}
-use Rattle.sg_spool.specs.Opening.{ZeroFront, IsFrontNonzero, IsDamagedWalk, IsDamagedBehind, IsDamagedAt, HasReason, WalkReason}
-
-module _ (b after : List ℕ) (same : (k : ℕ) → k < 64 → get_or after k 0 ≡ get_or b k 0) where
-  pub nonzero_there : (at : ℕ) → IsFrontNonzero at after → IsFrontNonzero at b
-  nonzero_there at first = record {
-    inside = first.inside;
-    outside = first.outside;
-    nonzero = λ zero. first.nonzero (same at first.inside ∙ zero);
-    before = λ k lt out. sym (same k (omega (arith, lt, first.inside))) ∙ first.before k lt out;
-  }
-
-  pub zeros_there : ZeroFront after → ZeroFront b
-  zeros_there zeros k lt out = sym (same k lt) ∙ zeros k lt out
+use Rattle.sg_spool.specs.Opening.{IsDamagedWalk, IsDamagedBehind, IsDamagedAt, HasReason, WalkReason}
 
 pub between_small : (jump : Option ℕ) (head end : ℕ) → AreOrdered jump head end → bytes_between jump head end < 2 ^ 63
 between_small None head end ordered = omega (arith, ordered.0, ordered.1, ordered.2)
@@ -38,7 +26,7 @@ between_small (Some jump) head end ordered = omega (arith, ordered.0, ordered.1,
 number_of : (count : ℕ) (jump : Option ℕ) (b : List ℕ) (head end : ℕ) (es : Entries) → IsRow jump b head end es → AreOrdered jump head end → count ≡ min (length es) (2 ^ 64 - 1) → count ≡ length es
 number_of count jump b head end es row ordered is = omega (arith, is, length_space es, row_between jump b head end es row, between_small jump head end ordered)
 
-pub held_at : (b : List ℕ) (cell : Pair) (head : ℕ) (place : Place) → ZeroFront b → 128 ≤ length b → HasCell cell.selector cell.value b → 64 + cell.value ≡ head → head < length b → AreOrdered place.jump head place.gate → IsAt b head place × IsEnd b place.gate → (es : Entries) × IsHeld cell (record { jump = place.jump; head = head; end = place.gate }) place.count None es b
+pub held_at : (b : List ℕ) (cell : Pair) (head : ℕ) (place : Place) → AreZero 64 b → 128 ≤ length b → HasCell cell.selector cell.value b → 64 + cell.value ≡ head → head < length b → AreOrdered place.jump head place.gate → IsAt b head place × IsEnd b place.gate → (es : Entries) × IsHeld cell (record { jump = place.jump; head = head; end = place.gate }) place.count None es b
 held_at b cell head place zeros long has_cell is inside ordered at = (
   at.0.entries,
   record {
@@ -56,7 +44,7 @@ held_at b cell head place zeros long has_cell is inside ordered at = (
   },
 )
 
-pub head_out : (b : List ℕ) (s v at : ℕ) → ZeroFront b → 128 ≤ length b → HasCell s v b → at ≡ min (64 + v) (2 ^ 64 - 1) → length b ≤ at → IsDamagedAt at b
+pub head_out : (b : List ℕ) (s v at : ℕ) → AreZero 64 b → 128 ≤ length b → HasCell s v b → at ≡ min (64 + v) (2 ^ 64 - 1) → length b ≤ at → IsDamagedAt at b
 head_out b s v at zeros long cell is out =
     let value = value_of s v b cell in
     inr (zeros, inr (long, inl (omega (arith, value, is, out), omega (arith, value, is))))
@@ -66,7 +54,7 @@ reason_of d0 d1 d2 head (Damage at) goes le reason = goes at reason
 reason_of d0 d1 d2 head DiskFault goes le reason = omega (arith, reason, le)
 reason_of d0 d1 d2 head NoMemory goes le reason = reason
 
-pub walk_bad : (b : List ℕ) (s v head at : ℕ) → ZeroFront b → 128 ≤ length b → HasCell s v b → 64 + v ≡ head → head < length b → IsDamagedWalk head at b → IsDamagedAt at b
+pub walk_bad : (b : List ℕ) (s v head at : ℕ) → AreZero 64 b → 128 ≤ length b → HasCell s v b → 64 + v ≡ head → head < length b → IsDamagedWalk head at b → IsDamagedAt at b
 walk_bad b s v head at zeros long cell is inside bad =
     let at_head : 64 + cell_value b ≡ head = ap (λ (n : ℕ). 64 + n) (value_of s v b cell) ∙ is in
     inr (zeros, inr (long, inr (omega (arith, at_head, inside), subst (λ (h : ℕ). IsDamagedWalk h at b) (sym at_head) bad)))

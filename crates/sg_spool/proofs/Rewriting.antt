@@ -11,7 +11,7 @@ use Rattle.sg_spool.specs.Rewriting.{past_end, past, written_of, HasPayload, Sta
 use Rattle.sg_spool.specs.Ring.{Entries, IsPayload, IsEntry, Run, IsEnd, IsRow, IsLaid, size_at, block_of}
 use Rattle.sg_spool.specs.declared.places.Places.{Places}
 use Rattle.sg_spool.proofs.Behind.{length-block}
-use Rattle.sg_spool.proofs.CellPuts.{IsReady}
+use Rattle.sg_spool.specs.Advancing.{IsReady}
 use Rattle.sg_spool.proofs.Copying.{beyond_refl, beyond_trans, beyond_less, beyond_torn}
 use Rattle.sg_spool.proofs.Remaining.{past_other, past_jump}
 use Rattle.sg_spool.proofs.Rings.{run_grows, run_same, size_same, size_of, end_above}

@@ -5,9 +5,9 @@ use Rattle.std.proofs.lemmas.Nat.{from_be_bytes-to_be_bytes_4}
 use Rattle.std.specs.Int.{from_be_bytes, to_be_bytes, w32}
 use Rattle.sg_device.specs.DiskBytes.{part, SameIn, Torn}
 use Rattle.sg_device.proofs.Parts.{part_same, torn_length, torn_elsewhere}
-use Rattle.sg_stable.specs.Cell.{slot, HasCell}
+use Rattle.sg_stable.specs.Cell.{HasCell}
 use Rattle.sg_stable.specs.declared.cell.Pair.{Pair}
-use Rattle.sg_stable.proofs.Cells.{cell_same, word_same, slot_cases}
+use Rattle.sg_stable.proofs.Cells.{cell_same, has_cell_same as cell_stays}
 use Rattle.sg_spool.specs.Places.{HasRoom, bytes_between}
 use Rattle.sg_spool.specs.Ring.{size_at, Entries, space, IsEntry, Run, IsEnd, IsBuffer, IsRow, IsBelow, IsLaid, IsList}
 use Rattle.sg_spool.specs.Steps.{RingAt, IsUsed, Spares}
@@ -128,15 +128,9 @@ laid_spared jump head end es c d laid spares =
       below = laid.below;
     }
 
--- the cell, where the first 64 bytes stay
+-- the cell, where the first 40 bytes stay
 pub has_cell_same : (s v : ℕ) (c d : List ℕ) → HasCell s v c → length c ≤ length d → ((k : ℕ) → k < 40 → get_or d k 0 ≡ get_or c k 0) → HasCell s v d
-has_cell_same s v c d cell longer same =
-    let at_s = slot_cases s in
-    record {
-      size = omega (arith, cell.size, longer);
-      selects = same 0 (omega arith) ∙ cell.selects;
-      holds = word_same (slot s) c d (omega (arith, at_s, cell.size)) (omega (arith, at_s, cell.size, longer)) (λ k low high. same k (omega (arith, at_s, high))) ∙ cell.holds;
-    }
+has_cell_same s v c d cell longer same = cell_stays s v c d cell (omega (arith, cell.size, longer)) same
 
 module _ (cell : Pair) (jump : Option ℕ) (head end : ℕ) (es : Entries) where
   pub ring_spared : (c d : List ℕ) → RingAt cell jump head end es c → Spares jump head end c d → RingAt cell jump head end es d

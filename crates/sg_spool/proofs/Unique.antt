@@ -43,3 +43,23 @@ laid_unique j i g h e f es fs c one two =
 
 pub list_unique : (es fs : Entries) (c : List ℕ) → IsList es c → IsList fs c → es ≡ fs
 list_unique es fs c one two = laid_unique one.jump two.jump one.head two.head one.end two.end es fs c one.laid two.laid
+
+-- and at one place each
+row_places : (j i : Option ℕ) (c : List ℕ) (h e f : ℕ) (es fs : Entries) → IsRow j c h e es → IsRow i c h f fs → IsEnd c e → IsEnd c f → (j ≡ i) × (e ≡ f)
+row_places None None c h e f es fs one two end_e end_f = (refl, (run_unique c h es fs e f one two (at_end c e end_e) (at_end c f end_f)).1)
+row_places None (Some i) c h e f es fs one two end_e end_f =
+    let same = (run_unique c h es two.first e i one two.to_jump (at_end c e end_e) (at_jump c i two.jumps)).1 in
+    absurd (two.jumps.opened (ap (λ (k : ℕ). get_or c k 0) (sym same) ∙ end_e.shut))
+row_places (Some j) None c h e f es fs one two end_e end_f =
+    let same = (run_unique c h one.first fs j f one.to_jump two (at_jump c j one.jumps) (at_end c f end_f)).1 in
+    absurd (one.jumps.opened (ap (λ (k : ℕ). get_or c k 0) same ∙ end_f.shut))
+row_places (Some j) (Some i) c h e f es fs one two end_e end_f = (
+  ap (λ (k : ℕ). Some k) (run_unique c h one.first two.first j i one.to_jump two.to_jump (at_jump c j one.jumps) (at_jump c i two.jumps)).1,
+  (run_unique c 64 one.second two.second e f one.from_front two.from_front (at_end c e end_e) (at_end c f end_f)).1,
+)
+
+pub laid_places : (j i : Option ℕ) (g h e f : ℕ) (es fs : Entries) (c : List ℕ) → IsLaid j g e es c → IsLaid i h f fs c → (j ≡ i) × (g ≡ h) × (e ≡ f)
+laid_places j i g h e f es fs c one two =
+    let heads : h ≡ g = sym two.buffer.at_head ∙ one.buffer.at_head in
+    let rest = row_places j i c g e f es fs one.row (subst (λ (k : ℕ). IsRow i c k f fs) heads two.row) one.ends two.ends in
+    (rest.0, sym heads, rest.1)

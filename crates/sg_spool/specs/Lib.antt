@@ -1,10 +1,14 @@
+pub mod Advancing
 pub mod Answers
+pub mod Calls
 pub mod Copying
 pub mod Lists
 pub mod Opening
 pub mod Places
 pub mod Rewriting
 pub mod Ring
+pub mod Rows
+pub mod Staging
 pub mod Steps
 pub mod View
 pub mod Walk

@@ -2,21 +2,10 @@
 use Rattle.std.specs.Prelude.{◌≡◌, ◌≢◌, ◌⊎◌, ℕ, ◌+◌, ◌-◌, ◌<◌, ◌≤◌, ◌^◌, min, List, Option, Some, None, length, slice_index}
 use Rattle.sg_device.specs.Disk.{DiskState, content, WhereTold}
 use Rattle.sg_device.specs.Faults.{Rose}
-use Rattle.sg_stable.specs.Cell.{cell_value, IsOutside}
+use Rattle.sg_stable.specs.Cell.{cell_value, AreZero, IsFirstNonzero}
 use Rattle.sg_spool.specs.Ring.{Entries, IsEntry, IsJump, IsRow, IsBelow}
 use Rattle.sg_stable.specs.declared.fault.StoreRefusal.{StoreRefusal}
 use Rattle.sg_stable.specs.declared.fault.StoreRefusal.TheVariants.{Damage, DiskFault, NoMemory}
-
--- the bytes of the first 64 that are no part of the cell are zero
-abbrev pub ZeroFront : List ℕ → Type 0
-ZeroFront bytes = (k : ℕ) → k < 64 → IsOutside k → slice_index bytes k ≡ 0
-
--- the first of them that isn't
-pub record IsFrontNonzero (at : ℕ) (bytes : List ℕ) : Type 0 where
-  pub inside : at < 64
-  pub outside : IsOutside at
-  pub nonzero : slice_index bytes at ≢ 0
-  pub before : (k : ℕ) → k < at → IsOutside k → slice_index bytes k ≡ 0
 
 -- At this gate, which a walk reached, stands no end, no entry whose next gate may stand where it does, and no first jump.
 pub record IsBadGate (jump : Option ℕ) (head gate : ℕ) (bytes : List ℕ) : Type 0 where
@@ -45,7 +34,7 @@ IsDamagedBehind at bytes = ((length bytes < 128) × (at ≡ length bytes))
     ⊎ ((64 + cell_value bytes < length bytes) × IsDamagedWalk (64 + cell_value bytes) at bytes)))
 
 abbrev pub IsDamagedAt : ℕ → List ℕ → Type 0
-IsDamagedAt at bytes = IsFrontNonzero at bytes ⊎ (ZeroFront bytes × IsDamagedBehind at bytes)
+IsDamagedAt at bytes = IsFirstNonzero 64 at bytes ⊎ (AreZero 64 bytes × IsDamagedBehind at bytes)
 
 -- damage where it is, a fault where the count of faults rose, and never want of memory
 abbrev pub HasReason : DiskState → DiskState → StoreRefusal → Type 0

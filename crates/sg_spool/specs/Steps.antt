@@ -1,5 +1,5 @@
 -- What holds of the images while a call goes on.
-use Rattle.std.specs.Prelude.{◌≡◌, ◌⊎◌, ℕ, ◌+◌, ◌<◌, ◌≤◌, List, length, slice_index, Option, Some, None}
+use Rattle.std.specs.Prelude.{◌≡◌, ◌⊎◌, ℕ, ◌+◌, ◌<◌, ◌≤◌, max, List, length, slice_index, Option, Some, None}
 use Rattle.sg_stable.specs.Cell.{HasCell}
 use Rattle.sg_stable.specs.declared.cell.Pair.{Pair}
 use Rattle.sg_spool.specs.Ring.{Entries, IsLaid, IsList}
@@ -28,3 +28,7 @@ IsUsed (Some jump) head end k = (k < 64) ⊎ ((k ≤ end) ⊎ ((head ≤ k) × (
 pub record Spares (jump : Option ℕ) (head end : ℕ) (old new : List ℕ) : Type 0 where
   pub longer : length old ≤ length new
   pub same : (k : ℕ) → IsUsed jump head end k → k < length old → slice_index new k ≡ slice_index old k
+
+-- no file grows past this length
+abbrev pub Grows : ℕ → List ℕ → List ℕ → Type 0
+Grows most old new = length new ≤ max (length old) most

@@ -4,8 +4,8 @@
 
 mod advance;
 mod answers;
-mod append;
 mod block;
+mod commit;
 mod gather;
 mod laws;
 mod open;
@@ -13,7 +13,9 @@ mod places;
 mod read;
 mod rewrite;
 mod room;
+mod rows;
 mod spool;
+mod stage;
 mod walk;
 
 pub use answers::{Appended, Front, RewriteRefusal, Walked};
@@ -21,4 +23,5 @@ pub use block::Block;
 pub use laws::bytes_have_one_meaning;
 pub use places::Places;
 pub use rewrite::Recode;
+pub use rows::Rows;
 pub use spool::Spool;

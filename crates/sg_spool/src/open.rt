@@ -1,16 +1,15 @@
 // Opening a disk-buffer's store.
 ghost use Rattle.std.specs.Prelude.{◌≡◌, ◌↔◌, ◌<◌, ◌≤◌, ◌+◌, ◌^◌, ℕ, length, slice_index, false, IsTrue, IfOk, IfErr, IfNone, IfSome, OnOk, None};
 ghost use Rattle.sg_device.specs.Disk.{content, Preserves, Rests, Durable, WhereTold, IsImage};
-ghost use Rattle.sg_stable.specs.Cell.{IsOutside, HasCell, word, slot};
 ghost use Rattle.sg_spool.specs.Ring.{Entries};
 ghost use Rattle.sg_spool.specs.Places.{IsOrdered};
 ghost use Rattle.sg_spool.specs.View.{IsHeld};
-ghost use Rattle.sg_spool.specs.Opening.{HasReason, IsFrontNonzero};
+ghost use Rattle.sg_spool.specs.Opening.{HasReason};
 
 use crate::Places;
 use crate::walk::walk_from;
 use sg_device::Disk;
-use sg_stable::{Pair, StoreRefusal};
+use sg_stable::{Pair, StoreRefusal, first_nonzero};
 
 /// What an opening finds: the cell, the places and the number of entries.
 #[derive(Clone, Copy)]
@@ -47,13 +46,13 @@ fn inspect<D: Disk>(disk: &mut D) -> Result<Found, StoreRefusal>
     let len = disk.len()?;
     let mut bytes = [0; 64];
     disk.read_at(0, &mut bytes)?;
-    if let Some(at) = front_nonzero(&bytes) {
+    if let Some(at) = first_nonzero(&bytes) {
         return Err(StoreRefusal::Damage(at as u64));
     }
     if len < 128 {
         return Err(StoreRefusal::Damage(len));
     }
-    let cell = cell_of(&bytes);
+    let cell = Pair::at_front(&bytes);
     let head = cell.value.saturating_add(64);
     if head >= len {
         return Err(StoreRefusal::Damage(head));
@@ -68,63 +67,4 @@ fn inspect<D: Disk>(disk: &mut D) -> Result<Found, StoreRefusal>
         },
         count: place.count,
     })
-}
-
-// The cell at the front of these bytes.
-fn cell_of(bytes: &[u8]) -> Pair
-    requires { length bytes.now ≡ 64 }
-    ensures has_cell { HasCell result.selector result.value bytes.now }
-    ensures opened { result.closed ≡ false }
-{
-    let selector = bytes[0];
-    let value = word_at(bytes, slot_of(selector));
-    Pair {
-        selector,
-        value,
-        closed: false,
-    }
-}
-
-// The place of the slot that is selected.
-fn slot_of(selector: u8) -> usize
-    ensures { result ≡ slot selector }
-{
-    if selector % 2 == 0 { 16 } else { 32 }
-}
-
-// The big-endian number at this place.
-fn word_at(bytes: &[u8], at: usize) -> u64
-    requires { at + 8 ≤ length bytes.now }
-    ensures { result ≡ word at bytes.now }
-{
-    u64::from_be_bytes([
-        bytes[at],
-        bytes[at + 1],
-        bytes[at + 2],
-        bytes[at + 3],
-        bytes[at + 4],
-        bytes[at + 5],
-        bytes[at + 6],
-        bytes[at + 7],
-    ])
-}
-
-fn is_outside(k: usize) -> bool
-    ensures { IsTrue result ↔ IsOutside k }
-{
-    (k >= 1 && k < 16) || (k >= 24 && k < 32) || k >= 40
-}
-
-// The first byte outside the cell that isn't zero.
-fn front_nonzero(bytes: &[u8]) -> Option<usize>
-    requires { length bytes.now ≡ 64 }
-    ensures none { IfNone result ((k : ℕ) → k < 64 → IsOutside k → slice_index bytes.now k ≡ 0) }
-    ensures found { IfSome result (λ at. IsFrontNonzero at bytes.now) }
-{
-    for (i, byte) in bytes.iter().enumerate() {
-        if is_outside(i) && *byte != 0 {
-            return Some(i);
-        }
-    }
-    None
 }

@@ -1,16 +1,19 @@
 // Where an entry goes.
-ghost use Rattle.std.specs.Prelude.{◌≡◌, ◌≤◌, ◌<◌, ◌+◌, ◌-◌, ◌*◌, ◌^◌, ◌++◌, [], ◌∷◌, List, ℕ, length, OnOk, IfOk, Some, None, true, false, IsTrue, ◌↔◌};
-ghost use Rattle.sg_device.specs.Disk.{IsImage, Within, EachNow, HasCause};
+ghost use Rattle.std.specs.Prelude.{◌≡◌, ◌⊎◌, ◌≤◌, ◌<◌, ◌+◌, ◌-◌, ◌*◌, ◌^◌, ◌++◌, [], ◌∷◌, List, ℕ, length, min, OnOk, IfOk, Some, None, true, false, IsTrue, ◌↔◌};
+ghost use Rattle.sg_device.specs.Disk.{content, Within, EachNow, HasCause, WhereTold, Elapses};
 ghost use Rattle.sg_stable.specs.Cell.{HasCell};
-ghost use Rattle.sg_spool.specs.Lists.{Stays, Perhaps, Appends};
+ghost use Rattle.sg_spool.specs.Lists.{IsOneOf};
 ghost use Rattle.sg_spool.specs.Places.{IsOrdered, live, Fits, HasRoom, AreCompact, bound};
 ghost use Rattle.sg_spool.specs.Ring.{Entries};
-ghost use Rattle.sg_spool.specs.Steps.{Stems, After};
-ghost use Rattle.sg_spool.specs.View.{IsRing};
+ghost use Rattle.sg_spool.specs.Rows.{AreRows, listed, total};
+ghost use Rattle.sg_spool.specs.Staging.{OpensTo};
+ghost use Rattle.sg_spool.specs.Steps.{Spares, Grows};
+ghost use Rattle.sg_spool.specs.View.{IsRing, AreHeld, AreHeldAfter};
 
-use crate::append::{append_behind, append_in_front};
+use crate::commit::commit_rows;
 use crate::gather::gather;
-use crate::{Block, Places};
+use crate::stage::stage_entry;
+use crate::{Block, Places, Rows};
 use sg_device::{Disk, DiskFault};
 use sg_stable::Pair;
 
@@ -23,138 +26,115 @@ pub(crate) fn fits(places: Places, capacity: u64, size: u64) -> bool
     places.live() + size + 6 <= capacity
 }
 
-// Writes an entry, where it fits the capacity: the room for it is made, and then it is put there.
-pub(crate) fn append_entry<D: Disk>(
+// Writes an entry behind what is staged, where it fits the capacity: the room for it is made, and then it
+// is put there.
+pub(crate) fn stage_block<D: Disk>(
     disk: &mut D,
     cell: &mut Pair,
-    places: Places,
+    rows: Rows,
     capacity: u64,
     block: &Block,
-) -> Result<Places, DiskFault>
-    requires ordered { IsOrdered places }
-    requires fits { Fits capacity places (length block.now) }
+) -> Result<Rows, DiskFault>
+    requires rows { AreRows rows }
+    requires fits { Fits capacity rows.ahead (length block.now) }
     requires cell_open { cell.old.closed ≡ false }
     requires has_cell { EachNow (D.state disk.old) (HasCell cell.old.selector cell.old.value) }
 
-    ensures within { (es : Entries) → EachNow (D.state disk.old) (IsRing cell.old places es)
-        → Within (D.state disk.old) (D.state disk.new) (Stems (IsImage (D.state disk.old)) (After (Perhaps (Appends block.now)) es)) }
+    ensures within { (list staged : Entries) → AreHeld (D.state disk.old) cell.old rows list staged
+        → Within (D.state disk.old) (D.state disk.new) (IsOneOf list (list ++ staged)) }
 
-    ensures ring { IfOk result (λ longer. (es : Entries) → EachNow (D.state disk.old) (IsRing cell.old places es)
-        → EachNow (D.state disk.new) (Stems (IsImage (D.state disk.old)) (IsRing cell.new longer (es ++ block.now ∷ [])))) }
+    ensures staged { IfOk result (λ next. (list staged : Entries) → AreHeld (D.state disk.old) cell.old rows list staged
+        → AreHeldAfter (D.state disk.new) cell.new rows next list staged (block.now ∷ [])) }
 
-    ensures ordered { IfOk result (λ longer. IsOrdered longer) }
-    ensures live { IfOk result (λ longer. live longer ≡ live places + 5 + length block.now) }
-    ensures compact { IfOk result (λ longer. AreCompact capacity places.jump places.head places.end → AreCompact capacity longer.jump longer.head longer.end) }
-    ensures short { AreCompact capacity places.jump places.head places.end → EachNow (D.state disk.old) (λ bytes. length bytes ≤ bound capacity)
-        → Within (D.state disk.old) (D.state disk.new) (λ bytes. length bytes ≤ bound capacity) }
+    ensures rows { IfOk result (λ next. AreRows next) }
+    ensures total { IfOk result (λ next. total next ≡ min (total rows + 1) (2 ^ 64 - 1)) }
+    ensures live { IfOk result (λ next. live next.ahead ≡ live rows.ahead + 5 + length block.now) }
+
+    // Where there is room, the images keep the ring, and nothing grows past the bound.
+    ensures images { HasRoom rows.ahead.jump rows.ahead.head rows.ahead.end (length block.now) → Elapses (Spares rows.list.jump rows.list.head rows.list.end) (D.state disk.old) (D.state disk.new) }
+    ensures list { HasRoom rows.ahead.jump rows.ahead.head rows.ahead.end (length block.now) → IfOk result (λ next. next.list ≡ rows.list) }
+    ensures compact { IfOk result (λ next. AreCompact capacity rows.ahead.jump rows.ahead.head rows.ahead.end → AreCompact capacity next.ahead.jump next.ahead.head next.ahead.end) }
+    ensures short { AreCompact capacity rows.ahead.jump rows.ahead.head rows.ahead.end → Elapses (Grows (bound capacity)) (D.state disk.old) (D.state disk.new) }
 
     ensures cell_open { OnOk result (cell.new.closed ≡ false) }
     ensures cause { HasCause (D.state disk.old).faults (D.state disk.new).faults result }
 {
-    let moved = make_room(disk, cell, places, block.size())?;
-    let longer = put_entry(disk, moved, capacity, block)?;
-    Ok(longer)
+    let roomy = make_room(disk, cell, rows, block.size())?;
+    let ahead = stage_entry(disk, roomy, capacity, block)?;
+    Ok(Rows {
+        list: roomy.list,
+        ahead,
+        count: roomy.count,
+        staged: roomy.staged.saturating_add(1),
+    })
 }
 
-// Makes room behind the end for a payload of this length: where it would come to the head, the list is
-// moved behind its jump.
+// Makes room behind what is staged for a payload of this length: where it would come to the head, what is
+// staged is put into the list, and the list is moved behind its jump.
 fn make_room<D: Disk>(
     disk: &mut D,
     cell: &mut Pair,
-    places: Places,
+    rows: Rows,
     size: u64,
-) -> Result<Places, DiskFault>
-    requires ordered { IsOrdered places }
+) -> Result<Rows, DiskFault>
+    requires rows { AreRows rows }
     requires small { size ≤ 2 ^ 62 }
     requires cell_open { cell.old.closed ≡ false }
     requires has_cell { EachNow (D.state disk.old) (HasCell cell.old.selector cell.old.value) }
 
-    ensures within { (es : Entries) → EachNow (D.state disk.old) (IsRing cell.old places es)
-        → Within (D.state disk.old) (D.state disk.new) (Stems (IsImage (D.state disk.old)) (After Stays es)) }
+    ensures within { (list staged : Entries) → AreHeld (D.state disk.old) cell.old rows list staged
+        → Within (D.state disk.old) (D.state disk.new) (IsOneOf list (list ++ staged)) }
 
-    ensures ring { IfOk result (λ moved. (es : Entries) → EachNow (D.state disk.old) (IsRing cell.old places es)
-        → EachNow (D.state disk.new) (Stems (IsImage (D.state disk.old)) (IsRing cell.new moved es))) }
+    ensures held { IfOk result (λ next. (list staged : Entries) → AreHeld (D.state disk.old) cell.old rows list staged
+        → AreHeldAfter (D.state disk.new) cell.new rows next list staged []) }
 
-    ensures ordered { IfOk result (λ moved. IsOrdered moved) }
-    ensures room { IfOk result (λ moved. HasRoom moved.jump moved.head moved.end size) }
-    ensures live { IfOk result (λ moved. live moved ≡ live places) }
-    ensures untouched { HasRoom places.jump places.head places.end size → disk.new ≡ disk.old }
-    ensures stays { IfOk result (λ moved. HasRoom places.jump places.head places.end size → moved ≡ places) }
+    ensures rows { IfOk result (λ next. AreRows next) }
+    ensures total { IfOk result (λ next. total next ≡ total rows) }
+    ensures room { IfOk result (λ next. HasRoom next.ahead.jump next.ahead.head next.ahead.end size) }
+    ensures live { IfOk result (λ next. live next.ahead ≡ live rows.ahead) }
+    ensures untouched { HasRoom rows.ahead.jump rows.ahead.head rows.ahead.end size → disk.new ≡ disk.old }
+    ensures stays { IfOk result (λ next. HasRoom rows.ahead.jump rows.ahead.head rows.ahead.end size → next ≡ rows) }
     ensures cell_open { OnOk result (cell.new.closed ≡ false) }
     ensures cause { HasCause (D.state disk.old).faults (D.state disk.new).faults result }
 {
-    match places.jump {
-        None => Ok(places),
+    match rows.ahead.jump {
+        None => Ok(rows),
         Some(jump) => {
-            if places.end + size + 6 <= places.head {
-                return Ok(places);
+            if rows.ahead.end + size + 6 <= rows.ahead.head {
+                return Ok(rows);
             }
-            let moved = gather(disk, cell, places, jump)?;
+            let moved = gather_rows(disk, cell, rows, jump)?;
             Ok(moved)
         }
     }
 }
 
-// Writes an entry into the room that there is: behind the end, or over the end of the ring.
-fn put_entry<D: Disk>(
+// Puts what is staged into the list, and moves the list behind its jump.
+fn gather_rows<D: Disk>(
     disk: &mut D,
-    places: Places,
-    capacity: u64,
-    block: &Block,
-) -> Result<Places, DiskFault>
-    requires ordered { IsOrdered places }
-    requires fits { Fits capacity places (length block.now) }
-    requires room { HasRoom places.jump places.head places.end (length block.now) }
+    cell: &mut Pair,
+    rows: Rows,
+    jump: u64,
+) -> Result<Rows, DiskFault>
+    requires rows { AreRows rows }
+    requires jumps { rows.ahead.jump ≡ Some jump }
+    requires cell_open { cell.old.closed ≡ false }
+    requires has_cell { EachNow (D.state disk.old) (HasCell cell.old.selector cell.old.value) }
 
-    ensures within { (cell : Pair) (es : Entries) → EachNow (D.state disk.old) (IsRing cell places es)
-        → Within (D.state disk.old) (D.state disk.new) (Stems (IsImage (D.state disk.old)) (After (Perhaps (Appends block.now)) es)) }
+    ensures within { (list staged : Entries) → AreHeld (D.state disk.old) cell.old rows list staged
+        → Within (D.state disk.old) (D.state disk.new) (IsOneOf list (list ++ staged)) }
 
-    ensures ring { IfOk result (λ longer. (cell : Pair) (es : Entries) → EachNow (D.state disk.old) (IsRing cell places es)
-        → EachNow (D.state disk.new) (Stems (IsImage (D.state disk.old)) (IsRing cell longer (es ++ block.now ∷ [])))) }
+    ensures ring { IfOk result (λ next. (list staged : Entries) → AreHeld (D.state disk.old) cell.old rows list staged
+        → EachNow (D.state disk.new) (IsRing cell.new next.list (list ++ staged))) }
 
-    ensures ordered { IfOk result (λ longer. IsOrdered longer) }
-    ensures live { IfOk result (λ longer. live longer ≡ live places + 5 + length block.now) }
-
-    // The bound on the file's length goes on.
-    ensures compact { IfOk result (λ longer. AreCompact capacity places.jump places.head places.end → AreCompact capacity longer.jump longer.head longer.end) }
-    ensures short { AreCompact capacity places.jump places.head places.end → EachNow (D.state disk.old) (λ bytes. length bytes ≤ bound capacity)
-        → Within (D.state disk.old) (D.state disk.new) (λ bytes. length bytes ≤ bound capacity) }
-
+    ensures rows { IfOk result (λ next. next ≡ listed next.list (total rows)) }
+    ensures ordered { IfOk result (λ next. IsOrdered next.list) }
+    ensures row { IfOk result (λ next. next.list.jump ≡ None) }
+    ensures live { IfOk result (λ next. live next.list ≡ live rows.ahead) }
+    ensures cell_open { OnOk result (cell.new.closed ≡ false) }
     ensures cause { HasCause (D.state disk.old).faults (D.state disk.new).faults result }
 {
-    let size = block.size();
-    if wraps(places, capacity, size) {
-        append_in_front(disk, places.end, block.bytes())?;
-        return Ok(Places {
-            jump: Some(places.end),
-            head: places.head,
-            end: 69 + size,
-        });
-    }
-    append_behind(disk, places.end, block.bytes())?;
-    Ok(Places {
-        jump: places.jump,
-        head: places.head,
-        end: places.end + 5 + size,
-    })
-}
-
-// Whether a place is past the end of the ring, which is 64 and twice the capacity.
-fn is_past(place: u64, capacity: u64) -> bool
-    requires { place < 2 ^ 64 - 1 }
-    ensures { IsTrue result ↔ 64 + 2 * capacity < place }
-{
-    place > capacity.saturating_mul(2).saturating_add(64)
-}
-
-// Whether an entry behind the end would come past the end of the ring.
-fn wraps(places: Places, capacity: u64, size: u64) -> bool
-    requires { places.end + size + 6 < 2 ^ 64 - 1 }
-    ensures yes { result ≡ true → (places.jump ≡ None) × (64 + 2 * capacity < places.end + size + 6) }
-    ensures no { result ≡ false → places.jump ≡ None → places.end + size + 6 ≤ 64 + 2 * capacity }
-{
-    match places.jump {
-        None => is_past(places.end + size + 6, capacity),
-        Some(_) => false,
-    }
+    let whole = commit_rows(disk, rows)?;
+    let moved = gather(disk, cell, whole.list, jump)?;
+    Ok(Rows::listed(moved, whole.count))
 }

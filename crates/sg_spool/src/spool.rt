@@ -1,21 +1,23 @@
 // The disk-buffer on its disk.
-ghost use Rattle.std.specs.Prelude.{◌≡◌, ◌⊎◌, ◌↔◌, ◌≤◌, ◌<◌, ◌+◌, ◌-◌, ◌^◌, List, ℕ, length, min, OnOk, OnErr, IfOk, IfErr, Some, None, true, false, IsTrue, is_err};
+ghost use Rattle.std.specs.Prelude.{◌≡◌, ◌⊎◌, ◌↔◌, ◌≤◌, ◌<◌, ◌+◌, ◌-◌, ◌^◌, ◌++◌, [], ◌∷◌, List, ℕ, length, drop, map, min, OnOk, OnErr, IfOk, IfErr, Some, None, true, false, IsTrue, is_err};
 ghost use Rattle.std.specs.Option.{option_map};
-ghost use Rattle.sg_device.specs.Disk.{content, IsImage, Preserves, Rests, Durable, Moves, Within, EachNow, WhereTold, HasCause};
-ghost use Rattle.sg_device.specs.Faults.{Rose};
-ghost use Rattle.sg_spool.specs.Answers.{IsAppended, WhereDone, WhereNoRoom, IsFronted, IsFirst, IsWalked, IsNext, IsRefused, HasFailed};
-ghost use Rattle.sg_spool.specs.Lists.{Stays, Perhaps, Appends, Advances, Recodes, Follows};
+ghost use Rattle.sg_device.specs.Disk.{content, Preserves, Rests, Durable, Within, EachNow, WhereTold};
+ghost use Rattle.sg_spool.specs.Answers.{Stages, Appends, Commits, Advances, Respells, IsFronted, IsFirst, IsWalked, IsNext};
+ghost use Rattle.sg_spool.specs.Calls.{Lasts, Leaves, Reads};
+ghost use Rattle.sg_spool.specs.Lists.{IsOneOf};
 ghost use Rattle.sg_spool.specs.Opening.{HasReason};
-ghost use Rattle.sg_spool.specs.Places.{live, Fits, gate_past, Remains, bound};
+ghost use Rattle.sg_spool.specs.Places.{live, Fits, gate_past, Remains};
 ghost use Rattle.sg_spool.specs.Ring.{Entries, IsList, IsLaid, space};
-ghost use Rattle.sg_spool.specs.View.{View, IsCompact, IsFresh};
+ghost use Rattle.sg_spool.specs.Rows.{listed};
+ghost use Rattle.sg_spool.specs.View.{View, Holds, IsCompact, IsCompactIn};
 
 use crate::advance::advance_past;
+use crate::commit::commit_rows;
 use crate::open::look;
 use crate::read::{copy_of, read_entry};
 use crate::rewrite::{behind, rewrite_list};
-use crate::room::{append_entry, fits};
-use crate::{Appended, Block, Front, Places, Recode, RewriteRefusal, Walked};
+use crate::room::{fits, stage_block};
+use crate::{Appended, Block, Front, Recode, RewriteRefusal, Rows, Walked};
 use sg_device::{Disk, DiskFault, NoMemory};
 use sg_stable::{Pair, StoreRefusal};
 use std::alloc::{AllocError, Global};
@@ -25,15 +27,14 @@ use std::marker::Model;
 /// any call.
 ///
 /// Payloads have 1 to 2^30 + 64 bytes. An entry takes 5 bytes more than its payload; the sum over the
-/// entries is limited by the capacity. The first fault of the disk closes it: from then on each call
-/// answers that the disk failed, and leaves the disk as it is. The list may then be the one before that
-/// call or the one after it.
+/// entries, those staged too, is limited by the capacity. The first fault of the disk closes it: from then
+/// on nothing is staged, and each call answers that the disk failed, and leaves the disk as it is. The
+/// list may then be the one before that call or the one after it.
 pub struct Spool<D: Disk> {
     disk: D,
     cell: Pair,
     capacity: u64,
-    places: Places,
-    count: u64,
+    rows: Rows,
     front: Option<Vec<u8>>,
     closed: bool,
 }
@@ -44,9 +45,9 @@ impl<D: Disk> Model for Spool<D> {
 
     ghost Value = { View D };
 
-    ghost view = { λ s. record { disk = s.disk; capacity = s.capacity; places = s.places; count = s.count; front = option_map (λ v. v.items) s.front; closed = s.closed } };
+    ghost view = { λ s. record { disk = s.disk; capacity = s.capacity; rows = s.rows; front = option_map (λ v. v.items) s.front; closed = s.closed } };
 
-    ghost invariant = { λ s. IsSound D.state s.cell (record { disk = s.disk; capacity = s.capacity; places = s.places; count = s.count; front = option_map (λ v. v.items) s.front; closed = s.closed }) };
+    ghost invariant = { λ s. IsSound D.state s.cell (record { disk = s.disk; capacity = s.capacity; rows = s.rows; front = option_map (λ v. v.items) s.front; closed = s.closed }) };
 }
 
 impl<D: Disk> Spool<D> {
@@ -54,16 +55,17 @@ impl<D: Disk> Spool<D> {
     /// with a sync, changes nothing, and takes no memory; but where that sync fails, a read may give another
     /// of the images since. A refusal gives the disk back.
     pub fn open(disk: D, capacity: u64) -> Result<Spool<D>, (D, StoreRefusal)>
-        ensures list { IfOk result (λ spool. WhereTold (content (D.state disk)) (λ bytes. (entries : Entries) × IsLaid spool.places.jump spool.places.head spool.places.end entries bytes × (spool.count ≡ length entries))) }
+        ensures list { IfOk result (λ spool. WhereTold (content (D.state disk)) (λ bytes. (list : Entries) × IsList list bytes × Holds D.state spool list [] × (spool.rows.count ≡ length list))) }
         ensures opened { IfOk result (λ spool. spool.closed ≡ false) }
         ensures capacity { IfOk result (λ spool. spool.capacity ≡ capacity) }
+        ensures rows { IfOk result (λ spool. spool.rows ≡ listed spool.rows.list spool.rows.count) }
         ensures unread { IfOk result (λ spool. spool.front ≡ None) }
         ensures durable { IfOk result (λ spool. Durable (D.state spool.disk)) }
         ensures preserves { IfOk result (λ spool. Preserves (D.state disk) (D.state spool.disk)) }
         ensures later { IfOk result (λ spool. (D.state disk).faults ≤ (D.state spool.disk).faults) }
 
-        // On a fresh store the bound on the file's length begins.
-        ensures compact { IfOk result (λ spool. IsFresh (D.state disk) → IsCompact D.state spool) }
+        // The bound on the file's length, taken up again: any image of one within its bound is, and so is a fresh store.
+        ensures compact { IfOk result (λ spool. (bytes : List ℕ) → content (D.state disk) ≡ Some bytes → IsCompactIn capacity bytes → IsCompact D.state spool) }
 
         ensures err_rests { IfErr result (λ e. Rests (D.state disk) (D.state e.0)) }
         ensures err_later { IfErr result (λ e. (D.state disk).faults ≤ (D.state e.0).faults) }
@@ -75,8 +77,7 @@ impl<D: Disk> Spool<D> {
                 disk,
                 cell: found.cell,
                 capacity,
-                places: found.places,
-                count: found.count,
+                rows: Rows::listed(found.places, found.count),
                 front: None,
                 closed: false,
             }),
@@ -85,92 +86,108 @@ impl<D: Disk> Spool<D> {
     }
 
     /// Whether a payload of this length fits: with its gate, its length and a closed gate it is within
-    /// the capacity, beside the entries that stand.
+    /// the capacity, beside the entries that stand and those staged.
     pub fn fits(&self, length: u64) -> bool
         requires { length ≤ 2 ^ 62 }
-        ensures fits { IsTrue result ↔ Fits self.now.capacity self.now.places length }
-        ensures space { self.now.closed ≡ false → EachNow (D.state self.now.disk) (λ bytes. (entries : Entries) → IsList entries bytes → live self.now.places ≡ space entries) }
+        ensures fits { IsTrue result ↔ Fits self.now.capacity self.now.rows.ahead length }
+        ensures space { self.now.closed ≡ false → WhereTold (content (D.state self.now.disk)) (λ bytes. (list staged : Entries) → Holds D.state self.now list staged → live self.now.rows.ahead ≡ space (list ++ staged)) }
     {
-        fits(self.places, self.capacity, length)
+        fits(self.rows.ahead, self.capacity, length)
     }
 
-    /// Puts an entry behind the list. It takes no memory.
-    pub fn append(&mut self, block: &Block) -> Appended
-        ensures answer { IsAppended self.old self.new (length block.now) (D.state self.old.disk).faults (D.state self.new.disk).faults result }
-
-        // Within the call an image has the list, or the list and the entry; after it the list and the entry.
-        ensures within { self.old.closed ≡ false → Within (D.state self.old.disk) (D.state self.new.disk) (Follows (IsImage (D.state self.old.disk)) (Perhaps (Appends block.now))) }
-        ensures done { WhereDone result (EachNow (D.state self.new.disk) (Follows (IsImage (D.state self.old.disk)) (Appends block.now))) }
-        ensures moves { Moves (D.state self.old.disk) (D.state self.new.disk) }
-
-        ensures count { WhereDone result (self.new.count ≡ min (self.old.count + 1) (2 ^ 64 - 1)) }
-        ensures live { WhereDone result (live self.new.places ≡ live self.old.places + 5 + length block.now) }
-        ensures no_room { WhereNoRoom result (self.new ≡ self.old) }
-        ensures untouched { self.old.closed ≡ true → self.new ≡ self.old }
-        ensures capacity { self.new.capacity ≡ self.old.capacity }
+    /// Writes a payload behind those staged before; the list stays as it is until `commit`. Where there is
+    /// no room behind them, which only a capacity greater than an earlier run's brings, those are put into
+    /// the list first. It takes no memory.
+    pub fn stage(&mut self, block: &Block) -> Appended
+        ensures lasts { Lasts D.state self.old self.new }
+        ensures leaves { Leaves D.state self.old self.new (λ list staged. list ++ staged) }
+        ensures answer { Stages D.state self.old self.new block.now result }
         ensures front { self.new.front ≡ self.old.front }
-
-        // The bound on the file's length, at every moment.
-        ensures compact { IsCompact D.state self.old → IsCompact D.state self.new }
-        ensures short { IsCompact D.state self.old → Within (D.state self.old.disk) (D.state self.new.disk) (λ bytes. length bytes ≤ bound self.old.capacity) }
-
-        ensures later { (D.state self.old.disk).faults ≤ (D.state self.new.disk).faults }
-        ensures blames { (f : ℕ) → f ≤ (D.state self.old.disk).faults → (self.old.closed ≡ true → Rose f (D.state self.old.disk).faults) → self.new.closed ≡ true → Rose f (D.state self.new.disk).faults }
     {
         if self.closed {
             return Appended::DiskFailed;
         }
-        let size = block.size();
-        if !fits(self.places, self.capacity, size) {
+        if !fits(self.rows.ahead, self.capacity, block.size()) {
             return Appended::NoRoom;
         }
+        let rows = self.rows;
         self.closed = true;
-        let Ok(places) = append_entry(
-            &mut self.disk,
-            &mut self.cell,
-            self.places,
-            self.capacity,
-            block,
-        ) else {
+        self.rows = rows.unstaged();
+        let Ok(next) = stage_block(&mut self.disk, &mut self.cell, rows, self.capacity, block)
+        else {
             return Appended::DiskFailed;
         };
-        self.places = places;
-        self.count = self.count.saturating_add(1);
+        self.rows = next;
         self.closed = false;
         Appended::Done
     }
 
-    /// The first entry. Behind one that answered Item, with no append or advance between, it reads
-    /// nothing.
+    /// Puts all that is staged into the list: an image has the list with all of it or without. However many
+    /// payloads that are, it syncs twice; where nothing is staged, it makes no call to the disk. It takes
+    /// no memory.
+    pub fn commit(&mut self) -> Result<(), DiskFault>
+        ensures lasts { Lasts D.state self.old self.new }
+        ensures leaves { Leaves D.state self.old self.new (λ list staged. list ++ staged) }
+        ensures answer { Commits D.state self.old self.new result }
+        ensures quiet { self.old.rows.staged ≡ 0 → self.new ≡ self.old }
+        ensures front { self.new.front ≡ self.old.front }
+    {
+        if self.closed {
+            return Err(DiskFault);
+        }
+        if self.rows.staged == 0 {
+            return Ok(());
+        }
+        let rows = self.rows;
+        self.closed = true;
+        self.rows = rows.unstaged();
+        let next = commit_rows(&mut self.disk, rows)?;
+        self.rows = next;
+        self.closed = false;
+        Ok(())
+    }
+
+    /// Puts an entry behind the list: it is staged and committed. It takes no memory.
+    pub fn append(&mut self, block: &Block) -> Appended
+        requires { self.old.rows.staged ≡ 0 }
+        ensures lasts { Lasts D.state self.old self.new }
+        ensures leaves { Leaves D.state self.old self.new (λ list staged. list ++ block.now ∷ []) }
+        ensures answer { Appends D.state self.old self.new block.now result }
+        ensures front { self.new.front ≡ self.old.front }
+    {
+        match self.stage(block) {
+            Appended::Done => {}
+            Appended::NoRoom => return Appended::NoRoom,
+            Appended::DiskFailed => return Appended::DiskFailed,
+        }
+        match self.commit() {
+            Ok(()) => Appended::Done,
+            Err(_) => Appended::DiskFailed,
+        }
+    }
+
+    /// The first entry. Behind one that answered Item, with no call between but `fits`, `count` or `head`,
+    /// it reads nothing.
     pub fn front(&mut self, alloc: Global) -> Result<Front, NoMemory>
+        requires { self.old.rows.staged ≡ 0 }
+        ensures reads { Reads D.state self.old self.new }
         ensures answer { IfOk result (IsFronted self.old self.new (D.state self.old.disk).faults (D.state self.new.disk).faults) }
         ensures first { IfOk result (IsFirst (D.state self.old.disk)) }
         ensures no_memory { OnErr result (self.new.closed ≡ false) }
         ensures unread { OnErr result (self.new.front ≡ self.old.front) }
         ensures again { (payload : List ℕ) → self.old.front ≡ Some payload → self.new.disk ≡ self.old.disk }
-
-        ensures told { (D.state self.new.disk).told ≡ (D.state self.old.disk).told }
-        ensures places { self.new.places ≡ self.old.places }
-        ensures count { self.new.count ≡ self.old.count }
-        ensures capacity { self.new.capacity ≡ self.old.capacity }
-        ensures untouched { self.old.closed ≡ true → self.new ≡ self.old }
-        ensures later { (D.state self.old.disk).faults ≤ (D.state self.new.disk).faults }
-        ensures blames { (f : ℕ) → f ≤ (D.state self.old.disk).faults → (self.old.closed ≡ true → Rose f (D.state self.old.disk).faults) → self.new.closed ≡ true → Rose f (D.state self.new.disk).faults }
     {
         if self.closed {
             return Ok(Front::DiskFailed);
         }
-        if self.count == 0 {
+        if self.rows.count == 0 {
             return Ok(Front::Empty);
         }
         if let Some(payload) = &self.front {
             return Ok(Front::Item(copy_of(alloc, payload)?));
         }
-        match read_entry(
-            alloc,
-            &mut self.disk,
-            self.places.gate_past(self.places.head),
-        ) {
+        let list = self.rows.list;
+        match read_entry(alloc, &mut self.disk, list.gate_past(list.head)) {
             Ok(payload) => {
                 let copy = copy_of(alloc, &payload)?;
                 self.front = Some(payload);
@@ -184,81 +201,60 @@ impl<D: Disk> Spool<D> {
         }
     }
 
-    /// Takes the first entry off the list. It takes no memory.
-    pub fn advance(&mut self) -> Result<(), DiskFault>
-        requires { 1 ≤ self.old.count }
-
-        // Within the call an image has the list, or the list without its first entry; after it the latter.
-        ensures within { self.old.closed ≡ false → Within (D.state self.old.disk) (D.state self.new.disk) (Follows (IsImage (D.state self.old.disk)) (Perhaps Advances)) }
-        ensures done { OnOk result (EachNow (D.state self.new.disk) (Follows (IsImage (D.state self.old.disk)) Advances)) }
-        ensures moves { Moves (D.state self.old.disk) (D.state self.new.disk) }
-
-        ensures count { OnOk result (self.new.count + 1 ≡ self.old.count) }
-        ensures refused { OnErr result (self.new.count ≡ self.old.count) }
-        ensures front { OnOk result (self.new.front ≡ None) }
-        ensures closed { self.new.closed ≡ is_err result }
-        ensures capacity { self.new.capacity ≡ self.old.capacity }
-        ensures untouched { self.old.closed ≡ true → self.new ≡ self.old }
-        ensures stays { self.old.closed ≡ true → is_err result ≡ true }
-
-        ensures compact { IsCompact D.state self.old → IsCompact D.state self.new }
-        ensures short { IsCompact D.state self.old → Within (D.state self.old.disk) (D.state self.new.disk) (λ bytes. length bytes ≤ bound self.old.capacity) }
-
-        ensures cause { OnErr result (HasFailed self.old.closed (D.state self.old.disk).faults (D.state self.new.disk).faults) }
-        ensures later { (D.state self.old.disk).faults ≤ (D.state self.new.disk).faults }
-        ensures blames { (f : ℕ) → f ≤ (D.state self.old.disk).faults → (self.old.closed ≡ true → Rose f (D.state self.old.disk).faults) → self.new.closed ≡ true → Rose f (D.state self.new.disk).faults }
+    /// Takes the first entries off the list, so many: an image has the list with all of them or without
+    /// any. It takes no memory.
+    pub fn advance(&mut self, n: u64) -> Result<(), DiskFault>
+        requires some { 1 ≤ n }
+        requires enough { n ≤ self.old.rows.count }
+        requires unstaged { self.old.rows.staged ≡ 0 }
+        ensures lasts { Lasts D.state self.old self.new }
+        ensures leaves { Leaves D.state self.old self.new (λ list staged. drop n list) }
+        ensures answer { Advances D.state self.old self.new n result }
     {
         if self.closed {
             return Err(DiskFault);
         }
         self.closed = true;
-        let size = length_of(&self.front);
-        let next = advance_past(&mut self.disk, &mut self.cell, self.places, size)?;
-        self.places = next;
-        self.count -= 1;
+        let rows = self.rows;
+        let first = length_of(&self.front);
+        let next = advance_past(&mut self.disk, &mut self.cell, rows.list, n, first)?;
+        self.rows = Rows::listed(next, rows.count - n);
         self.front = None;
         self.closed = false;
         Ok(())
     }
 
-    /// The number of entries.
+    /// The number of entries of the list.
     pub fn count(&self) -> u64
-        ensures count { result ≡ self.now.count }
-        ensures list { self.now.closed ≡ false → EachNow (D.state self.now.disk) (λ bytes. (entries : Entries) → IsList entries bytes → result ≡ length entries) }
+        ensures count { result ≡ self.now.rows.count }
+        ensures list { self.now.closed ≡ false → EachNow (D.state self.now.disk) (λ bytes. (list : Entries) → IsList list bytes → result ≡ length list) }
     {
-        self.count
+        self.rows.count
     }
 
     /// The place of the first entry's gate, or of the end's where there is no entry.
     pub fn head(&self) -> u64
-        ensures head { result ≡ gate_past self.now.places.jump self.now.places.head }
-        ensures here { self.now.closed ≡ false → WhereTold (content (D.state self.now.disk)) (λ bytes. (entries : Entries) × IsList entries bytes × Remains bytes self.now.places.jump result entries self.now.places.end) }
-        ensures remains { self.now.closed ≡ false → EachNow (D.state self.now.disk) (λ bytes. (entries : Entries) → IsList entries bytes → Remains bytes self.now.places.jump result entries self.now.places.end) }
+        ensures head { result ≡ gate_past self.now.rows.list.jump self.now.rows.list.head }
+        ensures here { self.now.closed ≡ false → WhereTold (content (D.state self.now.disk)) (λ bytes. (entries : Entries) × IsList entries bytes × Remains bytes self.now.rows.list.jump result entries self.now.rows.list.end) }
+        ensures remains { self.now.closed ≡ false → EachNow (D.state self.now.disk) (λ bytes. (entries : Entries) → IsList entries bytes → Remains bytes self.now.rows.list.jump result entries self.now.rows.list.end) }
     {
-        self.places.gate_past(self.places.head)
+        self.rows.list.gate_past(self.rows.list.head)
     }
 
     /// What stands at the gate of an entry of the list, or of its end. Nothing on the disk changes.
     pub fn item(&mut self, alloc: Global, gate: u64) -> Result<Walked, NoMemory>
-        requires { self.old.closed ≡ false → WhereTold (content (D.state self.old.disk)) (λ bytes. (entries : Entries) × Remains bytes self.old.places.jump gate entries self.old.places.end) }
-
+        requires unstaged { self.old.rows.staged ≡ 0 }
+        requires left { self.old.closed ≡ false → WhereTold (content (D.state self.old.disk)) (λ bytes. (entries : Entries) × Remains bytes self.old.rows.list.jump gate entries self.old.rows.list.end) }
+        ensures reads { Reads D.state self.old self.new }
         ensures answer { IfOk result (IsWalked self.old self.new gate (D.state self.old.disk).faults (D.state self.new.disk).faults) }
-        ensures next { IfOk result (λ walked. WhereTold (content (D.state self.old.disk)) (λ bytes. (entries : Entries) → Remains bytes self.old.places.jump gate entries self.old.places.end → IsNext self.old bytes entries walked)) }
+        ensures next { IfOk result (λ walked. WhereTold (content (D.state self.old.disk)) (λ bytes. (entries : Entries) → Remains bytes self.old.rows.list.jump gate entries self.old.rows.list.end → IsNext self.old bytes entries walked)) }
         ensures no_memory { OnErr result (self.new.closed ≡ false) }
-
-        ensures told { (D.state self.new.disk).told ≡ (D.state self.old.disk).told }
-        ensures places { self.new.places ≡ self.old.places }
-        ensures count { self.new.count ≡ self.old.count }
         ensures front { self.new.front ≡ self.old.front }
-        ensures capacity { self.new.capacity ≡ self.old.capacity }
-        ensures untouched { self.old.closed ≡ true → self.new ≡ self.old }
-        ensures later { (D.state self.old.disk).faults ≤ (D.state self.new.disk).faults }
-        ensures blames { (f : ℕ) → f ≤ (D.state self.old.disk).faults → (self.old.closed ≡ true → Rose f (D.state self.old.disk).faults) → self.new.closed ≡ true → Rose f (D.state self.new.disk).faults }
     {
         if self.closed {
             return Ok(Walked::DiskFailed);
         }
-        if gate == self.places.end {
+        if gate == self.rows.list.end {
             return Ok(Walked::Empty);
         }
         match read_entry(alloc, &mut self.disk, gate) {
@@ -266,7 +262,7 @@ impl<D: Disk> Spool<D> {
                 let next = behind(gate, &payload);
                 Ok(Walked::Item {
                     payload,
-                    next: self.places.gate_past(next),
+                    next: self.rows.list.gate_past(next),
                 })
             }
             Err(RewriteRefusal::NoMemory) => Err(AllocError),
@@ -277,52 +273,45 @@ impl<D: Disk> Spool<D> {
         }
     }
 
-    /// Spells each payload anew, behind all that the list uses. An empty list makes no call of the disk.
-    /// Without memory the list is as before.
+    /// Spells each payload anew, behind all that the list uses: an image has the list or the new one. An
+    /// empty list makes no call of the disk. Without memory the list is as before.
     pub fn rewrite<M: Recode>(
         &mut self,
         alloc: Global,
         recode: &mut M,
     ) -> Result<(), RewriteRefusal>
-        ensures within { self.old.closed ≡ false → Within (D.state self.old.disk) (D.state self.new.disk) (Follows (IsImage (D.state self.old.disk)) (Perhaps (Recodes (M.meaning recode.old)))) }
-        ensures done { OnOk result (EachNow (D.state self.new.disk) (Follows (IsImage (D.state self.old.disk)) (Recodes (M.meaning recode.old)))) }
-        ensures list { IfErr result (λ _. self.new.closed ≡ false → EachNow (D.state self.new.disk) (Follows (IsImage (D.state self.old.disk)) Stays)) }
-        ensures moves { Moves (D.state self.old.disk) (D.state self.new.disk) }
-
-        ensures empty { self.old.closed ≡ false → self.old.count ≡ 0 → self.new ≡ self.old }
-        ensures opened { OnOk result (self.new.closed ≡ false) }
-        ensures count { self.new.count ≡ self.old.count }
-        ensures capacity { self.new.capacity ≡ self.old.capacity }
-        ensures untouched { self.old.closed ≡ true → self.new ≡ self.old }
-
-        ensures refused { IfErr result (IsRefused self.old self.new (D.state self.old.disk).faults (D.state self.new.disk).faults) }
-        ensures later { (D.state self.old.disk).faults ≤ (D.state self.new.disk).faults }
-        ensures blames { (f : ℕ) → f ≤ (D.state self.old.disk).faults → (self.old.closed ≡ true → Rose f (D.state self.old.disk).faults) → self.new.closed ≡ true → Rose f (D.state self.new.disk).faults }
+        requires { self.old.rows.staged ≡ 0 }
+        ensures lasts { Lasts D.state self.old self.new }
+        ensures within { (list : Entries) → Holds D.state self.old list [] → Within (D.state self.old.disk) (D.state self.new.disk) (IsOneOf list (map (M.meaning recode.old) list)) }
+        ensures answer { Respells D.state self.old self.new (M.meaning recode.old) result }
+        ensures empty { self.old.rows.count ≡ 0 → self.new ≡ self.old }
     {
         if self.closed {
             return Err(RewriteRefusal::DiskFault);
         }
-        if self.count == 0 {
+        if self.rows.count == 0 {
             return Ok(());
         }
-        let next = match rewrite_list(
+        let rows = self.rows;
+        match rewrite_list(
             alloc,
             &mut self.disk,
             &mut self.cell,
             recode,
-            self.places,
-            self.count,
+            rows.list,
+            rows.count,
         ) {
-            Ok(next) => next,
-            Err(RewriteRefusal::NoMemory) => return Err(RewriteRefusal::NoMemory),
+            Ok(next) => {
+                self.rows = Rows::listed(next, rows.count);
+                self.front = None;
+                Ok(())
+            }
+            Err(RewriteRefusal::NoMemory) => Err(RewriteRefusal::NoMemory),
             Err(RewriteRefusal::DiskFault) => {
                 self.closed = true;
-                return Err(RewriteRefusal::DiskFault);
+                Err(RewriteRefusal::DiskFault)
             }
-        };
-        self.places = next;
-        self.front = None;
-        Ok(())
+        }
     }
 
     /// Gives the disk back, as it is.
@@ -333,8 +322,7 @@ impl<D: Disk> Spool<D> {
             disk,
             cell: _,
             capacity: _,
-            places: _,
-            count: _,
+            rows: _,
             front: _,
             closed: _,
         } = self;

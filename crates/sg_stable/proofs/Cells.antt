@@ -129,3 +129,13 @@ cell_same c d in_c in_d same =
     let s = get_or c 0 0 in
     let at_s = slot_cases s in
     ap (λ (x : ℕ). word (slot x) d) (same 0 (omega arith) (omega arith)) ∙ word_same (slot s) c d (omega (arith, at_s, in_c)) (omega (arith, at_s, in_d)) (λ k low high. same k (omega arith) (omega (arith, at_s, high)))
+
+-- the cell, where the first 40 bytes stay
+pub has_cell_same : (s v : ℕ) (c d : List ℕ) → HasCell s v c → 40 ≤ length d → ((k : ℕ) → k < 40 → get_or d k 0 ≡ get_or c k 0) → HasCell s v d
+has_cell_same s v c d cell long same =
+    let at_s = slot_cases s in
+    record {
+      size = long;
+      selects = same 0 (omega arith) ∙ cell.selects;
+      holds = word_same (slot s) c d (omega (arith, at_s, cell.size)) (omega (arith, at_s, long)) (λ k low high. same k (omega (arith, at_s, high))) ∙ cell.holds;
+    }

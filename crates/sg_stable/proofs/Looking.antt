@@ -8,12 +8,13 @@ use Rattle.sg_stable.specs.declared.cell.Pair.{Pair}
 use Rattle.sg_stable.specs.declared.fault.StoreRefusal.{StoreRefusal}
 use Rattle.sg_stable.specs.declared.fault.StoreRefusal.TheVariants.{Damage, DiskFault, NoMemory}
 use Rattle.sg_stable.specs.Refusal.{HasReason}
-use Rattle.sg_stable.specs.Cell.{HasCell}
-use Rattle.sg_stable.specs.Position.{IsPosition, IsFirstNonzero, IsDamagedAt, ZeroOutside}
+use Rattle.sg_stable.specs.Cell.{HasCell, AreZero, IsFirstNonzero}
+use Rattle.sg_stable.specs.Position.{IsPosition, IsDamagedAt}
 use Rattle.sg_stable.proofs.Cells.{value_of}
 
-module _ (b after : List ℕ) (same : (k : ℕ) → k < 128 → get_or after k 0 ≡ get_or b k 0) where
-  pub nonzero_there : (at : ℕ) → IsFirstNonzero at after → IsFirstNonzero at b
+-- a buffer that holds the first bytes
+module _ (size : ℕ) (b after : List ℕ) (same : (k : ℕ) → k < size → get_or after k 0 ≡ get_or b k 0) where
+  pub nonzero_there : (at : ℕ) → IsFirstNonzero size at after → IsFirstNonzero size at b
   nonzero_there at first = record {
     inside = first.inside;
     outside = first.outside;
@@ -21,12 +22,13 @@ module _ (b after : List ℕ) (same : (k : ℕ) → k < 128 → get_or after k 0
     before = λ k lt out. sym (same k (omega (arith, lt, first.inside))) ∙ first.before k lt out;
   }
 
-  pub zeros_there : ZeroOutside after → ZeroOutside b
+  pub zeros_there : AreZero size after → AreZero size b
   zeros_there zeros k lt out = sym (same k lt) ∙ zeros k lt out
 
-  pub position_there : (s v n : ℕ) → ZeroOutside after → n ≡ length b → n ≡ 128 → HasCell s v b → IsPosition v b
+module _ (b after : List ℕ) (same : (k : ℕ) → k < 128 → get_or after k 0 ≡ get_or b k 0) where
+  pub position_there : (s v n : ℕ) → AreZero 128 after → n ≡ length b → n ≡ 128 → HasCell s v b → IsPosition v b
   position_there s v n zeros long is cell = record {
-    shape = record { size = omega arith; zeros = zeros_there zeros };
+    shape = record { size = omega arith; zeros = zeros_there 128 b after same zeros };
     holds = value_of s v b cell;
   }
 

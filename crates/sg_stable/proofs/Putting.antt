@@ -1,5 +1,5 @@
 -- A put, call by call.
-use Rattle.std.proofs.Common.{◌≡◌, inl, ℕ, ◌+◌, ◌<◌, ◌≤◌, ◌^◌, List, [], ◌∷◌, length, ◌∙◌, arith, Some, Option}
+use Rattle.std.proofs.Common.{◌≡◌, inl, ℕ, ◌+◌, ◌<◌, ◌≤◌, ◌^◌, List, [], ◌∷◌, length, ◌∙◌, arith, Option}
 use Rattle.std.specs.Int.{to_be_bytes, w64}
 use Rattle.sg_device.specs.DiskBytes.{Torn, Written}
 use Rattle.sg_device.specs.Disk.{DiskState, content, IsImage, Changes, Elapses, Durable, Within, EachNow}

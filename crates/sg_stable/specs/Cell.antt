@@ -1,5 +1,5 @@
 -- What the bytes of a cell stand for: a selector and two slots.
-use Rattle.std.specs.Prelude.{◌≡◌, ◌⊎◌, ℕ, ◌%◌, ◌<◌, ◌≤◌, List, length, slice_index, if◌then◌else◌, ◌==◌}
+use Rattle.std.specs.Prelude.{◌≡◌, ◌≢◌, ◌⊎◌, ℕ, ◌%◌, ◌<◌, ◌≤◌, List, length, slice_index, if◌then◌else◌, ◌==◌}
 use Rattle.std.specs.Int.{from_be_bytes, w64}
 use Rattle.sg_device.specs.DiskBytes.{part}
 
@@ -18,6 +18,17 @@ cell_value bytes = word (slot (slice_index bytes 0)) bytes
 -- a byte that is no part of the cell
 abbrev pub IsOutside : ℕ → Type 0
 IsOutside k = ((1 ≤ k) × (k < 16)) ⊎ (((24 ≤ k) × (k < 32)) ⊎ (40 ≤ k))
+
+-- the bytes before this place that are no part of the cell are zero
+abbrev pub AreZero : ℕ → List ℕ → Type 0
+AreZero size bytes = (k : ℕ) → k < size → IsOutside k → slice_index bytes k ≡ 0
+
+-- the first byte before this place that should be zero and isn't
+pub record IsFirstNonzero (size at : ℕ) (bytes : List ℕ) : Type 0 where
+  pub inside : at < size
+  pub outside : IsOutside at
+  pub nonzero : slice_index bytes at ≢ 0
+  pub before : (k : ℕ) → k < at → IsOutside k → slice_index bytes k ≡ 0
 
 -- the bytes hold a whole cell with this selector and value
 pub record HasCell (selector value : ℕ) (bytes : List ℕ) : Type 0 where

@@ -1,9 +1,9 @@
 // A cell of two slots and a selector, on a disk that is lent.
-ghost use Rattle.std.specs.Prelude.{◌≡◌, ◌+◌, ◌%◌, ◌≤◌, [], ◌∷◌, length, true, false, IfOk, OnOk, OnErr, is_err};
+ghost use Rattle.std.specs.Prelude.{◌≡◌, ◌+◌, ◌%◌, ◌≤◌, [], ◌∷◌, ◌↔◌, length, true, false, IfOk, OnOk, OnErr, IfNone, IfSome, IsTrue, is_err};
 ghost use Rattle.std.specs.Int.{to_be_bytes, w64};
 ghost use Rattle.sg_device.specs.Disk.{content, IsImage, Changes, Elapses, Durable, Within, EachNow, WhereTold, HasCause};
 ghost use Rattle.sg_device.specs.DiskBytes.{Torn, Written};
-ghost use Rattle.sg_stable.specs.Cell.{word, slot, HasCell, SameOutside, Puts};
+ghost use Rattle.sg_stable.specs.Cell.{word, slot, HasCell, IsOutside, AreZero, IsFirstNonzero, SameOutside, Puts};
 
 use sg_device::{Disk, DiskFault, write_through};
 
@@ -20,6 +20,21 @@ pub struct Pair {
 }
 
 impl Pair {
+    /// The cell at the front of these bytes, which are at least 40.
+    pub fn at_front(bytes: &[u8]) -> Pair
+        requires { 40 ≤ length bytes.now }
+        ensures cell { HasCell result.selector result.value bytes.now }
+        ensures opened { result.closed ≡ false }
+    {
+        let selector = bytes[0];
+        let value = word_at(bytes, slot_of(selector));
+        Pair {
+            selector,
+            value,
+            closed: false,
+        }
+    }
+
     /// The cell on this disk, and its number.
     pub fn read<D: Disk>(disk: &mut D) -> Result<(Pair, u64), DiskFault>
         requires { WhereTold (content (D.state disk.old)) (λ bytes. 40 ≤ length bytes) }
@@ -31,14 +46,8 @@ impl Pair {
     {
         let mut bytes = [0; 40];
         disk.read_at(0, &mut bytes)?;
-        let selector = bytes[0];
-        let value = word_at(&bytes, slot_of(selector));
-        let pair = Pair {
-            selector,
-            value,
-            closed: false,
-        };
-        Ok((pair, value))
+        let pair = Pair::at_front(&bytes);
+        Ok((pair, pair.value))
     }
 
     /// Puts another number into the cell: it is written to the slot that isn't selected and made
@@ -119,4 +128,25 @@ fn word_at(bytes: &[u8], at: usize) -> u64
         bytes[at + 6],
         bytes[at + 7],
     ])
+}
+
+/// The first byte that is no part of a cell and isn't zero: of bytes 1 to 15, 24 to 31 and those from 40
+/// on.
+pub fn first_nonzero(bytes: &[u8]) -> Option<usize>
+    ensures none { IfNone result (AreZero (length bytes.now) bytes.now) }
+    ensures found { IfSome result (λ at. IsFirstNonzero (length bytes.now) at bytes.now) }
+{
+    for (i, byte) in bytes.iter().enumerate() {
+        if is_outside(i) && *byte != 0 {
+            return Some(i);
+        }
+    }
+    None
+}
+
+// Whether a byte is no part of the cell.
+fn is_outside(k: usize) -> bool
+    ensures { IsTrue result ↔ IsOutside k }
+{
+    (k >= 1 && k < 16) || (k >= 24 && k < 32) || k >= 40
 }

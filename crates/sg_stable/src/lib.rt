@@ -5,6 +5,6 @@ mod cell;
 mod fault;
 mod position;
 
-pub use cell::Pair;
+pub use cell::{Pair, first_nonzero};
 pub use fault::StoreRefusal;
 pub use position::Stable;

@@ -2,11 +2,11 @@
 ghost use Rattle.std.specs.Prelude.{◌≡◌, ◌≢◌, ◌⊎◌, ◌<◌, ◌≤◌, ℕ, length, slice_index, true, false, IfOk, IfErr, OnOk, OnErr, IfNone, IfSome, is_err, IsTrue, ◌↔◌};
 ghost use Rattle.sg_device.specs.Disk.{content, Preserves, Rests, Durable, Moves, Within, EachNow, WhereTold, HasCause};
 ghost use Rattle.sg_device.specs.Faults.{Rose};
-ghost use Rattle.sg_stable.specs.Cell.{HasCell, IsOutside};
+ghost use Rattle.sg_stable.specs.Cell.{HasCell};
 ghost use Rattle.sg_stable.specs.Refusal.{HasReason};
-ghost use Rattle.sg_stable.specs.Position.{IsPosition, IsFirstNonzero, IsEither};
+ghost use Rattle.sg_stable.specs.Position.{IsPosition, IsEither};
 
-use crate::{Pair, StoreRefusal};
+use crate::{Pair, StoreRefusal, first_nonzero};
 use sg_device::{Disk, DiskFault};
 
 /// A position on a disk of its own: 128 bytes, of which the first 40 hold a cell and those outside it
@@ -132,25 +132,4 @@ fn inspect<D: Disk>(disk: &mut D) -> Result<Pair, StoreRefusal>
     }
     let (cell, _) = Pair::read(disk)?;
     Ok(cell)
-}
-
-// Whether a byte is no part of the cell.
-fn is_outside(k: usize) -> bool
-    ensures { IsTrue result ↔ IsOutside k }
-{
-    (k >= 1 && k < 16) || (k >= 24 && k < 32) || k >= 40
-}
-
-// The first byte outside the cell that isn't zero.
-fn first_nonzero(bytes: &[u8]) -> Option<usize>
-    requires { length bytes.now ≡ 128 }
-    ensures none { IfNone result ((k : ℕ) → k < 128 → IsOutside k → slice_index bytes.now k ≡ 0) }
-    ensures found { IfSome result (λ at. IsFirstNonzero at bytes.now) }
-{
-    for (i, byte) in bytes.iter().enumerate() {
-        if is_outside(i) && *byte != 0 {
-            return Some(i);
-        }
-    }
-    None
 }

@@ -3,7 +3,7 @@ use Rattle.std.proofs.Common.{◌≡◌, ℕ, suc, ◌+◌, ◌-◌, ◌≤◌, 
 use Rattle.std.specs.List.{prefix_len}
 use Rattle.std.proofs.lemmas.List.{take_all}
 use Rattle.sg_msg.specs.Sets.{is_escaped}
-use Rattle.sg_template.specs.Elements.{escaped_byte, escaped}
+use Rattle.sg_template.specs.Elements.{escaped}
 
 abbrev pub plain_length : List ℕ → ℕ
 plain_length value = prefix_len (λ (b : ℕ). not (is_escaped b)) value

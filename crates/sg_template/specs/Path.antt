@@ -1,6 +1,6 @@
 -- The path of a file, from a template over a message: no macro's text can leave the directory that the template names
 -- (a file's name has no `/` and no NUL, and `.` and `..` are directories: POSIX.1-2017, 3.170 and 4.13).
-use Rattle.std.specs.Prelude.{ℕ, ◌==◌, ◌||◌, if◌then◌else◌, List, [], ◌∷◌, take, map, codes}
+use Rattle.std.specs.Prelude.{ℕ, ◌==◌, ◌||◌, not, Bool, if◌then◌else◌, List, [], ◌∷◌, take, map, codes}
 use Rattle.std.specs.List.{flat_map}
 use Rattle.sg_msg.specs.Message.{Content}
 use Rattle.sg_macro.specs.declared.part.Part.{Part}
@@ -15,6 +15,10 @@ name_byte b = if (b == 47) || (b == 0) then 95 else b
 -- at the front a dot is `_` too
 abbrev pub first_byte : ℕ → ℕ
 first_byte b = if b == 46 then 95 else name_byte b
+
+-- a byte of a file's name
+abbrev pub is_inner : ℕ → Bool
+is_inner b = not ((b == 47) || (b == 0))
 
 -- the text of a macro or a value, in a path
 abbrev pub name_text : List ℕ → List ℕ

@@ -15,7 +15,7 @@ mod threads;
 pub use append::text_of;
 pub use elements::sdata_text;
 pub use env::Env;
-pub use laws::{macros_are_hard, paths_fit};
+pub use laws::{macros_are_hard, paths_fit, texts_are_names};
 pub use names::{facility_name, severity_name};
 pub use sg_macro::TemplateFault;
 pub use template::Template;

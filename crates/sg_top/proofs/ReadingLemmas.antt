@@ -1,12 +1,14 @@
 -- Lemmas on what the configuration in a file comes to.
-use Rattle.std.proofs.Common.{◌≡◌, ◌≤◌, ◌<◌, ◌&&◌, ℕ, Bool, true, false, nat_le, List, [], length, Option, Some, None, Result, Ok, Err, refl, ap, sym, ◌∙◌, subst, inl, inr, arith}
+use Rattle.std.proofs.Common.{◌≡◌, ◌≤◌, ◌<◌, ℕ, Bool, true, false, nat_le, if◌then◌else◌, List, length, Option, Some, None, Result, Ok, Err, refl, ap, sym, ◌∙◌, subst, inl, inr, arith}
 use Rattle.std.proofs.lemmas.Bool.Decides.{nat_tests}
 use Rattle.sg_outside.specs.World.{Files, WorldState, OnlyReads, IsContent, IsBeyond}
 use Rattle.sg_lex.specs.declared.fault.ConfigFault.{ConfigFault}
+use Rattle.sg_lex.specs.declared.fault.ConfigKind.TheVariants.{TooLong}
+use Rattle.sg_lex.specs.Tokens.{tokens_of}
 use Rattle.sg_lex.specs.declared.token.Token.{Token}
-use Rattle.sg_expand.specs.Expansion.{State, Outcome, Goes, RunsMain}
+use Rattle.sg_expand.specs.Expansion.{State, Outcome, Goes, Stops, Faulty, RunsTokens, RunsMain, first_state, lexed, versioned}
 use Rattle.sg_expand.specs.One.{AreAlike}
-use Rattle.sg_expand.proofs.One.{alike, fits}
+use Rattle.sg_expand.proofs.OneRun.{one-outcome}
 use Rattle.sg_top.specs.Config.{IsConfig}
 use Rattle.sg_top.specs.Reading.{ComesTo, Configures, IsFaultOf}
 
@@ -29,12 +31,23 @@ told-on world start files reads told = ap (λ w. w.files) reads.0 ∙ told
 pub comes-one : (world : WorldState) (file : List ℕ) (files : Files) (one other : Outcome) → world.files ≡ Some files → ComesTo world file one → ComesTo world file other → AreAlike one other
 comes-one world file files one other told (text, (is, (start, (reads, runs)))) (text', (is', (start', (reads', runs')))) =
     let same = same-text world.files files file text text' told is is' in
-    alike file text files start start' one other (told-on world start files reads told) (told-on world start' files reads' told) runs (subst (λ t. RunsMain file t start' other) same runs')
+    one-outcome file text files start start' one other (told-on world start files reads told) (told-on world start' files reads' told) runs (subst (λ t. RunsMain file t start' other) same runs')
+
+-- a text that is expanded isn't too long
+fits-if : (short : Bool) (found : Result (List Token) ConfigFault) (state last : State) (world read : WorldState)
+    → RunsTokens (if short then found else Err (record { kind = TooLong; file = 0; line = 1 })) state world (Goes last read) → short ≡ true
+fits-if true found state last world read runs = refl
+fits-if false found state last world read runs = (let wrong : Goes last read ≡ Stops (Faulty (record { kind = TooLong; file = 0; line = 1 })) state.names world = runs in cc)
+
+fits : (file text : List ℕ) (world read : WorldState) (last : State) → RunsMain file text world (Goes last read) → length text ≤ 1048576
+fits file text world read last runs =
+    let short : nat_le (length text) 1048576 ≡ true = fits-if (nat_le (length text) 1048576) (versioned (lexed 0 text (tokens_of 0 text))) (first_state file) last world read runs in
+    grind (arith, nat_tests)
 
 -- it isn't too long
 short-file : (world read : WorldState) (file : List ℕ) (files : Files) (last : State) → world.files ≡ Some files → ComesTo world file (Goes last read) → IsBeyond world.files file 1048576 → ⊥
 short-file world read file files last told (text, (is, (start, (reads, runs)))) beyond =
-    not-beyond world.files files file text told is (fits file text start last read runs) beyond
+    not-beyond world.files files file text told is (fits file text start read last runs) beyond
 
 -- what is read as a configuration has no fault, where the files are told
 pub not-faulty : (world : WorldState) (file : List ℕ) (fault : ConfigFault) (names : List (List ℕ)) (last : State) (tokens : List Token) (from into : List ℕ) (files : Files)

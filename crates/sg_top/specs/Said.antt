@@ -56,7 +56,6 @@ shown_of status = record {
   files = true ∷ [];
   bad_frames = 0 ∷ [];
   held = [];
-  held = [];
   sinks = failed_sinks status;
   stores = failed_stores status;
   inlets = failed_inlets status;

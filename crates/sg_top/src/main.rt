@@ -39,10 +39,16 @@ fn read_words(alloc: Global, rt: &HostRuntime) -> Result<Vec<Name>, AllocError> 
     Ok(words)
 }
 
+/// Does what the words of the command line ask for, on the machine's files and sockets.
+fn run_words(alloc: Global, rt: HostRuntime) -> Result<Status, AllocError> {
+    let words = read_words(alloc, &rt)?;
+    let mut machine = HostMachine::new(rt)?;
+    Ok(daemon(alloc, &words, &mut machine))
+}
+
 fn main(rt: HostRuntime) -> ExitCode {
-    let alloc = rt.alloc();
-    let status = match read_words(alloc, &rt) {
-        Ok(words) => daemon(alloc, &words, &mut HostMachine::new(rt)),
+    let status = match run_words(rt.alloc(), rt) {
+        Ok(status) => status,
         Err(_) => Status::NoMemory,
     };
     ExitCode::from(status.code())

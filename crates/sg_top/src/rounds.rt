@@ -81,7 +81,6 @@ fn shown(alloc: Global, status: Status) -> Result<Shown, NoMemory>
         files: one(alloc, true)?,
         bad_frames: one(alloc, 0)?,
         held: Seq::empty(alloc),
-        held: Seq::empty(alloc),
         sinks: sinks(alloc, status)?,
         stores: stores(alloc, status)?,
         inlets: inlets(alloc, status)?,

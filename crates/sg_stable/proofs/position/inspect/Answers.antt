@@ -1,4 +1,5 @@
-use Rattle.std.proofs.Common.{◌≡◌, inl, inr, ◌∙◌, length, arith}
+use Rattle.std.proofs.Common.{◌≡◌, inl, inr, ◌∙◌, ℕ, length, subst, arith}
+use Rattle.sg_stable.specs.Cell.{AreZero, IsFirstNonzero}
 use Rattle.sg_device.proofs.Parts.{read_zeros, zeros_at}
 use Rattle.sg_device.proofs.DiskCalls.{content_same}
 use Rattle.sg_stable.proofs.Looking.{nonzero_there, zeros_there, position_there}
@@ -7,14 +8,14 @@ use Rattle.sg_stable.proofs.position.inspect.Goals as goal
 pub returns-in-Some-clause-reason : goal.returns-in-Some-clause-reason
 returns-in-Some-clause-reason g c = λ b told.
     let at_read = content_same (g.D.Disk.state c.args.disk.now) (g.D.Disk.state c.len.new.self) c.len.ensures.told ∙ told in
-    inl (nonzero_there b c.read_at.new.into (read_zeros c.in_ok-read_at.field-0 b _ c.read_at.new.into (c.in_ok-read_at.ensures.bytes b at_read) (zeros_at 128)) c.in-Some.at c.in-Some.ensures.found)
+    inl (nonzero_there 128 b c.read_at.new.into (read_zeros c.in_ok-read_at.field-0 b _ c.read_at.new.into (c.in_ok-read_at.ensures.bytes b at_read) (zeros_at 128)) c.in-Some.at (subst (λ (n : ℕ). IsFirstNonzero n c.in-Some.at c.read_at.new.into) c.read_at.auto.into c.in-Some.ensures.found))
 
 pub returns-then-len-ne128-clause-reason : goal.returns-then-len-ne128-clause-reason
 returns-then-len-ne128-clause-reason g c = λ b told.
     let at_read = content_same (g.D.Disk.state c.args.disk.now) (g.D.Disk.state c.len.new.self) c.len.ensures.told ∙ told in
     let long : c.in_ok-len.len ≡ length b = c.in_ok-len.ensures.length b told in
     inr (
-      zeros_there b c.read_at.new.into (read_zeros c.in_ok-read_at.field-0 b _ c.read_at.new.into (c.in_ok-read_at.ensures.bytes b at_read) (zeros_at 128)) c.in_default.ensures.none,
+      zeros_there 128 b c.read_at.new.into (read_zeros c.in_ok-read_at.field-0 b _ c.read_at.new.into (c.in_ok-read_at.ensures.bytes b at_read) (zeros_at 128)) (subst (λ (n : ℕ). AreZero n c.read_at.new.into) c.read_at.auto.into c.in_default.ensures.none),
       λ is. c.if-len-ne128.true (long ∙ is),
       omega (arith, c.min.ensures, long),
     )
@@ -25,4 +26,4 @@ returns-clause-position g c = λ b told.
     let at_cell = content_same (g.D.Disk.state c.len.new.self) (g.D.Disk.state c.read_at.new.self) c.read_at.ensures.told ∙ at_read in
     let cell = c.in_ok-cell.cell in
     position_there b c.read_at.new.into (read_zeros c.in_ok-read_at.field-0 b _ c.read_at.new.into (c.in_ok-read_at.ensures.bytes b at_read) (zeros_at 128))
-    cell.selector cell.value c.in_ok-len.len c.in_default.ensures.none (c.in_ok-len.ensures.length b told) c.if-len-ne128.false (c.in_ok-cell.ensures.cell b at_cell)
+    cell.selector cell.value c.in_ok-len.len (subst (λ (n : ℕ). AreZero n c.read_at.new.into) c.read_at.auto.into c.in_default.ensures.none) (c.in_ok-len.ensures.length b told) c.if-len-ne128.false (c.in_ok-cell.ensures.cell b at_cell)

@@ -1,7 +1,7 @@
-use Rattle.std.proofs.Common.{◌≡◌, ◌≢◌, ℕ, ◌+◌, ◌<◌, List, ◌++◌, length, take, length-append, ap, ◌∙◌, arith}
+use Rattle.std.proofs.Common.{◌≡◌, ℕ, ◌+◌, ◌<◌, List, ◌++◌, length, take, length-append, ap, ◌∙◌, arith}
 use Rattle.std.specs.List.{flat_map}
 use Rattle.sg_template.specs.Path.{path_part, path_of}
-use Rattle.sg_template.proofs.Paths.{fitted-cut, fitted-none}
+use Rattle.sg_template.proofs.Paths.{fitted-cut}
 use Rattle.sg_template.proofs.path.append_path.Goals as goal
 
 pub returns-clause-ok : goal.returns-clause-ok

@@ -1,100 +1,72 @@
-use Rattle.std.proofs.Common.{◌≡◌, ◌⊎◌, inl, inr, ◌+◌, ◌-◌, ◌<◌, ◌≤◌, ◌∙◌, ℕ, List, ◌++◌, ◌∷◌, [], length, ap, subst, sym, refl, arith, Some, None, Option}
+use Rattle.std.proofs.Common.{◌≡◌, ◌⊎◌, inl, inr, ⊎_elim, ◌+◌, ◌-◌, ◌<◌, ◌≤◌, ◌∙◌, ◌^◌, ℕ, List, ◌++◌, ◌∷◌, [], length, drop, ap, subst, sym, refl, arith, Some, None, Option}
+use Rattle.std.specs.Prelude.{true, false}
 use Rattle.std.specs.Option.{option_map}
-use Rattle.sg_device.proofs.Disks.{moves_within, within_now}
-use Rattle.sg_spool.specs.Lists.{Perhaps, Advances}
-use Rattle.sg_spool.specs.Places.{bound}
-use Rattle.sg_spool.proofs.Whole.{rings, follows, follows_now, held_shorter, first_entries}
+use Rattle.sg_device.specs.Disk.{EachNow}
+use Rattle.sg_device.proofs.Disks.{within_now, moves_within}
+use Rattle.sg_spool.specs.Advancing.{HasEntries}
+use Rattle.sg_spool.specs.Places.{bound, AreCompact}
+use Rattle.sg_spool.specs.View.{IsCompactIn}
+use Rattle.sg_spool.proofs.Calls.{lasts_open}
+use Rattle.sg_spool.proofs.Whole.{holds, has_entries, advance_one, advance_short, whole_advanced, advanced_rows, advanced_whole, advanced_holds, advanced_compact, listed_same}
 use Rattle.sg_spool.proofs.spool.Spool.advance.Goals as goal
 
-pub returns-in_err-next-clause-within : goal.returns-in_err-next-clause-within
-returns-in_err-next-clause-within g c =
+pub returns-in_err-next-clause-lasts : goal.returns-in_err-next-clause-lasts
+returns-in_err-next-clause-lasts g c =
     let m = c.self.inside in
     let whole = c.self.invariant.whole c.if-self.false in
-    let some = rw (← c.self.view_is) at c.requires in
-    let firsts = first_entries m.cell m.places m.count (option_map (λ v. v.items) m.front) whole.entries (g.D.Disk.state m.disk) whole.each some in
-    let p = firsts.0 in
-    let ps = firsts.1 in
-    let sized = subst (λ (s : Option ℕ). (s ≡ None) ⊎ (s ≡ Some (length p))) (sym c.length_of-size.ensures) firsts.3 in
-    rw (← c.self.view_is) (λ shut. follows m.cell m.places m.count (option_map (λ v. v.items) m.front) (p ∷ ps) (g.D.Disk.state m.disk) firsts.2 (Perhaps Advances) (g.D.Disk.state c.advance_past.new.disk) (c.advance_past.ensures.within p ps sized (rings m.cell m.places m.count (option_map (λ v. v.items) m.front) (p ∷ ps) (g.D.Disk.state m.disk) firsts.2)))
+    let enough = rw (← c.self.view_is) at c.requires.enough in
+    rw (← c.self.view_is) (lasts_open g.D.Disk.state _ _ c.if-self.false refl (moves_within (c.advance_past.ensures.within whole.entries (subst (λ (s : Option ℕ). EachNow (g.D.Disk.state m.disk) (HasEntries m.cell m.rows.list c.args.n s whole.entries)) (sym c.length_of-first.ensures) (has_entries m.cell m.rows (option_map (λ v. v.items) m.front) (g.D.Disk.state m.disk) whole c.args.n enough whole.entries whole.staged (holds m.cell m.rows (option_map (λ v. v.items) m.front) (g.D.Disk.state m.disk) whole))))) c.advance_past.ensures.cause.later (λ shut. c.in_err-next.ensures.cause.failed))
 
-pub returns-clause-within : goal.returns-clause-within
-returns-clause-within g c =
+pub returns-clause-lasts : goal.returns-clause-lasts
+returns-clause-lasts g c =
     let m = c.self.inside in
     let whole = c.self.invariant.whole c.if-self.false in
-    let some = rw (← c.self.view_is) at c.requires in
-    let firsts = first_entries m.cell m.places m.count (option_map (λ v. v.items) m.front) whole.entries (g.D.Disk.state m.disk) whole.each some in
-    let p = firsts.0 in
-    let ps = firsts.1 in
-    let sized = subst (λ (s : Option ℕ). (s ≡ None) ⊎ (s ≡ Some (length p))) (sym c.length_of-size.ensures) firsts.3 in
-    rw (← c.self.view_is) (λ shut. follows m.cell m.places m.count (option_map (λ v. v.items) m.front) (p ∷ ps) (g.D.Disk.state m.disk) firsts.2 (Perhaps Advances) (g.D.Disk.state c.advance_past.new.disk) (c.advance_past.ensures.within p ps sized (rings m.cell m.places m.count (option_map (λ v. v.items) m.front) (p ∷ ps) (g.D.Disk.state m.disk) firsts.2)))
+    let enough = rw (← c.self.view_is) at c.requires.enough in
+    rw (← c.self.view_is) (lasts_open g.D.Disk.state _ _ c.if-self.false refl (moves_within (c.advance_past.ensures.within whole.entries (subst (λ (s : Option ℕ). EachNow (g.D.Disk.state m.disk) (HasEntries m.cell m.rows.list c.args.n s whole.entries)) (sym c.length_of-first.ensures) (has_entries m.cell m.rows (option_map (λ v. v.items) m.front) (g.D.Disk.state m.disk) whole c.args.n enough whole.entries whole.staged (holds m.cell m.rows (option_map (λ v. v.items) m.front) (g.D.Disk.state m.disk) whole))))) c.advance_past.ensures.cause.later (λ shut. absurd (let no : false ≡ true = shut in cc)))
 
-pub returns-in_err-next-clause-moves : goal.returns-in_err-next-clause-moves
-returns-in_err-next-clause-moves g c =
+pub returns-in_err-next-clause-leaves : goal.returns-in_err-next-clause-leaves
+returns-in_err-next-clause-leaves g c =
     let m = c.self.inside in
     let whole = c.self.invariant.whole c.if-self.false in
-    let some = rw (← c.self.view_is) at c.requires in
-    let firsts = first_entries m.cell m.places m.count (option_map (λ v. v.items) m.front) whole.entries (g.D.Disk.state m.disk) whole.each some in
-    let p = firsts.0 in
-    let ps = firsts.1 in
-    let sized = subst (λ (s : Option ℕ). (s ≡ None) ⊎ (s ≡ Some (length p))) (sym c.length_of-size.ensures) firsts.3 in
-    rw (← c.self.view_is) (moves_within (follows m.cell m.places m.count (option_map (λ v. v.items) m.front) (p ∷ ps) (g.D.Disk.state m.disk) firsts.2 (Perhaps Advances) (g.D.Disk.state c.advance_past.new.disk) (c.advance_past.ensures.within p ps sized (rings m.cell m.places m.count (option_map (λ v. v.items) m.front) (p ∷ ps) (g.D.Disk.state m.disk) firsts.2))))
+    let enough = rw (← c.self.view_is) at c.requires.enough in
+    rw (← c.self.view_is) (record {
+      within = λ list staged at. advance_one m.cell m.rows (option_map (λ v. v.items) m.front) (g.D.Disk.state m.disk) whole c.args.n (g.D.Disk.state c.advance_past.new.disk) list (c.advance_past.ensures.within list (subst (λ (s : Option ℕ). EachNow (g.D.Disk.state m.disk) (HasEntries m.cell m.rows.list c.args.n s list)) (sym c.length_of-first.ensures) (has_entries m.cell m.rows (option_map (λ v. v.items) m.front) (g.D.Disk.state m.disk) whole c.args.n enough list staged at)));
+      short = λ compact. advance_short m.cell m.rows (option_map (λ v. v.items) m.front) (g.D.Disk.state m.disk) whole m.capacity compact c.self.invariant.rows c.args.n (g.D.Disk.state c.advance_past.new.disk) (c.advance_past.ensures.within whole.entries (subst (λ (s : Option ℕ). EachNow (g.D.Disk.state m.disk) (HasEntries m.cell m.rows.list c.args.n s whole.entries)) (sym c.length_of-first.ensures) (has_entries m.cell m.rows (option_map (λ v. v.items) m.front) (g.D.Disk.state m.disk) whole c.args.n enough whole.entries whole.staged (holds m.cell m.rows (option_map (λ v. v.items) m.front) (g.D.Disk.state m.disk) whole)))) (c.advance_past.ensures.short (bound m.capacity) (λ b left. (compact.images b left).short));
+      compact = λ compact. record { list = compact.list; ahead = compact.ahead; images = (within_now (g.D.Disk.state m.disk) (g.D.Disk.state c.advance_past.new.disk) (IsCompactIn m.capacity) (advance_short m.cell m.rows (option_map (λ v. v.items) m.front) (g.D.Disk.state m.disk) whole m.capacity compact c.self.invariant.rows c.args.n (g.D.Disk.state c.advance_past.new.disk) (c.advance_past.ensures.within whole.entries (subst (λ (s : Option ℕ). EachNow (g.D.Disk.state m.disk) (HasEntries m.cell m.rows.list c.args.n s whole.entries)) (sym c.length_of-first.ensures) (has_entries m.cell m.rows (option_map (λ v. v.items) m.front) (g.D.Disk.state m.disk) whole c.args.n enough whole.entries whole.staged (holds m.cell m.rows (option_map (λ v. v.items) m.front) (g.D.Disk.state m.disk) whole)))) (c.advance_past.ensures.short (bound m.capacity) (λ b left. (compact.images b left).short)))) };
+    })
 
-pub returns-clause-moves : goal.returns-clause-moves
-returns-clause-moves g c =
+pub returns-clause-leaves : goal.returns-clause-leaves
+returns-clause-leaves g c =
     let m = c.self.inside in
     let whole = c.self.invariant.whole c.if-self.false in
-    let some = rw (← c.self.view_is) at c.requires in
-    let firsts = first_entries m.cell m.places m.count (option_map (λ v. v.items) m.front) whole.entries (g.D.Disk.state m.disk) whole.each some in
-    let p = firsts.0 in
-    let ps = firsts.1 in
-    let sized = subst (λ (s : Option ℕ). (s ≡ None) ⊎ (s ≡ Some (length p))) (sym c.length_of-size.ensures) firsts.3 in
-    rw (← c.self.view_is) (moves_within (follows m.cell m.places m.count (option_map (λ v. v.items) m.front) (p ∷ ps) (g.D.Disk.state m.disk) firsts.2 (Perhaps Advances) (g.D.Disk.state c.advance_past.new.disk) (c.advance_past.ensures.within p ps sized (rings m.cell m.places m.count (option_map (λ v. v.items) m.front) (p ∷ ps) (g.D.Disk.state m.disk) firsts.2))))
+    let enough = rw (← c.self.view_is) at c.requires.enough in
+    rw (← c.self.view_is) (record {
+      within = λ list staged at. advance_one m.cell m.rows (option_map (λ v. v.items) m.front) (g.D.Disk.state m.disk) whole c.args.n (g.D.Disk.state c.advance_past.new.disk) list (c.advance_past.ensures.within list (subst (λ (s : Option ℕ). EachNow (g.D.Disk.state m.disk) (HasEntries m.cell m.rows.list c.args.n s list)) (sym c.length_of-first.ensures) (has_entries m.cell m.rows (option_map (λ v. v.items) m.front) (g.D.Disk.state m.disk) whole c.args.n enough list staged at)));
+      short = λ compact. advance_short m.cell m.rows (option_map (λ v. v.items) m.front) (g.D.Disk.state m.disk) whole m.capacity compact c.self.invariant.rows c.args.n (g.D.Disk.state c.advance_past.new.disk) (c.advance_past.ensures.within whole.entries (subst (λ (s : Option ℕ). EachNow (g.D.Disk.state m.disk) (HasEntries m.cell m.rows.list c.args.n s whole.entries)) (sym c.length_of-first.ensures) (has_entries m.cell m.rows (option_map (λ v. v.items) m.front) (g.D.Disk.state m.disk) whole c.args.n enough whole.entries whole.staged (holds m.cell m.rows (option_map (λ v. v.items) m.front) (g.D.Disk.state m.disk) whole)))) (c.advance_past.ensures.short (bound m.capacity) (λ b left. (compact.images b left).short));
+      compact = λ compact. advanced_compact c.in_ok-next.next (m.rows.count - c.args.n) c.listed-self-inside.result m.capacity (g.D.Disk.state c.advance_past.new.disk) c.listed-self-inside.ensures (c.in_ok-next.ensures.compact m.capacity compact.list) (within_now (g.D.Disk.state m.disk) (g.D.Disk.state c.advance_past.new.disk) (IsCompactIn m.capacity) (advance_short m.cell m.rows (option_map (λ v. v.items) m.front) (g.D.Disk.state m.disk) whole m.capacity compact c.self.invariant.rows c.args.n (g.D.Disk.state c.advance_past.new.disk) (c.advance_past.ensures.within whole.entries (subst (λ (s : Option ℕ). EachNow (g.D.Disk.state m.disk) (HasEntries m.cell m.rows.list c.args.n s whole.entries)) (sym c.length_of-first.ensures) (has_entries m.cell m.rows (option_map (λ v. v.items) m.front) (g.D.Disk.state m.disk) whole c.args.n enough whole.entries whole.staged (holds m.cell m.rows (option_map (λ v. v.items) m.front) (g.D.Disk.state m.disk) whole)))) (c.advance_past.ensures.short (bound m.capacity) (λ b left. (compact.images b left).short))));
+    })
 
-pub returns-clause-done : goal.returns-clause-done
-returns-clause-done g c =
+pub returns-clause-answer : goal.returns-clause-answer
+returns-clause-answer g c =
     let m = c.self.inside in
     let whole = c.self.invariant.whole c.if-self.false in
-    let some = rw (← c.self.view_is) at c.requires in
-    let firsts = first_entries m.cell m.places m.count (option_map (λ v. v.items) m.front) whole.entries (g.D.Disk.state m.disk) whole.each some in
-    let p = firsts.0 in
-    let ps = firsts.1 in
-    let sized = subst (λ (s : Option ℕ). (s ≡ None) ⊎ (s ≡ Some (length p))) (sym c.length_of-size.ensures) firsts.3 in
-    rw (← c.self.view_is) (follows_now m.cell m.places m.count (option_map (λ v. v.items) m.front) (p ∷ ps) (g.D.Disk.state m.disk) firsts.2 Advances c.advance_past.new.cell c.in_ok-next.next ps (g.D.Disk.state c.advance_past.new.disk) (p, refl) (c.in_ok-next.ensures.ring p ps sized (rings m.cell m.places m.count (option_map (λ v. v.items) m.front) (p ∷ ps) (g.D.Disk.state m.disk) firsts.2)))
+    let enough = rw (← c.self.view_is) at c.requires.enough in
+    rw (← c.self.view_is) (
+      c.if-self.false,
+      refl,
+      listed_same c.in_ok-next.next (m.rows.count - c.args.n) c.listed-self-inside.result c.listed-self-inside.ensures,
+      refl,
+      λ list at. advanced_holds c.advance_past.new.cell c.in_ok-next.next (m.rows.count - c.args.n) c.listed-self-inside.result (drop c.args.n list) (g.D.Disk.state c.advance_past.new.disk) c.listed-self-inside.ensures (c.in_ok-next.ensures.ring list (subst (λ (s : Option ℕ). EachNow (g.D.Disk.state m.disk) (HasEntries m.cell m.rows.list c.args.n s list)) (sym c.length_of-first.ensures) (has_entries m.cell m.rows (option_map (λ v. v.items) m.front) (g.D.Disk.state m.disk) whole c.args.n enough list [] at))),
+    )
 
 pub invariant_of-self-2 : goal.invariant_of-self-2
 invariant_of-self-2 g c =
     let m = c.self.inside in
     let whole = c.self.invariant.whole c.if-self.false in
-    let some = rw (← c.self.view_is) at c.requires in
-    let firsts = first_entries m.cell m.places m.count (option_map (λ v. v.items) m.front) whole.entries (g.D.Disk.state m.disk) whole.each some in
-    let p = firsts.0 in
-    let ps = firsts.1 in
-    let sized = subst (λ (s : Option ℕ). (s ≡ None) ⊎ (s ≡ Some (length p))) (sym c.length_of-size.ensures) firsts.3 in
+    let enough = rw (← c.self.view_is) at c.requires.enough in
     record {
-      ordered = c.in_ok-next.ensures.ordered;
+      rows = advanced_rows c.in_ok-next.next (m.rows.count - c.args.n) c.listed-self-inside.result c.listed-self-inside.ensures c.in_ok-next.ensures.ordered;
+      unstaged = λ shut. absurd (let no : false ≡ true = shut in cc);
       cell_open = λ shut. c.in_ok-next.ensures.cell_open;
-      whole = λ shut. record {
-        entries = ps;
-        each = held_shorter m.cell m.places m.count (option_map (λ v. v.items) m.front) (p ∷ ps) (g.D.Disk.state m.disk) firsts.2 c.advance_past.new.cell c.in_ok-next.next p ps (g.D.Disk.state c.advance_past.new.disk) (m.count - 1) refl (omega (arith, some)) (c.in_ok-next.ensures.ring p ps sized (rings m.cell m.places m.count (option_map (λ v. v.items) m.front) (p ∷ ps) (g.D.Disk.state m.disk) firsts.2));
-      };
+      whole = λ shut. advanced_whole c.advance_past.new.cell c.in_ok-next.next (m.rows.count - c.args.n) c.listed-self-inside.result (g.D.Disk.state c.advance_past.new.disk) c.listed-self-inside.ensures (whole_advanced m.cell m.rows (option_map (λ v. v.items) m.front) (g.D.Disk.state m.disk) whole c.args.n (g.D.Disk.state c.advance_past.new.disk) c.advance_past.new.cell c.in_ok-next.next (moves_within (c.advance_past.ensures.within whole.entries (subst (λ (s : Option ℕ). EachNow (g.D.Disk.state m.disk) (HasEntries m.cell m.rows.list c.args.n s whole.entries)) (sym c.length_of-first.ensures) (has_entries m.cell m.rows (option_map (λ v. v.items) m.front) (g.D.Disk.state m.disk) whole c.args.n enough whole.entries whole.staged (holds m.cell m.rows (option_map (λ v. v.items) m.front) (g.D.Disk.state m.disk) whole))))) enough (c.in_ok-next.ensures.ring whole.entries (subst (λ (s : Option ℕ). EachNow (g.D.Disk.state m.disk) (HasEntries m.cell m.rows.list c.args.n s whole.entries)) (sym c.length_of-first.ensures) (has_entries m.cell m.rows (option_map (λ v. v.items) m.front) (g.D.Disk.state m.disk) whole c.args.n enough whole.entries whole.staged (holds m.cell m.rows (option_map (λ v. v.items) m.front) (g.D.Disk.state m.disk) whole)))));
     }
-
-pub returns-in_err-next-clause-short : goal.returns-in_err-next-clause-short
-returns-in_err-next-clause-short g c =
-    let m = c.self.inside in
-    rw (← c.self.view_is) (λ compact. (c.advance_past.ensures.short (bound m.capacity) compact.short))
-
-pub returns-clause-short : goal.returns-clause-short
-returns-clause-short g c =
-    let m = c.self.inside in
-    rw (← c.self.view_is) (λ compact. (c.advance_past.ensures.short (bound m.capacity) compact.short))
-
-pub returns-in_err-next-clause-compact : goal.returns-in_err-next-clause-compact
-returns-in_err-next-clause-compact g c =
-    let m = c.self.inside in
-    rw (← c.self.view_is) (λ compact. record { placed = compact.placed; short = within_now (g.D.Disk.state m.disk) (g.D.Disk.state c.advance_past.new.disk) (λ b. length b ≤ bound m.capacity) (c.advance_past.ensures.short (bound m.capacity) compact.short) })
-
-pub returns-clause-compact : goal.returns-clause-compact
-returns-clause-compact g c =
-    let m = c.self.inside in
-    rw (← c.self.view_is) (λ compact. record { placed = c.in_ok-next.ensures.compact m.capacity compact.placed; short = within_now (g.D.Disk.state m.disk) (g.D.Disk.state c.advance_past.new.disk) (λ b. length b ≤ bound m.capacity) (c.advance_past.ensures.short (bound m.capacity) compact.short) })

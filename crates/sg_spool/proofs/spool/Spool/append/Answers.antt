@@ -1,49 +1,36 @@
-use Rattle.std.proofs.Common.{◌≡◌, ◌⊎◌, inl, inr, ◌+◌, ◌-◌, ◌<◌, ◌≤◌, ◌∙◌, ℕ, List, ◌++◌, ◌∷◌, [], length, ap, subst, sym, refl, arith, Some, None, Option}
-use Rattle.std.specs.Option.{option_map}
-use Rattle.sg_device.proofs.Disks.{moves_within}
-use Rattle.sg_spool.specs.Lists.{Perhaps, Appends}
-use Rattle.sg_spool.proofs.Whole.{rings, follows, follows_now, held_longer}
+use Rattle.std.proofs.Common.{◌≡◌, ◌⊎◌, inl, inr, ⊎_elim, ◌+◌, ◌∙◌, ℕ, List, ◌++◌, ◌∷◌, [], ap, subst, sym, refl, arith}
+use Rattle.std.specs.Prelude.{true, false}
+use Rattle.sg_spool.specs.Places.{live}
+use Rattle.sg_spool.specs.declared.rows.Rows.{Rows}
+use Rattle.sg_spool.proofs.Calls.{append_failed, append_held, append_both, appended_rows}
 use Rattle.sg_spool.proofs.spool.Spool.append.Goals as goal
 
-pub returns-in_default-clause-within : goal.returns-in_default-clause-within
-returns-in_default-clause-within g c =
-    let m = c.self.inside in
-    let whole = c.self.invariant.whole c.if-self.false in
-    rw (← c.self.view_is) (λ shut. follows m.cell m.places m.count (option_map (λ v. v.items) m.front) whole.entries (g.D.Disk.state m.disk) whole.each (Perhaps (Appends c.args.block.now)) (g.D.Disk.state c.append_entry.new.disk) (c.append_entry.ensures.within whole.entries (rings m.cell m.places m.count (option_map (λ v. v.items) m.front) whole.entries (g.D.Disk.state m.disk) whole.each)))
+pub returns-in-DiskFailed-clause-leaves : goal.returns-in-DiskFailed-clause-leaves
+returns-in-DiskFailed-clause-leaves g c = append_failed g.D.Disk.state c.args.self.now c.stage.new.self c.args.block.now c.requires c.stage.ensures.leaves
 
-pub returns-clause-within : goal.returns-clause-within
-returns-clause-within g c =
-    let m = c.self.inside in
-    let whole = c.self.invariant.whole c.if-self.false in
-    rw (← c.self.view_is) (λ shut. follows m.cell m.places m.count (option_map (λ v. v.items) m.front) whole.entries (g.D.Disk.state m.disk) whole.each (Perhaps (Appends c.args.block.now)) (g.D.Disk.state c.append_entry.new.disk) (c.append_entry.ensures.within whole.entries (rings m.cell m.places m.count (option_map (λ v. v.items) m.front) whole.entries (g.D.Disk.state m.disk) whole.each)))
+pub returns-in-Ok-clause-leaves : goal.returns-in-Ok-clause-leaves
+returns-in-Ok-clause-leaves g c = append_both g.D.Disk.state c.args.self.now c.stage.new.self c.args.block.now c.requires c.stage.ensures.leaves c.commit.new.self c.stage.ensures.lasts.capacity _ _ c.in-Done.ensures.answer.5 c.commit.ensures.leaves
 
-pub returns-in_default-clause-moves : goal.returns-in_default-clause-moves
-returns-in_default-clause-moves g c =
-    let m = c.self.inside in
-    let whole = c.self.invariant.whole c.if-self.false in
-    rw (← c.self.view_is) (moves_within (follows m.cell m.places m.count (option_map (λ v. v.items) m.front) whole.entries (g.D.Disk.state m.disk) whole.each (Perhaps (Appends c.args.block.now)) (g.D.Disk.state c.append_entry.new.disk) (c.append_entry.ensures.within whole.entries (rings m.cell m.places m.count (option_map (λ v. v.items) m.front) whole.entries (g.D.Disk.state m.disk) whole.each))))
+pub returns-in-Err-clause-leaves : goal.returns-in-Err-clause-leaves
+returns-in-Err-clause-leaves g c = append_both g.D.Disk.state c.args.self.now c.stage.new.self c.args.block.now c.requires c.stage.ensures.leaves c.commit.new.self c.stage.ensures.lasts.capacity _ _ c.in-Done.ensures.answer.5 c.commit.ensures.leaves
 
-pub returns-clause-moves : goal.returns-clause-moves
-returns-clause-moves g c =
-    let m = c.self.inside in
-    let whole = c.self.invariant.whole c.if-self.false in
-    rw (← c.self.view_is) (moves_within (follows m.cell m.places m.count (option_map (λ v. v.items) m.front) whole.entries (g.D.Disk.state m.disk) whole.each (Perhaps (Appends c.args.block.now)) (g.D.Disk.state c.append_entry.new.disk) (c.append_entry.ensures.within whole.entries (rings m.cell m.places m.count (option_map (λ v. v.items) m.front) whole.entries (g.D.Disk.state m.disk) whole.each))))
+pub returns-in-Ok-clause-answer : goal.returns-in-Ok-clause-answer
+returns-in-Ok-clause-answer g c =
+    let a = c.in-Done.ensures.answer in
+    let b = c.in-Ok.ensures.answer in (
+      a.0,
+      a.1,
+      b.1,
+      ap (λ (r : Rows). live r.list) b.2 ∙ a.3,
+      appended_rows c.args.self.now.rows c.stage.new.self.rows c.commit.new.self.rows c.requires a.4 b.2,
+      λ list holds. b.3 list (c.args.block.now ∷ []) (append_held g.D.Disk.state c.args.self.now c.stage.new.self c.args.block.now c.requires c.stage.ensures.leaves c.commit.new.self c.stage.ensures.lasts.capacity _ _ a.5 list [] holds),
+    )
 
-pub returns-clause-done : goal.returns-clause-done
-returns-clause-done g c =
-    let m = c.self.inside in
-    let whole = c.self.invariant.whole c.if-self.false in
-    rw (← c.self.view_is) (follows_now m.cell m.places m.count (option_map (λ v. v.items) m.front) whole.entries (g.D.Disk.state m.disk) whole.each (Appends c.args.block.now) c.append_entry.new.cell c.in-Ok.places (whole.entries ++ c.args.block.now ∷ []) (g.D.Disk.state c.append_entry.new.disk) refl (c.in-Ok.ensures.ring whole.entries (rings m.cell m.places m.count (option_map (λ v. v.items) m.front) whole.entries (g.D.Disk.state m.disk) whole.each)))
-
-pub invariant_of-self-2 : goal.invariant_of-self-2
-invariant_of-self-2 g c =
-    let m = c.self.inside in
-    let whole = c.self.invariant.whole c.if-self.false in
-    record {
-      ordered = c.in-Ok.ensures.ordered;
-      cell_open = λ shut. c.in-Ok.ensures.cell_open;
-      whole = λ shut. record {
-        entries = whole.entries ++ c.args.block.now ∷ [];
-        each = held_longer m.cell m.places m.count (option_map (λ v. v.items) m.front) whole.entries (g.D.Disk.state m.disk) whole.each c.append_entry.new.cell c.in-Ok.places c.args.block.now (g.D.Disk.state c.append_entry.new.disk) c.saturating_add-self-inside.result c.in-Ok.ensures.ordered c.saturating_add-self-inside.ensures (c.in-Ok.ensures.ring whole.entries (rings m.cell m.places m.count (option_map (λ v. v.items) m.front) whole.entries (g.D.Disk.state m.disk) whole.each));
-      };
-    }
+pub returns-in-Err-clause-answer : goal.returns-in-Err-clause-answer
+returns-in-Err-clause-answer g c =
+    let a = c.in-Done.ensures.answer in
+    let b = c.in-Err.ensures.answer in (
+      inr (a.1, ⊎_elim (λ shut. absurd (let no : false ≡ true = sym a.2 ∙ shut in cc)) (λ rose. let later = c.stage.ensures.lasts.later in omega (arith, rose, later)) b.0),
+      b.1,
+      b.2,
+    )

@@ -9,12 +9,12 @@ pub returns-clause-remains : goal.returns-clause-remains
 returns-clause-remains g c = rw (← c.self.view_is) (λ shut bytes left entries is.
     let m = c.self.inside in
     let whole = c.self.invariant.whole shut in
-    subst (λ (k : ℕ). Remains bytes m.places.jump k entries m.places.end) (sym c.gate_past.ensures) (remains m.cell m.places m.count (option_map (λ v. v.items) m.front) whole.entries (g.D.Disk.state m.disk) whole.each entries bytes left is))
+    subst (λ (k : ℕ). Remains bytes m.rows.list.jump k entries m.rows.list.end) (sym c.gate_past.ensures) (remains m.cell m.rows (option_map (λ v. v.items) m.front) (g.D.Disk.state m.disk) whole entries bytes left is))
 
 pub returns-clause-here : goal.returns-clause-here
 returns-clause-here g c = rw (← c.self.view_is) (λ shut bytes told.
     let m = c.self.inside in
     let whole = c.self.invariant.whole shut in
     let left = reads_as_image (g.D.Disk.state m.disk) bytes told in
-    let is = lists m.cell m.places m.count (option_map (λ v. v.items) m.front) whole.entries (g.D.Disk.state m.disk) whole.each bytes left in
-    (whole.entries, is, subst (λ (k : ℕ). Remains bytes m.places.jump k whole.entries m.places.end) (sym c.gate_past.ensures) (remains m.cell m.places m.count (option_map (λ v. v.items) m.front) whole.entries (g.D.Disk.state m.disk) whole.each whole.entries bytes left is)))
+    let is = lists m.cell m.rows (option_map (λ v. v.items) m.front) (g.D.Disk.state m.disk) whole bytes left in
+    (whole.entries, is, subst (λ (k : ℕ). Remains bytes m.rows.list.jump k whole.entries m.rows.list.end) (sym c.gate_past.ensures) (remains m.cell m.rows (option_map (λ v. v.items) m.front) (g.D.Disk.state m.disk) whole whole.entries bytes left is)))

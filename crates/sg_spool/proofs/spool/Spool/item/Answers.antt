@@ -10,7 +10,7 @@ returns-then-gate-self-clause-next g c =
     let m = c.self.inside in
     let whole = c.self.invariant.whole c.if-self.false in
     rw (← c.self.view_is) (λ b told es remains.
-    none_remain m.places.jump c.args.gate m.places.end es b (whole.each b (reads_as_image (g.D.Disk.state m.disk) b told)).ring.laid.ends c.if-gate-self.true remains)
+    none_remain m.rows.list.jump c.args.gate m.rows.list.end es b (whole.each b (reads_as_image (g.D.Disk.state m.disk) b told)).ring.laid.ends c.if-gate-self.true remains)
 
 pub returns-in-Ok-clause-next : goal.returns-in-Ok-clause-next
 returns-in-Ok-clause-next g c =
@@ -18,10 +18,10 @@ returns-in-Ok-clause-next g c =
     let payload = c.in-Ok.payload.items in
     let given : length c.deref.result.now ≡ length payload = ap length c.deref.ensures.value in
     rw (← c.self.view_is) (λ b told es remains.
-    one_remains m.places.jump c.args.gate m.places.end c.gate_past.result es b payload c.if-gate-self.false (λ p entry. c.in-Ok.ensures.payload b told p entry)
+    one_remains m.rows.list.jump c.args.gate m.rows.list.end c.gate_past.result es b payload c.if-gate-self.false (λ p entry. c.in-Ok.ensures.payload b told p entry)
     (λ p entry.
     let same : length payload ≡ length p = ap length (c.in-Ok.ensures.payload b told p entry) in
     let inside = entry.next in
     let small = g.met.D.Disk.short m.disk b told in
-    c.gate_past.ensures ∙ ap (λ (k : ℕ). gate_past m.places.jump k) (c.behind-next.ensures (omega (arith, given, same, inside, small)) ∙ ap (λ (n : ℕ). c.args.gate + 5 + n) (given ∙ same)))
+    c.gate_past.ensures ∙ ap (λ (k : ℕ). gate_past m.rows.list.jump k) (c.behind-next.ensures (omega (arith, given, same, inside, small)) ∙ ap (λ (n : ℕ). c.args.gate + 5 + n) (given ∙ same)))
     remains)

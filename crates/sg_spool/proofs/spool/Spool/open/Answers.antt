@@ -1,12 +1,14 @@
-use Rattle.std.proofs.Common.{replicate}
-use Rattle.sg_spool.proofs.Fresh.{fresh_compact, fresh_short}
+use Rattle.std.proofs.Common.{◌≡◌, None}
+use Rattle.std.specs.Prelude.{true, false}
+use Rattle.sg_spool.proofs.Whole.{whole_open, advanced_rows}
 use Rattle.sg_spool.proofs.spool.Spool.open.Goals as goal
 
-pub returns-in-Ok-clause-compact : goal.returns-in-Ok-clause-compact
-returns-in-Ok-clause-compact g c = λ fresh.
-    let held = c.in-Ok.ensures.held (replicate 128 0) fresh in
+pub invariant_of-result : goal.invariant_of-result
+invariant_of-result g c =
     let found = c.in-Ok.found in
     record {
-      placed = fresh_compact c.args.capacity found.places.jump found.places.head found.places.end held.0 held.1.ring.laid;
-      short = fresh_short c.args.capacity (g.D.Disk.state c.args.disk) (g.D.Disk.state c.look.new.disk) fresh c.in-Ok.ensures.preserves c.in-Ok.ensures.durable;
+      rows = advanced_rows found.places found.count c.listed.result c.listed.ensures c.in-Ok.ensures.ordered;
+      unstaged = λ shut. absurd (let no : false ≡ true = shut in cc);
+      cell_open = λ shut. c.in-Ok.ensures.opened;
+      whole = λ shut. whole_open found.cell found.places found.count c.listed.result (g.D.Disk.state c.args.disk) (g.D.Disk.state c.look.new.disk) c.listed.ensures c.in-Ok.ensures.held c.in-Ok.ensures.preserves c.in-Ok.ensures.durable;
     }

@@ -1,0 +1,87 @@
+-- What every call keeps.
+use Rattle.std.proofs.Common.{◌≡◌, ◌⊎◌, inl, inr, ⊎_elim, ℕ, ◌+◌, ◌-◌, ◌≤◌, ◌^◌, min, List, [], ◌∷◌, ◌++◌, length, refl, sym, ◌∙◌, ap, subst, arith, Some, None}
+use Rattle.std.specs.Prelude.{Bool, true, false}
+use Rattle.sg_device.specs.Disk.{DiskState, Moves, Within}
+use Rattle.sg_device.specs.Faults.{Rose}
+use Rattle.sg_device.proofs.Disks.{moves_refl, within_as}
+use Rattle.sg_device.proofs.DiskCalls.{moves_trans}
+use Rattle.sg_spool.specs.Calls.{Lasts, Leaves}
+use Rattle.sg_spool.specs.Lists.{IsOneOf}
+use Rattle.std.proofs.lemmas.List.{append-nil}
+use Rattle.sg_spool.specs.Ring.{Entries, IsList}
+use Rattle.sg_spool.specs.Rows.{listed, committed, total}
+use Rattle.sg_spool.specs.declared.rows.Rows.{Rows}
+use Rattle.sg_spool.proofs.Chains.{within_join}
+use Rattle.sg_spool.specs.View.{View, HoldsAt, IsCompactAt, IsCompactIn}
+use Rattle.sg_spool.proofs.Whole.{stay_one, stay_short, listed_same}
+
+-- nothing changed
+pub lasts_same : {D : Type 0} (state : D → DiskState) (v : View D) → Lasts state v v
+lasts_same state v = record {
+  capacity = refl;
+  moves = moves_refl (state v.disk);
+  untouched = λ shut. refl;
+  later = omega arith;
+  blames = λ f le was shut. was shut;
+}
+
+pub leaves_same : {D : Type 0} (state : D → DiskState) (v : View D) (step : Entries → Entries → Entries) → Leaves state v v step
+leaves_same state v step = record {
+  within = λ list staged holds. stay_one v.rows list staged (step list staged) (state v.disk) holds;
+  short = λ compact. stay_short v.rows v.capacity (state v.disk) compact;
+  compact = λ compact. compact;
+}
+
+-- an open one went on
+pub lasts_open : {D : Type 0} (state : D → DiskState) (old new : View D) → old.closed ≡ false → new.capacity ≡ old.capacity → Moves (state old.disk) (state new.disk) → (state old.disk).faults ≤ (state new.disk).faults → (new.closed ≡ true → Rose (state old.disk).faults (state new.disk).faults) → Lasts state old new
+lasts_open state old new open_ capacity moves later rose = record {
+  capacity = capacity;
+  moves = moves;
+  untouched = λ shut. absurd (let no : false ≡ true = sym open_ ∙ shut in cc);
+  later = later;
+  blames = λ f le was shut. let now = rose shut in omega (arith, le, now);
+}
+
+pub lasts_trans : {D : Type 0} (state : D → DiskState) (old mid new : View D) → Lasts state old mid → Lasts state mid new → Lasts state old new
+lasts_trans state old mid new one two = record {
+  capacity = two.capacity ∙ one.capacity;
+  moves = moves_trans (state old.disk) (state mid.disk) (state new.disk) one.moves two.moves;
+  untouched = λ shut. let same = one.untouched shut in two.untouched (ap (λ (v : View _). v.closed) same ∙ shut) ∙ same;
+  later = omega (arith, one.later, two.later);
+  blames = λ f le was shut. two.blames f (omega (arith, le, one.later)) (one.blames f le was) shut;
+}
+
+no_payloads : (ps : Entries) (n : ℕ) → n ≡ 0 → n ≡ length ps → ps ≡ []
+no_payloads [] n none is = refl
+no_payloads (p ∷ ps) n none is = absurd (omega (arith, none, is))
+
+-- an append, which is a stage and a commit where nothing was staged
+module _ {D : Type 0} (state : D → DiskState) (old mid : View D) (payload : List ℕ) (none : old.rows.staged ≡ 0) (first : Leaves state old mid (λ list staged. list ++ staged)) where
+  append_first : (list staged : Entries) → HoldsAt (state old.disk) old.rows list staged → Within (state old.disk) (state mid.disk) (IsOneOf list (list ++ payload ∷ []))
+  append_first list staged holds = within_as (state old.disk) (state mid.disk) (IsOneOf list (list ++ staged)) (IsOneOf list (list ++ payload ∷ [])) (first.within list staged holds)
+      (λ c at. ⊎_elim (λ one. inl one) (λ two. inl (subst (λ (l : Entries). IsList l c) (ap (λ (ps : Entries). list ++ ps) (no_payloads staged old.rows.staged none holds.number) ∙ append-nil list) two)) at)
+
+  pub append_failed : Leaves state old mid (λ list staged. list ++ payload ∷ [])
+  append_failed = record { within = append_first; short = first.short; compact = first.compact }
+
+  module _ (new : View D) (capacity : mid.capacity ≡ old.capacity) (P Q : Type 0) (done : (list staged : Entries) → HoldsAt (state old.disk) old.rows list staged → (HoldsAt (state mid.disk) mid.rows list (staged ++ payload ∷ []) × P) ⊎ (HoldsAt (state mid.disk) mid.rows (list ++ staged) (payload ∷ []) × Q))
+    where
+      pub append_held : (list staged : Entries) → HoldsAt (state old.disk) old.rows list staged → HoldsAt (state mid.disk) mid.rows list (payload ∷ [])
+      append_held list staged holds =
+          let empty = no_payloads staged old.rows.staged none holds.number in
+          ⊎_elim (λ one. subst (λ (ps : Entries). HoldsAt (state mid.disk) mid.rows list (ps ++ payload ∷ [])) empty one.0)
+          (λ two. subst (λ (l : Entries). HoldsAt (state mid.disk) mid.rows l (payload ∷ [])) (ap (λ (ps : Entries). list ++ ps) empty ∙ append-nil list) two.0) (done list staged holds)
+
+      pub append_both : Leaves state mid new (λ list staged. list ++ staged) → Leaves state old new (λ list staged. list ++ payload ∷ [])
+      append_both second = record {
+        within = λ list staged holds. within_join (state old.disk) (state mid.disk) (state new.disk) (IsOneOf list (list ++ payload ∷ [])) (IsOneOf list (list ++ payload ∷ [])) (append_first list staged holds)
+            (second.within list (payload ∷ []) (append_held list staged holds)) (λ c at. at);
+        short = λ compact. within_join (state old.disk) (state mid.disk) (state new.disk) (IsCompactIn old.capacity) (IsCompactIn mid.capacity) (first.short compact) (second.short (first.compact compact))
+            (λ c at. subst (λ (n : ℕ). IsCompactIn n c) capacity at);
+        compact = λ compact. second.compact (first.compact compact);
+      }
+
+pub appended_rows : (old mid new : Rows) → old.staged ≡ 0 → total mid ≡ min (total old + 1) (2 ^ 64 - 1) → new ≡ committed mid → new ≡ listed new.list (min (old.count + 1) (2 ^ 64 - 1))
+appended_rows old mid new none totals is =
+    let count : total mid ≡ min (old.count + 1) (2 ^ 64 - 1) = omega (arith, totals, none) in
+    listed_same mid.ahead (min (old.count + 1) (2 ^ 64 - 1)) new (is ∙ ap (λ (k : ℕ). listed mid.ahead k) count)

@@ -1,0 +1,36 @@
+-- The places of a list, and those of the list with what is staged behind it.
+use Rattle.std.specs.Prelude.{◌≡◌, ℕ, zero, suc, ◌+◌, ◌-◌, ◌<◌, ◌≤◌, ◌^◌, min, Option, Some, None}
+use Rattle.sg_spool.specs.Places.{IsOrdered, live}
+use Rattle.sg_spool.specs.declared.places.Places.{Places}
+use Rattle.sg_spool.specs.declared.rows.Rows.{Rows}
+
+-- a list of so many entries at these places, with nothing staged
+abbrev pub listed : Places → ℕ → Rows
+listed list count = record { list = list; ahead = list; count = count; staged = 0 }
+
+-- the number of entries, with those that are staged
+abbrev pub total : Rows → ℕ
+total rows = min (rows.count + rows.staged) (2 ^ 64 - 1)
+
+-- all that was staged is in the list
+abbrev pub committed : Rows → Rows
+committed rows = listed rows.ahead (total rows)
+
+-- What is staged stands behind the list's end: behind a jump of its own, or below the head as the list's end.
+abbrev pub IsPast : Option ℕ → ℕ → Option ℕ → ℕ → Type 0
+IsPast None end None last = end < last
+IsPast None end (Some jump) last = end ≤ jump
+IsPast (Some jump) end None last = ⊥
+IsPast (Some jump) end (Some other) last = (other ≡ jump) × (end < last)
+
+-- so many entries are staged behind the list
+abbrev pub IsAhead : ℕ → Places → Places → Type 0
+IsAhead zero list ahead = ahead ≡ list
+IsAhead (suc staged) list ahead = (ahead.head ≡ list.head) × IsPast list.jump list.end ahead.jump ahead.end
+
+-- both places are in order
+pub record AreRows (rows : Rows) : Type 0 where
+  pub list : IsOrdered rows.list
+  pub ahead : IsOrdered rows.ahead
+  pub apart : IsAhead rows.staged rows.list rows.ahead
+  pub few : rows.staged ≤ live rows.ahead
