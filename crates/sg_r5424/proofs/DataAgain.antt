@@ -1,6 +1,6 @@
 -- Structured data that a line has a place for is read again.
 use Rattle.std.proofs.Common.{◌≡◌, ℕ, suc, ◌+◌, ◌≤◌, ◌⊎◌, inl, inr, Bool, true, false, ◌&&◌, not, cond, nat_eq, Option, Some, None, is_some, List, [], ◌∷◌, ◌++◌, length, take, drop, codes, map, bytes_eq, refl, sym, ap, subst, ◌∙◌, arith, append_assoc, length-drop}
-use Rattle.std.specs.List.{filter, filter_map, prefix_len, cons_option}
+use Rattle.std.specs.List.{filter_map, prefix_len, cons_option}
 use Rattle.std.specs.Option.{option_map}
 use Rattle.std.proofs.lemmas.Bool.{true≢false, eqb-true, eq-eqb}
 use Rattle.std.proofs.lemmas.Slice.Eq.{bytes_eq-Decides}
@@ -10,7 +10,7 @@ use Rattle.sg_msg.specs.Message.{Pair}
 use Rattle.sg_template.specs.Elements.{SdName, Item, is_sd_name, is_param_name, is_no_dot, is_no_at, begins_with_digit, before_dot, id_length, split_name, checked, sd_name, item_of}
 use Rattle.sg_r5424.specs.declared.params.Param.{Param}
 use Rattle.sg_r5424.specs.Data.{element_name, param_name, param_pair, element_pairs}
-use Rattle.sg_r5424.specs.Again.{is_data, data_pairs, is_open, begin_with, AreNamed, IsAlone, HasPlace, HavePlaces, KeepsData}
+use Rattle.sg_r5424.specs.Again.{is_data, data_pairs, begin_with, AreNamed, HasPlace, HavePlaces, KeepsData}
 use Rattle.sg_r5424.proofs.RunLemmas.{and_true}
 use Rattle.sg_r5424.proofs.NamedValues.{AreData}
 use Rattle.sg_r5424.proofs.WrittenData.{param_list, open_params, other_pairs, written_pairs}

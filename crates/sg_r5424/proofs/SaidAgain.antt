@@ -1,5 +1,5 @@
 -- What a line says again.
-use Rattle.std.proofs.Common.{◌≡◌, ℕ, ◌≤◌, Bool, true, false, cond, Option, Some, None, List, [], ◌∷◌, ◌++◌, length, take, codes, map, bytes_eq, unwrap_or, refl, ap, ◌∙◌, append-nil, arith}
+use Rattle.std.proofs.Common.{◌≡◌, ℕ, Bool, true, false, cond, Option, Some, None, List, [], ◌∷◌, ◌++◌, take, codes, map, bytes_eq, unwrap_or, refl, ap, ◌∙◌, append-nil, arith}
 use Rattle.std.specs.List.{AllPass, filter_map}
 use Rattle.std.proofs.lemmas.List.{take_all}
 use Rattle.std.proofs.lemmas.List.Elements.{All-head, All-tail}
@@ -14,9 +14,9 @@ use Rattle.sg_r3164.specs.Options.{host_of}
 use Rattle.sg_template.specs.Texts.{text_of}
 use Rattle.sg_template.specs.Elements.{item_of}
 use Rattle.sg_r5424.specs.Grammar.{unless_nil, without_bom}
-use Rattle.sg_r5424.specs.Is5424.{message_pair, without_end}
+use Rattle.sg_r5424.specs.Is5424.{message_pair}
 use Rattle.sg_r5424.specs.Write.{printed, field_text}
-use Rattle.sg_r5424.specs.Again.{IsFieldText, HasForm, IsWhole, is_data, data_pairs, KeepsData, SaysAgain}
+use Rattle.sg_r5424.specs.Again.{IsFieldText, HasForm, IsWhole, data_pairs, SaysAgain}
 use Rattle.sg_r5424.proofs.WrittenHeader.{some_field}
 use Rattle.sg_r5424.proofs.WrittenData.{written_pairs, said_text}
 use Rattle.sg_r5424.proofs.NamedValues.{last_value, value_last, last_append, AreData, last_data, data_ascending, data_all, data_append, data_itself}

@@ -1,5 +1,5 @@
 -- Stamps that were written are read.
-use Rattle.std.proofs.Common.{◌≡◌, ℕ, zero, suc, ◌+◌, ◌*◌, ◌≤◌, ◌<◌, inl, inr, Bool, true, false, cond, Option, Some, None, List, [], ◌∷◌, ◌++◌, length, take, drop, codes, refl, sym, ap, ◌∙◌, subst, arith, ℤ, pos, negsuc, neg_ℤ, ◌+ℤ◌, ◌-ℤ◌, ◌*ℤ◌, ◌≤ℤ◌, unsigned_abs, length-append, append_assoc}
+use Rattle.std.proofs.Common.{◌≡◌, ℕ, zero, suc, ◌≤◌, inl, inr, Bool, true, false, cond, Option, Some, None, List, ◌∷◌, ◌++◌, length, take, codes, refl, ap, ◌∙◌, subst, arith, ℤ, pos, negsuc, ◌+ℤ◌, ◌-ℤ◌, ◌*ℤ◌, ◌≤ℤ◌, unsigned_abs, length-append, append_assoc}
 use Rattle.std.specs.Prelude.{All, int_le}
 use Rattle.std.specs.Option.{ForSome}
 use Rattle.std.proofs.lemmas.Int.{ints}
@@ -14,10 +14,10 @@ use Rattle.jiff_core.specs.declared.civil.time.Time.{Time}
 use Rattle.sg_time.specs.declared.stamp.Stamp.{Stamp}
 use Rattle.sg_time.specs.declared.local.LocalTime.{LocalTime}
 use Rattle.sg_time.specs.Stamp.{IsValid}
-use Rattle.sg_time.specs.Text.{digits, date_text, clock_text, minutes_text, fraction_text, offset_text, iso_local_text}
-use Rattle.sg_time.specs.Reading.{date_form, clock_form, IsDigit, micros_from, IsFraction, IsZone, IsMoment, IsIso}
+use Rattle.sg_time.specs.Text.{digits, date_text, clock_text, fraction_text, offset_text, iso_local_text}
+use Rattle.sg_time.specs.Reading.{date_form, clock_form, IsDigit, micros_from, IsFraction, IsZone}
 use Rattle.sg_time.specs.Reading.IsZone.{east, west}
-use Rattle.sg_template.specs.Zone.{has_year, moved_stamp, shown_stamp}
+use Rattle.sg_template.specs.Zone.{has_year, shown_stamp}
 use Rattle.sg_r5424.specs.Grammar.{IsStamp}
 use Rattle.sg_r5424.proofs.RunLemmas.{and_true}
 use Rattle.sg_time.proofs.Dates.{IsShownBy}

@@ -1,26 +1,25 @@
 -- Structured data and the message of a line, read again.
-use Rattle.std.proofs.Common.{◌≡◌, ℕ, ◌+◌, ◌≤◌, ◌<◌, Bool, true, false, ◌&&◌, ◌||◌, ◌==◌, not, cond, nat_eq, nat_lt, Option, Some, None, List, [], ◌∷◌, ◌++◌, length, take, drop, codes, bytes_eq, refl, sym, ap, ◌∙◌, subst, arith, append_assoc, append-nil, inl, inr}
-use Rattle.std.specs.List.{AllPass, list_all, filter_map, flat_map, cons_option}
+use Rattle.std.proofs.Common.{◌≡◌, ℕ, ◌≤◌, Bool, true, false, ◌&&◌, ◌==◌, cond, nat_eq, nat_lt, Option, Some, None, List, [], ◌∷◌, ◌++◌, length, take, drop, codes, bytes_eq, refl, sym, ap, ◌∙◌, subst, arith, append_assoc, append-nil, inl}
+use Rattle.std.specs.List.{AllPass, list_all, filter_map, cons_option}
 use Rattle.std.specs.Option.{option_map}
 use Rattle.std.proofs.lemmas.Bool.{false≢true, ne_eqb}
 use Rattle.std.proofs.lemmas.List.Elements.{All-nil, All-cons}
 use Rattle.sg_msg.specs.Message.{Pair}
 use Rattle.sg_msg.specs.Sets.{is_sd_byte, is_escaped}
 use Rattle.std.proofs.lemmas.Bool.Decides.{nat_tests}
-use Rattle.sg_template.specs.Elements.{SdName, Item, is_sd_name, is_param_name, split_name, checked, sd_name, item_of, escaped_byte, escaped, param_text, opening_text, item_text, elements_text, sdata_text}
+use Rattle.sg_template.specs.Elements.{SdName, Item, is_sd_name, is_param_name, split_name, checked, sd_name, item_of, escaped, param_text, opening_text, item_text, elements_text, sdata_text}
 use Rattle.sg_r5424.specs.declared.params.Param.{Param}
 use Rattle.sg_r5424.specs.Grammar.{IsMessage, without_bom}
 use Rattle.sg_r5424.specs.Data.{Stops, IsName, IsParam, Params, IsElement, Elements, IsData, element_pairs}
 use Rattle.sg_r5424.specs.Data.Params.{closed, more as another}
 use Rattle.sg_r5424.specs.Data.Elements.{none, more}
-use Rattle.sg_r5424.specs.Values.{Spells, IsValue}
+use Rattle.sg_r5424.specs.Values.{Spells}
 use Rattle.sg_r5424.specs.Values.Spells.{none as nothing, escaped as behind_slash, plain}
 use Rattle.sg_r5424.specs.Write.{message_text}
 use Rattle.sg_r5424.specs.Is5424.{is_end_byte, without_end}
 use Rattle.sg_r5424.proofs.RecordEnds.{kept_front}
 use Rattle.sg_r5424.proofs.RunLemmas.{and_true}
 use Rattle.sg_r5424.proofs.ElementLemmas.{some_data}
-use Rattle.sg_r5424.proofs.ParamLemmas.{params_cases}
 
 -- names
 named : (name : List ℕ) → list_all is_sd_byte name ≡ true → AllPass is_sd_byte name

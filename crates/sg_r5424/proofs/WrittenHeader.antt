@@ -1,5 +1,5 @@
 -- The header of a line, read again.
-use Rattle.std.proofs.Common.{◌≡◌, ℕ, ◌+◌, ◌-◌, ◌*◌, ◌/◌, ◌%◌, ◌≤◌, ◌<◌, Bool, true, false, ◌&&◌, cond, nat_eq, nat_le, inl, inr, Option, Some, List, [], ◌∷◌, ◌++◌, length, take, drop, map, codes, refl, sym, ap, ◌∙◌, subst, arith, min}
+use Rattle.std.proofs.Common.{◌≡◌, ℕ, ◌+◌, ◌-◌, ◌*◌, ◌/◌, ◌%◌, ◌≤◌, ◌<◌, Bool, true, false, cond, nat_le, inl, inr, Some, List, [], ◌∷◌, ◌++◌, length, take, map, refl, sym, ap, ◌∙◌, subst, arith, min}
 use Rattle.std.specs.Prelude.{decimal}
 use Rattle.std.specs.List.{AllPass, prefix_len}
 use Rattle.std.proofs.lemmas.Bool.{cases_lt, ne_eqb}
@@ -9,7 +9,6 @@ use Rattle.std.proofs.lemmas.List.{length-take, length-map}
 use Rattle.std.proofs.lemmas.List.Elements.{All-nil, All-cons}
 use Rattle.sg_msg.specs.Priority.{priority, is_digit}
 use Rattle.sg_msg.specs.Sets.{is_print}
-use Rattle.sg_r5424.specs.declared.header.Names.{Names}
 use Rattle.sg_r5424.specs.Grammar.{IsStart, IsField, IsNames}
 use Rattle.sg_r5424.specs.Write.{printed, field_text, pri_text}
 use Rattle.sg_r5424.proofs.RunLemmas.{run_len}

@@ -1,7 +1,6 @@
 -- A line is a record.
-use Rattle.std.proofs.Common.{◌≡◌, ℕ, ℤ, ◌≤◌, Option, Some, List, [], ◌∷◌, ◌++◌, codes, refl, sym, ap, ◌∙◌, subst, append_assoc}
+use Rattle.std.proofs.Common.{◌≡◌, ℕ, Some, List, [], ◌∷◌, ◌++◌, codes, refl, sym, ap, ◌∙◌, subst, append_assoc}
 use Rattle.sg_time.specs.declared.stamp.Stamp.{Stamp}
-use Rattle.sg_time.specs.Stamp.{IsValid}
 use Rattle.sg_time.specs.Local.{local_time}
 use Rattle.sg_time.specs.Text.{iso_stamp_text, iso_local_text}
 use Rattle.sg_msg.specs.Message.{Pair, Content}
@@ -14,8 +13,8 @@ use Rattle.sg_template.specs.Elements.{item_of, sdata_text}
 use Rattle.sg_template.specs.Zone.{shown_stamp}
 use Rattle.sg_r5424.specs.declared.header.Names.{Names}
 use Rattle.sg_r5424.specs.Is5424.{header_build, whole_content, without_end, Reads}
-use Rattle.sg_r5424.specs.Write.{field_text, message_text, pri_text, fields_text, line_text, HasYear}
-use Rattle.sg_time.proofs.Dates.{IsShownBy, shows}
+use Rattle.sg_r5424.specs.Write.{field_text, message_text, pri_text, line_text, HasYear}
+use Rattle.sg_time.proofs.Dates.{shows}
 use Rattle.sg_r5424.proofs.StampLemmas.{stamp_read, shown_valid}
 use Rattle.sg_r5424.proofs.WrittenHeader.{pri_read, names_read}
 use Rattle.sg_r5424.proofs.WrittenData.{written_pairs, ended_text, said_text, data_read, message_read, message_stops, line_ended}

@@ -1,5 +1,5 @@
 -- The syntax of structured data (RFC 5424, section 6.3), each part as what the front of a text says and what follows.
-use Rattle.std.specs.Prelude.{◌≡◌, ℕ, ◌≤◌, ◌==◌, ◌&&◌, not, Bool, false, List, [], ◌∷◌, ◌++◌, length, codes, map, ◌⊎◌}
+use Rattle.std.specs.Prelude.{◌≡◌, ℕ, ◌≤◌, ◌==◌, Bool, false, List, [], ◌∷◌, ◌++◌, length, codes, map, ◌⊎◌}
 use Rattle.std.specs.List.{AllPass}
 use Rattle.sg_msg.specs.Message.{Pair}
 use Rattle.sg_msg.specs.Sets.{is_sd_byte}

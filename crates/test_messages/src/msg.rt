@@ -1,7 +1,8 @@
 // Messages from end to end, and the table of macros.
 use bytes::Bytes;
-use sg_msg::{Message, MsgRefusal, is_hard};
+use sg_msg::{Message, MessageBuilder, MsgRefusal, PairName, is_hard};
 use sg_time::Stamp;
+use std::alloc::{AllocError, Global};
 use std::test::Fail;
 
 const STAMP: Stamp = Stamp { at: 0, offset: 0 };
@@ -54,10 +55,33 @@ fn says(message: &Message, pairs: &[(&[u8], &[u8])], tags: &[&[u8]]) -> bool {
         && message.tag(tags.len()).is_none()
 }
 
+// Puts in an order of their own: the later of two of one name counts.
+fn built(alloc: Global) -> Result<Message, AllocError> {
+    let mut builder = MessageBuilder::new(alloc, 13, STAMP, STAMP);
+    builder.put(PairName::Program, Bytes::from_static(b"p"))?;
+    builder.put(PairName::Host, Bytes::from_static(b"first"))?;
+    builder.put(PairName::Pid, Bytes::from_static(b"7"))?;
+    builder.put(PairName::MessageId, Bytes::from_static(b"id"))?;
+    builder.put_some(PairName::Message, None)?;
+    builder.put(PairName::Message, Bytes::from_static(b"m"))?;
+    builder.put(PairName::Host, Bytes::from_static(b"h"))?;
+    builder.set_tag(b"t")?;
+    builder.message()
+}
+
 // A change of one handle leaves the other as it was, and a refusal leaves all as it was.
 #[test]
 fn handles_keep_their_own(rt: HostRuntime) -> Result<(), Fail> {
-    let mut first = Message::new(rt.alloc(), Bytes::new(), 13, STAMP, STAMP)?;
+    let message = built(rt.alloc())?;
+    let pairs: [(&[u8], &[u8]); 5] = [
+        (b"HOST", b"h"),
+        (b"MESSAGE", b"m"),
+        (b"MSGID", b"id"),
+        (b"PID", b"7"),
+        (b"PROGRAM", b"p"),
+    ];
+    assert!(rt; says(&message, &pairs, &[b"t"]));
+    let mut first = Message::new(rt.alloc(), 13, STAMP, STAMP)?;
     first.set(b"MESSAGE", b"one").ok();
     first.set_tag(b"first")?;
     let mut copy = first.share()?;
@@ -74,6 +98,5 @@ fn handles_keep_their_own(rt: HostRuntime) -> Result<(), Fail> {
         (copy.pri(), copy.sent(), copy.received()),
         (13, STAMP, STAMP)
     );
-    assert_eq!(rt; copy.layers(), 0);
     Ok(())
 }

@@ -11,8 +11,10 @@ use std::test::Fail;
 // 2026-02-05T17:32:21Z
 const PULLED: i64 = 1_770_312_741_000_000;
 
-// Three seconds before.
-const SENT: i64 = 1_770_312_738_000_000;
+const RECEIVED: Stamp = Stamp {
+    at: PULLED,
+    offset: 0,
+};
 
 const OPTS: ReadOpts = ReadOpts {
     pri: 13,
@@ -22,276 +24,143 @@ const OPTS: ReadOpts = ReadOpts {
     parse: true,
 };
 
-type Row = (
-    &'static [u8],
-    u8,
-    i64,
-    &'static [u8],
-    &'static [u8],
-    &'static [u8],
-    &'static [u8],
-);
+// Items, and their PRI, their stamp, and their pairs with tabs between. Without a host of its own an item
+// has its peer's. The first four are examples of RFC 3164, section 5.4; the last fifty are what real
+// devices send, each read otherwise by syslog-ng where docs/MIGRATION.md says so.
+const ROWS: &str = "\
+<34>Oct 11 22:14:15 mymachine su: 'su root' failed for lonvick on /dev/pts/8 => 34 1791756855000000\tHOST=mymachine\tMESSAGE='su root' failed for lonvick on /dev/pts/8\tPROGRAM=su
+Use the BFG! => 13 1770312741000000\tHOST=peer\tMESSAGE=Use the BFG!
+<165>Aug 24 05:34:00 CST 1987 mymachine myproc[10]: %% It's time to make the do-nuts. => 165 1787549640000000\tHOST=CST\tMESSAGE=1987 mymachine myproc[10]: %% It's time to make the do-nuts.
+<0>1990 Oct 22 10:52:01 TZ-6 scapegoat.dmz.example.org 10.1.2.3 sched[0]: That's All Folks! => 0 1770312741000000\tHOST=peer\tMESSAGE=1990 Oct 22 10:52:01 TZ-6 scapegoat.dmz.example.org 10.1.2.3 sched[0]: That's All Folks!
+<13>Feb  5 17:32:18 10.0.0.99 Use the BFG! => 13 1770312738000000\tHOST=10.0.0.99\tMESSAGE=Use the BFG!
+<191>Feb  5 17:32:18 h p: m => 191 1770312738000000\tHOST=h\tMESSAGE=m\tPROGRAM=p
+<192>Feb  5 17:32:18 h p: m => 13 1770312741000000\tHOST=peer\tMESSAGE=<192>Feb  5 17:32:18 h p: m
+<007>p: m => 7 1770312741000000\tHOST=peer\tMESSAGE=m\tPROGRAM=p
+<1234>x => 13 1770312741000000\tHOST=peer\tMESSAGE=<1234>x
+<>x => 13 1770312741000000\tHOST=peer\tMESSAGE=<>x
+<13 => 13 1770312741000000\tHOST=peer\tMESSAGE=<13
+<5a>x => 13 1770312741000000\tHOST=peer\tMESSAGE=<5a>x
+<5> => 5 1770312741000000\tHOST=peer\tMESSAGE=
+ => 13 1770312741000000\tHOST=peer\tMESSAGE=
+<5>Feb  5 17:32:18 => 5 1770312738000000\tHOST=peer\tMESSAGE=
+<5>Feb  5 17:32:18x p: m => 5 1770312741000000\tHOST=peer\tMESSAGE=Feb  5 17:32:18x p: m
+<5>Feb 05 17:32:18 h p: m => 5 1770312738000000\tHOST=h\tMESSAGE=m\tPROGRAM=p
+<5>Feb 30 00:00:00 h p: m => 5 1770312741000000\tHOST=peer\tMESSAGE=Feb 30 00:00:00 h p: m
+<5>2026-02-05T17:32:18Z h p: m => 5 1770312738000000\tHOST=h\tMESSAGE=m\tPROGRAM=p
+<5>2026-02-05T17:32:18.000000Z h p: m => 5 1770312738000000\tHOST=h\tMESSAGE=m\tPROGRAM=p
+<5>2026-02-05t17:32:18Z h p: m => 5 1770312741000000\tHOST=peer\tMESSAGE=32:18Z h p: m\tPROGRAM=2026-02-05t17
+<5>su: x => 5 1770312741000000\tHOST=peer\tMESSAGE=x\tPROGRAM=su
+<5>Feb  5 17:32:18 p: m => 5 1770312738000000\tHOST=peer\tMESSAGE=m\tPROGRAM=p
+<5>Feb  5 17:32:18 a[1]: m => 5 1770312738000000\tHOST=peer\tMESSAGE=m\tPID=1\tPROGRAM=a
+<5>Feb  5 17:32:18 h => 5 1770312738000000\tHOST=peer\tMESSAGE=h
+<5>Feb  5 17:32:18  h p: m => 5 1770312738000000\tHOST=peer\tMESSAGE= h p: m
+<5>Feb  5 17:32:18 hé p: m => 5 1770312738000000\tHOST=peer\tMESSAGE=hé p: m
+<5>Feb  5 17:32:18 ::1 p: m => 5 1770312738000000\tHOST=::1\tMESSAGE=m\tPROGRAM=p
+<5>Feb  5 17:32:18 h p[: m => 5 1770312738000000\tHOST=h\tMESSAGE=p[: m
+<5>Feb  5 17:32:18 h p[7: m => 5 1770312738000000\tHOST=h\tMESSAGE=p[7: m
+<5>Feb  5 17:32:18 h p[]: m => 5 1770312738000000\tHOST=h\tMESSAGE=p[]: m
+<5>Feb  5 17:32:18 h p[7]m => 5 1770312738000000\tHOST=h\tMESSAGE=m\tPID=7\tPROGRAM=p
+<5>Feb  5 17:32:18 h p[7]:m => 5 1770312738000000\tHOST=h\tMESSAGE=m\tPID=7\tPROGRAM=p
+<5>Feb  5 17:32:18 h p[7] m => 5 1770312738000000\tHOST=h\tMESSAGE=m\tPID=7\tPROGRAM=p
+<5>Feb  5 17:32:18 h p[a:b[c]: m => 5 1770312738000000\tHOST=h\tMESSAGE=m\tPID=a:b[c\tPROGRAM=p
+<5>Feb  5 17:32:18 h p:  m => 5 1770312738000000\tHOST=h\tMESSAGE= m\tPROGRAM=p
+<5>Feb  5 17:32:18 h p: => 5 1770312738000000\tHOST=h\tMESSAGE=\tPROGRAM=p
+<5>Feb  5 17:32:18 h :m => 5 1770312738000000\tHOST=h\tMESSAGE=:m
+<5>Feb  5 17:32:18 h a b: m => 5 1770312738000000\tHOST=h\tMESSAGE=a b: m
+hello world => 13 1770312741000000\tHOST=peer\tMESSAGE=hello world
+<34>Oct 11 22:14:15 h su[7]: plain => 34 1791756855000000\tHOST=h\tMESSAGE=plain\tPID=7\tPROGRAM=su
+Oct 11 22:14:15.123 h p: frac bsd => 13 1770312741000000\tHOST=peer\tMESSAGE=Oct 11 22:14:15.123 h p: frac bsd
+<13>2026-10-11T22:14:15.123456789+02:00 h p: nano iso => 13 1770312741000000\tHOST=peer\tMESSAGE=14:15.123456789+02:00 h p: nano iso\tPROGRAM=2026-10-11T22
+<13>2026-10-11T22:14:15 h p: no zone => 13 1770312741000000\tHOST=peer\tMESSAGE=14:15 h p: no zone\tPROGRAM=2026-10-11T22
+<13>2026-10-11T22:14:15+0200 h p: zone without colon => 13 1770312741000000\tHOST=peer\tMESSAGE=14:15+0200 h p: zone without colon\tPROGRAM=2026-10-11T22
+<13>2026-10-11T22:14:15,123+02:00 h p: comma => 13 1770312741000000\tHOST=peer\tMESSAGE=14:15,123+02:00 h p: comma\tPROGRAM=2026-10-11T22
+<134> Oct 11 22:14:15 h p: blank behind pri => 134 1770312741000000\tHOST=peer\tMESSAGE= Oct 11 22:14:15 h p: blank behind pri
+<134>Oct 11 22:14:15  h p: two blanks behind stamp => 134 1791756855000000\tHOST=peer\tMESSAGE= h p: two blanks behind stamp
+<134>Oct 11 22:14:15 h  p: two blanks behind host => 134 1791756855000000\tHOST=h\tMESSAGE= p: two blanks behind host
+<189>123: *Mar  1 18:46:11.123 UTC: %SYS-5-CONFIG_I: Configured from console => 189 1770312741000000\tHOST=peer\tMESSAGE=*Mar  1 18:46:11.123 UTC: %SYS-5-CONFIG_I: Configured from console\tPROGRAM=123
+<189>123: Mar  1 18:46:11.123: %SYS-5-CONFIG_I: Configured => 189 1770312741000000\tHOST=peer\tMESSAGE=Mar  1 18:46:11.123: %SYS-5-CONFIG_I: Configured\tPROGRAM=123
+<189>Mar  1 18:46:11: %LINK-3-UPDOWN: Interface up => 189 1770312741000000\tHOST=peer\tMESSAGE=Mar  1 18:46:11: %LINK-3-UPDOWN: Interface up
+<166>Oct 11 2026 22:14:15 asa1 : %ASA-6-302013: Built => 166 1770312741000000\tHOST=peer\tMESSAGE=Oct 11 2026 22:14:15 asa1 : %ASA-6-302013: Built
+<166>Oct 11 2026 22:14:15: %ASA-6-302013: Built => 166 1770312741000000\tHOST=peer\tMESSAGE=Oct 11 2026 22:14:15: %ASA-6-302013: Built
+<166>Oct 11 2026 22:14:15 asa1 p: Built => 166 1770312741000000\tHOST=peer\tMESSAGE=Oct 11 2026 22:14:15 asa1 p: Built
+<13>Oct 11 22:14:15 2026 h p: year behind => 13 1791756855000000\tHOST=2026\tMESSAGE=h p: year behind
+<13>Oct 11 22:14:15 last message repeated 3 times => 13 1791756855000000\tHOST=last\tMESSAGE=message repeated 3 times
+<13>Oct 11 22:14:15 Message forwarded from h1: su: x => 13 1791756855000000\tHOST=Message\tMESSAGE=forwarded from h1: su: x
+<13>Oct 11 22:14:15 h Message forwarded from h1: su: y => 13 1791756855000000\tHOST=h\tMESSAGE=Message forwarded from h1: su: y
+<13>1 2026-10-11T22:14:15Z h app 7 - - m => 13 1770312741000000\tHOST=peer\tMESSAGE=1 2026-10-11T22:14:15Z h app 7 - - m
+<13>Oct 11 22:14:15 h naïve: utf8 program => 13 1791756855000000\tHOST=h\tMESSAGE=naïve: utf8 program
+<13>Oct 11 22:14:15 h CEF:0|a|b|c => 13 1791756855000000\tHOST=h\tMESSAGE=0|a|b|c\tPROGRAM=CEF
+<13>Oct 11 22:14:15 h nginx: 1.2.3.4 - - \"GET\" => 13 1791756855000000\tHOST=h\tMESSAGE=1.2.3.4 - - \"GET\"\tPROGRAM=nginx
+<13>Oct 11 22:14:15 nginx: 1.2.3.4 no host => 13 1791756855000000\tHOST=peer\tMESSAGE=1.2.3.4 no host\tPROGRAM=nginx
+<13>Oct 11 22:14:15 h app message without colon => 13 1791756855000000\tHOST=h\tMESSAGE=app message without colon
+<13>Oct 11 22:14:15 h app[12] no colon behind pid => 13 1791756855000000\tHOST=h\tMESSAGE=no colon behind pid\tPID=12\tPROGRAM=app
+<13>Oct 11 22:14:15 h: colon host => 13 1791756855000000\tHOST=peer\tMESSAGE=colon host\tPROGRAM=h
+<192>Oct 11 22:14:15 h p: pri 192 => 13 1770312741000000\tHOST=peer\tMESSAGE=<192>Oct 11 22:14:15 h p: pri 192
+<>Oct 11 22:14:15 h p: empty pri => 13 1770312741000000\tHOST=peer\tMESSAGE=<>Oct 11 22:14:15 h p: empty pri
+<13>Oct  1 2:14:15 h p: one digit hour => 13 1770312741000000\tHOST=peer\tMESSAGE=Oct  1 2:14:15 h p: one digit hour
+<13>Oct 1 22:14:15 h p: one digit day one blank => 13 1770312741000000\tHOST=peer\tMESSAGE=Oct 1 22:14:15 h p: one digit day one blank
+<13>oct 11 22:14:15 h p: lower month => 13 1770312741000000\tHOST=peer\tMESSAGE=oct 11 22:14:15 h p: lower month
+<13>Oct 11 22:14:15h p: glued => 13 1770312741000000\tHOST=peer\tMESSAGE=Oct 11 22:14:15h p: glued
+<13>Oct 11 22:14:15 => 13 1791756855000000\tHOST=peer\tMESSAGE=
+<13> => 13 1770312741000000\tHOST=peer\tMESSAGE=
+<13>Oct 11 22:14:15 h p: => 13 1791756855000000\tHOST=h\tMESSAGE=\tPROGRAM=p
+<13>Oct 11 22:14:15 h p[]: empty pid => 13 1791756855000000\tHOST=h\tMESSAGE=p[]: empty pid
+<13>Oct 11 22:14:15 h p[12: open pid => 13 1791756855000000\tHOST=h\tMESSAGE=p[12: open pid
+<13>Oct 11 22:14:15 [10.0.0.1] p: host in brackets => 13 1791756855000000\tHOST=peer\tMESSAGE=[10.0.0.1] p: host in brackets
+<13>Oct 11 22:14:15 fe80::1 p: ipv6 host => 13 1791756855000000\tHOST=fe80::1\tMESSAGE=ipv6 host\tPROGRAM=p
+<13>Oct 11 22:14:15 h (su) 7: paren program => 13 1791756855000000\tHOST=h\tMESSAGE=(su) 7: paren program
+<13>Oct 11 22:14:15 h kernel: [ 12.3] x => 13 1791756855000000\tHOST=h\tMESSAGE=[ 12.3] x\tPROGRAM=kernel
+<13>Oct 11 22:14:15 h p/sub.x-y_z: slashes => 13 1791756855000000\tHOST=h\tMESSAGE=slashes\tPROGRAM=p/sub.x-y_z
+<13>Oct 11 22:14:15 h %ASA-6-1: percent => 13 1791756855000000\tHOST=h\tMESSAGE=percent\tPROGRAM=%ASA-6-1
+<13>Oct 11 22:14:15 CET h p: zone word => 13 1791756855000000\tHOST=CET\tMESSAGE=h p: zone word
+<13>Oct 11 22:14:15 +01:00 h p: zone num => 13 1791756855000000\tHOST=+01:00\tMESSAGE=h p: zone num
+<13>2026-10-11 22:14:15 h p: blank iso => 13 1770312741000000\tHOST=peer\tMESSAGE=2026-10-11 22:14:15 h p: blank iso
+<13>2026-10-11T22:14:15Z: h p: iso colon => 13 1770312741000000\tHOST=peer\tMESSAGE=14:15Z: h p: iso colon\tPROGRAM=2026-10-11T22
+<13>2026 Oct 11 22:14:15 h p: year front => 13 1770312741000000\tHOST=peer\tMESSAGE=2026 Oct 11 22:14:15 h p: year front
+no header at all => 13 1770312741000000\tHOST=peer\tMESSAGE=no header at all";
 
-// An item, and its PRI, its stamp, and its HOST, PROGRAM, PID and MESSAGE. Without a host of its own
-// it has its peer's. The first four are examples of RFC 3164, section 5.4.
-const ROWS: [Row; 40] = [
-    (
-        b"<34>Oct 11 22:14:15 mymachine su: 'su root' failed for lonvick on /dev/pts/8",
-        34,
-        1_791_756_855_000_000,
-        b"mymachine",
-        b"su",
-        b"",
-        b"'su root' failed for lonvick on /dev/pts/8",
-    ),
-    (
-        b"Use the BFG!",
-        13,
-        PULLED,
-        b"peer",
-        b"",
-        b"",
-        b"Use the BFG!",
-    ),
-    (
-        b"<165>Aug 24 05:34:00 CST 1987 mymachine myproc[10]: %% It's time to make the do-nuts.",
-        165,
-        1_787_549_640_000_000,
-        b"CST",
-        b"",
-        b"",
-        b"1987 mymachine myproc[10]: %% It's time to make the do-nuts.",
-    ),
-    (
-        b"<0>1990 Oct 22 10:52:01 TZ-6 scapegoat.dmz.example.org 10.1.2.3 sched[0]: That's All Folks!",
-        0,
-        PULLED,
-        b"peer",
-        b"",
-        b"",
-        b"1990 Oct 22 10:52:01 TZ-6 scapegoat.dmz.example.org 10.1.2.3 sched[0]: That's All Folks!",
-    ),
-    (
-        b"<13>Feb  5 17:32:18 10.0.0.99 Use the BFG!",
-        13,
-        SENT,
-        b"10.0.0.99",
-        b"",
-        b"",
-        b"Use the BFG!",
-    ),
-    (
-        b"<191>Feb  5 17:32:18 h p: m",
-        191,
-        SENT,
-        b"h",
-        b"p",
-        b"",
-        b"m",
-    ),
-    (
-        b"<192>Feb  5 17:32:18 h p: m",
-        13,
-        PULLED,
-        b"peer",
-        b"",
-        b"",
-        b"<192>Feb  5 17:32:18 h p: m",
-    ),
-    (b"<007>p: m", 7, PULLED, b"peer", b"p", b"", b"m"),
-    (b"<1234>x", 13, PULLED, b"peer", b"", b"", b"<1234>x"),
-    (b"<>x", 13, PULLED, b"peer", b"", b"", b"<>x"),
-    (b"<13", 13, PULLED, b"peer", b"", b"", b"<13"),
-    (b"<5a>x", 13, PULLED, b"peer", b"", b"", b"<5a>x"),
-    (b"<5>", 5, PULLED, b"peer", b"", b"", b""),
-    (b"", 13, PULLED, b"peer", b"", b"", b""),
-    (b"<5>Feb  5 17:32:18", 5, SENT, b"peer", b"", b"", b""),
-    (
-        b"<5>Feb  5 17:32:18x p: m",
-        5,
-        PULLED,
-        b"peer",
-        b"",
-        b"",
-        b"Feb  5 17:32:18x p: m",
-    ),
-    (b"<5>Feb 05 17:32:18 h p: m", 5, SENT, b"h", b"p", b"", b"m"),
-    (
-        b"<5>Feb 30 00:00:00 h p: m",
-        5,
-        PULLED,
-        b"peer",
-        b"",
-        b"",
-        b"Feb 30 00:00:00 h p: m",
-    ),
-    (
-        b"<5>2026-02-05T17:32:18Z h p: m",
-        5,
-        SENT,
-        b"h",
-        b"p",
-        b"",
-        b"m",
-    ),
-    (
-        b"<5>2026-02-05T17:32:18.000000Z h p: m",
-        5,
-        SENT,
-        b"h",
-        b"p",
-        b"",
-        b"m",
-    ),
-    (
-        b"<5>2026-02-05t17:32:18Z h p: m",
-        5,
-        PULLED,
-        b"peer",
-        b"2026-02-05t17",
-        b"",
-        b"32:18Z h p: m",
-    ),
-    (b"<5>su: x", 5, PULLED, b"peer", b"su", b"", b"x"),
-    (
-        b"<5>Feb  5 17:32:18 p: m",
-        5,
-        SENT,
-        b"peer",
-        b"p",
-        b"",
-        b"m",
-    ),
-    (
-        b"<5>Feb  5 17:32:18 a[1]: m",
-        5,
-        SENT,
-        b"peer",
-        b"a",
-        b"1",
-        b"m",
-    ),
-    (b"<5>Feb  5 17:32:18 h", 5, SENT, b"peer", b"", b"", b"h"),
-    (
-        b"<5>Feb  5 17:32:18  h p: m",
-        5,
-        SENT,
-        b"peer",
-        b"",
-        b"",
-        b" h p: m",
-    ),
-    (
-        b"<5>Feb  5 17:32:18 h\xc3\xa9 p: m",
-        5,
-        SENT,
-        b"peer",
-        b"",
-        b"",
-        b"h\xc3\xa9 p: m",
-    ),
-    (
-        b"<5>Feb  5 17:32:18 ::1 p: m",
-        5,
-        SENT,
-        b"::1",
-        b"p",
-        b"",
-        b"m",
-    ),
-    (
-        b"<5>Feb  5 17:32:18 h p[: m",
-        5,
-        SENT,
-        b"h",
-        b"",
-        b"",
-        b"p[: m",
-    ),
-    (
-        b"<5>Feb  5 17:32:18 h p[7: m",
-        5,
-        SENT,
-        b"h",
-        b"",
-        b"",
-        b"p[7: m",
-    ),
-    (
-        b"<5>Feb  5 17:32:18 h p[]: m",
-        5,
-        SENT,
-        b"h",
-        b"",
-        b"",
-        b"p[]: m",
-    ),
-    (
-        b"<5>Feb  5 17:32:18 h p[7]m",
-        5,
-        SENT,
-        b"h",
-        b"p",
-        b"7",
-        b"m",
-    ),
-    (
-        b"<5>Feb  5 17:32:18 h p[7]:m",
-        5,
-        SENT,
-        b"h",
-        b"p",
-        b"7",
-        b"m",
-    ),
-    (
-        b"<5>Feb  5 17:32:18 h p[7] m",
-        5,
-        SENT,
-        b"h",
-        b"p",
-        b"7",
-        b"m",
-    ),
-    (
-        b"<5>Feb  5 17:32:18 h p[a:b[c]: m",
-        5,
-        SENT,
-        b"h",
-        b"p",
-        b"a:b[c",
-        b"m",
-    ),
-    (
-        b"<5>Feb  5 17:32:18 h p:  m",
-        5,
-        SENT,
-        b"h",
-        b"p",
-        b"",
-        b" m",
-    ),
-    (b"<5>Feb  5 17:32:18 h p:", 5, SENT, b"h", b"p", b"", b""),
-    (b"<5>Feb  5 17:32:18 h :m", 5, SENT, b"h", b"", b"", b":m"),
-    (
-        b"<5>Feb  5 17:32:18 h a b: m",
-        5,
-        SENT,
-        b"h",
-        b"",
-        b"",
-        b"a b: m",
-    ),
-    (
-        b"hello world",
-        13,
-        PULLED,
-        b"peer",
-        b"",
-        b"",
-        b"hello world",
-    ),
-];
+fn message_of(alloc: Global, item: &[u8], at: i64, opts: &ReadOpts) -> Result<Message, AllocError>
+    requires { (pos 0 ≤ℤ at) × (at ≤ℤ pos 250_000_000_000_000_000) }
+{
+    let peer = Bytes::from_static(b"peer");
+    read(alloc, Bytes::copy_from_slice(alloc, item)?, at, &peer, opts)
+}
+
+// Whether these are all the pairs.
+fn has_pairs(message: &Message, pairs: &str) -> bool {
+    let mut count = 0;
+    for (place, pair) in pairs.split('\t').enumerate() {
+        let Some((name, value)) = pair.split_once('=') else {
+            return false;
+        };
+        match message.pair(place) {
+            Some(found) if found.0 == name.as_bytes() && found.1 == value.as_bytes() => {}
+            _ => return false,
+        }
+        count = place + 1;
+    }
+    message.pair(count).is_none()
+}
+
+#[test]
+fn records_are_read(rt: HostRuntime) -> Result<(), Fail> {
+    readings_are_one();
+    for row in ROWS.lines() {
+        let (item, said) = row.split_once(" => ").ok_or("no message")?;
+        let (head, pairs) = said.split_once('\t').ok_or("no pairs")?;
+        let (pri, at) = head.split_once(' ').ok_or("no stamp")?;
+        let sent = Stamp {
+            at: at.parse::<i64>()?,
+            offset: 0,
+        };
+        let message = message_of(rt.alloc(), item.as_bytes(), PULLED, &OPTS)?;
+        assert_eq!(rt; message.pri(), pri.parse::<u8>()?, "{row}");
+        assert_eq!(rt; message.sent(), sent, "{row}");
+        assert_eq!(rt; message.received(), RECEIVED, "{row}");
+        assert!(rt; has_pairs(&message, pairs), "{row}");
+    }
+    Ok(())
+}
 
 // The value of the name, or nothing.
 fn value<'a>(message: &'a Message, name: &[u8]) -> &'a [u8] {
@@ -299,46 +168,6 @@ fn value<'a>(message: &'a Message, name: &[u8]) -> &'a [u8] {
         Some(value) => value,
         None => b"",
     }
-}
-
-fn says(message: &Message, row: &Row) -> bool {
-    message.pri() == row.1
-        && message.sent()
-            == Stamp {
-                at: row.2,
-                offset: 0,
-            }
-        && message.received()
-            == Stamp {
-                at: PULLED,
-                offset: 0,
-            }
-        && value(message, b"HOST") == row.3
-        && value(message, b"PROGRAM") == row.4
-        && value(message, b"PID") == row.5
-        && value(message, b"MESSAGE") == row.6
-}
-
-fn message_of(alloc: Global, item: &[u8], at: i64, opts: &ReadOpts) -> Result<Message, AllocError>
-    requires { (pos 0 ≤ℤ at) × (at ≤ℤ pos 250_000_000_000_000_000) }
-{
-    read(
-        alloc,
-        Bytes::copy_from_slice(alloc, item)?,
-        at,
-        b"peer",
-        opts,
-    )
-}
-
-#[test]
-fn records_are_read(rt: HostRuntime) -> Result<(), Fail> {
-    readings_are_one();
-    for row in ROWS {
-        let message = message_of(rt.alloc(), row.0, PULLED, &OPTS)?;
-        assert!(rt; says(&message, &row));
-    }
-    Ok(())
 }
 
 // Options, an item, when it was pulled, and the stamp, HOST and MESSAGE of its message.

@@ -89,11 +89,12 @@ const REFUSED: &str = "\
 <13>1 - - - - - [iiiiiiiiiiiiiiiiiiiiiiiiiiiiiiiii]";
 
 fn read_row(alloc: Global, item: &[u8]) -> Result<Message, R5424Refusal> {
+    let peer = Bytes::from_static(b"peer");
     read(
         alloc,
         Bytes::copy_from_slice(alloc, item)?,
         PULLED,
-        b"peer",
+        &peer,
         &OPTS,
     )
 }
@@ -142,15 +143,22 @@ fn has_pair(message: &Message, name: &[u8], value: &[u8]) -> bool {
     }
 }
 
-// Bytes that no text has.
-#[test]
-fn any_bytes_are_read(rt: HostRuntime) -> Result<(), Fail> {
-    let message = read_row(rt.alloc(), b"<13>1 - - - - - - \xef\xbbx")?;
-    assert!(rt; has_pair(&message, b"MESSAGE", b"\xef\xbbx"));
-    let message = read_row(rt.alloc(), b"<13>1 - - - - - [a b=\"[c =\xff\x0a\\n\\\\\"]")?;
-    assert!(rt; has_pair(&message, b".SDATA.a.b", b"[c =\xff\x0a\\n\\"));
-    Ok(())
-}
+// Items with bytes that no line of a text has, and a pair of their messages.
+const BYTES: [(&[u8], &[u8], &[u8]); 5] = [
+    (b"<13>1 - - - - - - \xef\xbbx", b"MESSAGE", b"\xef\xbbx"),
+    (
+        b"<13>1 - - - - - [a b=\"[c =\xff\x0a\\n\\\\\"]",
+        b".SDATA.a.b",
+        b"[c =\xff\x0a\\n\\",
+    ),
+    (b"<13>1 - - - - - - m\n\0\n", b"MESSAGE", b"m"),
+    (b"<13>1 - - - - - -\n", b"MESSAGE", b""),
+    (
+        b"<13>1 - - - - - [a b=\"c\"] \n\nm \n",
+        b"MESSAGE",
+        b"\n\nm ",
+    ),
+];
 
 // How far a record could be read, or nothing.
 fn stops_at(alloc: Global, item: &[u8]) -> Option<usize> {
@@ -162,6 +170,10 @@ fn stops_at(alloc: Global, item: &[u8]) -> Option<usize> {
 
 #[test]
 fn other_records_are_refused(rt: HostRuntime) -> Result<(), Fail> {
+    for (item, name, value) in BYTES {
+        let message = read_row(rt.alloc(), item)?;
+        assert!(rt; has_pair(&message, name, value));
+    }
     for item in REFUSED.lines() {
         let place = stops_at(rt.alloc(), item.as_bytes());
         assert!(rt; place.is_some(), "{item}");
@@ -169,13 +181,9 @@ fn other_records_are_refused(rt: HostRuntime) -> Result<(), Fail> {
     assert_eq!(rt; stops_at(rt.alloc(), b""), Some(0));
     let brackets = vec![in rt.alloc(); b'['; 65_536]?;
     assert_eq!(rt; stops_at(rt.alloc(), brackets.as_slice()), Some(0));
-    Ok(())
-}
-
-#[test]
-fn refused_records_have_a_message(rt: HostRuntime) -> Result<(), Fail> {
     let item = Bytes::from_static(b"<34>1");
-    let message = refused(rt.alloc(), item, PULLED, b"peer", &OPTS)?;
+    let peer = Bytes::from_static(b"peer");
+    let message = refused(rt.alloc(), item, PULLED, &peer, &OPTS)?;
     assert_eq!(rt; message.pri(), 43);
     assert_eq!(rt; message.sent(), RECEIVED);
     let pairs = "HOST=peer|MESSAGE=Error processing log message: <34>1|PROGRAM=syslog-ng";

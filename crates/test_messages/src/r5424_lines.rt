@@ -1,5 +1,4 @@
 // Lines of RFC 5424.
-use bytes::Bytes;
 use sg_msg::Message;
 use sg_r5424::{lines_are_records, write};
 use sg_template::Env;
@@ -26,7 +25,11 @@ PROGRAM=ppppppppppppppppppppppppppppppppppppppppppppppppp => - ppppppppppppppppp
 .SDATA.b.c=3|.SDATA.a.c=2|.SDATA.a.b=1|MESSAGE=m => - - - - [a b=\"1\" c=\"2\"][b c=\"3\"] m
 .SDATA.a.b=q\"]\\x => - - - - [a b=\"q\\\"\\]\\\\x\"]
 .SDATA.a b.c=1 => - - - - -
-.SDATA.a.b.c=1 => - - - - [a.b c=\"1\"]";
+.SDATA.a.b.c=1 => - - - - [a b.c=\"1\"]
+.SDATA.x@1.b.c=1|.SDATA.x@1.2.b=3 => - - - - [x@1.2 b=\"3\"][x@1 b.c=\"1\"]
+.SDATA.a.b@1.2= => - - - - [a.b@1.2]
+.SDATA.x@1..c=2 => - - - - [x@1 .c=\"2\"]
+.SDATA.x@1.=2 => - - - - -";
 
 fn set(message: &mut Message, name: &[u8], value: &[u8]) -> bool {
     if name.is_empty() || name.len() > 255 {
@@ -58,7 +61,7 @@ fn lines(rt: HostRuntime) -> Result<(), Fail> {
     };
     for row in ROWS.lines() {
         let (pairs, behind) = row.split_once(" => ").ok_or("no line")?;
-        let mut message = Message::new(alloc, Bytes::new(), 165, sent, EPOCH)?;
+        let mut message = Message::new(alloc, 165, sent, EPOCH)?;
         assert!(rt; fill(&mut message, pairs), "{row}");
         let mut out = Vec::new(alloc);
         out.extend_from_slice(b"before ")?;
