@@ -13,7 +13,7 @@ copy=$(mktemp -d)
 trap 'rm -rf "$copy"' EXIT
 trap 'exit 130' INT
 trap 'exit 143' TERM
-cp -R "$top/crates" "$top/crates.txt" "$top/HANDLES" "$copy"
+(cd "$top" && tar -cf - --exclude='crates/*/out' crates crates.txt HANDLES) | tar -xf - -C "$copy"
 for name; do
     mkdir -p "$copy/crates/$name/must-fail"
     cp "$top/bugs/$name"/*.edit "$copy/crates/$name/must-fail"

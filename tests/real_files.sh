@@ -2,9 +2,13 @@
 # Runs the program through its launcher over real files: what it writes, what it says and how it ends.
 top=$(cd "$(dirname "$0")/.." && pwd)
 folder=$(mktemp -d) || exit 2
-trap 'rm -rf "$folder"' EXIT
+mounted=
+trap '[ -z "$mounted" ] || umount "$folder/small"; rm -rf "$folder"' EXIT
 cd "$folder" || exit 2
 passed=0 failed=0
+
+# What the next run tells on standard error, without the moments: a printf format.
+told=
 
 # expect NAME STATUS SAID OUT WORD..: SAID and OUT are printf formats; OUT is the file `out`, - for none. Each begins without `out` and
 # without a stored position.
@@ -17,13 +21,16 @@ expect() {
 again() {
     name=$1 status=$2 said=$3 out=$4
     shift 4
-    "$top/syslogr" "$@" >said 2>errors
+    timeout 60 "$top/syslogr" "$@" >said 2>errors
     got=$?
     printf "$said" >said.wanted
+    printf "$told" >told.wanted
+    told=
+    sed 's/^[0-9T:+-]* //' errors >told.got
     good=yes
     [ "$got" = "$status" ] || { good=no; echo "$name: status $got, wanted $status"; }
     cmp -s said said.wanted || { good=no; echo "$name: said:"; cat said; }
-    [ -s errors ] && { good=no; echo "$name: standard error:"; cat errors; }
+    cmp -s told.got told.wanted || { good=no; echo "$name: standard error:"; cat errors; }
     if [ "$out" = - ]; then
         [ -e out ] && { good=no; echo "$name: out was made"; }
     else
@@ -59,6 +66,7 @@ again 'a damaged store' 5 'store 0 damaged at 40\n' 'one\ntwo\nthree\nnew\n' run
 : >pos-in
 again 'an empty store' 5 'store 0 damaged at 0\n' 'one\ntwo\nthree\nnew\n' run c --once
 rm -f pos-in out && mkdir pos-in
+told='store pos-in: cannot open: not a regular file\n'
 again 'a folder in the place of the store' 4 'cannot open store 0\n' - run c --once
 rmdir pos-in
 printf 'a\r\n\nb' >in
@@ -79,6 +87,7 @@ printf '# one\n# two\n  "\n' >part
 printf '@version: 4.2\n@include "part"\n' >bad
 expect 'a fault in an included file' 2 'part:3: string not closed\n' - run bad --once
 printf '@version: 4.2\n@include "none"\n' >bad
+told='file none: cannot open: No such file or directory (os error 2)\n'
 expect 'an included file that is missing' 3 'cannot read none\n' - run bad --once
 cat >sub/blocks.conf <<'END'
 # what a source and a destination are made of
@@ -97,23 +106,93 @@ printf 'one\ntwo\n' >in
 expect 'blocks in an included file' 0 "$(report 2 8 2 0 '' 0)" 'one\ntwo\n' run blocks --once
 head -c 1048577 /dev/zero >long
 expect 'a configuration too long' 2 'long:1: configuration too long\n' - run long --once
+told='file none: cannot open: No such file or directory (os error 2)\n'
 expect 'no configuration' 3 'cannot read none\n' - run none --once
 config none out >c1
+told='source none: cannot open: No such file or directory (os error 2)\n'
 expect 'no source file' 4 'cannot open inlet 0\n' - run c1 --once
 config in none/out >c2
+told='destination none/out: cannot open: No such file or directory (os error 2)\n'
 expect 'a destination that cannot be made' 4 'cannot open destination 0\n' - run c2 --once
 config . out >c3
-expect 'a source that is a folder' 8 "$(report 0 0 0 0 'fault inlet 0\n' 8)" '' run c3 --once
+told='source .: cannot open: not a regular file\n'
+expect 'a source that is a folder' 4 'cannot open inlet 0\n' - run c3 --once
 expect 'no words' 1 "$usage" -
 expect 'other words' 1 "$usage" - run c
 expect 'a word that is not UTF-8' 1 "$usage" - run "$(printf 'c\377')" --once
 if [ -w /dev/full ]; then
     config in /dev/full >c4
     printf 'one\n' >in
+told='destination /dev/full: cannot write: No space left on device (os error 28)\n'
     expect 'a full disk' 6 "$(report 1 0 0 1 'fault sink 0\n' 6)" - run c4 --once
     "$top/syslogr" run c --once >/dev/full 2>errors
     if [ $? = 10 ] && [ ! -s errors ]; then passed=$((passed + 1)); else failed=$((failed + 1)); echo 'a full standard output: not status 10'; fi
 fi
+
+# Another file under the source's name, in which no line ends at the stored position, is read from its beginning.
+printf 'one\ntwo\n' >in
+expect 'before another file' 0 "$(report 2 8 2 0 '' 0)" 'one\ntwo\n' run c --once
+printf 'another file\n' >in.new && mv in.new in
+again 'another file' 0 "$(report 1 13 1 0 '' 0)" 'one\ntwo\nanother file\n' run c --once
+
+# What is made is its owner's alone, and what is there keeps its mode.
+[ "$(stat -c %a out pos-in | tr '\n' ' ')" = '600 600 ' ] && passed=$((passed + 1)) || { failed=$((failed + 1)); echo 'modes of what is made'; }
+chmod 644 out
+printf 'more\n' >>in
+again 'a mode that is kept' 0 "$(report 1 18 1 0 '' 0)" 'one\ntwo\nanother file\nmore\n' run c --once
+[ "$(stat -c %a out)" = 644 ] && passed=$((passed + 1)) || { failed=$((failed + 1)); echo 'a mode that is kept'; }
+
+# One program a store.
+if command -v flock >/dev/null; then
+    exec 9<>pos-in
+    flock 9
+    told='store pos-in: cannot open: in use by another program\n'
+    again 'a store in use' 4 'cannot open store 0\n' 'one\ntwo\nanother file\nmore\n' run c --once
+    exec 9>&-
+fi
+
+# A link to nothing isn't made anew, and one beside the store isn't followed.
+rm -f pos-in out
+ln -s nowhere pos-in
+told='store pos-in: cannot open: a link to a file that is not there\n'
+again 'a store that is a link to nothing' 4 'cannot open store 0\n' - run c --once
+rm pos-in
+printf 'mine' >target
+ln -s target pos-in.new
+again 'a link beside the store' 0 "$(report 2 18 2 0 '' 0)" 'another file\nmore\n' run c --once
+[ "$(cat target)" = mine ] && passed=$((passed + 1)) || { failed=$((failed + 1)); echo 'a link beside the store was followed'; }
+rm pos-in.new
+
+# FIFOs are refused, and not waited for.
+mkfifo fifo
+told='file fifo: cannot open: not a regular file\n'
+expect 'a FIFO as configuration' 3 'cannot read fifo\n' - run fifo --once
+config fifo out >c5
+told='source fifo: cannot open: not a regular file\n'
+expect 'a FIFO as source' 4 'cannot open inlet 0\n' - run c5 --once
+config in fifo >c6
+told='destination fifo: cannot open: not a regular file or a character device\n'
+expect 'a FIFO as destination' 4 'cannot open destination 0\n' - run c6 --once
+rm -f pos-in out && mkfifo pos-in
+told='store pos-in: cannot open: not a regular file\n'
+again 'a FIFO as store' 4 'cannot open store 0\n' - run c --once
+rm pos-in
+
+# A full disk has whole lines alone, and once it has space again the lines go on behind them.
+mkdir small
+if mount -t tmpfs -o size=16k none small 2>/dev/null; then
+    mounted=yes
+    head -c 9000 /dev/zero >small/filler
+    seq -f 'line %05g' 1 700 >in
+    config in small/out >c7
+    timeout 60 "$top/syslogr" run c7 --once >said 2>errors
+    [ $? = 6 ] && head -n "$(grep -c '' small/out)" in | cmp -s - small/out && passed=$((passed + 1)) || { failed=$((failed + 1)); echo 'a full disk: no whole lines'; }
+    rm small/filler
+    timeout 60 "$top/syslogr" run c7 --once >said 2>errors
+    [ $? = 0 ] && cmp -s in small/out && passed=$((passed + 1)) || { failed=$((failed + 1)); echo 'space again: not the same lines'; }
+    umount small && mounted=
+fi
+
 rm -f out pos-*
 seq 1 100000 >in
 "$top/syslogr" run c --once >/dev/null

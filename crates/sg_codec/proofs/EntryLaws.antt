@@ -1,14 +1,14 @@
 -- An entry that is read is spelled by its bytes, and what is spelled is read.
-use Rattle.std.proofs.Common.{◌≡◌, ℕ, zero, suc, ◌^◌, ◌<◌, ◌≤◌, Bool, true, false, cond, ltb, List, [], ◌∷◌, ◌++◌, length, Result, Ok, Err, refl, sym, ap, subst, ◌∙◌, append_assoc, arith, inl, inr}
+use Rattle.std.proofs.Common.{◌≡◌, ℕ, zero, suc, ◌^◌, ◌<◌, ◌≤◌, cond, ltb, List, [], ◌∷◌, ◌++◌, length, Result, Ok, Err, refl, sym, ap, subst, ◌∙◌, append_assoc, arith, inl, inr}
 use Rattle.std.proofs.lemmas.Bool.{ltb-false}
 use Rattle.std.proofs.lemmas.List.{append-nil, nil_from_length}
 use Rattle.std.specs.Int.{w32, w64}
 use Rattle.sg_time.specs.Stamp.{IsValid}
 use Rattle.sg_time.specs.declared.stamp.Stamp.{Stamp}
-use Rattle.sg_msg.specs.Message.{Pair, Content, IsMessage}
+use Rattle.sg_msg.specs.Message.{Pair}
 use Rattle.sg_codec.specs.declared.kept.Kept.{Kept}
 use Rattle.sg_codec.specs.declared.kept.Head.{Head}
-use Rattle.sg_codec.specs.Spelling.{number_bytes, flag_bytes, stamp_bytes, tag_list, pair_list, head_bytes, spelling1, spelling2, IsKept, IsStored, Spells1, Spells2, Spells}
+use Rattle.sg_codec.specs.Spelling.{number_bytes, flag_bytes, stamp_bytes, tag_list, pair_list, head_bytes, IsKept, IsStored, Spells1, Spells2, Spells}
 use Rattle.sg_codec.specs.Reading.{◌>>=◌, number_at, flag_at, end_at, pri_at, stamp_at, tag_list_at, pair_list_at, head_at, kept_of, last_at, format1_at, format2_at, entry_at, placed, reading}
 use Rattle.sg_codec.proofs.FieldLaws.{AreBytes, AreBytes-rest, Takes, Takes-then, step_ok, guard_ok, ok_is, wide32, number_takes, number_again, flag_takes, flag_again, end_takes, end_again, pri_takes, pri_again}
 use Rattle.sg_codec.proofs.StampLaws.{stamp_takes, stamp_again}

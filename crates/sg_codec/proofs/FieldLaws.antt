@@ -1,21 +1,17 @@
 -- A field that is read is the field that was written, and what was written is read again.
-use Rattle.std.proofs.Common.{◌≡◌, ℕ, zero, suc, ℤ, pos, negsuc, ◌+◌, ◌^◌, ◌<◌, ◌≤◌, Bool, true, false, cond, ltb, leb, List, [], ◌∷◌, ◌++◌, length, get_or, take, drop, Result, Ok, Err, refl, sym, ap, subst, ◌∙◌, append_assoc, arith, inl, inr}
+use Rattle.std.proofs.Common.{◌≡◌, ℕ, zero, suc, ◌+◌, ◌^◌, ◌<◌, ◌≤◌, Bool, true, false, cond, ltb, leb, List, [], ◌∷◌, ◌++◌, length, get_or, take, drop, Result, Ok, Err, refl, sym, ap, subst, ◌∙◌, append_assoc, arith, inl, inr}
 use Rattle.std.specs.Int.{Width, w16, w32, w64, byte_len, from_be_bytes, to_be_bytes}
 use Rattle.std.proofs.lemmas.Bool.{cases_lt, ltb-false, ltb-true, lt-ltb, le-ltb, leb-true, le-leb, and_parts, and_from}
 use Rattle.std.proofs.lemmas.List.{take_at, drop_at, take-append-drop, length-append, length-take, get_or-drop, get_or-take, get_or_past}
 use Rattle.std.proofs.lemmas.Nat.{be_bytes_2, be_bytes_4, be_bytes_8, from_be_bytes-to_be_bytes_2, from_be_bytes-to_be_bytes_4, from_be_bytes-to_be_bytes_8}
-use Rattle.std.proofs.lemmas.Int.{of_z-to_z, to_z-of_z, ints}
-use Rattle.std.specs.Int.{cast_signed, cast_unsigned}
-use Rattle.std.specs.Prelude.{FitsSigned, int_le, ◌&&◌, not}
+use Rattle.std.specs.Prelude.{◌&&◌, not}
 use Rattle.std.specs.Ordering.{is_lt}
 use Rattle.std.specs.declared.cmp.Ordering.{Ordering}
 use Rattle.std.specs.declared.cmp.Ordering.TheVariants.{Less, Equal, Greater}
-use Rattle.sg_time.specs.Stamp.{local_of, IsValid}
-use Rattle.sg_time.specs.declared.stamp.Stamp.{Stamp}
 use Rattle.sg_msg.specs.Macros.{is_hard}
 use Rattle.sg_msg.specs.Message.{byte_order}
-use Rattle.sg_codec.specs.Spelling.{number_bytes, signed_bytes, flag_bytes, stamp_bytes, text_bytes}
-use Rattle.sg_codec.specs.Reading.{◌>>=◌, bytes_at, number_at, flag_at, end_at, pri_at, is_valid, stamp_at, text_at, name_size_at, may_follow, name_at}
+use Rattle.sg_codec.specs.Spelling.{number_bytes, flag_bytes, text_bytes}
+use Rattle.sg_codec.specs.Reading.{◌>>=◌, bytes_at, number_at, flag_at, end_at, pri_at, text_at, name_size_at, may_follow, name_at}
 
 abbrev pub AreBytes : List ℕ → Type 0
 AreBytes bytes = (i : ℕ) → get_or bytes i 0 < 256

@@ -1,4 +1,3 @@
-mod LengthLemmas
 mod FieldLaws
 mod StampLaws
 mod PairLemmas

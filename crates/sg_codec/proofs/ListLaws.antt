@@ -1,11 +1,10 @@
 -- Tags and pairs that are read are those that were written, and what was written is read again.
-use Rattle.std.proofs.Common.{◌≡◌, ℕ, zero, suc, ◌^◌, ◌<◌, ◌≤◌, Bool, true, false, cond, List, [], ◌∷◌, ◌++◌, length, Result, Ok, Err, refl, sym, ap, subst, ◌∙◌, append_assoc, arith}
+use Rattle.std.proofs.Common.{◌≡◌, ℕ, zero, suc, ◌^◌, ◌<◌, cond, List, [], ◌∷◌, ◌++◌, length, Ok, Err, refl, sym, ap, subst, ◌∙◌, append_assoc, arith}
 use Rattle.std.proofs.lemmas.List.{append-nil}
 use Rattle.std.specs.Int.{w32}
-use Rattle.std.specs.declared.cmp.Ordering.TheVariants.{Less}
-use Rattle.sg_msg.specs.Message.{Pair, byte_order, has_tag, AreDistinct, IsAscending, IsName, HaveNames}
+use Rattle.sg_msg.specs.Message.{Pair, has_tag, AreDistinct, IsAscending, HaveNames}
 use Rattle.sg_codec.specs.Spelling.{number_bytes, text_bytes, tags_bytes, pairs_bytes, tag_list, pair_list, AreTexts, HaveValues}
-use Rattle.sg_codec.specs.Reading.{◌>>=◌, number_at, text_at, name_at, tags_at, pairs_at, tag_list_at, pair_list_at, may_follow, last_name}
+use Rattle.sg_codec.specs.Reading.{◌>>=◌, number_at, text_at, name_at, tags_at, pairs_at, tag_list_at, pair_list_at, last_name}
 use Rattle.sg_codec.proofs.FieldLaws.{AreBytes, Takes, Takes-then, step_ok, guard_ok, ok_is, wide32, number_takes, number_again, text_takes, text_again, name_takes, name_again, may_follow-parts, may_follow-from}
 use Rattle.sg_codec.proofs.PairLemmas.{IsChain, chain-ascends, chain-all, last_name-append}
 use Rattle.sg_codec.proofs.TagLemmas.{not_before, distinct-push}

@@ -1,9 +1,8 @@
 -- Pairs in ascending order, and one more behind them.
-use Rattle.std.proofs.Common.{◌≡◌, ℕ, suc, ◌≤◌, List, [], ◌∷◌, ◌++◌, length, refl, sym, ap, subst, ◌∙◌, arith}
-use Rattle.std.specs.declared.cmp.Ordering.{Ordering}
-use Rattle.std.specs.declared.cmp.Ordering.TheVariants.{Less, Equal, Greater}
+use Rattle.std.proofs.Common.{◌≡◌, ℕ, ◌≤◌, List, [], ◌∷◌, ◌++◌, length, refl, ap, arith}
+use Rattle.std.specs.declared.cmp.Ordering.TheVariants.{Less}
 use Rattle.std.specs.Cmp.Lexicographic.{nat_list_cmp_total}
-use Rattle.sg_msg.specs.Message.{Pair, byte_order, with_pair, IsBelow, IsAscending, IsName, HaveNames}
+use Rattle.sg_msg.specs.Message.{Pair, byte_order, IsBelow, IsAscending, HaveNames}
 use Rattle.sg_codec.specs.Reading.{last_name}
 
 less-trans : (x y z : List ℕ) → byte_order x y ≡ Less → byte_order y z ≡ Less → byte_order x z ≡ Less
@@ -23,13 +22,6 @@ below-last x pair (next ∷ pairs) below = below-last x next pairs below.1
 first-below : (pair : Pair) (pairs : List Pair) (name : List ℕ) → IsAscending (pair ∷ pairs) → byte_order (last_name (pair ∷ pairs)) name ≡ Less → byte_order pair.name name ≡ Less
 first-below pair [] name up e = e
 first-below pair (next ∷ pairs) name up e = less-trans pair.name (last_name (next ∷ pairs)) name (below-last pair.name next pairs up.0) e
-
--- a pair whose name is above the last goes behind all
-pub with_pair-last : (pairs : List Pair) (name value : List ℕ) → IsAscending pairs → byte_order (last_name pairs) name ≡ Less → with_pair name value pairs ≡ pairs ++ (record { name = name; value = value }) ∷ []
-with_pair-last [] name value up e = refl
-with_pair-last (pair ∷ []) name value up e = rw e refl
-with_pair-last (pair ∷ next ∷ pairs) name value up e =
-    rw (first-below pair (next ∷ pairs) name up e) (ap (λ (ps : List Pair). pair ∷ ps) (with_pair-last (next ∷ pairs) name value up.1 e))
 
 pub last_name-append : (pairs : List Pair) (pair : Pair) → last_name (pairs ++ pair ∷ []) ≡ pair.name
 last_name-append [] pair = refl

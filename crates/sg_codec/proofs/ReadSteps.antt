@@ -3,11 +3,12 @@ use Rattle.std.proofs.Common.{◌≡◌, ℕ, suc, ◌-◌, ◌+◌, ◌≤◌, 
 use Rattle.std.specs.Option.{option_copied, is_some}
 use Rattle.std.specs.Prelude.{not}
 use Rattle.sg_list.proofs.ListLemmas.{slice_get-none}
-use Rattle.sg_msg.specs.Message.{Content, Pair, has_tag, with_tag, IsAscending}
+use Rattle.sg_msg.specs.Build.{Build}
+use Rattle.sg_msg.specs.Message.{Pair, has_tag, with_tag, IsAscending}
 use Rattle.sg_codec.specs.declared.refusal.Stop.{Stop}
 use Rattle.sg_codec.specs.declared.refusal.Stop.TheVariants.{Damaged, NoMemory}
 use Rattle.sg_codec.specs.Answers.{Stops}
-use Rattle.sg_codec.specs.Reading.{◌>>=◌, text_at, name_at, tags_at, pairs_at, may_follow, last_name}
+use Rattle.sg_codec.specs.Reading.{text_at, name_at, tags_at, pairs_at, may_follow, last_name}
 use Rattle.sg_codec.proofs.FieldLaws.{may_follow-parts}
 use Rattle.sg_codec.proofs.PairLemmas.{last_name-append, ascending-append}
 
@@ -82,16 +83,16 @@ length-push [] tag = refl
 length-push (first ∷ tags) tag = omega (arith, length-push tags tag)
 
 -- one tag on
-pub tags-preserved : (start now new : Content) (count i : ℕ) (bytes tag rest x : List ℕ) (total : Result (List (List ℕ) × List ℕ) ℕ)
+pub tags-preserved : (start now new : Build) (count i : ℕ) (bytes tag rest x : List ℕ) (total : Result (List (List ℕ) × List ℕ) ℕ)
     → i < count → text_at bytes ≡ Ok (tag, rest) → new ≡ record now { tags = with_tag tag now.tags } → slice_get new.tags i ≡ Some x
     → now ≡ record start { tags = now.tags } → tags_at (count - i) now.tags bytes ≡ total → length now.tags ≡ i
     → (new ≡ record start { tags = new.tags }) × (tags_at (count - (i + 1)) new.tags rest ≡ total) × (length new.tags ≡ i + 1)
 tags-preserved start now new count i bytes tag rest x total lt h set some others so_far len =
-    let tags_are : new.tags ≡ with_tag tag now.tags = ap (λ (m : Content). m.tags) set in
+    let tags_are : new.tags ≡ with_tag tag now.tags = ap (λ (m : Build). m.tags) set in
     let fresh : has_tag tag now.tags ≡ false = new-some tag now.tags i x len (ap (λ (ts : List (List ℕ)). slice_get ts i) (sym tags_are) ∙ some) in
     let pushed : new.tags ≡ now.tags ++ tag ∷ [] = tags_are ∙ rw fresh refl in
     let next = tags-goes_on count i now.tags bytes tag rest total lt h fresh so_far in (
-      set ∙ ap (λ (m : Content). record m { tags = with_tag tag now.tags }) others ∙ ap (λ (ts : List (List ℕ)). record start { tags = ts }) (sym tags_are),
+      set ∙ ap (λ (m : Build). record m { tags = with_tag tag now.tags }) others ∙ ap (λ (ts : List (List ℕ)). record start { tags = ts }) (sym tags_are),
       rw pushed next,
       ap length pushed ∙ length-push now.tags tag ∙ ap (λ (k : ℕ). k + 1) len,
     )
@@ -130,18 +131,18 @@ pairs-done count i before bytes total le so_far =
     sym so_far ∙ one
 
 -- one pair on
-pub pairs-preserved : (start now new : Content) (count i : ℕ) (last bytes name after value rest : List ℕ) (total : Result (List Pair × List ℕ) ℕ)
-    → i < count → last ≡ last_name now.pairs → may_follow last name ≡ true → name_at last bytes ≡ Ok (name, after) → text_at after ≡ Ok (value, rest)
-    → new ≡ record now { pairs = now.pairs ++ (record { name = name; value = value }) ∷ [] }
-    → now ≡ record start { pairs = now.pairs } → pairs_at (count - i) now.pairs bytes ≡ total → IsAscending now.pairs
-    → (new ≡ record start { pairs = new.pairs }) × (pairs_at (count - (i + 1)) new.pairs rest ≡ total) × (name ≡ last_name new.pairs) × IsAscending new.pairs
+pub pairs-preserved : (start now new : Build) (count i : ℕ) (last bytes name after value rest : List ℕ) (total : Result (List Pair × List ℕ) ℕ)
+    → i < count → last ≡ last_name now.put → may_follow last name ≡ true → name_at last bytes ≡ Ok (name, after) → text_at after ≡ Ok (value, rest)
+    → new ≡ record now { put = now.put ++ (record { name = name; value = value }) ∷ [] }
+    → now ≡ record start { put = now.put } → pairs_at (count - i) now.put bytes ≡ total → IsAscending now.put
+    → (new ≡ record start { put = new.put }) × (pairs_at (count - (i + 1)) new.put rest ≡ total) × (name ≡ last_name new.put) × IsAscending new.put
 pairs-preserved start now new count i last bytes name after value rest total lt is follows e h set others so_far up =
     let pair : Pair = record { name = name; value = value } in
-    let pairs_are : new.pairs ≡ now.pairs ++ pair ∷ [] = ap (λ (m : Content). m.pairs) set in
-    let next = pairs-goes_on count i now.pairs last bytes name after value rest total lt is e h so_far in
-    let below = (may_follow-parts (last_name now.pairs) name (subst (λ (l : List ℕ). may_follow l name ≡ true) is follows)).0 in (
-      set ∙ ap (λ (m : Content). record m { pairs = now.pairs ++ pair ∷ [] }) others ∙ ap (λ (ps : List Pair). record start { pairs = ps }) (sym pairs_are),
+    let pairs_are : new.put ≡ now.put ++ pair ∷ [] = ap (λ (m : Build). m.put) set in
+    let next = pairs-goes_on count i now.put last bytes name after value rest total lt is e h so_far in
+    let below = (may_follow-parts (last_name now.put) name (subst (λ (l : List ℕ). may_follow l name ≡ true) is follows)).0 in (
+      set ∙ ap (λ (m : Build). record m { put = now.put ++ pair ∷ [] }) others ∙ ap (λ (ps : List Pair). record start { put = ps }) (sym pairs_are),
       rw pairs_are next,
-      rw pairs_are (sym (last_name-append now.pairs pair)),
-      rw pairs_are (ascending-append now.pairs pair up below),
+      rw pairs_are (sym (last_name-append now.put pair)),
+      rw pairs_are (ascending-append now.put pair up below),
     )

@@ -1,5 +1,5 @@
 -- A stamp that is read is the stamp that was written, and what was written is read again.
-use Rattle.std.proofs.Common.{◌≡◌, ℕ, ℤ, pos, negsuc, ◌^◌, ◌<◌, ◌≤ℤ◌, Bool, true, false, cond, List, ◌++◌, length, Ok, Err, refl, ap, subst, ◌∙◌, append_assoc, arith, to_z, of_z}
+use Rattle.std.proofs.Common.{◌≡◌, ℕ, ℤ, pos, negsuc, ◌^◌, ◌≤ℤ◌, Bool, true, false, cond, List, ◌++◌, length, Ok, Err, refl, ap, subst, ◌∙◌, append_assoc, arith, to_z, of_z}
 use Rattle.std.specs.Int.{w16, w64}
 use Rattle.std.specs.Prelude.{FitsSigned, int_le, ◌&&◌}
 use Rattle.std.proofs.lemmas.Bool.{and_parts, and_from}

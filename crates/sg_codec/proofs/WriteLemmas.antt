@@ -6,7 +6,7 @@ use Rattle.sg_list.proofs.ListLemmas.{drop-get, slice_get-all}
 use Rattle.sg_time.specs.declared.stamp.Stamp.{Stamp}
 use Rattle.sg_msg.specs.Message.{Pair, HaveNames}
 use Rattle.sg_codec.specs.declared.kept.Kept.{Kept}
-use Rattle.sg_codec.specs.Lengths.{tag_lengths, pair_lengths, encoded_len}
+use Rattle.sg_msg.specs.Length.{tag_lengths, pair_lengths, encoded_len}
 use Rattle.sg_codec.specs.Spelling.{number_bytes, flag_bytes, stamp_bytes, text_bytes, tags_bytes, pairs_bytes, tag_list, pair_list, head_bytes, spelling2, AreTexts, HaveValues}
 
 pub tags_bytes-step : (tags : List (List ℕ)) (k : ℕ) (tag : List ℕ) → Some tag ≡ slice_get tags k → tags_bytes (drop k tags) ≡ text_bytes tag ++ tags_bytes (drop (k + 1) tags)

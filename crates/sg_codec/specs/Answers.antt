@@ -1,5 +1,7 @@
 -- What a call answers, by what the bytes say.
-use Rattle.std.specs.Prelude.{◌≡◌, ◌⊎◌, ℕ, List, Result, Ok, Err}
+use Rattle.std.specs.Prelude.{◌≡◌, ℕ, Result, Ok, Err}
+use Rattle.sg_msg.specs.Build.{Build}
+use Rattle.sg_msg.specs.Message.{Content}
 use Rattle.sg_codec.specs.declared.kept.Kept.{Kept}
 use Rattle.sg_codec.specs.declared.refusal.CodecRefusal.{CodecRefusal}
 use Rattle.sg_codec.specs.declared.refusal.CodecRefusal.TheVariants as refusals
@@ -23,3 +25,13 @@ Refuses refusals.NoMemory entry = Unit {0}
 abbrev pub Decodes : Result Kept CodecRefusal → Result Kept ℕ → Type 0
 Decodes (Ok kept) entry = entry ≡ Ok kept
 Decodes (Err refusal) entry = Refuses refusal entry
+
+-- the message of what was put, as it stands
+abbrev pub content_of : Build → Content
+content_of build = record {
+  pri = build.pri;
+  sent = build.sent;
+  received = build.received;
+  pairs = build.put;
+  tags = build.tags;
+}

@@ -1,4 +1,3 @@
-pub mod Lengths
 pub mod Spelling
 pub mod Reading
 pub mod Answers

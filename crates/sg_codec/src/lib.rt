@@ -11,7 +11,7 @@ mod writing;
 
 pub use kept::Kept;
 pub use laws::spellings_are_read;
-pub use lengths::{encoded_len, less_entry};
+pub use lengths::encoded_len;
 pub use reading::decode;
 pub use refusal::CodecRefusal;
 pub use writing::encode;

@@ -4,26 +4,26 @@ ghost use Rattle.sg_msg.specs.Message.{IsAscending};
 ghost use Rattle.sg_codec.specs.declared.kept.Kept.{Kept as Entry};
 ghost use Rattle.sg_codec.specs.Spelling.{Spells};
 ghost use Rattle.sg_codec.specs.Reading.{tags_at, tag_list_at, may_follow, last_name, pairs_at, pair_list_at, last_at, format1_at, format2_at, entry_at, reading};
-ghost use Rattle.sg_codec.specs.Answers.{Gives, Decodes};
+ghost use Rattle.sg_codec.specs.Answers.{content_of, Gives, Decodes};
 
 use crate::fields::{take_head, take_name, take_stamp, take_text, take_u32};
 use crate::kept::Head;
 use crate::refusal::Stop;
 use crate::{CodecRefusal, Kept};
 use bytes::Bytes;
-use sg_msg::{Message, MsgRefusal};
+use sg_msg::{Message, MessageBuilder, PairName};
 use std::alloc::Global;
 
-fn take_tags(message: &mut Message, count: u32, rest: &mut Bytes) -> Result<(), Stop>
-    requires { message.old.tags ≡ [] }
-    ensures field { Gives (λ _. (message.new.tags, rest.new)) result (tags_at count [] rest.old) }
-    ensures others { OnOk result (message.new ≡ record message.old { tags = message.new.tags }) }
+fn take_tags(builder: &mut MessageBuilder, count: u32, rest: &mut Bytes) -> Result<(), Stop>
+    requires { builder.old.tags ≡ [] }
+    ensures field { Gives (λ _. (builder.new.tags, rest.new)) result (tags_at count [] rest.old) }
+    ensures others { OnOk result (builder.new ≡ record builder.old { tags = builder.new.tags }) }
 {
     for place in 0..count {
         let left = rest.len();
         let tag = take_text(rest)?;
-        message.set_tag(&tag)?;
-        if message.tag(place as usize).is_none() {
+        builder.set_tag(&tag)?;
+        if builder.tag(place as usize).is_none() {
             return Err(Stop::Damaged(left));
         }
     }
@@ -31,66 +31,73 @@ fn take_tags(message: &mut Message, count: u32, rest: &mut Bytes) -> Result<(), 
 }
 
 #[tactic(auto, unfolding(crate::specs::Reading::tag_list_at))]
-fn take_tag_list(message: &mut Message, rest: &mut Bytes) -> Result<(), Stop>
-    requires { message.old.tags ≡ [] }
-    ensures field { Gives (λ _. (message.new.tags, rest.new)) result (tag_list_at rest.old) }
-    ensures others { OnOk result (message.new ≡ record message.old { tags = message.new.tags }) }
+fn take_tag_list(builder: &mut MessageBuilder, rest: &mut Bytes) -> Result<(), Stop>
+    requires { builder.old.tags ≡ [] }
+    ensures field { Gives (λ _. (builder.new.tags, rest.new)) result (tag_list_at rest.old) }
+    ensures others { OnOk result (builder.new ≡ record builder.old { tags = builder.new.tags }) }
 {
     let count = take_u32(rest)?;
-    take_tags(message, count, rest)
+    take_tags(builder, count, rest)
 }
 
-// Puts a pair behind those that the message has.
-fn append(message: &mut Message, name: &[u8], value: Bytes) -> Result<(), Stop>
-    requires ascending { IsAscending message.old.pairs }
-    requires follows { may_follow (last_name message.old.pairs) name.now ≡ true }
+// Puts a pair whose name may follow the last one.
+fn append(builder: &mut MessageBuilder, name: &Bytes, value: Bytes) -> Result<(), Stop>
+    requires follows { may_follow (last_name builder.old.put) name.now ≡ true }
     requires size { (1 ≤ length name.now) × (length name.now ≤ 255) }
-    ensures ok { OnOk result (message.new ≡ record message.old {
-      pairs = message.old.pairs ++ (record { name = name.now; value = value }) ∷ [];
+    ensures ok { OnOk result (builder.new ≡ record builder.old {
+      put = builder.old.put ++ (record { name = name.now; value = value }) ∷ [];
     }) }
     ensures memory { IsOkUnless result Stop.NoMemory }
 {
-    match message.set_bytes(name, value) {
-        Ok(()) => Ok(()),
-        Err(MsgRefusal::HardMacro) => unreachable!(),
-        Err(MsgRefusal::NoMemory) => Err(Stop::NoMemory),
-    }
+    builder.put(PairName::Other(name.clone()?), value)?;
+    Ok(())
 }
 
-fn take_pairs(message: &mut Message, count: u32, rest: &mut Bytes) -> Result<(), Stop>
-    requires { message.old.pairs ≡ [] }
-    ensures field { Gives (λ _. (message.new.pairs, rest.new)) result (pairs_at count [] rest.old) }
-    ensures others { OnOk result (message.new ≡ record message.old { pairs = message.new.pairs }) }
+fn take_pairs(builder: &mut MessageBuilder, count: u32, rest: &mut Bytes) -> Result<(), Stop>
+    requires { builder.old.put ≡ [] }
+    ensures field { Gives (λ _. (builder.new.put, rest.new)) result (pairs_at count [] rest.old) }
+    ensures others { OnOk result (builder.new ≡ record builder.old { put = builder.new.put }) }
+    ensures ascending { OnOk result (IsAscending builder.new.put) }
 {
     let mut last = Bytes::new();
     for _ in 0..count {
         let name = take_name(&last, rest)?;
         let value = take_text(rest)?;
-        append(message, &name, value)?;
+        append(builder, &name, value)?;
         last = name;
     }
     Ok(())
 }
 
 #[tactic(auto, unfolding(crate::specs::Reading::pair_list_at))]
-fn take_pair_list(message: &mut Message, rest: &mut Bytes) -> Result<(), Stop>
-    requires { message.old.pairs ≡ [] }
-    ensures field { Gives (λ _. (message.new.pairs, rest.new)) result (pair_list_at rest.old) }
-    ensures others { OnOk result (message.new ≡ record message.old { pairs = message.new.pairs }) }
+fn take_pair_list(builder: &mut MessageBuilder, rest: &mut Bytes) -> Result<(), Stop>
+    requires { builder.old.put ≡ [] }
+    ensures field { Gives (λ _. (builder.new.put, rest.new)) result (pair_list_at rest.old) }
+    ensures others { OnOk result (builder.new ≡ record builder.old { put = builder.new.put }) }
+    ensures ascending { OnOk result (IsAscending builder.new.put) }
 {
     let count = take_u32(rest)?;
-    take_pairs(message, count, rest)
+    take_pairs(builder, count, rest)
+}
+
+// The message of pairs that stand in order.
+fn in_order(builder: MessageBuilder) -> Result<Message, Stop>
+    requires { IsAscending builder.put }
+    ensures ok { IfOk result (λ message. message ≡ content_of builder) }
+    ensures memory { IsOkUnless result Stop.NoMemory }
+{
+    Ok(builder.message()?)
 }
 
 // The entry with this head, whose message has all but its pairs.
 #[tactic(auto, unfolding(crate::specs::Reading::last_at))]
-fn read_last(head: Head, mut message: Message, mut rest: Bytes) -> Result<Kept, Stop>
-    requires pri { message.pri ≡ head.pri }
-    requires sent { message.sent ≡ head.sent }
-    requires pairs { message.pairs ≡ [] }
-    ensures { Gives (λ kept. kept) result (last_at head message.received message.tags rest) }
+fn read_last(head: Head, mut builder: MessageBuilder, mut rest: Bytes) -> Result<Kept, Stop>
+    requires pri { builder.pri ≡ head.pri }
+    requires sent { builder.sent ≡ head.sent }
+    requires pairs { builder.put ≡ [] }
+    ensures { Gives (λ kept. kept) result (last_at head builder.received builder.tags rest) }
 {
-    take_pair_list(&mut message, &mut rest)?;
+    take_pair_list(&mut builder, &mut rest)?;
     if !rest.is_empty() {
         return Err(Stop::Damaged(rest.len()));
     }
@@ -98,7 +105,7 @@ fn read_last(head: Head, mut message: Message, mut rest: Bytes) -> Result<Kept, 
         source: head.source,
         end: head.end,
         flow: head.flow,
-        message,
+        message: in_order(builder)?,
     })
 }
 
@@ -106,24 +113,22 @@ fn read_last(head: Head, mut message: Message, mut rest: Bytes) -> Result<Kept, 
 fn read_format1(alloc: Global, bytes: &[u8]) -> Result<Kept, Stop>
     ensures { Gives (λ kept. kept) result (format1_at bytes.now) }
 {
-    let raw = Bytes::copy_from_slice(alloc, bytes)?;
-    let mut rest = raw.clone()?;
+    let mut rest = Bytes::copy_from_slice(alloc, bytes)?;
     let head = take_head(&mut rest)?;
-    let message = Message::new(alloc, raw, head.pri, head.sent, head.sent)?;
-    read_last(head, message, rest)
+    let builder = MessageBuilder::new(alloc, head.pri, head.sent, head.sent);
+    read_last(head, builder, rest)
 }
 
 #[tactic(auto, unfolding(crate::specs::Reading::format2_at))]
 fn read_format2(alloc: Global, bytes: &[u8]) -> Result<Kept, Stop>
     ensures { Gives (λ kept. kept) result (format2_at bytes.now) }
 {
-    let raw = Bytes::copy_from_slice(alloc, bytes)?;
-    let mut rest = raw.clone()?;
+    let mut rest = Bytes::copy_from_slice(alloc, bytes)?;
     let head = take_head(&mut rest)?;
     let received = take_stamp(&mut rest)?;
-    let mut message = Message::new(alloc, raw, head.pri, head.sent, received)?;
-    take_tag_list(&mut message, &mut rest)?;
-    read_last(head, message, rest)
+    let mut builder = MessageBuilder::new(alloc, head.pri, head.sent, received);
+    take_tag_list(&mut builder, &mut rest)?;
+    read_last(head, builder, rest)
 }
 
 #[tactic(auto, unfolding(crate::specs::Reading::entry_at))]
@@ -138,8 +143,8 @@ fn read_entry(alloc: Global, bytes: &[u8]) -> Result<Kept, Stop>
     }
 }
 
-/// The entry that the bytes spell, in format 1 or 2. What a tag or a name holds is copied; the values
-/// share one copy of the bytes.
+/// The entry that the bytes spell, in format 1 or 2. What a tag holds is copied; names and values share
+/// one copy of the bytes.
 pub fn decode(alloc: Global, bytes: &[u8]) -> Result<Kept, CodecRefusal>
     // What is read is spelled so.
     ensures found { IfOk result (λ kept. Spells kept bytes.now) }

@@ -2,7 +2,7 @@
 ghost use Rattle.std.specs.Prelude.{◌≡◌, ◌<◌, ◌≤◌, ◌+◌, ◌^◌, ◌∷◌, [], ◌++◌, length, OnOk, IfOk, vec_len};
 ghost use Rattle.std.specs.Int.{w16, w32, w64};
 ghost use Rattle.sg_msg.specs.Message.{HaveNames, IsMessage};
-ghost use Rattle.sg_codec.specs.Lengths.{encoded_len};
+ghost use Rattle.sg_msg.specs.Length.{encoded_len};
 ghost use Rattle.sg_codec.specs.Spelling.{number_bytes, flag_bytes, stamp_bytes, text_bytes, tags_bytes, pairs_bytes, head_bytes, AreTexts, HaveValues, Spells2};
 
 use crate::{Kept, encoded_len};

@@ -94,7 +94,7 @@ abbrev pub Serves : CoreState → CoreCall → CoreReply → CoreState → Type 
 Serves old (Credit i) reply new = CreditGives old i reply new
 Serves old (Admit i end offers) reply new = AdmitGives old i end offers reply new
 Serves old (Front d) reply new = FrontGives old d reply new
-Serves old (Settle d place taken) reply new = SettleGives old d place reply new
+Serves old (Settle d place) reply new = SettleGives old d place reply new
 Serves old (RefillCall d) reply new = RefillGives old reply new
 Serves old (Store i) reply new = StoreGives old i reply new
 
@@ -125,7 +125,7 @@ abbrev pub acts_in : CoreCall → CoreReply → List Act
 acts_in (Credit i) reply = []
 acts_in (Admit i end offers) reply = admit_acts i end offers reply
 acts_in (Front d) reply = Look ∷ []
-acts_in (Settle d place taken) reply = settle_acts d reply
+acts_in (Settle d place) reply = settle_acts d reply
 acts_in (RefillCall d) reply = Look ∷ []
 acts_in (Store i) reply = store_acts i reply
 

@@ -1,7 +1,7 @@
 // The calls of a core and their replies, as values.
 
 use crate::answers::{CoreFront, Refill, Refused, Settled, Stored};
-use sg_device::{NoMemory, Taken};
+use sg_device::NoMemory;
 use sg_list::Seq;
 use sg_machine::Verdict;
 use sg_msg::Offer;
@@ -21,7 +21,6 @@ pub enum CoreCall {
         dest: u32,
         /// The entry's place among all that the destination was given, from 0.
         place: u64,
-        taken: Taken,
     },
     Refill(u32),
     Store(u32),

@@ -13,7 +13,7 @@ ghost use Rattle.sg_core.specs.declared.calls.CoreReply.{CoreReply};
 
 use crate::answers::{CoreFront, Refill, Refused, Settled, Stored};
 use crate::flow::Core;
-use sg_device::{Disk, NoMemory, Taken};
+use sg_device::{Disk, NoMemory};
 use sg_machine::Verdict;
 use sg_msg::Offer;
 use std::alloc::Global;
@@ -67,10 +67,10 @@ pub trait Counter {
         ensures left { left self.old ≤ left self.new + 1 };
 
     /// As `Core::settle`.
-    fn settle<T: Wait>(&mut self, rt: &T, d: u32, place: u64, taken: Taken) -> Settled
+    fn settle<T: Wait>(&mut self, rt: &T, d: u32, place: u64) -> Settled
         requires left { 0 < left self.old }
         requires dest { d < length (setup self.old).dests }
-        ensures step { step self.old (CoreCall.Settle d place taken) (CoreReply.Settled result) self.new }
+        ensures step { step self.old (CoreCall.Settle d place) (CoreReply.Settled result) self.new }
         ensures setup { setup self.new ≡ setup self.old }
         ensures left { left self.old ≤ left self.new + 1 };
 
@@ -119,8 +119,8 @@ impl<D: Disk> Counter for Core<D> {
         Core::front(self, d)
     }
 
-    fn settle<T: Wait>(&mut self, _rt: &T, d: u32, place: u64, taken: Taken) -> Settled {
-        Core::settle(self, d, place, taken)
+    fn settle<T: Wait>(&mut self, _rt: &T, d: u32, place: u64) -> Settled {
+        Core::settle(self, d, place)
     }
 
     fn refill<T: Wait>(&mut self, _rt: &T, d: u32) -> Refill {

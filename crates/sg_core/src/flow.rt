@@ -17,7 +17,7 @@ use crate::sink::{Sink, is_front, take_first};
 use crate::source::{Source, acknowledge, begin_at, start_anew};
 use crate::stores::Stores;
 use crate::tallies::{tally_sinks, tally_sources};
-use sg_device::{Disk, NoMemory, Taken};
+use sg_device::{Disk, NoMemory};
 use sg_list::Seq;
 use sg_machine::{Setup, Tally, Verdict};
 use sg_msg::Offer;
@@ -151,7 +151,7 @@ impl<D: Disk> Core<D> {
     /// Settles the entry at that place, which the destination's outlet has taken. It must be the first
     /// one that is left; else nothing changes. Takes no memory, and constant time for each record that
     /// waits for nothing any more.
-    pub fn settle(&mut self, d: u32, place: u64, _taken: Taken) -> Settled
+    pub fn settle(&mut self, d: u32, place: u64) -> Settled
         requires dest { d < length self.old.sinks }
         requires few { self.old.calls + 1 < 2 ^ 54 }
         ensures does { Does self.old self.new (settle_act d result) }

@@ -2,7 +2,8 @@
 use Rattle.std.proofs.Common.{◌≡◌, ◌≢◌, ℕ, ◌+◌, ◌*◌, ◌-◌, ◌<◌, ◌≤◌, List, [], ◌∷◌, ◌++◌, length, Some, None, Option, Bool, true, false, refl, sym, ap, ◌∙◌, arith, map, slice_get, subst, inl, inr, ◌⊎◌, append_assoc, length-append, if◌then◌else◌}
 use Rattle.std.specs.Prelude.{◌==◌, Result, Ok, Err}
 use Rattle.std.proofs.lemmas.List.{append-nil, length-map}
-use Rattle.sg_device.specs.Inlet.{Part, InletState, IsFresh}
+use Rattle.sg_device.specs.Inlet.{Part, InletState, IsFresh, Advances}
+use Rattle.sg_device.proofs.Inlets.{advances_trans}
 use Rattle.sg_device.specs.Outlet.{OutletState}
 use Rattle.sg_frame.specs.declared.kind.FrameKind.TheVariants.{Lines}
 use Rattle.sg_frame.specs.Framing.{items_left, fresh, HasFramed}
@@ -22,17 +23,18 @@ use Rattle.sg_core.specs.Sinks.{first_at}
 use Rattle.sg_core.specs.Standing.{owed, records_from, waiting_at, waiting_from}
 use Rattle.sg_core.proofs.StoreSteps.{mark-same}
 use Rattle.sg_engine.specs.Path.{frames}
-use Rattle.sg_engine.specs.Delivery.{line_records, AreFirst, AreAll, TookFirst, TookAll, last_end}
+use Rattle.sg_engine.specs.Delivery.{line_records, AreFirst, AreAll, TookFirst, TookAll, AreOf, last_end}
 use Rattle.sg_engine.specs.History.{admitted, offer_count, admit_of, end_of, entry_frames, IsTaken, Stands, opening_in, mark_now, stored_now, begun_now, settled_now}
 use Rattle.sg_engine.specs.Reading.{IsReady}
-use Rattle.sg_engine.specs.Serving.{GoesOn, IsQuiet, AreFew, Concludes, ServesWith, Serves, Blames, HasFailed}
-use Rattle.sg_engine.specs.Turns.{Run, run, one_if, inlet_progress, core_progress, progress, Runs, Stopped, Steps, Stops, HasNothing, Rests, BlamesStore, ended_of, HasWorked, RunsOn, RoundRests, PullsOnce}
+use Rattle.sg_engine.specs.Serving.{GoesOn, HasWorked, IsQuiet, WereRun, AreFew, Concludes, ServesWith, Serves, Blames, HasFailed}
+use Rattle.sg_engine.specs.Turns.{Run, run, one_if, inlet_progress, core_progress, progress, Runs, Stopped, Steps, Stops, HasNothing, Rests, BlamesStore, ended_of, RunsOn, RoundRests, PullsOnce}
 use Rattle.sg_engine.specs.declared.reader.Reader.{Reader}
 use Rattle.sg_engine.specs.declared.rounds.Ended.{Ended}
 use Rattle.sg_engine.specs.declared.rounds.Ended.TheVariants.{Quiet, RoundsSpent, NoMemory as NoMemoryEnded}
 use Rattle.sg_engine.specs.declared.rounds.Stop.{Stop}
 use Rattle.sg_engine.specs.declared.rounds.Stop.TheVariants.{InletFailed, OutletFailed, StoreFailed, NoMemory}
 use Rattle.sg_engine.proofs.PathLemmas.{frames-append, entry_frames-append, offers-counted}
+use Rattle.sg_engine.proofs.GivenLemmas.{given-fresh}
 use Rattle.sg_engine.proofs.ReadingLemmas.{reads-first, reads-all, reads-few, reads-fresh}
 use Rattle.sg_engine.proofs.StateLemmas.{goes-same, at-begun, at-settled, at-opening, at-mark, at-credit, at-first, at-store}
 use Rattle.sg_engine.proofs.StepLemmas.{Opened, opened, admitted-append, rose-later}
@@ -128,8 +130,10 @@ ends-quiet begin least core feed reader drain rounds start events more done r re
       pulls = omega arith;
       opening = r.opening;
       goes = r.goes;
+      works = r.works;
       concludes = record {
-        ended = ready.over n.1;
+        ended = (ready.over n.1).0;
+        drained = (ready.over n.1).1;
         all = all;
         took = took-all feed.from feed.told drain.taken done e.settled all e.sent e.kept;
         stored = rests.1 ∙ mark;
@@ -157,10 +161,14 @@ few-rounds begin rounds core feed reader taken taken0 core0 start events more do
     let far : rounds ≤ (feed.bytes + feed.parts + one_if reader.ended + feed.idles) + (2 * begun_now core + 2 * settled_now core + one_if (stored_now core == mark_now core)) = r.progress in
     omega (arith, one_if-small reader.ended, one_if-small (stored_now core == mark_now core))
 
+-- each round made two calls on the core at least
+were-run : (begin core : CoreState) (events more : List Event) (rounds : ℕ) → begin.calls ≡ length events → core.calls ≡ length (events ++ more) → begin.calls + 2 * rounds ≤ core.calls → WereRun more rounds
+were-run begin core events more rounds was is asks = omega (arith, was, is, asks, length-append events more)
+
 pub ends-spent : (begin : CoreState) (core : CoreState) (feed : InletState) (reader : Reader) (drain : OutletState) (rounds : ℕ) (taken0 : Option (List (List ℕ))) (start : State) (events more : List Event) (done : List Record)
-    → Stands start events [] begin taken0 → Runs begin rounds (run core feed reader drain.taken) start (events ++ more) done → IsReady feed reader → feed.pulls ≤ rounds
+    → Stands start events [] begin taken0 → Runs begin rounds (run core feed reader drain.taken) start (events ++ more) done → IsReady feed reader → feed.pulls ≤ rounds → begin.calls + 2 * rounds ≤ core.calls
     → ServesWith start events begin core feed drain rounds RoundsSpent more done
-ends-spent begin core feed reader drain rounds taken0 start events more done began r ready pulls =
+ends-spent begin core feed reader drain rounds taken0 start events more done began r ready pulls asks =
     let first = reads-first feed reader.framer done ready.kind ready.limit r.reads in
     record {
       stands = r.stands;
@@ -169,7 +177,8 @@ ends-spent begin core feed reader drain rounds taken0 start events more done beg
       pulls = pulls;
       opening = r.opening;
       goes = r.goes;
-      concludes = few-rounds begin rounds core feed reader drain.taken taken0 begin start events more done began r;
+      works = r.works;
+      concludes = (were-run begin core events more rounds began.counted r.stands.counted asks, few-rounds begin rounds core feed reader drain.taken taken0 begin start events more done began r);
     }
 
 stop-concludes : (stop : Stop) (begin core : CoreState) (feed : InletState) (drain : OutletState) (rounds : ℕ) (more : List Event) (done : List Record) → BlamesStore stop begin core
@@ -188,6 +197,7 @@ ends-stopped stop begin core feed reader drain rounds start events more done s p
   pulls = pulls;
   opening = s.opening;
   goes = s.goes;
+  works = s.works;
   concludes = stop-concludes stop begin core feed drain rounds more done s.blames;
 }
 
@@ -227,6 +237,7 @@ serves-none core feed drain rounds start events h begun =
           pulls = omega (arith, begun.pulls);
           opening = refl;
           goes = w.0;
+          works = w.1;
           concludes = tt;
         },
       ),
@@ -239,6 +250,7 @@ pub record Ran (core0 core : CoreState) (feed0 feed : InletState) (reader0 reade
   pub framed : HasFramed [] [] reader0.framer
   pub steps : Steps n (run core0 feed0 reader0 drain0.taken) (run core feed reader drain.taken)
   pub pulls : feed.pulls ≤ n
+  pub asks : core0.calls + 2 * n ≤ core.calls
 
 pub serves-quiet : (core0 core core' : CoreState) (feed0 feed feed' : InletState) (reader0 reader reader' : Reader) (drain0 drain drain' : OutletState) (n rounds : ℕ)
     → Ran core0 core feed0 feed reader0 reader drain0 drain n → n < rounds → RunsOn (run core feed reader drain.taken) (run core' feed' reader' drain'.taken) (Ok false)
@@ -279,12 +291,31 @@ serves-spent core0 core feed0 feed reader0 reader drain0 drain rounds ran ready 
     let s = ran.steps core0 0 start events [] b in
     let Q : ℕ → Type 0 = λ n. Runs core0 n (run core feed reader drain.taken) start (events ++ s.0) s.1.0 in
     let n : 0 + rounds ≡ rounds = omega arith in
-    (s.0, (s.1.0, ends-spent core0 core feed reader drain rounds drain0.taken start events s.0 s.1.0 h (subst Q n s.1.1) ready ran.pulls))
+    (s.0, (s.1.0, ends-spent core0 core feed reader drain rounds drain0.taken start events s.0 s.1.0 h (subst Q n s.1.1) ready ran.pulls ran.asks))
 
--- the counts of faults of a run, and where reading began
+-- What a run leaves of the past of its inlet.
+pub record KeepsPast (old new : InletState) : Type 0 where
+  pub advances : Advances old new
+  pub given : AreOf old.left new.told new.left
+
+pub past-fresh : (feed feed' : InletState) → IsFresh feed → PullsOnce feed feed' → KeepsPast feed feed'
+past-fresh feed feed' begun once = record { advances = once.advances; given = once.given feed.left (given-fresh feed begun) }
+
+pub past-then : (feed0 feed feed' : InletState) → KeepsPast feed0 feed → PullsOnce feed feed' → KeepsPast feed0 feed'
+past-then feed0 feed feed' past once = record { advances = advances_trans feed0 feed feed' past.advances once.advances; given = once.given feed0.left past.given }
+
+pub blames-none : (feed0 feed : InletState) (drain0 drain : OutletState) (ended : Ended) → KeepsPast feed0 feed → drain0.faults ≤ drain.faults → HasFailed feed0 feed drain0 drain ended → Blames feed0 feed drain0 drain ended
+blames-none feed0 feed drain0 drain ended past later failed = record { advances = past.advances; given = past.given; drain_later = later; failed = failed }
+
+stop-failed : (stop : Stop) (core core' : CoreState) (feed0 feed feed' : InletState) (reader' : Reader) (drain0 drain drain' : OutletState) → RoundRests core core' feed feed' reader' drain drain' (Err stop)
+    → feed0.faults ≤ feed.faults → drain0.faults ≤ drain.faults → HasFailed feed0 feed' drain0 drain' (ended_of stop)
+stop-failed InletFailed core core' feed0 feed feed' reader' drain0 drain drain' h a c = rose-later feed0.faults feed.faults feed'.faults a h
+stop-failed OutletFailed core core' feed0 feed feed' reader' drain0 drain drain' h a c = rose-later drain0.faults drain.faults drain'.faults c h
+stop-failed StoreFailed core core' feed0 feed feed' reader' drain0 drain drain' h a c = tt
+stop-failed NoMemory core core' feed0 feed feed' reader' drain0 drain drain' h a c = tt
+
 pub blames-stopped : (stop : Stop) (core core' : CoreState) (feed0 feed feed' : InletState) (reader' : Reader) (drain0 drain drain' : OutletState) → RoundRests core core' feed feed' reader' drain drain' (Err stop)
-    → feed.from ≡ feed0.from → feed'.from ≡ feed.from → feed0.faults ≤ feed.faults → feed.faults ≤ feed'.faults → drain0.faults ≤ drain.faults → drain.faults ≤ drain'.faults → Blames feed0 feed' drain0 drain' (ended_of stop)
-blames-stopped InletFailed core core' feed0 feed feed' reader' drain0 drain drain' h e f a b c d = record { from = f ∙ e; feed_later = omega arith; drain_later = omega arith; failed = rose-later feed0.faults feed.faults feed'.faults a h }
-blames-stopped OutletFailed core core' feed0 feed feed' reader' drain0 drain drain' h e f a b c d = record { from = f ∙ e; feed_later = omega arith; drain_later = omega arith; failed = rose-later drain0.faults drain.faults drain'.faults c h }
-blames-stopped StoreFailed core core' feed0 feed feed' reader' drain0 drain drain' h e f a b c d = record { from = f ∙ e; feed_later = omega arith; drain_later = omega arith; failed = tt }
-blames-stopped NoMemory core core' feed0 feed feed' reader' drain0 drain drain' h e f a b c d = record { from = f ∙ e; feed_later = omega arith; drain_later = omega arith; failed = tt }
+    → KeepsPast feed0 feed → PullsOnce feed feed' → drain0.faults ≤ drain.faults → drain.faults ≤ drain'.faults → Blames feed0 feed' drain0 drain' (ended_of stop)
+blames-stopped stop core core' feed0 feed feed' reader' drain0 drain drain' h past once c d =
+    blames-none feed0 feed' drain0 drain' (ended_of stop) (past-then feed0 feed feed' past once) (omega arith)
+    (stop-failed stop core core' feed0 feed feed' reader' drain0 drain drain' h past.advances.faults c)

@@ -3,13 +3,13 @@ use Rattle.std.proofs.Common.{◌≡◌, ℕ, List, [], ◌∷◌, ◌++◌, len
 use Rattle.std.proofs.lemmas.Bool.{ne_eqb}
 use Rattle.sg_msg.specs.Message.{Content, value_of}
 use Rattle.sg_template.specs.declared.env.Env.{Env}
-use Rattle.sg_template.specs.declared.part.Part.{Part}
-use Rattle.sg_template.specs.declared.part.Part.TheVariants.{Literal, Pair}
-use Rattle.sg_template.specs.declared.fault.TemplateFault.{TemplateFault}
+use Rattle.sg_macro.specs.declared.part.Part.{Part}
+use Rattle.sg_macro.specs.declared.part.Part.TheVariants.{Literal, Pair}
+use Rattle.sg_macro.specs.declared.fault.TemplateFault.{TemplateFault}
 use Rattle.sg_template.specs.Texts.{or_default, text_of}
 use Rattle.sg_template.specs.Render.{render_of}
-use Rattle.sg_template.specs.Reading.{parts_of}
-use Rattle.sg_template.specs.Macros.{macro_of, macros, pair_name}
+use Rattle.sg_macro.specs.Reading.{parts_of}
+use Rattle.sg_macro.specs.Macros.{macro_of, macros, pair_name}
 use Rattle.sg_engine.specs.Path.{template_text, frame_of}
 
 abbrev template_parts : List Part

@@ -1,4 +1,5 @@
 pub mod PathLemmas
+pub mod GivenLemmas
 pub mod ReadingLemmas
 pub mod PullLemmas
 pub mod StateLemmas

@@ -8,7 +8,7 @@ use Rattle.sg_frame.specs.declared.kind.FrameKind.TheVariants.{Lines}
 use Rattle.sg_frame.specs.Items.{Item, Form, Text, Count, Body, Bad, item_of, item_at, open_at, items, items_of, trimmed, beginning}
 use Rattle.sg_frame.specs.Records.{Record, record_of, records_of}
 use Rattle.sg_frame.specs.Framing.{Framing, HasFramed, Goes, Gives, items_left, fresh, fed, with_bytes as with_bytes'}
-use Rattle.sg_engine.specs.Delivery.{line_records, AreFirst, AreAll}
+use Rattle.sg_engine.specs.Delivery.{line_records, AreFirst, AreAll, IsDrained}
 use Rattle.sg_engine.specs.Reading.{earlier, last_given, HasPeer, AreRead, ReadsWith, Reads, IsTimely, AreTimely, IsReady}
 use Rattle.sg_engine.specs.declared.reader.Reader.{Reader}
 
@@ -318,6 +318,7 @@ ready-fresh feed reader begun f-is from going = record {
   place = (let none : fed reader.framer ≡ 0 = ap fed f-is in omega (arith, begun.at_from));
   in_range = omega (arith, begun.at_from, begun.in_range);
   timely = (let P : List Stamped → Type 0 = λ bytes. AreTimely bytes in let e : [] ≡ reader.framer.held = sym (ap (λ x. x.held) f-is) in subst P e tt);
+  unhung = begun.hung;
   over = (λ e. absurd (let g : true ≡ false = sym e ∙ going in cc));
 }
 
@@ -325,9 +326,9 @@ pub stamped-len : (into : List ℕ) (len : ℕ) (at : ℤ) → len ≤ length in
 stamped-len into len at fits = length-map (take len into) (λ b. (b, at)) ∙ length-take-le len into fits
 
 pub ready-fed : (feed feed' : InletState) (reader reader' : Reader) (xs : List ℕ) (at : ℤ) (len : ℕ) → IsReady feed reader → reader'.framer ≡ with_bytes' reader.framer (stamped xs at)
-    → IsTimely at → length (stamped xs at) ≡ len → feed'.from ≡ feed.from → feed'.place ≡ feed.place + len → feed'.place < 2 ^ 63 → reader'.from ≡ reader.from
+    → IsTimely at → length (stamped xs at) ≡ len → feed'.from ≡ feed.from → feed'.place ≡ feed.place + len → feed'.place < 2 ^ 63 → feed'.hung ≡ false → reader'.from ≡ reader.from
     → reader'.ended ≡ false → IsReady feed' reader'
-ready-fed feed feed' reader reader' xs at len h f-is timely len-is from place range from' going = record {
+ready-fed feed feed' reader reader' xs at len h f-is timely len-is from place range unhung from' going = record {
   kind = ap (λ x. x.kind) f-is ∙ h.kind;
   limit = ap (λ x. x.limit) f-is ∙ h.limit;
   from = from' ∙ h.from ∙ sym from;
@@ -337,30 +338,34 @@ ready-fed feed feed' reader reader' xs at len h f-is timely len-is from place ra
   in_range = range;
   timely = (let P : List Stamped → Type 0 = λ bytes. AreTimely bytes in
       subst P (sym (ap (λ x. x.held) f-is)) (timely-append reader.framer.held (stamped xs at) h.timely (timely-stamped xs at timely)));
+  unhung = unhung;
   over = (λ e. absurd (let g : true ≡ false = sym e ∙ going in cc));
 }
 
 pub ready-part : (feed feed' : InletState) (reader reader' : Reader) → IsReady feed reader → reader'.framer ≡ fresh reader.framer.kind reader.framer.limit
-    → feed'.from ≡ feed.from → feed'.place ≡ feed.from → reader'.from ≡ reader.from → reader'.ended ≡ false → IsReady feed' reader'
-ready-part feed feed' reader reader' h f-is from place from' going = record {
+    → feed'.from ≡ feed.from → feed'.place ≡ feed.from → feed'.hung ≡ false → reader'.from ≡ reader.from → reader'.ended ≡ false → IsReady feed' reader'
+ready-part feed feed' reader reader' h f-is from place unhung from' going = record {
   kind = ap (λ x. x.kind) f-is ∙ h.kind;
   limit = ap (λ x. x.limit) f-is ∙ h.limit;
   from = from' ∙ h.from ∙ sym from;
   place = (let none : fed reader'.framer ≡ 0 = ap fed f-is in omega arith);
   in_range = (let old : feed.from + fed reader.framer ≡ feed.place = h.place in omega (arith, h.in_range));
   timely = (let P : List Stamped → Type 0 = λ bytes. AreTimely bytes in let e : [] ≡ reader'.framer.held = sym (ap (λ x. x.held) f-is) in subst P e tt);
+  unhung = unhung;
   over = (λ e. absurd (let g : true ≡ false = sym e ∙ going in cc));
 }
 
 pub ready-same : (feed feed' : InletState) (reader reader' : Reader) → IsReady feed reader → reader'.framer ≡ reader.framer
-    → feed'.from ≡ feed.from → feed'.place ≡ feed.place → reader'.from ≡ reader.from → (reader'.ended ≡ true → feed'.ended ≡ true) → IsReady feed' reader'
-ready-same feed feed' reader reader' h f-is from place from' over = record {
+    → feed'.from ≡ feed.from → feed'.place ≡ feed.place → feed'.hung ≡ feed.hung → reader'.from ≡ reader.from → (reader'.ended ≡ true → (feed'.ended ≡ true) × IsDrained feed'.left)
+    → IsReady feed' reader'
+ready-same feed feed' reader reader' h f-is from place hung from' over = record {
   kind = ap (λ x. x.kind) f-is ∙ h.kind;
   limit = ap (λ x. x.limit) f-is ∙ h.limit;
   from = from' ∙ h.from ∙ sym from;
   place = (let same : fed reader'.framer ≡ fed reader.framer = ap fed f-is in let old : feed.from + fed reader.framer ≡ feed.place = h.place in omega arith);
   in_range = omega (arith, h.in_range);
   timely = (let P : List Stamped → Type 0 = λ bytes. AreTimely bytes in subst P (sym (ap (λ x. x.held) f-is)) h.timely);
+  unhung = hung ∙ h.unhung;
   over = over;
 }
 
@@ -374,5 +379,6 @@ ready-taken feed reader reader' item h gives from ended = record {
   in_range = h.in_range;
   timely = (let P : List Stamped → Type 0 = λ bytes. AreTimely bytes in
       subst P (sym (ap (λ x. x.held) gives.rest)) (timely-drop (item.end - reader.framer.place) reader.framer.held h.timely));
+  unhung = h.unhung;
   over = (λ e. h.over (sym ended ∙ e));
 }

@@ -25,8 +25,8 @@ use Rattle.sg_engine.specs.Path.{path_setup, offers_of, frame_of}
 use Rattle.sg_engine.specs.Delivery.{AreFirst}
 use Rattle.sg_engine.specs.History.{Stands, opening_in, mark_now, stored_now}
 use Rattle.sg_engine.specs.Reading.{Reads, IsReady}
-use Rattle.sg_engine.specs.Serving.{GoesOn, StoreRose}
-use Rattle.sg_engine.specs.Turns.{Run, run, inlet_progress, core_progress, progress, HasWorked, Runs, Stopped, BlamesStore, BlamesInlet, Steps, Stops, RunsOn, ReadsOn, IsMemory, Admits}
+use Rattle.sg_engine.specs.Serving.{GoesOn, HasWorked, StoreRose}
+use Rattle.sg_engine.specs.Turns.{Run, run, inlet_progress, core_progress, progress, Runs, Stopped, BlamesStore, BlamesInlet, Steps, Stops, RunsOn, ReadsOn, IsMemory, Admits}
 use Rattle.sg_engine.specs.declared.reader.Reader.{Reader}
 use Rattle.sg_engine.specs.declared.rounds.Stop.{Stop}
 use Rattle.sg_engine.specs.declared.rounds.Stop.TheVariants.{InletFailed, OutletFailed, StoreFailed, NoMemory}
@@ -110,6 +110,7 @@ stops-core stop core core' feed reader reader' taken does ready blames = λ begi
           first = reads-first feed reader.framer done ready.kind ready.limit r.reads;
           opening = m.opening ∙ r.opening;
           goes = w.goes;
+          works = w.works;
           blames = blames begin w;
         },
       ),
@@ -141,6 +142,7 @@ stops-here stop core feed feed' reader reader' taken first blames = λ begin lea
           first = first done r.reads;
           opening = r.opening;
           goes = r.goes;
+          works = r.works;
           blames = blames begin;
         },
       ),

@@ -185,10 +185,10 @@ all-go-then a b c h k = record {
 }
 
 pub calls-same : (a : CoreState) (n : ℕ) → setup_of a ≡ path_setup → Calls a a n
-calls-same a n setup = record { setup = setup; calls = omega arith; stores = all-go-same a.stores }
+calls-same a n setup = record { setup = setup; calls = omega arith; later = omega arith; stores = all-go-same a.stores }
 
 pub calls-then : (a b c : CoreState) (n m k : ℕ) → n + m ≤ k → Calls a b n → Calls b c m → Calls a c k
-calls-then a b c n m k le h g = record { setup = g.setup; calls = omega (arith, h.calls, g.calls); stores = all-go-then a.stores b.stores c.stores h.stores g.stores }
+calls-then a b c n m k le h g = record { setup = g.setup; calls = omega (arith, h.calls, g.calls); later = omega (arith, h.later, g.later); stores = all-go-then a.stores b.stores c.stores h.stores g.stores }
 
 -- some bytes stay behind a write into a buffer that isn't empty
 pub take-some : (n : ℕ) (xs ys : List ℕ) → 0 < n → 0 < length xs → 0 < length (take n (xs ++ ys))

@@ -33,8 +33,8 @@ use Rattle.sg_core.specs.Sinks.{first_at}
 use Rattle.sg_core.specs.Standing.{waiting_at, waiting_from, ends_of, StandsFor, Does, IsAt, setup_of}
 use Rattle.sg_engine.specs.Path.{path_setup, message_of, offers_by, offers_of, frame_of, frames_by, frames}
 use Rattle.sg_engine.specs.History.{Admitted, admitted_by, admitted, admit_of, end_of, settled_in, left_in, entry_frames, settled_frames, kept_frames, IsTaken, Stands, opening_in, mark_now, stored_now, begun_now, settled_now}
-use Rattle.sg_engine.specs.Serving.{GoesOn}
-use Rattle.sg_engine.specs.Turns.{HasWorked, one_if, core_progress}
+use Rattle.sg_engine.specs.Serving.{GoesOn, HasWorked}
+use Rattle.sg_engine.specs.Turns.{one_if, core_progress}
 use Rattle.sg_engine.proofs.PathLemmas.{frame-of, frames-push, entry_frames-append}
 use Rattle.sg_engine.proofs.StateLemmas.{goes-then, made, Shape, shape, Held, at-begun, at-settled, at-opening, at-mark, at-first, at-store, at-stored}
 
@@ -80,19 +80,24 @@ opened start events done core taken h =
       sent = subst P (ap settled_frames s.is) h.sent;
     }
 
+-- a call is counted as one event
+counted-push : (old new : CoreState) (events : List Event) (e : Event) → old.calls ≡ length events → new.calls ≡ old.calls + 1 → new.calls ≡ length (events ++ e ∷ [])
+counted-push old new events e was does = omega (arith, was, does, length-append events (e ∷ []))
+
 -- one event more
 closed : (start : State) (events : List Event) (e : Event) (done : List Record) (core : CoreState) (taken : Option (List (List ℕ))) (state : State) (inlet : Inlet) (dest : Dest) (failed : List ℕ)
-    → StandsFor core start (events ++ e ∷ []) → setup_of core ≡ path_setup → length core.stores ≡ 1 → admitted (events ++ e ∷ []) ≡ map admit_of done
+    → StandsFor core start (events ++ e ∷ []) → setup_of core ≡ path_setup → length core.stores ≡ 1 → core.calls ≡ length (events ++ e ∷ []) → admitted (events ++ e ∷ []) ≡ map admit_of done
     → after_all start events ≡ state → after state e ≡ made inlet dest failed
     → inlet.ends ≡ map end_of done → entry_frames (dest.settled ++ dest.left) ≡ frames done → IsTaken taken (entry_frames dest.settled)
     → Stands start (events ++ e ∷ []) done core taken
-closed start events e done core taken state inlet dest failed stands setup one admits was is ends kept sent =
+closed start events e done core taken state inlet dest failed stands setup one counted admits was is ends kept sent =
     let now : after_all start (events ++ e ∷ []) ≡ made inlet dest failed = after_all-append start events (e ∷ []) ∙ ap (λ s. after s e) was ∙ is in
     let P : List (List ℕ) → Type 0 = λ fs. IsTaken taken fs in
     record {
       stands = stands;
       setup = setup;
       one = one;
+      counted = counted;
       admitted = admits;
       ends = ap (λ t. ends_of t.inlets 0) now ∙ ends;
       kept = ap kept_frames now ∙ kept;
@@ -126,7 +131,7 @@ look-moves start events done old new taken does h =
     let at = (does.step (made o.inlet o.dest o.failed) o.at).1 in
     let failed = o.failed ++ does.failed in
     record {
-      stands = closed start events e done new taken (made o.inlet o.dest o.failed) o.inlet o.dest failed (does.stands start events h.stands) (does.setup ∙ h.setup) (does.goes.count ∙ h.one)
+      stands = closed start events e done new taken (made o.inlet o.dest o.failed) o.inlet o.dest failed (does.stands start events h.stands) (does.setup ∙ h.setup) (does.goes.count ∙ h.one) (counted-push old new events e h.counted does.calls)
           (admitted-push events e ∙ append-nil (admitted events) ∙ h.admitted) o.is refl o.ends o.kept o.sent;
       opening = at-opening new o.inlet o.dest failed at ∙ sym (at-opening old o.inlet o.dest o.failed o.at);
       progress = (let same : core_progress new ≡ core_progress old = progress-same old new
@@ -165,7 +170,7 @@ store-moves start events done old new taken w does h is differs =
     let failed = o.failed ++ does.failed in
     let inlet = stored_at w o.inlet in
     record {
-      stands = closed start events e done new taken (made o.inlet o.dest o.failed) inlet o.dest failed (does.stands start events h.stands) (does.setup ∙ h.setup) (does.goes.count ∙ h.one)
+      stands = closed start events e done new taken (made o.inlet o.dest o.failed) inlet o.dest failed (does.stands start events h.stands) (does.setup ∙ h.setup) (does.goes.count ∙ h.one) (counted-push old new events e h.counted does.calls)
           (admitted-push events e ∙ append-nil (admitted events) ∙ h.admitted) o.is refl o.ends o.kept o.sent;
       opening = at-opening new inlet o.dest failed at ∙ sym (at-opening old o.inlet o.dest o.failed o.at);
       progress = (let begun : begun_now new ≡ begun_now old = at-begun new inlet o.dest failed at ∙ sym (at-begun old o.inlet o.dest o.failed o.at) in
@@ -217,7 +222,7 @@ settle-moves start events done old new taken taken' message does h front more =
     ∙ ap (λ q. option_map (λ (q : Waiting). q.message) q) (sym (at-first old o.inlet o.dest o.failed o.at)) ∙ front in
     let same : f.entry.message ≡ message = cc in
     record {
-      stands = closed start events e done new taken' (made o.inlet o.dest o.failed) o.inlet dest failed (does.stands start events h.stands) (does.setup ∙ h.setup) (does.goes.count ∙ h.one)
+      stands = closed start events e done new taken' (made o.inlet o.dest o.failed) o.inlet dest failed (does.stands start events h.stands) (does.setup ∙ h.setup) (does.goes.count ∙ h.one) (counted-push old new events e h.counted does.calls)
           (admitted-push events e ∙ append-nil (admitted events) ∙ h.admitted) o.is now o.ends
           (ap entry_frames (append_assoc o.dest.settled (f.entry ∷ []) f.rest ∙ ap (λ l. o.dest.settled ++ l) (sym f.left)) ∙ o.kept)
           (taken-more taken taken' o.dest.settled f.rest f.entry message same o.sent more);
@@ -273,7 +278,7 @@ admit-moves start events done old new taken r verdicts does h =
     let now : after_act state act does.failed ≡ made inlet t.dest' failed = ap (λ ds. record { inlets = inlet ∷ []; dests = ds; failed = failed }) t.after in
     let at = subst (λ s. IsAt new s) now step.1 in
     record {
-      stands = closed start events e (done ++ r ∷ []) new taken state inlet t.dest' failed (does.stands start events h.stands) (does.setup ∙ h.setup) (does.goes.count ∙ h.one)
+      stands = closed start events e (done ++ r ∷ []) new taken state inlet t.dest' failed (does.stands start events h.stands) (does.setup ∙ h.setup) (does.goes.count ∙ h.one) (counted-push old new events e h.counted does.calls)
           (admitted-push events e ∙ ap (λ as'. as' ++ admit_of r ∷ []) h.admitted ∙ sym (map-append admit_of done (r ∷ []))) o.is now
           (ap (λ es. es ++ r.item.end ∷ []) o.ends ∙ sym (map-append end_of done (r ∷ [])))
           (entry_frames-append t.dest'.settled t.dest'.left ∙ ap (λ s. entry_frames s ++ entry_frames t.dest'.left) t.settled

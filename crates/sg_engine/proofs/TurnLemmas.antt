@@ -1,7 +1,8 @@
 -- What the turns of a round leave.
-use Rattle.std.proofs.Common.{◌≡◌, ◌≢◌, ℕ, ◌+◌, ◌<◌, ◌≤◌, List, [], ◌∷◌, ◌++◌, length, Some, None, Option, Bool, true, false, ◌||◌, refl, sym, ap, ◌∙◌, arith, subst, inl, inr, ◌⊎◌}
+use Rattle.std.proofs.Common.{◌≡◌, ◌≢◌, ℕ, zero, suc, ◌+◌, ◌<◌, ◌≤◌, List, [], ◌∷◌, ◌++◌, length, Some, None, Option, Bool, true, false, ◌||◌, refl, sym, ap, ◌∙◌, arith, subst, inl, inr, ◌⊎◌}
 use Rattle.std.specs.Prelude.{Result, Ok, Err, nat_lt, ◌==◌}
 use Rattle.std.specs.Option.{option_map, option_map_or}
+use Rattle.std.proofs.lemmas.List.{append-nil}
 use Rattle.sg_device.specs.Inlet.{InletState}
 use Rattle.sg_device.specs.Outlet.{OutletState}
 use Rattle.sg_frame.specs.Framing.{items_left}
@@ -15,7 +16,7 @@ use Rattle.sg_core.specs.Sinks.{first_at}
 use Rattle.sg_core.specs.Standing.{Does, IsAt}
 use Rattle.sg_engine.specs.Path.{frame_of}
 use Rattle.sg_engine.specs.Reading.{IsReady}
-use Rattle.sg_device.specs.Outlet.{Sends}
+use Rattle.sg_device.specs.Outlet.{Sends, TakesFirst}
 use Rattle.sg_device.specs.declared.fault.SendRefusal.{SendRefusal}
 use Rattle.sg_device.specs.declared.fault.SendRefusal.TheVariants.{Fault, NoMemory as SendNoMemory}
 use Rattle.sg_engine.specs.Turns.{Run, run, Steps, Stops, RunsOn, stop_of, TakesNone, PullsOn, HasNothing, ReadsNone, StoresMark, Rests, BlamesSource, SourceRests, SendsFrame, SendsNone, RoundRests, BlamesInlet, IsMemory}
@@ -115,6 +116,19 @@ sends-later (Err StoreFailed) core core' drain drain' h = absurd h
 sends-later (Err NoMemory) core core' drain drain' h = h
 
 -- A turn of the destination.
+
+-- the outlet failed, and took none of the one frame
+none-taken : (taken : Option (List (List ℕ))) → option_map (λ before. before ++ []) taken ≡ taken
+none-taken None = refl
+none-taken (Some frames) = ap (λ fs. Some fs) (append-nil frames)
+
+none-first : (k : ℕ) (old new : OutletState) (frame : List ℕ) → k < 1 → TakesFirst k (frame ∷ []) old new → new.taken ≡ old.taken
+none-first zero old new frame less takes = takes.taken ∙ none-taken old.taken
+none-first (suc k) old new frame less takes = absurd (omega arith)
+
+pub frame-refused : (refusal : SendRefusal) (old new : OutletState) (frame : List ℕ) → Sends old new (frame ∷ []) (Err refusal) → SendsFrame old new frame (Err (stop_of refusal))
+frame-refused Fault old new frame ((k, less, takes, failing), rose) = (none-first k old new frame less takes, takes.faults, rose)
+frame-refused SendNoMemory old new frame (k, less, takes, failing) = (none-first k old new frame less takes, takes.faults)
 
 -- a frame that wasn't taken
 pub frame-taken : (old new : OutletState) (frame : List ℕ) (stop : Stop) → SendsFrame old new frame (Err stop) → new.taken ≡ old.taken

@@ -1,6 +1,7 @@
 -- What an outlet has taken of what an inlet has given. Nothing is claimed where the inlet or the outlet doesn't tell.
-use Rattle.std.specs.Prelude.{◌≡◌, ℕ, List, [], ◌∷◌, ◌++◌, Option, Some, None}
-use Rattle.sg_device.specs.Inlet.{Part}
+use Rattle.std.specs.Prelude.{◌≡◌, ℕ, List, [], ◌∷◌, ◌++◌, map, Option, Some, None, IfSome}
+use Rattle.std.specs.Option.{option_map}
+use Rattle.sg_device.specs.Inlet.{Stamped, Part}
 use Rattle.sg_frame.specs.declared.kind.FrameKind.TheVariants.{Lines}
 use Rattle.sg_frame.specs.Records.{Record, records}
 use Rattle.sg_engine.specs.Path.{frames}
@@ -30,6 +31,20 @@ abbrev pub TookAll : ℕ → Option (List Part) → Option (List (List ℕ)) →
 TookAll from None taken = Unit {0}
 TookAll from (Some parts) None = Unit {0}
 TookAll from (Some parts) (Some taken) = taken ≡ frames (line_records from parts)
+
+-- the bytes that the parts hold, in order
+abbrev pub bytes_in : List Part → List ℕ
+bytes_in [] = []
+bytes_in (part ∷ parts) = map (λ (b : Stamped). b.0) part.given ++ bytes_in parts
+
+-- What a file had left at first: the bytes that were given, followed by those that are left.
+abbrev pub AreOf : Option (List ℕ) → Option (List Part) → Option (List ℕ) → Type 0
+AreOf first None left = Unit {0}
+AreOf first (Some parts) left = first ≡ option_map (λ rest. bytes_in parts ++ rest) left
+
+-- the file has no byte left
+abbrev pub IsDrained : Option (List ℕ) → Type 0
+IsDrained left = IfSome left (λ rest. rest ≡ [])
 
 -- the place behind the last of these records, this place where there is none
 abbrev pub last_end : ℕ → List Record → ℕ

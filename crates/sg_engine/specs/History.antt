@@ -75,6 +75,8 @@ pub record Stands (start : State) (events : List Event) (done : List Record) (co
   pub setup : setup_of core ≡ path_setup
   -- no store but that of the source
   pub one : length core.stores ≡ 1
+  -- each call on the core that may change it is an event
+  pub counted : core.calls ≡ length events
   pub admitted : admitted events ≡ map admit_of done
   -- they are all records that the source ever began
   pub ends : ends_of (after_all start events).inlets 0 ≡ map end_of done

@@ -1,11 +1,11 @@
 -- What the reader of an inlet has read: the records that were taken from it, and the bytes behind them.
-use Rattle.std.specs.Prelude.{◌≡◌, ◌≤◌, ◌<◌, ℕ, ℤ, pos, ◌≤ℤ◌, ◌+◌, ◌^◌, Bool, true, List, [], ◌∷◌, ◌++◌, length, map, Option, Some, None}
+use Rattle.std.specs.Prelude.{◌≡◌, ◌≤◌, ◌<◌, ℕ, ℤ, pos, ◌≤ℤ◌, ◌+◌, ◌^◌, Bool, true, false, List, [], ◌∷◌, ◌++◌, length, map, Option, Some, None}
 use Rattle.sg_device.specs.Inlet.{Stamped, Part, InletState}
 use Rattle.sg_frame.specs.declared.kind.FrameKind.TheVariants.{Lines}
 use Rattle.sg_frame.specs.Items.{Item}
 use Rattle.sg_frame.specs.Framing.{Framing, HasFramed, fed}
 use Rattle.sg_frame.specs.Records.{Record, record_of}
-use Rattle.sg_engine.specs.Delivery.{line_records}
+use Rattle.sg_engine.specs.Delivery.{line_records, IsDrained}
 use Rattle.sg_engine.specs.declared.reader.Reader.{Reader}
 
 -- the parts before the last one
@@ -58,4 +58,6 @@ pub record IsReady (feed : InletState) (reader : Reader) : Type 0 where
   pub place : feed.from + fed reader.framer ≡ feed.place
   pub in_range : feed.place < 2 ^ 63
   pub timely : AreTimely reader.framer.held
-  pub over : reader.ended ≡ true → feed.ended ≡ true
+  -- no part was hung up, so at its end the inlet has nothing left
+  pub unhung : feed.hung ≡ false
+  pub over : reader.ended ≡ true → (feed.ended ≡ true) × IsDrained feed.left

@@ -1,14 +1,14 @@
 -- What a run of rounds does.
-use Rattle.std.specs.Prelude.{◌≡◌, ◌≤◌, ◌<◌, ℕ, ◌+◌, ◌*◌, true, false, Option, Some, None, List, ◌++◌, slice_get}
+use Rattle.std.specs.Prelude.{◌≡◌, ◌⊎◌, ◌≤◌, ◌<◌, ℕ, ◌+◌, ◌*◌, true, false, Option, Some, None, List, ◌++◌, length, slice_get}
 use Rattle.sg_device.specs.Faults.{Rose}
-use Rattle.sg_device.specs.Inlet.{InletState}
+use Rattle.sg_device.specs.Inlet.{InletState, Advances}
 use Rattle.sg_device.specs.Outlet.{OutletState}
 use Rattle.sg_frame.specs.Records.{Record}
 use Rattle.sg_machine.specs.declared.event.Event.{Event}
 use Rattle.sg_machine.specs.declared.state.State.{State}
 use Rattle.sg_core.specs.States.{CoreState}
 use Rattle.sg_core.specs.Stores.{StoreState, Goes}
-use Rattle.sg_engine.specs.Delivery.{AreFirst, AreAll, TookFirst, TookAll, last_end}
+use Rattle.sg_engine.specs.Delivery.{AreFirst, AreAll, TookFirst, TookAll, AreOf, IsDrained, last_end}
 use Rattle.sg_engine.specs.History.{admitted, offer_count, Stands, opening_in, mark_now, stored_now}
 use Rattle.sg_engine.specs.declared.rounds.Ended.{Ended}
 use Rattle.sg_engine.specs.declared.rounds.Ended.TheVariants.{Quiet, RoundsSpent, InletFailed, OutletFailed, StoreFailed, NoMemory}
@@ -23,9 +23,9 @@ HasFailed feed feed' drain drain' StoreFailed = Unit {0}
 HasFailed feed feed' drain drain' NoMemory = Unit {0}
 
 pub record Blames (feed feed' : InletState) (drain drain' : OutletState) (ended : Ended) : Type 0 where
-  -- the place where reading began stays
-  pub from : feed'.from ≡ feed.from
-  pub feed_later : feed.faults ≤ feed'.faults
+  pub advances : Advances feed feed'
+  -- what the file had left was given, or is left
+  pub given : AreOf feed.left feed'.told feed'.left
   pub drain_later : drain.faults ≤ drain'.faults
   pub failed : HasFailed feed feed' drain drain' ended
 
@@ -41,23 +41,34 @@ StoreRose None new = ⊥
 StoreRose (Some old) None = ⊥
 StoreRose (Some old) (Some new) = old.failed ≡ false → Rose old.disk.faults new.disk.faults
 
--- The last round was quiet: the inlet has ended, every record of it was admitted, every frame was taken, and the stored position is
+-- no call on the store failed, or its count rose since it was as it was first
+abbrev pub HasWorked : Option StoreState → Option StoreState → Type 0
+HasWorked None now = ⊥
+HasWorked (Some first) None = ⊥
+HasWorked (Some first) (Some now) = first.failed ≡ false → (now.failed ≡ false) ⊎ Rose first.disk.faults now.disk.faults
+
+-- The last round was quiet: the inlet has ended and has nothing left, every record of it was admitted, every frame was taken, and the stored position is
 -- the mark, which is the end of the last record.
 pub record IsQuiet (old new : CoreState) (done : List Record) (feed : InletState) (drain : OutletState) (rounds : ℕ) : Type 0 where
   pub ended : feed.ended ≡ true
+  pub drained : IsDrained feed.left
   pub all : AreAll feed.from feed.told done
   pub took : TookAll feed.from feed.told drain.taken
   pub stored : stored_now new ≡ last_end (opening_in old) done
   pub mark : mark_now new ≡ last_end (opening_in old) done
   pub pulls : feed.pulls < rounds
 
--- All rounds were run, each of which moved something: there were not many more than bytes, parts, offers and idle pulls.
+-- So many rounds were run: each makes two calls on the core at least, to store the position and to ask for the first entry.
+abbrev pub WereRun : List Event → ℕ → Type 0
+WereRun more rounds = 2 * rounds ≤ length more
+
+-- Each of the rounds moved something: there were not many more than bytes, parts, offers and idle pulls.
 abbrev pub AreFew : List Event → InletState → ℕ → Type 0
 AreFew more feed rounds = rounds < 4 * (1 + feed.bytes + feed.parts + 1 + offer_count (admitted more)) + feed.idles
 
 abbrev pub Concludes : CoreState → CoreState → List Event → List Record → InletState → OutletState → ℕ → Ended → Type 0
 Concludes old new more done feed drain rounds Quiet = IsQuiet old new done feed drain rounds
-Concludes old new more done feed drain rounds RoundsSpent = AreFew more feed rounds
+Concludes old new more done feed drain rounds RoundsSpent = WereRun more rounds × AreFew more feed rounds
 Concludes old new more done feed drain rounds InletFailed = Unit {0}
 Concludes old new more done feed drain rounds OutletFailed = Unit {0}
 Concludes old new more done feed drain rounds StoreFailed = StoreRose (slice_get old.stores 0) (slice_get new.stores 0)
@@ -72,6 +83,7 @@ pub record ServesWith (start : State) (events : List Event) (old new : CoreState
   pub pulls : feed.pulls ≤ rounds
   pub opening : opening_in new ≡ opening_in old
   pub goes : GoesOn (slice_get old.stores 0) (slice_get new.stores 0)
+  pub works : HasWorked (slice_get old.stores 0) (slice_get new.stores 0)
   pub concludes : Concludes old new more done feed drain rounds ended
 
 abbrev pub Serves : State → List Event → CoreState → CoreState → InletState → OutletState → ℕ → Ended → Type 0

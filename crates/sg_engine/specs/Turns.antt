@@ -1,10 +1,9 @@
 -- What the steps of a turn do to a run.
-use Rattle.std.specs.Prelude.{◌≡◌, ◌≤◌, ◌<◌, ◌⊎◌, ℕ, ◌+◌, ◌*◌, ◌==◌, Bool, true, false, Option, Some, None, Result, Ok, Err, List, [], ◌∷◌, ◌++◌, slice_get}
+use Rattle.std.specs.Prelude.{◌≡◌, ◌≤◌, ◌⊎◌, ℕ, ◌+◌, ◌*◌, ◌==◌, Bool, true, false, Option, Some, None, Result, Ok, Err, List, [], ◌∷◌, ◌++◌, slice_get}
 use Rattle.sg_device.specs.Faults.{Rose}
-use Rattle.sg_device.specs.Inlet.{InletState}
+use Rattle.sg_device.specs.Inlet.{InletState, Advances}
 use Rattle.sg_device.specs.Outlet.{OutletState}
 use Rattle.std.specs.Option.{option_map}
-use Rattle.sg_device.specs.declared.outlet.Taken.{Taken}
 use Rattle.sg_device.specs.declared.fault.SendRefusal.{SendRefusal}
 use Rattle.sg_device.specs.declared.fault.SendRefusal.TheVariants.{Fault, NoMemory as SendNoMemory}
 use Rattle.sg_frame.specs.Framing.{items_left}
@@ -20,10 +19,10 @@ use Rattle.sg_core.specs.Sources.{credit_at}
 use Rattle.sg_core.specs.Sinks.{first_at}
 use Rattle.sg_core.specs.Standing.{AllGo, Does, IsAt, setup_of}
 use Rattle.sg_engine.specs.Path.{path_setup}
-use Rattle.sg_engine.specs.Delivery.{AreFirst}
+use Rattle.sg_engine.specs.Delivery.{AreFirst, AreOf}
 use Rattle.sg_engine.specs.History.{Stands, opening_in, mark_now, stored_now, begun_now, settled_now}
 use Rattle.sg_engine.specs.Reading.{Reads, IsReady}
-use Rattle.sg_engine.specs.Serving.{GoesOn, StoreRose}
+use Rattle.sg_engine.specs.Serving.{GoesOn, HasWorked, StoreRose}
 use Rattle.sg_engine.specs.declared.reader.Reader.{Reader}
 use Rattle.sg_engine.specs.declared.rounds.Stop.{Stop}
 use Rattle.sg_engine.specs.declared.rounds.Stop.TheVariants.{InletFailed, OutletFailed, StoreFailed, NoMemory}
@@ -67,12 +66,6 @@ core_progress core = 2 * begun_now core + 2 * settled_now core + one_if (stored_
 abbrev pub progress : Run → ℕ
 progress r = inlet_progress r.feed r.reader.ended + core_progress r.core
 
--- no call on the store failed, or its count rose since it was as it was first
-abbrev pub HasWorked : Option StoreState → Option StoreState → Type 0
-HasWorked None now = ⊥
-HasWorked (Some first) None = ⊥
-HasWorked (Some first) (Some now) = first.failed ≡ false → (now.failed ≡ false) ⊎ Rose first.disk.faults now.disk.faults
-
 -- a run that began with this core, and has come so far at least
 pub record Runs (begin : CoreState) (least : ℕ) (r : Run) (start : State) (events : List Event) (done : List Record) : Type 0 where
   pub stands : Stands start events done r.core r.taken
@@ -95,6 +88,7 @@ pub record Stopped (begin : CoreState) (stop : Stop) (r : Run) (start : State) (
   pub first : AreFirst r.feed.from r.feed.told done
   pub opening : opening_in r.core ≡ opening_in begin
   pub goes : GoesOn (slice_get begin.stores 0) (slice_get r.core.stores 0)
+  pub works : HasWorked (slice_get begin.stores 0) (slice_get r.core.stores 0)
   pub blames : BlamesStore stop begin r.core
 
 -- From the one to the other the run goes on by more events, to more records, and by so much at least.
@@ -119,6 +113,7 @@ RunsOn a b (Err stop) = Stops stop a b
 pub record Calls (old new : CoreState) (most : ℕ) : Type 0 where
   pub setup : setup_of new ≡ path_setup
   pub calls : new.calls ≤ old.calls + most
+  pub later : old.calls ≤ new.calls
   pub stores : AllGo old.stores new.stores
 
 -- memory ran out
@@ -146,11 +141,12 @@ TakesNone core core' reader reader' most (Ok false) =
     (core' ≡ core) × (reader' ≡ reader) × ((most ≡ 0) ⊎ ((credit_at core.sources 0 ≡ 0) ⊎ (items_left reader.framer ≡ [])))
 TakesNone core core' reader reader' most (Err stop) = IsMemory stop
 
--- one pull at most, and counts of faults that don't fall; reading began where it began
+-- one pull at most
 pub record PullsOnce (old new : InletState) : Type 0 where
-  pub from : new.from ≡ old.from
+  pub advances : Advances old new
   pub pulls : new.pulls ≤ old.pulls + 1
-  pub faults : old.faults ≤ new.faults
+  -- what a file had left at first was given since, or is left
+  pub given : (first : Option (List ℕ)) → AreOf first old.told old.left → AreOf first new.told new.left
 
 -- the inlet failed, or memory ran out
 abbrev pub BlamesInlet : InletState → InletState → Stop → Type 0
@@ -215,8 +211,8 @@ SendsNone core core' drain drain' (Err StoreFailed) = ⊥
 SendsNone core core' drain drain' (Err NoMemory) = drain.faults ≤ drain'.faults
 
 -- the frame was taken, or nothing was
-abbrev pub SendsFrame : OutletState → OutletState → List ℕ → Result Taken Stop → Type 0
-SendsFrame old new frame (Ok taken) = (new.taken ≡ option_map (λ frames'. frames' ++ frame ∷ []) old.taken) × (old.faults ≤ new.faults)
+abbrev pub SendsFrame : OutletState → OutletState → List ℕ → Result Unit Stop → Type 0
+SendsFrame old new frame (Ok done) = (new.taken ≡ option_map (λ frames'. frames' ++ frame ∷ []) old.taken) × (old.faults ≤ new.faults)
 SendsFrame old new frame (Err InletFailed) = ⊥
 SendsFrame old new frame (Err OutletFailed) = (new.taken ≡ old.taken) × (old.faults ≤ new.faults) × Rose old.faults new.faults
 SendsFrame old new frame (Err StoreFailed) = ⊥

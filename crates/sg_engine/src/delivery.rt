@@ -1,5 +1,5 @@
 // A turn of the destination: entries from the core to the outlet.
-ghost use Rattle.std.specs.Prelude.{◌≡◌, ◌<◌, ◌+◌, ◌^◌};
+ghost use Rattle.std.specs.Prelude.{◌≡◌, ◌≤◌, ◌<◌, ◌+◌, ◌^◌, OnOk};
 ghost use Rattle.sg_device.specs.Inlet.{InletState};
 ghost use Rattle.sg_core.specs.Standing.{setup_of};
 ghost use Rattle.sg_engine.specs.Path.{path_setup, frame_of};
@@ -8,34 +8,34 @@ ghost use Rattle.sg_engine.specs.Turns.{run, RunsOn, Calls, SendsFrame, SendsNon
 ghost use Rattle.sg_engine.specs.declared.reader.Reader.{Reader as AReader};
 
 use crate::format::Format;
+use crate::outgoing::Outgoing;
 use crate::rounds::Stop;
 use sg_core::{Core, CoreFront, Settled};
-use sg_device::{Disk, NoMemory, Outlet, Taken};
+use sg_device::{Disk, NoMemory, Outlet};
 use sg_msg::Message;
 
 /// How many entries a turn sends at most.
 const SENDS: u64 = 100;
 
-/// Sends the message's frame, which is made in `line`.
+/// Sends the message's frame.
 fn send_frame<O: Outlet>(
     message: &Message,
     format: &Format,
-    line: &mut Vec<u8>,
+    outgoing: &mut Outgoing,
     drain: &mut O,
-) -> Result<Taken, Stop>
+) -> Result<(), Stop>
     ensures { SendsFrame (O.state drain.old) (O.state drain.new) (frame_of message.now) result }
 {
-    line.clear();
-    format.append(message, line)?;
-    let taken = drain.send(line)?;
-    Ok(taken)
+    outgoing.hold(message, format)?;
+    drain.send(&outgoing.frames)?;
+    Ok(())
 }
 
 /// Sends the first entry that is left and settles it, and tells whether there was one.
 fn send_first<D: Disk, O: Outlet>(
     core: &mut Core<D>,
     format: &Format,
-    line: &mut Vec<u8>,
+    outgoing: &mut Outgoing,
     drain: &mut O,
 ) -> Result<bool, Stop>
     requires setup { setup_of core.old ≡ path_setup }
@@ -43,11 +43,12 @@ fn send_first<D: Disk, O: Outlet>(
     ensures runs { (feed : InletState) (reader : AReader) → IsReady feed reader → RunsOn (run core.old feed reader (O.state drain.old).taken) (run core.new feed reader (O.state drain.new).taken) result }
     ensures none { SendsNone core.old core.new (O.state drain.old) (O.state drain.new) result }
     ensures calls { Calls core.old core.new 2 }
+    ensures asks { OnOk result (core.old.calls + 1 ≤ core.new.calls) }
 {
     match core.front(0)? {
         CoreFront::Entry { place, message } => {
-            let taken = send_frame(&message, format, line, drain)?;
-            match core.settle(0, place, taken) {
+            send_frame(&message, format, outgoing, drain)?;
+            match core.settle(0, place) {
                 Settled::Done => Ok(true),
                 Settled::NotFront => unreachable!(),
                 Settled::DiskFailed => unreachable!(),
@@ -62,7 +63,7 @@ fn send_first<D: Disk, O: Outlet>(
 pub(crate) fn take_destination_turn<D: Disk, O: Outlet>(
     core: &mut Core<D>,
     format: &Format,
-    line: &mut Vec<u8>,
+    outgoing: &mut Outgoing,
     drain: &mut O,
 ) -> Result<bool, Stop>
     requires setup { setup_of core.old ≡ path_setup }
@@ -70,9 +71,10 @@ pub(crate) fn take_destination_turn<D: Disk, O: Outlet>(
     ensures runs { (feed : InletState) (reader : AReader) → IsReady feed reader → RunsOn (run core.old feed reader (O.state drain.old).taken) (run core.new feed reader (O.state drain.new).taken) result }
     ensures none { SendsNone core.old core.new (O.state drain.old) (O.state drain.new) result }
     ensures calls { Calls core.old core.new 200 }
+    ensures asks { OnOk result (core.old.calls + 1 ≤ core.new.calls) }
 {
     for count in 0..SENDS {
-        if !send_first(core, format, line, drain)? {
+        if !send_first(core, format, outgoing, drain)? {
             return Ok(count > 0);
         }
     }

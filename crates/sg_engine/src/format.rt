@@ -1,6 +1,6 @@
 // What the destination writes for a message.
 ghost use Rattle.std.specs.Prelude.{◌≡◌, ◌++◌, IfOk, OnOk, Ok};
-ghost use Rattle.sg_template.specs.Reading.{parts_of};
+ghost use Rattle.sg_macro.specs.Reading.{parts_of};
 ghost use Rattle.sg_engine.specs.Path.{Writes, template_text, frame_of};
 
 use sg_device::NoMemory;
@@ -20,7 +20,7 @@ pub(crate) struct Format {
     ghost writes: { Writes shape },
 }
 
-#[tactic(auto, unfolding(sg_template::specs::Reading::parts_of, sg_template::specs::Macros::macro_of, sg_template::specs::Macros::macros, sg_template::specs::Macros::pair_name))]
+#[tactic(auto, unfolding(sg_macro::specs::Reading::parts_of, sg_macro::specs::Macros::macro_of, sg_macro::specs::Macros::macros, sg_macro::specs::Macros::pair_name))]
 fn read_template(alloc: Global) -> Result<Template, NoMemory>
     ensures { IfOk result (λ template. parts_of template_text ≡ Ok template) }
 {

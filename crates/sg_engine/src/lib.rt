@@ -3,6 +3,7 @@
 
 mod delivery;
 mod format;
+mod outgoing;
 mod path;
 mod reader;
 mod rounds;

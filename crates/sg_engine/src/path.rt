@@ -6,7 +6,7 @@ use bytes::Bytes;
 use sg_device::NoMemory;
 use sg_list::Seq;
 use sg_machine::{DestSetup, Setup, SourceSetup};
-use sg_msg::Offer;
+use sg_msg::{Offer, copied};
 use sg_r3164::{ReadOpts, read};
 use std::alloc::{AllocError, Global};
 
@@ -44,7 +44,8 @@ pub fn path_setup(alloc: Global) -> Result<Setup, NoMemory>
 }
 
 /// The offers of a record: of no text none, else one to the destination, with flow-control. `at` is the
-/// moment of the pull, in microseconds since 1970-01-01T00:00:00Z.
+/// moment of the pull, in microseconds since 1970-01-01T00:00:00Z. The message keeps a copy of the
+/// text, so that the block that was pulled is given back.
 pub(crate) fn route(
     alloc: Global,
     text: Bytes,
@@ -58,7 +59,9 @@ pub(crate) fn route(
     if text.is_empty() {
         return Ok(offers);
     }
-    let message = read(alloc, text, at, peer, &OPTS)?;
+    let text = copied(alloc, &text)?;
+    let peer = Bytes::copy_from_slice(alloc, peer)?;
+    let message = read(alloc, text, at, &peer, &OPTS)?;
     let offer = Offer {
         dest: 0,
         message,

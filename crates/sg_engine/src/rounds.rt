@@ -1,5 +1,5 @@
 // The rounds of a run.
-ghost use Rattle.std.specs.Prelude.{◌≡◌, ◌≤◌, ◌<◌, ◌+◌, ◌^◌, List, [], length};
+ghost use Rattle.std.specs.Prelude.{◌≡◌, ◌≤◌, ◌<◌, ◌+◌, ◌^◌, List, [], length, OnOk};
 ghost use Rattle.sg_device.specs.Inlet.{IsFresh};
 ghost use Rattle.sg_device.specs.Outlet.{IsNew};
 ghost use Rattle.sg_machine.specs.declared.event.Event.{Event};
@@ -14,6 +14,7 @@ ghost use Rattle.sg_engine.specs.Reading.{IsReady};
 
 use crate::delivery::take_destination_turn;
 use crate::format::Format;
+use crate::outgoing::Outgoing;
 use crate::reader::{Reader, make_buffer, make_reader};
 use crate::source::take_source_turn;
 use sg_core::Core;
@@ -83,7 +84,7 @@ fn run_round<D: Disk, I: Inlet, O: Outlet>(
     reader: &mut Reader,
     buffer: &mut [u8],
     format: &Format,
-    line: &mut Vec<u8>,
+    outgoing: &mut Outgoing,
 ) -> Result<bool, Stop>
     requires room { 0 < length buffer.old }
     requires setup { setup_of core.old ≡ path_setup }
@@ -95,9 +96,10 @@ fn run_round<D: Disk, I: Inlet, O: Outlet>(
     ensures pulls { PullsOnce (I.state feed.old) (I.state feed.new) }
     ensures drain { (O.state drain.old).faults ≤ (O.state drain.new).faults }
     ensures calls { Calls core.old core.new 401 }
+    ensures asks { OnOk result (core.old.calls + 2 ≤ core.new.calls) }
 {
     let read = take_source_turn(alloc, core, feed, reader, buffer)?;
-    let sent = take_destination_turn(core, format, line, drain)?;
+    let sent = take_destination_turn(core, format, outgoing, drain)?;
     if read {
         return Ok(true);
     }
@@ -136,7 +138,7 @@ pub fn serve<D: Disk, I: Inlet, O: Outlet>(
     let Ok(format) = Format::new(alloc) else {
         return Ended::NoMemory;
     };
-    let mut line = Vec::new(alloc);
+    let mut outgoing = Outgoing::new(alloc);
     for _round in 0..rounds {
         match run_round(
             alloc,
@@ -146,7 +148,7 @@ pub fn serve<D: Disk, I: Inlet, O: Outlet>(
             &mut reader,
             &mut buffer,
             &format,
-            &mut line,
+            &mut outgoing,
         ) {
             Ok(true) => {}
             Ok(false) => return Ended::Quiet,

@@ -171,6 +171,7 @@ fn store_mark<D: Disk>(core: &mut Core<D>) -> Result<bool, Stop>
     ensures runs { (feed : InletState) (reader : AReader) (taken : Option (List (List ℕ))) → IsReady feed reader → RunsOn (run core.old feed reader taken) (run core.new feed reader taken) result }
     ensures stores { StoresMark core.old core.new result }
     ensures calls { Calls core.old core.new 1 }
+    ensures asks { OnOk result (core.old.calls + 1 ≤ core.new.calls) }
 {
     match core.store(0) {
         Stored::Wrote(_) => Ok(true),
@@ -195,6 +196,7 @@ pub(crate) fn take_source_turn<D: Disk, I: Inlet>(
     ensures rests { SourceRests core.old core.new (I.state feed.old) (I.state feed.new) reader.old reader.new result }
     ensures pulls { PullsOnce (I.state feed.old) (I.state feed.new) }
     ensures calls { Calls core.old core.new 201 }
+    ensures asks { OnOk result (core.old.calls + 1 ≤ core.new.calls) }
 {
     let read = read_on(alloc, core, feed, reader, buffer)?;
     let wrote = store_mark(core)?;

@@ -1,52 +1,67 @@
--- What an `@include` does, from what its parts do.
-use Rattle.std.proofs.Common.{◌≡◌, ℕ, Bool, true, List, [], ◌∷◌, ◌++◌, Result, Ok, Err, inl, refl, ap, sym, ◌∙◌, subst}
+-- What a step does, from what its parts do.
+use Rattle.std.proofs.Common.{◌≡◌, ℕ, Bool, List, Result, Ok, Err, inl, refl, sym, subst}
 use Rattle.std.specs.Prelude.{Vec}
 use Rattle.std.specs.declared.alloc.Global.{Global}
-use Rattle.sg_device.specs.World.{WorldState, Reads}
+use Rattle.sg_outside.specs.World.{WorldState, Reads}
 use Rattle.sg_lex.specs.declared.token.Token.{Token}
+use Rattle.sg_block.specs.declared.token.Line.{Line}
 use Rattle.sg_expand.specs.declared.expander.Expander.{Expander}
 use Rattle.sg_expand.specs.declared.fault.Stop.{Stop}
 use Rattle.sg_expand.specs.declared.fault.Stop.TheVariants.{Fault, ReadFault, NoMemory}
 use Rattle.sg_expand.specs.declared.frame.Context.{Context}
-use Rattle.sg_expand.specs.declared.token.Line.{Line}
-use Rattle.sg_expand.specs.Expansion.{State, Step, Ends, Moves, Faults, Includes, Uses, file_context}
-use Rattle.sg_expand.specs.Machine.{DoesInclude, DoesStep, NamesFile, TakesFile, tokens_frame}
+use Rattle.sg_expand.specs.Expansion.{Step, Ends, Moves, Faults, Includes, Uses}
+use Rattle.sg_expand.specs.Machine.{Does, DoesInclude, DoesStep, NamesFile, TakesFile, state_of}
 
--- want of memory stops any step
-wants-memory : (step : Step) (context : Context) (fresh : Bool) (old : Expander) (world : WorldState) (new : Expander) → DoesStep step context fresh old world new world (Err NoMemory)
-wants-memory Ends context fresh old world new = (refl, tt)
-wants-memory (Moves again rest next) context fresh old world new = (refl, tt)
-wants-memory (Faults kind line) context fresh old world new = (refl, tt)
-wants-memory (Includes line name rest next) context fresh old world new = tt
-wants-memory (Uses line block given rest next) context fresh old world new = (refl, tt)
+-- want of memory is free
+pub does-free : (asked : Step) (context : Context) (old new : Expander) → Does asked context old new (Err NoMemory)
+does-free Ends context old new = tt
+does-free (Moves fresh rest next) context old new = tt
+does-free (Faults kind line) context old new = tt
+does-free (Includes line name rest next) context old new = tt
+does-free (Uses block given rest next) context old new = tt
+
+-- a step that reads nothing
+does-step : (asked : Step) (context : Context) (fresh : Bool) (old : Expander) (world : WorldState) (new : Expander) (result : Result Unit Stop)
+    → Does asked context old new result → DoesStep asked context fresh old world new world result
+does-step Ends context fresh old world new result does = (refl, does)
+does-step (Moves again rest next) context fresh old world new result does = (refl, does)
+does-step (Faults kind line) context fresh old world new result does = (refl, does)
+does-step (Includes line name rest next) context fresh old world new (Ok done) does = absurd does
+does-step (Includes line name rest next) context fresh old world new (Err (Fault fault)) does = absurd does
+does-step (Includes line name rest next) context fresh old world new (Err (ReadFault other)) does = absurd does
+does-step (Includes line name rest next) context fresh old world new (Err NoMemory) does = tt
+does-step (Uses block given rest next) context fresh old world new result does = (refl, does)
+
+-- the same of a step that is known to be another
+pub step-does : (asked asked' : Step) (context : Context) (fresh : Bool) (old : Expander) (world : WorldState) (new : Expander) (result : Result Unit Stop)
+    → asked ≡ asked' → Does asked' context old new result → DoesStep asked context fresh old world new world result
+step-does asked asked' context fresh old world new result e does = does-step asked context fresh old world new result (subst (λ (x : Step). Does x context old new result) (sym e) does)
 
 -- what is wrong with the name stops an `@include`
 pub name-stops : (step : Step) (context : Context) (fresh : Bool) (line : Line) (rest : List Token) (old : Expander) (world : WorldState) (new : Expander) (stop : Stop)
-    → NamesFile step line rest old world new (Err stop) → DoesStep step context fresh old world new world (Err stop)
+    → NamesFile step line rest old new (Err stop) → DoesStep step context fresh old world new world (Err stop)
 name-stops step context fresh line rest old world new (Fault fault) h =
     subst (λ (s : Step). DoesStep s context fresh old world new world (Err (Fault fault))) (sym h.1.1.0) (refl, h.1.1.1)
 name-stops step context fresh line rest old world new (ReadFault name) h = absurd h
-name-stops step context fresh line rest old world new NoMemory h = wants-memory step context fresh old world new
+name-stops step context fresh line rest old world new NoMemory h = does-step step context fresh old world new (Err NoMemory) (does-free step context old new)
 
 -- what a file that was read gives, over frames that are those before
-file-taken : (context : Context) (fresh : Bool) (line : Line) (name : List ℕ) (rest : List Token) (next : State) (old : Expander) (world : WorldState) (middle new : Expander) (world' : WorldState) (bytes : Vec ℕ Global) (result : Result Unit Stop)
-    → middle.frames.items ≡ old.frames.items → Reads world world' name 1048576 (Ok bytes) → TakesFile context fresh name rest next bytes.items middle world new world' line result
-    → DoesInclude context fresh line name rest next old world new world' result
-file-taken context fresh line name rest next old world middle new world' bytes (Ok done) same reads taken =
-    let grown = taken.1.1.1.1 ∙ ap (λ frames. frames ++ tokens_frame context fresh rest ∷ tokens_frame (file_context context) true taken.0 ∷ []) same in
-    inl (bytes, (reads, (taken.0, (taken.1.0, (taken.1.1.0, (taken.1.1.1.0, grown))))))
-file-taken context fresh line name rest next old world middle new world' bytes (Err (Fault fault)) same reads taken = inl (bytes, (reads, taken))
-file-taken context fresh line name rest next old world middle new world' bytes (Err (ReadFault other)) same reads taken = absurd taken
-file-taken context fresh line name rest next old world middle new world' bytes (Err NoMemory) same reads taken = tt
+file-taken : (context : Context) (fresh : Bool) (line : Line) (name : List ℕ) (rest : List Token) (old : Expander) (world : WorldState) (middle new : Expander) (world' : WorldState) (bytes : Vec ℕ Global) (result : Result Unit Stop)
+    → middle.frames.items ≡ old.frames.items → Reads world world' name 1048576 (Ok bytes) → TakesFile context fresh line name rest bytes.items middle new result
+    → DoesInclude context fresh line name rest (state_of middle) old world new world' result
+file-taken context fresh line name rest old world middle new world' bytes (Ok done) same reads taken = inl (bytes, (reads, (middle, (refl, (same, taken)))))
+file-taken context fresh line name rest old world middle new world' bytes (Err (Fault fault)) same reads taken = inl (bytes, (reads, (middle, (refl, (same, taken)))))
+file-taken context fresh line name rest old world middle new world' bytes (Err (ReadFault other)) same reads taken = absurd taken
+file-taken context fresh line name rest old world middle new world' bytes (Err NoMemory) same reads taken = tt
 
 -- an `@include` whose file was read and taken
-pub include-taken : (step : Step) (context : Context) (fresh : Bool) (line : Line) (name : List ℕ) (rest : List Token) (next : State) (old : Expander) (world : WorldState) (middle new : Expander) (world' : WorldState) (asked : List ℕ) (bytes : Vec ℕ Global) (text : List ℕ) (place : Line) (result : Result Unit Stop)
-    → (step ≡ Includes line name rest next) × (middle.frames.items ≡ old.frames.items) → asked ≡ name → Reads world world' asked 1048576 (Ok bytes) → text ≡ bytes.items → place ≡ line
-    → TakesFile context fresh name rest next text middle world new world' place result
+pub include-taken : (step : Step) (context : Context) (fresh : Bool) (line : Line) (name : List ℕ) (rest : List Token) (old : Expander) (world : WorldState) (middle new : Expander) (world' : WorldState) (asked : List ℕ) (bytes : Vec ℕ Global) (text : List ℕ) (place : Line) (result : Result Unit Stop)
+    → NamesFile step line rest old middle (Ok name) → asked ≡ name → Reads world world' asked 1048576 (Ok bytes) → text ≡ bytes.items → place ≡ line
+    → TakesFile context fresh place name rest text middle new result
     → DoesStep step context fresh old world new world' result
-include-taken step context fresh line name rest next old world middle new world' asked bytes text place result named called reads same stands taken =
+include-taken step context fresh line name rest old world middle new world' asked bytes text place result named called reads same stands taken =
     subst (λ (s : Step). DoesStep s context fresh old world new world' result) (sym named.0)
-    (file-taken context fresh line name rest next old world middle new world' bytes result named.1
+    (file-taken context fresh line name rest old world middle new world' bytes result named.1
     (subst (λ (xs : List ℕ). Reads world world' xs 1048576 (Ok bytes)) called reads)
-    (subst (λ (at : Line). TakesFile context fresh name rest next bytes.items middle world new world' at result) stands
-    (subst (λ (items : List ℕ). TakesFile context fresh name rest next items middle world new world' place result) same taken)))
+    (subst (λ (at : Line). TakesFile context fresh at name rest bytes.items middle new result) stands
+    (subst (λ (items : List ℕ). TakesFile context fresh place name rest items middle new result) same taken)))

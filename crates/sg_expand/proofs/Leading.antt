@@ -1,14 +1,17 @@
 -- What is done leads where the expansion goes.
-use Rattle.std.proofs.Common.{◌≡◌, ℕ, ◌+◌, ◌≤◌, Bool, true, false, List, [], ◌∷◌, ◌++◌, length, Some, Result, Ok, Err, refl, ap, sym, ◌∙◌, subst, inl, inr}
-use Rattle.std.specs.Prelude.{reverse, Vec, ◌⊎◌}
+use Rattle.std.proofs.Common.{◌≡◌, ℕ, Bool, true, false, List, [], ◌∷◌, ◌++◌, Result, Ok, Err, refl, ap, ◌∙◌, subst, inl, inr}
+use Rattle.std.specs.Prelude.{reverse, Vec}
 use Rattle.std.proofs.lemmas.List.{reverse-append}
 use Rattle.std.specs.FinMap as map
 use Rattle.std.specs.declared.alloc.Global.{Global}
-use Rattle.sg_device.specs.World.{WorldState, Reads}
-use Rattle.sg_lex.specs.Tokens.{tokens_of}
+use Rattle.sg_outside.specs.World.{WorldState, Reads}
 use Rattle.sg_lex.specs.declared.token.Token.{Token}
 use Rattle.sg_lex.specs.declared.fault.ConfigKind.TheVariants.{TooLong}
-use Rattle.sg_expand.specs.declared.argument.Argument.{Argument}
+use Rattle.sg_block.specs.Arguments.{bindings}
+use Rattle.sg_block.specs.Trimmed.{trimmed}
+use Rattle.sg_block.specs.Values.{Values}
+use Rattle.sg_block.specs.declared.argument.Argument.{Argument}
+use Rattle.sg_block.specs.declared.token.Line.{Line}
 use Rattle.sg_expand.specs.declared.block.Block.{Block}
 use Rattle.sg_expand.specs.declared.expander.Expander.{Expander}
 use Rattle.sg_expand.specs.declared.fault.Stop.{Stop}
@@ -18,20 +21,10 @@ use Rattle.sg_expand.specs.declared.frame.Context.{Context}
 use Rattle.sg_expand.specs.declared.frame.Frame.{Frame}
 use Rattle.sg_expand.specs.declared.frame.Frame.TheVariants.{Binds}
 use Rattle.sg_expand.specs.declared.frame.Wait.{Wait}
-use Rattle.sg_expand.specs.declared.token.Line.{Line}
-use Rattle.sg_expand.specs.Arguments.{bindings}
-use Rattle.sg_expand.specs.Expansion.{State, Outcome, Goes, Stops, Faulty, Step, Ends, Moves, Faults, Includes, Uses, Tokens, Binding, Runs, ends, moves, includes, included_stops, uses, use_stops, binds, value_stops, value_too_long, body_runs, step, body_context, file_context, with_file, with_total, for_value, behind_value, IsPassed}
+use Rattle.sg_expand.specs.Expansion.{State, Outcome, Goes, Stops, Step, Ends, Moves, Faults, Includes, Uses, Tokens, Binding, Runs, ends, moves, includes, included_stops, uses, use_stops, binds, value_stops, body_runs, step, body_context, file_context, file_tokens, with_file, with_out}
 use Rattle.sg_expand.specs.Faults.{fault_at}
 use Rattle.sg_expand.specs.Machine.{state_of, tokens_frame, Calls, call_of, DoesStep, DoesBind}
-use Rattle.sg_expand.specs.Pending.{Follows, RunsThen, job_of, BindsThen, Leads}
-use Rattle.sg_expand.specs.Tokens.{size_of}
-use Rattle.sg_expand.specs.Trimmed.{trimmed}
-use Rattle.sg_expand.specs.Values.{Values}
-use Rattle.sg_expand.proofs.Keeping.{keeps-at, value-stays}
-
--- what follows
-abbrev pub Later : Type 1
-Later = State → Outcome → Type 0
+use Rattle.sg_expand.specs.Pending.{Later, Follows, RunsThen, job_of, Leads}
 
 -- the frames with one more or two more, the first to be done first
 pub last-first : (frames before below : List Frame) (frame : Frame) → reverse before ≡ below → frames ≡ before ++ frame ∷ [] → reverse frames ≡ frame ∷ below
@@ -41,85 +34,76 @@ last-two : (frames before below : List Frame) (under frame : Frame) → reverse 
 last-two frames before below under frame r e = ap reverse e ∙ reverse-append before (under ∷ frame ∷ []) ∙ ap (λ (l : List Frame). frame ∷ under ∷ l) r
 
 -- what leads on from other frames and another state that are these
-pub leads-at : (frames frames' : List Frame) (s s' : State) (o : Outcome) → frames ≡ frames' → s ≡ s' → Leads frames s o → Leads frames' s' o
-leads-at frames frames' s s' o ef es h = subst (λ (x : State). Leads frames' x o) es (subst (λ (x : List Frame). Leads x s o) ef h)
+pub leads-at : (frames frames' : List Frame) (s s' : State) (world : WorldState) (o : Outcome) → frames ≡ frames' → s ≡ s' → Leads frames s world o → Leads frames' s' world o
+leads-at frames frames' s s' world o ef es h = subst (λ (x : State). Leads frames' x world o) es (subst (λ (x : List Frame). Leads x s world o) ef h)
 
 -- a step that goes on with other tokens
-moved : (context : Context) (fresh : Bool) (tokens : List Token) (s : State) (again : Bool) (rest : List Token) (next : State) (later : Later) (o : Outcome)
-    → step context fresh tokens s ≡ Moves again rest next → RunsThen (Tokens context again rest) next later o → RunsThen (Tokens context fresh tokens) s later o
-moved context fresh tokens s again rest next later o e h = (h.0, (moves context fresh tokens s again rest next h.0 e h.1.0, h.1.1))
+moved : (context : Context) (fresh : Bool) (tokens : List Token) (s : State) (world : WorldState) (again : Bool) (rest : List Token) (next : State) (later : Later) (o : Outcome)
+    → step context fresh tokens s ≡ Moves again rest next → RunsThen (Tokens context again rest) next world later o → RunsThen (Tokens context fresh tokens) s world later o
+moved context fresh tokens s world again rest next later o e h = (h.0, (moves context fresh tokens s world again rest next h.0 e h.1.0, h.1.1))
 
 -- a file that is read
-read-in : (context : Context) (fresh : Bool) (tokens : List Token) (s : State) (line : Line) (name : List ℕ) (rest : List Token) (next : State)
-    (world : WorldState) (bytes : Vec ℕ Global) (found : List Token) (later : Later) (o : Outcome)
-    → step context fresh tokens s ≡ Includes line name rest next → Reads next.world world name 1048576 (Ok bytes)
-    → next.total + (length bytes.items + 1) ≤ 1048576 → tokens_of (length next.names) bytes.items ≡ Ok found
-    → (first : Outcome) → Runs (Tokens (file_context context) true found) (with_total (length bytes.items + 1) (with_file name world next)) first
-    → Follows first (λ (middle : State) (outcome : Outcome). RunsThen (Tokens context fresh rest) middle later outcome) o
-    → RunsThen (Tokens context fresh tokens) s later o
-read-in context fresh tokens s line name rest next world bytes found later o e read within lexed (Goes middle) r f =
-    (f.0, (includes context fresh tokens s line name rest next world bytes found middle f.0 e read within lexed r f.1.0, f.1.1))
-read-in context fresh tokens s line name rest next world bytes found later o e read within lexed (Stops refusal last) r f =
-    (Stops refusal last, (included_stops context fresh tokens s line name rest next world bytes found refusal last e read within lexed r, f))
+read-in : (context : Context) (fresh : Bool) (tokens : List Token) (s : State) (world : WorldState) (line : Line) (name : List ℕ) (rest : List Token) (next : State)
+    (read : WorldState) (bytes : Vec ℕ Global) (found : List Token) (later : Later) (o : Outcome)
+    → step context fresh tokens s ≡ Includes line name rest next → Reads world read name 1048576 (Ok bytes)
+    → file_tokens line next bytes.items ≡ Ok found
+    → (first : Outcome) → Runs (Tokens (file_context context) true found) (with_file name bytes.items next) read first
+    → Follows first (λ (middle : State) (w : WorldState) (outcome : Outcome). RunsThen (Tokens context fresh rest) middle w later outcome) o
+    → RunsThen (Tokens context fresh tokens) s world later o
+read-in context fresh tokens s world line name rest next read bytes found later o e reads taken (Goes middle w) r f =
+    (f.0, (includes context fresh tokens s world line name rest next read bytes found middle w f.0 e reads taken r f.1.0, f.1.1))
+read-in context fresh tokens s world line name rest next read bytes found later o e reads taken (Stops refusal names w) r f =
+    (Stops refusal names w, (included_stops context fresh tokens s world line name rest next read bytes found refusal names w e reads taken r, f))
 
 -- a use
-used-in : (context : Context) (fresh : Bool) (tokens : List Token) (s : State) (line : Line) (block : Block) (given : List Argument) (rest : List Token) (next : State) (later : Later) (o : Outcome)
-    → step context fresh tokens s ≡ Uses line block given rest next
-    → (first : Outcome) → Runs (Binding context line block.serial block.body (bindings block.parameters given) map.empty) next first
-    → Follows first (λ (middle : State) (outcome : Outcome). RunsThen (Tokens context false rest) middle later outcome) o
-    → RunsThen (Tokens context fresh tokens) s later o
-used-in context fresh tokens s line block given rest next later o e (Goes middle) r f =
-    (f.0, (uses context fresh tokens s line block given rest next middle f.0 e r f.1.0, f.1.1))
-used-in context fresh tokens s line block given rest next later o e (Stops refusal last) r f =
-    (Stops refusal last, (use_stops context fresh tokens s line block given rest next refusal last e r, f))
+used-in : (context : Context) (fresh : Bool) (tokens : List Token) (s : State) (world : WorldState) (block : Block) (given : List Argument) (rest : List Token) (next : State) (later : Later) (o : Outcome)
+    → step context fresh tokens s ≡ Uses block given rest next
+    → (first : Outcome) → Runs (Binding context block.serial block.body (bindings block.parameters given) map.empty) next world first
+    → Follows first (λ (middle : State) (w : WorldState) (outcome : Outcome). RunsThen (Tokens context false rest) middle w later outcome) o
+    → RunsThen (Tokens context fresh tokens) s world later o
+used-in context fresh tokens s world block given rest next later o e (Goes middle w) r f =
+    (f.0, (uses context fresh tokens s world block given rest next middle w f.0 e r f.1.0, f.1.1))
+used-in context fresh tokens s world block given rest next later o e (Stops refusal names w) r f =
+    (Stops refusal names w, (use_stops context fresh tokens s world block given rest next refusal names w e r, f))
 
 -- the value of an argument
-value-in : (context : Context) (line : Line) (serial : ℕ) (body : List Token) (argument : Argument) (left : List Argument) (bound : Values) (s : State) (later : Later) (o : Outcome)
-    → (first : Outcome) → Runs (Tokens context false argument.tokens) (for_value s) first
-    → Follows first (λ (middle : State) (outcome : Outcome). BindsThen (record { call = record { context = context; line = line; serial = serial; body = body; left = left; bound = bound }; name = argument.name; out = s.out }) middle later outcome) o
-    → RunsThen (Binding context line serial body (argument ∷ left) bound) s later o
-value-in context line serial body argument left bound s later o (Goes whole) r f = chosen (f (value-stays context argument.tokens (for_value s) whole refl r))
-  where
-    chosen : ((value : List Token) × ((whole.out.tokens ≡ Some value) × ((whole.total + size_of value ≤ 1048576)
-        × RunsThen (Binding context line serial body left (map.insert bound argument.name value)) (behind_value s.out value whole) later o)))
-        ⊎ (IsPassed whole.total whole.out.tokens × (o ≡ Stops (Faulty (fault_at TooLong line)) whole))
-        → RunsThen (Binding context line serial body (argument ∷ left) bound) s later o
-    chosen (inl h) = (h.1.1.1.0, (binds context line serial body argument left bound s whole h.0 h.1.1.1.0 r h.1.0 h.1.1.0 h.1.1.1.1.0, h.1.1.1.1.1))
-    chosen (inr h) = (Stops (Faulty (fault_at TooLong line)) whole, (value_too_long context line serial body argument left bound s whole r h.0, h.1))
-value-in context line serial body argument left bound s later o (Stops refusal last) r f =
-    (Stops refusal last, (value_stops context line serial body argument left bound s refusal last r, f))
+value-in : (context : Context) (serial : ℕ) (body : List Token) (argument : Argument) (left : List Argument) (bound : Values) (s : State) (world : WorldState) (later : Later) (o : Outcome)
+    → (first : Outcome) → Runs (Tokens context false argument.tokens) (with_out [] s) world first
+    → Follows first (λ (whole : State) (w : WorldState) (outcome : Outcome). RunsThen (Binding context serial body left (map.insert bound argument.name whole.out)) (with_out s.out whole) w later outcome) o
+    → RunsThen (Binding context serial body (argument ∷ left) bound) s world later o
+value-in context serial body argument left bound s world later o (Goes whole w) r f =
+    (f.0, (binds context serial body argument left bound s world whole w f.0 r f.1.0, f.1.1))
+value-in context serial body argument left bound s world later o (Stops refusal names w) r f =
+    (Stops refusal names w, (value_stops context serial body argument left bound s world refusal names w r, f))
 
 -- the binding of a use goes on
-calls-at : (context : Context) (line : Line) (serial : ℕ) (body : List Token) (left : List Argument) (bound : Values) (old new : Expander) (world : WorldState) (below : List Frame)
+calls-at : (context : Context) (serial : ℕ) (body : List Token) (left : List Argument) (bound : Values) (old new : Expander) (world : WorldState) (below : List Frame)
     → reverse old.frames.items ≡ below
-    → Calls (record { context = context; line = line; serial = serial; body = body; left = left; bound = bound }) old new (Ok tt)
-    → (o : Outcome) → Leads (reverse new.frames.items) (state_of new world) o
-    → RunsThen (Binding context line serial body left bound) (state_of old world) (Leads below) o
-calls-at context line serial body [] bound old new world below r does o h =
+    → Calls (record { context = context; serial = serial; body = body; left = left; bound = bound }) old new (Ok tt)
+    → (o : Outcome) → Leads (reverse new.frames.items) (state_of new) world o
+    → RunsThen (Binding context serial body left bound) (state_of old) world (Leads below) o
+calls-at context serial body [] bound old new world below r does o h =
     let frames = last-first new.frames.items old.frames.items below (tokens_frame (body_context context bound serial) true (trimmed body)) r does.1 in
-    let led = leads-at (reverse new.frames.items) (tokens_frame (body_context context bound serial) true (trimmed body) ∷ below) (state_of new world) (state_of old world) o
-    frames (ap (λ (e : Expander). state_of e world) does.0) h in
-    (led.0, (body_runs context line serial body bound (state_of old world) led.0 led.1.0, led.1.1))
-calls-at context line serial body (argument ∷ left) bound old new world below r does o h =
-    let wait : Wait = record { call = record { context = context; line = line; serial = serial; body = body; left = left; bound = bound }; name = argument.name; out = old.out } in
+    let led = leads-at (reverse new.frames.items) (tokens_frame (body_context context bound serial) true (trimmed body) ∷ below) (state_of new) (state_of old) world o frames (ap state_of does.0) h in
+    (led.0, (body_runs context serial body bound (state_of old) world led.0 led.1.0, led.1.1))
+calls-at context serial body (argument ∷ left) bound old new world below r does o h =
+    let wait : Wait = record { call = record { context = context; serial = serial; body = body; left = left; bound = bound }; name = argument.name; out = old.out } in
     let frames = last-two new.frames.items old.frames.items below (Binds wait) (tokens_frame context false argument.tokens) r does.1 in
-    let led = leads-at (reverse new.frames.items) (tokens_frame context false argument.tokens ∷ Binds wait ∷ below) (state_of new world) (for_value (state_of old world)) o
-    frames (ap (λ (e : Expander). state_of e world) does.0) h in
-    value-in context line serial body argument left bound (state_of old world) (Leads below) o led.0 led.1.0 led.1.1
+    let led = leads-at (reverse new.frames.items) (tokens_frame context false argument.tokens ∷ Binds wait ∷ below) (state_of new) (with_out [] (state_of old)) world o frames (ap state_of does.0) h in
+    value-in context serial body argument left bound (state_of old) world (Leads below) o led.0 led.1.0 led.1.1
 
 -- the same of a call
 pub calls-lead : (call : Call) (old new : Expander) (world : WorldState) (below : List Frame)
     → reverse old.frames.items ≡ below → Calls call old new (Ok tt)
-    → (o : Outcome) → Leads (reverse new.frames.items) (state_of new world) o → RunsThen (job_of call) (state_of old world) (Leads below) o
-calls-lead call old new world below r does o h = calls-at call.context call.line call.serial call.body call.left call.bound old new world below r does o h
+    → (o : Outcome) → Leads (reverse new.frames.items) (state_of new) world o → RunsThen (job_of call) (state_of old) world (Leads below) o
+calls-lead call old new world below r does o h = calls-at call.context call.serial call.body call.left call.bound old new world below r does o h
 
 -- a value that is bound
 pub binds-lead : (wait : Wait) (old new : Expander) (world : WorldState) (below : List Frame)
-    → reverse old.frames.items ≡ below → (old.out.in_value ≡ true → DoesBind wait old.out.tokens old new (Ok tt))
-    → (o : Outcome) → Leads (reverse new.frames.items) (state_of new world) o → Leads (Binds wait ∷ below) (state_of old world) o
-binds-lead wait old new world below r does o h = λ e.
-    let did = does e in
-    inl (did.0, (did.1.0, (did.1.1.0, calls-lead (record wait.call { bound = map.insert wait.call.bound wait.name did.0 }) (record old { total = old.total + size_of did.0; out = wait.out }) new world below r did.1.1.1 o h)))
+    → reverse old.frames.items ≡ below → DoesBind wait old new (Ok tt)
+    → (o : Outcome) → Leads (reverse new.frames.items) (state_of new) world o → Leads (Binds wait ∷ below) (state_of old) world o
+binds-lead wait old new world below r does o h =
+    calls-lead (record wait.call { bound = map.insert wait.call.bound wait.name old.out }) (record old { out = wait.out }) new world below r does o h
 
 -- an answer is one
 not-both : (stop : Stop) (result : Result Unit Stop) → result ≡ Ok tt → result ≡ Err stop → ⊥
@@ -127,36 +111,37 @@ not-both stop result a b = cc
 
 -- a step
 pub step-leads : (asked : Step) (context : Context) (fresh : Bool) (tokens : List Token) (old new : Expander) (world world' : WorldState) (below : List Frame)
-    → reverse old.frames.items ≡ below → step context fresh tokens (state_of old world) ≡ asked
+    → reverse old.frames.items ≡ below → step context fresh tokens (state_of old) ≡ asked
     → DoesStep asked context fresh old world new world' (Ok tt)
-    → (o : Outcome) → Leads (reverse new.frames.items) (state_of new world') o → RunsThen (Tokens context fresh tokens) (state_of old world) (Leads below) o
+    → (o : Outcome) → Leads (reverse new.frames.items) (state_of new) world' o → RunsThen (Tokens context fresh tokens) (state_of old) world (Leads below) o
 step-leads Ends context fresh tokens old new world world' below r e does o h =
     let frames : reverse new.frames.items ≡ below = ap (λ (x : Expander). reverse x.frames.items) does.1 ∙ r in
-    let states : state_of new world' ≡ state_of old world = ap (state_of new) does.0 ∙ ap (λ (x : Expander). state_of x world) does.1 in
-    (Goes (state_of old world), (ends context fresh tokens (state_of old world) e, leads-at (reverse new.frames.items) below (state_of new world') (state_of old world) o frames states h))
+    let led = leads-at (reverse new.frames.items) below (state_of new) (state_of old) world' o frames (ap state_of does.1) h in
+    (Goes (state_of old) world, (ends context fresh tokens (state_of old) world e, subst (λ (w : WorldState). Leads below (state_of old) w o) does.0 led))
 step-leads (Moves again rest next) context fresh tokens old new world world' below r e does o h =
     let frames = last-first new.frames.items old.frames.items below (tokens_frame context again rest) r does.1.1 in
-    let states : state_of new world' ≡ next = ap (state_of new) does.0 ∙ does.1.0 in
-    moved context fresh tokens (state_of old world) again rest next (Leads below) o e
-    (leads-at (reverse new.frames.items) (tokens_frame context again rest ∷ below) (state_of new world') next o frames states h)
+    let led = leads-at (reverse new.frames.items) (tokens_frame context again rest ∷ below) (state_of new) next world' o frames does.1.0 h in
+    moved context fresh tokens (state_of old) world again rest next (Leads below) o e (subst (λ (w : WorldState). Leads (tokens_frame context again rest ∷ below) next w o) does.0 led)
 step-leads (Faults kind line) context fresh tokens old new world world' below r e does o h = absurd does.1
 step-leads (Includes line name rest next) context fresh tokens old new world world' below r e (inl does) o h =
     let bytes = does.0 in
-    let took = does.1.1 in
+    let middle : Expander = does.1.1.0 in
+    let is : state_of middle ≡ next = does.1.1.1.0 in
+    let took = does.1.1.1.1.1 in
     let found = took.0 in
-    let same : next.world ≡ world = (keeps-at context fresh tokens (state_of old world) (Includes line name rest next) e).1 in
-    let read : Reads next.world world' name 1048576 (Ok bytes) = subst (λ (w : WorldState). Reads w world' name 1048576 (Ok bytes)) (sym same) does.1.0 in
-    let frames = last-two new.frames.items old.frames.items below (tokens_frame context fresh rest) (tokens_frame (file_context context) true found) r took.1.1.1.1 in
-    let led = leads-at (reverse new.frames.items) (tokens_frame (file_context context) true found ∷ tokens_frame context fresh rest ∷ below) (state_of new world') (with_total (length bytes.items + 1) (with_file name world' next)) o
-    frames took.1.1.1.0 h in
-    read-in context fresh tokens (state_of old world) line name rest next world' bytes found (Leads below) o e read took.1.1.0 took.1.0 led.0 led.1.0 led.1.1
+    let before : reverse middle.frames.items ≡ below = ap reverse does.1.1.1.1.0 ∙ r in
+    let frames = last-two new.frames.items middle.frames.items below (tokens_frame context fresh rest) (tokens_frame (file_context context) true found) before took.1.1.1 in
+    let led = leads-at (reverse new.frames.items) (tokens_frame (file_context context) true found ∷ tokens_frame context fresh rest ∷ below) (state_of new) (with_file name bytes.items next) world' o
+    frames (took.1.1.0 ∙ ap (with_file name bytes.items) is) h in
+    read-in context fresh tokens (state_of old) world line name rest next world' bytes found (Leads below) o e does.1.0
+    (subst (λ (s : State). file_tokens line s bytes.items ≡ Ok found) is took.1.0) led.0 led.1.0 led.1.1
 step-leads (Includes line name rest next) context fresh tokens old new world world' below r e (inr does) o h =
     absurd (not-both (Fault (fault_at TooLong line)) (Ok tt) refl does.1.0)
-step-leads (Uses line block given rest next) context fresh tokens old new world world' below r e does o h =
+step-leads (Uses block given rest next) context fresh tokens old new world world' below r e does o h =
     let middle = does.1.0 in
     let frames = last-first middle.frames.items old.frames.items below (tokens_frame context false rest) r does.1.1.1.0 in
-    let states : state_of middle world ≡ next = does.1.1.0 in
-    let led = calls-lead (call_of context line block given) middle new world (tokens_frame context false rest ∷ below) frames does.1.1.1.1 o
-    (leads-at (reverse new.frames.items) (reverse new.frames.items) (state_of new world') (state_of new world) o refl (ap (state_of new) does.0) h) in
-    let run = subst (λ (s : State). Runs (Binding context line block.serial block.body (bindings block.parameters given) map.empty) s led.0) states led.1.0 in
-    used-in context fresh tokens (state_of old world) line block given rest next (Leads below) o e led.0 run led.1.1
+    let states : state_of middle ≡ next = does.1.1.0 in
+    let led = calls-lead (call_of context block given) middle new world (tokens_frame context false rest ∷ below) frames does.1.1.1.1 o
+    (subst (λ (w : WorldState). Leads (reverse new.frames.items) (state_of new) w o) does.0 h) in
+    let run = subst (λ (s : State). Runs (Binding context block.serial block.body (bindings block.parameters given) map.empty) s world led.0) states led.1.0 in
+    used-in context fresh tokens (state_of old) world block given rest next (Leads below) o e led.0 run led.1.1

@@ -1,162 +1,183 @@
--- Two derivations from one state, but for the world, end alike.
-use Rattle.std.proofs.Common.{◌≡◌, ℕ, ◌+◌, ◌<◌, ◌≤◌, inl, inr, Bool, true, false, List, length, Option, Some, None, IsSome, Result, Ok, Err, Vec, refl, sym, ap, ◌∙◌, subst, arith}
+-- Where the machine tells its files, a text comes to one outcome, but for readings that fail.
+use Rattle.std.proofs.Common.{◌≡◌, ℕ, ◌<◌, ◌≤◌, Bool, true, false, List, [], ◌∷◌, ◌++◌, length, Option, Some, Result, Ok, Err, Vec, refl, ap, sym, ◌∙◌, subst, arith}
 use Rattle.std.specs.FinMap as map
 use Rattle.std.specs.declared.alloc.Global.{Global}
-use Rattle.sg_device.specs.World.{Files, WorldState, Reads, IsContent, IsBeyond, content}
+use Rattle.sg_outside.specs.World.{Files, WorldState, Reads, OnlyReads, IsContent, IsBeyond}
 use Rattle.sg_device.specs.declared.fault.FileRefusal.{FileRefusal}
 use Rattle.sg_device.specs.declared.fault.FileRefusal.TheVariants.{Failed, TooLong as FileTooLong, NoMemory as FileNoMemory}
 use Rattle.sg_lex.specs.declared.token.Token.{Token}
-use Rattle.sg_lex.specs.Tokens.{tokens_of}
+use Rattle.sg_lex.specs.declared.fault.ConfigFault.{ConfigFault}
+use Rattle.sg_lex.specs.declared.fault.ConfigKind.TheVariants.{TooLong}
+use Rattle.sg_block.specs.Arguments.{bindings}
 use Rattle.sg_expand.specs.declared.frame.Context.{Context}
-use Rattle.sg_expand.specs.declared.token.Line.{Line}
-use Rattle.sg_expand.specs.Arguments.{bindings}
-use Rattle.sg_expand.specs.Made.{Made}
-use Rattle.sg_expand.specs.Pending.{Follows, RunsThen}
-use Rattle.sg_expand.specs.Tokens.{size_of}
-use Rattle.sg_expand.specs.Expansion.{State, Outcome, Goes, Stops, Faulty, Unread, Step, Ends, Moves, Includes, Uses, step, Job, Tokens, Binding, Runs, file_context, with_file, with_total, for_value, behind_value, IsPassed}
-use Rattle.sg_expand.specs.Expansion.Runs.{ends, moves, faults, includes, included_stops, lexing_faults, total_passed, file_too_long, file_unread, uses, use_stops, binds, value_stops, value_too_long, body_runs}
-use Rattle.sg_expand.specs.One.{AreTold}
-use Rattle.sg_expand.proofs.OneStep.{step_in, step-in, step-stands}
-use Rattle.sg_expand.proofs.OneFront.{Inclusion, LexedThen, TextThen, ReadThen, IncludesThen, StepThen, BoundThen, does-first}
-use Rattle.sg_expand.proofs.OneKept.{EndsTold, told-last, told-before, read-files, led-files, files-kept}
+use Rattle.sg_expand.specs.Expansion.{State, Outcome, Goes, Stops, Faulty, Unread, Step, Ends, Moves, Faults, Includes, Uses, step, Job, Tokens, Binding, Runs, file_context, file_tokens, with_file, with_out, main_tokens, first_state, RunsTokens, RunsMain}
+use Rattle.sg_expand.specs.Expansion.Runs.{ends, moves, faults, includes, included_stops, file_faults, file_too_long, file_unread, uses, use_stops, binds, value_stops, body_runs}
+use Rattle.sg_expand.specs.Faults.{fault_at}
+use Rattle.sg_expand.specs.One.{AreAlike}
+use Rattle.sg_expand.specs.Pending.{Later, Follows, RunsThen}
+use Rattle.sg_expand.proofs.OneFront.{Inclusion, TakenThen, ReadThen, IncludesThen, StepThen, does-first}
 
--- the second outcome is that of the first, but for the world; or a file wasn't read
-abbrev pub EndsAs : Option Files → Outcome → Outcome → Type 0
-EndsAs files (Goes last) (Goes other) = (other ≡ record last { world = other.world }) × (other.world.files ≡ files)
-EndsAs files (Goes last) (Stops (Faulty fault) other) = ⊥
-EndsAs files (Goes last) (Stops (Unread name) other) = Unit {0}
-EndsAs files (Stops refusal last) second = Unit {0}
+-- the machine tells these files
+abbrev Tells : Files → WorldState → Type 0
+Tells files world = world.files ≡ Some files
 
--- whatever comes of the state in another world ends as the first outcome
-abbrev pub OnlyEnds : Option Files → (State → Outcome → Type 0) → State → Outcome → Type 0
-OnlyEnds files comes state first = (world : WorldState) → world.files ≡ files → (second : Outcome) → comes (record state { world = world }) second → EndsAs files first second
+abbrev TellsThen : Files → Outcome → Type 0
+TellsThen files (Goes last later) = Tells files later
+TellsThen files (Stops refusal names later) = Unit {0}
+
+reads-tell : (files : Files) (world read : WorldState) → OnlyReads world read → Tells files world → Tells files read
+reads-tell files world read only told = ap (λ (w : WorldState). w.files) only.0 ∙ told
+
+tells : (files : Files) (job : Job) (s : State) (world : WorldState) (o : Outcome) → Runs job s world o → Tells files world → TellsThen files o
+tells files _ _ _ _ (ends context fresh tokens state world e) told = told
+tells files _ _ _ _ (moves context fresh tokens state world again rest next outcome e r) told = tells files _ _ _ _ r told
+tells files _ _ _ _ (faults context fresh tokens state world kind line e) told = tt
+tells files _ _ _ _ (includes context fresh tokens state world line name rest next read bytes found middle later outcome e reads taken r k) told =
+    tells files _ _ _ _ k (tells files _ _ _ _ r (reads-tell files world read reads.0 told))
+tells files _ _ _ _ (included_stops context fresh tokens state world line name rest next read bytes found refusal names later e reads taken r) told = tt
+tells files _ _ _ _ (file_faults context fresh tokens state world line name rest next read bytes fault e reads taken) told = tt
+tells files _ _ _ _ (file_too_long context fresh tokens state world line name rest next read e reads) told = tt
+tells files _ _ _ _ (file_unread context fresh tokens state world line name rest next read e reads) told = tt
+tells files _ _ _ _ (uses context fresh tokens state world block given rest next middle later outcome e r k) told = tells files _ _ _ _ k (tells files _ _ _ _ r told)
+tells files _ _ _ _ (use_stops context fresh tokens state world block given rest next refusal names later e r) told = tt
+tells files _ _ _ _ (binds context serial body argument left bound state world whole later outcome r k) told = tells files _ _ _ _ k (tells files _ _ _ _ r told)
+tells files _ _ _ _ (value_stops context serial body argument left bound state world refusal names later r) told = tt
+tells files _ _ _ _ (body_runs context serial body bound state world outcome r) told = tells files _ _ _ _ r told
 
 -- a file that wasn't read ends alike with everything
-unread : (files : Option Files) (first second : Outcome) (name : List ℕ) (other : State) → second ≡ Stops (Unread name) other → EndsAs files first second
-unread files (Goes last) second name other e = subst (EndsAs files (Goes last)) (sym e) tt
-unread files (Stops refusal last) second name other e = tt
+unread : (first second : Outcome) (name : List ℕ) (names : List (List ℕ)) (world : WorldState) → second ≡ Stops (Unread name) names world → AreAlike first second
+unread (Goes last w) second name names world e = subst (AreAlike (Goes last w)) (sym e) tt
+unread (Stops (Faulty fault) ns w) second name names world e = subst (AreAlike (Stops (Faulty fault) ns w)) (sym e) tt
+unread (Stops (Unread other) ns w) second name names world e = tt
 
--- behind a middle that ends alike, what follows ends alike
-follow-alike : (files : Option Files) (comes : State → Outcome → Type 0) (middle : State) (first between second : Outcome) → OnlyEnds files comes middle first → EndsAs files (Goes middle) between → Follows between comes second → EndsAs files first second
-follow-alike files comes middle first (Goes other) second later same h = later other.world same.1 second (subst (λ t. comes t second) same.0 h)
-follow-alike files comes middle first (Stops (Faulty fault) other) second later same h = absurd same
-follow-alike files comes middle first (Stops (Unread name) other) second later same h = unread files first second name other h
+-- whatever comes of a state over these files ends as the first outcome
+abbrev OnlyEnds : Files → Later → State → Outcome → Type 0
+OnlyEnds files comes state first = (world : WorldState) → Tells files world → (second : Outcome) → comes state world second → AreAlike first second
+
+-- what the first outcome is behind its first part
+abbrev Continues : Files → Later → Outcome → Outcome → Type 0
+Continues files comes (Goes middle world) first = OnlyEnds files comes middle first
+Continues files comes (Stops refusal names world) first = first ≡ Stops refusal names world
+
+join : (files : Files) (comes : Later) (part between first second : Outcome) → AreAlike part between → TellsThen files between → Continues files comes part first → Follows between comes second → AreAlike first second
+join files comes (Goes middle w) (Goes other w') first second same told continues f = continues w' told second (subst (λ s. comes s w' second) same f)
+join files comes (Goes middle w) (Stops (Faulty fault) names w') first second same told continues f = absurd same
+join files comes (Goes middle w) (Stops (Unread name) names w') first second same told continues f = unread first second name names w' f
+join files comes (Stops (Faulty fault) names w) (Goes other w') first second same told continues f = absurd same
+join files comes (Stops (Faulty fault) names w) (Stops (Faulty fault') names' w') first second same told continues f =
+    subst (λ (x : Outcome). AreAlike x second) (sym continues) (subst (AreAlike (Stops (Faulty fault) names w)) (sym f) same)
+join files comes (Stops (Faulty fault) names w) (Stops (Unread name) names' w') first second same told continues f = unread first second name names' w' f
+join files comes (Stops (Unread name) names w) between first second same told continues f = subst (λ (x : Outcome). AreAlike x second) (sym continues) tt
 
 -- a job that ends alike, and what follows it
-then-alike : (files : Option Files) (job : Job) (comes : State → Outcome → Type 0) (state middle : State) (world : WorldState) (first second : Outcome) → world.files ≡ files → OnlyEnds files (Runs job) state (Goes middle) → OnlyEnds files comes middle first → RunsThen job (record state { world = world }) comes second → EndsAs files first second
-then-alike files job comes state middle world first second same begins later h = follow-alike files comes middle first h.0 second later (begins world same h.0 h.1.0) h.1.1
+then-alike : (files : Files) (job : Job) (comes : Later) (state : State) (part first : Outcome) → OnlyEnds files (Runs job) state part → Continues files comes part first
+    → (world : WorldState) → Tells files world → (second : Outcome) → RunsThen job state world comes second → AreAlike first second
+then-alike files job comes state part first begins continues world told second h =
+    join files comes part h.0 first second (begins world told h.0 h.1.0) (tells files _ _ _ _ h.1.0 told) continues h.1.1
 
 -- what the second derivation does where the first was asked for a step
-again : (context : Context) (fresh : Bool) (tokens : List Token) (state : State) (found : Step) (world : WorldState) (second : Outcome) → step context fresh tokens state ≡ found → Runs (Tokens context fresh tokens) (record state { world = world }) second → StepThen context fresh (record state { world = world }) (step_in state.names world found) second
-again context fresh tokens state found world second e d =
-    subst (λ x. StepThen context fresh (record state { world = world }) x second) (step-in state.names world context fresh tokens state refl ∙ ap (step_in state.names world) e) (does-first _ _ _ d)
+again : (context : Context) (fresh : Bool) (tokens : List Token) (state : State) (found : Step) (world : WorldState) (second : Outcome) → step context fresh tokens state ≡ found → Runs (Tokens context fresh tokens) state world second → StepThen context fresh state world found second
+again context fresh tokens state found world second e d = subst (λ x. StepThen context fresh state world x second) e (does-first _ _ _ _ d)
 
--- the text of a told file is one
-content-one : (told : Option (List ℕ)) (a b : List ℕ) → IsSome told → IsContent told a → IsContent told b → b ≡ a
-content-one None a b is p q = absurd (let h : false ≡ true = is in cc)
-content-one (Some text) a b is p q = q ∙ sym p
+-- the content of a file that is told
+content-is : (files : Files) (world : WorldState) (name bytes : List ℕ) → Tells files world → IsContent world.files name bytes → files name ≡ Some bytes
+content-is files world name bytes told h = subst (λ (x : Option Files). IsContent x name bytes) told h
 
--- and not too long where it was read once
-not-beyond : (told : Option (List ℕ)) (text : List ℕ) → IsSome told → IsContent told text → length text ≤ 1048576 → IsBeyond told 1048576 → ⊥
-not-beyond None text is p fits q = let h : false ≡ true = is in cc
-not-beyond (Some told) text is p fits q = let e : length text ≡ length told = ap length p in omega arith
+beyond-is : (files : Files) (world : WorldState) (name : List ℕ) (limit : ℕ) → Tells files world → IsBeyond world.files name limit → (bytes : List ℕ) × ((files name ≡ Some bytes) × (limit < length bytes))
+beyond-is files world name limit told h = subst (λ (x : Option Files). IsBeyond x name limit) told h
 
--- the file as the first derivation read it: its text, its tokens, and what comes of them
-record FirstRead (files : Option Files) (at : Inclusion) (first : Outcome) : Type 0 where
-  text : List ℕ
-  found : List Token
-  middle : State
-  told : IsSome (content files at.name)
-  whole : IsContent (content files at.name) text
-  short : length text ≤ 1048576
-  fits : at.next.total + (length text + 1) ≤ 1048576
-  lexes : tokens_of (length at.next.names) text ≡ Ok found
-  begins : (world : WorldState) → world.files ≡ files → (second : Outcome) → Runs (Tokens (file_context at.context) true found) (with_total (length text + 1) (with_file at.name world at.next)) second → EndsAs files (Goes middle) second
-  later : OnlyEnds files (Runs (Tokens at.context at.fresh at.rest)) middle first
+same-content : (files : Files) (name a b : List ℕ) → files name ≡ Some a → files name ≡ Some b → b ≡ a
+same-content files name a b p q = cc
 
--- the same tokens end alike
-lexed-alike : (files : Option Files) (at : Inclusion) (first : Outcome) (f : FirstRead files at first) (world old : WorldState) (second : Outcome) → world.files ≡ files → LexedThen (record at { next = record at.next { world = old } }) world f.text (Ok f.found) second → EndsAs files first second
-lexed-alike files at first f world old second same h = follow-alike files (Runs (Tokens at.context at.fresh at.rest)) f.middle first h.0 second f.later (f.begins world same h.0 h.1.0) h.1.1
+-- each reading of a file that was read ends alike, where what follows its text does
+read-alike : (files : Files) (at : Inclusion) (first : Outcome) (text : List ℕ) → files at.name ≡ Some text → length text ≤ 1048576
+    → ((read : WorldState) → Tells files read → (second : Outcome) → TakenThen at read text (file_tokens at.line at.next text) second → AreAlike first second)
+    → (world : WorldState) → Tells files world → (second : Outcome) → IncludesThen at world second → AreAlike first second
+read-alike files at first text is short follows world told second h = by h.1.0 h.1.1.0 h.1.1.1
+  where
+    by : (answer : Result (Vec ℕ Global) FileRefusal) → Reads world h.0 at.name 1048576 answer → ReadThen at h.0 answer second → AreAlike first second
+    by (Ok bytes) reads then =
+        let same : bytes.items ≡ text = same-content files at.name text bytes.items is (content-is files world at.name bytes.items told reads.1) in
+        follows h.0 (reads-tell files world h.0 reads.0 told) second (subst (λ (x : List ℕ). TakenThen at h.0 x (file_tokens at.line at.next x) second) same then)
+    by (Err Failed) reads then = unread first second at.name at.next.names h.0 then
+    by (Err FileTooLong) reads then =
+        let long = beyond-is files world at.name 1048576 told reads.1 in
+        let same : long.0 ≡ text = same-content files at.name text long.0 is long.1.0 in
+        let size : length long.0 ≡ length text = ap length same in
+        let over : 1048576 < length long.0 = long.1.1 in
+        absurd (omega arith)
+    by (Err FileNoMemory) reads then = absurd then
 
--- the same text ends alike
-text-alike : (files : Option Files) (at : Inclusion) (first : Outcome) (f : FirstRead files at first) (world old : WorldState) (second : Outcome) → world.files ≡ files → TextThen (record at { next = record at.next { world = old } }) world f.text second → EndsAs files first second
-text-alike files at first f world old second same (inl (fits, h)) =
-    lexed-alike files at first f world old second same (subst (λ x. LexedThen (record at { next = record at.next { world = old } }) world f.text x second) f.lexes h)
-text-alike files at first f world old second same (inr (passes, h)) = let fits = f.fits in absurd (omega arith)
+-- each reading of a file that was too long ends alike
+too-long-alike : (files : Files) (at : Inclusion) (text : List ℕ) (read : WorldState) → files at.name ≡ Some text → 1048576 < length text
+    → (world : WorldState) → Tells files world → (second : Outcome) → IncludesThen at world second → AreAlike (Stops (Faulty (fault_at TooLong at.line)) at.next.names read) second
+too-long-alike files at text read is over world told second h = by h.1.0 h.1.1.0 h.1.1.1
+  where
+    first : Outcome
+    first = Stops (Faulty (fault_at TooLong at.line)) at.next.names read
 
--- each reading of a told file ends alike
-read-alike : (files : Option Files) (at : Inclusion) (first : Outcome) (f : FirstRead files at first) (world old : WorldState) (second : Outcome) (answer : Result (Vec ℕ Global) FileRefusal) → old.files ≡ files → Reads old world at.name 1048576 answer → ReadThen (record at { next = record at.next { world = old } }) world answer second → EndsAs files first second
-read-alike files at first f world old second (Ok bytes) same reads h =
-    let whole : IsContent (content files at.name) bytes.items = subst (λ x. IsContent (content x at.name) bytes.items) same reads.1 in
-    let text : bytes.items ≡ f.text = content-one (content files at.name) f.text bytes.items f.told f.whole whole in
-    text-alike files at first f world old second (read-files old world at.name bytes reads ∙ same) (subst (λ x. TextThen (record at { next = record at.next { world = old } }) world x second) text h)
-read-alike files at first f world old second (Err Failed) same reads h = unread files first second at.name (record at.next { world = world }) h
-read-alike files at first f world old second (Err FileTooLong) same reads h =
-    absurd (not-beyond (content files at.name) f.text f.told f.whole f.short (subst (λ x. IsBeyond (content x at.name) 1048576) same reads.1))
-read-alike files at first f world old second (Err FileNoMemory) same reads h = absurd h
+    by : (answer : Result (Vec ℕ Global) FileRefusal) → Reads world h.0 at.name 1048576 answer → ReadThen at h.0 answer second → AreAlike first second
+    by (Ok bytes) reads then =
+        let same : bytes.items ≡ text = same-content files at.name text bytes.items is (content-is files world at.name bytes.items told reads.1) in
+        let size : length bytes.items ≡ length text = ap length same in
+        let short : length bytes.items ≤ 1048576 = reads.2 in
+        absurd (omega arith)
+    by (Err Failed) reads then = unread first second at.name at.next.names h.0 then
+    by (Err FileTooLong) reads then = subst (AreAlike first) (sym then) (refl, refl)
+    by (Err FileNoMemory) reads then = absurd then
 
--- a value that is bound is bound
-bound-alike : (files : Option Files) (bound : List Token → Job) (line : Line) (out : Made) (whole : State) (value : List Token) (first : Outcome) → whole.out.tokens ≡ Some value → whole.total + size_of value ≤ 1048576 → OnlyEnds files (Runs (bound value)) (behind_value out value whole) first → OnlyEnds files (BoundThen bound line out) whole first
-bound-alike files bound line out whole value first is fits later world same second (inl (value', (is', (fits', h)))) =
-    let e : value' ≡ value = cc in
-    later world same second (subst (λ v. Runs (bound v) (behind_value out v (record whole { world = world })) second) e h)
-bound-alike files bound line out whole value first is fits later world same second (inr (passed, h)) =
-    let wrong : 1048576 < whole.total + size_of value = subst (IsPassed whole.total) is passed in
-    absurd (omega arith)
-
--- the names of a state as it stands
-named : (comes : State → Outcome → Type 0) (state : State) (names : List (List ℕ)) (world : WorldState) (second : Outcome) → state.names ≡ names → comes (record state { names = names; world = world }) second → comes (record state { world = world }) second
-named comes state names world second e h = subst (λ n. comes (record state { names = n; world = world }) second) (sym e) h
-
--- where a first derivation ends with files that are told, each other ends alike
-pub run-alike : (files : Option Files) (job : Job) (state : State) (first : Outcome) → Runs job state first → state.world.files ≡ files → EndsTold files first → OnlyEnds files (Runs job) state first
-run-alike files _ _ _ (ends context fresh tokens state e) at told world same second d =
-    subst (EndsAs files (Goes state)) (sym (again context fresh tokens state Ends world second e d)) (refl, same)
-run-alike files _ _ _ (moves context fresh tokens state onward rest next first e r) at told world same second d =
-    let stands = step-stands context fresh tokens state (Moves onward rest next) e in
-    run-alike files _ _ _ r (led-files files state.world next.world stands.1 at) told world same second
-    (named (Runs (Tokens context onward rest)) next state.names world second stands.0 (again context fresh tokens state (Moves onward rest next) world second e d))
-run-alike files _ _ _ (faults context fresh tokens state kind line e) at told world same second d = absurd told
-run-alike files _ _ _ (includes context fresh tokens state line name rest next new bytes found middle first e reads fits lexes r s) at told world same second d =
-    let stands = step-stands context fresh tokens state (Includes line name rest next) e in
-    let here : next.world.files ≡ files = led-files files state.world next.world stands.1 at in
-    let inside : new.files ≡ files = read-files next.world new name bytes reads ∙ here in
-    let known : AreTold files middle.names = told-before files _ _ _ s told in
+-- where a first derivation ends, each other ends alike
+run-alike : (files : Files) (job : Job) (state : State) (world : WorldState) (first : Outcome) → Runs job state world first → Tells files world → OnlyEnds files (Runs job) state first
+run-alike files _ _ _ _ (ends context fresh tokens state world e) at w told second d =
+    subst (AreAlike (Goes state world)) (sym (again context fresh tokens state Ends w second e d)) refl
+run-alike files _ _ _ _ (moves context fresh tokens state world onward rest next first e r) at w told second d =
+    run-alike files _ _ _ _ r at w told second (again context fresh tokens state (Moves onward rest next) w second e d)
+run-alike files _ _ _ _ (faults context fresh tokens state world kind line e) at w told second d =
+    subst (AreAlike (Stops (Faulty (fault_at kind line)) state.names world)) (sym (again context fresh tokens state (Faults kind line) w second e d)) (refl, refl)
+run-alike files _ _ _ _ (includes context fresh tokens state world line name rest next read bytes found middle later first e reads taken r k) at w told second d =
     let place : Inclusion = record { context = context; fresh = fresh; line = line; name = name; rest = rest; next = next } in
-    let f : FirstRead files place first = record {
-      text = bytes.items;
-      found = found;
-      middle = middle;
-      told = told-last files next.names name (told-before files _ _ _ r known);
-      whole = subst (λ x. IsContent (content x name) bytes.items) here reads.1;
-      short = reads.2;
-      fits = fits;
-      lexes = lexes;
-      begins = λ w k. run-alike files _ _ _ r inside known w k;
-      later = run-alike files _ _ _ s (files-kept files _ _ _ r inside) told;
-    } in
-    let h : IncludesThen (record place { next = record next { world = world } }) second = named (λ t. IncludesThen (record place { next = t })) next state.names world second stands.0 (again context fresh tokens state (Includes line name rest next) world second e d) in
-    read-alike files place first f h.0 world second h.1.0 same h.1.1.0 h.1.1.1
-run-alike files _ _ _ (included_stops context fresh tokens state line name rest next new bytes found refusal last e reads fits lexes r) at told world same second d = absurd told
-run-alike files _ _ _ (lexing_faults context fresh tokens state line name rest next new bytes fault e reads fits lexes) at told world same second d = absurd told
-run-alike files _ _ _ (total_passed context fresh tokens state line name rest next new bytes e reads passes) at told world same second d = absurd told
-run-alike files _ _ _ (file_too_long context fresh tokens state line name rest next new e reads) at told world same second d = absurd told
-run-alike files _ _ _ (file_unread context fresh tokens state line name rest next new e reads) at told world same second d = absurd told
-run-alike files _ _ _ (uses context fresh tokens state line block given rest next middle first e r s) at told world same second d =
-    let stands = step-stands context fresh tokens state (Uses line block given rest next) e in
-    let here : next.world.files ≡ files = led-files files state.world next.world stands.1 at in
-    let call : Job = Binding context line block.serial block.body (bindings block.parameters given) map.empty in
-    then-alike files call (Runs (Tokens context false rest)) next middle world first second same
-    (run-alike files _ _ _ r here (told-before files _ _ _ s told))
-    (run-alike files _ _ _ s (files-kept files _ _ _ r here) told)
-    (named (λ t. RunsThen call t (Runs (Tokens context false rest))) next state.names world second stands.0 (again context fresh tokens state (Uses line block given rest next) world second e d))
-run-alike files _ _ _ (use_stops context fresh tokens state line block given rest next refusal last e r) at told world same second d = absurd told
-run-alike files _ _ _ (binds context line serial body argument left bound state whole value first r is fits s) at told world same second d =
-    let known : AreTold files whole.names = told-before files _ _ _ s told in
-    then-alike files (Tokens context false argument.tokens) (BoundThen (λ v. Binding context line serial body left (map.insert bound argument.name v)) line state.out) (for_value state) whole world first second same
-    (run-alike files _ _ _ r at known)
-    (bound-alike files (λ v. Binding context line serial body left (map.insert bound argument.name v)) line state.out whole value first is fits (run-alike files _ _ _ s (files-kept files _ _ _ r at) told))
-    (does-first _ _ _ d)
-run-alike files _ _ _ (value_stops context line serial body argument left bound state refusal last r) at told world same second d = absurd told
-run-alike files _ _ _ (value_too_long context line serial body argument left bound state whole r passes) at told world same second d = absurd told
-run-alike files _ _ _ (body_runs context line serial body bound state first r) at told world same second d = run-alike files _ _ _ r at told world same second (does-first _ _ _ d)
+    let inside : Tells files read = reads-tell files world read reads.0 at in
+    read-alike files place first bytes.items (content-is files world name bytes.items at reads.1) reads.2
+    (λ w' told' second' h. then-alike files (Tokens (file_context context) true found) (Runs (Tokens context fresh rest)) (with_file name bytes.items next) (Goes middle later) first
+    (run-alike files _ _ _ _ r inside) (run-alike files _ _ _ _ k (tells files _ _ _ _ r inside)) w' told' second' (subst (λ x. TakenThen place w' bytes.items x second') taken h))
+    w told second (again context fresh tokens state (Includes line name rest next) w second e d)
+run-alike files _ _ _ _ (included_stops context fresh tokens state world line name rest next read bytes found refusal names later e reads taken r) at w told second d =
+    let place : Inclusion = record { context = context; fresh = fresh; line = line; name = name; rest = rest; next = next } in
+    let inside : Tells files read = reads-tell files world read reads.0 at in
+    read-alike files place (Stops refusal names later) bytes.items (content-is files world name bytes.items at reads.1) reads.2
+    (λ w' told' second' h. then-alike files (Tokens (file_context context) true found) (Runs (Tokens context fresh rest)) (with_file name bytes.items next) (Stops refusal names later) (Stops refusal names later)
+    (run-alike files _ _ _ _ r inside) refl w' told' second' (subst (λ x. TakenThen place w' bytes.items x second') taken h))
+    w told second (again context fresh tokens state (Includes line name rest next) w second e d)
+run-alike files _ _ _ _ (file_faults context fresh tokens state world line name rest next read bytes fault e reads taken) at w told second d =
+    let place : Inclusion = record { context = context; fresh = fresh; line = line; name = name; rest = rest; next = next } in
+    let first : Outcome = Stops (Faulty fault) (next.names ++ name ∷ []) read in
+    read-alike files place first bytes.items (content-is files world name bytes.items at reads.1) reads.2
+    (λ w' told' second' h. let is : second' ≡ Stops (Faulty fault) (next.names ++ name ∷ []) w' = subst (λ x. TakenThen place w' bytes.items x second') taken h in subst (AreAlike first) (sym is) (refl, refl))
+    w told second (again context fresh tokens state (Includes line name rest next) w second e d)
+run-alike files _ _ _ _ (file_too_long context fresh tokens state world line name rest next read e reads) at w told second d =
+    let long = beyond-is files world name 1048576 at reads.1 in
+    too-long-alike files (record { context = context; fresh = fresh; line = line; name = name; rest = rest; next = next }) long.0 read long.1.0 long.1.1
+    w told second (again context fresh tokens state (Includes line name rest next) w second e d)
+run-alike files _ _ _ _ (file_unread context fresh tokens state world line name rest next read e reads) at w told second d = tt
+run-alike files _ _ _ _ (uses context fresh tokens state world block given rest next middle later first e r k) at w told second d =
+    then-alike files (Binding context block.serial block.body (bindings block.parameters given) map.empty) (Runs (Tokens context false rest)) next (Goes middle later) first
+    (run-alike files _ _ _ _ r at) (run-alike files _ _ _ _ k (tells files _ _ _ _ r at)) w told second (again context fresh tokens state (Uses block given rest next) w second e d)
+run-alike files _ _ _ _ (use_stops context fresh tokens state world block given rest next refusal names later e r) at w told second d =
+    then-alike files (Binding context block.serial block.body (bindings block.parameters given) map.empty) (Runs (Tokens context false rest)) next (Stops refusal names later) (Stops refusal names later)
+    (run-alike files _ _ _ _ r at) refl w told second (again context fresh tokens state (Uses block given rest next) w second e d)
+run-alike files _ _ _ _ (binds context serial body argument left bound state world whole later first r k) at w told second d =
+    then-alike files (Tokens context false argument.tokens) (λ s. Runs (Binding context serial body left (map.insert bound argument.name s.out)) (with_out state.out s)) (with_out [] state) (Goes whole later) first
+    (run-alike files _ _ _ _ r at) (run-alike files _ _ _ _ k (tells files _ _ _ _ r at)) w told second (does-first _ _ _ _ d)
+run-alike files _ _ _ _ (value_stops context serial body argument left bound state world refusal names later r) at w told second d =
+    then-alike files (Tokens context false argument.tokens) (λ s. Runs (Binding context serial body left (map.insert bound argument.name s.out)) (with_out state.out s)) (with_out [] state) (Stops refusal names later) (Stops refusal names later)
+    (run-alike files _ _ _ _ r at) refl w told second (does-first _ _ _ _ d)
+run-alike files _ _ _ _ (body_runs context serial body bound state world first r) at w told second d = run-alike files _ _ _ _ r at w told second (does-first _ _ _ _ d)
+
+tokens-alike : (files : Files) (found : Result (List Token) ConfigFault) (state : State) (world again : WorldState) (one other : Outcome) → Tells files world → Tells files again → RunsTokens found state world one → RunsTokens found state again other → AreAlike one other
+tokens-alike files (Ok tokens) state world again one other told told' first second = run-alike files _ _ _ _ first told again told' other second
+tokens-alike files (Err fault) state world again one other told told' first second =
+    subst (λ (x : Outcome). AreAlike x other) (sym first) (subst (AreAlike (Stops (Faulty fault) state.names world)) (sym second) (refl, refl))
+
+-- a text comes to one outcome
+pub one-outcome : (name text : List ℕ) (files : Files) (world again : WorldState) (one other : Outcome) → world.files ≡ Some files → again.files ≡ Some files → RunsMain name text world one → RunsMain name text again other → AreAlike one other
+one-outcome name text files world again one other told told' first second = tokens-alike files (main_tokens text) (first_state name) world again one other told told' first second

@@ -8,18 +8,17 @@ use Rattle.std.specs.Cmp.Lexicographic.{slice_cmp, nat_list_cmp_total}
 use Rattle.std.specs.FinMap.{FinMap, get, insert, empty, get-insert, get-empty}
 use Rattle.sg_list.specs.Lists.{passes_at}
 use Rattle.sg_lex.specs.declared.token.Token.{Token}
-use Rattle.sg_expand.specs.declared.argument.Argument.{Argument}
+use Rattle.sg_block.specs.declared.argument.Argument.{Argument}
 use Rattle.sg_expand.specs.declared.block.Block.{Block}
-use Rattle.sg_expand.specs.declared.form.Definition.{Definition}
-use Rattle.sg_expand.specs.declared.token.Line.{Line}
-use Rattle.sg_expand.specs.Arguments.{has_name, last_named, defaults, bindings}
-use Rattle.sg_expand.specs.Brackets.{Parted, bracket, open_behind, inner_behind, parted_behind, inside, bracketed}
-use Rattle.sg_expand.specs.Forms.{Next, Use, separated, argument_of, next_argument, and_others, arguments_within, arguments, begins_definition, with_body, defined, definition, given_in, use_form}
-use Rattle.sg_expand.specs.Made.{made_behind}
-use Rattle.sg_expand.specs.Output.{listed, counted}
-use Rattle.sg_expand.specs.Tokens.{is_word, is_symbol, token_size, size_of, line_of, text_at, line_at}
-use Rattle.sg_expand.specs.Trimmed.{trimmed}
-use Rattle.sg_expand.specs.Values.{Values, first_of, reached}
+use Rattle.sg_block.specs.declared.form.Definition.{Definition}
+use Rattle.sg_block.specs.declared.token.Line.{Line}
+use Rattle.sg_block.specs.Arguments.{has_name, last_named, defaults, bindings}
+use Rattle.sg_block.specs.Brackets.{Parted, bracket, open_behind, inner_behind, parted_behind, inside, bracketed}
+use Rattle.sg_block.specs.Forms.{Next, Use, separated, argument_of, next_argument, and_others, arguments_within, arguments, begins_definition, with_body, defined, definition, given_in, use_form}
+use Rattle.sg_expand.specs.Total.{counted}
+use Rattle.sg_block.specs.Tokens.{is_word, is_symbol, token_size, line_of, text_at, line_at}
+use Rattle.sg_block.specs.Trimmed.{trimmed}
+use Rattle.sg_block.specs.Values.{Values, first_of, reached}
 
 -- of the one that there is, and of each that a table has
 abbrev pub IfThere : {A : Type 0} → (A → Type 0) → Option A → Type 0
@@ -178,16 +177,16 @@ module _ (n : ℕ) where
   bindings-of parameters given h k = each-append (ArgumentOf n) (last_named given) (defaults parameters given) (last_named-of given k) (defaults-of parameters given h)
 
   -- definitions and uses
-  with_body-of : (name : List ℕ) (given : Option (List Argument)) (body : Option Parted) → IfThere (ArgumentsOf n) given → IfThere (PartedOf n) body → IfThere (DefinitionOf n) (with_body name given body)
-  with_body-of name given None g b = tt
-  with_body-of name None (Some body) g b = tt
-  with_body-of name (Some given) (Some body) g b =
-      let made : Definition = record { name = name; parameters = last_named given; body = body.0; behind = drop 1 body.1 } in
+  with_body-of : (name : List ℕ) (written : List Token) (given : Option (List Argument)) (body : Option Parted) → IfThere (ArgumentsOf n) given → IfThere (PartedOf n) body → IfThere (DefinitionOf n) (with_body name written given body)
+  with_body-of name written given None g b = tt
+  with_body-of name written None (Some body) g b = tt
+  with_body-of name written (Some given) (Some body) g b =
+      let made : Definition = record { name = name; parameters = last_named given; written = written; body = body.0; behind = drop 1 body.1 } in
       there-if (DefinitionOf n) (passes_at body.1 0 (is_symbol 59)) (Some made) None (last_named-of given g, b.0, each-drop (IsOf n) 1 body.1 b.1) tt
 
   defined-of : (name : List ℕ) (given : Option Parted) → IfThere (PartedOf n) given → IfThere (DefinitionOf n) (defined name given)
   defined-of name None h = tt
-  defined-of name (Some given) h = with_body-of name (arguments given.0) (bracketed 123 125 given.1 0) (arguments-of given.0 h.0) (bracketed-of 123 125 given.1 0 h.1)
+  defined-of name (Some given) h = with_body-of name given.0 (arguments given.0) (bracketed 123 125 given.1 0) (arguments-of given.0 h.0) (bracketed-of 123 125 given.1 0 h.1)
 
   pub definition-of : (tokens : List Token) → AreOf n tokens → IfThere (DefinitionOf n) (definition tokens)
   definition-of tokens h =
@@ -223,16 +222,7 @@ module _ (n : ℕ) where
   count-if true x y h k = h
   count-if false x y h k = k
 
-  listed-of : (total : ℕ) (tokens : List Token) → AreOf n tokens → CountOf n (listed total tokens)
-  listed-of total [] h = tt
-  listed-of total (token ∷ tokens) h =
-      count-if (nat_le (total + token_size token) 1048576) (listed (total + token_size token) tokens) (Err (line_of token)) (listed-of (total + token_size token) tokens h.1) h.0
-
-  pub counted-of : (in_value : Bool) (total : ℕ) (tokens : List Token) → AreOf n tokens → CountOf n (counted in_value total tokens)
-  counted-of true total tokens h = tt
-  counted-of false total tokens h = listed-of total tokens h
-
-  pub made-of : (in_value : Bool) (tokens : List Token) (made : Option (List Token)) → AreOf n tokens → IfThere (AreOf n) made → IfThere (AreOf n) (made_behind in_value tokens made)
-  made-of in_value tokens None h k = tt
-  made-of in_value tokens (Some made) h k =
-      there-if (AreOf n) (in_value && nat_lt 1048576 (size_of (made ++ tokens))) None (Some (made ++ tokens)) tt (each-append (IsOf n) made tokens k h)
+  pub counted-of : (total : ℕ) (tokens : List Token) → AreOf n tokens → CountOf n (counted total tokens)
+  counted-of total [] h = tt
+  counted-of total (token ∷ tokens) h =
+      count-if (nat_le (total + token_size token) 1048576) (counted (total + token_size token) tokens) (Err (line_of token)) (counted-of (total + token_size token) tokens h.1) h.0

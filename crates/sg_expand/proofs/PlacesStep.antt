@@ -1,27 +1,27 @@
 -- What the front of a token list asks for stands in files that were read.
-use Rattle.std.proofs.Common.{◌≡◌, ℕ, ◌+◌, ◌<◌, Bool, true, false, cond, nat_le, List, [], ◌∷◌, length, drop, Option, Some, None, Result, Ok, Err}
-use Rattle.std.specs.Prelude.{slice_get, ◌&&◌, ◌||◌, codes}
+use Rattle.std.proofs.Common.{◌≡◌, ℕ, ◌+◌, ◌<◌, Bool, true, false, cond, nat_le, List, length, drop, Option, Some, None, Result, Ok, Err}
+use Rattle.std.specs.Prelude.{slice_get, ◌&&◌, ◌||◌, ◌==◌, codes}
 use Rattle.std.specs.Str.{bytes_eq}
 use Rattle.std.specs.FinMap.{get}
 use Rattle.sg_list.specs.Lists.{passes_at}
 use Rattle.sg_lex.specs.declared.token.Token.{Token}
 use Rattle.sg_lex.specs.declared.fault.ConfigKind.TheVariants.{IncludeDepth, MissingArgument, UnknownArgument, TooLong, Unsupported, Version}
 use Rattle.sg_expand.specs.declared.block.Block.{Block}
-use Rattle.sg_expand.specs.declared.form.Definition.{Definition}
+use Rattle.sg_block.specs.declared.form.Definition.{Definition}
 use Rattle.sg_expand.specs.declared.frame.Context.{Context}
-use Rattle.sg_expand.specs.declared.token.Line.{Line}
-use Rattle.sg_expand.specs.Arguments.{is_missing, is_unknown}
-use Rattle.sg_expand.specs.Expansion.{State, Step, Ends, Moves, Faults, Includes, Uses, charged, emitted_by, emitted, text_of, plain_text, variable_tokens, plain, is_in_reach, used, use_of, word_or_use, definition_or_word, is_version, begins_version, begins_define, begins_include, begins_ignored, version_read, retold, with_variable, define_read, has_wildcard, named_file, included, include_read, step}
-use Rattle.sg_expand.specs.Forms.{Use, definition, use_form}
-use Rattle.sg_expand.specs.Output.{counted}
-use Rattle.sg_expand.specs.Tokens.{is_word, is_tick, is_front, size_of, text_at, line_at}
-use Rattle.sg_expand.specs.Values.{reached, replaced}
-use Rattle.sg_expand.proofs.Places.{IfThere, Tabled, IsOf, AreOf, ArgumentsOf, BlockOf, DefinitionOf, UseOf, CountOf, each-drop, each-get, tabled-insert, line-of, definition-of, use_form-of, reached-of, counted-of, made-of}
+use Rattle.sg_block.specs.declared.token.Line.{Line}
+use Rattle.sg_block.specs.Arguments.{is_missing, is_unknown}
+use Rattle.sg_expand.specs.Expansion.{State, Step, Ends, Moves, Faults, Includes, Uses, charged, emitted_by, emitted, text_of, plain_text, variable_tokens, plain, is_in_reach, use_size, used, use_of, word_or_use, definition_or_word, is_version, begins_version, begins_define, begins_include, begins_ignored, version_read, retold, with_variable, define_read, has_wildcard, named_file, included, include_read, front, step}
+use Rattle.sg_block.specs.Forms.{Use, definition, use_form}
+use Rattle.sg_expand.specs.Total.{counted}
+use Rattle.sg_block.specs.Tokens.{is_word, is_tick, is_front, text_at, line_at}
+use Rattle.sg_block.specs.Values.{reached, replaced}
+use Rattle.sg_expand.proofs.Places.{IfThere, Tabled, IsOf, AreOf, ArgumentsOf, BlockOf, DefinitionOf, UseOf, CountOf, each-drop, each-get, tabled-insert, line-of, definition-of, use_form-of, reached-of, counted-of, each-append}
 
 -- a state of so many files
 abbrev pub StateOf : ℕ → State → Type 0
 StateOf n state =
-    (length state.names ≡ n) × Tabled (AreOf n) state.variables × Tabled (BlockOf n) state.blocks × IfThere (AreOf n) state.out.tokens
+    (length state.names ≡ n) × Tabled (AreOf n) state.variables × Tabled (BlockOf n) state.blocks × AreOf n state.out
 
 abbrev pub ContextOf : ℕ → Context → Type 0
 ContextOf n context = Tabled (AreOf n) context.scope
@@ -31,7 +31,7 @@ StepOf n Ends = Unit {0}
 StepOf n (Moves fresh rest next) = AreOf n rest × StateOf n next
 StepOf n (Faults kind line) = line.file < n
 StepOf n (Includes line name rest next) = (line.file < n) × (AreOf n rest × StateOf n next)
-StepOf n (Uses line block given rest next) = (line.file < n) × (BlockOf n block × (ArgumentsOf n given × (AreOf n rest × StateOf n next)))
+StepOf n (Uses block given rest next) = BlockOf n block × (ArgumentsOf n given × (AreOf n rest × StateOf n next))
 
 module _ (n : ℕ) (some : 0 < n) where
   choice-of : (b : Bool) (x y : Step) → StepOf n x → StepOf n y → StepOf n (cond b x y)
@@ -42,11 +42,11 @@ module _ (n : ℕ) (some : 0 < n) where
   charged-of size line state later h k = choice-of (nat_le (state.total + size) 1048576) (later (record state { total = state.total + size })) (Faults TooLong line) k h
 
   emitted_by-of : (fresh : Bool) (rest tokens : List Token) (state : State) (count : Result ℕ Line) → AreOf n rest → AreOf n tokens → StateOf n state → CountOf n count → StepOf n (emitted_by fresh rest tokens state count)
-  emitted_by-of fresh rest tokens state (Ok total) r t s c = (r, (s.0, s.1, s.2, made-of n state.out.in_value tokens state.out.tokens t s.3))
+  emitted_by-of fresh rest tokens state (Ok total) r t s c = (r, (s.0, s.1, s.2, each-append (IsOf n) state.out tokens s.3 t))
   emitted_by-of fresh rest tokens state (Err line) r t s c = c
 
   emitted-of : (fresh : Bool) (rest tokens : List Token) (state : State) → AreOf n rest → AreOf n tokens → StateOf n state → StepOf n (emitted fresh rest tokens state)
-  emitted-of fresh rest tokens state r t s = emitted_by-of fresh rest tokens state (counted state.out.in_value state.total tokens) r t s (counted-of n state.out.in_value state.total tokens t)
+  emitted-of fresh rest tokens state r t s = emitted_by-of fresh rest tokens state (counted state.total tokens) r t s (counted-of n state.total tokens t)
 
   retold-of : (token : Option Token) (text : List ℕ) → IfThere (IsOf n) token → AreOf n (retold token text)
   retold-of None text h = tt
@@ -70,13 +70,12 @@ module _ (n : ℕ) (some : 0 < n) where
 
   used-of : (tokens : List Token) (block : Block) (given : Use) (state : State) → AreOf n tokens → BlockOf n block → UseOf n given → StateOf n state → StepOf n (used tokens block given state)
   used-of tokens block given state t b u s =
-      let size : ℕ = length (text_at tokens 0) + 1 + size_of block.body in
       let line : Line = line_at tokens 0 in
       let stands : (line_at tokens 0).file < n = line-of n some tokens 0 t in
-      let later : Step = charged size line state (Uses line block given.0 given.1) in
+      let later : Step = charged (use_size tokens block) line state (Uses block given.0 given.1) in
       choice-of (is_missing block.parameters given.0) (Faults MissingArgument line) (cond (is_unknown block.parameters given.0) (Faults UnknownArgument line) later) stands
       (choice-of (is_unknown block.parameters given.0) (Faults UnknownArgument line) later stands
-      (charged-of size line state (Uses line block given.0 given.1) stands (stands, (b, (u.0, (u.1, s))))))
+      (charged-of (use_size tokens block) line state (Uses block given.0 given.1) stands (b, (u.0, (u.1, s)))))
 
   use-of : (context : Context) (tokens : List Token) (state : State) (block : Option Block) (given : Option Use) → ContextOf n context → AreOf n tokens → StateOf n state → IfThere (BlockOf n) block → IfThere (UseOf n) given → StepOf n (use_of context tokens state block given)
   use-of context tokens state None given c t s b u = plain-of context tokens state c t s
@@ -93,7 +92,7 @@ module _ (n : ℕ) (some : 0 < n) where
   definition_or_word-of : (context : Context) (fresh : Bool) (tokens : List Token) (state : State) (found : Option Definition) → ContextOf n context → AreOf n tokens → StateOf n state → IfThere (DefinitionOf n) found → StepOf n (definition_or_word context fresh tokens state found)
   definition_or_word-of context fresh tokens state None c t s d = word-of context fresh tokens state c t s
   definition_or_word-of context fresh tokens state (Some found) c t s d =
-      let block : Block = record { serial = state.serial; parameters = found.parameters; body = found.body } in
+      let block : Block = record { serial = state.serial; parameters = found.parameters; written = found.written; body = found.body } in
       (d.2, (s.0, s.1, tabled-insert (BlockOf n) state.blocks found.name block (d.0, d.1) s.2, s.3))
 
   version-of : (fresh : Bool) (tokens : List Token) (state : State) → AreOf n tokens → StateOf n state → StepOf n (version_read fresh tokens state)
@@ -128,16 +127,15 @@ module _ (n : ℕ) (some : 0 < n) where
 
   -- what is asked for stands in files that were read
   pub step-of : (context : Context) (fresh : Bool) (tokens : List Token) (state : State) → ContextOf n context → AreOf n tokens → StateOf n state → StepOf n (step context fresh tokens state)
-  step-of context fresh [] state c t s = tt
-  step-of context fresh (token ∷ others) state c t s =
-      let tokens : List Token = token ∷ others in
+  step-of context fresh tokens state c t s =
       let word : Step = definition_or_word context fresh tokens state (definition tokens) in
       let ignores : Step = cond (begins_ignored tokens) (Moves fresh (drop 2 tokens) state) word in
-      let includes : Step = cond (begins_include tokens) (include_read context tokens state) ignores in
       let text : Option (List ℕ) = text_of context state tokens 2 in
-      let defines : Step = cond (begins_define tokens) (define_read fresh tokens state text) includes in
-      choice-of (begins_version tokens) (version_read fresh tokens state) defines (version-of fresh tokens state t s)
-      (choice-of (begins_define tokens) (define_read fresh tokens state text) includes (define-of fresh tokens state text t s)
-      (choice-of (begins_include tokens) (include_read context tokens state) ignores (include-of context tokens state t s)
+      let defines : Step = cond (begins_define tokens) (define_read fresh tokens state text) ignores in
+      let versions : Step = cond (begins_version tokens) (version_read fresh tokens state) defines in
+      choice-of (begins_include tokens) (include_read context tokens state) (front context fresh tokens state) (include-of context tokens state t s)
+      (choice-of (length tokens == 0) Ends versions tt
+      (choice-of (begins_version tokens) (version_read fresh tokens state) defines (version-of fresh tokens state t s)
+      (choice-of (begins_define tokens) (define_read fresh tokens state text) ignores (define-of fresh tokens state text t s)
       (choice-of (begins_ignored tokens) (Moves fresh (drop 2 tokens) state) word (each-drop (IsOf n) 2 tokens t, s)
-      (definition_or_word-of context fresh tokens state (definition tokens) c t s (definition-of n tokens t)))))
+      (definition_or_word-of context fresh tokens state (definition tokens) c t s (definition-of n tokens t))))))

@@ -1,6 +1,6 @@
 -- What a configuration is expanded to: a relation by cases, from left to right, over the state of variables, blocks, files and the running
 -- total. Variables, `@define`, `@include` and blocks are those of syslog-ng's administration guide.
-use Rattle.std.specs.Prelude.{◌≡◌, ℕ, ◌+◌, ◌-◌, ◌^◌, ◌<◌, ◌≤◌, min, Bool, true, false, ◌==◌, ◌&&◌, ◌||◌, nat_le, nat_lt, if◌then◌else◌, List, [], ◌∷◌, ◌++◌, length, Option, Some, None, Result, Ok, Err, Vec, codes, drop, slice_get, slice_index}
+use Rattle.std.specs.Prelude.{◌≡◌, ℕ, ◌+◌, ◌-◌, ◌^◌, min, Bool, true, false, ◌==◌, ◌&&◌, ◌||◌, nat_le, nat_lt, if◌then◌else◌, List, [], ◌∷◌, ◌++◌, length, Option, Some, None, Result, Ok, Err, Vec, codes, drop, slice_get, slice_index}
 use Rattle.std.specs.List.{list_any, list_all}
 use Rattle.std.specs.Option.{option_map_or}
 use Rattle.std.specs.Char.{is_ascii_digit}
@@ -10,7 +10,7 @@ use Rattle.std.specs.Cmp.Lexicographic.{slice_cmp}
 use Rattle.std.specs.FinMap as map
 use Rattle.std.specs.declared.alloc.Global.{Global}
 use Rattle.sg_device.specs.Faults.{Rose}
-use Rattle.sg_device.specs.World.{WorldState, Reads}
+use Rattle.sg_outside.specs.World.{WorldState, Reads}
 use Rattle.sg_device.specs.declared.fault.FileRefusal.TheVariants.{Failed, TooLong as FileTooLong}
 use Rattle.sg_list.specs.Lists.{passes_at}
 use Rattle.sg_lex.specs.declared.token.Token.{Token}
@@ -20,22 +20,21 @@ use Rattle.sg_lex.specs.declared.fault.ConfigKind.{ConfigKind}
 use Rattle.sg_lex.specs.declared.fault.ConfigKind.TheVariants.{OpenString, BadByte, Version, IncludeDepth, UnknownVariable, MissingArgument, UnknownArgument, TooLong, Unsupported}
 use Rattle.sg_lex.specs.declared.fault.ConfigFault.{ConfigFault}
 use Rattle.sg_lex.specs.Tokens.{tokens_of, line_at as line_in}
-use Rattle.sg_expand.specs.declared.token.Line.{Line}
-use Rattle.sg_expand.specs.declared.argument.Argument.{Argument}
-use Rattle.sg_expand.specs.declared.form.Definition.{Definition}
+use Rattle.sg_block.specs.declared.token.Line.{Line}
+use Rattle.sg_block.specs.declared.argument.Argument.{Argument}
+use Rattle.sg_block.specs.declared.form.Definition.{Definition}
 use Rattle.sg_expand.specs.declared.block.Block.{Block}
 use Rattle.sg_expand.specs.declared.frame.Context.{Context}
 use Rattle.sg_expand.specs.declared.fault.Expanded.{Expanded}
 use Rattle.sg_expand.specs.declared.fault.ExpandRefusal.{ExpandRefusal}
 use Rattle.sg_expand.specs.declared.fault.ExpandRefusal.TheVariants.{Bad, ReadFault, NoMemory}
-use Rattle.sg_expand.specs.Tokens.{is_word, is_string, is_name, is_at, is_tick, is_symbol, is_front, size_of, text_at, line_at}
-use Rattle.sg_expand.specs.Arguments.{is_missing, is_unknown, bindings}
-use Rattle.sg_expand.specs.Forms.{Use, definition, use_form}
-use Rattle.sg_expand.specs.Trimmed.{trimmed}
-use Rattle.sg_expand.specs.Values.{Values, reached, replaced}
+use Rattle.sg_block.specs.Tokens.{is_word, is_string, is_name, is_at, is_tick, is_symbol, is_front, size_of, text_at, line_at}
+use Rattle.sg_block.specs.Arguments.{is_missing, is_unknown, bindings}
+use Rattle.sg_block.specs.Forms.{Use, definition, use_form}
+use Rattle.sg_block.specs.Trimmed.{trimmed}
+use Rattle.sg_block.specs.Values.{Values, reached, replaced}
 use Rattle.sg_expand.specs.Faults.{fault_at}
-use Rattle.sg_expand.specs.Made.{Made, put, empty_value, empty_list}
-use Rattle.sg_expand.specs.Output.{counted}
+use Rattle.sg_expand.specs.Total.{counted}
 
 -- the blocks by name
 abbrev pub Blocks : Type 0
@@ -49,18 +48,18 @@ pub record State : Type 0 where
   pub total : ℕ
   -- the names of the files read, in order
   pub names : List (List ℕ)
-  pub world : WorldState
   -- the tokens that stand in the list, or in the value that is expanded
-  pub out : Made
+  pub out : List Token
 
 -- why there is no expansion
 pub data Refusal : Type 0 where
   Faulty : ConfigFault → Refusal
   Unread : List ℕ → Refusal
 
+-- what an expansion comes to, and the machine then: a state, or why it stops, with the names of the files read until then
 pub data Outcome : Type 0 where
-  Goes : State → Outcome
-  Stops : Refusal → State → Outcome
+  Goes : State → WorldState → Outcome
+  Stops : Refusal → List (List ℕ) → WorldState → Outcome
 
 -- what the front of a token list asks for
 pub data Step : Type 0 where
@@ -72,20 +71,20 @@ pub data Step : Type 0 where
   Faults : ConfigKind → Line → Step
   -- the directive's line, the name of the file to be read, and the tokens behind it
   Includes : Line → List ℕ → List Token → State → Step
-  -- the word's line, its block, what is given, and the tokens behind it
-  Uses : Line → Block → List Argument → List Token → State → Step
+  -- the block, what is given, and the tokens behind the use
+  Uses : Block → List Argument → List Token → State → Step
 
 -- the running total grows, or the fault stands at the line
 abbrev pub charged : ℕ → Line → State → (State → Step) → Step
 charged size line state later = if nat_le (state.total + size) 1048576 then later (record state { total = state.total + size }) else Faults TooLong line
 
--- tokens go to the list, where each is counted, or to a value
+-- tokens come out, each of which is counted
 abbrev pub emitted_by : Bool → List Token → List Token → State → Result ℕ Line → Step
-emitted_by fresh rest tokens state (Ok total) = Moves fresh rest (record state { total = total; out = put tokens state.out })
+emitted_by fresh rest tokens state (Ok total) = Moves fresh rest (record state { total = total; out = state.out ++ tokens })
 emitted_by fresh rest tokens state (Err line) = Faults TooLong line
 
 abbrev pub emitted : Bool → List Token → List Token → State → Step
-emitted fresh rest tokens state = emitted_by fresh rest tokens state (counted state.out.in_value state.total tokens)
+emitted fresh rest tokens state = emitted_by fresh rest tokens state (counted state.total tokens)
 
 abbrev pub is_directive : List ℕ → List Token → Bool
 is_directive word tokens = passes_at tokens 0 is_at && bytes_eq (text_at tokens 0) word
@@ -126,11 +125,15 @@ abbrev pub is_in_reach : Option ℕ → Block → Bool
 is_in_reach None block = true
 is_in_reach (Some limit) block = nat_lt block.serial limit
 
+-- a use's word and its block's definition, as they are counted
+abbrev pub use_size : List Token → Block → ℕ
+use_size tokens block = length (text_at tokens 0) + 1 + size_of block.written + size_of block.body
+
 abbrev pub used : List Token → Block → Use → State → Step
 used tokens block given state =
     if is_missing block.parameters given.0 then Faults MissingArgument (line_at tokens 0)
     else (if is_unknown block.parameters given.0 then Faults UnknownArgument (line_at tokens 0)
-    else charged (length (text_at tokens 0) + 1 + size_of block.body) (line_at tokens 0) state (Uses (line_at tokens 0) block given.0 given.1))
+    else charged (use_size tokens block) (line_at tokens 0) state (Uses block given.0 given.1))
 
 abbrev pub use_of : Context → List Token → State → Option Block → Option Use → Step
 use_of context tokens state None given = plain context tokens state
@@ -148,7 +151,7 @@ abbrev pub with_block : Definition → State → State
 with_block defined state =
     record state {
       serial = min (state.serial + 1) (2 ^ 64 - 1);
-      blocks = map.insert state.blocks defined.name (record { serial = state.serial; parameters = defined.parameters; body = defined.body });
+      blocks = map.insert state.blocks defined.name (record { serial = state.serial; parameters = defined.parameters; written = defined.written; body = defined.body });
     }
 
 abbrev pub definition_or_word : Context → Bool → List Token → State → Option Definition → Step
@@ -204,22 +207,24 @@ include_read context tokens state =
     if nat_le 15 context.depth then Faults IncludeDepth (line_at tokens 0)
     else included tokens state (replaced context.scope state.variables 0 (text_at tokens 1))
 
--- what stands at the front: a directive with its parts, a definition, a use or a token
+-- what stands at the front: a directive that reads nothing, a definition, a use or a token
+abbrev pub front : Context → Bool → List Token → State → Step
+front context fresh tokens state =
+    if length tokens == 0 then Ends
+    else (if begins_version tokens then version_read fresh tokens state
+    else (if begins_define tokens then define_read fresh tokens state (text_of context state tokens 2)
+    else (if begins_ignored tokens then Moves fresh (drop 2 tokens) state
+    else definition_or_word context fresh tokens state (definition tokens))))
+
 abbrev pub step : Context → Bool → List Token → State → Step
-step context fresh [] state = Ends
-step context fresh (token ∷ tokens) state =
-    if begins_version (token ∷ tokens) then version_read fresh (token ∷ tokens) state
-    else (if begins_define (token ∷ tokens) then define_read fresh (token ∷ tokens) state (text_of context state (token ∷ tokens) 2)
-    else (if begins_include (token ∷ tokens) then include_read context (token ∷ tokens) state
-    else (if begins_ignored (token ∷ tokens) then Moves fresh (drop 2 (token ∷ tokens)) state
-    else definition_or_word context fresh (token ∷ tokens) state (definition (token ∷ tokens)))))
+step context fresh tokens state = if begins_include tokens then include_read context tokens state else front context fresh tokens state
 
 -- what is to be expanded
 pub data Job : Type 0 where
   -- these tokens, at whose front a use may stand or not
   Tokens : Context → Bool → List Token → Job
-  -- a use in a context, at this line, of the block of this number and body: the arguments that are left, with the values that are bound
-  Binding : Context → Line → ℕ → List Token → List Argument → Values → Job
+  -- a use in a context, of the block of this number and body: the arguments that are left, with the values that are bound
+  Binding : Context → ℕ → List Token → List Argument → Values → Job
 
 abbrev pub body_context : Context → Values → ℕ → Context
 body_context context bound serial = record context { scope = bound; limit = Some serial }
@@ -232,100 +237,92 @@ fault_in file text (OpenStringAt place) = record { kind = OpenString; file = fil
 fault_in file text (BadByteAt place) = record { kind = BadByte; file = file; line = line_in text place }
 fault_in file text LexNoMemory = record { kind = BadByte; file = file; line = 1 }
 
--- a file was read: it takes the next number
-abbrev pub with_file : List ℕ → WorldState → State → State
-with_file name world state = record state { names = state.names ++ name ∷ []; world = world }
+-- the tokens of a text, or what is wrong with it
+abbrev pub lexed : ℕ → List ℕ → Result (List Token) LexFault → Result (List Token) ConfigFault
+lexed file text (Ok tokens) = Ok tokens
+lexed file text (Err fault) = Err (fault_in file text fault)
 
-abbrev pub with_total : ℕ → State → State
-with_total size state = record state { total = state.total + size }
+-- the tokens of the next file of this text, which an `@include` at this line asks for, once its bytes are counted
+abbrev pub file_tokens : Line → State → List ℕ → Result (List Token) ConfigFault
+file_tokens line state text =
+    if nat_le (state.total + (length text + 1)) 1048576 then lexed (length state.names) text (tokens_of (length state.names) text)
+    else Err (fault_at TooLong line)
 
--- the state in which a value is begun, and that in which it is whole
-abbrev pub for_value : State → State
-for_value state = record state { out = empty_value }
+-- a file was read, and its bytes were counted: it takes the next number
+abbrev pub with_file : List ℕ → List ℕ → State → State
+with_file name text state = record state { names = state.names ++ name ∷ []; total = state.total + (length text + 1) }
 
-abbrev pub behind_value : Made → List Token → State → State
-behind_value out value state = record state { total = state.total + size_of value; out = out }
+-- the state with nothing, or with these tokens, come out
+abbrev pub with_out : List Token → State → State
+with_out out state = record state { out = out }
 
--- a value that can't be counted any more
-abbrev pub IsPassed : ℕ → Option (List Token) → Type 0
-IsPassed total None = Unit {0}
-IsPassed total (Some value) = 1048576 < total + size_of value
-
--- the job, in a state, comes to this outcome
-pub data Runs : Job → State → Outcome → Type 0 where
-  ends : (context : Context) (fresh : Bool) (tokens : List Token) (state : State)
+-- the job, in a state of the expansion and of the machine, comes to this outcome
+pub data Runs : Job → State → WorldState → Outcome → Type 0 where
+  ends : (context : Context) (fresh : Bool) (tokens : List Token) (state : State) (world : WorldState)
       → step context fresh tokens state ≡ Ends
-      → Runs (Tokens context fresh tokens) state (Goes state)
-  moves : (context : Context) (fresh : Bool) (tokens : List Token) (state : State) (again : Bool) (rest : List Token) (next : State) (outcome : Outcome)
-      → step context fresh tokens state ≡ Moves again rest next → Runs (Tokens context again rest) next outcome
-      → Runs (Tokens context fresh tokens) state outcome
-  faults : (context : Context) (fresh : Bool) (tokens : List Token) (state : State) (kind : ConfigKind) (line : Line)
+      → Runs (Tokens context fresh tokens) state world (Goes state world)
+  moves : (context : Context) (fresh : Bool) (tokens : List Token) (state : State) (world : WorldState) (again : Bool) (rest : List Token) (next : State) (outcome : Outcome)
+      → step context fresh tokens state ≡ Moves again rest next → Runs (Tokens context again rest) next world outcome
+      → Runs (Tokens context fresh tokens) state world outcome
+  faults : (context : Context) (fresh : Bool) (tokens : List Token) (state : State) (world : WorldState) (kind : ConfigKind) (line : Line)
       → step context fresh tokens state ≡ Faults kind line
-      → Runs (Tokens context fresh tokens) state (Stops (Faulty (fault_at kind line)) state)
+      → Runs (Tokens context fresh tokens) state world (Stops (Faulty (fault_at kind line)) state.names world)
   -- a file is read, and its tokens are expanded before those behind the `@include`
-  includes : (context : Context) (fresh : Bool) (tokens : List Token) (state : State) (line : Line) (name : List ℕ) (rest : List Token) (next : State)
-      (world : WorldState) (bytes : Vec ℕ Global) (found : List Token) (middle : State) (outcome : Outcome)
-      → step context fresh tokens state ≡ Includes line name rest next → Reads next.world world name 1048576 (Ok bytes)
-      → next.total + (length bytes.items + 1) ≤ 1048576 → tokens_of (length next.names) bytes.items ≡ Ok found
-      → Runs (Tokens (file_context context) true found) (with_total (length bytes.items + 1) (with_file name world next)) (Goes middle)
-      → Runs (Tokens context fresh rest) middle outcome
-      → Runs (Tokens context fresh tokens) state outcome
-  included_stops : (context : Context) (fresh : Bool) (tokens : List Token) (state : State) (line : Line) (name : List ℕ) (rest : List Token) (next : State)
-      (world : WorldState) (bytes : Vec ℕ Global) (found : List Token) (refusal : Refusal) (last : State)
-      → step context fresh tokens state ≡ Includes line name rest next → Reads next.world world name 1048576 (Ok bytes)
-      → next.total + (length bytes.items + 1) ≤ 1048576 → tokens_of (length next.names) bytes.items ≡ Ok found
-      → Runs (Tokens (file_context context) true found) (with_total (length bytes.items + 1) (with_file name world next)) (Stops refusal last)
-      → Runs (Tokens context fresh tokens) state (Stops refusal last)
-  lexing_faults : (context : Context) (fresh : Bool) (tokens : List Token) (state : State) (line : Line) (name : List ℕ) (rest : List Token) (next : State)
-      (world : WorldState) (bytes : Vec ℕ Global) (fault : LexFault)
-      → step context fresh tokens state ≡ Includes line name rest next → Reads next.world world name 1048576 (Ok bytes)
-      → next.total + (length bytes.items + 1) ≤ 1048576 → tokens_of (length next.names) bytes.items ≡ Err fault
-      → Runs (Tokens context fresh tokens) state (Stops (Faulty (fault_in (length next.names) bytes.items fault)) (with_file name world next))
-  total_passed : (context : Context) (fresh : Bool) (tokens : List Token) (state : State) (line : Line) (name : List ℕ) (rest : List Token) (next : State)
-      (world : WorldState) (bytes : Vec ℕ Global)
-      → step context fresh tokens state ≡ Includes line name rest next → Reads next.world world name 1048576 (Ok bytes)
-      → 1048576 < next.total + (length bytes.items + 1)
-      → Runs (Tokens context fresh tokens) state (Stops (Faulty (fault_at TooLong line)) (with_file name world next))
-  file_too_long : (context : Context) (fresh : Bool) (tokens : List Token) (state : State) (line : Line) (name : List ℕ) (rest : List Token) (next : State)
-      (world : WorldState)
-      → step context fresh tokens state ≡ Includes line name rest next → Reads next.world world name 1048576 (Err FileTooLong)
-      → Runs (Tokens context fresh tokens) state (Stops (Faulty (fault_at TooLong line)) (record next { world = world }))
-  file_unread : (context : Context) (fresh : Bool) (tokens : List Token) (state : State) (line : Line) (name : List ℕ) (rest : List Token) (next : State)
-      (world : WorldState)
-      → step context fresh tokens state ≡ Includes line name rest next → Reads next.world world name 1048576 (Err Failed)
-      → Runs (Tokens context fresh tokens) state (Stops (Unread name) (record next { world = world }))
+  includes : (context : Context) (fresh : Bool) (tokens : List Token) (state : State) (world : WorldState) (line : Line) (name : List ℕ) (rest : List Token) (next : State)
+      (read : WorldState) (bytes : Vec ℕ Global) (found : List Token) (middle : State) (later : WorldState) (outcome : Outcome)
+      → step context fresh tokens state ≡ Includes line name rest next → Reads world read name 1048576 (Ok bytes)
+      → file_tokens line next bytes.items ≡ Ok found
+      → Runs (Tokens (file_context context) true found) (with_file name bytes.items next) read (Goes middle later)
+      → Runs (Tokens context fresh rest) middle later outcome
+      → Runs (Tokens context fresh tokens) state world outcome
+  included_stops : (context : Context) (fresh : Bool) (tokens : List Token) (state : State) (world : WorldState) (line : Line) (name : List ℕ) (rest : List Token) (next : State)
+      (read : WorldState) (bytes : Vec ℕ Global) (found : List Token) (refusal : Refusal) (names : List (List ℕ)) (later : WorldState)
+      → step context fresh tokens state ≡ Includes line name rest next → Reads world read name 1048576 (Ok bytes)
+      → file_tokens line next bytes.items ≡ Ok found
+      → Runs (Tokens (file_context context) true found) (with_file name bytes.items next) read (Stops refusal names later)
+      → Runs (Tokens context fresh tokens) state world (Stops refusal names later)
+  file_faults : (context : Context) (fresh : Bool) (tokens : List Token) (state : State) (world : WorldState) (line : Line) (name : List ℕ) (rest : List Token) (next : State)
+      (read : WorldState) (bytes : Vec ℕ Global) (fault : ConfigFault)
+      → step context fresh tokens state ≡ Includes line name rest next → Reads world read name 1048576 (Ok bytes)
+      → file_tokens line next bytes.items ≡ Err fault
+      → Runs (Tokens context fresh tokens) state world (Stops (Faulty fault) (next.names ++ name ∷ []) read)
+  file_too_long : (context : Context) (fresh : Bool) (tokens : List Token) (state : State) (world : WorldState) (line : Line) (name : List ℕ) (rest : List Token) (next : State)
+      (read : WorldState)
+      → step context fresh tokens state ≡ Includes line name rest next → Reads world read name 1048576 (Err FileTooLong)
+      → Runs (Tokens context fresh tokens) state world (Stops (Faulty (fault_at TooLong line)) next.names read)
+  file_unread : (context : Context) (fresh : Bool) (tokens : List Token) (state : State) (world : WorldState) (line : Line) (name : List ℕ) (rest : List Token) (next : State)
+      (read : WorldState)
+      → step context fresh tokens state ≡ Includes line name rest next → Reads world read name 1048576 (Err Failed)
+      → Runs (Tokens context fresh tokens) state world (Stops (Unread name) next.names read)
   -- a use's values and body are expanded before the tokens behind it
-  uses : (context : Context) (fresh : Bool) (tokens : List Token) (state : State) (line : Line) (block : Block) (given : List Argument) (rest : List Token)
-      (next : State) (middle : State) (outcome : Outcome)
-      → step context fresh tokens state ≡ Uses line block given rest next
-      → Runs (Binding context line block.serial block.body (bindings block.parameters given) map.empty) next (Goes middle)
-      → Runs (Tokens context false rest) middle outcome
-      → Runs (Tokens context fresh tokens) state outcome
-  use_stops : (context : Context) (fresh : Bool) (tokens : List Token) (state : State) (line : Line) (block : Block) (given : List Argument) (rest : List Token)
-      (next : State) (refusal : Refusal) (last : State)
-      → step context fresh tokens state ≡ Uses line block given rest next
-      → Runs (Binding context line block.serial block.body (bindings block.parameters given) map.empty) next (Stops refusal last)
-      → Runs (Tokens context fresh tokens) state (Stops refusal last)
-  -- a value is expanded by itself, counted, and bound
-  binds : (context : Context) (line : Line) (serial : ℕ) (body : List Token) (argument : Argument) (left : List Argument) (bound : Values) (state : State) (whole : State) (value : List Token) (outcome : Outcome)
-      → Runs (Tokens context false argument.tokens) (for_value state) (Goes whole)
-      → whole.out.tokens ≡ Some value → whole.total + size_of value ≤ 1048576
-      → Runs (Binding context line serial body left (map.insert bound argument.name value)) (behind_value state.out value whole) outcome
-      → Runs (Binding context line serial body (argument ∷ left) bound) state outcome
-  value_stops : (context : Context) (line : Line) (serial : ℕ) (body : List Token) (argument : Argument) (left : List Argument) (bound : Values) (state : State) (refusal : Refusal) (last : State)
-      → Runs (Tokens context false argument.tokens) (for_value state) (Stops refusal last)
-      → Runs (Binding context line serial body (argument ∷ left) bound) state (Stops refusal last)
-  value_too_long : (context : Context) (line : Line) (serial : ℕ) (body : List Token) (argument : Argument) (left : List Argument) (bound : Values) (state : State) (whole : State)
-      → Runs (Tokens context false argument.tokens) (for_value state) (Goes whole)
-      → IsPassed whole.total whole.out.tokens
-      → Runs (Binding context line serial body (argument ∷ left) bound) state (Stops (Faulty (fault_at TooLong line)) whole)
+  uses : (context : Context) (fresh : Bool) (tokens : List Token) (state : State) (world : WorldState) (block : Block) (given : List Argument) (rest : List Token)
+      (next : State) (middle : State) (later : WorldState) (outcome : Outcome)
+      → step context fresh tokens state ≡ Uses block given rest next
+      → Runs (Binding context block.serial block.body (bindings block.parameters given) map.empty) next world (Goes middle later)
+      → Runs (Tokens context false rest) middle later outcome
+      → Runs (Tokens context fresh tokens) state world outcome
+  use_stops : (context : Context) (fresh : Bool) (tokens : List Token) (state : State) (world : WorldState) (block : Block) (given : List Argument) (rest : List Token)
+      (next : State) (refusal : Refusal) (names : List (List ℕ)) (later : WorldState)
+      → step context fresh tokens state ≡ Uses block given rest next
+      → Runs (Binding context block.serial block.body (bindings block.parameters given) map.empty) next world (Stops refusal names later)
+      → Runs (Tokens context fresh tokens) state world (Stops refusal names later)
+  -- a value is expanded by itself, and bound
+  binds : (context : Context) (serial : ℕ) (body : List Token) (argument : Argument) (left : List Argument) (bound : Values) (state : State) (world : WorldState)
+      (whole : State) (later : WorldState) (outcome : Outcome)
+      → Runs (Tokens context false argument.tokens) (with_out [] state) world (Goes whole later)
+      → Runs (Binding context serial body left (map.insert bound argument.name whole.out)) (with_out state.out whole) later outcome
+      → Runs (Binding context serial body (argument ∷ left) bound) state world outcome
+  value_stops : (context : Context) (serial : ℕ) (body : List Token) (argument : Argument) (left : List Argument) (bound : Values) (state : State) (world : WorldState)
+      (refusal : Refusal) (names : List (List ℕ)) (later : WorldState)
+      → Runs (Tokens context false argument.tokens) (with_out [] state) world (Stops refusal names later)
+      → Runs (Binding context serial body (argument ∷ left) bound) state world (Stops refusal names later)
   -- then the body, in which the values are in reach
-  body_runs : (context : Context) (line : Line) (serial : ℕ) (body : List Token) (bound : Values) (state : State) (outcome : Outcome)
-      → Runs (Tokens (body_context context bound serial) true (trimmed body)) state outcome
-      → Runs (Binding context line serial body [] bound) state outcome
+  body_runs : (context : Context) (serial : ℕ) (body : List Token) (bound : Values) (state : State) (world : WorldState) (outcome : Outcome)
+      → Runs (Tokens (body_context context bound serial) true (trimmed body)) state world outcome
+      → Runs (Binding context serial body [] bound) state world outcome
 
-abbrev pub first_state : List ℕ → WorldState → State
-first_state name world = record { variables = map.empty; blocks = map.empty; serial = 0; total = 0; names = name ∷ []; world = world; out = empty_list }
+abbrev pub first_state : List ℕ → State
+first_state name = record { variables = map.empty; blocks = map.empty; serial = 0; total = 0; names = name ∷ []; out = [] }
 
 abbrev pub first_context : Context
 first_context = record { depth = 0; scope = map.empty; limit = None }
@@ -333,38 +330,33 @@ first_context = record { depth = 0; scope = map.empty; limit = None }
 abbrev pub first_line : List Token → Line
 first_line tokens = option_map_or (λ token. record { file = token.file; line = token.line }) (slice_get tokens 0) (record { file = 0; line = 1 })
 
-abbrev pub no_version : List Token → ConfigFault
-no_version tokens = fault_at Version (first_line tokens)
+-- the main file's tokens behind its version, or what is wrong with them
+abbrev pub behind_version : List Token → Result (List Token) ConfigFault
+behind_version tokens =
+    if begins_version tokens && is_version (text_at tokens 2) then Ok (drop 3 tokens) else Err (fault_at Version (first_line tokens))
 
-abbrev pub RunsBehind : Bool → List Token → State → Outcome → Type 0
-RunsBehind true tokens state outcome = Runs (Tokens first_context true (drop 3 tokens)) state outcome
-RunsBehind false tokens state outcome = outcome ≡ Stops (Faulty (no_version tokens)) state
+abbrev pub versioned : Result (List Token) ConfigFault → Result (List Token) ConfigFault
+versioned (Ok tokens) = behind_version tokens
+versioned (Err fault) = Err fault
 
--- what the main file's tokens are expanded to: a version comes first
-abbrev pub RunsFirst : List Token → State → Outcome → Type 0
-RunsFirst tokens state outcome = RunsBehind (begins_version tokens && is_version (text_at tokens 2)) tokens state outcome
+-- the tokens of the main file's text, which has a limit
+abbrev pub main_tokens : List ℕ → Result (List Token) ConfigFault
+main_tokens text =
+    if nat_le (length text) 1048576 then versioned (lexed 0 text (tokens_of 0 text)) else Err (record { kind = TooLong; file = 0; line = 1 })
 
-abbrev pub RunsLexed : List ℕ → Result (List Token) LexFault → State → Outcome → Type 0
-RunsLexed text (Err fault) state outcome = outcome ≡ Stops (Faulty (fault_in 0 text fault)) state
-RunsLexed text (Ok tokens) state outcome = RunsFirst tokens state outcome
-
-abbrev pub too_long : ConfigFault
-too_long = record { kind = TooLong; file = 0; line = 1 }
-
-abbrev pub RunsText : Bool → List ℕ → State → Outcome → Type 0
-RunsText true text state outcome = RunsLexed text (tokens_of 0 text) state outcome
-RunsText false text state outcome = outcome ≡ Stops (Faulty too_long) state
+abbrev pub RunsTokens : Result (List Token) ConfigFault → State → WorldState → Outcome → Type 0
+RunsTokens (Ok tokens) state world outcome = Runs (Tokens first_context true tokens) state world outcome
+RunsTokens (Err fault) state world outcome = outcome ≡ Stops (Faulty fault) state.names world
 
 -- the main file's text, of this name, comes to this outcome
 abbrev pub RunsMain : List ℕ → List ℕ → WorldState → Outcome → Type 0
-RunsMain name text world outcome = RunsText (nat_le (length text) 1048576) text (first_state name world) outcome
+RunsMain name text world outcome = RunsTokens (main_tokens text) (first_state name) world outcome
 
--- what an expansion answers is what the text comes to, but for want of memory. A file isn't read only where a reading failed
+-- what an expansion answers is what the text comes to, but for want of memory. A file isn't read only where its reading failed
 abbrev pub IsExpanded : WorldState → WorldState → List ℕ → List ℕ → Result Expanded ExpandRefusal → Type 0
 IsExpanded old new name text (Ok expanded) =
-    (last : State) × (RunsMain name text old (Goes last) × ((last.out.tokens ≡ Some expanded.tokens) × (expanded.names ≡ last.names) × (new ≡ last.world)))
-IsExpanded old new name text (Err (Bad fault names)) =
-    (last : State) × (RunsMain name text old (Stops (Faulty fault) last) × ((names ≡ last.names) × (new ≡ last.world)))
+    (last : State) × (RunsMain name text old (Goes last new) × ((expanded.tokens ≡ last.out) × (expanded.names ≡ last.names)))
+IsExpanded old new name text (Err (Bad fault names)) = RunsMain name text old (Stops (Faulty fault) names new)
 IsExpanded old new name text (Err (ReadFault file)) =
-    (last : State) × (RunsMain name text old (Stops (Unread file) last) × ((new ≡ last.world) × Rose old.read_faults new.read_faults))
+    (names : List (List ℕ)) × (RunsMain name text old (Stops (Unread file) names new) × (Rose old.read_faults new.read_faults × (new.unread ≡ Some file)))
 IsExpanded old new name text (Err NoMemory) = Unit {0}

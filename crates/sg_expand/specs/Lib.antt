@@ -1,14 +1,5 @@
-pub mod Tokens
-pub mod Names
-pub mod Brackets
-pub mod Trimmed
-pub mod Parts
-pub mod Arguments
-pub mod Forms
 pub mod Faults
-pub mod Values
-pub mod Made
-pub mod Output
+pub mod Total
 pub mod Expansion
 pub mod Machine
 pub mod Pending
@@ -16,3 +7,4 @@ pub mod Whole
 pub mod Lexed
 pub mod Places
 pub mod One
+pub mod Bounded

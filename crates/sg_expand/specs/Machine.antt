@@ -1,15 +1,17 @@
 -- What a step does to an expander, for what the front of the tokens asks for.
-use Rattle.std.specs.Prelude.{◌≡◌, ◌⊎◌, ℕ, ◌+◌, ◌<◌, ◌≤◌, Bool, true, false, List, [], ◌∷◌, ◌++◌, length, Option, Some, None, Result, Ok, Err, Vec}
+use Rattle.std.specs.Prelude.{◌≡◌, ◌⊎◌, ℕ, ◌<◌, ◌≤◌, Bool, true, false, List, [], ◌∷◌, ◌++◌, length, Option, Some, None, Result, Ok, Err, Vec}
 use Rattle.std.specs.FinMap as map
 use Rattle.std.specs.declared.alloc.Global.{Global}
-use Rattle.sg_device.specs.World.{WorldState, Reads}
+use Rattle.sg_outside.specs.World.{WorldState, Reads}
 use Rattle.sg_device.specs.declared.fault.FileRefusal.TheVariants.{Failed, TooLong as FileTooLong}
-use Rattle.sg_lex.specs.Tokens.{tokens_of}
 use Rattle.sg_lex.specs.declared.token.Token.{Token}
-use Rattle.sg_lex.specs.declared.token.LexFault.{LexFault}
 use Rattle.sg_lex.specs.declared.fault.ConfigKind.{ConfigKind}
 use Rattle.sg_lex.specs.declared.fault.ConfigKind.TheVariants.{TooLong, UnknownVariable, MissingArgument, UnknownArgument, Unsupported}
-use Rattle.sg_expand.specs.declared.argument.Argument.{Argument}
+use Rattle.sg_block.specs.Arguments.{is_missing, is_unknown, bindings}
+use Rattle.sg_block.specs.Tokens.{line_at}
+use Rattle.sg_block.specs.Trimmed.{trimmed}
+use Rattle.sg_block.specs.declared.argument.Argument.{Argument}
+use Rattle.sg_block.specs.declared.token.Line.{Line}
 use Rattle.sg_expand.specs.declared.block.Block.{Block}
 use Rattle.sg_expand.specs.declared.expander.Expander.{Expander}
 use Rattle.sg_expand.specs.declared.fault.Stop.{Stop}
@@ -19,34 +21,21 @@ use Rattle.sg_expand.specs.declared.frame.Context.{Context}
 use Rattle.sg_expand.specs.declared.frame.Frame.{Frame}
 use Rattle.sg_expand.specs.declared.frame.Frame.TheVariants.{Expands, Binds}
 use Rattle.sg_expand.specs.declared.frame.Wait.{Wait}
-use Rattle.sg_expand.specs.declared.token.Line.{Line}
 use Rattle.sg_expand.specs.declared.uses.Asked.{Asked}
-use Rattle.sg_expand.specs.Arguments.{is_missing, is_unknown, bindings}
-use Rattle.sg_expand.specs.Expansion.{State, Step, Ends, Moves, Faults, Includes, Uses, body_context, file_context, fault_in, with_file, with_total, has_wildcard, charged, plain, word_or_use, IsPassed}
+use Rattle.sg_expand.specs.Expansion.{State, Step, Ends, Moves, Faults, Includes, Uses, body_context, file_context, file_tokens, with_file, has_wildcard, charged, use_size, plain, word_or_use}
 use Rattle.sg_expand.specs.Faults.{fault_at}
-use Rattle.sg_expand.specs.Made.{Made, empty_value}
-use Rattle.sg_expand.specs.Output.{Emits, IsSize}
-use Rattle.sg_expand.specs.Tokens.{size_of, text_at, line_at}
-use Rattle.sg_expand.specs.Trimmed.{trimmed}
+use Rattle.sg_expand.specs.Total.{Emits, IsSize}
 
--- the state in which an expander stands, over a machine
-abbrev pub state_of : Expander → WorldState → State
-state_of expander world = record {
+-- the state in which an expander stands
+abbrev pub state_of : Expander → State
+state_of expander = record {
   variables = expander.variables;
   blocks = expander.blocks;
   serial = expander.serial;
   total = expander.total;
   names = expander.names;
-  world = world;
   out = expander.out;
 }
-
--- nothing stops but for want of memory
-abbrev pub IsDone : Result Unit Stop → Type 0
-IsDone (Ok done) = Unit {0}
-IsDone (Err (Fault fault)) = ⊥
-IsDone (Err (ReadFault name)) = ⊥
-IsDone (Err NoMemory) = Unit {0}
 
 -- these tokens are expanded next
 abbrev pub tokens_frame : Context → Bool → List Token → Frame
@@ -60,15 +49,15 @@ Pushes frames old new (Err (ReadFault name)) = ⊥
 Pushes frames old new (Err NoMemory) = Unit {0}
 
 -- the frames with which the binding of a use goes on, and what comes out then
-abbrev pub call_frames : Call → List Argument → Made → List Frame
+abbrev pub call_frames : Call → List Argument → List Token → List Frame
 call_frames call [] out = tokens_frame (body_context call.context call.bound call.serial) true (trimmed call.body) ∷ []
 call_frames call (argument ∷ left) out =
     Binds (record { call = record call { left = left }; name = argument.name; out = out })
     ∷ tokens_frame call.context false argument.tokens ∷ []
 
-abbrev pub call_out : List Argument → Made → Made
+abbrev pub call_out : List Argument → List Token → List Token
 call_out [] out = out
-call_out (argument ∷ left) out = empty_value
+call_out (argument ∷ left) out = []
 
 -- the binding of a use goes on with the next argument, or with the body
 abbrev pub Calls : Call → Expander → Expander → Result Unit Stop → Type 0
@@ -79,24 +68,27 @@ Calls call old new (Err (Fault fault)) = ⊥
 Calls call old new (Err (ReadFault name)) = ⊥
 Calls call old new (Err NoMemory) = Unit {0}
 
+-- the value that is whole now is bound, and what came out before it stands in its place
+abbrev pub DoesBind : Wait → Expander → Expander → Result Unit Stop → Type 0
+DoesBind wait old new result = Calls (record wait.call { bound = map.insert wait.call.bound wait.name old.out }) (record old { out = wait.out }) new result
+
 -- a use begins: the tokens behind it wait
-abbrev pub call_of : Context → Line → Block → List Argument → Call
-call_of context line block given = record {
+abbrev pub call_of : Context → Block → List Argument → Call
+call_of context block given = record {
   context = context;
-  line = line;
   serial = block.serial;
   body = block.body;
   left = bindings block.parameters given;
   bound = map.empty;
 }
 
-abbrev pub DoesUse : Context → Call → List Token → State → Expander → WorldState → Expander → Result Unit Stop → Type 0
-DoesUse context call rest next old world new (Ok done) =
-    (middle : Expander) × ((state_of middle world ≡ next)
+abbrev pub DoesUse : Context → Call → List Token → State → Expander → Expander → Result Unit Stop → Type 0
+DoesUse context call rest next old new (Ok done) =
+    (middle : Expander) × ((state_of middle ≡ next)
     × ((middle.frames.items ≡ old.frames.items ++ tokens_frame context false rest ∷ []) × Calls call middle new (Ok done)))
-DoesUse context call rest next old world new (Err (Fault fault)) = ⊥
-DoesUse context call rest next old world new (Err (ReadFault name)) = ⊥
-DoesUse context call rest next old world new (Err NoMemory) = Unit {0}
+DoesUse context call rest next old new (Err (Fault fault)) = ⊥
+DoesUse context call rest next old new (Err (ReadFault name)) = ⊥
+DoesUse context call rest next old new (Err NoMemory) = Unit {0}
 
 -- nothing is left to be done
 abbrev pub DoesNothing : Expander → Expander → Result Unit Stop → Type 0
@@ -111,12 +103,12 @@ IsNoMemory (Err (Fault fault)) = ⊥
 IsNoMemory (Err (ReadFault name)) = ⊥
 IsNoMemory (Err NoMemory) = Unit {0}
 
-abbrev pub DoesMove : Context → Bool → List Token → State → Expander → WorldState → Expander → Result Unit Stop → Type 0
-DoesMove context fresh rest next old world new (Ok done) =
-    (state_of new world ≡ next) × (new.frames.items ≡ old.frames.items ++ tokens_frame context fresh rest ∷ [])
-DoesMove context fresh rest next old world new (Err (Fault fault)) = ⊥
-DoesMove context fresh rest next old world new (Err (ReadFault name)) = ⊥
-DoesMove context fresh rest next old world new (Err NoMemory) = Unit {0}
+abbrev pub DoesMove : Context → Bool → List Token → State → Expander → Expander → Result Unit Stop → Type 0
+DoesMove context fresh rest next old new (Ok done) =
+    (state_of new ≡ next) × (new.frames.items ≡ old.frames.items ++ tokens_frame context fresh rest ∷ [])
+DoesMove context fresh rest next old new (Err (Fault fault)) = ⊥
+DoesMove context fresh rest next old new (Err (ReadFault name)) = ⊥
+DoesMove context fresh rest next old new (Err NoMemory) = Unit {0}
 
 abbrev pub DoesFault : ConfigKind → Line → Expander → Expander → Result Unit Stop → Type 0
 DoesFault kind line old new (Ok done) = ⊥
@@ -131,12 +123,12 @@ EmitsToken (Some tokens) line old new result =
     (new ≡ record old { total = new.total; out = new.out }) × Emits tokens old.out old.total new.out new.total result
 
 -- a step that reads no file does what is asked for
-abbrev pub Does : Step → Context → Expander → WorldState → Expander → Result Unit Stop → Type 0
-Does Ends context old world new result = DoesNothing old new result
-Does (Moves fresh rest next) context old world new result = DoesMove context fresh rest next old world new result
-Does (Faults kind line) context old world new result = DoesFault kind line old new result
-Does (Includes line name rest next) context old world new result = IsNoMemory result
-Does (Uses line block given rest next) context old world new result = DoesUse context (call_of context line block given) rest next old world new result
+abbrev pub Does : Step → Context → Expander → Expander → Result Unit Stop → Type 0
+Does Ends context old new result = DoesNothing old new result
+Does (Moves fresh rest next) context old new result = DoesMove context fresh rest next old new result
+Does (Faults kind line) context old new result = DoesFault kind line old new result
+Does (Includes line name rest next) context old new result = IsNoMemory result
+Does (Uses block given rest next) context old new result = DoesUse context (call_of context block given) rest next old new result
 
 -- what a use asks for is the block's
 pub record IsAskedFor (asked : Asked) (size : ℕ) (block : Block) (given : List Argument) : Type 0 where
@@ -145,14 +137,10 @@ pub record IsAskedFor (asked : Asked) (size : ℕ) (block : Block) (given : List
   pub body_is : asked.body ≡ block.body
   pub left_is : asked.left ≡ bindings block.parameters given
 
--- a use's word and its block's body, as they are counted
-abbrev pub use_size_of : List Token → Block → ℕ
-use_size_of tokens block = length (text_at tokens 0) + 1 + size_of block.body
-
 -- a use that gives these arguments, or what is wrong with it
 abbrev pub IsAsked : List Token → Block → List Argument → Result Asked Stop → Type 0
 IsAsked tokens block given (Ok asked) =
-    (is_missing block.parameters given ≡ false) × ((is_unknown block.parameters given ≡ false) × IsAskedFor asked (use_size_of tokens block) block given)
+    (is_missing block.parameters given ≡ false) × ((is_unknown block.parameters given ≡ false) × IsAskedFor asked (use_size tokens block) block given)
 IsAsked tokens block given (Err (Fault fault)) =
     ((is_missing block.parameters given ≡ true) × (fault ≡ fault_at MissingArgument (line_at tokens 0)))
     ⊎ ((is_missing block.parameters given ≡ false) × ((is_unknown block.parameters given ≡ true) × (fault ≡ fault_at UnknownArgument (line_at tokens 0))))
@@ -163,25 +151,25 @@ IsAsked tokens block given (Err NoMemory) = Unit {0}
 abbrev pub FindsUse : Context → Bool → List Token → State → Result (Option (Asked × List Token)) Stop → Type 0
 FindsUse context fresh tokens state (Ok None) = word_or_use context fresh tokens state ≡ plain context tokens state
 FindsUse context fresh tokens state (Ok (Some found)) =
-    (block : Block) × ((given : List Argument) × (IsAskedFor found.0 (use_size_of tokens block) block given
-    × (word_or_use context fresh tokens state ≡ charged (use_size_of tokens block) (line_at tokens 0) state (Uses (line_at tokens 0) block given found.1))))
+    (block : Block) × ((given : List Argument) × (IsAskedFor found.0 (use_size tokens block) block given
+    × (word_or_use context fresh tokens state ≡ charged (use_size tokens block) (line_at tokens 0) state (Uses block given found.1))))
 FindsUse context fresh tokens state (Err (Fault fault)) =
     (kind : ConfigKind) × ((word_or_use context fresh tokens state ≡ Faults kind (line_at tokens 0)) × (fault ≡ fault_at kind (line_at tokens 0)))
 FindsUse context fresh tokens state (Err (ReadFault name)) = ⊥
 FindsUse context fresh tokens state (Err NoMemory) = Unit {0}
 
 -- the use of a block begins, whichever block it is that asks so
-abbrev pub BeginsUse : Context → Line → Asked → List Token → Expander → WorldState → Expander → Result Unit Stop → Type 0
-BeginsUse context line asked rest old world new result =
+abbrev pub BeginsUse : Context → Line → Asked → List Token → Expander → Expander → Result Unit Stop → Type 0
+BeginsUse context line asked rest old new result =
     (size : ℕ) (block : Block) (given : List Argument) → IsAskedFor asked size block given
-    → Does (charged size line (state_of old world) (Uses line block given rest)) context old world new result
+    → Does (charged size line (state_of old) (Uses block given rest)) context old new result
 
 -- the name of the file that an `@include` asks for, which is counted, or what is wrong with it
-abbrev pub NamesFile : Step → Line → List Token → Expander → WorldState → Expander → Result (List ℕ) Stop → Type 0
-NamesFile step line rest old world new (Ok name) = (step ≡ Includes line name rest (state_of new world)) × (new.frames.items ≡ old.frames.items)
-NamesFile step line rest old world new (Err (Fault fault)) = (kind : ConfigKind) × ((place : Line) × ((step ≡ Faults kind place) × ((fault ≡ fault_at kind place) × (new.names ≡ old.names))))
-NamesFile step line rest old world new (Err (ReadFault name)) = ⊥
-NamesFile step line rest old world new (Err NoMemory) = Unit {0}
+abbrev pub NamesFile : Step → Line → List Token → Expander → Expander → Result (List ℕ) Stop → Type 0
+NamesFile step line rest old new (Ok name) = (step ≡ Includes line name rest (state_of new)) × (new.frames.items ≡ old.frames.items)
+NamesFile step line rest old new (Err (Fault fault)) = (kind : ConfigKind) × ((place : Line) × ((step ≡ Faults kind place) × ((fault ≡ fault_at kind place) × (new.names ≡ old.names))))
+NamesFile step line rest old new (Err (ReadFault name)) = ⊥
+NamesFile step line rest old new (Err NoMemory) = Unit {0}
 
 -- whether a file of this name may be read, as the next one
 abbrev pub ChecksName : List (List ℕ) → List ℕ → Line → Result Unit Stop → Type 0
@@ -193,38 +181,26 @@ ChecksName names name line (Err (ReadFault other)) = ⊥
 ChecksName names name line (Err NoMemory) = ⊥
 
 -- a file was read, and its tokens are expanded before those behind the `@include`
-abbrev pub TakesFile : Context → Bool → List ℕ → List Token → State → List ℕ → Expander → WorldState → Expander → WorldState → Line → Result Unit Stop → Type 0
-TakesFile context fresh name rest next bytes old world new world' line (Ok done) =
-    (found : List Token) × ((tokens_of (length next.names) bytes ≡ Ok found) × ((next.total + (length bytes + 1) ≤ 1048576)
-    × ((state_of new world' ≡ with_total (length bytes + 1) (with_file name world' next))
-    × (new.frames.items ≡ old.frames.items ++ tokens_frame context fresh rest ∷ tokens_frame (file_context context) true found ∷ []))))
-TakesFile context fresh name rest next bytes old world new world' line (Err (Fault fault)) =
-    (new.names ≡ next.names ++ name ∷ [])
-    × (((1048576 < next.total + (length bytes + 1)) × (fault ≡ fault_at TooLong line))
-    ⊎ ((next.total + (length bytes + 1) ≤ 1048576)
-    × ((wrong : LexFault) × ((tokens_of (length next.names) bytes ≡ Err wrong) × (fault ≡ fault_in (length next.names) bytes wrong)))))
-TakesFile context fresh name rest next bytes old world new world' line (Err (ReadFault other)) = ⊥
-TakesFile context fresh name rest next bytes old world new world' line (Err NoMemory) = Unit {0}
+abbrev pub TakesFile : Context → Bool → Line → List ℕ → List Token → List ℕ → Expander → Expander → Result Unit Stop → Type 0
+TakesFile context fresh line name rest text old new (Ok done) =
+    (found : List Token) × ((file_tokens line (state_of old) text ≡ Ok found) × ((state_of new ≡ with_file name text (state_of old))
+    × (new.frames.items ≡ old.frames.items ++ tokens_frame context fresh rest ∷ tokens_frame (file_context context) true found ∷ [])))
+TakesFile context fresh line name rest text old new (Err (Fault fault)) =
+    (file_tokens line (state_of old) text ≡ Err fault) × (new.names ≡ old.names ++ name ∷ [])
+TakesFile context fresh line name rest text old new (Err (ReadFault other)) = ⊥
+TakesFile context fresh line name rest text old new (Err NoMemory) = Unit {0}
 
--- what an `@include` of a name that may be read does
+-- what an `@include` of a name that may be read does, from where its name was counted
 abbrev pub DoesInclude : Context → Bool → Line → List ℕ → List Token → State → Expander → WorldState → Expander → WorldState → Result Unit Stop → Type 0
 DoesInclude context fresh line name rest next old world new world' (Err NoMemory) = Unit {0}
 DoesInclude context fresh line name rest next old world new world' (Err (ReadFault other)) =
     (other ≡ name) × (Reads world world' name 1048576 (Err Failed) × (new.names ≡ next.names))
 DoesInclude context fresh line name rest next old world new world' result =
-    ((bytes : Vec ℕ Global) × (Reads world world' name 1048576 (Ok bytes) × TakesFile context fresh name rest next bytes.items old world new world' line result))
+    ((bytes : Vec ℕ Global) × (Reads world world' name 1048576 (Ok bytes)
+    × ((middle : Expander) × ((state_of middle ≡ next) × ((middle.frames.items ≡ old.frames.items) × TakesFile context fresh line name rest bytes.items middle new result)))))
     ⊎ (Reads world world' name 1048576 (Err FileTooLong) × ((result ≡ Err (Fault (fault_at TooLong line))) × (new.names ≡ next.names)))
 
 -- a step does what is asked for
 abbrev pub DoesStep : Step → Context → Bool → Expander → WorldState → Expander → WorldState → Result Unit Stop → Type 0
 DoesStep (Includes line name rest next) context fresh old world new world' result = DoesInclude context fresh line name rest next old world new world' result
-DoesStep step context fresh old world new world' result = (world' ≡ world) × Does step context old world new result
-
--- the value that is whole is bound, unless it can't be counted any more
-abbrev pub DoesBind : Wait → Option (List Token) → Expander → Expander → Result Unit Stop → Type 0
-DoesBind wait value old new (Ok done) =
-    (tokens : List Token) × ((value ≡ Some tokens) × ((old.total + size_of tokens ≤ 1048576)
-    × Calls (record wait.call { bound = map.insert wait.call.bound wait.name tokens }) (record old { total = old.total + size_of tokens; out = wait.out }) new (Ok done)))
-DoesBind wait value old new (Err (Fault fault)) = (fault ≡ fault_at TooLong wait.call.line) × (IsPassed old.total value × (new.names ≡ old.names))
-DoesBind wait value old new (Err (ReadFault name)) = ⊥
-DoesBind wait value old new (Err NoMemory) = Unit {0}
+DoesStep step context fresh old world new world' result = (world' ≡ world) × Does step context old new result

@@ -1,12 +1,12 @@
 // Blocks.
-use crate::argument::Arguments;
-use crate::part::Part;
+use sg_block::{Arguments, Part};
 
 /// A block: how many were defined before it, its parameters, of which those without tokens must be
-/// given, and its body as it is written.
+/// given, and the parameters and the body as they are written.
 #[derive(Drop)]
 pub struct Block {
     pub serial: u64,
     pub parameters: Arguments,
+    pub written: Part,
     pub body: Part,
 }

@@ -4,8 +4,7 @@ ghost use Rattle.sg_expand.specs.Expansion.{is_directive, begins_version, begins
 ghost use Rattle.std.specs.List.{list_all};
 ghost use Rattle.std.specs.Char.{is_ascii_digit};
 
-use crate::part::Part;
-use crate::token::is_at;
+use sg_block::{Part, is_at};
 
 fn is_directive(tokens: &Part, word: &[u8]) -> bool
     ensures { result ≡ is_directive word.now tokens.now }

@@ -1,22 +1,20 @@
 // The state of an expansion, and its end.
-ghost use Rattle.std.specs.Prelude.{◌≡◌, ◌<◌, ◌≤◌, [], ◌∷◌, length, IfOk, OnOk};
+ghost use Rattle.std.specs.Prelude.{◌≡◌, ◌≤◌, [], ◌∷◌, length, IfOk, OnOk};
+ghost use Rattle.sg_expand.specs.Bounded.{IsBounded};
 ghost use Rattle.sg_lex.specs.Tokens.{tokens_of};
-ghost use Rattle.sg_expand.specs.Lexed.{IsLexedPart, PlaceWithin, FaultIn};
-ghost use Rattle.sg_expand.specs.Expansion.{first_line, IsExpanded};
+ghost use Rattle.sg_expand.specs.Lexed.{PlaceWithin, FaultIn};
+ghost use Rattle.sg_expand.specs.Expansion.{lexed, first_line, behind_version, main_tokens, IsExpanded};
 ghost use Rattle.sg_expand.specs.Places.{IsPlaced};
-ghost use Rattle.sg_expand.specs.Whole.{IsNew, ChecksVersion, BeginsText, DoesFrame, Works, RunsWhole};
-ghost use Rattle.sg_device.specs.World.{WorldState, OnlyReads};
+ghost use Rattle.sg_expand.specs.Whole.{IsNew, Gives, BeginsText, DoesFrame, Works, RunsWhole};
+ghost use Rattle.sg_outside.specs.World.{OnlyReads};
 
 use crate::block::Block;
 use crate::directive::{begins_version, is_version};
 use crate::fault::{ExpandRefusal, Expanded, Stop, fault_at};
 use crate::files::Files;
 use crate::frame::{Context, Frame, Rest, Scope, push_frame};
-use crate::output::{Output, Total};
-use crate::part::Part;
-use crate::table::Table;
-use crate::token::Line;
-use crate::values::Values;
+use crate::total::Total;
+use sg_block::{Line, Part, Table, Values};
 use sg_device::{Name, NoMemory};
 use sg_lex::{ConfigFault, ConfigKind, LexFault, TEXT_LIMIT, Token, line_at, tokens};
 use sg_list::Seq;
@@ -34,7 +32,8 @@ pub struct Expander {
     pub total: Total,
     /// The files read, in order.
     pub names: Seq<Name>,
-    pub out: Output,
+    /// The tokens of the list, or of the value that is expanded.
+    pub out: Seq<Token>,
 }
 
 fn fault_in(file: u32, text: &[u8], fault: LexFault) -> Stop
@@ -60,7 +59,7 @@ fn fault_in(file: u32, text: &[u8], fault: LexFault) -> Stop
 /// The tokens of a file.
 pub fn lex(alloc: Global, file: u32, text: &[u8]) -> Result<Part, Stop>
     requires { length text.now ≤ TEXT_LIMIT }
-    ensures { IsLexedPart file text.now (tokens_of file text.now) result }
+    ensures { Gives (lexed file text.now (tokens_of file text.now)) result }
 {
     match tokens(alloc, file, text) {
         Ok(found) => Ok(Part::new(alloc, found)?),
@@ -78,15 +77,27 @@ fn first_line(tokens: &Part) -> Line
     }
 }
 
-/// A main file begins with a version.
-fn check_version(tokens: &Part) -> Result<(), Stop>
-    ensures value { ChecksVersion tokens.now result }
-    ensures within { OnOk result (2 < length tokens.now) }
+/// The tokens behind the version with which a main file begins.
+fn behind_version(tokens: Part) -> Result<Part, Stop>
+    ensures { Gives (behind_version tokens) result }
 {
-    if begins_version(tokens) && is_version(tokens.text(2)) {
-        return Ok(());
+    if begins_version(&tokens) && is_version(tokens.text(2)) {
+        return Ok(tokens.behind(3));
     }
-    Err(Stop::Fault(fault_at(ConfigKind::Version, first_line(tokens))))
+    Err(Stop::Fault(fault_at(ConfigKind::Version, first_line(&tokens))))
+}
+
+/// The tokens of a main file's text behind its version.
+fn main_tokens(alloc: Global, text: &[u8]) -> Result<Part, Stop>
+    ensures { Gives (main_tokens text.now) result }
+{
+    if text.len() > TEXT_LIMIT {
+        return Err(Stop::Fault(fault_at(ConfigKind::TooLong, Line { file: 0, line: 1 })));
+    }
+    match lex(alloc, 0, text) {
+        Ok(found) => behind_version(found),
+        Err(stop) => Err(stop),
+    }
 }
 
 impl Expander {
@@ -103,12 +114,13 @@ impl Expander {
             serial: 0,
             total: Total::new(),
             names,
-            out: Output::list(alloc),
+            out: Seq::empty(alloc),
         })
     }
 
     /// Does what is to be done until nothing is left.
     fn work<F: Files>(&mut self, files: &mut F) -> Result<(), Stop>
+        requires bounded { IsBounded self.old.frames.items self.old }
         ensures does { Works self.old (F.state files.old) self.new (F.state files.new) result }
         ensures reads { OnlyReads (F.state files.old) (F.state files.new) }
     {
@@ -121,8 +133,11 @@ impl Expander {
         Err(Stop::NoMemory)
     }
 
-    /// Does what was to be done first.
+    /// Does what was to be done first. The tokens of the list and of the values that are expanded are
+    /// together at most 1,048,576 before and after it.
     fn do_frame<F: Files>(&mut self, files: &mut F, frame: Frame) -> Result<(), Stop>
+        requires bounded { IsBounded (frame ∷ self.old.frames.items) self.old }
+        ensures bounded { OnOk result (IsBounded self.new.frames.items self.new) }
         ensures does { DoesFrame frame self.old (F.state files.old) self.new (F.state files.new) result }
         ensures reads { OnlyReads (F.state files.old) (F.state files.new) }
     {
@@ -134,16 +149,9 @@ impl Expander {
 
     fn begin(&mut self, text: &[u8]) -> Result<(), Stop>
         requires { self.old.frames.items ≡ [] }
-        ensures { (world : WorldState) → BeginsText text.now self.old world self.new result }
+        ensures { BeginsText text.now self.old self.new result }
     {
-        if text.len() > TEXT_LIMIT {
-            return Err(Stop::Fault(fault_at(ConfigKind::TooLong, Line { file: 0, line: 1 })));
-        }
-        let tokens = lex(self.alloc, 0, text)?;
-        match check_version(&tokens) {
-            Ok(()) => {}
-            Err(stop) => return Err(stop),
-        }
+        let tokens = main_tokens(self.alloc, text)?;
         let context = Context {
             depth: 0,
             scope: Scope::empty(self.alloc)?,
@@ -152,14 +160,15 @@ impl Expander {
         let rest = Rest {
             context,
             fresh: true,
-            tokens: tokens.behind(3),
+            tokens,
         };
         push_frame(&mut self.frames, Frame::Expands(rest))?;
         Ok(())
     }
 
     fn run<F: Files>(&mut self, files: &mut F, text: &[u8]) -> Result<(), Stop>
-        requires { self.old.frames.items ≡ [] }
+        requires empty { self.old.frames.items ≡ [] }
+        requires bounded { IsBounded [] self.old }
         ensures does { RunsWhole text.now self.old (F.state files.old) self.new (F.state files.new) result }
         ensures reads { OnlyReads (F.state files.old) (F.state files.new) }
     {
@@ -171,9 +180,10 @@ impl Expander {
 
 /// Expands the main file of this name and text, and the files that it includes.
 ///
-/// The tokens that come out, the values that are bound, the bodies that are used and the files that
-/// are included have together at most 1,048,576 bytes, one more counted for each. A value is counted
-/// once it is whole.
+/// The tokens that come out, into the list or into a value, the values of variables, the definitions
+/// of blocks, at each use, and the files that are included, with their names, have together at most
+/// 1,048,576 bytes, one more counted for each. So the list and all values that are expanded have at
+/// most as many tokens.
 pub fn expand<F: Files>(
     alloc: Global,
     name: Name,
@@ -190,7 +200,7 @@ pub fn expand<F: Files>(
     };
     match expander.run(files, main) {
         Ok(()) => Ok(Expanded {
-            tokens: expander.out.into_tokens(),
+            tokens: expander.out,
             names: expander.names,
         }),
         Err(Stop::Fault(fault)) => Err(ExpandRefusal::Bad {

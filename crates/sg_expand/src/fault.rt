@@ -3,7 +3,7 @@ ghost use Rattle.std.specs.Prelude.{◌≡◌};
 ghost use Rattle.sg_expand.specs.declared.fault.Stop.TheVariants.{NoMemory as StopNoMemory};
 ghost use Rattle.sg_expand.specs.Faults.{fault_at};
 
-use crate::token::Line;
+use sg_block::Line;
 use sg_device::Name;
 use sg_lex::{ConfigFault, ConfigKind, Token};
 use sg_list::Seq;

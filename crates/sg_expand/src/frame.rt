@@ -1,12 +1,7 @@
 // What is still to be done.
 ghost use Rattle.std.specs.Prelude.{◌≡◌, [], ◌∷◌, ◌++◌, IfOk, OnOk};
 
-use crate::argument::Arguments;
-use crate::output::Output;
-use crate::part::Part;
-use crate::table::Shared;
-use crate::token::Line;
-use crate::values::Values;
+use sg_block::{Arguments, Part, Shared, Values};
 use sg_device::{Name, NoMemory};
 use sg_lex::Token;
 use sg_list::Seq;
@@ -51,7 +46,6 @@ pub struct Rest {
 pub struct Call {
     /// Where the use stands.
     pub context: Context,
-    pub line: Line,
     /// The block's number, and its body.
     pub serial: u64,
     pub body: Part,
@@ -67,7 +61,7 @@ pub struct Wait {
     /// The name to which the value is bound.
     pub name: Name,
     /// What came out before the value began.
-    pub out: Output,
+    pub out: Seq<Token>,
 }
 
 #[derive(Drop)]

@@ -1,7 +1,7 @@
 // Included files.
 ghost use Rattle.std.specs.Prelude.{◌≡◌, ◌<◌, ◌≤◌, length, drop, OnOk};
-ghost use Rattle.sg_device.specs.World.{WorldState, OnlyReads};
-ghost use Rattle.sg_expand.specs.Tokens.{line_at};
+ghost use Rattle.sg_outside.specs.World.{OnlyReads};
+ghost use Rattle.sg_block.specs.Tokens.{line_at};
 ghost use Rattle.sg_expand.specs.Expansion.{include_read, named_file};
 ghost use Rattle.sg_expand.specs.Machine.{DoesStep, TakesFile, NamesFile, ChecksName, state_of};
 
@@ -10,8 +10,7 @@ use crate::expander::{Expander, lex};
 use crate::fault::{Stop, fault_at};
 use crate::files::Files;
 use crate::frame::{Context, Rest, Scope};
-use crate::token::Line;
-use crate::values::{Replaced, replace};
+use sg_block::{Line, Replaced, replace};
 use sg_device::{FileRefusal, Name};
 use sg_lex::ConfigKind;
 
@@ -26,7 +25,7 @@ impl Expander {
         requires { 1 < length rest.now.tokens }
         ensures depth { OnOk result (rest.now.context.depth < 15) }
         ensures names { OnOk result (length self.new.names < 65536) }
-        ensures value { (world : WorldState) → NamesFile (include_read rest.now.context rest.now.tokens (state_of self.old world)) (line_at rest.now.tokens 0) (drop 2 rest.now.tokens) self.old world self.new result }
+        ensures value { NamesFile (include_read rest.now.context rest.now.tokens (state_of self.old)) (line_at rest.now.tokens 0) (drop 2 rest.now.tokens) self.old self.new result }
     {
         let line = rest.tokens.line(0);
         if rest.context.depth >= DEPTH_LIMIT {
@@ -69,7 +68,7 @@ impl Expander {
     /// Expands the file that an `@include` names, and what stands behind it later.
     pub fn include<F: Files>(&mut self, files: &mut F, rest: Rest) -> Result<(), Stop>
         requires { 1 < length rest.tokens }
-        ensures does { DoesStep (include_read rest.context rest.tokens (state_of self.old (F.state files.old))) rest.context rest.fresh self.old (F.state files.old) self.new (F.state files.new) result }
+        ensures does { DoesStep (include_read rest.context rest.tokens (state_of self.old)) rest.context rest.fresh self.old (F.state files.old) self.new (F.state files.new) result }
         ensures reads { OnlyReads (F.state files.old) (F.state files.new) }
     {
         let name = self.file_name(&rest)?;
@@ -92,7 +91,7 @@ impl Expander {
         requires depth { rest.context.depth < 15 }
         requires names { length self.old.names < 65536 }
         requires text { length text.now ≤ 1048576 }
-        ensures { (old world : WorldState) → TakesFile rest.context rest.fresh name (drop 2 rest.tokens) (state_of self.old old) text.now self.old old self.new world line result }
+        ensures { TakesFile rest.context rest.fresh line name (drop 2 rest.tokens) text.now self.old self.new result }
     {
         let number = self.names.len() as u32;
         self.names.push(name)?;

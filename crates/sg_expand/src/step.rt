@@ -2,11 +2,11 @@
 ghost use Rattle.std.specs.Prelude.{◌≡◌, ◌<◌, true, [], ◌∷◌, length, slice_get, IfOk, OnOk};
 ghost use Rattle.std.specs.Option.{option_map};
 ghost use Rattle.std.specs.FinMap as map;
-ghost use Rattle.sg_device.specs.World.{WorldState, OnlyReads};
+ghost use Rattle.sg_outside.specs.World.{OnlyReads};
 ghost use Rattle.sg_list.specs.Lists.{passes_at};
-ghost use Rattle.sg_expand.specs.Tokens.{is_front, is_tick, is_string, text_at, line_at};
-ghost use Rattle.sg_expand.specs.Values.{reached, IsReplaced};
-ghost use Rattle.sg_expand.specs.Expansion.{Moves, retold, step, version_read, define_read, text_of, text_in, plain, with_block, with_variable};
+ghost use Rattle.sg_block.specs.Tokens.{is_front, is_tick, is_string, text_at, line_at};
+ghost use Rattle.sg_block.specs.Values.{reached, IsReplaced};
+ghost use Rattle.sg_expand.specs.Expansion.{Moves, retold, front, step, version_read, define_read, text_of, text_in, plain, with_block, with_variable};
 ghost use Rattle.sg_expand.specs.Machine.{Does, DoesStep, Pushes, tokens_frame, state_of, EmitsToken};
 
 use crate::block::Block;
@@ -14,11 +14,9 @@ use crate::directive::{begins_define, begins_ignored, begins_include, begins_ver
 use crate::expander::Expander;
 use crate::fault::{Stop, fault_at};
 use crate::files::Files;
-use crate::form::{Definition, read_definition};
 use crate::frame::{Context, Frame, Rest, push_frame};
-use crate::part::Part;
-use crate::token::{is_front, is_tick};
-use crate::values::{Replaced, find, replace};
+use crate::total::{put, put_all};
+use sg_block::{Definition, Part, Replaced, find, is_front, is_tick, read_definition, replace};
 use sg_device::{Name, NoMemory};
 use sg_lex::{ConfigKind, Token};
 use sg_list::Seq;
@@ -59,8 +57,17 @@ fn is_tick_at(tokens: &Part, place: usize) -> bool
 impl Expander {
     /// Does what the front of these tokens asks for.
     pub fn step<F: Files>(&mut self, files: &mut F, rest: Rest) -> Result<(), Stop>
-        ensures does { DoesStep (step rest.context rest.fresh rest.tokens (state_of self.old (F.state files.old))) rest.context rest.fresh self.old (F.state files.old) self.new (F.state files.new) result }
+        ensures does { DoesStep (step rest.context rest.fresh rest.tokens (state_of self.old)) rest.context rest.fresh self.old (F.state files.old) self.new (F.state files.new) result }
         ensures reads { OnlyReads (F.state files.old) (F.state files.new) }
+    {
+        if begins_include(&rest.tokens) {
+            return self.include(files, rest);
+        }
+        self.step_without_files(rest)
+    }
+
+    fn step_without_files(&mut self, rest: Rest) -> Result<(), Stop>
+        ensures { Does (front rest.context rest.fresh rest.tokens (state_of self.old)) rest.context self.old self.new result }
     {
         if rest.tokens.is_empty() {
             return Ok(());
@@ -70,9 +77,6 @@ impl Expander {
         }
         if begins_define(&rest.tokens) {
             return self.define(rest);
-        }
-        if begins_include(&rest.tokens) {
-            return self.include(files, rest);
         }
         if begins_ignored(&rest.tokens) {
             return self.go_on(rest.context, rest.fresh, rest.tokens.behind(2));
@@ -98,7 +102,7 @@ impl Expander {
 
     fn read_version(&mut self, rest: Rest) -> Result<(), Stop>
         requires { 2 < length rest.tokens }
-        ensures { (world : WorldState) → Does (version_read rest.fresh rest.tokens (state_of self.old world)) rest.context self.old world self.new result }
+        ensures { Does (version_read rest.fresh rest.tokens (state_of self.old)) rest.context self.old self.new result }
     {
         let word = rest.tokens.text(2);
         if is_version(word) || word == b"current".as_slice() {
@@ -136,7 +140,7 @@ impl Expander {
 
     fn define(&mut self, rest: Rest) -> Result<(), Stop>
         requires { 2 < length rest.tokens }
-        ensures { (world : WorldState) → Does (define_read rest.fresh rest.tokens (state_of self.old world) (text_of rest.context (state_of self.old world) rest.tokens 2)) rest.context self.old world self.new result }
+        ensures { Does (define_read rest.fresh rest.tokens (state_of self.old) (text_of rest.context (state_of self.old) rest.tokens 2)) rest.context self.old self.new result }
     {
         let line = rest.tokens.line(0);
         match self.text_of(&rest.context, &rest.tokens, 2, self.total.room())? {
@@ -165,11 +169,12 @@ impl Expander {
     }
 
     fn define_block(&mut self, context: Context, defined: Definition) -> Result<(), Stop>
-        ensures { (world : WorldState) → Does (Moves true defined.behind (with_block defined (state_of self.old world))) context self.old world self.new result }
+        ensures { Does (Moves true defined.behind (with_block defined (state_of self.old))) context self.old self.new result }
     {
         let block = Block {
             serial: self.serial,
             parameters: defined.parameters,
+            written: defined.written,
             body: defined.body,
         };
         self.blocks.insert(defined.name.into_vec(), block)?;
@@ -180,7 +185,7 @@ impl Expander {
     /// Puts out the token at the front, with variables replaced.
     pub fn emit(&mut self, rest: Rest) -> Result<(), Stop>
         requires { 0 < length rest.tokens }
-        ensures { (world : WorldState) → Does (plain rest.context rest.tokens (state_of self.old world)) rest.context self.old world self.new result }
+        ensures { Does (plain rest.context rest.tokens (state_of self.old)) rest.context self.old self.new result }
     {
         if is_tick_at(&rest.tokens, 0) {
             self.emit_variable(&rest)?;
@@ -200,7 +205,7 @@ impl Expander {
             &self.variables,
             rest.tokens.text(0),
         ) {
-            Some(value) => self.out.put_all(&mut self.total, value.as_slice()),
+            Some(value) => put_all(&mut self.out, &mut self.total, value.as_slice()),
             None => Err(Stop::Fault(fault_at(ConfigKind::UnknownVariable, rest.tokens.line(0)))),
         }
     }
@@ -209,14 +214,15 @@ impl Expander {
         requires { 0 < length rest.now.tokens }
         ensures { EmitsToken (option_map (retold (slice_get rest.now.tokens 0)) (text_in rest.now.context.scope self.old.variables rest.now.tokens 0)) (line_at rest.now.tokens 0) self.old self.new result }
     {
-        let room = self.out.room(&self.total);
-        match self.text_of(&rest.context, &rest.tokens, 0, room)? {
-            Replaced::Unknown => Err(Stop::Fault(fault_at(
-                ConfigKind::UnknownVariable,
-                rest.tokens.line(0),
-            ))),
-            Replaced::TooLong => self.out.pass(rest.tokens.line(0)),
-            Replaced::Text(text) => self.out.put(&mut self.total, retold(&rest.tokens, 0, text)),
+        let line = rest.tokens.line(0);
+        match self.text_of(&rest.context, &rest.tokens, 0, self.total.room())? {
+            Replaced::Unknown => Err(Stop::Fault(fault_at(ConfigKind::UnknownVariable, line))),
+            Replaced::TooLong => Err(Stop::Fault(fault_at(ConfigKind::TooLong, line))),
+            Replaced::Text(text) => put(
+                &mut self.out,
+                &mut self.total,
+                retold(&rest.tokens, 0, text),
+            ),
         }
     }
 }

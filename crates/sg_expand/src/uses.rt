@@ -1,42 +1,37 @@
 // Uses of blocks.
 ghost use Rattle.std.specs.Prelude.{◌≡◌, ◌+◌, ◌^◌, ◌<◌, ◌≤◌, [], ◌∷◌, true, length, OnOk};
 ghost use Rattle.std.specs.FinMap as map;
-ghost use Rattle.sg_expand.specs.Made.{empty_value};
-ghost use Rattle.sg_expand.specs.Trimmed.{trimmed};
-ghost use Rattle.sg_expand.specs.Tokens.{size_of, line_at};
-ghost use Rattle.sg_expand.specs.Output.{IsSize};
+ghost use Rattle.sg_block.specs.Trimmed.{trimmed};
+ghost use Rattle.sg_block.specs.Tokens.{size_of, line_at};
+ghost use Rattle.sg_expand.specs.Total.{IsSize};
 ghost use Rattle.sg_expand.specs.Expansion.{is_in_reach, word_or_use, body_context};
 ghost use Rattle.sg_expand.specs.Machine.{IsAsked, FindsUse, BeginsUse, Does, DoesBind, Calls, Pushes, tokens_frame, state_of};
-ghost use Rattle.sg_device.specs.World.{WorldState};
 
-use crate::argument::Arguments;
 use crate::block::Block;
 use crate::expander::Expander;
 use crate::fault::{Stop, fault_at};
-use crate::form::use_form;
 use crate::frame::{Call, Context, Frame, Rest, Scope, Wait, push_frame};
-use crate::output::{Output, TOTAL_LIMIT};
-use crate::part::Part;
-use crate::token::token_size;
-use crate::values::Values;
+use crate::total::TOTAL_LIMIT;
+use sg_block::{Arguments, Part, Values, token_size, use_form};
 use sg_device::NoMemory;
-use sg_lex::ConfigKind;
+use sg_lex::{ConfigKind, Token};
 use sg_list::Seq;
 use std::alloc::Global;
 
-/// So many bytes, the texts' bytes and one more for each token, as far as these are within the limit.
-fn use_size(word: u64, body: &Part) -> u64
-    requires { word ≤ 2 ^ 63 }
-    ensures { IsSize (word + size_of body.now) result }
+/// A size with those of the tokens, as far as these are within the limit.
+fn with_sizes(size: u64, tokens: &Part) -> u64
+    requires { size ≤ 1048576 + 2 ^ 63 }
+    ensures value { IsSize (size + size_of tokens.now) result }
+    ensures bound { result ≤ 1048576 + 2 ^ 63 }
 {
-    let mut size = word;
-    for place in 0..body.len() {
-        if size > TOTAL_LIMIT {
-            return size;
+    let mut whole = size;
+    for place in 0..tokens.len() {
+        if whole > TOTAL_LIMIT {
+            return whole;
         }
-        size += token_size(body.at(place));
+        whole += token_size(tokens.at(place));
     }
-    size
+    whole
 }
 
 fn is_in_reach(limit: Option<u64>, block: &Block) -> bool
@@ -68,7 +63,10 @@ fn ask(alloc: Global, tokens: &Part, block: &Block, given: Arguments) -> Result<
         return Err(Stop::Fault(fault_at(ConfigKind::UnknownArgument, tokens.line(0))));
     }
     Ok(Asked {
-        size: use_size(token_size(tokens.at(0)), &block.body),
+        size: with_sizes(
+            with_sizes(token_size(tokens.at(0)), &block.written),
+            &block.body,
+        ),
         serial: block.serial,
         body: block.body.share()?,
         left: block.parameters.bindings(alloc, given)?,
@@ -79,7 +77,7 @@ impl Expander {
     /// What the use at the front asks for, and the tokens behind it: none where none stands there.
     fn find_use(&self, rest: &Rest) -> Result<Option<(Asked, Part)>, Stop>
         requires { 0 < length rest.now.tokens }
-        ensures { (world : WorldState) → FindsUse rest.now.context rest.now.fresh rest.now.tokens (state_of self.now world) result }
+        ensures { FindsUse rest.now.context rest.now.fresh rest.now.tokens (state_of self.now) result }
     {
         if !rest.fresh || !rest.tokens.is_word_at(0) {
             return Ok(None);
@@ -102,7 +100,7 @@ impl Expander {
     /// Begins the use at the front, or puts out the token.
     pub fn use_or_emit(&mut self, rest: Rest) -> Result<(), Stop>
         requires { 0 < length rest.tokens }
-        ensures { (world : WorldState) → Does (word_or_use rest.context rest.fresh rest.tokens (state_of self.old world)) rest.context self.old world self.new result }
+        ensures { Does (word_or_use rest.context rest.fresh rest.tokens (state_of self.old)) rest.context self.old self.new result }
     {
         match self.find_use(&rest)? {
             Some((asked, behind)) => self.begin_use(rest, asked, behind),
@@ -112,13 +110,12 @@ impl Expander {
 
     fn begin_use(&mut self, rest: Rest, asked: Asked, behind: Part) -> Result<(), Stop>
         requires { 0 < length rest.tokens }
-        ensures { (world : WorldState) → BeginsUse rest.context (line_at rest.tokens 0) asked behind self.old world self.new result }
+        ensures { BeginsUse rest.context (line_at rest.tokens 0) asked behind self.old self.new result }
     {
         let line = rest.tokens.line(0);
         self.total.charge(asked.size, line)?;
         let call = Call {
             context: rest.context.share()?,
-            line,
             serial: asked.serial,
             body: asked.body,
             left: asked.left,
@@ -149,11 +146,11 @@ impl Expander {
     }
 
     /// Begins a value, and gives what came out before it.
-    fn new_value(&mut self) -> Output
+    fn new_value(&mut self) -> Seq<Token>
         ensures before { result ≡ self.old.out }
-        ensures value { self.new ≡ record self.old { out = empty_value } }
+        ensures value { self.new ≡ record self.old { out = [] } }
     {
-        std::mem::replace(&mut self.out, Output::value(self.alloc))
+        std::mem::replace(&mut self.out, Seq::empty(self.alloc))
     }
 
     fn expand_body(&mut self, call: Call) -> Result<(), Stop>
@@ -169,21 +166,16 @@ impl Expander {
 
     /// Binds the value that is whole now.
     pub fn bind(&mut self, wait: Wait) -> Result<(), Stop>
-        ensures { self.old.out.in_value ≡ true → DoesBind wait self.old.out.tokens self.old self.new result }
+        ensures { DoesBind wait self.old self.new result }
     {
-        self.total.charge(self.out.value_size(), wait.call.line)?;
         let value = std::mem::replace(&mut self.out, wait.out);
         let mut call = wait.call;
-        insert_value(&mut call.bound, wait.name.into_vec(), value.into_tokens())?;
+        insert_value(&mut call.bound, wait.name.into_vec(), value)?;
         self.bind_next(call)
     }
 }
 
-fn insert_value(
-    bound: &mut Values,
-    name: Vec<u8>,
-    tokens: Seq<sg_lex::Token>,
-) -> Result<(), NoMemory>
+fn insert_value(bound: &mut Values, name: Vec<u8>, tokens: Seq<Token>) -> Result<(), NoMemory>
     ensures { OnOk result (bound.new ≡ map.insert bound.old name.items tokens) }
 {
     bound.insert(name, tokens)?;

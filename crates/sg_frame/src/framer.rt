@@ -143,3 +143,10 @@ impl Framer {
         self.scanned = 0;
     }
 }
+
+// A framer may be handed to another thread.
+fn is_send<T: Send>() {}
+
+fn framer_is_send() {
+    is_send::<Framer>();
+}

@@ -4,11 +4,14 @@ use Rattle.std.specs.declared.alloc.Global.{Global}
 use Rattle.sg_device.specs.Disk.{DiskState}
 use Rattle.sg_device.specs.Inlet.{InletState}
 use Rattle.sg_device.specs.Outlet.{OutletState}
-use Rattle.sg_host.specs.Counts.{inlet_state, outlet_state}
-use Rattle.sg_host.specs.Store.{disk_state}
+use Rattle.sg_device.specs.Paths.{PathsState}
+use Rattle.sg_file.specs.Counts.{inlet_state, outlet_state}
+use Rattle.sg_file.specs.Store.{disk_state}
+use Rattle.sg_host.specs.Counts.{paths_state}
 use Rattle.sg_host.specs.declared.cells.InletCell.{InletCell, InletCell', Held-InletCell-before, None', Some'}
 use Rattle.sg_host.specs.declared.cells.OutletCell.{OutletCell, OutletCell', Held-OutletCell-before, None' as NoOutlet, Some' as SomeOutlet}
 use Rattle.sg_host.specs.declared.cells.StoreCell.{StoreCell, StoreCell', Held-StoreCell-before, None' as NoStore, Some' as SomeStore}
+use Rattle.sg_host.specs.declared.cells.PathsCell.{PathsCell, PathsCell', Held-PathsCell-before, None' as NoPaths, Some' as SomePaths}
 
 abbrev mutual
   pub inlet_cells : InletCell → List InletState
@@ -26,6 +29,22 @@ abbrev mutual
   outlet_cells_before NoOutlet = []
   outlet_cells_before (SomeOutlet p cell) = outlet_cells cell
 
+abbrev mutual
+  pub store_cells : StoreCell → List DiskState
+  store_cells (StoreCell' faults before) = store_cells_before before ++ disk_state faults ∷ []
+
+  pub store_cells_before : Held-StoreCell-before → List DiskState
+  store_cells_before NoStore = []
+  store_cells_before (SomeStore p cell) = store_cells cell
+
+abbrev mutual
+  pub paths_cells : PathsCell → List PathsState
+  paths_cells (PathsCell' counts before) = paths_cells_before before ++ paths_state counts ∷ []
+
+  pub paths_cells_before : Held-PathsCell-before → List PathsState
+  paths_cells_before NoPaths = []
+  paths_cells_before (SomePaths p cell) = paths_cells cell
+
 -- the states in which the inlets were closed, in order, of which this is the last
 abbrev pub inlet_states : Option (Box InletCell Global) → List InletState
 inlet_states None = []
@@ -35,14 +54,10 @@ abbrev pub outlet_states : Option (Box OutletCell Global) → List OutletState
 outlet_states None = []
 outlet_states (Some cell) = outlet_cells cell.value
 
-abbrev mutual
-  pub store_cells : StoreCell → List DiskState
-  store_cells (StoreCell' faults before) = store_cells_before before ++ disk_state faults ∷ []
-
-  pub store_cells_before : Held-StoreCell-before → List DiskState
-  store_cells_before NoStore = []
-  store_cells_before (SomeStore p cell) = store_cells cell
-
 abbrev pub store_states : Option (Box StoreCell Global) → List DiskState
 store_states None = []
 store_states (Some cell) = store_cells cell.value
+
+abbrev pub paths_states : Option (Box PathsCell Global) → List PathsState
+paths_states None = []
+paths_states (Some cell) = paths_cells cell.value

@@ -1,34 +1,11 @@
--- What real devices tell by their counts. They tell nothing of content.
-use Rattle.std.specs.Prelude.{ℕ, ◌+◌, None, codes, false}
-use Rattle.sg_device.specs.Inlet.{InletState}
-use Rattle.sg_device.specs.Outlet.{OutletState}
-use Rattle.sg_host.specs.declared.counts.InletCounts.{InletCounts}
-use Rattle.sg_host.specs.declared.counts.OutletCounts.{OutletCounts}
+-- What an opener of real files tells by its counts.
+use Rattle.std.specs.Prelude.{[], None}
+use Rattle.sg_device.specs.Paths.{PathsState}
+use Rattle.sg_host.specs.declared.paths.PathCounts.{PathCounts}
 
--- an inlet over a file, which has one part
-abbrev pub inlet_state : InletCounts → InletState
-inlet_state counts = record {
-  told = None;
-  left = None;
-  peer = codes "localhost";
-  from = counts.from;
-  place = counts.from + counts.bytes;
-  pulls = counts.pulls;
-  idles = counts.idles;
-  bytes = counts.bytes;
-  parts = 1;
-  faults = counts.faults;
-  ended = counts.ended;
-  hung = counts.hung;
-}
+abbrev pub paths_state : PathCounts → PathsState
+paths_state counts = record { opened = counts.opened.items; taken = None; faults = counts.faults; laters = counts.laters }
 
--- a file that is read from this place on, of which nothing was given yet
-abbrev pub new_inlet : ℕ → InletState
-new_inlet from = inlet_state (record { from = from; bytes = 0; pulls = 0; idles = 0; faults = 0; ended = false; hung = false })
-
-abbrev pub outlet_state : OutletCounts → OutletState
-outlet_state counts = record { taken = None; count = counts.taken; faults = counts.faults }
-
--- an outlet that took nothing yet
-abbrev pub new_outlet : OutletState
-new_outlet = record { taken = None; count = 0; faults = 0 }
+-- an opener that has opened nothing yet
+abbrev pub new_paths : PathsState
+new_paths = record { opened = []; taken = None; faults = 0; laters = 0 }

@@ -6,23 +6,34 @@ use Rattle.sg_outside.specs.World.{Ledger, Opened, StandsIn, with_opened}
 use Rattle.sg_device.specs.declared.fault.OpenRefusal.{OpenRefusal}
 use Rattle.sg_device.specs.declared.fault.OpenRefusal.TheVariants.{Failed, NoMemory}
 use Rattle.sg_outside.specs.declared.request.InletSpec.{InletSpec}
+use Rattle.sg_file.specs.Counts.{inlet_state}
+use Rattle.sg_file.specs.Inlet.{inlet_of}
+use Rattle.sg_net.specs.Slot.{slot_of}
 use Rattle.sg_host.specs.Cells.{inlet_states}
-use Rattle.sg_host.specs.Counts.{new_inlet}
-use Rattle.sg_host.specs.Inlet.{inlet_of}
 use Rattle.sg_host.specs.declared.inlets.HostFeed.{HostFeed}
 use Rattle.sg_host.specs.declared.inlets.HostInlets.{HostInlets}
 use Rattle.sg_host.specs.declared.inlets.OpenedInlet.{OpenedInlet}
+use Rattle.sg_host.specs.declared.inlets.Source.{Source}
+use Rattle.sg_host.specs.declared.inlets.Source.TheVariants.{File, Slot}
+
+abbrev pub source_of : Source → InletState
+source_of (File file) = inlet_of file
+source_of (Slot slot) = slot_of slot
 
 abbrev pub feed_of : HostFeed → InletState
-feed_of feed = inlet_of feed.inlet
+feed_of feed = source_of feed.source
 
 -- an inlet at its opening
 abbrev pub opened_inlet : OpenedInlet → Opened InletSpec InletState
-opened_inlet opened = record { spec = opened.spec; state = new_inlet opened.from }
+opened_inlet opened = record { spec = opened.spec; state = inlet_state opened.counts }
 
 -- those opened and those closed
 abbrev pub inlets_of : HostInlets → Ledger InletSpec InletState
 inlets_of inlets = record { opened = map opened_inlet inlets.opened.items; closed = inlet_states inlets.closed }
+
+-- it stands at its place, and nothing was given yet
+abbrev pub IsOpenedFor : InletSpec → ℕ → InletState → Type 0
+IsOpenedFor spec from inlet = IsFresh inlet × StandsIn None spec from inlet
 
 -- the inlet stands at its place, and nothing was given yet
 abbrev pub InletsOpen : HostInlets → HostInlets → InletSpec → ℕ → InletState → ℕ → Type 0

@@ -1,11 +1,7 @@
 pub mod Counts
-pub mod Inlet
-pub mod Reading
-pub mod Seeking
-pub mod Outlet
 pub mod Cells
 pub mod Inlets
 pub mod Outlets
-pub mod Store
-pub mod NothingTold
 pub mod Stores
+pub mod Paths
+pub mod Saying

@@ -6,14 +6,21 @@ use Rattle.sg_outside.specs.World.{Ledger, Opened, with_opened}
 use Rattle.sg_device.specs.declared.fault.OpenRefusal.{OpenRefusal}
 use Rattle.sg_device.specs.declared.fault.OpenRefusal.TheVariants.{Failed, NoMemory}
 use Rattle.sg_outside.specs.declared.request.OutletSpec.{OutletSpec}
+use Rattle.sg_file.specs.Counts.{new_outlet}
+use Rattle.sg_file.specs.Outlet.{outlet_of}
+use Rattle.sg_net.specs.Outlet.{tcp_of}
 use Rattle.sg_host.specs.Cells.{outlet_states}
-use Rattle.sg_host.specs.Counts.{new_outlet}
-use Rattle.sg_host.specs.Outlet.{outlet_of}
 use Rattle.sg_host.specs.declared.outlets.HostDrain.{HostDrain}
 use Rattle.sg_host.specs.declared.outlets.HostOutlets.{HostOutlets}
+use Rattle.sg_host.specs.declared.outlets.Sink.{Sink}
+use Rattle.sg_host.specs.declared.outlets.Sink.TheVariants.{File, Tcp}
+
+abbrev pub sink_of : Sink → OutletState
+sink_of (File file) = outlet_of file
+sink_of (Tcp tcp) = tcp_of tcp
 
 abbrev pub drain_of : HostDrain → OutletState
-drain_of drain = outlet_of drain.outlet
+drain_of drain = sink_of drain.sink
 
 -- an outlet at its opening
 abbrev pub opened_outlet : OutletSpec → Opened OutletSpec OutletState

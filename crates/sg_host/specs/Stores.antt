@@ -7,7 +7,7 @@ use Rattle.sg_device.specs.declared.fault.OpenRefusal.{OpenRefusal}
 use Rattle.sg_device.specs.declared.fault.OpenRefusal.TheVariants.{Failed, NoMemory}
 use Rattle.sg_outside.specs.declared.request.StoreSpec.{StoreSpec}
 use Rattle.sg_host.specs.Cells.{store_states}
-use Rattle.sg_host.specs.Store.{disk_of, new_disk}
+use Rattle.sg_file.specs.Store.{disk_of, new_disk}
 use Rattle.sg_host.specs.declared.stores.HostStore.{HostStore}
 use Rattle.sg_host.specs.declared.stores.HostStores.{HostStores}
 

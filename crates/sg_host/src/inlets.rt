@@ -1,27 +1,61 @@
 // The inlets that a real machine opens and closes.
 ghost use Rattle.std.specs.Prelude.{◌≡◌, [], MatchResult};
 ghost use Rattle.sg_outside.specs.World.{with_closed};
-ghost use Rattle.sg_host.specs.Counts.{inlet_state};
-ghost use Rattle.sg_host.specs.Inlets.{feed_of, inlets_of, InletsOpen, InletsRefuse};
+ghost use Rattle.sg_file.specs.Counts.{inlet_state};
+ghost use Rattle.sg_host.specs.Inlets.{source_of, feed_of, inlets_of, InletsOpen, InletsRefuse, IsOpenedFor};
 
 use crate::cells::{InletCell, add_inlet, inlet_cell};
-use crate::{FileInlet, InletCounts};
-use sg_device::{Inlet, InletFault, InletSpec, OpenRefusal, Pull};
+use sg_device::{Inlet, InletFault, Name, NoMemory, OpenRefusal, Pull};
+use sg_file::{FileInlet, Health, InletCounts, Rest};
+use sg_net::{Listener, SlotInlet};
+use sg_outside::InletSpec;
 use std::alloc::Global;
+use std::io::{self, ErrorKind};
+use std::net::TcpListener;
+use std::sync::Arc;
+
+/// A file, or a slot of a listener.
+#[derive(Drop)]
+pub enum Source {
+    File(FileInlet),
+    Slot(SlotInlet),
+}
+
+impl Source {
+    /// What was counted so far.
+    pub fn counts(&self) -> &InletCounts
+        ensures { inlet_state result.now ≡ source_of self.now }
+    {
+        match self {
+            Source::File(file) => file.counts(),
+            Source::Slot(slot) => slot.counts(),
+        }
+    }
+
+    /// Closes it, and hands out what was counted.
+    pub fn into_counts(self) -> InletCounts
+        ensures { inlet_state result ≡ source_of self }
+    {
+        match self {
+            Source::File(file) => file.into_counts(),
+            Source::Slot(slot) => slot.into_counts(),
+        }
+    }
+}
 
 /// An open inlet, with the memory for its closing.
 #[derive(Drop)]
 pub struct HostFeed {
-    inlet: FileInlet,
+    source: Source,
     cell: Box<InletCell>,
 }
 
 impl HostFeed {
     /// What was counted so far.
-    pub fn counts(&self) -> InletCounts
-        ensures { inlet_state result ≡ feed_of self.now }
+    pub fn counts(&self) -> &InletCounts
+        ensures { inlet_state result.now ≡ feed_of self.now }
     {
-        self.inlet.counts()
+        self.source.counts()
     }
 }
 
@@ -29,29 +63,39 @@ impl Inlet for HostFeed {
     ghost state = { feed_of };
 
     fn pull(&mut self, into: &mut [u8]) -> Result<Pull, InletFault> {
-        self.inlet.pull(into)
+        match &mut self.source {
+            Source::File(file) => file.pull(into),
+            Source::Slot(slot) => slot.pull(into),
+        }
     }
 
     fn peer(&self) -> &[u8] {
-        self.inlet.peer()
+        &self.source.counts().peer
     }
 
     fn hangup(&mut self) {
-        self.inlet.hangup();
+        match &mut self.source {
+            Source::File(file) => file.hangup(),
+            Source::Slot(slot) => slot.hangup(),
+        }
     }
 }
 
-/// What an inlet was opened for, and the place where reading began.
+/// What an inlet was opened for, and what it had counted then.
 #[derive(Drop)]
 pub struct OpenedInlet {
     spec: InletSpec,
-    from: u64,
+    counts: InletCounts,
 }
 
 /// The inlets opened, those closed, and the number of openings that failed.
 #[derive(Drop)]
 pub struct HostInlets {
     rt: HostRuntime,
+    rest: Rest,
+    // The listeners of all slots, as long as an inlet is open, and the number of those.
+    listeners: Vec<Listener>,
+    alive: usize,
     opened: Vec<OpenedInlet>,
     closed: Option<Box<InletCell>>,
     pub faults: u64,
@@ -59,12 +103,15 @@ pub struct HostInlets {
 
 impl HostInlets {
     /// None was opened yet.
-    pub fn new(alloc: Global, rt: HostRuntime) -> HostInlets
+    pub fn new(alloc: Global, rt: HostRuntime, rest: Rest) -> HostInlets
         ensures none { inlets_of result ≡ record { opened = []; closed = [] } }
         ensures faults { result.faults ≡ 0 }
     {
         HostInlets {
             rt,
+            rest,
+            listeners: Vec::new(alloc),
+            alive: 0,
             opened: Vec::new(alloc),
             closed: None,
             faults: 0,
@@ -72,8 +119,8 @@ impl HostInlets {
     }
 
     /// Opens an inlet, and tells the place at which reading begins: a byte's number from 0. It is 0
-    /// where the file has fewer bytes than `from` or `from` is 2^63 or more. Only files can be
-    /// opened.
+    /// for a slot, and where the file has fewer bytes than `from`, `from` is 2^63 or more, or no
+    /// record can have ended there.
     pub fn open(
         &mut self,
         alloc: Global,
@@ -84,25 +131,82 @@ impl HostInlets {
             (λ opened. InletsOpen self.old self.new spec.now from (feed_of opened.0) opened.1)
             (λ refusal. InletsRefuse self.old self.new refusal) }
     {
-        let InletSpec::File { path, once } = spec else {
-            self.faults = self.faults.saturating_add(1);
-            return Err(OpenRefusal::Failed);
+        let cell = inlet_cell(alloc)?;
+        let source = match self.open_source(alloc, spec, from) {
+            Ok(source) => source,
+            Err(OpenRefusal::NoMemory) => return Err(OpenRefusal::NoMemory),
+            Err(OpenRefusal::Failed) => {
+                self.faults = self.faults.saturating_add(1);
+                return Err(OpenRefusal::Failed);
+            }
         };
-        let Ok(inlet) = FileInlet::open(self.rt, path.bytes(), *once, from) else {
-            self.faults = self.faults.saturating_add(1);
-            return Err(OpenRefusal::Failed);
-        };
-        let counts = inlet.counts();
-        let from = counts.from;
-        let cell = inlet_cell(alloc, counts)?;
-        let opened = OpenedInlet {
-            spec: spec.copy()?,
-            from,
-        };
+        let (opened, place) = remember(alloc, spec, source.counts())?;
         if self.opened.push(opened).is_err() {
             return Err(OpenRefusal::NoMemory);
         }
-        Ok((HostFeed { inlet, cell }, from))
+        self.alive = self.alive.saturating_add(1);
+        Ok((HostFeed { source, cell }, place))
+    }
+
+    // Opens what is asked for, and leaves the lists as they are.
+    fn open_source(
+        &mut self,
+        alloc: Global,
+        spec: &InletSpec,
+        from: u64,
+    ) -> Result<Source, OpenRefusal>
+        ensures lists { inlets_of self.new ≡ inlets_of self.old }
+        ensures faults { self.new.faults ≡ self.old.faults }
+        ensures opened { MatchResult result (λ source. IsOpenedFor spec.now from (source_of source)) (λ _. Unit {0}) }
+    {
+        let rest = self.rest.share()?;
+        match spec {
+            InletSpec::File { path, once, limit } => {
+                let path = path.bytes();
+                let file = FileInlet::open(alloc, self.rt, path, *once, *limit, from, rest)?;
+                Ok(Source::File(file))
+            }
+            InletSpec::Slot { ip, port, once, .. } => {
+                let ip = ip.bytes();
+                let name = address(alloc, ip, *port)?;
+                let listener = self.listener(alloc, ip, *port, &name)?;
+                let slot = SlotInlet::open(alloc, self.rt, listener, &name, *once, rest)?;
+                Ok(Source::Slot(slot))
+            }
+        }
+    }
+
+    // The listener on this address, bound where it isn't yet.
+    fn listener(
+        &mut self,
+        alloc: Global,
+        ip: &[u8],
+        port: u16,
+        name: &[u8],
+    ) -> Result<Arc<TcpListener>, OpenRefusal>
+        ensures lists { inlets_of self.new ≡ inlets_of self.old }
+        ensures faults { self.new.faults ≡ self.old.faults }
+    {
+        for listener in &self.listeners {
+            if listener.is_on(ip, port) {
+                return Ok(listener.socket()?);
+            }
+        }
+        let mut health = Health::new(alloc, self.rt, "source", name)?;
+        match Listener::bind(alloc, self.rt, ip, port) {
+            Ok(listener) => {
+                let socket = listener.socket()?;
+                if self.listeners.push(listener).is_err() {
+                    return Err(OpenRefusal::NoMemory);
+                }
+                Ok(socket)
+            }
+            Err(error) if error.kind() == ErrorKind::OutOfMemory => Err(OpenRefusal::NoMemory),
+            Err(error) => {
+                health.fails("listen", &error);
+                Err(OpenRefusal::Failed)
+            }
+        }
     }
 
     /// Closes an inlet. It takes no memory.
@@ -110,7 +214,36 @@ impl HostInlets {
         ensures closed { inlets_of self.new ≡ with_closed (inlets_of self.old) (feed_of feed) }
         ensures faults { self.new.faults ≡ self.old.faults }
     {
-        let HostFeed { inlet, cell } = feed;
-        add_inlet(&mut self.closed, cell, inlet.counts());
+        let HostFeed { source, cell } = feed;
+        add_inlet(&mut self.closed, cell, source.into_counts());
+        self.alive = self.alive.saturating_sub(1);
+        if self.alive == 0 {
+            self.listeners.clear();
+        }
     }
+}
+
+// An address as text.
+fn address(alloc: Global, ip: &[u8], port: u16) -> Result<Vec<u8>, NoMemory> {
+    let mut name = ip.to_vec(alloc)?;
+    let behind = format!(in alloc; ":{port}")?;
+    name.extend_from_slice(behind.as_bytes())?;
+    Ok(name)
+}
+
+// What is kept of an opening, and the place at which reading begins.
+fn remember(
+    alloc: Global,
+    spec: &InletSpec,
+    counts: &InletCounts,
+) -> Result<(OpenedInlet, u64), NoMemory>
+    ensures { MatchResult result (λ kept. (kept.0.spec ≡ spec.now) × (inlet_state kept.0.counts ≡ inlet_state counts.now) × (kept.1 ≡ counts.now.place)) (λ _. Unit {0}) }
+{
+    Ok((
+        OpenedInlet {
+            spec: spec.copy()?,
+            counts: counts.copy()?,
+        },
+        counts.place,
+    ))
 }

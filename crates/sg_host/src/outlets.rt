@@ -1,18 +1,27 @@
 // The outlets that a real machine opens and closes.
-ghost use Rattle.std.specs.Prelude.{◌≡◌, [], MatchResult};
-ghost use Rattle.sg_outside.specs.World.{with_closed};
-ghost use Rattle.sg_host.specs.Counts.{outlet_state};
-ghost use Rattle.sg_host.specs.Outlets.{drain_of, outlets_of, OutletsOpen, OutletsRefuse};
+ghost use Rattle.std.specs.Prelude.{◌≡◌, [], IfOk, MatchResult};
+ghost use Rattle.sg_outside.specs.World.{IsByPath, with_closed};
+ghost use Rattle.sg_file.specs.Counts.{outlet_state, new_outlet};
+ghost use Rattle.sg_host.specs.Outlets.{sink_of, drain_of, outlets_of, OutletsOpen, OutletsRefuse};
 
 use crate::cells::{OutletCell, add_outlet, outlet_cell};
-use crate::{FileOutlet, OutletCounts};
-use sg_device::{OpenRefusal, Outlet, OutletFault, OutletSpec, SendRefusal, Taken};
+use sg_device::{Frames, OpenRefusal, Outlet, OutletFault, Reopened, SendRefusal};
+use sg_file::{Appending, FileOutlet, OutletCounts, Rest};
+use sg_net::TcpOutlet;
+use sg_outside::OutletSpec;
 use std::alloc::Global;
+
+/// A file, or a connection.
+#[derive(Drop)]
+pub enum Sink {
+    File(FileOutlet),
+    Tcp(TcpOutlet),
+}
 
 /// An open outlet, with the memory for its closing.
 #[derive(Drop)]
 pub struct HostDrain {
-    outlet: FileOutlet,
+    sink: Sink,
     cell: Box<OutletCell>,
 }
 
@@ -21,19 +30,33 @@ impl HostDrain {
     pub fn counts(&self) -> OutletCounts
         ensures { outlet_state result ≡ drain_of self.now }
     {
-        self.outlet.counts()
+        match &self.sink {
+            Sink::File(file) => file.counts(),
+            Sink::Tcp(tcp) => tcp.counts(),
+        }
     }
 }
 
 impl Outlet for HostDrain {
     ghost state = { drain_of };
 
-    fn send(&mut self, frame: &[u8]) -> Result<Taken, SendRefusal> {
-        self.outlet.send(frame)
+    fn send(&mut self, frames: &Frames) -> Result<(), SendRefusal> {
+        match &mut self.sink {
+            Sink::File(file) => file.send(frames),
+            Sink::Tcp(tcp) => tcp.send(frames),
+        }
     }
 
-    fn reopen(&mut self) -> Result<(), OutletFault> {
-        self.outlet.reopen()
+    fn taken(&self) -> u64 {
+        let counts = self.counts();
+        counts.taken
+    }
+
+    fn reopen(&mut self) -> Result<Reopened, OutletFault> {
+        match &mut self.sink {
+            Sink::File(file) => file.reopen(),
+            Sink::Tcp(tcp) => tcp.reopen(),
+        }
     }
 }
 
@@ -41,6 +64,7 @@ impl Outlet for HostDrain {
 #[derive(Drop)]
 pub struct HostOutlets {
     rt: HostRuntime,
+    rest: Rest,
     opened: Vec<OutletSpec>,
     closed: Option<Box<OutletCell>>,
     pub faults: u64,
@@ -48,41 +72,65 @@ pub struct HostOutlets {
 
 impl HostOutlets {
     /// None was opened yet.
-    pub fn new(alloc: Global, rt: HostRuntime) -> HostOutlets
+    pub fn new(alloc: Global, rt: HostRuntime, rest: Rest) -> HostOutlets
         ensures none { outlets_of result ≡ record { opened = []; closed = [] } }
         ensures faults { result.faults ≡ 0 }
     {
         HostOutlets {
             rt,
+            rest,
             opened: Vec::new(alloc),
             closed: None,
             faults: 0,
         }
     }
 
-    /// Opens an outlet. Only files can be opened.
+    /// Opens an outlet for one file or one connection.
     pub fn open(&mut self, alloc: Global, spec: &OutletSpec) -> Result<HostDrain, OpenRefusal>
         ensures { MatchResult result
             (λ drain. OutletsOpen self.old self.new spec.now (drain_of drain))
             (λ refusal. OutletsRefuse self.old self.new refusal) }
     {
-        let OutletSpec::File { path } = spec else {
-            self.faults = self.faults.saturating_add(1);
-            return Err(OpenRefusal::Failed);
-        };
-        let outlet = match FileOutlet::open(alloc, self.rt, path.bytes()) {
-            Ok(outlet) => outlet,
+        let cell = outlet_cell(alloc)?;
+        let sink = match self.open_sink(alloc, spec) {
+            Ok(sink) => sink,
             Err(OpenRefusal::NoMemory) => return Err(OpenRefusal::NoMemory),
             Err(OpenRefusal::Failed) => {
                 self.faults = self.faults.saturating_add(1);
                 return Err(OpenRefusal::Failed);
             }
         };
-        let cell = outlet_cell(alloc, outlet.counts())?;
         if self.opened.push(spec.copy()?).is_err() {
             return Err(OpenRefusal::NoMemory);
         }
-        Ok(HostDrain { outlet, cell })
+        Ok(HostDrain { sink, cell })
+    }
+
+    fn open_sink(&self, alloc: Global, spec: &OutletSpec) -> Result<Sink, OpenRefusal>
+        ensures { IfOk result (λ sink. sink_of sink ≡ new_outlet) }
+    {
+        let rest = self.rest.share()?;
+        match spec {
+            OutletSpec::File {
+                path,
+                fsync,
+                mode,
+                reopen,
+            } => {
+                let how = Appending {
+                    fsync: *fsync,
+                    mode: *mode,
+                    reopen: *reopen,
+                };
+                let file = FileOutlet::open(alloc, self.rt, path.bytes(), how, rest)?;
+                Ok(Sink::File(file))
+            }
+            OutletSpec::Tcp { host, port, reopen } => {
+                let tcp = TcpOutlet::open(alloc, self.rt, host.bytes(), *port, *reopen, rest)?;
+                Ok(Sink::Tcp(tcp))
+            }
+            OutletSpec::ByPath { .. } => Err(OpenRefusal::Failed),
+        }
     }
 
     /// Closes an outlet. It takes no memory.
@@ -90,7 +138,11 @@ impl HostOutlets {
         ensures closed { outlets_of self.new ≡ with_closed (outlets_of self.old) (drain_of drain) }
         ensures faults { self.new.faults ≡ self.old.faults }
     {
-        let HostDrain { outlet, cell } = drain;
-        add_outlet(&mut self.closed, cell, outlet.counts());
+        let HostDrain { sink, cell } = drain;
+        let counts = match sink {
+            Sink::File(file) => file.counts(),
+            Sink::Tcp(tcp) => tcp.into_counts(),
+        };
+        add_outlet(&mut self.closed, cell, counts);
     }
 }

@@ -1,12 +1,13 @@
 // The stores that a real machine opens and closes.
 ghost use Rattle.std.specs.Prelude.{◌≡◌, [], MatchResult};
 ghost use Rattle.sg_outside.specs.World.{with_closed};
-ghost use Rattle.sg_host.specs.Store.{disk_of};
+ghost use Rattle.sg_file.specs.Store.{disk_of};
 ghost use Rattle.sg_host.specs.Stores.{store_of, stores_of, StoresOpen, StoresRefuse};
 
-use crate::FileDisk;
+use sg_file::FileDisk;
 use crate::cells::{StoreCell, add_store, store_cell};
-use sg_device::{Disk, DiskFault, OpenRefusal, StoreSpec};
+use sg_device::{Disk, DiskFault, OpenRefusal};
+use sg_outside::StoreSpec;
 use std::alloc::Global;
 
 /// An open store, with the memory for its closing.
@@ -26,7 +27,7 @@ impl HostStore {
 }
 
 impl Disk for HostStore {
-    ghost use Rattle.sg_host.specs.NothingTold.{nothing_told};
+    ghost use Rattle.sg_file.specs.NothingTold.{nothing_told};
 
     ghost state = { store_of };
 

@@ -1,11 +1,10 @@
 // What entries take of a disk-buffer.
 ghost use Rattle.std.specs.Prelude.{◌≡◌, ◌<◌, ◌+◌, MatchOption};
-ghost use Rattle.sg_codec.specs.Lengths.{encoded_len};
+ghost use Rattle.sg_msg.specs.Length.{encoded_len};
 ghost use Rattle.sg_machine.specs.Entries.{used, fits};
 
 use crate::Entry;
-use sg_codec::less_entry;
-use sg_msg::Message;
+use sg_msg::{Message, less_entry};
 
 // What is left of the room behind this many bytes and the message's entry.
 fn less_spooled(room: u64, bytes: u64, message: &Message) -> Option<u64>

@@ -1,3 +1,4 @@
 pub mod Giving
-pub mod Changes
-pub mod Picking
+pub mod FrameParts
+pub mod PathLemmas
+pub mod InletStart

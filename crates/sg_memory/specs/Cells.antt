@@ -3,10 +3,13 @@ use Rattle.std.specs.Prelude.{List, [], ◌∷◌, ◌++◌, Option, Some, None,
 use Rattle.std.specs.declared.alloc.Global.{Global}
 use Rattle.sg_device.specs.Inlet.{InletState}
 use Rattle.sg_device.specs.Outlet.{OutletState}
+use Rattle.sg_device.specs.Paths.{PathsState}
 use Rattle.sg_memory.specs.Inlet.{inlet_of}
 use Rattle.sg_memory.specs.Outlet.{outlet_of}
+use Rattle.sg_memory.specs.Paths.{paths_of}
 use Rattle.sg_memory.specs.declared.cells.InletCell.{InletCell, InletCell', Held-InletCell-before, None', Some'}
 use Rattle.sg_memory.specs.declared.cells.OutletCell.{OutletCell, OutletCell', Held-OutletCell-before, None' as NoOutlet, Some' as SomeOutlet}
+use Rattle.sg_memory.specs.declared.cells.PathsCell.{PathsCell, PathsCell', Held-PathsCell-before, None' as NoPaths, Some' as SomePaths}
 
 abbrev pub listed : {A B : Type 0} → (A → B) → Option A → List B
 listed f None = []
@@ -28,6 +31,14 @@ abbrev mutual
   outlet_cells_before NoOutlet = []
   outlet_cells_before (SomeOutlet p cell) = outlet_cells cell
 
+abbrev mutual
+  pub paths_cells : PathsCell → List PathsState
+  paths_cells (PathsCell' closed before) = paths_cells_before before ++ listed paths_of closed
+
+  pub paths_cells_before : Held-PathsCell-before → List PathsState
+  paths_cells_before NoPaths = []
+  paths_cells_before (SomePaths p cell) = paths_cells cell
+
 -- the states in which the inlets were closed, in order, of which this is the last
 abbrev pub inlet_states : Option (Box InletCell Global) → List InletState
 inlet_states None = []
@@ -36,3 +47,7 @@ inlet_states (Some cell) = inlet_cells cell.value
 abbrev pub outlet_states : Option (Box OutletCell Global) → List OutletState
 outlet_states None = []
 outlet_states (Some cell) = outlet_cells cell.value
+
+abbrev pub paths_states : Option (Box PathsCell Global) → List PathsState
+paths_states None = []
+paths_states (Some cell) = paths_cells cell.value

@@ -1,16 +1,14 @@
--- A file in memory that is read.
-use Rattle.std.specs.Prelude.{◌≡◌, ℕ, ℤ, ◌+◌, ◌-◌, ◌^◌, ◌==◌, ◌||◌, min, List, [], ◌∷◌, Some, Bool, true, false, if◌then◌else◌, codes, take, drop, length, Result, Ok, Err}
-use Rattle.sg_device.specs.Inlet.{InletState, Part, stamped}
+-- A file or a slot in memory that is read.
+use Rattle.std.specs.Prelude.{◌≡◌, ℕ, ◌+◌, ◌-◌, ◌^◌, ◌==◌, ◌||◌, ◌&&◌, not, min, List, [], ◌∷◌, ◌++◌, Some, None, Bool, true, false, is_some, if◌then◌else◌, codes, map, length, Result, Ok, Err}
+use Rattle.sg_device.specs.Inlet.{InletState}
 use Rattle.sg_device.specs.declared.fault.InletFault.{InletFault}
 use Rattle.sg_device.specs.declared.inlet.Pull.{Pull}
-use Rattle.sg_device.specs.declared.inlet.Pull.TheVariants.{Bytes, Idle, End}
-use Rattle.sg_memory.specs.Plan.{failing, fails_now}
+use Rattle.sg_device.specs.declared.inlet.Pull.TheVariants.{Bytes, Next, Idle, End}
+use Rattle.sg_memory.specs.Part.{part_of, peer_of, given_of, left_of, total_given}
+use Rattle.sg_memory.specs.Parts.{begun}
+use Rattle.sg_memory_disk.specs.Plan.{failing, fails_now}
 use Rattle.sg_memory.specs.declared.inlet.MemoryInlet.{MemoryInlet}
 use Rattle.sg_memory.specs.declared.inlet.Pace.{Pace}
-
--- the one part of a file, of which these bytes were given at this moment
-abbrev pub parts_given : List ℕ → ℤ → List Part
-parts_given bytes at = (record { peer = codes "localhost"; given = stamped bytes at }) ∷ []
 
 -- the inlet gives its bytes at this pace, ends behind them or is idle there, and fails at these calls
 pub record GoesBy (inlet : MemoryInlet) (pace : Pace) (once : Bool) (fails : List ℕ) : Type 0 where
@@ -22,23 +20,24 @@ pub record GoesBy (inlet : MemoryInlet) (pace : Pace) (once : Bool) (fails : Lis
 -- what the inlet tells
 abbrev pub inlet_of : MemoryInlet → InletState
 inlet_of inlet = record {
-  told = Some (parts_given (take inlet.given inlet.bytes.items) inlet.at);
-  left = Some (drop inlet.given inlet.bytes.items);
-  peer = codes "localhost";
+  told = Some (map (part_of inlet.at) (begun inlet.parts));
+  left = if inlet.single then Some (left_of inlet.parts.present) else None;
+  peer = peer_of inlet.parts.present;
   from = inlet.from;
-  place = inlet.from + inlet.given;
+  place = inlet.from + given_of inlet.parts.present;
   pulls = inlet.pulls;
   idles = inlet.idles;
-  bytes = inlet.given;
-  parts = 1;
+  bytes = total_given (begun inlet.parts);
+  parts = length (begun inlet.parts);
   faults = inlet.faults;
   ended = inlet.ended;
   hung = inlet.hung;
+  single = inlet.single;
 }
 
 -- what a file tells that is read from this place on, where it has these bytes left
-abbrev pub at_opening : ℕ → List ℕ → InletState
-at_opening from left = record {
+abbrev pub file_start : ℕ → List ℕ → InletState
+file_start from left = record {
   told = Some ((record { peer = codes "localhost"; given = [] }) ∷ []);
   left = Some left;
   peer = codes "localhost";
@@ -51,19 +50,44 @@ at_opening from left = record {
   faults = 0;
   ended = false;
   hung = false;
+  single = true;
+}
+
+-- what a slot tells before its first connection
+abbrev pub slot_start : InletState
+slot_start = record {
+  told = Some [];
+  left = None;
+  peer = [];
+  from = 0;
+  place = 0;
+  pulls = 0;
+  idles = 0;
+  bytes = 0;
+  parts = 0;
+  faults = 0;
+  ended = false;
+  hung = false;
+  single = false;
 }
 
 -- a pull fails at the calls of the plan, and where the count of pulls stands at its end
 abbrev pub pull_fails : MemoryInlet → Bool
 pull_fails inlet = fails_now inlet.plan || inlet.pulls == 2 ^ 64 - 1
 
--- what a pull with so much room gives: a piece of what is left, or else the end
+-- the end comes behind the part that is the only one, and where a file is hung up
+abbrev pub ends : MemoryInlet → Bool
+ends inlet = is_some inlet.parts.present && (inlet.once || (inlet.single && inlet.hung))
+
+-- what a pull with so much room gives: a piece of what is left, or else the end, the next part or nothing
 abbrev pub pull_gives : MemoryInlet → ℕ → Pull
 pull_gives inlet room =
-    let left = length inlet.bytes.items - inlet.given in
-    if inlet.ended || inlet.hung then End
-    else if left == 0 then (if inlet.once then End else Idle)
-    else Bytes (min (min left inlet.piece) room) inlet.at
+    let left = length (left_of inlet.parts.present) in
+    if inlet.ended then End
+    else if not inlet.hung && not (left == 0) then Bytes (min (min left inlet.piece) room) inlet.at
+    else if ends inlet then End
+    else if length inlet.parts.waiting.items == 0 then Idle
+    else Next
 
 -- a pull fails exactly where this says so, and gives exactly this otherwise
 abbrev pub Pulls : Bool → Pull → Result Pull InletFault → Type 0

@@ -1,93 +1,121 @@
 -- A machine in memory.
-use Rattle.std.specs.Prelude.{◌≡◌, ℕ, List, [], map, Option, Some, None, Bool, true, false, Result, Ok, Err, Vec}
+use Rattle.std.specs.Prelude.{◌≡◌, ℕ, List, [], map, drop, is_none, Option, Some, None, Bool, true, false, Result, Ok, Err, Vec}
 use Rattle.std.specs.declared.alloc.Global.{Global}
-use Rattle.sg_device.specs.Disk.{DiskState}
 use Rattle.sg_device.specs.Inlet.{InletState}
 use Rattle.sg_device.specs.Outlet.{OutletState}
-use Rattle.sg_outside.specs.World.{WorldState, Ledger, Opened, with_opened}
+use Rattle.sg_device.specs.Paths.{PathsState}
 use Rattle.sg_device.specs.declared.fault.FileRefusal.{FileRefusal}
 use Rattle.sg_device.specs.declared.fault.FileRefusal.TheVariants.{Failed, TooLong, NoMemory}
 use Rattle.sg_device.specs.declared.fault.OpenRefusal.{OpenRefusal}
 use Rattle.sg_device.specs.declared.fault.OpenRefusal.TheVariants.{Failed as OpenFailed, NoMemory as OpenNoMemory}
 use Rattle.sg_device.specs.declared.fault.SayRefusal.{SayRefusal}
 use Rattle.sg_device.specs.declared.fault.SayRefusal.TheVariants.{Fault, NoMemory as SayNoMemory}
+use Rattle.sg_outside.specs.World.{WorldState, Opened, place_in, with_opened}
 use Rattle.sg_outside.specs.declared.request.InletSpec.{InletSpec}
-use Rattle.sg_outside.specs.declared.request.InletSpec.TheVariants.{File as InletFile, Slot}
+use Rattle.sg_outside.specs.declared.request.InletSpec.TheVariants.{File, Slot}
 use Rattle.sg_outside.specs.declared.request.OutletSpec.{OutletSpec}
-use Rattle.sg_outside.specs.declared.request.OutletSpec.TheVariants.{File as OutletFile, Tcp}
-use Rattle.sg_outside.specs.declared.request.StoreSpec.{StoreSpec}
-use Rattle.sg_memory.specs.Cells.{inlet_states, outlet_states}
-use Rattle.sg_memory.specs.Disks.{stores_of}
+use Rattle.sg_memory_disk.specs.Stores.{stores_of}
+use Rattle.sg_memory.specs.Cells.{inlet_states, outlet_states, paths_states}
 use Rattle.sg_memory.specs.Files.{file_of}
-use Rattle.sg_memory.specs.Inlet.{at_opening}
+use Rattle.sg_memory.specs.Inlet.{file_start, slot_start}
 use Rattle.sg_memory.specs.Outlet.{new_outlet}
+use Rattle.sg_memory.specs.Paths.{new_paths}
 use Rattle.sg_memory.specs.declared.files.MemoryFile.{MemoryFile}
-use Rattle.sg_memory.specs.declared.world.MemoryWorld.{MemoryWorld}
 use Rattle.sg_memory.specs.declared.opening.OpenedInlet.{OpenedInlet}
+use Rattle.sg_memory.specs.declared.world.MemoryWorld.{MemoryWorld}
 
 -- an inlet at its opening
+abbrev pub start_of : InletSpec → ℕ → List ℕ → InletState
+start_of (File path once limit) from left = file_start from left
+start_of (Slot ip port slot once) from left = slot_start
+
+abbrev pub opened_state : OpenedInlet → InletState
+opened_state opened = start_of opened.spec opened.from opened.left.items
+
 abbrev pub opened_inlet : OpenedInlet → Opened InletSpec InletState
-opened_inlet opened = record { spec = opened.spec; state = at_opening opened.from opened.left.items }
+opened_inlet opened = record { spec = opened.spec; state = opened_state opened }
 
 -- an outlet at its opening
 abbrev pub opened_outlet : OutletSpec → Opened OutletSpec OutletState
 opened_outlet spec = record { spec = spec; state = new_outlet }
 
+-- an opener at its opening
+abbrev pub opened_paths : OutletSpec → Opened OutletSpec PathsState
+opened_paths spec = record { spec = spec; state = new_paths }
+
 -- what the machine tells
 abbrev pub world_of : MemoryWorld → WorldState
 world_of world = record {
   files = Some (file_of world.files.items);
+  unread = world.unread;
   inlets = record { opened = map opened_inlet world.opened_inlets.items; closed = inlet_states world.closed_inlets };
   outlets = record { opened = map opened_outlet world.opened_outlets.items; closed = outlet_states world.closed_outlets };
   stores = stores_of world.stores;
+  paths = record { opened = map opened_paths world.opened_paths.items; closed = paths_states world.closed_paths };
+  shelf = Some world.stores.names.items;
   said = Some world.said.items;
   read_faults = world.read_faults;
   inlet_faults = world.inlet_faults;
   outlet_faults = world.outlet_faults;
   store_faults = world.stores.faults;
+  paths_faults = world.paths_faults;
   say_faults = world.say_faults;
+  build_faults = world.build_faults;
 }
 
 -- a machine over these files of which nothing was asked yet
 abbrev pub new_world : List MemoryFile → WorldState
 new_world files = record {
   files = Some (file_of files);
+  unread = None;
   inlets = record { opened = []; closed = [] };
   outlets = record { opened = []; closed = [] };
   stores = record { opened = []; closed = [] };
+  paths = record { opened = []; closed = [] };
+  shelf = Some [];
   said = Some [];
   read_faults = 0;
   inlet_faults = 0;
   outlet_faults = 0;
   store_faults = 0;
+  paths_faults = 0;
   say_faults = 0;
+  build_faults = 0;
 }
 
--- the bytes of the file that is asked for, if there is one
-abbrev pub source_of : List MemoryFile → InletSpec → Option (List ℕ)
-source_of files (InletFile path once) = file_of files path
-source_of files (Slot ip port slot once) = None
+-- a file is asked for that isn't there
+abbrev pub lacks_file : List MemoryFile → InletSpec → Bool
+lacks_file files (File path once limit) = is_none (file_of files path)
+lacks_file files (Slot ip port slot once) = false
 
--- the inlet ends at the file's end
+-- where the file is there, the place at which it is read and what is left of it behind that
+abbrev pub IsRest : Option (List ℕ) → ℕ → ℕ → OpenedInlet → Type 0
+IsRest None limit from opened = Unit {0}
+IsRest (Some bytes) limit from opened = (opened.from ≡ place_in limit bytes from) × (opened.left.items ≡ drop (place_in limit bytes from) bytes)
+
+-- what an inlet is opened for
+abbrev pub IsSource : List MemoryFile → InletSpec → ℕ → OpenedInlet → Type 0
+IsSource files (File path once limit) from opened = IsRest (file_of files path) limit from opened
+IsSource files (Slot ip port slot once) from opened = opened.from ≡ 0
+
+abbrev pub IsOpenedFor : List MemoryFile → InletSpec → ℕ → OpenedInlet → Type 0
+IsOpenedFor files spec from opened = (opened.spec ≡ spec) × IsSource files spec from opened
+
+-- an inlet ends behind its file or its first connection
 abbrev pub once_of : InletSpec → Bool
-once_of (InletFile path once) = once
+once_of (File path once limit) = once
 once_of (Slot ip port slot once) = once
 
 -- an inlet more was opened
 abbrev pub with_inlet : WorldState → OpenedInlet → WorldState
-with_inlet world opened = record world { inlets = with_opened world.inlets opened.spec (at_opening opened.from opened.left.items) }
+with_inlet world opened = record world { inlets = with_opened world.inlets opened.spec (opened_state opened) }
 
--- no connections are made
-abbrev pub is_connection : OutletSpec → Bool
-is_connection (OutletFile path) = false
-is_connection (Tcp host port) = true
-
--- a file can't be read exactly where this says so
+-- a file can't be read exactly where this says so, but for want of memory
 abbrev pub ReadFails : Bool → Result (Vec ℕ Global) FileRefusal → Type 0
 ReadFails fails (Ok bytes) = fails ≡ false
 ReadFails fails (Err Failed) = fails ≡ true
 ReadFails fails (Err TooLong) = fails ≡ false
-ReadFails fails (Err NoMemory) = fails ≡ false
+ReadFails fails (Err NoMemory) = Unit {0}
 
 -- a device can't be opened exactly where this says so
 abbrev pub OpenFails : {T : Type 0} → Bool → Result T OpenRefusal → Type 0

@@ -1,20 +1,24 @@
-// A file in memory that is read.
-ghost use Rattle.std.specs.Prelude.{true, false, ◌≡◌, ◌≤◌, ◌<◌, ◌+◌, ◌^◌, ◌≤ℤ◌, pos, take, length};
+// A file or a slot in memory that is read.
+ghost use Rattle.std.specs.Prelude.{true, false, [], ◌≡◌, ◌≤◌, ◌<◌, ◌+◌, ◌^◌, ◌≤ℤ◌, pos, is_some, length, IfOk};
+ghost use Rattle.sg_memory.specs.Part.{left_of, size_of};
 
-use crate::Plan;
-use crate::copying::copy_front;
-use sg_device::{Inlet, InletFault, Pull};
+use crate::{MemoryPart, MemoryParts};
+use sg_device::{Inlet, InletFault, NoMemory, Pull};
+use sg_memory_disk::Plan;
+use std::alloc::Global;
+use std::collections::VecDeque;
 
-/// A file that gives at most a piece at a pull, all bytes with one moment. It tells its content.
+/// An inlet that gives at most a piece at a pull, all bytes with one moment. It tells its content. A
+/// file is one part from the start, and ends where it is hung up; a slot has a part for each
+/// connection.
 #[derive(Debug, Drop)]
 pub struct MemoryInlet {
-    // The bytes from the opening's place on, and the number of those given.
-    bytes: Vec<u8>,
-    given: usize,
+    parts: MemoryParts,
     from: u64,
     piece: usize,
     at: i64,
     once: bool,
+    single: bool,
     /// The calls that fail.
     pub plan: Plan,
     pulls: u64,
@@ -23,12 +27,14 @@ pub struct MemoryInlet {
     ended: bool,
     hung: bool,
     ghost some: { 0 < piece },
-    ghost within: { given ≤ length bytes.items },
-    ghost short: { from + length bytes.items < 2 ^ 63 },
     ghost early: { pos 0 ≤ℤ at },
     ghost late: { at ≤ℤ pos 250000000000000000 },
+    ghost start: { single ≡ false → from ≡ 0 },
+    ghost short: { from + size_of parts.present < 2 ^ 63 },
+    ghost whole: { single ≡ true → is_some parts.present ≡ true },
+    ghost alone: { single ≡ true → parts.waiting.items ≡ [] },
     ghost idle: { idles ≤ pulls },
-    ghost over: { ended ≡ true → hung ≡ false → length bytes.items ≤ given },
+    ghost over: { ended ≡ true → hung ≡ false → left_of parts.present ≡ [] },
 }
 
 /// How an inlet in memory gives its bytes.
@@ -45,38 +51,74 @@ pub struct Pace {
 }
 
 impl MemoryInlet {
-    ghost use Rattle.sg_memory.specs.Inlet.{inlet_of, at_opening, GoesBy};
-    ghost use Rattle.sg_memory.specs.Plan.{failing};
+    ghost use Rattle.sg_memory.specs.Inlet.{inlet_of, file_start, slot_start, GoesBy};
+    ghost use Rattle.sg_memory_disk.specs.Plan.{failing};
 
     /// A file that is read from this place on, where it has these bytes left. With `once` it ends
     /// behind them, else it is idle there.
-    pub fn new(bytes: Vec<u8>, from: u64, pace: Pace, once: bool, plan: Plan) -> MemoryInlet
+    pub fn file(
+        alloc: Global,
+        bytes: Vec<u8>,
+        from: u64,
+        pace: Pace,
+        once: bool,
+        plan: Plan,
+    ) -> Result<MemoryInlet, NoMemory>
         requires { from + length bytes.items < 2 ^ 63 }
-        ensures opened { inlet_of result ≡ at_opening from bytes.items }
-        ensures goes { GoesBy result pace once (failing plan) }
+        ensures opened { IfOk result (λ inlet. inlet_of inlet ≡ file_start from bytes.items) }
+        ensures goes { IfOk result (λ inlet. GoesBy inlet pace once (failing plan)) }
     {
-        MemoryInlet {
-            bytes,
-            given: 0,
+        let part = MemoryPart::new(alloc, b"localhost", bytes)?;
+        Ok(MemoryInlet {
+            parts: MemoryParts::whole(alloc, part),
             from,
             piece: pace.piece,
             at: pace.at,
             once,
+            single: true,
             plan,
             pulls: 0,
             idles: 0,
             faults: 0,
             ended: false,
             hung: false,
-        }
+        })
+    }
+
+    /// A slot to which these connections will be made, in order. With `once` it ends behind the first
+    /// one, else it is idle behind the last one.
+    pub fn slot(
+        alloc: Global,
+        connections: VecDeque<MemoryPart>,
+        pace: Pace,
+        once: bool,
+        plan: Plan,
+    ) -> Result<MemoryInlet, NoMemory>
+        ensures opened { IfOk result (λ inlet. inlet_of inlet ≡ slot_start) }
+        ensures goes { IfOk result (λ inlet. GoesBy inlet pace once (failing plan)) }
+        ensures waiting { IfOk result (λ inlet. inlet.parts.waiting ≡ connections) }
+    {
+        Ok(MemoryInlet {
+            parts: MemoryParts::waiting(alloc, connections)?,
+            from: 0,
+            piece: pace.piece,
+            at: pace.at,
+            once,
+            single: false,
+            plan,
+            pulls: 0,
+            idles: 0,
+            faults: 0,
+            ended: false,
+            hung: false,
+        })
     }
 }
 
 impl Inlet for MemoryInlet {
-    ghost use Rattle.std.specs.Prelude.{IfOk};
     ghost use Rattle.sg_device.specs.Inlet.{PullIsWhole, PullTells, PullMoves, PullLeaves, PullCounts, PullFaults};
     ghost use Rattle.sg_memory.specs.Inlet.{inlet_of, pull_fails, pull_gives, Pulls};
-    ghost use Rattle.sg_memory.specs.Plan.{after_call};
+    ghost use Rattle.sg_memory_disk.specs.Plan.{after_call};
 
     ghost state = { inlet_of };
 
@@ -97,23 +139,27 @@ impl Inlet for MemoryInlet {
             return Err(InletFault);
         }
         self.pulls += 1;
-        let left = self.bytes.len() - self.given;
-        if self.ended || self.hung || (left == 0 && self.once) {
+        if self.ended {
+            return Ok(Pull::End);
+        }
+        if !self.hung && self.parts.left() > 0 {
+            let len = self.parts.give(self.piece, into);
+            return Ok(Pull::Bytes { len, at: self.at });
+        }
+        if self.parts.has_begun() && (self.once || (self.single && self.hung)) {
             self.ended = true;
             return Ok(Pull::End);
         }
-        if left == 0 {
-            self.idles += 1;
-            return Ok(Pull::Idle);
+        if self.parts.begin() {
+            self.hung = false;
+            return Ok(Pull::Next);
         }
-        let len = left.min(self.piece).min(into.len());
-        copy_front(into, &self.bytes[self.given..self.given + len]);
-        self.given += len;
-        Ok(Pull::Bytes { len, at: self.at })
+        self.idles += 1;
+        Ok(Pull::Idle)
     }
 
     fn peer(&self) -> &[u8] {
-        b"localhost"
+        self.parts.peer()
     }
 
     fn hangup(&mut self) {

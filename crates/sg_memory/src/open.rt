@@ -1,15 +1,18 @@
 // Open devices, with the memory for their closing.
-ghost use Rattle.std.specs.Prelude.{◌≡◌, ◌<◌, length};
+ghost use Rattle.std.specs.Prelude.{◌≡◌, ◌≢◌, ◌<◌, [], length};
 ghost use Rattle.sg_device.specs.Inlet.{PullIsWhole, PullTells, PullMoves, PullLeaves, PullCounts, PullFaults};
-ghost use Rattle.sg_device.specs.Outlet.{Sends, Reopens};
+ghost use Rattle.sg_device.specs.Outlet.{Sends};
 ghost use Rattle.sg_memory.specs.Inlet.{pull_fails, pull_gives, Pulls};
-ghost use Rattle.sg_memory.specs.Open.{feed_of, drain_of};
-ghost use Rattle.sg_memory.specs.Outlet.{SendFails, ReopenFails};
-ghost use Rattle.sg_memory.specs.Plan.{after_call, fails_now};
+ghost use Rattle.sg_memory.specs.Open.{feed_of, drain_of, opener_of};
+ghost use Rattle.sg_memory.specs.Outlet.{SendFails};
+ghost use Rattle.sg_memory_disk.specs.Plan.{after_call, fails_now};
 
-use crate::cells::{InletCell, OutletCell};
-use crate::{MemoryInlet, MemoryOutlet};
-use sg_device::{Inlet, InletFault, Outlet, OutletFault, Pull, SendRefusal, Taken};
+use crate::cells::{InletCell, OutletCell, PathsCell};
+use crate::{MemoryInlet, MemoryOutlet, MemoryPaths};
+use sg_device::{
+    Frames, Inlet, InletFault, OpenRefusal, Opener, Outlet, OutletFault, Pull, Reopened,
+    SendRefusal,
+};
 
 /// An open inlet of a machine in memory.
 #[derive(Debug, Drop)]
@@ -55,19 +58,47 @@ pub struct MemoryDrain {
 impl Outlet for MemoryDrain {
     ghost state = { drain_of };
 
-    fn send(&mut self, frame: &[u8]) -> Result<Taken, SendRefusal>
-        ensures sends { Sends (drain_of self.old) (drain_of self.new) frame.now result }
-        ensures fails { SendFails (fails_now self.old.outlet.plan) result }
-        ensures plan { self.new.outlet.plan ≡ after_call self.old.outlet.plan }
+    fn send(&mut self, frames: &Frames) -> Result<(), SendRefusal>
+        requires { frames.now ≢ [] }
+        ensures sends { Sends (drain_of self.old) (drain_of self.new) frames.now result }
+        ensures fails { SendFails (fails_now self.old.outlet.plan.fails) result }
+        ensures plan { self.new.outlet.plan ≡ record self.old.outlet.plan { fails = after_call self.old.outlet.plan.fails } }
     {
-        self.outlet.send(frame)
+        self.outlet.send(frames)
     }
 
-    fn reopen(&mut self) -> Result<(), OutletFault>
-        ensures reopens { Reopens (drain_of self.old) (drain_of self.new) result }
-        ensures fails { ReopenFails (fails_now self.old.outlet.plan) result }
-        ensures plan { self.new.outlet.plan ≡ after_call self.old.outlet.plan }
-    {
+    fn taken(&self) -> u64 {
+        self.outlet.taken()
+    }
+
+    fn reopen(&mut self) -> Result<Reopened, OutletFault> {
         self.outlet.reopen()
+    }
+}
+
+/// An open opener of a machine in memory.
+#[derive(Debug, Drop)]
+pub struct MemoryOpener {
+    pub paths: MemoryPaths,
+    pub(crate) cell: Box<PathsCell>,
+}
+
+impl Opener for MemoryOpener {
+    ghost state = { opener_of };
+
+    fn open(&mut self, path: &[u8]) -> Result<(), OpenRefusal> {
+        self.paths.open(path)
+    }
+
+    fn send(&mut self, path: &[u8], text: &[u8]) -> Result<(), SendRefusal> {
+        self.paths.send(path, text)
+    }
+
+    fn reopen(&mut self, path: &[u8]) -> Result<Reopened, OutletFault> {
+        self.paths.reopen(path)
+    }
+
+    fn close(&mut self, path: &[u8]) {
+        self.paths.close(path);
     }
 }

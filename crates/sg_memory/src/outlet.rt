@@ -1,40 +1,42 @@
-// A file in memory that takes frames.
-ghost use Rattle.std.specs.Prelude.{◌≡◌};
+// A file or a connection in memory that takes frames.
+ghost use Rattle.std.specs.Prelude.{◌≡◌, ◌≢◌, ◌≤◌, [], ◌++◌, length, take};
 ghost use Rattle.sg_device.specs.Outlet.{Sends, Reopens};
-ghost use Rattle.sg_memory.specs.Plan.{after_call, fails_now};
 
-use crate::Plan;
-use sg_device::{Outlet, OutletFault, SendRefusal, Taken};
+use crate::OutletPlan;
+use sg_device::{Frames, Outlet, OutletFault, Reopened, SendRefusal};
 use std::alloc::Global;
 
-/// A file that keeps the frames it takes, and tells them.
+/// An outlet that keeps the frames it takes, and tells them.
 #[derive(Debug, Drop)]
 pub struct MemoryOutlet {
-    alloc: Global,
-    frames: Vec<Vec<u8>>,
-    /// The calls that fail.
-    pub plan: Plan,
+    frames: Frames,
+    /// The calls that fail, and those that are too early.
+    pub plan: OutletPlan,
     faults: u64,
+    failing: u64,
+    laters: u64,
 }
 
 impl MemoryOutlet {
     ghost use Rattle.sg_memory.specs.Outlet.{new_outlet, outlet_of};
 
-    pub fn new(alloc: Global, plan: Plan) -> MemoryOutlet
+    /// An outlet that took nothing yet.
+    pub fn new(alloc: Global, plan: OutletPlan) -> MemoryOutlet
         ensures opened { outlet_of result ≡ new_outlet }
         ensures plan { result.plan ≡ plan }
     {
         MemoryOutlet {
-            alloc,
-            frames: Vec::new(alloc),
+            frames: Frames::new(alloc),
             plan,
             faults: 0,
+            failing: 0,
+            laters: 0,
         }
     }
 
     /// The frames taken, in order.
-    pub fn frames(&self) -> &[Vec<u8>]
-        ensures { result.now ≡ self.now.frames.items }
+    pub fn frames(&self) -> &Frames
+        ensures { result.now ≡ self.now.frames }
     {
         &self.frames
     }
@@ -42,36 +44,74 @@ impl MemoryOutlet {
 
 impl Outlet for MemoryOutlet {
     ghost use Rattle.sg_memory.specs.Outlet.{outlet_of, SendFails, ReopenFails};
+    ghost use Rattle.sg_memory_disk.specs.Plan.{after_call, fails_now};
 
     ghost state = { outlet_of };
 
-    fn send(&mut self, frame: &[u8]) -> Result<Taken, SendRefusal>
-        ensures sends { Sends (outlet_of self.old) (outlet_of self.new) frame.now result }
-        ensures fails { SendFails (fails_now self.old.plan) result }
-        ensures plan { self.new.plan ≡ after_call self.old.plan }
+    fn send(&mut self, frames: &Frames) -> Result<(), SendRefusal>
+        requires { frames.now ≢ [] }
+        ensures sends { Sends (outlet_of self.old) (outlet_of self.new) frames.now result }
+        ensures fails { SendFails (fails_now self.old.plan.fails) result }
+        ensures plan { self.new.plan ≡ record self.old.plan { fails = after_call self.old.plan.fails } }
     {
-        if self.plan.next() {
+        let fails = self.plan.fails.next();
+        let wanted = if fails {
+            self.plan.first.min(frames.len() - 1)
+        } else {
+            frames.len()
+        };
+        let count = take_first(&mut self.frames, frames, wanted);
+        if count > 0 {
+            self.failing = 0;
+        }
+        if fails {
             self.faults = self.faults.saturating_add(1);
+            self.failing = self.failing.saturating_add(1);
             return Err(SendRefusal::Fault);
         }
-        let frame = frame.to_vec(self.alloc)?;
-        if self.frames.push(frame).is_err() {
+        if count < frames.len() {
             return Err(SendRefusal::NoMemory);
-        }
-        Ok(Taken {
-            count: self.frames.len() as u64,
-        })
-    }
-
-    fn reopen(&mut self) -> Result<(), OutletFault>
-        ensures reopens { Reopens (outlet_of self.old) (outlet_of self.new) result }
-        ensures fails { ReopenFails (fails_now self.old.plan) result }
-        ensures plan { self.new.plan ≡ after_call self.old.plan }
-    {
-        if self.plan.next() {
-            self.faults = self.faults.saturating_add(1);
-            return Err(OutletFault);
         }
         Ok(())
     }
+
+    fn taken(&self) -> u64 {
+        self.frames.len() as u64
+    }
+
+    fn reopen(&mut self) -> Result<Reopened, OutletFault>
+        ensures reopens { Reopens (outlet_of self.old) (outlet_of self.new) result }
+        ensures fails { ReopenFails self.old result }
+    {
+        let later = self.plan.laters.next();
+        if self.plan.fails.next() || (later && self.laters == u64::MAX) {
+            self.faults = self.faults.saturating_add(1);
+            self.failing = self.failing.saturating_add(1);
+            return Err(OutletFault);
+        }
+        if later {
+            self.laters += 1;
+            return Ok(Reopened::Later);
+        }
+        Ok(Reopened::Ready)
+    }
+}
+
+// Takes the first frames, fewer only where memory runs out, and says how many.
+fn take_first(taken: &mut Frames, frames: &Frames, wanted: usize) -> usize
+    requires { wanted ≤ length frames.now }
+    ensures taken { taken.new ≡ taken.old ++ take result frames.now }
+    ensures bound { result ≤ wanted }
+{
+    let mut rest = frames.bytes();
+    let mut count = 0;
+    for size in &frames.sizes()[..wanted] {
+        let (frame, behind) = rest.split_at(*size);
+        if taken.push(frame).is_err() {
+            return count;
+        }
+        rest = behind;
+        count += 1;
+    }
+    count
 }

@@ -1,22 +1,31 @@
 // A machine in memory: files by name, devices over them, and the bytes said.
-ghost use Rattle.std.specs.Prelude.{◌≡◌, ◌||◌, if◌then◌else◌, is_none, is_ok, drop, MatchResult, IfOk};
-ghost use Rattle.sg_outside.specs.World.{Reads, InletOpens, InletRefused, OutletOpens, OutletRefused, StoreOpens, StoreRefused, ClosesInlet, ClosesOutlet, ClosesStore, Says};
-ghost use Rattle.sg_memory.specs.Disks.{store_of, at_opening as store_at_opening, any_starved, AreDisksQuiet, OpensAsPlanned};
+ghost use Rattle.std.specs.Prelude.{◌≡◌, ◌||◌, ◌++◌, ◌∷◌, [], is_none, MatchResult, IfOk, OnOk, OnErr};
+ghost use Rattle.std.specs.Bool.{OnTrue};
+ghost use Rattle.sg_device.specs.Faults.{Rose};
+ghost use Rattle.sg_outside.specs.World.{Reads, InletOpens, InletRefused, OutletOpens, OutletRefused, StoreOpens, StoreRefused, PathsOpen, PathsRefused, ClosesInlet, ClosesOutlet, ClosesStore, ClosesPaths, OnlyBuilds, Says};
+ghost use Rattle.sg_memory_disk.specs.Plan.{IsQuiet, after_call, failing, fails_now};
+ghost use Rattle.sg_memory_disk.specs.Stores.{store_of, at_opening as store_at_opening, any_starved, AreStoresQuiet, OpensAsPlanned};
 ghost use Rattle.sg_memory.specs.Files.{file_of};
-ghost use Rattle.sg_memory.specs.Inlet.{at_opening, GoesBy};
-ghost use Rattle.sg_memory.specs.Open.{feed_of, drain_of};
-ghost use Rattle.sg_memory.specs.Plan.{AreQuiet, CountsInlet, CountsOutlet, IsQuiet, after_call, failing, fails_now, first_failing};
-ghost use Rattle.sg_memory.specs.World.{world_of, new_world, with_inlet, once_of, source_of, is_connection, ReadFails, OpenFails, SayFails};
+ghost use Rattle.sg_memory.specs.Inlet.{inlet_of, GoesBy};
+ghost use Rattle.sg_memory.specs.Open.{feed_of, drain_of, opener_of};
+ghost use Rattle.sg_memory.specs.Plans.{AreQuiet, IsOutletQuiet, IsPathsQuiet, IsFirstOutlet, IsFirstPaths, first_failing};
+ghost use Rattle.sg_memory.specs.World.{world_of, new_world, opened_state, with_inlet, once_of, lacks_file, IsOpenedFor, ReadFails, OpenFails, SayFails};
 
-use crate::cells::{InletCell, OutletCell, add_inlet, add_outlet, inlet_cell, outlet_cell};
-use crate::files::find;
-use crate::opening::OpenedInlet;
-use crate::plan::take_plan;
-use crate::{
-    MemoryDrain, MemoryFeed, MemoryFile, MemoryInlet, MemoryOutlet, MemoryStore, MemoryStores,
-    Pace, WorldPlans,
+use crate::cells::{
+    InletCell, OutletCell, PathsCell, add_inlet, add_outlet, add_paths, inlet_cell, outlet_cell,
+    paths_cell,
 };
-use sg_device::{FileRefusal, InletSpec, OpenRefusal, OutletSpec, SayRefusal, StoreSpec};
+use crate::connection::parts_for;
+use crate::files::find;
+use crate::place::place_at;
+use crate::plans::{take_inlet, take_outlet, take_paths};
+use crate::{
+    MemoryConnection, MemoryDrain, MemoryFeed, MemoryFile, MemoryInlet, MemoryOpener, MemoryOutlet,
+    MemoryPaths, OpenedInlet, Pace, WorldPlans,
+};
+use sg_device::{FileRefusal, Name, NoMemory, OpenRefusal, SayRefusal};
+use sg_memory_disk::{MemoryStore, MemoryStores, Plan};
+use sg_outside::{InletSpec, OutletSpec, StoreSpec};
 use std::alloc::Global;
 
 /// A machine in memory, which tells its files, its devices and the bytes said. No call changes a
@@ -24,6 +33,8 @@ use std::alloc::Global;
 #[derive(Debug, Drop)]
 pub struct MemoryWorld {
     files: Vec<MemoryFile>,
+    /// The connections that peers make to the slots, in order.
+    pub connections: Vec<MemoryConnection>,
     /// How the inlets give their bytes.
     pub pace: Pace,
     /// The calls that fail.
@@ -32,21 +43,27 @@ pub struct MemoryWorld {
     pub stores: MemoryStores,
     opened_inlets: Vec<OpenedInlet>,
     opened_outlets: Vec<OutletSpec>,
+    opened_paths: Vec<OutletSpec>,
     closed_inlets: Option<Box<InletCell>>,
     closed_outlets: Option<Box<OutletCell>>,
+    closed_paths: Option<Box<PathsCell>>,
+    unread: Option<Name>,
     said: Vec<u8>,
+    hints: Vec<u8>,
     read_faults: u64,
     inlet_faults: u64,
     outlet_faults: u64,
+    paths_faults: u64,
     say_faults: u64,
+    build_faults: u64,
 }
 
 impl MemoryWorld {
-    /// A machine over these files. No call fails.
+    /// A machine over these files. No call fails, and nobody connects.
     pub fn new(alloc: Global, files: Vec<MemoryFile>, pace: Pace) -> MemoryWorld
         ensures made { world_of result ≡ new_world files.items }
         ensures quiet { AreQuiet result.plans }
-        ensures quiet_stores { AreDisksQuiet result.stores }
+        ensures quiet_stores { AreStoresQuiet result.stores }
     {
         MemoryWorld::failing(alloc, files, pace, WorldPlans::never(alloc))
     }
@@ -60,22 +77,29 @@ impl MemoryWorld {
     ) -> MemoryWorld
         ensures made { world_of result ≡ new_world files.items }
         ensures plans { result.plans ≡ plans }
-        ensures quiet_stores { AreDisksQuiet result.stores }
+        ensures quiet_stores { AreStoresQuiet result.stores }
     {
         MemoryWorld {
             files,
+            connections: Vec::new(alloc),
             pace,
             plans,
             stores: MemoryStores::new(alloc),
             opened_inlets: Vec::new(alloc),
             opened_outlets: Vec::new(alloc),
+            opened_paths: Vec::new(alloc),
             closed_inlets: None,
             closed_outlets: None,
+            closed_paths: None,
+            unread: None,
             said: Vec::new(alloc),
+            hints: Vec::new(alloc),
             read_faults: 0,
             inlet_faults: 0,
             outlet_faults: 0,
+            paths_faults: 0,
             say_faults: 0,
+            build_faults: 0,
         }
     }
 
@@ -84,6 +108,13 @@ impl MemoryWorld {
         ensures { result.now ≡ self.now.said.items }
     {
         &self.said
+    }
+
+    /// The hints for the operator.
+    pub fn hints(&self) -> &[u8]
+        ensures { result.now ≡ self.now.hints.items }
+    {
+        &self.hints
     }
 
     /// The inlet closed last, with those closed before it.
@@ -100,6 +131,13 @@ impl MemoryWorld {
         &self.closed_outlets
     }
 
+    /// The opener closed last, with those closed before it.
+    pub fn closed_paths(&self) -> &Option<Box<PathsCell>>
+        ensures { result.now ≡ self.now.closed_paths }
+    {
+        &self.closed_paths
+    }
+
     /// A whole file, which has at most so many bytes. `Failed` where there is none of this name.
     pub fn read_file(
         &mut self,
@@ -113,22 +151,22 @@ impl MemoryWorld {
         ensures quiet { AreQuiet self.old.plans → AreQuiet self.new.plans }
     {
         let fails = self.plans.reads.next();
-        let Some(file) = find(&self.files, name) else {
-            self.read_faults = self.read_faults.saturating_add(1);
-            return Err(FileRefusal::Failed);
+        let file = match find(&self.files, name) {
+            Some(file) if !fails => file,
+            _ => {
+                self.unread = Some(Name::new(alloc, name)?);
+                self.read_faults = self.read_faults.saturating_add(1);
+                return Err(FileRefusal::Failed);
+            }
         };
-        if fails {
-            self.read_faults = self.read_faults.saturating_add(1);
-            return Err(FileRefusal::Failed);
-        }
         if file.bytes.len() as u64 > limit {
             return Err(FileRefusal::TooLong);
         }
         Ok(file.bytes.to_vec(alloc)?)
     }
 
-    /// An inlet over a file, and the place at which it begins: a byte's number from 0. `Failed`
-    /// where there is no file of this name. A connection can't be opened.
+    /// An inlet, and the place at which it begins: a byte's number from 0. `Failed` where there is no
+    /// file of this name.
     pub fn open_inlet(
         &mut self,
         alloc: Global,
@@ -138,58 +176,101 @@ impl MemoryWorld {
         ensures opens { MatchResult result
             (λ opened. InletOpens (world_of self.old) (world_of self.new) spec.now from (feed_of opened.0) opened.1)
             (λ refusal. InletRefused (world_of self.old) (world_of self.new) refusal) }
-        ensures fails { OpenFails (fails_now self.old.plans.inlet_opens || is_none (source_of self.old.files.items spec.now)) result }
+        ensures fails { OpenFails (fails_now self.old.plans.inlet_opens || lacks_file self.old.files.items spec.now) result }
         ensures goes { IfOk result (λ opened. GoesBy opened.0.inlet self.old.pace (once_of spec.now) (first_failing self.old.plans.inlets.items)) }
-        ensures plans { CountsInlet self.old.plans self.new.plans (is_ok result) }
         ensures quiet { AreQuiet self.old.plans → AreQuiet self.new.plans }
         ensures quiet_inlet { IfOk result (λ opened. AreQuiet self.old.plans → IsQuiet opened.0.inlet.plan) }
     {
-        let fails = self.plans.inlet_opens.next();
-        let InletSpec::File { path, once } = spec else {
-            self.inlet_faults = self.inlet_faults.saturating_add(1);
-            return Err(OpenRefusal::Failed);
-        };
-        let Some(file) = find(&self.files, path.bytes()) else {
-            self.inlet_faults = self.inlet_faults.saturating_add(1);
-            return Err(OpenRefusal::Failed);
-        };
-        if fails {
+        if self.plans.inlet_opens.next() || self.lacks_file(spec) {
             self.inlet_faults = self.inlet_faults.saturating_add(1);
             return Err(OpenRefusal::Failed);
         }
-        let opened = OpenedInlet::new(alloc, spec, &file.bytes, from)?;
-        let once = *once;
-        self.begin_inlet(alloc, opened, once)
+        let opened = self.opened_for(alloc, spec, from)?;
+        let inlet = self.inlet_for(alloc, &opened)?;
+        Ok(self.begin_inlet(alloc, opened, inlet)?)
     }
 
-    // Opens an inlet of which all is known.
+    // Whether a file is asked for that isn't there.
+    fn lacks_file(&self, spec: &InletSpec) -> bool
+        ensures { result ≡ lacks_file self.now.files.items spec.now }
+    {
+        match spec {
+            InletSpec::File { path, .. } => find(&self.files, path.bytes()).is_none(),
+            InletSpec::Slot { .. } => false,
+        }
+    }
+
+    // What an inlet is opened for.
+    fn opened_for(
+        &self,
+        alloc: Global,
+        spec: &InletSpec,
+        from: u64,
+    ) -> Result<OpenedInlet, NoMemory>
+        ensures { IfOk result (λ opened. IsOpenedFor self.now.files.items spec.now from opened) }
+    {
+        let mut place = 0;
+        let mut left = Vec::new(alloc);
+        if let InletSpec::File { path, limit, .. } = spec
+            && let Some(file) = find(&self.files, path.bytes())
+        {
+            place = place_at(*limit, &file.bytes, from);
+            left = file.bytes[place..].to_vec(alloc)?;
+        }
+        Ok(OpenedInlet {
+            spec: spec.copy()?,
+            from: place as u64,
+            left,
+        })
+    }
+
+    // An inlet at its opening, of which no call fails.
+    fn inlet_for(&self, alloc: Global, opened: &OpenedInlet) -> Result<MemoryInlet, NoMemory>
+        ensures state { IfOk result (λ inlet. inlet_of inlet ≡ opened_state opened.now) }
+        ensures goes { IfOk result (λ inlet. GoesBy inlet self.now.pace (once_of opened.now.spec) []) }
+    {
+        let plan = Plan::never(alloc);
+        match &opened.spec {
+            InletSpec::File { once, .. } => {
+                let left = opened.left.to_vec(alloc)?;
+                Ok(MemoryInlet::file(alloc, left, opened.from, self.pace, *once, plan)?)
+            }
+            InletSpec::Slot {
+                ip,
+                port,
+                slot,
+                once,
+            } => {
+                let parts = parts_for(alloc, &self.connections, ip, *port, *slot)?;
+                Ok(MemoryInlet::slot(alloc, parts, self.pace, *once, plan)?)
+            }
+        }
+    }
+
+    // Opens an inlet of which all is known but its plan.
     fn begin_inlet(
         &mut self,
         alloc: Global,
         opened: OpenedInlet,
-        once: bool,
-    ) -> Result<(MemoryFeed, u64), OpenRefusal>
+        mut inlet: MemoryInlet,
+    ) -> Result<(MemoryFeed, u64), NoMemory>
+        requires { inlet_of inlet ≡ opened_state opened }
         ensures opens { MatchResult result
-            (λ inlet. (world_of self.new ≡ with_inlet (world_of self.old) opened) × (feed_of inlet.0 ≡ at_opening opened.from opened.left.items) × (inlet.1 ≡ opened.from))
-            (λ refusal. (world_of self.new ≡ world_of self.old) × (refusal ≡ OpenRefusal.NoMemory)) }
-        ensures goes { IfOk result (λ inlet. GoesBy inlet.0.inlet self.old.pace once (first_failing self.old.plans.inlets.items)) }
-        ensures taken { self.new.plans.inlets.items ≡ (if is_ok result then drop 1 self.old.plans.inlets.items else self.old.plans.inlets.items) }
-        ensures others { self.new.plans ≡ record self.old.plans { inlets = self.new.plans.inlets } }
+            (λ feed. (world_of self.new ≡ with_inlet (world_of self.old) opened) × (feed_of feed.0 ≡ inlet_of inlet) × (feed.1 ≡ opened.from))
+            (λ _. world_of self.new ≡ world_of self.old) }
+        ensures plan { IfOk result (λ feed. failing feed.0.inlet.plan ≡ first_failing self.old.plans.inlets.items) }
+        ensures paced { IfOk result (λ feed. feed.0.inlet ≡ record inlet { plan = feed.0.inlet.plan }) }
         ensures quiet { AreQuiet self.old.plans → AreQuiet self.new.plans }
-        ensures quiet_inlet { IfOk result (λ inlet. AreQuiet self.old.plans → IsQuiet inlet.0.inlet.plan) }
+        ensures quiet_inlet { IfOk result (λ feed. AreQuiet self.old.plans → IsQuiet feed.0.inlet.plan) }
     {
         let from = opened.from;
-        let bytes = opened.left.to_vec(alloc)?;
         let cell = inlet_cell(alloc)?;
-        if self.opened_inlets.push(opened).is_err() {
-            return Err(OpenRefusal::NoMemory);
-        }
-        let plan = take_plan(alloc, &mut self.plans.inlets);
-        let inlet = MemoryInlet::new(bytes, from, self.pace, once, plan);
+        add_opened(&mut self.opened_inlets, opened)?;
+        inlet.plan = take_inlet(alloc, &mut self.plans.inlets);
         Ok((MemoryFeed { inlet, cell }, from))
     }
 
-    /// An outlet that takes frames. A connection can't be opened.
+    /// An outlet that takes frames.
     pub fn open_outlet(
         &mut self,
         alloc: Global,
@@ -198,18 +279,12 @@ impl MemoryWorld {
         ensures opens { MatchResult result
             (λ drain. OutletOpens (world_of self.old) (world_of self.new) spec.now (drain_of drain))
             (λ refusal. OutletRefused (world_of self.old) (world_of self.new) refusal) }
-        ensures fails { OpenFails (fails_now self.old.plans.outlet_opens || is_connection spec.now) result }
-        ensures goes { IfOk result (λ drain. failing drain.outlet.plan ≡ first_failing self.old.plans.outlets.items) }
-        ensures plans { CountsOutlet self.old.plans self.new.plans (is_ok result) }
+        ensures fails { OpenFails (fails_now self.old.plans.outlet_opens) result }
+        ensures goes { IfOk result (λ drain. IsFirstOutlet self.old.plans.outlets.items drain.outlet.plan) }
         ensures quiet { AreQuiet self.old.plans → AreQuiet self.new.plans }
-        ensures quiet_outlet { IfOk result (λ drain. AreQuiet self.old.plans → IsQuiet drain.outlet.plan) }
+        ensures quiet_outlet { IfOk result (λ drain. AreQuiet self.old.plans → IsOutletQuiet drain.outlet.plan) }
     {
-        let fails = self.plans.outlet_opens.next();
-        let OutletSpec::File { .. } = spec else {
-            self.outlet_faults = self.outlet_faults.saturating_add(1);
-            return Err(OpenRefusal::Failed);
-        };
-        if fails {
+        if self.plans.outlet_opens.next() {
             self.outlet_faults = self.outlet_faults.saturating_add(1);
             return Err(OpenRefusal::Failed);
         }
@@ -217,15 +292,44 @@ impl MemoryWorld {
         if self.opened_outlets.push(spec.copy()?).is_err() {
             return Err(OpenRefusal::NoMemory);
         }
-        let plan = take_plan(alloc, &mut self.plans.outlets);
+        let plan = take_outlet(alloc, &mut self.plans.outlets);
         Ok(MemoryDrain {
             outlet: MemoryOutlet::new(alloc, plan),
             cell,
         })
     }
 
-    /// Opens a store. One of a name that was closed before is as it was closed; another one has 128
-    /// zero bytes, all of them stable, where it is to be made, and is a failure else.
+    /// An opener of files by their paths.
+    pub fn open_paths(
+        &mut self,
+        alloc: Global,
+        spec: &OutletSpec,
+    ) -> Result<MemoryOpener, OpenRefusal>
+        ensures opens { MatchResult result
+            (λ opener. PathsOpen (world_of self.old) (world_of self.new) spec.now (opener_of opener))
+            (λ refusal. PathsRefused (world_of self.old) (world_of self.new) refusal) }
+        ensures fails { OpenFails (fails_now self.old.plans.paths_opens) result }
+        ensures goes { IfOk result (λ opener. IsFirstPaths self.old.plans.paths.items opener.paths.plan) }
+        ensures quiet { AreQuiet self.old.plans → AreQuiet self.new.plans }
+        ensures quiet_paths { IfOk result (λ opener. AreQuiet self.old.plans → IsPathsQuiet opener.paths.plan) }
+    {
+        if self.plans.paths_opens.next() {
+            self.paths_faults = self.paths_faults.saturating_add(1);
+            return Err(OpenRefusal::Failed);
+        }
+        let cell = paths_cell(alloc)?;
+        if self.opened_paths.push(spec.copy()?).is_err() {
+            return Err(OpenRefusal::NoMemory);
+        }
+        let plan = take_paths(alloc, &mut self.plans.paths);
+        Ok(MemoryOpener {
+            paths: MemoryPaths::new(alloc, plan),
+            cell,
+        })
+    }
+
+    /// Opens a store. One that is there is as it was closed, and can't be opened before that; another
+    /// one comes to be with 128 zero bytes, all of them stable, where it is to be made.
     pub fn open_store(
         &mut self,
         alloc: Global,
@@ -274,6 +378,30 @@ impl MemoryWorld {
         add_outlet(&mut self.closed_outlets, cell, outlet);
     }
 
+    /// Closes an opener. It takes no memory.
+    pub fn close_paths(&mut self, opener: MemoryOpener)
+        ensures closes { ClosesPaths (world_of self.old) (world_of self.new) (opener_of opener) }
+        ensures plans { self.new.plans ≡ self.old.plans }
+    {
+        let MemoryOpener { paths, cell } = opener;
+        add_paths(&mut self.closed_paths, cell, paths);
+    }
+
+    /// Counts the build of a pattern, and tells whether it is refused as too large.
+    pub fn fails_build(&mut self) -> bool
+        ensures only { OnlyBuilds (world_of self.old) (world_of self.new) }
+        ensures rose { OnTrue result (Rose self.old.build_faults self.new.build_faults) }
+        ensures fails { result ≡ fails_now self.old.plans.builds }
+        ensures plans { self.new.plans ≡ record self.old.plans { builds = after_call self.old.plans.builds } }
+        ensures quiet { AreQuiet self.old.plans → AreQuiet self.new.plans }
+    {
+        let fails = self.plans.builds.next();
+        if fails {
+            self.build_faults = self.build_faults.saturating_add(1);
+        }
+        fails
+    }
+
     /// Says the bytes. On a refusal nothing was said.
     pub fn say(&mut self, bytes: &[u8]) -> Result<(), SayRefusal>
         ensures says { Says (world_of self.old) (world_of self.new) bytes.now result }
@@ -288,4 +416,21 @@ impl MemoryWorld {
         self.said.extend_from_slice(bytes)?;
         Ok(())
     }
+
+    /// Keeps a hint for the operator, where there is memory for it.
+    pub fn tell(&mut self, bytes: &[u8])
+        ensures same { world_of self.new ≡ world_of self.old }
+        ensures plans { self.new.plans ≡ self.old.plans }
+    {
+        let _ = self.hints.extend_from_slice(bytes);
+    }
+}
+
+// One opened inlet more.
+fn add_opened(opened: &mut Vec<OpenedInlet>, inlet: OpenedInlet) -> Result<(), NoMemory>
+    ensures ok { OnOk result (opened.new.items ≡ opened.old.items ++ inlet ∷ []) }
+    ensures err { OnErr result (opened.new.items ≡ opened.old.items) }
+{
+    opened.push(inlet)?;
+    Ok(())
 }

@@ -6,7 +6,7 @@ use Rattle.sg_msg.specs.Message.{Pair, Content, byte_order, with_pair, without_p
 use Rattle.sg_msg.proofs.ByteOrder.{same-from_equal, less-back, less-trans}
 
 -- what is below the least name is below all
-below-trans : (x y : List ℕ) (pairs : List Pair) → byte_order x y ≡ Less → IsBelow y pairs → IsBelow x pairs
+pub below-trans : (x y : List ℕ) (pairs : List Pair) → byte_order x y ≡ Less → IsBelow y pairs → IsBelow x pairs
 below-trans x y [] e below = tt
 below-trans x y (pair ∷ pairs) e below = (less-trans x y pair.name e below.0, below-trans x y pairs e below.1)
 
@@ -20,7 +20,7 @@ module _ (name value : List ℕ) where
       by rest Equal is = rw is (e, below.1)
       by rest Greater is = rw is (e, below)
 
-  ascending-with : (pairs : List Pair) → IsAscending pairs → IsAscending (with_pair name value pairs)
+  pub ascending-with : (pairs : List Pair) → IsAscending pairs → IsAscending (with_pair name value pairs)
   ascending-with [] up = (tt, tt)
   ascending-with (pair ∷ pairs) up = by (ascending-with pairs up.1) (byte_order pair.name name) refl
     where
@@ -29,7 +29,7 @@ module _ (name value : List ℕ) where
       by rest Equal is = rw is (subst (λ (n : List ℕ). IsBelow n pairs) (same-from_equal pair.name name is) up.0, up.1)
       by rest Greater is = rw is ((less-back pair.name name is, below-trans name pair.name pairs (less-back pair.name name is) up.0), up)
 
-  names-with : (pairs : List Pair) → IsName name → HaveNames pairs → HaveNames (with_pair name value pairs)
+  pub names-with : (pairs : List Pair) → IsName name → HaveNames pairs → HaveNames (with_pair name value pairs)
   names-with [] named all = (named, tt)
   names-with (pair ∷ pairs) named all = by (names-with pairs named all.1) (byte_order pair.name name) refl
     where

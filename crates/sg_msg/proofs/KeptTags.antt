@@ -21,7 +21,7 @@ module _ (tag : List ℕ) where
   distinct-push [] e distinct = (refl, tt)
   distinct-push (first ∷ tags) e distinct = (not_has-push first tags distinct.0 (test-back tag first ∙ or-first (bytes_eq first tag) (has_tag tag tags) e), distinct-push tags (or-second (bytes_eq first tag) (has_tag tag tags) e) distinct.1)
 
-  distinct-with : (tags : List (List ℕ)) → AreDistinct tags → AreDistinct (with_tag tag tags)
+  pub distinct-with : (tags : List (List ℕ)) → AreDistinct tags → AreDistinct (with_tag tag tags)
   distinct-with tags distinct = by (has_tag tag tags) refl
     where
       by : (b : Bool) → has_tag tag tags ≡ b → AreDistinct (with_tag tag tags)

@@ -1,8 +1,12 @@
-mod ByteOrder
+pub mod ByteOrder
 mod PairPlaces
 mod PairSearch
-mod KeptPairs
+pub mod KeptPairs
 mod KeptTags
 mod TagPlaces
 mod Prefixes
-mod ValueLaws
+pub mod ValueLaws
+pub mod ManyPairs
+mod SortedPairs
+mod KnownNames
+pub mod LengthLemmas

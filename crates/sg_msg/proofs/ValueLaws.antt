@@ -5,7 +5,7 @@ use Rattle.std.specs.declared.cmp.Ordering.TheVariants.{Less, Equal, Greater}
 use Rattle.sg_msg.specs.Message.{Pair, byte_order, value_of, with_pair, without_pair, IsBelow, IsAscending}
 use Rattle.sg_msg.proofs.ByteOrder.{same-from_equal, test-same, test-less, test-greater, test-back}
 
-test-other : (x y : List ℕ) → x ≢ y → bytes_eq x y ≡ false
+pub test-other : (x y : List ℕ) → x ≢ y → bytes_eq x y ≡ false
 test-other x y differs = by (byte_order x y) refl
   where
     by : (o : Ordering) → byte_order x y ≡ o → bytes_eq x y ≡ false
@@ -36,7 +36,7 @@ module _ (name value : List ℕ) where
       by rest Greater is = rw (is, not_named) refl
 
 module _ (name : List ℕ) where
-  value-below : (pairs : List Pair) → IsBelow name pairs → value_of name pairs ≡ None
+  pub value-below : (pairs : List Pair) → IsBelow name pairs → value_of name pairs ≡ None
   value-below [] below = refl
   value-below (pair ∷ pairs) below = rw (test-back pair.name name ∙ test-less name pair.name below.0) (value-below pairs below.1)
 

@@ -44,6 +44,11 @@ with_pair name value (pair ∷ pairs) =
     ((record { name = name; value = value }) ∷ pairs)
     ((record { name = name; value = value }) ∷ pair ∷ pairs)
 
+-- the pairs with these set, one after another
+abbrev pub with_all : List Pair → List Pair → List Pair
+with_all [] pairs = pairs
+with_all (pair ∷ others) pairs = with_all others (with_pair pair.name pair.value pairs)
+
 -- the pairs but for that of this name
 abbrev pub without_pair : List ℕ → List Pair → List Pair
 without_pair name [] = []

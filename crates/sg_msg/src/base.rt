@@ -1,64 +1,22 @@
 // The pairs of a message, in one sorted list that its handles share.
 ghost use Rattle.std.specs.Prelude.{◌≡◌, ◌<◌, [], length, remove, IfOk, IfErr, OnOk, OnErr, option_copied, slice_get, option_map};
-ghost use Rattle.sg_msg.specs.Message.{Pair as NamedValue, value_of, with_pair, without_pair, IsAscending};
+ghost use Rattle.sg_msg.specs.Message.{value_of, with_pair, without_pair, IsAscending};
 ghost use Rattle.sg_msg.specs.Places.{IsAt, IsGapFor};
 
+use crate::pair::Pair;
 use bytes::Bytes;
+use smallvec::SmallVec;
 use std::alloc::{AllocError, Global};
 use std::marker::Model;
 use std::sync::Arc;
 
-/// A name and its value.
-#[derive(Debug, Drop)]
-pub(crate) struct Pair {
-    name: Bytes,
-    value: Bytes,
-}
+// The number of pairs that take no memory of their own: HOST, PROGRAM, PID, MSGID and MESSAGE.
+pub(crate) const FEW: usize = 5;
 
-impl Model for Pair {
-    ghost use Rattle.sg_msg.specs.Message.{Pair as NamedValue};
-
-    ghost Value = { NamedValue };
-
-    ghost view = { λ p. record { name = p.name; value = p.value } };
-}
-
-impl Pair {
-    fn name(&self) -> &[u8]
-        ensures { result.now ≡ self.now.name }
-    {
-        &self.name
-    }
-
-    fn value(&self) -> &[u8]
-        ensures { result.now ≡ self.now.value }
-    {
-        &self.value
-    }
-
-    fn put(&mut self, value: Bytes)
-        ensures { self.new ≡ record self.old { value = value } }
-    {
-        self.value = value;
-    }
-}
-
-impl Clone for Pair {
-    ghost is_clone = { λ pair copy. copy ≡ pair };
-
-    fn clone(&self) -> Result<Pair, AllocError> {
-        Ok(Pair {
-            name: self.name.clone()?,
-            value: self.value.clone()?,
-        })
-    }
-}
-
-/// The pairs in order, and the record that they were read from.
+/// The pairs in order.
 #[derive(Debug, Drop)]
 struct Base {
-    raw: Bytes,
-    pairs: Vec<Pair>,
+    pairs: SmallVec<Pair, FEW>,
 }
 
 impl Model for Base {
@@ -75,7 +33,6 @@ impl Clone for Base {
 
     fn clone(&self) -> Result<Base, AllocError> {
         Ok(Base {
-            raw: self.raw.clone()?,
             pairs: self.pairs.clone()?,
         })
     }
@@ -100,7 +57,7 @@ impl Base {
             Ok(place) => self.pairs[place].put(value),
             Err(place) => {
                 let name = Bytes::copy_from_slice(alloc, name)?;
-                self.pairs.insert(place, Pair { name, value })?;
+                self.pairs.insert(place, Pair::new(name, value))?;
             }
         }
         Ok(())
@@ -132,13 +89,16 @@ impl Model for Pairs {
 }
 
 impl Pairs {
-    pub(crate) fn new(alloc: Global, raw: Bytes) -> Result<Pairs, AllocError>
+    pub(crate) fn new(alloc: Global) -> Result<Pairs, AllocError>
         ensures { IfOk result (λ pairs. pairs ≡ []) }
     {
-        let base = Base {
-            raw,
-            pairs: Vec::new(alloc),
-        };
+        Pairs::of(alloc, SmallVec::new(alloc))
+    }
+
+    pub(crate) fn of(alloc: Global, pairs: SmallVec<Pair, FEW>) -> Result<Pairs, AllocError>
+        ensures { IfOk result (λ shared. shared ≡ pairs.items) }
+    {
+        let base = Base { pairs };
         Ok(Pairs {
             alloc,
             base: Arc::new(alloc, base)?,

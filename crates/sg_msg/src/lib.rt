@@ -2,13 +2,26 @@
 #![tactic(auto)]
 
 mod base;
+mod builder;
+mod copy;
+mod front;
+mod length;
 mod macros;
 mod message;
 mod offer;
+mod pair;
 mod refusal;
+mod sets;
+mod sorting;
 mod tags;
+mod threads;
 
+pub use builder::{MessageBuilder, PairName};
+pub use copy::copied;
+pub use front::{has_at, is_digit, priority};
+pub use length::less_entry;
 pub use macros::is_hard;
 pub use message::Message;
 pub use offer::Offer;
 pub use refusal::MsgRefusal;
+pub use sets::{is_escaped, is_print, is_sd_byte};

@@ -2,7 +2,7 @@
 ghost use Rattle.std.specs.Prelude.{◌≡◌, ◌≤◌, ◌↔◌, true, [], IfOk, OnOk, OnErr, length, option_copied, option_map, slice_get};
 ghost use Rattle.sg_time.specs.Stamp.{IsValid};
 ghost use Rattle.sg_msg.specs.Macros.{is_hard};
-ghost use Rattle.sg_msg.specs.Message.{IsMessage, KeepsOthers, value_of, with_pair, without_pair, with_tag, without_tag};
+ghost use Rattle.sg_msg.specs.Message.{IsAscending, HaveNames, AreDistinct, IsMessage, KeepsOthers, value_of, with_pair, without_pair, with_tag, without_tag};
 
 use crate::base::Pairs;
 use crate::tags::Tags;
@@ -48,15 +48,8 @@ impl Model for Message {
 }
 
 impl Message {
-    /// A message without pairs and tags. `raw` is the record that its values are slices of, which
-    /// the message keeps.
-    pub fn new(
-        alloc: Global,
-        raw: Bytes,
-        pri: u8,
-        sent: Stamp,
-        received: Stamp,
-    ) -> Result<Message, AllocError>
+    /// A message without pairs and tags. `MessageBuilder` makes one of many pairs.
+    pub fn new(alloc: Global, pri: u8, sent: Stamp, received: Stamp) -> Result<Message, AllocError>
         requires pri { pri ≤ 191 }
         requires sent { IsValid sent }
         requires received { IsValid received }
@@ -72,9 +65,33 @@ impl Message {
             pri,
             sent,
             received,
-            pairs: Pairs::new(alloc, raw)?,
-            tags: Tags::new(alloc)?,
+            pairs: Pairs::new(alloc)?,
+            tags: Tags::new(alloc),
         })
+    }
+
+    pub(crate) fn of(pri: u8, sent: Stamp, received: Stamp, pairs: Pairs, tags: Tags) -> Message
+        requires pri { pri ≤ 191 }
+        requires sent { IsValid sent }
+        requires received { IsValid received }
+        requires ascending { IsAscending pairs }
+        requires names { HaveNames pairs }
+        requires tags { AreDistinct tags }
+        ensures { result ≡ record {
+          pri = pri;
+          sent = sent;
+          received = received;
+          pairs = pairs;
+          tags = tags;
+        } }
+    {
+        Message {
+            pri,
+            sent,
+            received,
+            pairs,
+            tags,
+        }
     }
 
     /// Another handle, which says the same. No byte is copied, and no list.
@@ -140,14 +157,6 @@ impl Message {
         ensures { option_copied result ≡ slice_get self.now.tags place }
     {
         self.tags.get(place)
-    }
-
-    /// The number of layers over the shared list of pairs. There are none: the list is copied at the
-    /// first change after `share`.
-    pub fn layers(&self) -> u32
-        ensures { result ≡ 0 }
-    {
-        0
     }
 
     /// Gives the name this value, in place of the one that it had. A refusal leaves the message as

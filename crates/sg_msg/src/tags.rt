@@ -1,5 +1,6 @@
 // The tags of a message, in one list that its handles share.
 ghost use Rattle.std.specs.Prelude.{◌≡◌, ◌<◌, [], ◌∷◌, ◌++◌, length, remove, IfOk, OnOk, OnErr, option_copied, slice_get, position, bytes_eq};
+ghost use Rattle.std.specs.Arc.{arc_value};
 ghost use Rattle.sg_msg.specs.Message.{has_tag, with_tag, without_tag};
 
 use bytes::Bytes;
@@ -48,48 +49,56 @@ impl List {
     }
 }
 
-/// The tags of a message, seen as their list.
+/// The tags of a message, seen as their list, which takes no memory where it is empty from the start.
 #[derive(Debug, Drop)]
 pub(crate) struct Tags {
     alloc: Global,
-    list: Arc<List>,
+    list: Option<Arc<List>>,
 }
 
 impl Model for Tags {
     ghost use Rattle.std.specs.Prelude.{ℕ, List as Sequence};
-    ghost use Rattle.std.specs.Arc.{arc_value};
+    ghost use Rattle.sg_msg.specs.Tags.{listed};
 
     ghost Value = { Sequence (Sequence ℕ) };
 
-    ghost view = { λ t. arc_value t.list };
+    ghost view = { λ t. listed t.list };
 }
 
 impl Tags {
-    pub(crate) fn new(alloc: Global) -> Result<Tags, AllocError>
-        ensures { IfOk result (λ tags. tags ≡ []) }
+    pub(crate) fn new(alloc: Global) -> Tags
+        ensures { result ≡ [] }
     {
-        let list = List {
-            tags: Vec::new(alloc),
-        };
-        Ok(Tags {
-            alloc,
-            list: Arc::new(alloc, list)?,
-        })
+        Tags { alloc, list: None }
     }
 
     pub(crate) fn share(&self) -> Result<Tags, AllocError>
         ensures { IfOk result (λ tags. tags ≡ self.now) }
     {
+        let list = match &self.list {
+            Some(list) => Some(Arc::try_clone(list)?),
+            None => None,
+        };
         Ok(Tags {
             alloc: self.alloc,
-            list: Arc::try_clone(&self.list)?,
+            list,
         })
+    }
+
+    // The tags in order.
+    fn tags(&self) -> &[Bytes]
+        ensures { result.now ≡ self.now }
+    {
+        match &self.list {
+            Some(list) => list.tags.as_slice(),
+            None => &[],
+        }
     }
 
     pub(crate) fn get(&self, place: usize) -> Option<&[u8]>
         ensures { option_copied result ≡ slice_get self.now place }
     {
-        Some(self.list.tags.get(place)?.as_slice())
+        Some(self.tags().get(place)?.as_slice())
     }
 
     pub(crate) fn set(&mut self, tag: &[u8]) -> Result<(), AllocError>
@@ -100,7 +109,20 @@ impl Tags {
             return Ok(());
         }
         let tag = Bytes::copy_from_slice(self.alloc, tag)?;
-        Arc::make_mut(&mut self.list)?.push(tag)
+        self.push(tag)
+    }
+
+    fn push(&mut self, tag: Bytes) -> Result<(), AllocError>
+        ensures ok { OnOk result (self.new ≡ self.old ++ tag ∷ []) }
+        ensures err { OnErr result (self.new ≡ self.old) }
+    {
+        match &mut self.list {
+            Some(list) => Arc::make_mut(list)?.push(tag),
+            None => {
+                self.list = Some(only(self.alloc, tag)?);
+                Ok(())
+            }
+        }
     }
 
     pub(crate) fn clear(&mut self, tag: &[u8]) -> Result<(), AllocError>
@@ -108,7 +130,19 @@ impl Tags {
         ensures err { OnErr result (self.new ≡ self.old) }
     {
         match self.place(tag) {
-            Some(place) => Arc::make_mut(&mut self.list)?.remove(place),
+            Some(place) => self.remove(place)?,
+            None => {}
+        }
+        Ok(())
+    }
+
+    fn remove(&mut self, place: usize) -> Result<(), AllocError>
+        requires { place < length self.old }
+        ensures ok { OnOk result (self.new ≡ remove self.old place) }
+        ensures err { OnErr result (self.new ≡ self.old) }
+    {
+        match &mut self.list {
+            Some(list) => Arc::make_mut(list)?.remove(place),
             None => {}
         }
         Ok(())
@@ -117,12 +151,23 @@ impl Tags {
     fn has(&self, tag: &[u8]) -> bool
         ensures { result ≡ has_tag tag.now self.now }
     {
-        self.list.tags.iter().any(|set| set.as_slice() == tag)
+        self.tags().iter().any(|set| set.as_slice() == tag)
     }
 
     fn place(&self, tag: &[u8]) -> Option<usize>
         ensures { result ≡ position (λ set. bytes_eq set tag.now) self.now }
     {
-        self.list.tags.iter().position(|set| set.as_slice() == tag)
+        self.tags().iter().position(|set| set.as_slice() == tag)
     }
+}
+
+// A list of one tag.
+fn only(alloc: Global, tag: Bytes) -> Result<Arc<List>, AllocError>
+    ensures { IfOk result (λ list. arc_value list ≡ tag ∷ []) }
+{
+    let mut list = List {
+        tags: Vec::new(alloc),
+    };
+    list.push(tag)?;
+    Ok(Arc::new(alloc, list)?)
 }

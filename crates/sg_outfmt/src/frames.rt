@@ -5,6 +5,7 @@ ghost use Rattle.sg_r5424.specs.Write.{line_text};
 ghost use Rattle.sg_outfmt.specs.Frame.{counted, frame_of};
 
 use crate::Shape;
+use crate::packed::packed_text;
 use itoa::Buffer;
 use sg_msg::Message;
 use sg_r5424::write;
@@ -24,6 +25,7 @@ pub fn frame(
     match shape {
         Shape::Text(template) => template.render(message, env, out),
         Shape::Counted5424 => counted_line(message, env, out),
+        Shape::ByPath { path, text } => packed_text(path, text, message, env, out),
     }
 }
 
@@ -53,7 +55,7 @@ fn append_count(count: usize, out: &mut Vec<u8>) -> Result<(), AllocError>
     Ok(())
 }
 
-fn append(text: &[u8], out: &mut Vec<u8>) -> Result<(), AllocError>
+pub(crate) fn append(text: &[u8], out: &mut Vec<u8>) -> Result<(), AllocError>
     ensures ok { OnOk result (out.new.items ≡ out.old.items ++ text.now) }
     ensures err { OnErr result (BeginsWith out.old.items out.new.items) }
 {

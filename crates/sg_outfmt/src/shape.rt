@@ -1,6 +1,6 @@
 // The shapes of frames.
 ghost use Rattle.std.specs.Prelude.{◌≡◌, IfOk, Ok, is_ok, true};
-ghost use Rattle.sg_template.specs.Reading.{parts_of};
+ghost use Rattle.sg_macro.specs.Reading.{parts_of};
 ghost use Rattle.sg_outfmt.specs.Shape.{IsDefault};
 
 use sg_template::{Template, TemplateFault};
@@ -13,6 +13,9 @@ pub enum Shape {
     Text(Template),
     /// A line of RFC 5424, behind its length in octets and a space (RFC 6587, 3.4.1).
     Counted5424,
+    /// The text of a template behind the path of the file that it goes to, which another template
+    /// gives. `unpacked` tells them apart.
+    ByPath { path: Template, text: Template },
 }
 
 /// The kinds of destinations.
@@ -28,7 +31,7 @@ const FILE_TEXT: &[u8] = b"${STAMP} ${HOST} ${MSGHDR}${MSG}\n";
 const NETWORK_TEXT: &[u8] = b"<${PRI}>${STAMP} ${HOST} ${MSGHDR}${MSG}\n";
 
 /// The shape of a destination without a template.
-#[tactic(auto, unfolding(sg_template::specs::Reading::parts_of, sg_template::specs::Macros::macro_of, sg_template::specs::Macros::macros, sg_template::specs::Macros::pair_name))]
+#[tactic(auto, unfolding(sg_macro::specs::Reading::parts_of, sg_macro::specs::Macros::macro_of, sg_macro::specs::Macros::macros, sg_macro::specs::Macros::pair_name))]
 pub fn default_shape(alloc: Global, driver: DriverKind) -> Result<Shape, AllocError>
     ensures { IfOk result (IsDefault driver) }
 {
@@ -49,4 +52,11 @@ fn sound_template(alloc: Global, text: &[u8]) -> Result<Template, AllocError>
         Err(TemplateFault::NoMemory) => Err(AllocError),
         Err(TemplateFault::OpenBrace | TemplateFault::Function) => unreachable!(),
     }
+}
+
+// A shape may be handed to another thread.
+fn is_send<T: Send>() {}
+
+fn shape_is_send() {
+    is_send::<Shape>();
 }

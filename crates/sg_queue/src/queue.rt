@@ -70,6 +70,13 @@ impl Queue {
         self.entries.front()
     }
 
+    /// The entry at a place among those that wait, counted from 0.
+    pub fn get(&self, k: usize) -> Option<&Entry>
+        ensures { option_copied result ≡ slice_get self.now.entries k }
+    {
+        self.entries.get(k)
+    }
+
     /// Takes the first entry out. Its room is left for another.
     pub fn pop(&mut self) -> Option<Entry>
         ensures first { result ≡ slice_get self.old.entries 0 }
@@ -102,4 +109,11 @@ impl Queue {
     {
         self.entries.is_empty()
     }
+}
+
+// A queue may be handed to another thread.
+fn is_send<T: Send>() {}
+
+fn queue_is_send() {
+    is_send::<Queue>();
 }

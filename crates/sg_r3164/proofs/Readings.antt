@@ -1,12 +1,12 @@
 -- A record is read in one way.
-use Rattle.std.proofs.Common.{◌≡◌, ℕ, ◌⊎◌, inl, inr, Bool, true, false, List, Option, Some, None, MatchOption, Result, IfOk, ℤ, refl, sym, ap, ◌∙◌, subst}
+use Rattle.std.proofs.Common.{◌≡◌, ℕ, inl, inr, Bool, true, false, List, Option, Some, None, MatchOption, Result, IfOk, ℤ, refl, sym, ap, ◌∙◌, subst}
 use Rattle.std.specs.declared.alloc.AllocError.{AllocError}
 use Rattle.sg_time.specs.declared.stamp.Stamp.{Stamp}
 use Rattle.sg_time.specs.Local.{local_time}
 use Rattle.sg_msg.specs.Message.{Content}
 use Rattle.sg_r3164.specs.declared.opts.ReadOpts.{ReadOpts}
 use Rattle.sg_r3164.specs.Options.{received_at}
-use Rattle.sg_r3164.specs.Parts.{priority}
+use Rattle.sg_msg.specs.Priority.{priority}
 use Rattle.sg_r3164.specs.Read3164.{HasBsd, HasIso, HasStamp, FindsStamp, behind_pri, parsed, ReadsAs, Read3164}
 use Rattle.sg_r3164.proofs.StampsOnce.{iso_once, bsd_once, bsd_not_iso}
 

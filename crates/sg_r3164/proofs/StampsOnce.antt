@@ -1,7 +1,7 @@
 -- A text has one stamp of each form at its front.
-use Rattle.std.proofs.Common.{◌≡◌, ◌≢◌, ℕ, zero, suc, ◌+◌, ◌-◌, ◌*◌, ◌/◌, ◌%◌, ◌<◌, ◌≤◌, ◌⊎◌, inl, inr, List, [], ◌∷◌, ◌++◌, length, drop, refl, sym, ap, ◌∙◌, arith, ℤ, pos, negsuc, ◌+ℤ◌, ◌*ℤ◌, ◌≤ℤ◌, unsigned_abs, codes, neg_ℤ}
+use Rattle.std.proofs.Common.{◌≡◌, ℕ, zero, suc, ◌+◌, ◌/◌, ◌%◌, ◌<◌, ◌≤◌, inl, inr, List, ◌∷◌, ◌++◌, length, drop, refl, sym, ap, ◌∙◌, arith, ℤ, pos, ◌+ℤ◌, ◌*ℤ◌, ◌≤ℤ◌, unsigned_abs, neg_ℤ}
 use Rattle.std.specs.Int.{IsInRange}
-use Rattle.jiff_core.specs.Calendar.{IsBetween, days_from_civil}
+use Rattle.jiff_core.specs.Calendar.{IsBetween}
 use Rattle.jiff_core.specs.Date.{epoch_day}
 use Rattle.jiff_core.specs.Time.{time_seconds}
 use Rattle.jiff_core.specs.declared.civil.date.Date.{Date}
@@ -10,7 +10,7 @@ use Rattle.jiff_core.proofs.SignedLemmas.{signed_arith}
 use Rattle.sg_time.specs.declared.stamp.Stamp.{Stamp}
 use Rattle.sg_time.specs.declared.local.LocalTime.{LocalTime}
 use Rattle.sg_time.specs.Stamp.{local_of}
-use Rattle.sg_time.specs.Text.{digits, month_name, minutes_text}
+use Rattle.sg_time.specs.Text.{month_name, minutes_text}
 use Rattle.sg_time.specs.Reading.{date_form, clock_form, IsDigit, IsFraction, IsZone, IsMoment, IsIso, IsBsd, micros_from, year_by_receipt}
 use Rattle.sg_time.specs.Reading.IsZone.{zulu, east, west}
 use Rattle.sg_time.proofs.Numbers.{two-digits_same, four-digits_same, abs-pos, abs-bound}

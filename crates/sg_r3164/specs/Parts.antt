@@ -1,44 +1,13 @@
 -- The parts of a record, each by the bytes that it takes at the front of a text (RFC 3164, section 4).
-use Rattle.std.specs.Prelude.{ℕ, ◌+◌, ◌-◌, ◌*◌, ◌==◌, Bool, false, ◌&&◌, not, nat_lt, nat_le, if◌then◌else◌, List, [], ◌∷◌, length, take, drop, slice_get, slice_range, Option, None, Some, option_map}
+use Rattle.std.specs.Prelude.{ℕ, ◌+◌, ◌-◌, ◌==◌, Bool, ◌&&◌, not, nat_lt, if◌then◌else◌, List, drop, slice_range, Option, None, Some, option_map}
 use Rattle.std.specs.List.{prefix_len}
+use Rattle.sg_msg.specs.Priority.{has_at}
+use Rattle.sg_msg.specs.Sets.{is_print}
 use Rattle.sg_r3164.specs.declared.parts.Tag.{Tag}
-
--- a printing ASCII character that is no space (RFC 5424, section 6: PRINTUSASCII)
-abbrev pub is_print : ℕ → Bool
-is_print b = nat_le 33 b && nat_le b 126
-
-abbrev pub is_digit : ℕ → Bool
-is_digit b = nat_le 48 b && nat_le b 57
-
-abbrev pub is_byte : ℕ → Option ℕ → Bool
-is_byte byte None = false
-is_byte byte (Some found) = found == byte
-
--- the byte stands at this place
-abbrev pub has_at : List ℕ → ℕ → ℕ → Bool
-has_at text place byte = is_byte byte (slice_get text place)
 
 -- the place behind the byte, where it stands at this place, and else this place
 abbrev pub past : List ℕ → ℕ → ℕ → ℕ
 past text place byte = if has_at text place byte then place + 1 else place
-
-abbrev pub at_most : ℕ → ℕ → Option ℕ
-at_most most n = if nat_le n most then Some n else None
-
--- a PRI's value: one to three digits that come to at most 191
-abbrev pub priority_value : List ℕ → Option ℕ
-priority_value (a ∷ []) = at_most 191 (a - 48)
-priority_value (a ∷ b ∷ []) = at_most 191 ((a - 48) * 10 + (b - 48))
-priority_value (a ∷ b ∷ c ∷ []) = at_most 191 ((a - 48) * 100 + (b - 48) * 10 + (c - 48))
-priority_value _ = None
-
--- the PRI: its value, and how much it takes, which is its digits in angle brackets (section 4.1.1)
-abbrev pub priority : List ℕ → Option (ℕ × ℕ)
-priority text =
-    let digits = prefix_len is_digit (drop 1 text) in
-    if has_at text 0 60 && has_at text (digits + 1) 62
-    then option_map (λ value. (value, digits + 2)) (priority_value (slice_range text 1 (digits + 1)))
-    else None
 
 -- a byte of a host's name: no space, no [
 abbrev pub is_host_byte : ℕ → Bool

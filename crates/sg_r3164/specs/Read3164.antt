@@ -1,12 +1,14 @@
 -- The message of a record as RFC 3164 describes it (sections 4 and 5), and as syslog-ng's guide has it for records that aren't so.
-use Rattle.std.specs.Prelude.{◌≡◌, ℕ, ℤ, ◌+◌, ◌==◌, ◌||◌, ◌⊎◌, Bool, true, false, if◌then◌else◌, List, [], length, take, drop, codes, Option, None, Some, option_map, is_some}
+use Rattle.std.specs.Prelude.{◌≡◌, ℕ, ℤ, ◌==◌, ◌||◌, ◌⊎◌, Bool, true, false, if◌then◌else◌, List, [], ◌∷◌, ◌++◌, length, take, drop, codes, Option, None, Some, option_map, is_some}
 use Rattle.sg_time.specs.declared.stamp.Stamp.{Stamp}
 use Rattle.sg_time.specs.Local.{local_time}
 use Rattle.sg_time.specs.Reading.{IsBsd, IsIso}
-use Rattle.sg_msg.specs.Message.{Pair, Content, with_pair}
+use Rattle.sg_msg.specs.Message.{Pair, Content, with_all}
+use Rattle.sg_msg.specs.Build.{some_pair}
+use Rattle.sg_msg.specs.Priority.{priority, has_at}
 use Rattle.sg_r3164.specs.declared.opts.ReadOpts.{ReadOpts}
 use Rattle.sg_r3164.specs.Options.{received_at, sent_of, host_of}
-use Rattle.sg_r3164.specs.Parts.{priority, has_at, past, host_len, tag, program_of, pid_of, behind_tag}
+use Rattle.sg_r3164.specs.Parts.{past, host_len, tag, program_of, pid_of, behind_tag}
 
 -- the text ends at this place, or a space stands there
 abbrev pub is_end : List ℕ → ℕ → Bool
@@ -49,16 +51,15 @@ abbrev pub behind_host : Option ℕ → List ℕ → List ℕ
 behind_host None text = text
 behind_host (Some len) text = drop 1 (drop len text)
 
--- a pair that may be missing
-abbrev pub with_some : List ℕ → Option (List ℕ) → List Pair → List Pair
-with_some name None pairs = pairs
-with_some name (Some value) pairs = with_pair name value pairs
-
 -- the pairs that a reading gives
+abbrev pub parts : List ℕ → Option (List ℕ) → Option (List ℕ) → List ℕ → List Pair
+parts host program pid text =
+    (record { name = codes "HOST"; value = host }) ∷ [] ++ some_pair (codes "PROGRAM") program ++ some_pair (codes "PID") pid
+    ++ (record { name = codes "MESSAGE"; value = text }) ∷ []
+
+-- the same, set on others
 abbrev pub with_parts : List ℕ → Option (List ℕ) → Option (List ℕ) → List ℕ → List Pair → List Pair
-with_parts host program pid text pairs =
-    with_pair (codes "MESSAGE") text
-    (with_some (codes "PID") pid (with_some (codes "PROGRAM") program (with_pair (codes "HOST") host pairs)))
+with_parts host program pid text pairs = with_all (parts host program pid text) pairs
 
 -- the message of an item that isn't parsed
 abbrev pub unparsed : ReadOpts → Stamp → List ℕ → List ℕ → Content
@@ -71,13 +72,13 @@ unparsed opts received peer item = record {
 }
 
 -- The fourth and fifth steps: the tag, and what is left is MESSAGE
-abbrev pub with_tag_of : List ℕ → List ℕ → List Pair
-with_tag_of host text = with_parts host (program_of (tag text) text) (pid_of (tag text) text) (behind_tag (tag text) text) []
+abbrev pub parts_of : List ℕ → List ℕ → List Pair
+parts_of host text = parts host (program_of (tag text) text) (pid_of (tag text) text) (behind_tag (tag text) text)
 
 abbrev pub pairs_behind_stamp : ReadOpts → List ℕ → Bool → List ℕ → List Pair
 pairs_behind_stamp opts peer stamped text =
     let host = host_behind stamped text in
-    with_tag_of (host_of opts (option_map (λ len. take len text) host) peer) (behind_host host text)
+    parts_of (host_of opts (option_map (λ len. take len text) host) peer) (behind_host host text)
 
 -- the message of an item in whose text behind the PRI this stamp was found, or none
 abbrev pub parsed : ReadOpts → Stamp → List ℕ → List ℕ → Option (Stamp × ℕ) → Content
@@ -85,7 +86,7 @@ parsed opts received peer item found = record {
   pri = pri_of (priority item) opts.pri;
   sent = sent_of opts (option_map (λ stamp. stamp.0) found) received;
   received = received;
-  pairs = pairs_behind_stamp opts peer (is_some found) (behind_stamp found (behind_pri (priority item) item));
+  pairs = with_all (pairs_behind_stamp opts peer (is_some found) (behind_stamp found (behind_pri (priority item) item))) [];
   tags = [];
 }
 

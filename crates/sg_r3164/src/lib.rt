@@ -8,5 +8,4 @@ mod reading;
 
 pub use laws::readings_are_one;
 pub use opts::ReadOpts;
-pub use parts::{is_print, priority};
-pub use reading::{put, put_some, read};
+pub use reading::read;

@@ -3,7 +3,7 @@ ghost use Rattle.std.specs.Prelude.{◌≡◌, ◌≤◌, ◌≤ℤ◌, ℤ, pos
 
 use bytes::Bytes;
 use sg_time::Stamp;
-use std::alloc::{AllocError, Global};
+use std::alloc::AllocError;
 
 /// What a source says of its records.
 #[derive(Clone, Copy, Debug, PartialEq, Eq, Drop)]
@@ -56,17 +56,12 @@ impl ReadOpts {
     }
 
     /// HOST, where the record names this host, or none, and came from this peer.
-    pub fn host(
-        &self,
-        alloc: Global,
-        found: Option<Bytes>,
-        peer: &[u8],
-    ) -> Result<Bytes, AllocError>
+    pub fn host(&self, found: Option<Bytes>, peer: &Bytes) -> Result<Bytes, AllocError>
         ensures { IfOk result (λ host. host ≡ host_of self.now found peer.now) }
     {
         match found {
             Some(host) if self.keep_hostname => Ok(host),
-            _ => Bytes::copy_from_slice(alloc, peer),
+            _ => peer.clone(),
         }
     }
 }

@@ -4,61 +4,32 @@ ghost use Rattle.std.specs.Option.{ForSome};
 ghost use Rattle.sg_time.specs.declared.stamp.Stamp.{Stamp as AStamp};
 ghost use Rattle.sg_time.specs.Stamp.{IsValid};
 ghost use Rattle.sg_r3164.specs.Options.{sent_of};
-ghost use Rattle.sg_msg.specs.Macros.{is_hard};
-ghost use Rattle.sg_msg.specs.Message.{with_pair};
-ghost use Rattle.sg_r3164.specs.Parts.{priority, host_len, tag, program_of, pid_of, behind_tag};
-ghost use Rattle.sg_r3164.specs.Read3164.{is_end, HasBsd, HasIso, FindsStamp, Read3164, ReadsAs, pri_of, behind_pri, behind_stamp, host_behind, behind_host, with_some, with_parts, pairs_behind_stamp};
+ghost use Rattle.sg_msg.specs.Priority.{priority};
+ghost use Rattle.sg_r3164.specs.Parts.{tag, program_of, pid_of, behind_tag};
+ghost use Rattle.sg_r3164.specs.Read3164.{is_end, HasBsd, HasIso, FindsStamp, Read3164, ReadsAs, pri_of, behind_pri, behind_stamp, host_behind, behind_host, parts, pairs_behind_stamp};
 
 use crate::ReadOpts;
-use crate::parts::{find_tag, has_at, host_len, past, priority};
+use crate::parts::{find_tag, host_len, past};
 use bytes::Bytes;
-use sg_msg::{Message, MsgRefusal};
+use sg_msg::{Message, MessageBuilder, PairName, has_at, priority};
 use sg_time::{Stamp, read_bsd, read_iso};
 use std::alloc::{AllocError, Global};
 
-/// Gives the name this value, where the name is no macro's. An error leaves the message as it was.
-pub fn put(message: &mut Message, name: &[u8], value: Bytes) -> Result<(), AllocError>
-    requires length { (1 ≤ length name.now) × (length name.now ≤ 255) }
-    requires soft { is_hard name.now ≡ false }
-    ensures ok { OnOk result (message.new
-        ≡ record message.old { pairs = with_pair name.now value message.old.pairs }) }
-    ensures err { OnErr result (message.new ≡ message.old) }
-{
-    match message.set_bytes(name, value) {
-        Ok(()) => Ok(()),
-        Err(MsgRefusal::NoMemory) => Err(AllocError),
-        Err(MsgRefusal::HardMacro) => unreachable!(),
-    }
-}
-
-/// As `put`, where there is a value.
-pub fn put_some(message: &mut Message, name: &[u8], value: Option<Bytes>) -> Result<(), AllocError>
-    requires length { (1 ≤ length name.now) × (length name.now ≤ 255) }
-    requires soft { is_hard name.now ≡ false }
-    ensures ok { OnOk result (message.new
-        ≡ record message.old { pairs = with_some name.now value message.old.pairs }) }
-    ensures err { OnErr result (message.new ≡ message.old) }
-{
-    match value {
-        Some(value) => put(message, name, value),
-        None => Ok(()),
-    }
-}
-
 fn put_parts(
-    message: &mut Message,
+    builder: &mut MessageBuilder,
     host: Bytes,
     program: Option<Bytes>,
     pid: Option<Bytes>,
     text: Bytes,
 ) -> Result<(), AllocError>
-    ensures { OnOk result (message.new
-        ≡ record message.old { pairs = with_parts host program pid text message.old.pairs }) }
+    requires { builder.old.put ≡ [] }
+    ensures { OnOk result (builder.new ≡ record builder.old { put = parts host program pid text }) }
 {
-    put(message, b"HOST", host)?;
-    put_some(message, b"PROGRAM", program)?;
-    put_some(message, b"PID", pid)?;
-    put(message, b"MESSAGE", text)
+    builder.put(PairName::Host, host)?;
+    builder.put_some(PairName::Program, program)?;
+    builder.put_some(PairName::Pid, pid)?;
+    builder.put(PairName::Message, text)?;
+    Ok(())
 }
 
 fn take_pri(text: &mut Bytes, default: u8) -> u8
@@ -197,21 +168,21 @@ fn take_tag(text: &mut Bytes) -> Result<Tagged, AllocError>
 
 // The pairs of what stands behind the stamp.
 fn put_rest(
-    alloc: Global,
-    message: &mut Message,
+    builder: &mut MessageBuilder,
     mut text: Bytes,
     stamped: bool,
-    peer: &[u8],
+    peer: &Bytes,
     opts: &ReadOpts,
 ) -> Result<(), AllocError>
-    requires { message.old.pairs ≡ [] }
-    ensures { OnOk result (message.new
-        ≡ record message.old { pairs = pairs_behind_stamp opts.now peer.now stamped text }) }
+    requires { builder.old.put ≡ [] }
+    ensures { OnOk result (builder.new
+        ≡ record builder.old { put = pairs_behind_stamp opts.now peer.now stamped text }) }
 {
     let host = take_host(&mut text, stamped)?;
-    let host = opts.host(alloc, host, peer)?;
+    let host = opts.host(host, peer)?;
     let tagged = take_tag(&mut text)?;
-    put_parts(message, host, tagged.program, tagged.pid, text)
+    put_parts(builder, host, tagged.program, tagged.pid, text)?;
+    Ok(())
 }
 
 fn sent(opts: &ReadOpts, found: Option<(Stamp, usize)>, received: Stamp) -> Stamp
@@ -230,38 +201,38 @@ fn read_parsed(
     alloc: Global,
     item: Bytes,
     received: Stamp,
-    peer: &[u8],
+    peer: &Bytes,
     opts: &ReadOpts,
 ) -> Result<Message, AllocError>
     requires { IsValid received }
     ensures { IfOk result (ReadsAs true opts.now received peer.now item) }
 {
-    let mut text = item.clone()?;
+    let mut text = item;
     let pri = take_pri(&mut text, opts.pri);
     let found = take_stamp(&mut text, received);
     let sent = sent(opts, found, received);
-    let mut message = Message::new(alloc, item, pri, sent, received)?;
-    put_rest(alloc, &mut message, text, found.is_some(), peer, opts)?;
-    Ok(message)
+    let mut builder = MessageBuilder::new(alloc, pri, sent, received);
+    put_rest(&mut builder, text, found.is_some(), peer, opts)?;
+    builder.message()
 }
 
 fn read_unparsed(
     alloc: Global,
     item: Bytes,
     received: Stamp,
-    peer: &[u8],
+    peer: &Bytes,
     opts: &ReadOpts,
 ) -> Result<Message, AllocError>
     requires { IsValid received }
     ensures { IfOk result (ReadsAs false opts.now received peer.now item) }
 {
-    let mut message = Message::new(alloc, item.clone()?, opts.pri, received, received)?;
-    let host = Bytes::copy_from_slice(alloc, peer)?;
-    put_parts(&mut message, host, None, None, item)?;
-    Ok(message)
+    let mut builder = MessageBuilder::new(alloc, opts.pri, received, received);
+    put_parts(&mut builder, peer.clone()?, None, None, item)?;
+    builder.message()
 }
 
-/// The message of a record: every item has one. Values that stand in the item share its memory.
+/// The message of a record: every item has one. Values share the memory of the item and of the
+/// peer's name.
 ///
 /// `at` is the moment of the pull, in microseconds since 1970-01-01T00:00:00Z, 0 to
 /// 250,000,000,000,000,000. HOST, PROGRAM, PID and MESSAGE are set; PROGRAM and PID only where the
@@ -270,7 +241,7 @@ pub fn read(
     alloc: Global,
     item: Bytes,
     at: i64,
-    peer: &[u8],
+    peer: &Bytes,
     opts: &ReadOpts,
 ) -> Result<Message, AllocError>
     requires { (pos 0 ≤ℤ at) × (at ≤ℤ pos 250_000_000_000_000_000) }

@@ -4,15 +4,16 @@ use Rattle.std.proofs.lemmas.Bool.{true≢false, ne_eqb}
 use Rattle.std.specs.declared.result.Result.{Result}
 use Rattle.std.specs.declared.result.Result.TheVariants.{Ok, Err}
 use Rattle.std.specs.declared.alloc.AllocError.{AllocError}
-use Rattle.sg_msg.specs.Message.{Pair, Content}
+use Rattle.sg_msg.specs.Message.{Pair}
+use Rattle.sg_msg.specs.Build.{Build}
 use Rattle.sg_r5424.specs.Takes.{Puts}
 use Rattle.sg_r5424.specs.declared.params.Param.{Param}
-use Rattle.sg_r5424.specs.Data.{Stops, IsName, Params, HasParams, element_name, element_pairs, param_pair, IsElement, Elements, IsData, with_all}
+use Rattle.sg_r5424.specs.Data.{Stops, IsName, Params, HasParams, element_name, element_pairs, param_pair, IsElement, Elements, IsData}
 use Rattle.sg_r5424.specs.Data.Params.{closed}
 use Rattle.sg_r5424.specs.Data.Elements.{none, more}
 use Rattle.sg_r5424.proofs.RunLemmas.{first_same}
 use Rattle.sg_r5424.proofs.NameLemmas.{name_once}
-use Rattle.sg_r5424.proofs.ParamLemmas.{params_cases, params_once, params_shorter, with_all-append}
+use Rattle.sg_r5424.proofs.ParamLemmas.{params_cases, params_once, params_shorter}
 
 abbrev is_open : ℕ → Bool
 is_open b = nat_eq b 91
@@ -67,7 +68,7 @@ full_element text behind id left pairs rest e is_id never h = record {
 }
 
 -- what was read behind an identifier
-pub element_taken : (text behind id left new : List ℕ) (before after : Content) (result : Result Bool AllocError) → text ≡ 91 ∷ behind → IsName behind id left → ((r : List ℕ) → ¬ (left ≡ 93 ∷ r)) → length left ≤ length text → Puts (HasParams id) left new before after result → Puts IsElement text new before after result
+pub element_taken : (text behind id left new : List ℕ) (before after : Build) (result : Result Bool AllocError) → text ≡ 91 ∷ behind → IsName behind id left → ((r : List ℕ) → ¬ (left ≡ 93 ∷ r)) → length left ≤ length text → Puts (HasParams id) left new before after result → Puts IsElement text new before after result
 element_taken text behind id left new before after (Ok true) e is_id never less p =
     (p.0, (full_element text behind id left p.0 new e is_id never p.1.0, p.1.1, let l = p.1.2 in omega arith))
 element_taken text behind id left new before after (Ok false) e is_id never less p =
@@ -178,32 +179,32 @@ pub some_data : (text behind : List ℕ) (pairs : List Pair) (rest : List ℕ) �
 some_data [] behind pairs rest e h = absurd (cc)
 some_data (b ∷ text) behind pairs rest e h = inr (first_same b 91 text behind e, h)
 
--- what was read and set of structured data, as far as here
-pub record ElementsSoFar (start : List ℕ) (before : Content) (text : List ℕ) (now : Content) : Type 0 where
+-- what was read and put of structured data, as far as here
+pub record ElementsSoFar (start : List ℕ) (before : Build) (text : List ℕ) (now : Build) : Type 0 where
   pub done : List Pair
   pub reached : ReachedIn start done text
-  pub set : now ≡ record before { pairs = with_all done before.pairs }
+  pub set : now ≡ record before { put = before.put ++ done }
   pub shorter : length text ≤ length start
 
-pub so_far_none : (start : List ℕ) (before : Content) → ElementsSoFar start before start before
-so_far_none start before = record { done = []; reached = reached_in_none start; set = refl; shorter = omega arith }
+pub so_far_none : (start : List ℕ) (before : Build) → ElementsSoFar start before start before
+so_far_none start before = record { done = []; reached = reached_in_none start; set = ap (λ (x : List Pair). record before { put = x }) (sym (append-nil before.put)); shorter = omega arith }
 
-pub so_far_more : (start : List ℕ) (before : Content) (text : List ℕ) (now : Content) (one : List Pair) (middle : List ℕ) (after : Content) → ElementsSoFar start before text now → IsElement text one middle → length middle ≤ length text → after ≡ record now { pairs = with_all one now.pairs } → ElementsSoFar start before middle after
+pub so_far_more : (start : List ℕ) (before : Build) (text : List ℕ) (now : Build) (one : List Pair) (middle : List ℕ) (after : Build) → ElementsSoFar start before text now → IsElement text one middle → length middle ≤ length text → after ≡ record now { put = now.put ++ one } → ElementsSoFar start before middle after
 so_far_more start before text now one middle after s first less put =
     let old = s.shorter in
-    let change : Content → Content = λ x. record x { pairs = with_all one x.pairs } in
+    let change : Build → Build = λ x. record x { put = x.put ++ one } in
     record {
       done = s.done ++ one;
       reached = reached_in_more start s.done text one middle s.reached first;
-      set = put ∙ (ap change s.set ∙ ap (λ (x : List Pair). record before { pairs = x }) (sym (with_all-append s.done one before.pairs)));
+      set = put ∙ (ap change s.set ∙ ap (λ (x : List Pair). record before { put = x }) (append_assoc before.put s.done one));
       shorter = omega arith;
     }
 
-pub so_far_end : (start behind : List ℕ) (before : Content) (text : List ℕ) (now : Content) → start ≡ 91 ∷ behind → ElementsSoFar start before text now → ((rest : List ℕ) → ¬ (text ≡ 91 ∷ rest)) → (pairs : List Pair) × (IsData start pairs text × (now ≡ record before { pairs = with_all pairs before.pairs }) × (length text ≤ length start))
+pub so_far_end : (start behind : List ℕ) (before : Build) (text : List ℕ) (now : Build) → start ≡ 91 ∷ behind → ElementsSoFar start before text now → ((rest : List ℕ) → ¬ (text ≡ 91 ∷ rest)) → (pairs : List Pair) × (IsData start pairs text × (now ≡ record before { put = before.put ++ pairs }) × (length text ≤ length start))
 so_far_end start behind before text now e s never =
     (s.done, (some_data start behind s.done text e (reached_in_end start s.done text s.reached (stops_unless text never)), s.set, s.shorter))
 
-pub so_far_stuck : (start behind : List ℕ) (before : Content) (text : List ℕ) (now : Content) (left : List ℕ) → start ≡ 91 ∷ behind → ElementsSoFar start before text now → text ≡ 91 ∷ left → ((pairs : List Pair) (rest : List ℕ) → ¬ IsElement text pairs rest) → (pairs : List Pair) (rest : List ℕ) → ¬ IsData start pairs rest
+pub so_far_stuck : (start behind : List ℕ) (before : Build) (text : List ℕ) (now : Build) (left : List ℕ) → start ≡ 91 ∷ behind → ElementsSoFar start before text now → text ≡ 91 ∷ left → ((pairs : List Pair) (rest : List ℕ) → ¬ IsElement text pairs rest) → (pairs : List Pair) (rest : List ℕ) → ¬ IsData start pairs rest
 so_far_stuck start behind before text now left e s opens never pairs rest =
     no_elements start behind e (reached_in_stuck start s.done text s.reached (opens_with text left opens) never) pairs rest
 

@@ -3,7 +3,7 @@ use Rattle.std.proofs.Common.{◌≡◌, ℕ, ◌+◌, ◌/◌, ◌%◌, List, �
 use Rattle.std.proofs.lemmas.Bool.{false≢true}
 use Rattle.sg_time.specs.declared.stamp.Stamp.{Stamp}
 use Rattle.sg_time.specs.Reading.{IsIso, date_form, clock_form}
-use Rattle.sg_r3164.specs.Parts.{priority}
+use Rattle.sg_msg.specs.Priority.{priority}
 use Rattle.sg_r3164.proofs.StampsOnce.{iso_once}
 use Rattle.sg_r5424.specs.declared.header.Front.{Front}
 use Rattle.sg_r5424.specs.declared.header.Names.{Names}

@@ -2,9 +2,10 @@
 use Rattle.std.proofs.Common.{◌≡◌, ℕ, ◌≤◌, ◌<◌, ◌⊎◌, inl, inr, List, [], ◌∷◌, ◌++◌, length, drop, codes, map, refl, sym, ap, ◌∙◌, subst, arith, append_assoc, append-nil, length-append, false}
 use Rattle.std.proofs.lemmas.List.{map-append}
 use Rattle.sg_msg.specs.Macros.{is_hard, date_macros, other_macros}
-use Rattle.sg_msg.specs.Message.{Pair, Content, with_pair}
+use Rattle.sg_msg.specs.Message.{Pair, IsName as MayBeName}
+use Rattle.sg_msg.specs.Build.{Build}
 use Rattle.sg_r5424.specs.declared.params.Param.{Param}
-use Rattle.sg_r5424.specs.Data.{IsName, IsParam, Params, HasParams, param_name, param_pair, with_all}
+use Rattle.sg_r5424.specs.Data.{IsName, IsParam, Params, HasParams, element_name, param_name, param_pair}
 use Rattle.sg_r5424.specs.Values.{IsValue}
 use Rattle.sg_r5424.specs.Data.Params.{closed, more}
 use Rattle.sg_r5424.proofs.RunLemmas.{first_same}
@@ -139,46 +140,44 @@ params_shorter _ _ _ (more text middle rest param params first behind) =
     let b = params_shorter middle params rest behind in
     omega arith
 
--- pairs that are set one after another
-pub with_all-append : (first second pairs : List Pair) → with_all (first ++ second) pairs ≡ with_all second (with_all first pairs)
-with_all-append [] second pairs = refl
-with_all-append (p ∷ first) second pairs = with_all-append first second (with_pair p.name p.value pairs)
-
 -- the names of pairs fit a message
-pub name_fits : (id name : List ℕ) → length id ≤ 32 → length name ≤ 32 → (1 ≤ length (param_name id name)) × (length (param_name id name) ≤ 255)
-name_fits id name short also =
-    (omega arith, omega (arith, length-append (id ++ codes ".") name, length-append id (codes ".")))
+pub param_fits : (id name : List ℕ) → length id ≤ 32 → length name ≤ 32 → MayBeName (param_name id name)
+param_fits id name short also =
+    (omega arith, omega (arith, length-append (id ++ codes ".") name, length-append id (codes ".")), soft_param id name)
 
--- what was read and set of an element's parameters, as far as here
-pub record ParamsSoFar (id start : List ℕ) (before : Content) (text : List ℕ) (now : Content) : Type 0 where
+pub element_fits : (id : List ℕ) → length id ≤ 32 → MayBeName (element_name id)
+element_fits id short = (omega arith, omega arith, soft_data id)
+
+-- what was read and put of an element's parameters, as far as here
+pub record ParamsSoFar (id start : List ℕ) (before : Build) (text : List ℕ) (now : Build) : Type 0 where
   pub done : List Param
   pub reached : Reached start done text
-  pub set : now ≡ record before { pairs = with_all (map (param_pair id) done) before.pairs }
+  pub set : now ≡ record before { put = before.put ++ map (param_pair id) done }
   pub shorter : length text ≤ length start
 
-pub so_far_none : (id start : List ℕ) (before : Content) → ParamsSoFar id start before start before
-so_far_none id start before = record { done = []; reached = reached_none start; set = refl; shorter = omega arith }
+pub so_far_none : (id start : List ℕ) (before : Build) → ParamsSoFar id start before start before
+so_far_none id start before = record { done = []; reached = reached_none start; set = ap (λ (x : List Pair). record before { put = x }) (sym (append-nil before.put)); shorter = omega arith }
 
-pub so_far_more : (id start : List ℕ) (before : Content) (text : List ℕ) (now : Content) (param : Param) (middle : List ℕ) (after : Content) → ParamsSoFar id start before text now → IsParam text param middle → after ≡ record now { pairs = with_pair (param_name id param.name) param.value now.pairs } → ParamsSoFar id start before middle after
+pub so_far_more : (id start : List ℕ) (before : Build) (text : List ℕ) (now : Build) (param : Param) (middle : List ℕ) (after : Build) → ParamsSoFar id start before text now → IsParam text param middle → after ≡ record now { put = now.put ++ param_pair id param ∷ [] } → ParamsSoFar id start before middle after
 so_far_more id start before text now param middle after s first put =
     let less = param_shorter text param middle first in
     let old = s.shorter in
-    let change : Content → Content = λ x. record x { pairs = with_pair (param_name id param.name) param.value x.pairs } in
-    let pairs : with_all (map (param_pair id) (s.done ++ param ∷ [])) before.pairs ≡ with_pair (param_name id param.name) param.value (with_all (map (param_pair id) s.done) before.pairs) =
-    ap (λ x. with_all x before.pairs) (map-append (param_pair id) s.done (param ∷ []))
-    ∙ with_all-append (map (param_pair id) s.done) (param_pair id param ∷ []) before.pairs in
+    let change : Build → Build = λ x. record x { put = x.put ++ param_pair id param ∷ [] } in
+    let pairs : before.put ++ map (param_pair id) (s.done ++ param ∷ []) ≡ (before.put ++ map (param_pair id) s.done) ++ param_pair id param ∷ [] =
+    ap (λ (x : List Pair). before.put ++ x) (map-append (param_pair id) s.done (param ∷ []))
+    ∙ sym (append_assoc before.put (map (param_pair id) s.done) (param_pair id param ∷ [])) in
     record {
       done = s.done ++ param ∷ [];
       reached = reached_more start s.done text param middle s.reached first;
-      set = put ∙ (ap change s.set ∙ ap (λ (x : List Pair). record before { pairs = x }) (sym pairs));
+      set = put ∙ (ap change s.set ∙ ap (λ (x : List Pair). record before { put = x }) (sym pairs));
       shorter = omega arith;
     }
 
-pub so_far_end : (id start : List ℕ) (before : Content) (text : List ℕ) (now : Content) (rest : List ℕ) → ParamsSoFar id start before text now → text ≡ 93 ∷ rest → (pairs : List Pair) × (HasParams id start pairs rest × (now ≡ record before { pairs = with_all pairs before.pairs }) × (length rest ≤ length start))
+pub so_far_end : (id start : List ℕ) (before : Build) (text : List ℕ) (now : Build) (rest : List ℕ) → ParamsSoFar id start before text now → text ≡ 93 ∷ rest → (pairs : List Pair) × (HasParams id start pairs rest × (now ≡ record before { put = before.put ++ pairs }) × (length rest ≤ length start))
 so_far_end id start before text now rest s e =
     let size = ap length e in
     let old = s.shorter in
     (map (param_pair id) s.done, ((s.done, (reached_end start s.done text rest s.reached e, refl)), s.set, omega arith))
 
-pub so_far_stuck : (id start : List ℕ) (before : Content) (text : List ℕ) (now : Content) → ParamsSoFar id start before text now → ((rest : List ℕ) → ¬ (text ≡ 93 ∷ rest)) → ((param : Param) (rest : List ℕ) → ¬ IsParam text param rest) → (pairs : List Pair) (rest : List ℕ) → ¬ HasParams id start pairs rest
+pub so_far_stuck : (id start : List ℕ) (before : Build) (text : List ℕ) (now : Build) → ParamsSoFar id start before text now → ((rest : List ℕ) → ¬ (text ≡ 93 ∷ rest)) → ((param : Param) (rest : List ℕ) → ¬ IsParam text param rest) → (pairs : List Pair) (rest : List ℕ) → ¬ HasParams id start pairs rest
 so_far_stuck id start before text now s no_end no_param pairs rest = λ h. reached_stuck start s.done text s.reached no_end no_param h.0 rest h.1.0

@@ -20,7 +20,7 @@ use Rattle.sg_time.specs.Reading.IsZone.{east, west}
 use Rattle.sg_template.specs.Zone.{has_year, moved_stamp, shown_stamp}
 use Rattle.sg_r5424.specs.Grammar.{IsStamp}
 use Rattle.sg_r5424.proofs.RunLemmas.{and_true}
-use Rattle.sg_r5424.proofs.Dates.{IsShownBy}
+use Rattle.sg_time.proofs.Dates.{IsShownBy}
 
 digits_are : (k n : ℕ) → All IsDigit (digits k n)
 digits_are zero n = All-nil IsDigit

@@ -4,7 +4,8 @@ use Rattle.std.specs.List.{list_any}
 use Rattle.std.proofs.lemmas.Bool.{true≢false, false≢true, eqb-true}
 use Rattle.std.proofs.lemmas.List.{drop_all}
 use Rattle.std.proofs.Math.Seq.{take-append_seam, drop-append_seam}
-use Rattle.sg_r5424.specs.Values.{is_escapable, is_bare, Spells, IsValue, quote_from, unescaped_byte, unescaped_from}
+use Rattle.sg_msg.specs.Sets.{is_escaped}
+use Rattle.sg_r5424.specs.Values.{is_bare, Spells, IsValue, quote_from, unescaped_byte, unescaped_from}
 use Rattle.sg_r5424.specs.Values.Spells.{none, escaped, backslash, plain}
 use Rattle.sg_r5424.proofs.RunLemmas.{cut_same}
 
@@ -24,7 +25,7 @@ plain_tests q s b e =
     let inner = or_false s b outer.1 in
     (outer.0, inner.0, inner.1)
 
-is_plain : (b : ℕ) → is_escapable b ≡ false → IsPlain b
+is_plain : (b : ℕ) → is_escaped b ≡ false → IsPlain b
 is_plain b e = let t = plain_tests (nat_eq b 34) (nat_eq b 92) (nat_eq b 93) e in record { quote = t.0; slash = t.1; bracket = t.2 }
 
 -- where a text spells a value, the quote behind it is the first that closes it
@@ -77,7 +78,7 @@ FoundIn true text place end = FoundBehind text place end
 FoundIn false text place end = Found text place end
 
 -- a backslash and a byte before a text that closes
-escape : (b : ℕ) (text : List ℕ) (ahead : ℕ) (test : Bool) → is_escapable b ≡ test → Closes text ahead → Closes (92 ∷ b ∷ text) (ahead + 2)
+escape : (b : ℕ) (text : List ℕ) (ahead : ℕ) (test : Bool) → is_escaped b ≡ test → Closes text ahead → Closes (92 ∷ b ∷ text) (ahead + 2)
 escape b text ahead true e c = record {
   spelled = 92 ∷ b ∷ c.spelled;
   rest = c.rest;
@@ -117,12 +118,12 @@ step b text place end false false true eq eb es e more =
     record {
       ahead = f.ahead + 2;
       is_end = omega (arith, f.is_end);
-      closes = subst (λ (t : List ℕ). Closes t (f.ahead + 2)) is_text (escape m.byte m.behind f.ahead (is_escapable m.byte) refl f.closes);
+      closes = subst (λ (t : List ℕ). Closes t (f.ahead + 2)) is_text (escape m.byte m.behind f.ahead (is_escaped m.byte) refl f.closes);
     }
 step b text place end false false false eq eb es e more =
     let f = more e in
     let c = f.closes in
-    let test : is_escapable b ≡ false = rw (eq, es, eb) refl in
+    let test : is_escaped b ≡ false = rw (eq, es, eb) refl in
     record {
       ahead = f.ahead + 1;
       is_end = omega (arith, f.is_end);

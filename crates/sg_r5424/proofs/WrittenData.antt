@@ -1,43 +1,38 @@
 -- Structured data and the message of a line, read again.
-use Rattle.std.proofs.Common.{◌≡◌, ℕ, ◌+◌, ◌≤◌, ◌<◌, Bool, true, false, ◌&&◌, ◌||◌, ◌==◌, not, cond, nat_eq, nat_lt, Option, Some, None, List, [], ◌∷◌, ◌++◌, length, take, drop, codes, bytes_eq, refl, sym, ap, ◌∙◌, subst, arith, append_assoc, inl, inr}
+use Rattle.std.proofs.Common.{◌≡◌, ℕ, ◌+◌, ◌≤◌, ◌<◌, Bool, true, false, ◌&&◌, ◌||◌, ◌==◌, not, cond, nat_eq, nat_lt, Option, Some, None, List, [], ◌∷◌, ◌++◌, length, take, drop, codes, bytes_eq, refl, sym, ap, ◌∙◌, subst, arith, append_assoc, append-nil, inl, inr}
 use Rattle.std.specs.List.{AllPass, list_all, filter_map, flat_map, cons_option}
 use Rattle.std.specs.Option.{option_map}
 use Rattle.std.proofs.lemmas.Bool.{false≢true, ne_eqb}
 use Rattle.std.proofs.lemmas.List.Elements.{All-nil, All-cons}
 use Rattle.sg_msg.specs.Message.{Pair}
-use Rattle.sg_r3164.specs.Parts.{is_print}
+use Rattle.sg_msg.specs.Sets.{is_sd_byte, is_escaped}
 use Rattle.std.proofs.lemmas.Bool.Decides.{nat_tests}
-use Rattle.sg_template.specs.Elements.{SdName, Item, is_sd_byte, is_sd_name, is_param_name, split_name, checked, sd_name, item_of, escaped_byte, escaped, param_text, opening_text, elements_text, sdata_text}
+use Rattle.sg_template.specs.Elements.{SdName, Item, is_sd_name, is_param_name, split_name, checked, sd_name, item_of, escaped_byte, escaped, param_text, opening_text, item_text, elements_text, sdata_text}
 use Rattle.sg_r5424.specs.declared.params.Param.{Param}
 use Rattle.sg_r5424.specs.Grammar.{IsMessage, without_bom}
-use Rattle.sg_r5424.specs.Data.{is_name_byte, Stops, IsName, IsParam, Params, IsElement, Elements, IsData, element_pairs}
+use Rattle.sg_r5424.specs.Data.{Stops, IsName, IsParam, Params, IsElement, Elements, IsData, element_pairs}
 use Rattle.sg_r5424.specs.Data.Params.{closed, more as another}
 use Rattle.sg_r5424.specs.Data.Elements.{none, more}
-use Rattle.sg_r5424.specs.Values.{is_escapable, Spells, IsValue}
+use Rattle.sg_r5424.specs.Values.{Spells, IsValue}
 use Rattle.sg_r5424.specs.Values.Spells.{none as nothing, escaped as behind_slash, plain}
 use Rattle.sg_r5424.specs.Write.{message_text}
+use Rattle.sg_r5424.specs.Is5424.{is_end_byte, without_end}
+use Rattle.sg_r5424.proofs.RecordEnds.{kept_front}
 use Rattle.sg_r5424.proofs.RunLemmas.{and_true}
 use Rattle.sg_r5424.proofs.ElementLemmas.{some_data}
 use Rattle.sg_r5424.proofs.ParamLemmas.{params_cases}
 
 -- names
-regroup : (p q r s : Bool) → p && not ((q || r) || s) ≡ true → p && not q && not r && not s ≡ true
-regroup true false false false e = refl
-regroup true false false true e = absurd (false≢true e)
-regroup true false true s e = absurd (false≢true e)
-regroup true true r s e = absurd (false≢true e)
-regroup false q r s e = absurd (false≢true e)
-
-named : (name : List ℕ) → list_all is_sd_byte name ≡ true → AllPass is_name_byte name
-named [] e = All-nil (λ b. is_name_byte b ≡ true)
+named : (name : List ℕ) → list_all is_sd_byte name ≡ true → AllPass is_sd_byte name
+named [] e = All-nil (λ b. is_sd_byte b ≡ true)
 named (b ∷ name) e =
     let both = and_true (is_sd_byte b) (list_all is_sd_byte name) e in
-    All-cons (λ x. is_name_byte x ≡ true) b name (regroup (is_print b) (nat_eq b 61) (nat_eq b 93) (nat_eq b 34) both.0) (named name both.1)
+    All-cons (λ x. is_sd_byte x ≡ true) b name both.0 (named name both.1)
 
 record IsGood (name : List ℕ) : Type 0 where
   some : 1 ≤ length name
   most : length name ≤ 32
-  bytes : AllPass is_name_byte name
+  bytes : AllPass is_sd_byte name
 
 good_if : (name : List ℕ) (none long : Bool) → nat_eq (length name) 0 ≡ none → nat_lt 32 (length name) ≡ long → cond none false (cond long false (list_all is_sd_byte name)) ≡ true → IsGood name
 good_if name true long e f h = absurd (false≢true h)
@@ -47,19 +42,17 @@ good_if name false false e f h = record { some = grind (arith, nat_tests); most 
 good : (name : List ℕ) → is_sd_name name ≡ true → IsGood name
 good name e = good_if name (nat_eq (length name) 0) (nat_lt 32 (length name)) refl refl e
 
-name_read : (name rest : List ℕ) → is_sd_name name ≡ true → Stops is_name_byte rest → IsName (name ++ rest) name rest
+name_read : (name rest : List ℕ) → is_sd_name name ≡ true → Stops is_sd_byte rest → IsName (name ++ rest) name rest
 name_read name rest e stops = let g = good name e in record { is_text = refl; some = g.some; most = g.most; named = g.bytes; ends = stops }
 
 -- values
-escape_if : (b : ℕ) (quote slash bracket : Bool) (text value : List ℕ) → nat_eq b 34 ≡ quote → nat_eq b 92 ≡ slash → nat_eq b 93 ≡ bracket → Spells text value → Spells (cond ((quote || slash) || bracket) (92 ∷ b ∷ []) (b ∷ []) ++ text) (b ∷ value)
-escape_if b true slash bracket text value q s k rest = behind_slash b text value (rw q refl) rest
-escape_if b false true bracket text value q s k rest = behind_slash b text value (rw (q, s) refl) rest
-escape_if b false false true text value q s k rest = behind_slash b text value (rw (q, s, k) refl) rest
-escape_if b false false false text value q s k rest = plain b text value (rw (q, s, k) refl) rest
+escape_if : (b : ℕ) (test : Bool) (text value : List ℕ) → is_escaped b ≡ test → Spells text value → Spells (cond test (92 ∷ b ∷ []) (b ∷ []) ++ text) (b ∷ value)
+escape_if b true text value e rest = behind_slash b text value e rest
+escape_if b false text value e rest = plain b text value e rest
 
 spelled : (value : List ℕ) → Spells (escaped value) value
 spelled [] = nothing
-spelled (b ∷ value) = escape_if b (nat_eq b 34) (nat_eq b 92) (nat_eq b 93) (escaped value) value refl refl refl (spelled value)
+spelled (b ∷ value) = escape_if b (is_escaped b) (escaped value) value refl (spelled value)
 
 -- the items of pairs have names of the grammar
 abbrev AreItems : List Item → Type 0
@@ -92,22 +85,25 @@ pub are_items : (pairs : List Pair) → AreItems (filter_map item_of pairs)
 are_items [] = tt
 are_items (pair ∷ pairs) = one_more pair.name pair.value (sd_name pair.name) (filter_map item_of pairs) refl (are_items pairs)
 
--- A text goes on with parameters of an open element and with further elements, up to this rest.
-record Open (text rest : List ℕ) : Type 0 where
-  params : List Param
+-- A text goes on with these parameters of an open element, and with elements of these pairs, up to this rest.
+record Open (text : List ℕ) (params : List Param) (pairs : List Pair) (rest : List ℕ) : Type 0 where
   middle : List ℕ
-  pairs : List Pair
   are_params : Params text params middle
   others : Elements middle pairs rest
 
 -- neither a bracket nor a space goes on with a name
-stops : (text : List ℕ) (params : List Param) (rest : List ℕ) → Params text params rest → Stops is_name_byte text
+stops : (text : List ℕ) (params : List Param) (rest : List ℕ) → Params text params rest → Stops is_sd_byte text
 stops _ _ _ (closed rest) = refl
-stops _ _ _ (another text middle rest param params first behind) = subst (λ (x : List ℕ). Stops is_name_byte x) (sym first.space) refl
+stops _ _ _ (another text middle rest param params first behind) = subst (λ (x : List ℕ). Stops is_sd_byte x) (sym first.space) refl
 
-with_param : (param : Option (List ℕ)) (value text rest : List ℕ) → is_param_name param ≡ true → Open text rest → Open (param_text param value ++ text) rest
-with_param None value text rest e o = o
-with_param (Some name) value text rest e o =
+-- the parameter that an item is, if it is one
+abbrev pub param_list : Option (List ℕ) → List ℕ → List Param
+param_list None value = []
+param_list (Some name) value = (record { name = name; value = value }) ∷ []
+
+with_param : (param : Option (List ℕ)) (value text : List ℕ) (params : List Param) (pairs : List Pair) (rest : List ℕ) → is_param_name param ≡ true → Open text params pairs rest → Open (param_text param value ++ text) (param_list param value ++ params) pairs rest
+with_param None value text params pairs rest e o = o
+with_param (Some name) value text params pairs rest e o =
     let quoted : List ℕ = escaped value ++ 34 ∷ text in
     let is_text : param_text (Some name) value ++ text ≡ 32 ∷ (name ++ 61 ∷ 34 ∷ quoted) = simp append_assoc in
     let first : IsParam (param_text (Some name) value ++ text) (record { name = name; value = value }) text = record {
@@ -118,68 +114,135 @@ with_param (Some name) value text rest e o =
       value = record { spelled = escaped value; is_text = refl; spells = spelled value };
     } in
     record {
-      params = (record { name = name; value = value }) ∷ o.params;
       middle = o.middle;
-      pairs = o.pairs;
-      are_params = another (param_text (Some name) value ++ text) text o.middle (record { name = name; value = value }) o.params first o.are_params;
+      are_params = another (param_text (Some name) value ++ text) text o.middle (record { name = name; value = value }) params first o.are_params;
       others = o.others;
     }
 
 -- an element, and those behind it
-element_read : (id text rest : List ℕ) → is_sd_name id ≡ true → Open text rest → (pairs : List Pair) × Elements (91 ∷ (id ++ text)) pairs rest
-element_read id text rest e o =
-    let element : IsElement (91 ∷ (id ++ text)) (element_pairs id o.params) o.middle = record {
+element_read : (id text : List ℕ) (params : List Param) (pairs : List Pair) (rest : List ℕ) → is_sd_name id ≡ true → Open text params pairs rest → Elements (91 ∷ (id ++ text)) (element_pairs id params ++ pairs) rest
+element_read id text params pairs rest e o =
+    let element : IsElement (91 ∷ (id ++ text)) (element_pairs id params) o.middle = record {
       id = id;
-      params = o.params;
+      params = params;
       behind = id ++ text;
       behind_id = text;
       opens = refl;
-      is_id = name_read id text e (stops text o.params o.middle o.are_params);
+      is_id = name_read id text e (stops text params o.middle o.are_params);
       are_params = o.are_params;
       are_pairs = refl;
     } in
-    (element_pairs id o.params ++ o.pairs, more (91 ∷ (id ++ text)) o.middle rest (element_pairs id o.params) o.pairs element o.others)
+    more (91 ∷ (id ++ text)) o.middle rest (element_pairs id params) pairs element o.others
 
-opened : (same : Bool) (id front text rest : List ℕ) → is_sd_name id ≡ true → Open (front ++ text) rest → Open (cond same [] (93 ∷ 91 ∷ id) ++ front ++ text) rest
-opened true id front text rest e o = o
-opened false id front text rest e o =
-    let next = element_read id (front ++ text) rest e o in
+opened : (same : Bool) (id front text : List ℕ) (params : List Param) (pairs : List Pair) (rest : List ℕ) → is_sd_name id ≡ true → Open (front ++ text) params pairs rest → Open (cond same [] (93 ∷ 91 ∷ id) ++ front ++ text) (cond same params []) (cond same pairs (element_pairs id params ++ pairs)) rest
+opened true id front text params pairs rest e o = o
+opened false id front text params pairs rest e o =
+    let next = element_read id (front ++ text) params pairs rest e o in
     let is_text : (93 ∷ 91 ∷ id) ++ front ++ text ≡ 93 ∷ 91 ∷ (id ++ (front ++ text)) = append_assoc (93 ∷ 91 ∷ id) front text in
-    subst (λ (x : List ℕ). Open x rest) (sym is_text)
-    (record { params = []; middle = 91 ∷ (id ++ (front ++ text)); pairs = next.0; are_params = closed (91 ∷ (id ++ (front ++ text))); others = next.1 })
+    subst (λ (x : List ℕ). Open x [] (element_pairs id params ++ pairs) rest) (sym is_text)
+    (record { middle = 91 ∷ (id ++ (front ++ text)); are_params = closed (91 ∷ (id ++ (front ++ text))); others = next })
 
-open_read : (id : List ℕ) (items : List Item) (rest : List ℕ) → AreItems items → Stops (λ b. b == 91) rest → Open (elements_text (Some id) items ++ rest) rest
-open_read id [] rest are end = record { params = []; middle = rest; pairs = []; are_params = closed rest; others = none rest end }
+-- the parameters that go on an element of this ID, and the pairs of the elements behind it
+abbrev pub open_params : List ℕ → List Item → List Param
+open_params id [] = []
+open_params id (item ∷ items) = cond (bytes_eq id item.id) (param_list item.param item.value ++ open_params item.id items) []
+
+abbrev pub other_pairs : List ℕ → List Item → List Pair
+other_pairs id [] = []
+other_pairs id (item ∷ items) = cond (bytes_eq id item.id) (other_pairs item.id items) (element_pairs item.id (param_list item.param item.value ++ open_params item.id items) ++ other_pairs item.id items)
+
+abbrev pub written_pairs : List Item → List Pair
+written_pairs [] = []
+written_pairs (item ∷ items) = element_pairs item.id (param_list item.param item.value ++ open_params item.id items) ++ other_pairs item.id items
+
+open_read : (id : List ℕ) (items : List Item) (rest : List ℕ) → AreItems items → Stops (λ b. b == 91) rest → Open (elements_text (Some id) items ++ rest) (open_params id items) (other_pairs id items) rest
+open_read id [] rest are end = record { middle = rest; are_params = closed rest; others = none rest end }
 open_read id (item ∷ items) rest are end =
     let behind : List ℕ = elements_text (Some item.id) items ++ rest in
-    let o = with_param item.param item.value behind rest are.1 (open_read item.id items rest are.2 end) in
+    let o = with_param item.param item.value behind (open_params item.id items) (other_pairs item.id items) rest are.1 (open_read item.id items rest are.2 end) in
     let is_text : elements_text (Some id) (item ∷ items) ++ rest ≡ opening_text (Some id) item.id ++ param_text item.param item.value ++ behind =
     append_assoc (opening_text (Some id) item.id ++ param_text item.param item.value) (elements_text (Some item.id) items) rest in
-    subst (λ (x : List ℕ). Open x rest) (sym is_text) (opened (bytes_eq id item.id) item.id (param_text item.param item.value) behind rest are.0 o)
+    subst (λ (x : List ℕ). Open x (open_params id (item ∷ items)) (other_pairs id (item ∷ items)) rest) (sym is_text)
+    (opened (bytes_eq id item.id) item.id (param_text item.param item.value) behind (param_list item.param item.value ++ open_params item.id items) (other_pairs item.id items) rest are.0 o)
 
-pub items_read : (items : List Item) (rest : List ℕ) → AreItems items → Stops (λ b. b == 91) rest → (pairs : List Pair) × IsData (elements_text None items ++ rest) pairs rest
-items_read [] rest are end = ([], inl (refl, refl, refl))
+items_read : (items : List Item) (rest : List ℕ) → AreItems items → Stops (λ b. b == 91) rest → IsData (elements_text None items ++ rest) (written_pairs items) rest
+items_read [] rest are end = inl (refl, refl, refl)
 items_read (item ∷ items) rest are end =
     let behind : List ℕ = elements_text (Some item.id) items ++ rest in
     let front : List ℕ = param_text item.param item.value in
-    let o = with_param item.param item.value behind rest are.1 (open_read item.id items rest are.2 end) in
-    let elements = element_read item.id (front ++ behind) rest are.0 o in
+    let params : List Param = param_list item.param item.value ++ open_params item.id items in
+    let o = with_param item.param item.value behind (open_params item.id items) (other_pairs item.id items) rest are.1 (open_read item.id items rest are.2 end) in
+    let elements = element_read item.id (front ++ behind) params (other_pairs item.id items) rest are.0 o in
     let is_text : 91 ∷ (item.id ++ (front ++ behind)) ≡ elements_text None (item ∷ items) ++ rest =
     sym (append_assoc (91 ∷ item.id ++ front) (elements_text (Some item.id) items) rest ∙ append_assoc (91 ∷ item.id) front behind) in
-    (elements.0, some_data (elements_text None (item ∷ items) ++ rest) (item.id ++ (front ++ behind)) elements.0 rest (sym is_text) (subst (λ (x : List ℕ). Elements x elements.0 rest) is_text elements.1))
+    some_data (elements_text None (item ∷ items) ++ rest) (item.id ++ (front ++ behind)) (written_pairs (item ∷ items)) rest (sym is_text) (subst (λ (x : List ℕ). Elements x (written_pairs (item ∷ items)) rest) is_text elements)
 
-pub data_read : (pairs : List Pair) (rest : List ℕ) → Stops (λ b. b == 91) rest → (read : List Pair) × IsData (sdata_text pairs ++ rest) read rest
+pub data_read : (pairs : List Pair) (rest : List ℕ) → Stops (λ b. b == 91) rest → IsData (sdata_text pairs ++ rest) (written_pairs (filter_map item_of pairs)) rest
 unfolding sdata_text
 data_read pairs rest end = items_read (filter_map item_of pairs) rest (are_items pairs) end
 
--- MSG
+-- structured data ends in a byte of its own
+pub record EndsIn (text : List ℕ) : Type 0 where
+  pub init : List ℕ
+  pub last : ℕ
+  pub is_text : text ≡ init ++ last ∷ []
+  pub inside : is_end_byte last ≡ false
+
+open_ends : (id : List ℕ) (items : List Item) → EndsIn (elements_text (Some id) items)
+open_ends id [] = record { init = []; last = 93; is_text = refl; inside = refl }
+open_ends id (item ∷ items) =
+    let rest = open_ends item.id items in
+    record {
+      init = item_text (Some id) item ++ rest.init;
+      last = rest.last;
+      is_text = ap (λ (t : List ℕ). item_text (Some id) item ++ t) rest.is_text ∙ sym (append_assoc (item_text (Some id) item) rest.init (rest.last ∷ []));
+      inside = rest.inside;
+    }
+
+items_end : (items : List Item) → EndsIn (elements_text None items)
+items_end [] = record { init = []; last = 45; is_text = refl; inside = refl }
+items_end (item ∷ items) =
+    let rest = open_ends item.id items in
+    record {
+      init = item_text None item ++ rest.init;
+      last = rest.last;
+      is_text = ap (λ (t : List ℕ). item_text None item ++ t) rest.is_text ∙ sym (append_assoc (item_text None item) rest.init (rest.last ∷ []));
+      inside = rest.inside;
+    }
+
+pub data_ends : (pairs : List Pair) → EndsIn (sdata_text pairs)
+unfolding sdata_text
+data_ends pairs = items_end (filter_map item_of pairs)
+
+-- MSG, without the bytes that belong to no field
 some_message : (b : ℕ) (text : List ℕ) → message_text (b ∷ text) ≡ 32 ∷ b ∷ text
 some_message b text = ap (λ (t : Bool). cond t [] (32 ∷ b ∷ text)) (ne_eqb (length (b ∷ text)) 0 (λ e. omega (arith, e)))
 
-pub message_read : (text : List ℕ) → (message : List ℕ) × IsMessage (message_text text) message
-message_read [] = ([], refl)
-message_read (b ∷ text) = (without_bom (b ∷ text), subst (λ (x : List ℕ). IsMessage x (without_bom (b ∷ text))) (sym (some_message b text)) (refl, refl))
+abbrev pub ended_text : List ℕ → List ℕ
+ended_text [] = []
+ended_text (b ∷ text) = 32 ∷ without_end (b ∷ text)
 
-pub message_stops : (text : List ℕ) → Stops (λ b. b == 91) (message_text text)
+-- what such a MSG says
+abbrev pub said_text : List ℕ → List ℕ
+said_text [] = []
+said_text (b ∷ text) = without_bom (without_end (b ∷ text))
+
+pub message_read : (text : List ℕ) → IsMessage (ended_text text) (said_text text)
+message_read [] = refl
+message_read (b ∷ text) = (refl, refl)
+
+pub message_stops : (text : List ℕ) → Stops (λ b. b == 91) (ended_text text)
 message_stops [] = tt
-message_stops (b ∷ text) = subst (λ (x : List ℕ). Stops (λ y. y == 91) x) (sym (some_message b text)) refl
+message_stops (b ∷ text) = refl
+
+-- the end of a line
+pub line_ended : (front : List ℕ) (pairs : List Pair) (text : List ℕ) → without_end (front ++ (sdata_text pairs ++ message_text text)) ≡ front ++ (sdata_text pairs ++ ended_text text)
+line_ended front pairs [] =
+    let ends = data_ends pairs in
+    let there : front ++ (sdata_text pairs ++ []) ≡ (front ++ ends.init) ++ ends.last ∷ [] =
+    ap (λ (t : List ℕ). front ++ t) (append-nil (sdata_text pairs) ∙ ends.is_text) ∙ sym (append_assoc front ends.init (ends.last ∷ [])) in
+    ap without_end there ∙ (kept_front (front ++ ends.init) [] ends.last ends.inside ∙ sym there)
+line_ended front pairs (b ∷ text) =
+    let there : front ++ (sdata_text pairs ++ message_text (b ∷ text)) ≡ (front ++ sdata_text pairs) ++ 32 ∷ b ∷ text =
+    ap (λ (t : List ℕ). front ++ (sdata_text pairs ++ t)) (some_message b text) ∙ sym (append_assoc front (sdata_text pairs) (32 ∷ b ∷ text)) in
+    ap without_end there ∙ (kept_front (front ++ sdata_text pairs) (b ∷ text) 32 refl ∙ append_assoc front (sdata_text pairs) (32 ∷ without_end (b ∷ text)))

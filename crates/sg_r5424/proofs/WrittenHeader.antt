@@ -7,7 +7,8 @@ use Rattle.std.proofs.lemmas.Bool.Decides.{nat_tests}
 use Rattle.std.proofs.lemmas.Fmt.{decimal_digit, decimal_step}
 use Rattle.std.proofs.lemmas.List.{length-take, length-map}
 use Rattle.std.proofs.lemmas.List.Elements.{All-nil, All-cons}
-use Rattle.sg_r3164.specs.Parts.{priority, is_digit, is_print}
+use Rattle.sg_msg.specs.Priority.{priority, is_digit}
+use Rattle.sg_msg.specs.Sets.{is_print}
 use Rattle.sg_r5424.specs.declared.header.Names.{Names}
 use Rattle.sg_r5424.specs.Grammar.{IsStart, IsField, IsNames}
 use Rattle.sg_r5424.specs.Write.{printed, field_text, pri_text}
@@ -78,7 +79,7 @@ all_printed : (xs : List ℕ) → AllPass is_print (map printed xs)
 all_printed [] = All-nil (λ b. is_print b ≡ true)
 all_printed (x ∷ xs) = All-cons (λ b. is_print b ≡ true) (printed x) (map printed xs) (printed_if x (is_print x) refl) (all_printed xs)
 
-some_field : (most b : ℕ) (value : List ℕ) → field_text most (b ∷ value) ≡ map printed (take most (b ∷ value))
+pub some_field : (most b : ℕ) (value : List ℕ) → field_text most (b ∷ value) ≡ map printed (take most (b ∷ value))
 some_field most b value = ap (λ (t : Bool). cond t (45 ∷ []) (map printed (take most (b ∷ value)))) (ne_eqb (length (b ∷ value)) 0 (λ e. omega (arith, e)))
 
 printed_read : (most b : ℕ) (value rest : List ℕ) → 1 ≤ most → IsField most (map printed (take most (b ∷ value)) ++ 32 ∷ rest) (map printed (take most (b ∷ value))) rest

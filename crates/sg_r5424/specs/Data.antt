@@ -1,14 +1,10 @@
 -- The syntax of structured data (RFC 5424, section 6.3), each part as what the front of a text says and what follows.
 use Rattle.std.specs.Prelude.{◌≡◌, ℕ, ◌≤◌, ◌==◌, ◌&&◌, not, Bool, false, List, [], ◌∷◌, ◌++◌, length, codes, map, ◌⊎◌}
 use Rattle.std.specs.List.{AllPass}
-use Rattle.sg_msg.specs.Message.{Pair, with_pair}
-use Rattle.sg_r3164.specs.Parts.{is_print}
+use Rattle.sg_msg.specs.Message.{Pair}
+use Rattle.sg_msg.specs.Sets.{is_sd_byte}
 use Rattle.sg_r5424.specs.declared.params.Param.{Param}
 use Rattle.sg_r5424.specs.Values.{IsValue}
-
--- a byte of SD-NAME
-abbrev pub is_name_byte : ℕ → Bool
-is_name_byte b = is_print b && not (b == 61) && not (b == 93) && not (b == 34)
 
 -- the text is at its end, or goes on with a byte that fails the test
 abbrev pub Stops : (ℕ → Bool) → List ℕ → Type 0
@@ -20,8 +16,8 @@ pub record IsName (text name rest : List ℕ) : Type 0 where
   pub is_text : text ≡ name ++ rest
   pub some : 1 ≤ length name
   pub most : length name ≤ 32
-  pub named : AllPass is_name_byte name
-  pub ends : Stops is_name_byte rest
+  pub named : AllPass is_sd_byte name
+  pub ends : Stops is_sd_byte rest
 
 -- a space, a name, an equals sign and a value in quotes
 pub record IsParam (text : List ℕ) (param : Param) (rest : List ℕ) : Type 0 where
@@ -71,11 +67,6 @@ pub data Elements : List ℕ → List Pair → List ℕ → Type 0 where
 abbrev pub IsData : List ℕ → List Pair → List ℕ → Type 0
 IsData [] pairs rest = ⊥
 IsData (b ∷ text) pairs rest = ((b ≡ 45) × (pairs ≡ []) × (rest ≡ text)) ⊎ ((b ≡ 91) × Elements (b ∷ text) pairs rest)
-
--- the pairs with these set, one after another
-abbrev pub with_all : List Pair → List Pair → List Pair
-with_all [] pairs = pairs
-with_all (pair ∷ others) pairs = with_all others (with_pair pair.name pair.value pairs)
 
 -- the pairs of parameters that a text has, up to the closing bracket
 abbrev pub HasParams : List ℕ → List ℕ → List Pair → List ℕ → Type 0

@@ -3,7 +3,8 @@ use Rattle.std.specs.Prelude.{◌≡◌, ℕ, ◌≤◌, nat_eq, if◌then◌els
 use Rattle.std.specs.List.{AllPass, starts_with}
 use Rattle.sg_time.specs.declared.stamp.Stamp.{Stamp}
 use Rattle.sg_time.specs.Reading.{IsIso}
-use Rattle.sg_r3164.specs.Parts.{priority, is_print}
+use Rattle.sg_msg.specs.Priority.{priority}
+use Rattle.sg_msg.specs.Sets.{is_print}
 use Rattle.sg_r5424.specs.declared.header.Front.{Front}
 use Rattle.sg_r5424.specs.declared.header.Names.{Names}
 

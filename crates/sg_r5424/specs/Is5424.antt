@@ -1,49 +1,56 @@
 -- The message of a record of RFC 5424.
-use Rattle.std.specs.Prelude.{◌≡◌, ◌≤◌, ℕ, ℤ, List, [], ◌++◌, length, codes, Option, MatchOption, Result, MatchResult, IfOk}
+use Rattle.std.specs.Prelude.{◌≡◌, ◌≤◌, ◌==◌, ◌||◌, ◌-◌, ℕ, ℤ, Bool, List, [], ◌∷◌, ◌++◌, length, take, codes, Option, MatchOption, Result, MatchResult, IfOk}
 use Rattle.sg_time.specs.declared.stamp.Stamp.{Stamp}
-use Rattle.sg_msg.specs.Message.{Pair, Content, with_pair}
+use Rattle.std.specs.List.{suffix_len}
+use Rattle.sg_msg.specs.Message.{Pair, Content, with_all}
+use Rattle.sg_msg.specs.Build.{Build, some_pair, built}
 use Rattle.sg_r3164.specs.declared.opts.ReadOpts.{ReadOpts}
 use Rattle.sg_r3164.specs.Options.{received_at, sent_of, host_of}
-use Rattle.sg_r3164.specs.Read3164.{with_some}
 use Rattle.sg_r5424.specs.declared.header.Front.{Front}
 use Rattle.sg_r5424.specs.declared.header.Names.{Names}
 use Rattle.std.specs.declared.alloc.AllocError.{AllocError}
 use Rattle.sg_r5424.specs.declared.refusal.R5424Refusal.{R5424Refusal}
 use Rattle.sg_r5424.specs.declared.refusal.R5424Refusal.TheVariants.{Syntax, NoMemory}
 use Rattle.sg_r5424.specs.Grammar.{IsFront, IsNames, IsMessage, unless_nil}
-use Rattle.sg_r5424.specs.Data.{IsData, with_all}
+use Rattle.sg_r5424.specs.Data.{IsData}
 
 -- the pairs of the names, each where it isn't nil
 abbrev pub name_pairs : ReadOpts → List ℕ → Names → List Pair
 name_pairs opts peer names =
-    with_some (codes "MSGID") (unless_nil names.msgid)
-    (with_some (codes "PID") (unless_nil names.pid)
-    (with_some (codes "PROGRAM") (unless_nil names.program)
-    (with_pair (codes "HOST") (host_of opts (unless_nil names.host) peer) [])))
+    (record { name = codes "HOST"; value = host_of opts (unless_nil names.host) peer }) ∷ []
+    ++ some_pair (codes "PROGRAM") (unless_nil names.program)
+    ++ some_pair (codes "PID") (unless_nil names.pid)
+    ++ some_pair (codes "MSGID") (unless_nil names.msgid)
 
 -- what a record says, before its structured data
-abbrev pub header_content : Stamp → List ℕ → ReadOpts → Front → Names → Content
-header_content received peer opts front names = record {
+abbrev pub header_build : Stamp → List ℕ → ReadOpts → Front → Names → Build
+header_build received peer opts front names = record {
   pri = front.pri;
   sent = sent_of opts front.stamp received;
   received = received;
-  pairs = name_pairs opts peer names;
+  put = name_pairs opts peer names;
   tags = [];
 }
 
--- the same with pairs of structured data set, in their order, and with MESSAGE
-abbrev pub whole_content : Content → List Pair → List ℕ → Content
-whole_content content pairs message =
-    record content { pairs = with_pair (codes "MESSAGE") message (with_all pairs content.pairs) }
+-- MESSAGE
+abbrev pub message_pair : List ℕ → Pair
+message_pair message = record { name = codes "MESSAGE"; value = message }
+
+-- the same with pairs of structured data put, in their order, and with MESSAGE
+abbrev pub whole_build : Build → List Pair → List ℕ → Build
+whole_build build pairs message = record build { put = build.put ++ pairs ++ message_pair message ∷ [] }
+
+abbrev pub whole_content : Build → List Pair → List ℕ → Content
+whole_content build pairs message = built (whole_build build pairs message)
 
 -- what stands behind the header: structured data and MSG
-pub record Behind (content : Content) (text : List ℕ) (whole : Content) : Type 0 where
+pub record Behind (build : Build) (text : List ℕ) (whole : Content) : Type 0 where
   pub pairs : List Pair
   pub message : List ℕ
   pub rest : List ℕ
   pub is_data : IsData text pairs rest
   pub is_message : IsMessage rest message
-  pub is_content : whole ≡ whole_content content pairs message
+  pub is_content : whole ≡ whole_content build pairs message
 
 -- SYSLOG-MSG (RFC 5424, section 6): the item is related to a message, its received stamp being this one
 pub record Reads (received : Stamp) (peer : List ℕ) (opts : ReadOpts) (item : List ℕ) (content : Content) : Type 0 where
@@ -53,11 +60,18 @@ pub record Reads (received : Stamp) (peer : List ℕ) (opts : ReadOpts) (item : 
   pub behind_names : List ℕ
   pub is_front : IsFront item front behind_front
   pub are_names : IsNames behind_front names behind_names
-  pub behind : Behind (header_content received peer opts front names) behind_names content
+  pub behind : Behind (header_build received peer opts front names) behind_names content
+
+-- the LF and NUL bytes at the end of a record belong to no field
+abbrev pub is_end_byte : ℕ → Bool
+is_end_byte b = b == 10 || b == 0
+
+abbrev pub without_end : List ℕ → List ℕ
+without_end text = take (length text - suffix_len is_end_byte text) text
 
 -- the item, its moment, its peer and the source's options are related to this message
 abbrev pub Is5424 : List ℕ → ℤ → List ℕ → ReadOpts → Content → Type 0
-Is5424 item at peer opts content = Reads (received_at at opts) peer opts item content
+Is5424 item at peer opts content = Reads (received_at at opts) peer opts (without_end item) content
 
 -- why an item has no message: nothing is related to it, and the place is at most its length; or memory lacks
 abbrev pub IsRefusal : List ℕ → ℤ → List ℕ → ReadOpts → R5424Refusal → Type 0
@@ -73,13 +87,16 @@ TryReads Is old new result =
     IfOk result (λ found. MatchOption found (((content : Content) → ¬ Is content) × (length new ≤ length old)) (λ content. Is content))
 
 -- what a record that isn't so becomes
+abbrev pub refusal_pairs : List ℕ → List ℕ → List Pair
+refusal_pairs item peer =
+    (record { name = codes "HOST"; value = peer }) ∷ (record { name = codes "PROGRAM"; value = codes "syslog-ng" })
+    ∷ message_pair (codes "Error processing log message: " ++ item) ∷ []
+
 abbrev pub refusal : List ℕ → ℤ → List ℕ → ReadOpts → Content
 refusal item at peer opts = record {
   pri = 43;
   sent = received_at at opts;
   received = received_at at opts;
-  pairs =
-      with_pair (codes "MESSAGE") (codes "Error processing log message: " ++ item)
-      (with_pair (codes "PROGRAM") (codes "syslog-ng") (with_pair (codes "HOST") peer []));
+  pairs = with_all (refusal_pairs item peer) [];
   tags = [];
 }

@@ -4,3 +4,4 @@ pub mod Values
 pub mod Takes
 pub mod Is5424
 pub mod Write
+pub mod Again

@@ -1,17 +1,14 @@
 -- The values of parameters, and how they are written (RFC 5424, section 6.3.3: PARAM-VALUE).
-use Rattle.std.specs.Prelude.{◌≡◌, ℕ, ◌+◌, ◌==◌, ◌||◌, ◌&&◌, not, Bool, true, false, if◌then◌else◌, List, [], ◌∷◌, ◌++◌, Option, None, Some}
-
--- a quote, a backslash or a closing bracket
-abbrev pub is_escapable : ℕ → Bool
-is_escapable b = b == 34 || (b == 92 || b == 93)
+use Rattle.std.specs.Prelude.{◌≡◌, ℕ, ◌+◌, ◌==◌, ◌&&◌, not, Bool, true, false, if◌then◌else◌, List, [], ◌∷◌, ◌++◌, Option, None, Some}
+use Rattle.sg_msg.specs.Sets.{is_escaped}
 
 -- A text spells a value: a backslash makes the byte behind it stand for itself, where that is a quote, a backslash or a closing
 -- bracket. Before another byte a backslash is itself. The three bytes stand in no other way.
 pub data Spells : List ℕ → List ℕ → Type 0 where
   none : Spells [] []
-  escaped : (b : ℕ) (text value : List ℕ) → is_escapable b ≡ true → Spells text value → Spells (92 ∷ b ∷ text) (b ∷ value)
-  backslash : (b : ℕ) (text value : List ℕ) → is_escapable b ≡ false → Spells text value → Spells (92 ∷ b ∷ text) (92 ∷ b ∷ value)
-  plain : (b : ℕ) (text value : List ℕ) → is_escapable b ≡ false → Spells text value → Spells (b ∷ text) (b ∷ value)
+  escaped : (b : ℕ) (text value : List ℕ) → is_escaped b ≡ true → Spells text value → Spells (92 ∷ b ∷ text) (b ∷ value)
+  backslash : (b : ℕ) (text value : List ℕ) → is_escaped b ≡ false → Spells text value → Spells (92 ∷ b ∷ text) (92 ∷ b ∷ value)
+  plain : (b : ℕ) (text value : List ℕ) → is_escaped b ≡ false → Spells text value → Spells (b ∷ text) (b ∷ value)
 
 -- a value at the front, up to the quote that closes it
 pub record IsValue (text value rest : List ℕ) : Type 0 where
@@ -32,7 +29,7 @@ quote_from behind place (b ∷ text) =
 
 -- what a byte adds to the value, where a backslash stands before it, or none
 abbrev pub unescaped_byte : Bool → ℕ → List ℕ
-unescaped_byte true b = if is_escapable b then b ∷ [] else 92 ∷ b ∷ []
+unescaped_byte true b = if is_escaped b then b ∷ [] else 92 ∷ b ∷ []
 unescaped_byte false b = if b == 92 then [] else b ∷ []
 
 -- what a text spells, where a backslash may stand before it

@@ -1,8 +1,9 @@
 -- The line that a message is written as (RFC 5424, 6).
-use Rattle.std.specs.Prelude.{ℕ, ◌≤◌, ◌==◌, ◌&&◌, nat_le, if◌then◌else◌, List, [], ◌++◌, length, take, map, codes, decimal}
+use Rattle.std.specs.Prelude.{ℕ, ◌≤◌, ◌==◌, if◌then◌else◌, List, [], ◌++◌, length, take, map, codes, decimal}
 use Rattle.sg_time.specs.Local.{local_time}
 use Rattle.sg_time.specs.Text.{iso_stamp_text}
 use Rattle.sg_msg.specs.Message.{Content, Pair}
+use Rattle.sg_msg.specs.Sets.{is_print}
 use Rattle.sg_template.specs.declared.env.Env.{Env}
 use Rattle.sg_template.specs.Texts.{text_of}
 use Rattle.sg_template.specs.Elements.{sdata_text}
@@ -10,7 +11,7 @@ use Rattle.sg_template.specs.Zone.{shown_stamp}
 
 -- a byte of PRINTUSASCII, or `_` in place of another
 abbrev pub printed : ℕ → ℕ
-printed b = if nat_le 33 b && nat_le b 126 then b else 95
+printed b = if is_print b then b else 95
 
 -- a field of at most so many bytes; `-` stands for none
 abbrev pub field_text : ℕ → List ℕ → List ℕ

@@ -1,31 +1,36 @@
 // Structured data.
-ghost use Rattle.std.specs.Prelude.{◌≡◌, ◌≤◌, [], length, OnOk};
-ghost use Rattle.sg_msg.specs.Message.{with_pair};
+ghost use Rattle.std.specs.Prelude.{◌≡◌, ◌≤◌, ◌++◌, ◌∷◌, [], length, OnOk};
 ghost use Rattle.sg_r5424.specs.Data.{IsElement, IsData, element_name};
 ghost use Rattle.sg_r5424.specs.Takes.{Puts};
 
 use crate::params::take_params;
 use crate::take::{first_is, take_name, take_text};
 use bytes::Bytes;
-use sg_msg::Message;
-use sg_r3164::put;
+use sg_msg::{MessageBuilder, PairName};
 use std::alloc::{AllocError, Global};
 
-// Sets the pair of an element without parameters.
-fn put_element(alloc: Global, message: &mut Message, id: &[u8]) -> Result<(), AllocError>
+// Puts the pair of an element without parameters.
+fn put_element(alloc: Global, builder: &mut MessageBuilder, id: &[u8]) -> Result<(), AllocError>
     requires { length id.now ≤ 32 }
-    ensures { OnOk result (message.new
-        ≡ record message.old { pairs = with_pair (element_name id.now) [] message.old.pairs }) }
+    ensures { OnOk result (builder.new ≡ record builder.old {
+      put = builder.old.put ++ (record { name = element_name id.now; value = [] }) ∷ [];
+    }) }
 {
-    let mut name = Vec::new(alloc);
+    let mut name = Vec::with_capacity(alloc, 39)?;
     name.extend_from_slice(b".SDATA.")?;
     name.extend_from_slice(id)?;
-    put(message, name.as_slice(), Bytes::new())
+    let name = Bytes::from_vec(name)?;
+    builder.put(PairName::Other(name), Bytes::new())?;
+    Ok(())
 }
 
-// Takes an element, and sets its pairs.
-fn take_element(alloc: Global, message: &mut Message, text: &mut Bytes) -> Result<bool, AllocError>
-    ensures { Puts IsElement text.old text.new message.old message.new result }
+// Takes an element, and puts its pairs.
+fn take_element(
+    alloc: Global,
+    builder: &mut MessageBuilder,
+    text: &mut Bytes,
+) -> Result<bool, AllocError>
+    ensures { Puts IsElement text.old text.new builder.old builder.new result }
 {
     if !take_text(text, b"[") {
         return Ok(false);
@@ -34,19 +39,19 @@ fn take_element(alloc: Global, message: &mut Message, text: &mut Bytes) -> Resul
         return Ok(false);
     };
     if take_text(text, b"]") {
-        put_element(alloc, message, id.as_slice())?;
+        put_element(alloc, builder, id.as_slice())?;
         return Ok(true);
     }
-    take_params(alloc, message, text, id.as_slice())
+    take_params(alloc, builder, text, id.as_slice())
 }
 
-// Takes structured data, and sets its pairs.
+// Takes structured data, and puts its pairs.
 pub(crate) fn take_data(
     alloc: Global,
-    message: &mut Message,
+    builder: &mut MessageBuilder,
     text: &mut Bytes,
 ) -> Result<bool, AllocError>
-    ensures { Puts IsData text.old text.new message.old message.new result }
+    ensures { Puts IsData text.old text.new builder.old builder.new result }
 {
     if take_text(text, b"-") {
         return Ok(true);
@@ -58,7 +63,7 @@ pub(crate) fn take_data(
         if !first_is(text.as_slice(), b'[') {
             return Ok(true);
         }
-        if !take_element(alloc, message, text)? {
+        if !take_element(alloc, builder, text)? {
             return Ok(false);
         }
     }

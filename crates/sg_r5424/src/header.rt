@@ -4,12 +4,12 @@ ghost use Rattle.std.specs.Option.{ForSome};
 ghost use Rattle.sg_time.specs.Stamp.{IsValid};
 ghost use Rattle.sg_r5424.specs.Grammar.{IsStart, IsStamp, IsFront, IsNames, unless_nil};
 ghost use Rattle.sg_r5424.specs.Takes.{Takes, TryTakes};
-ghost use Rattle.sg_r5424.specs.Is5424.{header_content};
+ghost use Rattle.sg_r5424.specs.Is5424.{header_build};
 
 use crate::take::{take_field, take_text};
 use bytes::Bytes;
-use sg_msg::Message;
-use sg_r3164::{ReadOpts, priority, put, put_some};
+use sg_msg::{MessageBuilder, PairName, priority};
+use sg_r3164::ReadOpts;
 use sg_time::{Stamp, read_iso};
 use std::alloc::{AllocError, Global};
 
@@ -117,27 +117,26 @@ fn unless_nil(field: Bytes) -> Option<Bytes>
     }
 }
 
-// The message that the header says, of this record.
+// The builder of the message that the header says.
 pub(crate) fn start_message(
     alloc: Global,
-    raw: Bytes,
     received: Stamp,
-    peer: &[u8],
+    peer: &Bytes,
     opts: &ReadOpts,
     front: Front,
     names: Names,
-) -> Result<Message, AllocError>
+) -> Result<MessageBuilder, AllocError>
     requires pri { front.pri ≤ 191 }
     requires sent { ForSome front.stamp IsValid }
     requires received { IsValid received }
-    ensures { IfOk result (λ message. message ≡ header_content received peer.now opts.now front names) }
+    ensures { IfOk result (λ builder. builder ≡ header_build received peer.now opts.now front names) }
 {
     let sent = opts.sent(front.stamp, received);
-    let mut message = Message::new(alloc, raw, front.pri, sent, received)?;
-    let host = opts.host(alloc, unless_nil(names.host), peer)?;
-    put(&mut message, b"HOST", host)?;
-    put_some(&mut message, b"PROGRAM", unless_nil(names.program))?;
-    put_some(&mut message, b"PID", unless_nil(names.pid))?;
-    put_some(&mut message, b"MSGID", unless_nil(names.msgid))?;
-    Ok(message)
+    let host = opts.host(unless_nil(names.host), peer)?;
+    let mut builder = MessageBuilder::new(alloc, front.pri, sent, received);
+    builder.put(PairName::Host, host)?;
+    builder.put_some(PairName::Program, unless_nil(names.program))?;
+    builder.put_some(PairName::Pid, unless_nil(names.pid))?;
+    builder.put_some(PairName::MessageId, unless_nil(names.msgid))?;
+    Ok(builder)
 }

@@ -1,13 +1,12 @@
 // The parameters of an element.
-ghost use Rattle.std.specs.Prelude.{◌≡◌, ◌≤◌, length, OnOk};
-ghost use Rattle.sg_r5424.specs.Data.{IsParam, HasParams, param_name};
+ghost use Rattle.std.specs.Prelude.{◌≡◌, ◌≤◌, ◌++◌, ◌∷◌, [], length, IfOk, OnOk};
+ghost use Rattle.sg_r5424.specs.Data.{IsParam, HasParams, param_name, param_pair};
 ghost use Rattle.sg_r5424.specs.Takes.{TryTakes, Puts};
 
 use crate::take::{take_name, take_text};
 use crate::values::take_value;
 use bytes::Bytes;
-use sg_msg::Message;
-use sg_r3164::put;
+use sg_msg::{MessageBuilder, PairName};
 use std::alloc::{AllocError, Global};
 
 /// A parameter's name and value.
@@ -36,28 +35,45 @@ fn take_param(alloc: Global, text: &mut Bytes) -> Result<Option<Param>, AllocErr
     Ok(Some(Param { name, value }))
 }
 
-// Writes the name of a parameter's pair.
-fn fill_name(name: &mut Vec<u8>, id: &[u8], param: &[u8]) -> Result<(), AllocError>
-    ensures { OnOk result (name.new.items ≡ param_name id.now param.now) }
+// The name of a parameter's pair.
+fn pair_name(alloc: Global, id: &[u8], param: &[u8]) -> Result<Bytes, AllocError>
+    ensures { IfOk result (λ name. name ≡ param_name id.now param.now) }
 {
-    name.clear();
+    let mut name = Vec::with_capacity(alloc, 72)?;
     name.extend_from_slice(b".SDATA.")?;
     name.extend_from_slice(id)?;
     name.extend_from_slice(b".")?;
-    name.extend_from_slice(param)
+    name.extend_from_slice(param)?;
+    Ok(Bytes::from_vec(name)?)
 }
 
-// Takes the parameters of this element, with the bracket that closes it, and sets their pairs.
+// Puts the pair of a parameter of this element.
+fn put_param(
+    alloc: Global,
+    builder: &mut MessageBuilder,
+    id: &[u8],
+    param: Param,
+) -> Result<(), AllocError>
+    requires id { length id.now ≤ 32 }
+    requires name { length param.name ≤ 32 }
+    ensures { OnOk result (builder.new
+        ≡ record builder.old { put = builder.old.put ++ param_pair id.now param ∷ [] }) }
+{
+    let name = pair_name(alloc, id, param.name.as_slice())?;
+    builder.put(PairName::Other(name), param.value)?;
+    Ok(())
+}
+
+// Takes the parameters of this element, with the bracket that closes it, and puts their pairs.
 pub(crate) fn take_params(
     alloc: Global,
-    message: &mut Message,
+    builder: &mut MessageBuilder,
     text: &mut Bytes,
     id: &[u8],
 ) -> Result<bool, AllocError>
     requires { length id.now ≤ 32 }
-    ensures { Puts (HasParams id.now) text.old text.new message.old message.new result }
+    ensures { Puts (HasParams id.now) text.old text.new builder.old builder.new result }
 {
-    let mut name = Vec::new(alloc);
     'params: loop {
         if take_text(text, b"]") {
             return Ok(true);
@@ -65,7 +81,6 @@ pub(crate) fn take_params(
         let Some(param) = take_param(alloc, text)? else {
             return Ok(false);
         };
-        fill_name(&mut name, id, param.name.as_slice())?;
-        put(message, name.as_slice(), param.value)?;
+        put_param(alloc, builder, id, param)?;
     }
 }

@@ -1,18 +1,45 @@
 // From a record to its message.
-ghost use Rattle.std.specs.Prelude.{◌≡◌, ◌≤◌, ◌≤ℤ◌, pos, List, ℕ, IfOk, MatchOption};
+ghost use Rattle.std.specs.Prelude.{◌≡◌, ◌≤◌, ◌≤ℤ◌, ◌++◌, [], ◌∷◌, pos, List, ℕ, codes, length, IfOk, MatchOption};
+ghost use Rattle.std.specs.List.{suffix_len};
 ghost use Rattle.sg_time.specs.Stamp.{IsValid};
+ghost use Rattle.sg_msg.specs.Build.{built};
 ghost use Rattle.sg_r5424.specs.Grammar.{IsMessage};
-ghost use Rattle.sg_r5424.specs.Is5424.{Behind, Reads, Answers5424, TryReads, refusal};
+ghost use Rattle.sg_r5424.specs.Is5424.{is_end_byte, without_end, message_pair, Behind, Reads, Answers5424, TryReads, refusal};
 
 use crate::R5424Refusal;
 use crate::elements::take_data;
 use crate::header::{start_message, take_front, take_names};
 use crate::take::take_text;
 use bytes::Bytes;
-use sg_msg::Message;
-use sg_r3164::{ReadOpts, put};
+use sg_msg::{Message, MessageBuilder, PairName};
+use sg_r3164::ReadOpts;
 use sg_time::Stamp;
 use std::alloc::{AllocError, Global};
+
+fn is_end_byte(byte: u8) -> bool
+    ensures { result ≡ is_end_byte byte }
+{
+    byte == b'\n' || byte == 0
+}
+
+// How many LF and NUL bytes stand at the end.
+fn end_length(text: &[u8]) -> usize
+    ensures value { result ≡ suffix_len is_end_byte text.now }
+    ensures within { result ≤ length text.now }
+{
+    text.iter()
+        .rev()
+        .take_while(|byte| is_end_byte(**byte))
+        .count()
+}
+
+fn drop_end(text: &mut Bytes)
+    ensures { text.new ≡ without_end text.old }
+{
+    let end = end_length(text.as_slice());
+    let len = text.len();
+    text.truncate(len - end);
+}
 
 // What MSG says, where a text is at its end or goes on with it.
 fn message_in(mut text: Bytes) -> Option<Bytes>
@@ -30,31 +57,39 @@ fn message_in(mut text: Bytes) -> Option<Bytes>
     Some(text)
 }
 
+// The message with this MESSAGE.
+fn finish(mut builder: MessageBuilder, said: Bytes) -> Result<Message, AllocError>
+    ensures { IfOk result (λ message. message ≡ built (record builder { put = builder.put ++ message_pair said ∷ [] })) }
+{
+    builder.put(PairName::Message, said)?;
+    let message = builder.message()?;
+    Ok(message)
+}
+
 // Reads what stands behind the header into the message that the header says.
 fn read_behind(
     alloc: Global,
-    mut message: Message,
+    mut builder: MessageBuilder,
     text: &mut Bytes,
 ) -> Result<Option<Message>, AllocError>
-    ensures { TryReads (Behind message text.old) text.old text.new result }
+    ensures { TryReads (Behind builder text.old) text.old text.new result }
 {
-    if !take_data(alloc, &mut message, text)? {
+    if !take_data(alloc, &mut builder, text)? {
         return Ok(None);
     }
     let rest = text.clone()?;
     let Some(said) = message_in(rest) else {
         return Ok(None);
     };
-    put(&mut message, b"MESSAGE", said)?;
+    let message = finish(builder, said)?;
     Ok(Some(message))
 }
 
 fn read_record(
     alloc: Global,
-    raw: Bytes,
     text: &mut Bytes,
     received: Stamp,
-    peer: &[u8],
+    peer: &Bytes,
     opts: &ReadOpts,
 ) -> Result<Option<Message>, AllocError>
     requires { IsValid received }
@@ -66,13 +101,13 @@ fn read_record(
     let Some(names) = take_names(text)? else {
         return Ok(None);
     };
-    let message = start_message(alloc, raw, received, peer, opts, front, names)?;
-    read_behind(alloc, message, text)
+    let builder = start_message(alloc, received, peer, opts, front, names)?;
+    read_behind(alloc, builder, text)
 }
 
-/// The message of a record of RFC 5424. `Syntax` where the record isn't of that form. Values that
-/// stand in the item share its memory; those of parameters that are written with backslashes are
-/// copied.
+/// The message of a record of RFC 5424. `Syntax` where the record isn't of that form. LF and NUL bytes
+/// at its end belong to no field. Values that stand in the item share its memory; those of parameters
+/// that are written with backslashes are copied.
 ///
 /// `at` is the moment of the pull, in microseconds since 1970-01-01T00:00:00Z, 0 to
 /// 250,000,000,000,000,000. HOST and MESSAGE are set, PROGRAM, PID and MSGID where they aren't nil,
@@ -82,19 +117,30 @@ pub fn read(
     alloc: Global,
     item: Bytes,
     at: i64,
-    peer: &[u8],
+    peer: &Bytes,
     opts: &ReadOpts,
 ) -> Result<Message, R5424Refusal>
     requires { (pos 0 ≤ℤ at) × (at ≤ℤ pos 250_000_000_000_000_000) }
     ensures { Answers5424 item at peer.now opts.now result }
 {
     let received = opts.received(at);
-    let mut text = item.clone()?;
+    let mut text = item;
+    drop_end(&mut text);
     let len = text.len();
-    match read_record(alloc, item, &mut text, received, peer, opts)? {
+    match read_record(alloc, &mut text, received, peer, opts)? {
         Some(message) => Ok(message),
         None => Err(R5424Refusal::Syntax(len - text.len())),
     }
+}
+
+// What is said of a record that has no message.
+fn refusal_text(alloc: Global, item: &[u8]) -> Result<Bytes, AllocError>
+    ensures { IfOk result (λ text. text ≡ codes "Error processing log message: " ++ item.now) }
+{
+    let mut text = Vec::with_capacity(alloc, item.len().saturating_add(30))?;
+    text.extend_from_slice(b"Error processing log message: ")?;
+    text.extend_from_slice(item)?;
+    Ok(Bytes::from_vec(text)?)
 }
 
 /// What a record that has no message becomes: PRI 43, which is syslog's own facility and severity
@@ -104,20 +150,17 @@ pub fn refused(
     alloc: Global,
     item: Bytes,
     at: i64,
-    peer: &[u8],
+    peer: &Bytes,
     opts: &ReadOpts,
 ) -> Result<Message, AllocError>
     requires { (pos 0 ≤ℤ at) × (at ≤ℤ pos 250_000_000_000_000_000) }
     ensures { IfOk result (λ message. message ≡ refusal item at peer.now opts.now) }
 {
     let received = opts.received(at);
-    let mut text = Vec::new(alloc);
-    text.extend_from_slice(b"Error processing log message: ")?;
-    text.extend_from_slice(item.as_slice())?;
-    let mut message = Message::new(alloc, item, 43, received, received)?;
-    put(&mut message, b"HOST", Bytes::copy_from_slice(alloc, peer)?)?;
-    put(&mut message, b"PROGRAM", Bytes::from_static(b"syslog-ng"))?;
-    let text = Bytes::from_vec(text)?;
-    put(&mut message, b"MESSAGE", text)?;
-    Ok(message)
+    let text = refusal_text(alloc, item.as_slice())?;
+    let mut builder = MessageBuilder::new(alloc, 43, received, received);
+    builder.put(PairName::Host, peer.clone()?)?;
+    builder.put(PairName::Program, Bytes::from_static(b"syslog-ng"))?;
+    builder.put(PairName::Message, text)?;
+    builder.message()
 }

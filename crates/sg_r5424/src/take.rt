@@ -2,13 +2,13 @@
 ghost use Rattle.std.specs.Prelude.{◌≡◌, ◌≤◌, ℕ, List, ◌∷◌, ◌++◌, length, drop, MatchBool};
 ghost use Rattle.std.specs.List.{prefix_len};
 ghost use Rattle.std.specs.Bool.{OnFalse};
-ghost use Rattle.sg_r3164.specs.Parts.{is_print};
-ghost use Rattle.sg_r5424.specs.Data.{is_name_byte, IsName};
+ghost use Rattle.sg_msg.specs.Sets.{is_print, is_sd_byte};
+ghost use Rattle.sg_r5424.specs.Data.{IsName};
 ghost use Rattle.sg_r5424.specs.Grammar.{IsField};
 ghost use Rattle.sg_r5424.specs.Takes.{TryTakes};
 
 use bytes::Bytes;
-use sg_r3164::is_print;
+use sg_msg::{is_print, is_sd_byte};
 use std::alloc::AllocError;
 
 // Whether the byte stands at the front.
@@ -34,12 +34,6 @@ pub(crate) fn take_text(text: &mut Bytes, front: &[u8]) -> bool
     true
 }
 
-fn is_name_byte(byte: u8) -> bool
-    ensures { result ≡ is_name_byte byte }
-{
-    is_print(byte) && byte != b'=' && byte != b']' && byte != b'"'
-}
-
 fn print_len(text: &[u8]) -> usize
     ensures value { result ≡ prefix_len is_print text.now }
     ensures within { result ≤ length text.now }
@@ -48,10 +42,10 @@ fn print_len(text: &[u8]) -> usize
 }
 
 fn name_len(text: &[u8]) -> usize
-    ensures value { result ≡ prefix_len is_name_byte text.now }
+    ensures value { result ≡ prefix_len is_sd_byte text.now }
     ensures within { result ≤ length text.now }
 {
-    text.iter().take_while(|byte| is_name_byte(**byte)).count()
+    text.iter().take_while(|byte| is_sd_byte(**byte)).count()
 }
 
 // Takes an SD-ID or a PARAM-NAME.

@@ -1,16 +1,11 @@
 // The values of parameters.
 ghost use Rattle.std.specs.Prelude.{◌≡◌, ◌<◌, ◌++◌, false, length, IfOk, IfSome, OnOk};
-ghost use Rattle.sg_r5424.specs.Values.{is_escapable, is_bare, IsValue, quote_from, unescaped_byte, unescaped_from};
+ghost use Rattle.sg_r5424.specs.Values.{is_bare, IsValue, quote_from, unescaped_byte, unescaped_from};
 ghost use Rattle.sg_r5424.specs.Takes.{TryTakes};
 
 use bytes::Bytes;
+use sg_msg::is_escaped;
 use std::alloc::{AllocError, Global};
-
-fn is_escapable(byte: u8) -> bool
-    ensures { result ≡ is_escapable byte }
-{
-    byte == b'"' || byte == b'\\' || byte == b']'
-}
 
 // Whether the byte is this mark, and no backslash stands before it.
 fn is_bare(escaped: bool, byte: u8, mark: u8) -> bool
@@ -43,7 +38,7 @@ fn push_byte(value: &mut Vec<u8>, escaped: bool, byte: u8) -> Result<(), AllocEr
     ensures { OnOk result (value.new.items ≡ value.old.items ++ unescaped_byte escaped byte) }
 {
     if escaped {
-        if !is_escapable(byte) {
+        if !is_escaped(byte) {
             value.push(b'\\')?;
         }
         value.push(byte)?;

@@ -1,5 +1,7 @@
 // Writing a message.
-ghost use Rattle.std.specs.Prelude.{◌≡◌, ◌++◌, OnOk, OnErr, codes, map};
+ghost use Rattle.std.specs.Prelude.{◌≡◌, ◌<◌, ◌≤◌, ◌++◌, length, IfOk, OnOk, OnErr, codes, map};
+ghost use Rattle.std.specs.List.{prefix_len};
+ghost use Rattle.sg_msg.specs.Sets.{is_print};
 ghost use Rattle.sg_time.specs.Text.{iso_stamp_text};
 ghost use Rattle.sg_template.specs.Begins.{BeginsWith};
 ghost use Rattle.sg_template.specs.Texts.{text_of};
@@ -8,7 +10,7 @@ ghost use Rattle.sg_template.specs.Zone.{shown_stamp};
 ghost use Rattle.sg_r5424.specs.Write.{printed, field_text, message_text, pri_text, fields_text, line_text};
 
 use itoa::Buffer;
-use sg_msg::Message;
+use sg_msg::{Message, is_print};
 use sg_template::{Env, sdata_text, text_of};
 use sg_time::iso_text;
 use std::alloc::AllocError;
@@ -91,25 +93,41 @@ fn append_field(most: usize, value: &[u8], out: &mut Vec<u8>) -> Result<(), Allo
     Ok(())
 }
 
+fn print_length(value: &[u8]) -> usize
+    ensures value { result ≡ prefix_len is_print value.now }
+    ensures within { result ≤ length value.now }
+{
+    value.iter().take_while(|byte| is_print(**byte)).count()
+}
+
+// Appends a run of printing bytes and `_` for the byte behind it, and gives what is left.
 #[tactic(auto, using(sg_template::proofs::Appending::appending))]
+fn append_run<'v>(value: &'v [u8], out: &mut Vec<u8>) -> Result<&'v [u8], AllocError>
+    requires { 0 < length value.now }
+    ensures ok { IfOk result (λ rest. out.new.items ++ map printed rest.now ≡ out.old.items ++ map printed value.now) }
+    ensures shorter { IfOk result (λ rest. length rest.now < length value.now) }
+    ensures begins { BeginsWith out.old.items out.new.items }
+{
+    let (plain, behind) = value.split_at(print_length(value));
+    append(plain, out)?;
+    match behind {
+        [_, rest @ ..] => {
+            append(b"_", out)?;
+            Ok(rest)
+        }
+        [] => Ok(b""),
+    }
+}
+
 fn append_printed(value: &[u8], out: &mut Vec<u8>) -> Result<(), AllocError>
     ensures ok { OnOk result (out.new.items ≡ out.old.items ++ map printed value.now) }
     ensures err { OnErr result (BeginsWith out.old.items out.new.items) }
 {
-    for byte in value {
-        append(&[printed(*byte)], out)?;
+    let mut rest = value;
+    while !rest.is_empty() {
+        rest = append_run(rest, out)?;
     }
     Ok(())
-}
-
-fn printed(byte: u8) -> u8
-    ensures { result ≡ printed byte }
-{
-    if byte >= 33 && byte <= 126 {
-        byte
-    } else {
-        b'_'
-    }
 }
 
 #[tactic(auto, using(sg_template::proofs::Appending::appending))]

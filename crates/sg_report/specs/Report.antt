@@ -66,6 +66,15 @@ abbrev pub dest_lines : ℕ → List DestTally → List ℕ
 dest_lines d [] = []
 dest_lines d (dest ∷ dests) = dest_text d dest ++ dest_lines (d + 1) dests
 
+-- the frames that a destination's buffer holds; where it holds none, nothing
+abbrev pub held_line : (ℕ × ℕ) → List ℕ
+held_line held =
+    if held.1 == 0 then [] else codes "buffer " ++ (decimal held.0 ++ (codes " held " ++ (decimal held.1 ++ codes "\n")))
+
+abbrev pub held_lines : List (ℕ × ℕ) → List ℕ
+held_lines [] = []
+held_lines (held ∷ more) = held_line held ++ held_lines more
+
 abbrev pub fault_line : List ℕ → ℕ → List ℕ
 fault_line kind number = codes "fault " ++ (kind ++ (codes " " ++ (decimal number ++ codes "\n")))
 
@@ -80,7 +89,8 @@ abbrev pub report_text : Tally → Shown → List ℕ
 report_text tally shown =
     source_lines (lines tally shown)
     ++ (dest_lines 0 tally.dests
+    ++ (held_lines shown.held
     ++ (fault_lines (codes "sink") shown.sinks
     ++ (fault_lines (codes "store") shown.stores
     ++ (fault_lines (codes "inlet") shown.inlets
-    ++ status_line shown.status))))
+    ++ status_line shown.status)))))

@@ -1,7 +1,7 @@
 // The report of a run.
 ghost use Rattle.std.specs.Prelude.{◌≡◌, ◌<◌, List, ◌∷◌, ◌++◌, length, OnOk, OnErr, IfOk, Some, slice_get};
 ghost use Rattle.sg_report.specs.declared.line.Line.{Line};
-ghost use Rattle.sg_report.specs.Report.{HasAll, position_of, position_text, line_text, driver_lines, source_lines, lines, dest_text, dest_lines, fault_line, fault_lines, status_line, report_text};
+ghost use Rattle.sg_report.specs.Report.{HasAll, position_of, position_text, line_text, driver_lines, source_lines, lines, dest_text, dest_lines, held_line, held_lines, fault_line, fault_lines, status_line, report_text};
 
 use crate::Shown;
 use crate::line::Line;
@@ -128,6 +128,27 @@ fn append_dests(alloc: Global, dests: &[DestTally], text: &mut Vec<u8>) -> Resul
     Ok(())
 }
 
+// Nothing is said of a buffer that holds nothing.
+fn append_held(alloc: Global, d: u32, frames: u64, text: &mut Vec<u8>) -> Result<(), AllocError>
+    ensures { OnOk result (text.new.items ≡ text.old.items ++ held_line (d, frames)) }
+{
+    if frames == 0 {
+        return Ok(());
+    }
+    let line = format!(in alloc; "buffer {d} held {frames}\n")?;
+    text.extend_from_slice(line.as_bytes())?;
+    Ok(())
+}
+
+fn append_buffers(alloc: Global, held: &[(u32, u64)], text: &mut Vec<u8>) -> Result<(), AllocError>
+    ensures { OnOk result (text.new.items ≡ text.old.items ++ held_lines held.now) }
+{
+    for buffer in held {
+        append_held(alloc, buffer.0, buffer.1, text)?;
+    }
+    Ok(())
+}
+
 fn append_fault(
     alloc: Global,
     kind: &str,
@@ -170,6 +191,7 @@ fn report(alloc: Global, tally: &Tally, shown: &Shown) -> Result<Vec<u8>, AllocE
     let mut text = Vec::new(alloc);
     append_sources(alloc, tally, shown, &mut text)?;
     append_dests(alloc, tally.dests.as_slice(), &mut text)?;
+    append_buffers(alloc, shown.held.as_slice(), &mut text)?;
     append_faults(alloc, "sink", shown.sinks.as_slice(), &mut text)?;
     append_faults(alloc, "store", shown.stores.as_slice(), &mut text)?;
     append_faults(alloc, "inlet", shown.inlets.as_slice(), &mut text)?;
@@ -177,8 +199,9 @@ fn report(alloc: Global, tally: &Tally, shown: &Shown) -> Result<Vec<u8>, AllocE
     Ok(text)
 }
 
-/// Appends the report of a run: a line for each source driver, a line for each destination driver,
-/// the faults and the status. Without memory `out` stays as it was.
+/// Appends the report of a run: a line for each source driver, a line for each destination driver, a
+/// line for each buffer that holds frames, the faults and the status. Without memory `out` stays as
+/// it was.
 pub fn tally_text(
     alloc: Global,
     tally: &Tally,

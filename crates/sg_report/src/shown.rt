@@ -12,6 +12,9 @@ pub struct Shown {
     pub files: Seq<bool>,
     /// For each inlet the number of its parts that were given up at a bad octet count.
     pub bad_frames: Seq<u64>,
+    /// For each destination whose disk-buffer isn't reliable its number, and how many frames that
+    /// buffer holds, in ascending order.
+    pub held: Seq<(u32, u64)>,
     /// The destinations that were given up, in ascending order.
     pub sinks: Seq<u32>,
     /// The stores that have failed, in ascending order.

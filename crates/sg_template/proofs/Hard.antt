@@ -3,8 +3,8 @@ use Rattle.std.proofs.Common.{◌≡◌, ℕ, Bool, true, false, ◌||◌, List,
 use Rattle.std.specs.List.{list_any}
 use Rattle.std.proofs.lemmas.List.Folds.{list_any-append}
 use Rattle.sg_msg.specs.Macros.{is_hard, is_any, date_macros, other_macros}
-use Rattle.sg_template.specs.declared.macros.Macro.{Macro}
-use Rattle.sg_template.specs.Macros.{macros, macro_of, row_of}
+use Rattle.sg_macro.specs.declared.macros.Macro.{Macro}
+use Rattle.sg_macro.specs.Macros.{macros, macro_of, row_of}
 
 abbrev pub has_name : List ℕ → List ℕ → Bool
 has_name name listed = bytes_eq listed name

@@ -1,5 +1,6 @@
 pub mod Appending
 pub mod Hard
-pub mod Parts
-pub mod Rows
+pub mod Inner
+pub mod Paths
+pub mod Runs
 pub mod Steps

@@ -1,9 +1,11 @@
 -- The STRUCTURED-DATA that the pairs of a message come to (RFC 5424, 6.3). The parameter NAME of the element ID is the pair `.SDATA.ID.NAME`,
 -- and an element without parameters the pair `.SDATA.ID` (syslog-ng's administration guide, "SDATA").
-use Rattle.std.specs.Prelude.{ℕ, ◌-◌, ◌==◌, ◌&&◌, ◌||◌, not, nat_le, nat_lt, Bool, true, false, if◌then◌else◌, List, [], ◌∷◌, ◌++◌, length, take, drop, Option, Some, None, codes, bytes_eq}
-use Rattle.std.specs.List.{suffix_len, list_all, filter_map, flat_map}
+use Rattle.std.specs.Prelude.{ℕ, ◌+◌, ◌==◌, ◌&&◌, not, nat_lt, Bool, true, false, if◌then◌else◌, List, [], ◌∷◌, ◌++◌, length, take, drop, Option, Some, None, codes, bytes_eq}
+use Rattle.std.specs.List.{prefix_len, list_all, filter_map, flat_map}
 use Rattle.std.specs.Option.{option_map}
 use Rattle.sg_msg.specs.Message.{Pair}
+use Rattle.sg_msg.specs.Priority.{is_digit}
+use Rattle.sg_msg.specs.Sets.{is_sd_byte, is_escaped}
 
 -- an element's ID, and the name of a parameter, if it is one
 pub record SdName : Type 0 where
@@ -15,23 +17,38 @@ pub record Item : Type 0 where
   pub param : Option (List ℕ)
   pub value : List ℕ
 
--- printable ASCII but for `=`, space, `]` and `"`
-abbrev pub is_sd_byte : ℕ → Bool
-is_sd_byte b = (nat_le 33 b && nat_le b 126) && not (((b == 61) || (b == 93)) || (b == 34))
-
--- 1 to 32 such bytes
+-- 1 to 32 bytes of a name
 abbrev pub is_sd_name : List ℕ → Bool
 is_sd_name bytes = if length bytes == 0 then false else (if nat_lt 32 (length bytes) then false else list_all is_sd_byte bytes)
 
 abbrev pub is_no_dot : ℕ → Bool
 is_no_dot b = not (b == 46)
 
--- an ID alone, or an ID and a name around the last dot
+abbrev pub is_no_at : ℕ → Bool
+is_no_at b = not (b == 64)
+
+abbrev pub begins_with_digit : List ℕ → Bool
+begins_with_digit [] = false
+begins_with_digit (b ∷ text) = is_digit b
+
+-- how many bytes stand before the first dot that no digit follows
+abbrev pub before_dot : List ℕ → ℕ
+before_dot [] = 0
+before_dot (b ∷ text) = if b == 46 && not (begins_with_digit text) then 0 else before_dot text + 1
+
+-- The length of the ID: up to the first dot behind the first `@` that no digit follows, since the number there may have dots
+-- of its own (RFC 5424, 7.2.2), and without an `@` up to the first dot.
+abbrev pub id_length : List ℕ → ℕ
+id_length text =
+    let at = prefix_len is_no_at text in
+    if at == length text then prefix_len is_no_dot text else at + before_dot (drop at text)
+
+-- an ID alone, or an ID and a name around that dot
 abbrev pub split_name : List ℕ → SdName
 split_name text =
-    let behind = suffix_len is_no_dot text in
-    if behind == length text then (record { id = text; param = None })
-    else (record { id = take (length text - behind - 1) text; param = Some (drop (length text - behind) text) })
+    let len = id_length text in
+    if len == length text then (record { id = text; param = None })
+    else (record { id = take len text; param = Some (drop (len + 1) text) })
 
 abbrev pub is_param_name : Option (List ℕ) → Bool
 is_param_name None = true
@@ -49,7 +66,7 @@ item_of pair = option_map (λ found. record { id = found.id; param = found.param
 
 -- `"`, `\` and `]` stand behind a backslash
 abbrev pub escaped_byte : ℕ → List ℕ
-escaped_byte b = if ((b == 34) || (b == 92)) || (b == 93) then 92 ∷ b ∷ [] else b ∷ []
+escaped_byte b = if is_escaped b then 92 ∷ b ∷ [] else b ∷ []
 
 abbrev pub escaped : List ℕ → List ℕ
 escaped value = flat_map escaped_byte value

@@ -1,8 +1,7 @@
 pub mod Begins
-pub mod Macros
-pub mod Reading
 pub mod Names
 pub mod Zone
 pub mod Texts
 pub mod Elements
 pub mod Render
+pub mod Path

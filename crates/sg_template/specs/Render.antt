@@ -2,8 +2,8 @@
 use Rattle.std.specs.Prelude.{ℕ, List}
 use Rattle.std.specs.List.{flat_map}
 use Rattle.sg_msg.specs.Message.{Content}
-use Rattle.sg_template.specs.declared.part.Part.{Part}
-use Rattle.sg_template.specs.declared.part.Part.TheVariants.{Literal, Macro, Pair}
+use Rattle.sg_macro.specs.declared.part.Part.{Part}
+use Rattle.sg_macro.specs.declared.part.Part.TheVariants.{Literal, Macro, Pair}
 use Rattle.sg_template.specs.declared.env.Env.{Env}
 use Rattle.sg_template.specs.Texts.{macro_text, or_default, text_of}
 

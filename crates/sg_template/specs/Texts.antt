@@ -7,12 +7,12 @@ use Rattle.sg_time.specs.declared.stamp.Stamp.{Stamp}
 use Rattle.sg_time.specs.Local.{local_time}
 use Rattle.sg_time.specs.Text.{digits, fraction_text, offset_text, month_name, iso_stamp_text, bsd_stamp_text}
 use Rattle.sg_msg.specs.Message.{Content, Pair, value_of}
-use Rattle.sg_template.specs.declared.macros.StampKind.{StampKind}
-use Rattle.sg_template.specs.declared.macros.StampKind.TheVariants.{Sent, Received}
-use Rattle.sg_template.specs.declared.macros.DatePart.{DatePart}
-use Rattle.sg_template.specs.declared.macros.DatePart.TheVariants.{Date, FullDate, IsoDate, ChosenDate, UnixTime, Year, Month, Day, Hour, Minute, Second, MonthAbbrev, Offset}
-use Rattle.sg_template.specs.declared.macros.Macro.{Macro}
-use Rattle.sg_template.specs.declared.macros.Macro.TheVariants.{Pri, FacilityNumber, SeverityNumber, Facility, Severity, PriHex, Tags, Header, Sdata, OldValue, OfStamp}
+use Rattle.sg_macro.specs.declared.macros.StampKind.{StampKind}
+use Rattle.sg_macro.specs.declared.macros.StampKind.TheVariants.{Sent, Received}
+use Rattle.sg_macro.specs.declared.macros.DatePart.{DatePart}
+use Rattle.sg_macro.specs.declared.macros.DatePart.TheVariants.{Date, FullDate, IsoDate, ChosenDate, UnixTime, Year, Month, Day, Hour, Minute, Second, MonthAbbrev, Offset}
+use Rattle.sg_macro.specs.declared.macros.Macro.{Macro}
+use Rattle.sg_macro.specs.declared.macros.Macro.TheVariants.{Pri, FacilityNumber, SeverityNumber, Facility, Severity, PriHex, Tags, Header, Sdata, OldValue, OfStamp}
 use Rattle.sg_template.specs.declared.env.Env.{Env}
 use Rattle.sg_template.specs.Elements.{sdata_text}
 use Rattle.sg_template.specs.Names.{facility_name, severity_name}

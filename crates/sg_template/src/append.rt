@@ -9,8 +9,9 @@ ghost use Rattle.sg_template.specs.Render.{part_text, render_of};
 use crate::date::append_date;
 use crate::elements::append_sdata;
 use crate::header::append_header;
-use crate::{Env, Macro, Part, StampKind, facility_name, severity_name};
+use crate::{Env, facility_name, severity_name};
 use itoa::Buffer;
+use sg_macro::{Macro, Part, StampKind};
 use sg_msg::Message;
 use sg_time::Stamp;
 use std::alloc::AllocError;
@@ -134,7 +135,7 @@ fn append_macro(
 }
 
 #[tactic(auto, using(crate::proofs::Appending::appending))]
-fn append_part(
+pub(crate) fn append_part(
     part: &Part,
     message: &Message,
     env: &Env,

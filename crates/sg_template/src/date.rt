@@ -6,9 +6,10 @@ ghost use Rattle.sg_time.specs.Text.{digits as digits_of, fraction_text, iso_sta
 ghost use Rattle.sg_template.specs.Begins.{BeginsWith};
 ghost use Rattle.sg_template.specs.Texts.{date_text, unix_text};
 
+use crate::Env;
 use crate::append::append;
-use crate::{DatePart, Env};
 use itoa::Buffer;
+use sg_macro::DatePart;
 use sg_time::{
     Stamp, bsd_text, four_digits, iso_text, month_abbrev, offset_bytes, six_digits, two_digits,
 };

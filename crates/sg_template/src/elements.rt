@@ -1,12 +1,13 @@
 // STRUCTURED-DATA, from the pairs of a message.
-ghost use Rattle.std.specs.Prelude.{◌≡◌, ◌≤◌, [], ◌++◌, List, length, OnOk, OnErr, IfOk, option_copied};
+ghost use Rattle.std.specs.Prelude.{◌≡◌, ◌≤◌, ◌<◌, not, [], ◌++◌, List, length, OnOk, OnErr, IfOk, option_copied};
 ghost use Rattle.std.specs.Option.{option_map};
-ghost use Rattle.std.specs.List.{suffix_len, list_all, cons_option};
+ghost use Rattle.std.specs.List.{prefix_len, list_all, cons_option};
+ghost use Rattle.sg_msg.specs.Sets.{is_sd_byte, is_escaped};
 ghost use Rattle.sg_template.specs.Begins.{BeginsWith};
-ghost use Rattle.sg_template.specs.Elements.{is_sd_byte, is_sd_name, is_param_name, is_no_dot, split_name, checked, sd_name, Item, item_of, escaped, param_text, opening_text, elements_text, sdata_text};
+ghost use Rattle.sg_template.specs.Elements.{is_sd_name, is_param_name, is_no_dot, is_no_at, begins_with_digit, before_dot, id_length, split_name, checked, sd_name, Item, item_of, escaped, param_text, opening_text, elements_text, sdata_text};
 
 use crate::append::append;
-use sg_msg::Message;
+use sg_msg::{Message, is_digit, is_escaped, is_sd_byte};
 use std::alloc::AllocError;
 
 // An element's ID, and the name of a parameter, if it is one.
@@ -14,12 +15,6 @@ use std::alloc::AllocError;
 struct SdName<'n> {
     id: &'n [u8],
     param: Option<&'n [u8]>,
-}
-
-fn is_sd_byte(byte: u8) -> bool
-    ensures { result ≡ is_sd_byte byte }
-{
-    byte >= 33 && byte <= 126 && !(byte == b'=' || byte == b']' || byte == b'"')
 }
 
 fn are_sd_bytes(text: &[u8]) -> bool
@@ -49,29 +44,68 @@ fn is_param_name(param: Option<&[u8]>) -> bool
     }
 }
 
-// The bytes behind the last dot, all where there is none.
-fn length_behind_dot(text: &[u8]) -> usize
-    ensures value { result ≡ suffix_len is_no_dot text.now }
+fn length_without_dot(text: &[u8]) -> usize
+    ensures value { result ≡ prefix_len is_no_dot text.now }
     ensures within { result ≤ length text.now }
 {
-    text.iter().rev().take_while(|byte| **byte != b'.').count()
+    text.iter().take_while(|byte| **byte != b'.').count()
+}
+
+fn length_without_at(text: &[u8]) -> usize
+    ensures value { result ≡ prefix_len is_no_at text.now }
+    ensures within { result ≤ length text.now }
+{
+    text.iter().take_while(|byte| **byte != b'@').count()
+}
+
+fn begins_with_digit(text: &[u8]) -> bool
+    ensures { result ≡ begins_with_digit text.now }
+{
+    match text {
+        [first, ..] => is_digit(*first),
+        [] => false,
+    }
+}
+
+// The bytes before the first dot that no digit follows, all where there is none.
+fn before_dot(text: &[u8]) -> usize
+    ensures value { result ≡ before_dot text.now }
+    ensures within { result ≤ length text.now }
+{
+    for (place, byte) in text.iter().enumerate() {
+        if *byte == b'.' && !begins_with_digit(&text[place + 1..]) {
+            return place;
+        }
+    }
+    text.len()
+}
+
+// The length of the ID at the front.
+fn id_length(text: &[u8]) -> usize
+    ensures value { result ≡ id_length text.now }
+    ensures within { result ≤ length text.now }
+{
+    let at = length_without_at(text);
+    if at == text.len() {
+        return length_without_dot(text);
+    }
+    at + before_dot(&text[at..])
 }
 
 fn split_name(text: &[u8]) -> SdName<'_>
     ensures id { result.id.now ≡ (split_name text.now).id }
     ensures param { option_copied result.param ≡ (split_name text.now).param }
 {
-    let behind = length_behind_dot(text);
-    if behind == text.len() {
+    let len = id_length(text);
+    if len == text.len() {
         return SdName {
             id: text,
             param: None,
         };
     }
-    let start = text.len() - behind;
     SdName {
-        id: &text[..start - 1],
-        param: Some(&text[start..]),
+        id: &text[..len],
+        param: Some(&text[len + 1..]),
     }
 }
 
@@ -98,17 +132,40 @@ fn sd_name(name: &[u8]) -> Option<SdName<'_>>
     }
 }
 
+// The bytes before the first that stands behind a backslash.
+fn plain_length(value: &[u8]) -> usize
+    ensures value { result ≡ prefix_len (λ b. not (is_escaped b)) value.now }
+    ensures within { result ≤ length value.now }
+{
+    value.iter().take_while(|byte| !is_escaped(**byte)).count()
+}
+
+// Appends a run of plain bytes and the byte behind them, and gives what is left.
 #[tactic(auto, using(crate::proofs::Appending::appending))]
+fn append_run<'v>(value: &'v [u8], out: &mut Vec<u8>) -> Result<&'v [u8], AllocError>
+    requires { 0 < length value.now }
+    ensures ok { IfOk result (λ rest. out.new.items ++ escaped rest.now ≡ out.old.items ++ escaped value.now) }
+    ensures shorter { IfOk result (λ rest. length rest.now < length value.now) }
+    ensures begins { BeginsWith out.old.items out.new.items }
+{
+    let (plain, behind) = value.split_at(plain_length(value));
+    append(plain, out)?;
+    match behind {
+        [byte, rest @ ..] => {
+            append(&[b'\\', *byte], out)?;
+            Ok(rest)
+        }
+        [] => Ok(b""),
+    }
+}
+
 fn append_escaped(value: &[u8], out: &mut Vec<u8>) -> Result<(), AllocError>
     ensures ok { OnOk result (out.new.items ≡ out.old.items ++ escaped value.now) }
     ensures err { OnErr result (BeginsWith out.old.items out.new.items) }
 {
-    for byte in value {
-        if *byte == b'"' || *byte == b'\\' || *byte == b']' {
-            append(&[b'\\', *byte], out)?;
-        } else {
-            append(&[*byte], out)?;
-        }
+    let mut rest = value;
+    while !rest.is_empty() {
+        rest = append_run(rest, out)?;
     }
     Ok(())
 }
@@ -193,7 +250,9 @@ pub(crate) fn append_sdata(message: &Message, out: &mut Vec<u8>) -> Result<(), A
 
 /// Appends the STRUCTURED-DATA of RFC 5424, 6.3, that the message's pairs come to.
 ///
-/// The pair `.SDATA.ID.NAME` is a parameter of the element ID, and the pair `.SDATA.ID` an element;
+/// The pair `.SDATA.ID.NAME` is a parameter of the element ID, and the pair `.SDATA.ID` an element; the
+/// ID ends before the first dot behind its first `@` that no digit follows, without an `@` before the
+/// first dot;
 /// pairs that the grammar has no place for are left out. Neighbours of one ID share an element. Where
 /// there is none, the text is `-`. Without memory `out` stays as it was.
 pub fn sdata_text(message: &Message, out: &mut Vec<u8>) -> Result<(), AllocError>

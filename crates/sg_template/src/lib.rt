@@ -2,22 +2,20 @@
 #![tactic(auto)]
 
 mod append;
-mod cut;
 mod date;
 mod elements;
 mod env;
-mod fault;
 mod header;
-mod macros;
+mod laws;
 mod names;
-mod part;
+mod path;
 mod template;
+mod threads;
 
 pub use append::text_of;
 pub use elements::sdata_text;
 pub use env::Env;
-pub use fault::TemplateFault;
-pub use macros::{DatePart, Macro, StampKind, macro_of, pair_name};
+pub use laws::{macros_are_hard, paths_fit, texts_are_names};
 pub use names::{facility_name, severity_name};
-pub use part::Part;
+pub use sg_macro::TemplateFault;
 pub use template::Template;

@@ -1,12 +1,14 @@
 // Templates as a whole.
 ghost use Rattle.std.specs.Prelude.{◌≡◌, ◌++◌, IfOk, IfErr, OnOk, OnErr, Ok};
-ghost use Rattle.sg_template.specs.Reading.{parts_of, Refuses};
+ghost use Rattle.sg_macro.specs.Reading.{parts_of, Refuses};
 ghost use Rattle.sg_template.specs.Render.{render_of};
+ghost use Rattle.sg_template.specs.Path.{path_of};
 
+use crate::Env;
 use crate::append::append_parts;
-use crate::cut::{Cut, behind, first_cut};
-use crate::{Env, Part, TemplateFault};
+use crate::path::append_path;
 use sg_list::Seq;
+use sg_macro::{Part, TemplateFault, read_parts};
 use sg_msg::Message;
 use std::alloc::{AllocError, Global};
 use std::marker::Model;
@@ -19,7 +21,7 @@ pub struct Template {
 
 impl Model for Template {
     ghost use Rattle.std.specs.Prelude.{List};
-    ghost use Rattle.sg_template.specs.declared.part.Part.{Part as APart};
+    ghost use Rattle.sg_macro.specs.declared.part.Part.{Part as APart};
 
     ghost Value = { List APart };
 
@@ -37,18 +39,9 @@ impl Template {
         ensures ok { IfOk result (λ template. parts_of text.now ≡ Ok template) }
         ensures err { IfErr result (Refuses (parts_of text.now)) }
     {
-        let mut parts = Seq::empty(alloc);
-        let mut rest = text;
-        while !rest.is_empty() {
-            match first_cut(alloc, rest) {
-                Ok(Cut { part, len }) => {
-                    parts.push(part)?;
-                    rest = behind(len, rest);
-                }
-                Err(fault) => return Err(fault),
-            }
-        }
-        Ok(Template { parts })
+        Ok(Template {
+            parts: read_parts(alloc, text)?,
+        })
     }
 
     /// Appends the template's text over the message. Without memory `out` stays as it was.
@@ -60,6 +53,28 @@ impl Template {
         let appended = append_parts(self.parts.as_slice(), message, env, out);
         if appended.is_err() {
             out.truncate(before);
+        }
+        appended
+    }
+
+    /// Appends the template's text over the message as the path of a file, of 1 to 4,095 bytes.
+    ///
+    /// In the text of each macro and of each value `/` and NUL are `_`, and so is a dot at its front,
+    /// so that no message picks another directory. Bytes past 4,095 are cut off, and an empty path is
+    /// `_`. Without memory `out` stays as it was.
+    pub fn render_path(
+        &self,
+        message: &Message,
+        env: &Env,
+        out: &mut Vec<u8>,
+    ) -> Result<(), AllocError>
+        ensures ok { OnOk result (out.new.items ≡ out.old.items ++ path_of self.now message.now env.now) }
+        ensures err { OnErr result (out.new.items ≡ out.old.items) }
+    {
+        let start = out.len();
+        let appended = append_path(self.parts.as_slice(), message, env, out);
+        if appended.is_err() {
+            out.truncate(start);
         }
         appended
     }

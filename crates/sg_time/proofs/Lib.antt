@@ -3,3 +3,4 @@ pub mod Days
 pub mod Texts
 pub mod Fractions
 pub mod Readings
+pub mod Dates

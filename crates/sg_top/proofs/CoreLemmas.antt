@@ -5,6 +5,7 @@ use Rattle.std.proofs.lemmas.List.{length-map}
 use Rattle.sg_list.proofs.ListLemmas.{some-same}
 use Rattle.sg_device.specs.Disk.{IsImage}
 use Rattle.sg_stable.specs.Cell.{cell_value}
+use Rattle.sg_stable.specs.Position.{IsPosition}
 use Rattle.sg_machine.specs.declared.event.Event.{Event}
 use Rattle.sg_machine.specs.declared.setup.SourceSetup.{SourceSetup}
 use Rattle.sg_machine.specs.declared.setup.Setup.{Setup}
@@ -112,6 +113,14 @@ safe-image core position events store bytes setup stands stores image =
     let P : List ℕ → Type 0 = λ ps. Safe (start_at position) events nothing (record { positions = ps; lists = lists }) in
     subst P (one-position core (after_all (start_at position) events) bytes setup stands.at) safe
 
+-- each image of the store is a position store
+position-image : (core : CoreState) (position : ℕ) (events : List Event) (store : StoreState) (bytes : List ℕ) → setup_of core ≡ path_setup → StandsFor core (start_at position) events
+    → core.stores ≡ store ∷ [] → IsImage store.disk bytes → IsPosition (cell_value bytes) bytes
+position-image core position events store bytes setup stands stores image =
+    let only = only-inlet core (after_all (start_at position) events) setup stands.at in
+    let one = stands.images 0 only.inlet 0 store (ap (λ xs. slice_get xs 0) only.inlets) only.store (ap (λ xs. slice_get xs 0) stores) bytes image in
+    record { shape = one.is_position.shape; holds = refl }
+
 windows : (h : History) → are_legal (start_of h) h.events ≡ true → (before later : List Event) → h.events ≡ before ++ later → WithinWindows (after_all (start_of h) before)
 windows h legal before later e =
     let whole : are_legal (start_of h) (before ++ later) ≡ true = ap (are_legal (start_of h)) (sym e) ∙ legal in
@@ -123,6 +132,7 @@ is-history core h setup one stands =
     record {
       legal = stands.legal;
       windows = windows h stands.legal;
+      positions = λ bytes image. position-image core h.position h.events store bytes setup stands stores (subst (λ xs. IsImage (disk_in xs) bytes) stores image);
       safe = λ bytes image. safe-image core h.position h.events store bytes setup stands stores (subst (λ xs. IsImage (disk_in xs) bytes) stores image);
     }
 

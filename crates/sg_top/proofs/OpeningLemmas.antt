@@ -37,13 +37,18 @@ pub one-rewind : (position : ℕ) → 0 < position → rewinds position 0 ≡ (r
 one-rewind zero h = absurd (omega arith)
 one-rewind (suc position) h = refl
 
+pub few-rewinds : (position place : ℕ) → length (rewinds position place) ≤ 1
+few-rewinds zero place = omega arith
+few-rewinds (suc position) (suc place) = omega arith
+few-rewinds (suc position) zero = omega arith
+
 pub begun-not : (core : CoreState) (events : List Event) → IsReady core → events ≡ [] → BegunBy core core events
 begun-not core events ready none = record {
   stands = subst (StandsFor core (start_at (stored_now core))) (sym none) ready.stands;
   setup = ready.setup;
   later = omega arith;
   one = ready.one;
-  calls = omega (arith, ready.calls);
+  calls = ready.calls ∙ sym (ap length none);
   still = λ e. refl;
 }
 
@@ -71,7 +76,7 @@ begun-anew old new ready does some =
       setup = does.setup ∙ ready.setup;
       later = goes-later old new ready.one does.goes;
       one = does.goes.count ∙ ready.one;
-      calls = omega (arith, does.calls, ready.calls);
+      calls = (let n : length (rewinds (stored_now old) 0) ≡ 1 = ap length more in omega (arith, does.calls, ready.calls));
       still = λ e. let wrong : (record { act = Rewind 0; failed = [] }) ∷ [] ≡ [] = sym more ∙ e in cc;
     }
 
@@ -105,7 +110,7 @@ begun-broken old new ready does failed =
         setup = does.setup ∙ ready.setup;
         later = goes-later old new ready.one does.goes;
         one = does.goes.count ∙ ready.one;
-        calls = omega (arith, does.calls, ready.calls);
+        calls = (let n : length broken_rewind ≡ 1 = refl in omega (arith, does.calls, ready.calls));
         still = λ e. let wrong : broken_rewind ≡ [] = e in cc;
       },
       subst (λ xs. Rose (disk_in xs).faults (disk_in new.stores).faults) (sym olds) (subst (λ xs. Rose was.disk.faults (disk_in xs).faults) (sym news) rose),

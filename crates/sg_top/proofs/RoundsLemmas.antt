@@ -1,8 +1,9 @@
 -- Lemmas on the rounds of a run.
-use Rattle.std.proofs.Common.{◌≡◌, ◌≤◌, ◌<◌, inl, inr, ℕ, ◌+◌, ◌*◌, ◌^◌, List, [], ◌++◌, length, Some, None, Option, false, refl, sym, ap, ◌∙◌, arith, slice_get, subst, zero, suc}
+use Rattle.std.proofs.Common.{◌≡◌, ◌≤◌, ◌<◌, inl, inr, ℕ, ◌+◌, ◌*◌, ◌^◌, List, [], ◌++◌, length, Some, None, Option, true, false, refl, sym, ap, ◌∙◌, arith, slice_get, subst, zero, suc, length-append}
 use Rattle.std.specs.Prelude.{IfSome}
 use Rattle.sg_device.specs.Disk.{DiskState}
 use Rattle.sg_device.specs.Faults.{Rose}
+use Rattle.sg_device.specs.Inlet.{InletState}
 use Rattle.sg_device.specs.Outlet.{OutletState, IsNew}
 use Rattle.sg_outside.specs.World.{WorldState}
 use Rattle.sg_frame.specs.Records.{Record}
@@ -14,7 +15,7 @@ use Rattle.sg_core.specs.Stores.{StoreState}
 use Rattle.sg_core.specs.Standing.{IsAt, ends_of}
 use Rattle.sg_engine.specs.Delivery.{last_end}
 use Rattle.sg_engine.specs.History.{Stands, IsTaken, admitted, offer_count, kept_frames, settled_frames, stored_now}
-use Rattle.sg_engine.specs.Serving.{Blames, GoesOn, StoreRose, ServesWith}
+use Rattle.sg_engine.specs.Serving.{Blames, GoesOn, HasWorked, StoreRose, WereRun, ServesWith}
 use Rattle.sg_engine.specs.declared.rounds.Ended.{Ended}
 use Rattle.sg_engine.specs.declared.rounds.Ended.TheVariants.{Quiet, RoundsSpent, InletFailed, OutletFailed, StoreFailed, NoMemory}
 use Rattle.sg_top.specs.Devices.{Shelf, Feed, Drain, Reached, AtRounds}
@@ -50,7 +51,7 @@ no-settled zero place = refl
 no-settled (suc position) (suc place) = refl
 no-settled (suc position) zero = refl
 
-none-failed : (position place : ℕ) → is_listed 0 (after_all (start_at position) (rewinds position place)).failed ≡ false
+pub none-failed : (position place : ℕ) → is_listed 0 (after_all (start_at position) (rewinds position place)).failed ≡ false
 none-failed zero place = refl
 none-failed (suc position) (suc place) = refl
 none-failed (suc position) zero = refl
@@ -71,6 +72,7 @@ stands-first old new place drain begun new' = record {
   stands = begun.stands;
   setup = begun.setup;
   one = begun.one;
+  counted = begun.calls;
   admitted = no-admitted (stored_now old) place;
   ends = no-ends (stored_now old) place;
   kept = no-kept (stored_now old) place;
@@ -98,6 +100,19 @@ store-rose old new one one' (store, (get, works)) rose =
     let more : Rose was.disk.faults now.disk.faults = subst Q news (subst P olds rose) is in
     subst (λ xs. Rose (disk_in xs).faults (disk_in new.stores).faults) (sym olds) (subst (λ xs. Rose was.disk.faults (disk_in xs).faults) (sym news) more)
 
+worked-rose : (first now : Option StoreState) (store : StoreState) → HasWorked first now → now ≡ Some store → store.failed ≡ true → StoreRose first now
+worked-rose None now store works get failed = absurd works
+worked-rose (Some first) None store works get failed = absurd works
+worked-rose (Some first) (Some now) store works get failed = λ fresh.
+    elim (works fresh) as (λ _. Rose first.disk.faults now.disk.faults) [
+      | inl h ↦ (let s : Some now ≡ Some store = get in let e : now ≡ store = cc in let wrong : false ≡ true = sym h ∙ ap (λ x. x.failed) e ∙ failed in absurd cc)
+      | inr rose ↦ rose
+    ]
+
+-- more events were made than in the rounds
+run-later : (before more : List Event) (rounds : ℕ) → WereRun more rounds → WereRun (before ++ more) rounds
+run-later before more rounds h = omega (arith, h, length-append before more)
+
 -- the history of a run whose rounds brought these events
 abbrev pub history : CoreState → ℕ → List Event → List Record → History
 history old place more done = record { position = stored_now old; events = rewinds (stored_now old) place ++ more; done = done }
@@ -113,11 +128,10 @@ rounds-cause w w' old begun new s f d Quiet more done anew low closed serves bla
     let state = state_of (history old f.opened.place more done) in
     let at = serves.stands.stands.at in
     let last = ap (λ o. last_end o done) (sym serves.opening ∙ opening-same new state serves.stands.setup at) in
-    record { ended = quiet.ended; all = quiet.all; took = quiet.took; stored = sym (stored-same new state serves.stands.setup at) ∙ quiet.stored ∙ last }
+    record { ended = quiet.ended; drained = quiet.drained; all = quiet.all; took = quiet.took; stored = sym (stored-same new state serves.stands.setup at) ∙ quiet.stored ∙ last }
 rounds-cause w w' old begun new s f d RoundsSpent more done anew low closed serves blames =
     let same = ap (λ as'. 4 * (1 + f.closed.bytes + f.closed.parts + 1 + offer_count as') + f.closed.idles) (admitted-later (stored_now old) f.opened.place more) in
-    let few = serves.concludes in
-    subst (λ n. 2 ^ 36 < n) (sym same) few
+    (run-later (rewinds (stored_now old) f.opened.place) more (2 ^ 36) serves.concludes.0, subst (λ n. 2 ^ 36 < n) (sym same) serves.concludes.1)
 rounds-cause w w' old begun new s f d InletFailed more done anew low closed serves blames = (refl, blames.failed)
 rounds-cause w w' old begun new s f d OutletFailed more done anew low closed serves blames = (refl, blames.failed)
 rounds-cause w w' old begun new s f d StoreFailed more done anew low closed serves blames =
@@ -127,6 +141,18 @@ rounds-cause w w' old begun new s f d StoreFailed more done anew low closed serv
     let wide : Rose s.opened.faults (disk_of new).faults = omega arith in
     (refl, subst (λ (k : DiskState). Rose s.opened.faults k.faults) (sym closed) wide)
 rounds-cause w w' old begun new s f d NoMemory more done anew low closed serves blames = tt
+
+-- a store that failed by then has a count that rose
+pub rounds-failed : (old begun new : CoreState) (feed : InletState) (drain : OutletState) (place low : ℕ) (ended : Ended) (more : List Event) (done : List Record)
+    → BegunBy old begun (rewinds (stored_now old) place) → low ≤ (disk_of begun).faults
+    → ServesWith (start_at (stored_now old)) (rewinds (stored_now old) place) begun new feed drain (2 ^ 36) ended more done
+    → is_listed 0 (state_of (history old place more done)).failed ≡ true → Rose low (disk_of new).faults
+rounds-failed old begun new feed drain place low ended more done anew least serves listed =
+    let (store, (get, position, failed)) = only-store begun (after_all (start_at (stored_now old)) (rewinds (stored_now old) place)) anew.setup anew.stands.at in
+    let (now, (get', position', failed')) = only-store new (state_of (history old place more done)) serves.stands.setup serves.stands.stands.at in
+    let worked = worked-rose (slice_get begun.stores 0) (slice_get new.stores 0) now serves.works get' (failed' ∙ listed) in
+    let rose = store-rose begun new anew.one serves.stands.one (store, (get, failed ∙ none-failed (stored_now old) place)) worked in
+    omega arith
 
 pub rounds-after : (ended : Ended) → IsAfterConfig (status_after ended)
 rounds-after Quiet = tt

@@ -1,7 +1,7 @@
 -- Lemmas on the causes of statuses.
 use Rattle.std.proofs.Common.{◌≡◌, ◌≤◌, ℕ, List, Some, arith}
 use Rattle.sg_device.specs.Faults.{Rose}
-use Rattle.sg_outside.specs.World.{WorldState}
+use Rattle.sg_outside.specs.World.{WorldState, Files}
 use Rattle.sg_device.specs.Disk.{content as store_content}
 use Rattle.sg_stable.specs.Position.{IsDamagedAt}
 use Rattle.sg_core.proofs.ImageLaws.{not-damaged}
@@ -11,7 +11,6 @@ use Rattle.sg_top.specs.Run.{HasStatus, SpentPulls, IsSpent, IsUntroubled, Works
 use Rattle.sg_lex.specs.declared.fault.ConfigFault.{ConfigFault}
 use Rattle.sg_lex.specs.declared.token.Token.{Token}
 use Rattle.sg_expand.specs.Expansion.{State}
-use Rattle.sg_expand.specs.One.{AreTold}
 use Rattle.sg_top.specs.Reading.{Configures}
 use Rattle.sg_top.specs.Verdict.{Judges}
 use Rattle.sg_top.specs.Words.{IsRun, JudgesWords}
@@ -100,24 +99,24 @@ served-none (AtCore s p) P none works h = h
 served-none (AtInlet s p f) P none works h = h
 served-none (AtRounds s p f d) P none works h = none s p f d works h
 
-bad-read : (world : WorldState) (file : List ℕ) (fault : ConfigFault) (last : State) (tokens : List Token) (from into : List ℕ)
-    → Judges world file (BadConfig fault) → Configures world file last tokens from into → AreTold world.files last.names → ⊥
-bad-read world file fault last tokens from into (names, wrong) configures told = not-faulty world file fault names last tokens from into wrong configures told
+bad-read : (world : WorldState) (file : List ℕ) (fault : ConfigFault) (last : State) (tokens : List Token) (from into : List ℕ) (files : Files)
+    → Judges world file (BadConfig fault) → Configures world file last tokens from into → world.files ≡ Some files → ⊥
+bad-read world file fault last tokens from into files (names, wrong) configures told = not-faulty world file fault names last tokens from into files wrong configures told
 
 -- without trouble a run of the words, over a text that is expanded to a configuration, ends with success
-pub complete : (old new : WorldState) (words : List (List ℕ)) (file : List ℕ) (last : State) (tokens : List Token) (from into : List ℕ) (reached : Reached) (status : Status)
-    → HasStatus old new reached status → JudgesWords words status → Judges old file status → IsRun words file → Configures old file last tokens from into → AreTold old.files last.names → IsUntroubled old new reached → IsComplete status
-complete old new words file last tokens from into reached Ok cause w j run is told u = tt
-complete old new words file last tokens from into reached Usage cause w j run is told u = w file run
-complete old new words file last tokens from into reached (BadConfig fault) cause w j run is told u = bad-read old file fault last tokens from into j is told
-complete old new words file last tokens from into reached ReadFault cause w j run is told u = u.read cause.1
-complete old new words file last tokens from into reached (OpenFault (Store n)) cause w j run is told u = u.store cause.2
-complete old new words file last tokens from into reached (OpenFault (Inlet n)) cause w j run is told u = u.inlet cause.2
-complete old new words file last tokens from into reached (OpenFault (Dest n)) cause w j run is told u = u.outlet cause.2
-complete old new words file last tokens from into reached (Damage n at) cause w j run is told u = damage-none reached at u.devices cause.2
-complete old new words file last tokens from into reached (SinkFault n) cause w j run is told u = served-none reached _ (λ s h f d works c. works.drain_works c.1) u.devices cause
-complete old new words file last tokens from into reached (DiskFault n) cause w j run is told u = fault-none reached u.devices cause.1
-complete old new words file last tokens from into reached (InletFault n) cause w j run is told u = served-none reached _ (λ s h f d works c. works.feed_works c.1) u.devices cause
-complete old new words file last tokens from into reached RoundsSpent cause w j run is told u = served-none reached _ (λ s h f d works c. let few = works.few in omega arith) u.devices cause
-complete old new words file last tokens from into reached SayFault cause w j run is told u = u.say cause
-complete old new words file last tokens from into reached NoMemory cause w j run is told u = tt
+pub complete : (old new : WorldState) (words : List (List ℕ)) (file : List ℕ) (last : State) (tokens : List Token) (from into : List ℕ) (files : Files) (reached : Reached) (status : Status)
+    → HasStatus old new reached status → JudgesWords words status → Judges old file status → IsRun words file → Configures old file last tokens from into → old.files ≡ Some files → IsUntroubled old new reached → IsComplete status
+complete old new words file last tokens from into files reached Ok cause w j run is told u = tt
+complete old new words file last tokens from into files reached Usage cause w j run is told u = w file run
+complete old new words file last tokens from into files reached (BadConfig fault) cause w j run is told u = bad-read old file fault last tokens from into files j is told
+complete old new words file last tokens from into files reached ReadFault cause w j run is told u = u.read cause.1
+complete old new words file last tokens from into files reached (OpenFault (Store n)) cause w j run is told u = u.store cause.2
+complete old new words file last tokens from into files reached (OpenFault (Inlet n)) cause w j run is told u = u.inlet cause.2
+complete old new words file last tokens from into files reached (OpenFault (Dest n)) cause w j run is told u = u.outlet cause.2
+complete old new words file last tokens from into files reached (Damage n at) cause w j run is told u = damage-none reached at u.devices cause.2
+complete old new words file last tokens from into files reached (SinkFault n) cause w j run is told u = served-none reached _ (λ s h f d works c. works.drain_works c.1) u.devices cause
+complete old new words file last tokens from into files reached (DiskFault n) cause w j run is told u = fault-none reached u.devices cause.1
+complete old new words file last tokens from into files reached (InletFault n) cause w j run is told u = served-none reached _ (λ s h f d works c. works.feed_works c.1) u.devices cause
+complete old new words file last tokens from into files reached RoundsSpent cause w j run is told u = served-none reached _ (λ s h f d works c. let few = works.few in omega arith) u.devices cause
+complete old new words file last tokens from into files reached SayFault cause w j run is told u = u.say cause
+complete old new words file last tokens from into files reached NoMemory cause w j run is told u = tt

@@ -4,12 +4,14 @@ use Rattle.sg_device.specs.Disk.{DiskState, content as store_content, WhereTold,
 use Rattle.sg_device.specs.Faults.{Rose}
 use Rattle.sg_device.specs.Inlet.{InletState}
 use Rattle.sg_device.specs.Outlet.{OutletState}
-use Rattle.sg_outside.specs.World.{WorldState, Files, StandsIn, StoreOpens, ClosesStore, InletOpens, OutletOpens, ClosesInlet, ClosesOutlet}
+use Rattle.sg_outside.specs.World.{WorldState, Files, StandsIn, StandsShelved, StoreOpens, ClosesStore, InletOpens, OutletOpens, ClosesInlet, ClosesOutlet}
 use Rattle.sg_outside.specs.declared.request.InletSpec.TheVariants.{File}
 use Rattle.sg_outside.specs.declared.request.OutletSpec.TheVariants.{File as FileTo}
 use Rattle.sg_outside.specs.declared.request.StoreSpec.{StoreSpec}
 use Rattle.sg_stable.specs.Position.{IsPosition}
 use Rattle.sg_machine.specs.declared.event.Event.{Event}
+use Rattle.sg_machine.specs.Runs.{after_all}
+use Rattle.sg_machine.specs.Verdicts.{is_listed}
 use Rattle.sg_core.specs.States.{CoreState}
 use Rattle.sg_core.specs.Stores.{stored_in}
 use Rattle.sg_core.specs.Standing.{StandsFor, setup_of}
@@ -19,7 +21,7 @@ use Rattle.sg_engine.specs.Path.{path_setup}
 use Rattle.sg_engine.specs.History.{stored_now}
 use Rattle.sg_engine.specs.declared.rounds.Ended.{Ended}
 use Rattle.sg_top.specs.Devices.{Shelf, Feed, Drain, Nothing, AtStore, AtCore, AtInlet, AtRounds, with_drain, store_of, feed_of, drain_of}
-use Rattle.sg_top.specs.History.{History, start_at, start_of, rewinds, broken_rewind, IsPrelude}
+use Rattle.sg_top.specs.History.{History, start_at, start_of, state_of, rewinds, broken_rewind, IsPrelude}
 use Rattle.sg_top.specs.Opening.{disk_in, disk_of, IsReady, IsOver, Begun, BegunBy, RefusesCore, status_refused}
 use Rattle.sg_top.specs.Rounds.{RunsRoundsTo}
 use Rattle.sg_top.specs.Run.{HasStatus, HoldsStore, BeginsAt, Holds}
@@ -32,7 +34,7 @@ use Rattle.sg_top.specs.declared.ending.Ending.TheVariants.{Early}
 use Rattle.sg_top.specs.declared.status.Status.{Status}
 use Rattle.sg_top.specs.declared.status.Status.TheVariants.{DiskFault}
 use Rattle.sg_top.proofs.CoreLemmas.{is-history}
-use Rattle.sg_top.proofs.RoundsLemmas.{stands-first, goes-later, history, rounds-cause, end-cause, end-after, end-text}
+use Rattle.sg_top.proofs.RoundsLemmas.{none-failed, stands-first, rounds-failed, goes-later, history, rounds-cause, end-cause, end-after, end-text}
 use Rattle.sg_top.proofs.RunLemmas.{Widens, HasStatus-wider, cause-spent}
 
 -- The store that the core stands over.
@@ -49,12 +51,14 @@ preserves-at : (disk : DiskState) (core : CoreState) → IsOver disk core → Pr
 preserves-at disk core (store, (stores, opened)) = subst (λ xs. Preserves disk (disk_in xs)) (sym stores) opened.preserves
 
 holds-store : (spec : StoreSpec) (disk : DiskState) (core core' : CoreState) (h : History) → IsOver disk core → h.position ≡ stored_now core → setup_of core' ≡ path_setup
-    → length core'.stores ≡ 1 → StandsFor core' (start_of h) h.events → (disk_of core).faults ≤ (disk_of core').faults → HoldsStore (shelf spec disk core') h
-holds-store spec disk core core' h over position setup one stands later =
+    → length core'.stores ≡ 1 → StandsFor core' (start_of h) h.events → (disk_of core).faults ≤ (disk_of core').faults
+    → (is_listed 0 (state_of h).failed ≡ true → Rose disk.faults (disk_of core').faults) → HoldsStore (shelf spec disk core') h
+holds-store spec disk core core' h over position setup one stands later failed =
     let first = later-at disk core over in
     record {
       found = subst (λ p. WhereTold (store_content disk) (IsPosition p)) (sym position) (found-at disk core over);
       history = is-history core' h setup one stands;
+      failed = failed;
       later = omega arith;
     }
 
@@ -65,8 +69,9 @@ pub waits : (old new : WorldState) (core core' : CoreState) (spec : StoreSpec) (
     → IsOver disk core → BegunBy core core' events → IsPrelude (stored_now core) feed.opened.place events
     → new ≡ record old { outlet_faults = new.outlet_faults } → old.outlet_faults ≤ new.outlet_faults
     → HasStatus old new (AtInlet (shelf spec disk core') (record { position = stored_now core; events = events; done = [] }) feed) status → IsAfterConfig status
+    → (is_listed 0 (after_all (start_at (stored_now core)) events).failed ≡ true → Rose disk.faults (disk_of core').faults)
     → ServesInlet old new core core' spec disk feed into (Early status)
-waits old new core core' spec disk feed into status events over begun begins state counts cause after =
+waits old new core core' spec disk feed into status events over begun begins state counts cause after failed =
     let h : History = record { position = stored_now core; events = events; done = [] } in (
       h,
       (
@@ -77,7 +82,7 @@ waits old new core core' spec disk feed into status events over begun begins sta
           named = tt;
           one = begun.one;
           holds = record {
-            held = holds-store spec disk core core' h over refl begun.setup begun.one begun.stands begun.later;
+            held = holds-store spec disk core core' h over refl begun.setup begun.one begun.stands begun.later failed;
             begins = begins;
             still = λ e. subst (λ c. Preserves disk (disk_of c)) (sym (begun.still e)) (preserves-at disk core over);
           };
@@ -97,7 +102,7 @@ waits-broken w core core' spec disk feed into place over at begun =
     let first = later-at disk core over in
     let rose = begun.3 in
     let cause : Rose disk.faults (disk_of core').faults = omega arith in
-    waits w w core core' spec disk feed into (DiskFault 0) broken_rewind over begun.0 (inr (sym at ∙ begun.1, begun.2, refl)) refl (omega arith) (refl, cause) tt
+    waits w w core core' spec disk feed into (DiskFault 0) broken_rewind over begun.0 (inr (sym at ∙ begun.1, begun.2, refl)) refl (omega arith) (refl, cause) tt (λ listed. cause)
 
 -- the source may have begun anew
 pub waits-begun : (old new : WorldState) (core core' : CoreState) (spec : StoreSpec) (disk : DiskState) (feed : Feed) (into : List ℕ) (place : ℕ) (status : Status)
@@ -108,14 +113,15 @@ pub waits-begun : (old new : WorldState) (core core' : CoreState) (spec : StoreS
 waits-begun old new core core' spec disk feed into place status over at begun state counts cause after =
     let events = rewinds (stored_now core) place in
     waits old new core core' spec disk feed into status events over begun (inl (ap (rewinds (stored_now core)) at)) state counts (cause (record { position = stored_now core; events = events; done = [] })) after
+    (λ listed. absurd (let wrong : false ≡ true = sym (none-failed (stored_now core) place) ∙ listed in cc))
 
 -- the rounds were run
 pub served : (old w new : WorldState) (core core1 core' : CoreState) (spec : StoreSpec) (disk : DiskState) (feed : Feed) (drain drain' : OutletState) (into path : List ℕ) (ending : Ending) (ended : Ended)
-    → IsOver disk core → BegunBy core core1 (rewinds (stored_now core) feed.opened.place) → path ≡ into → OutletOpens old w (FileTo path) drain
+    → IsOver disk core → BegunBy core core1 (rewinds (stored_now core) feed.opened.place) → path ≡ into → OutletOpens old w (FileTo path false 384 0) drain
     → RunsRoundsTo core1 core' feed.opened feed.closed drain drain' ended ending → ClosesOutlet w new drain'
     → ServesInlet old new core core' spec disk feed into ending
 served old w new core core1 core' spec disk feed drain drain' into path ending ended over begun named opens runs closes =
-    let d : Drain = record { spec = FileTo path; opened = drain; closed = drain' } in
+    let d : Drain = record { spec = FileTo path false 384 0; opened = drain; closed = drain' } in
     let s : Shelf = shelf spec disk core' in
     let (more, (done, serves)) = runs.served (start_at (stored_now core)) (rewinds (stored_now core) feed.opened.place) (stands-first core core1 feed.opened.place drain begun opens.2) in
     let h : History = history core feed.opened.place more done in
@@ -132,12 +138,13 @@ served old w new core core1 core' spec disk feed drain drain' into path ending e
         record {
           state = grind arith;
           counts = grind arith;
-          named = ap FileTo named;
+          named = ap (λ p. FileTo p false 384 0) named;
           one = one;
           holds = record {
-            held = holds-store spec disk core core' h over refl serves.stands.setup one serves.stands.stands all;
+            held = holds-store spec disk core core' h over refl serves.stands.setup one serves.stands.stands all
+                (rounds-failed core core1 core' feed.closed drain' feed.opened.place disk.faults ended more done begun low serves);
             untaken = opens.2;
-            delivers = record { begins = (more, refl); from = runs.blames.from; admitted = serves.stands.admitted; read = serves.read; taken = serves.stands.sent; frames = serves.took };
+            delivers = record { begins = (more, refl); advances = runs.blames.advances; given = runs.blames.given; admitted = serves.stands.admitted; read = serves.read; taken = serves.stands.sent; frames = serves.took };
           };
           position = refl;
           cause = end-cause old new core' (AtRounds s h feed d) ended ending runs.ends cause;
@@ -164,7 +171,7 @@ at-core old new core spec disk from into status ready over state counts cause af
         into_named = tt;
         one = ready.one;
         store = refl;
-        holds = (holds-store spec disk core core h over refl ready.setup ready.one ready.stands (omega arith), preserves-at disk core over, refl);
+        holds = (holds-store spec disk core core h over refl ready.setup ready.one ready.stands (omega arith) (λ listed. absurd (let wrong : false ≡ true = listed in cc)), preserves-at disk core over, refl);
         cause = cause;
         after = after;
         text = inr refl;
@@ -188,12 +195,12 @@ drain-with s h f None = refl
 drain-with s h f (Some d) = refl
 
 pub opened-inlet : (old w1 w2 new : WorldState) (core core' : CoreState) (spec : StoreSpec) (disk : DiskState) (feed feed' : InletState) (from into path : List ℕ) (position place : ℕ) (ending : Ending)
-    → path ≡ from → position ≡ stored_now core → InletOpens old w1 (File path true) position feed place
-    → ServesInlet w1 w2 core core' spec disk (record { spec = File path true; opened = feed; closed = feed' }) into ending
+    → path ≡ from → position ≡ stored_now core → InletOpens old w1 (File path true 65536) position feed place
+    → ServesInlet w1 w2 core core' spec disk (record { spec = File path true 65536; opened = feed; closed = feed' }) into ending
     → ClosesInlet w2 new feed'
     → ServesCore old new core core' spec disk from into ending
 opened-inlet old w1 w2 new core core' spec disk feed feed' from into path position place ending named at opens (h, (drain, part)) closes =
-    let f : Feed = record { spec = File path true; opened = feed; closed = feed' } in
+    let f : Feed = record { spec = File path true 65536; opened = feed; closed = feed' } in
     let s : Shelf = shelf spec disk core' in
     let reached = with_drain s h f drain in
     let wide : Widens old w1 w2 new = record {
@@ -203,7 +210,7 @@ opened-inlet old w1 w2 new core core' spec disk feed feed' from into path positi
       outlet = (grind arith, grind arith);
       say = (grind arith, grind arith);
     } in
-    let begins : BeginsAt old.files h f = record { fresh = opens.2; stands = subst (λ p. StandsIn old.files (File path true) p feed) (at ∙ sym part.position) opens.4 } in
+    let begins : BeginsAt old.files h f = record { fresh = opens.2; stands = subst (λ p. StandsIn old.files (File path true 65536) p feed) (at ∙ sym part.position) opens.4 } in
     let inlet_is = feed-with s h f drain in
     let outlet_is = drain-with s h f drain in (
       reached,
@@ -211,7 +218,7 @@ opened-inlet old w1 w2 new core core' spec disk feed feed' from into path positi
         state = rw inlet_is (rw outlet_is (grind arith));
         inlet_later = grind arith;
         outlet_later = grind arith;
-        from_named = rw inlet_is (ap (λ p. File p true) named);
+        from_named = rw inlet_is (ap (λ p. File p true 65536) named);
         into_named = rw outlet_is part.named;
         one = part.one;
         store = store-with s h f drain;
@@ -280,6 +287,7 @@ nothing-opened old new from into status state later cause after = (
   record {
     ran = record {
       state = grind arith;
+      shelved = grind arith;
       counts = record { read = grind arith; store = later; inlet = grind arith; outlet = grind arith; say = grind arith };
       holds = tt;
       cause = cause;
@@ -305,11 +313,13 @@ opened-store old w1 w2 new spec disk disk' from into ending named opens (reached
     } in
     let cause = HasStatus-wider old w1 w2 new reached (status_in ending) wide part.cause in
     let files : w1.files ≡ old.files = grind arith in
+    let shelf_is : w1.shelf ≡ new.shelf = grind arith in
     let store_is = part.store in (
       reached,
       record {
         ran = record {
           state = rw store_is (grind arith);
+          shelved = rw store_is (subst (λ names. StandsShelved old.shelf spec disk names) shelf_is opens.2);
           counts = record { read = grind arith; store = grind arith; inlet = grind arith; outlet = grind arith; say = grind arith };
           holds = subst (λ fs. Holds fs reached) files part.holds;
           cause = cause;

@@ -1,5 +1,5 @@
 -- The devices of a run, and how far it came.
-use Rattle.std.specs.Prelude.{◌≡◌, true, ℕ, List, Option, Some, None}
+use Rattle.std.specs.Prelude.{◌≡◌, true, false, ℕ, List, Option, Some, None}
 use Rattle.sg_device.specs.Disk.{DiskState}
 use Rattle.sg_device.specs.Inlet.{InletState}
 use Rattle.sg_device.specs.Outlet.{OutletState}
@@ -83,8 +83,9 @@ IfServed (AtRounds s h f d) P = P s h f d
 IfServed reached P = Unit {0}
 
 -- The store is that of the source file, made where it is missing; the inlet is that file, to be read
--- to its end, and the outlet the file of the other path.
+-- to its end, lines of at most 65,536 bytes; and the outlet the file of the other path, made with mode
+-- 0600 where it is missing, not synced, and tried again at once.
 pub record AreNamed (from into : List ℕ) (reached : Reached) : Type 0 where
   pub store : IfUsed (store_of reached) (λ s. s.spec ≡ record { name = store_name_of from; create = true })
-  pub feed : IfUsed (feed_of reached) (λ f. f.spec ≡ File from true)
-  pub drain : IfUsed (drain_of reached) (λ d. d.spec ≡ FileTo into)
+  pub feed : IfUsed (feed_of reached) (λ f. f.spec ≡ File from true 65536)
+  pub drain : IfUsed (drain_of reached) (λ d. d.spec ≡ FileTo into false 384 0)

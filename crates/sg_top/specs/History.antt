@@ -1,9 +1,10 @@
 -- What happened at the flow core of a run: one event for each call on it.
 use Rattle.std.specs.Prelude.{◌≡◌, ◌⊎◌, ◌<◌, ℕ, zero, suc, true, List, [], ◌∷◌, ◌++◌, slice_get}
 use Rattle.std.specs.Option.{option_map_or}
-use Rattle.sg_device.specs.Disk.{DiskState, IsImage}
+use Rattle.sg_device.specs.Disk.{DiskState, IsImage, EachNow}
 use Rattle.sg_frame.specs.Records.{Record}
 use Rattle.sg_stable.specs.Cell.{cell_value}
+use Rattle.sg_stable.specs.Position.{IsPosition}
 use Rattle.sg_machine.specs.declared.event.Act.TheVariants.{Rewind, Look}
 use Rattle.sg_machine.specs.declared.event.Event.{Event}
 use Rattle.sg_machine.specs.declared.state.Inlet.{Inlet}
@@ -65,5 +66,7 @@ pub record IsHistory (h : History) (closed : DiskState) : Type 0 where
   pub legal : are_legal (start_of h) h.events ≡ true
   -- at each moment no more records were outstanding than the window has
   pub windows : (before later : List Event) → h.events ≡ before ++ later → WithinWindows (after_all (start_of h) before)
-  -- whatever a crash now leaves in the store is a position that has passed no record which the destination hasn't taken
+  -- whatever a crash now leaves in the store is a position store
+  pub positions : EachNow closed (λ bytes. IsPosition (cell_value bytes) bytes)
+  -- whose position has passed no record that the destination hasn't taken
   pub safe : (bytes : List ℕ) → IsImage closed bytes → Safe (start_of h) h.events nothing (images_of bytes)

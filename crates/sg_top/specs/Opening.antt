@@ -57,7 +57,7 @@ pub record BegunBy (old new : CoreState) (events : List Event) : Type 0 where
   pub setup : setup_of new ≡ path_setup
   pub later : (disk_of old).faults ≤ (disk_of new).faults
   pub one : length new.stores ≡ 1
-  pub calls : new.calls ≤ 1
+  pub calls : new.calls ≡ length events
   pub still : events ≡ [] → new ≡ old
 
 abbrev pub Begun : CoreState → CoreState → ℕ → Bool → Type 0

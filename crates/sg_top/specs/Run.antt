@@ -2,16 +2,17 @@
 use Rattle.std.specs.Prelude.{◌≡◌, ◌≤◌, ◌<◌, ◌+◌, ◌*◌, ◌^◌, ℕ, true, false, List, [], map, Option, Some, None}
 use Rattle.sg_device.specs.Disk.{content as store_content, WhereTold, Preserves, Rests}
 use Rattle.sg_device.specs.Faults.{Rose}
-use Rattle.sg_device.specs.Inlet.{InletState, IsFresh}
+use Rattle.sg_device.specs.Inlet.{InletState, IsFresh, Advances}
 use Rattle.sg_device.specs.Outlet.{IsNew}
-use Rattle.sg_outside.specs.World.{WorldState, Files, StandsIn}
+use Rattle.sg_outside.specs.World.{WorldState, Files, StandsIn, StandsShelved}
 use Rattle.sg_stable.specs.Position.{IsPosition, IsDamagedAt}
 use Rattle.sg_machine.specs.declared.event.Event.{Event}
 use Rattle.sg_lex.specs.declared.token.Token.{Token}
 use Rattle.sg_expand.specs.Expansion.{State}
-use Rattle.sg_expand.specs.One.{AreTold}
-use Rattle.sg_engine.specs.Delivery.{AreFirst, AreAll, TookFirst, TookAll, last_end}
+use Rattle.sg_machine.specs.Verdicts.{is_listed}
+use Rattle.sg_engine.specs.Delivery.{AreFirst, AreAll, TookFirst, TookAll, AreOf, IsDrained, last_end}
 use Rattle.sg_engine.specs.History.{admitted, admit_of, offer_count, settled_frames, IsTaken}
+use Rattle.sg_engine.specs.Serving.{WereRun}
 use Rattle.sg_top.specs.Devices.{Shelf, Feed, Drain, Reached, Nothing, AtStore, AtCore, AtInlet, AtRounds, store_of, feed_of, drain_of, used, IsUsedAnd, IfServed, ServedAnd, AreNamed}
 use Rattle.sg_top.specs.History.{History, IsHistory, IsPrelude, FollowsPrelude, state_of, opening_of, stored_of}
 use Rattle.sg_top.specs.Reading.{Configures}
@@ -21,10 +22,11 @@ use Rattle.sg_top.specs.declared.status.Device.TheVariants.{Store, Inlet, Dest}
 use Rattle.sg_top.specs.declared.status.Status.{Status}
 use Rattle.sg_top.specs.declared.status.Status.TheVariants.{Ok, Usage, BadConfig, ReadFault, OpenFault, Damage, SinkFault, DiskFault, InletFault, RoundsSpent, SayFault, NoMemory}
 
--- each record of the inlet was admitted and each frame taken, and the stored position is the end of the
--- last record, the opening place where there was none
+-- nothing of the file is left, each record of the inlet was admitted and each frame taken, and the stored
+-- position is the end of the last record, the opening place where there was none
 pub record IsClean (h : History) (feed : Feed) (drain : Drain) : Type 0 where
   pub ended : feed.closed.ended ≡ true
+  pub drained : IsDrained feed.closed.left
   pub all : AreAll feed.closed.from feed.closed.told h.done
   pub took : TookAll feed.closed.from feed.closed.told drain.closed.taken
   pub stored : stored_of (state_of h) ≡ last_end (opening_of (state_of h)) h.done
@@ -46,7 +48,7 @@ HasStatus old new reached (Damage n at) = (feed_of reached ≡ None) × (n ≡ 0
 HasStatus old new reached (SinkFault n) = ServedAnd reached (λ s h f d. (n ≡ 0) × Rose d.opened.faults d.closed.faults)
 HasStatus old new reached (DiskFault n) = (n ≡ 0) × IsUsedAnd (store_of reached) (λ s. Rose s.opened.faults s.closed.faults)
 HasStatus old new reached (InletFault n) = ServedAnd reached (λ s h f d. (n ≡ 0) × Rose f.opened.faults f.closed.faults)
-HasStatus old new reached RoundsSpent = ServedAnd reached (λ s h f d. 2 ^ 36 < most_rounds h.events f.closed)
+HasStatus old new reached RoundsSpent = ServedAnd reached (λ s h f d. WereRun h.events (2 ^ 36) × (2 ^ 36 < most_rounds h.events f.closed))
 HasStatus old new reached SayFault = Rose old.say_faults new.say_faults
 HasStatus old new reached NoMemory = Unit {0}
 
@@ -69,18 +71,21 @@ IsSpent status = ⊥
 pub record HoldsStore (store : Shelf) (h : History) : Type 0 where
   pub found : WhereTold (store_content store.opened) (IsPosition h.position)
   pub history : IsHistory h store.closed
+  -- where it failed, its count of faults rose
+  pub failed : is_listed 0 (state_of h).failed ≡ true → Rose store.opened.faults store.closed.faults
   pub later : store.opened.faults ≤ store.closed.faults
 
--- The inlet gives from the stored position on, from its beginning where the file is shorter.
+-- The inlet gives from the stored position on, from its beginning where no record of the file can have ended there.
 pub record BeginsAt (files : Option Files) (h : History) (feed : Feed) : Type 0 where
   pub fresh : IsFresh feed.opened
   pub stands : StandsIn files feed.spec h.position feed.opened
 
--- The records admitted are the first ones of the inlet, and the frames taken are those of the entries settled: the frames of first
+-- What the file had left was given, or is left. The records admitted are the first ones of the inlet, and the frames taken are those of the entries settled: the frames of first
 -- ones of its records.
 pub record Delivers (h : History) (feed : Feed) (drain : Drain) : Type 0 where
   pub begins : FollowsPrelude h.position feed.opened.place h.events
-  pub from : feed.closed.from ≡ feed.opened.from
+  pub advances : Advances feed.opened feed.closed
+  pub given : AreOf feed.opened.left feed.closed.told feed.closed.left
   pub admitted : admitted h.events ≡ map admit_of h.done
   pub read : AreFirst feed.closed.from feed.closed.told h.done
   pub taken : IsTaken drain.closed.taken (settled_frames (state_of h))
@@ -114,10 +119,16 @@ pub record KeepsCounts (old new : WorldState) : Type 0 where
   pub outlet : old.outlet_faults ≤ new.outlet_faults
   pub say : old.say_faults ≤ new.say_faults
 
+-- the store was there, or it was made; without it no store was
+abbrev pub Shelves : Option (List (List ℕ)) → Option Shelf → Option (List (List ℕ)) → Type 0
+Shelves before None after = after ≡ before
+Shelves before (Some s) after = StandsShelved before s.spec s.opened after
+
 -- a run that came so far
 pub record RanWith (old new : WorldState) (reached : Reached) (status : Status) : Type 0 where
   -- these devices were opened and closed, and no others; no file changed
-  pub state : new ≡ record old { stores = used old.stores (store_of reached); inlets = used old.inlets (feed_of reached); outlets = used old.outlets (drain_of reached); said = new.said; read_faults = new.read_faults; store_faults = new.store_faults; inlet_faults = new.inlet_faults; outlet_faults = new.outlet_faults; say_faults = new.say_faults }
+  pub state : new ≡ record old { stores = used old.stores (store_of reached); inlets = used old.inlets (feed_of reached); outlets = used old.outlets (drain_of reached); shelf = new.shelf; said = new.said; unread = new.unread; read_faults = new.read_faults; store_faults = new.store_faults; inlet_faults = new.inlet_faults; outlet_faults = new.outlet_faults; say_faults = new.say_faults }
+  pub shelved : Shelves old.shelf (store_of reached) new.shelf
   pub counts : KeepsCounts old new
   pub holds : Holds old.files reached
   pub cause : HasStatus old new reached status
@@ -180,8 +191,8 @@ pub record RanFor (old new : WorldState) (words : List (List ℕ)) (reached : Re
   pub ran : RanWith old new reached status
   pub configured : (file : List ℕ) → IsRun words file → AreConfigured old file reached
   pub said : SaysStatus old new words reached status
-  -- words of a run, a text that is expanded to a configuration, all of whose files are told, and no trouble give success, where memory is there
-  pub complete : (file : List ℕ) (last : State) (tokens : List Token) (from into : List ℕ) → IsRun words file → Configures old file last tokens from into → AreTold old.files last.names → IsUntroubled old new reached → IsComplete status
+  -- words of a run, a text that is expanded to a configuration, files that are told, and no trouble give success, where memory is there
+  pub complete : (file : List ℕ) (last : State) (tokens : List Token) (from into : List ℕ) (files : Files) → IsRun words file → Configures old file last tokens from into → old.files ≡ Some files → IsUntroubled old new reached → IsComplete status
 
 abbrev pub Ran : WorldState → WorldState → List (List ℕ) → Status → Type 0
 Ran old new words status = (reached : Reached) × RanFor old new words reached status

@@ -1,5 +1,5 @@
 -- What is said at the end of a run.
-use Rattle.std.specs.Prelude.{◌≡◌, ◌⊎◌, ◌≤◌, ℕ, true, List, [], ◌∷◌, ◌++◌, codes}
+use Rattle.std.specs.Prelude.{◌≡◌, ◌⊎◌, ◌≤◌, ℕ, true, List, [], ◌∷◌, ◌++◌, codes, Some}
 use Rattle.std.specs.Option.{option_map}
 use Rattle.std.specs.Fmt.{decimal}
 use Rattle.sg_device.specs.Faults.{Rose}
@@ -55,6 +55,7 @@ shown_of status = record {
   drivers = 0 ∷ [];
   files = true ∷ [];
   bad_frames = 0 ∷ [];
+  held = [];
   sinks = failed_sinks status;
   stores = failed_stores status;
   inlets = failed_inlets status;
@@ -101,7 +102,7 @@ SaidFault old new words fault =
     (file : List ℕ) × (IsRun words file × ((names : List (List ℕ)) × (IsFaultOf old file fault names × SaidText old new (fault_text_of fault names))))
 
 abbrev pub SaidUnread : WorldState → WorldState → List (List ℕ) → Type 0
-SaidUnread old new words = (file : List ℕ) × (IsRun words file × ((name : List ℕ) × (IsUnreadName old file name × SaidText old new (unread_text_of name))))
+SaidUnread old new words = (file : List ℕ) × (IsRun words file × ((name : List ℕ) × (IsUnreadName old file name × (new.unread ≡ Some name) × SaidText old new (unread_text_of name))))
 
 -- the text of the status was said, and nothing else; of what was said at a fault of saying and without memory nothing is claimed
 abbrev pub SaysStatus : WorldState → WorldState → List (List ℕ) → Reached → Status → Type 0

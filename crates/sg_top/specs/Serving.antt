@@ -1,5 +1,5 @@
 -- The parts of a run that open its devices.
-use Rattle.std.specs.Prelude.{◌≡◌, ◌≤◌, ℕ, true, List, [], ◌∷◌, length, Option, Some, None}
+use Rattle.std.specs.Prelude.{◌≡◌, ◌≤◌, ℕ, true, false, List, [], ◌∷◌, length, Option, Some, None}
 use Rattle.sg_device.specs.Disk.{DiskState}
 use Rattle.sg_outside.specs.World.{WorldState}
 use Rattle.sg_outside.specs.declared.request.InletSpec.TheVariants.{File as FileFrom}
@@ -31,7 +31,7 @@ HoldsFrom s h f (Some d) = HoldsRounds s h f d
 pub record ServesInletWith (old new : WorldState) (core core' : CoreState) (spec : StoreSpec) (disk : DiskState) (feed : Feed) (into : List ℕ) (ending : Ending) (h : History) (drain : Option Drain) : Type 0 where
   pub state : new ≡ record old { outlets = used old.outlets drain; outlet_faults = new.outlet_faults }
   pub counts : old.outlet_faults ≤ new.outlet_faults
-  pub named : IfUsed drain (λ d. d.spec ≡ File into)
+  pub named : IfUsed drain (λ d. d.spec ≡ File into false 384 0)
   pub one : length core'.stores ≡ 1
   pub holds : HoldsFrom (shelf spec disk core') h feed drain
   pub position : h.position ≡ stored_now core
@@ -48,8 +48,8 @@ pub record ServesCoreWith (old new : WorldState) (core core' : CoreState) (spec 
   pub state : new ≡ record old { inlets = used old.inlets (feed_of reached); outlets = used old.outlets (drain_of reached); inlet_faults = new.inlet_faults; outlet_faults = new.outlet_faults }
   pub inlet_later : old.inlet_faults ≤ new.inlet_faults
   pub outlet_later : old.outlet_faults ≤ new.outlet_faults
-  pub from_named : IfUsed (feed_of reached) (λ f. f.spec ≡ FileFrom from true)
-  pub into_named : IfUsed (drain_of reached) (λ d. d.spec ≡ File into)
+  pub from_named : IfUsed (feed_of reached) (λ f. f.spec ≡ FileFrom from true 65536)
+  pub into_named : IfUsed (drain_of reached) (λ d. d.spec ≡ File into false 384 0)
   pub one : length core'.stores ≡ 1
   pub store : store_of reached ≡ Some (shelf spec disk core')
   pub holds : Holds old.files reached
@@ -65,8 +65,8 @@ pub record ServesStoreWith (old new : WorldState) (spec : StoreSpec) (disk disk'
   pub state : new ≡ record old { inlets = used old.inlets (feed_of reached); outlets = used old.outlets (drain_of reached); inlet_faults = new.inlet_faults; outlet_faults = new.outlet_faults }
   pub inlet_later : old.inlet_faults ≤ new.inlet_faults
   pub outlet_later : old.outlet_faults ≤ new.outlet_faults
-  pub from_named : IfUsed (feed_of reached) (λ f. f.spec ≡ FileFrom from true)
-  pub into_named : IfUsed (drain_of reached) (λ d. d.spec ≡ File into)
+  pub from_named : IfUsed (feed_of reached) (λ f. f.spec ≡ FileFrom from true 65536)
+  pub into_named : IfUsed (drain_of reached) (λ d. d.spec ≡ File into false 384 0)
   pub store : store_of reached ≡ Some (record { spec = spec; opened = disk; closed = disk' })
   pub holds : Holds old.files reached
   pub cause : HasStatus old new reached (status_in ending)
@@ -103,18 +103,18 @@ IsMainUnread file (Reported status text) = ⊥
 
 -- what an ending says of the configuration file of this name: what is wrong with it, or which file couldn't be read, or else the
 -- text of a status behind it
-abbrev pub EndsFile : WorldState → List ℕ → Reached → Ending → Type 0
-EndsFile old file reached (Early status) = IsAfterConfig status × HasText reached (Early status)
-EndsFile old file reached (Refused fault names) = IsFaultOf old file fault names
-EndsFile old file reached (Unread name) = IsUnreadName old file name
-EndsFile old file reached (Reported status text) = IsAfterConfig status × HasText reached (Reported status text)
+abbrev pub EndsFile : WorldState → WorldState → List ℕ → Reached → Ending → Type 0
+EndsFile old new file reached (Early status) = IsAfterConfig status × HasText reached (Early status)
+EndsFile old new file reached (Refused fault names) = IsFaultOf old file fault names
+EndsFile old new file reached (Unread name) = IsUnreadName old file name × (new.unread ≡ Some name)
+EndsFile old new file reached (Reported status text) = IsAfterConfig status × HasText reached (Reported status text)
 
 -- a run over the configuration file of this name, of which nothing was said yet
 pub record RunsFileWith (old new : WorldState) (file : List ℕ) (ending : Ending) (reached : Reached) : Type 0 where
   pub ran : RanWith old new reached (status_in ending)
   pub configured : AreConfigured old file reached
   pub said : new.said ≡ old.said
-  pub ends : EndsFile old file reached ending
+  pub ends : EndsFile old new file reached ending
   pub judged : Judges old file (status_in ending)
 
 abbrev pub RunsFile : WorldState → WorldState → List ℕ → Ending → Type 0

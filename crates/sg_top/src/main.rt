@@ -3,8 +3,6 @@
 
 mod config;
 mod ending;
-mod machine;
-mod memory;
 mod opening;
 mod rounds;
 #[cfg(test)]
@@ -16,17 +14,15 @@ mod status;
 mod store;
 mod top;
 mod words;
-mod world;
 
-use machine::Machine;
 use sg_device::Name;
+use sg_world::HostMachine;
 pub use status::{Device, Status};
 use std::alloc::{AllocError, Global};
 use std::env;
 use std::io::ErrorKind;
 use std::process::ExitCode;
 pub use top::daemon;
-pub use world::World;
 
 /// The words of the command line, without the program's name. Where one of them isn't UTF-8 there
 /// are none.
@@ -43,10 +39,16 @@ fn read_words(alloc: Global, rt: &HostRuntime) -> Result<Vec<Name>, AllocError> 
     Ok(words)
 }
 
+/// Does what the words of the command line ask for, on the machine's files and sockets.
+fn run_words(alloc: Global, rt: HostRuntime) -> Result<Status, AllocError> {
+    let words = read_words(alloc, &rt)?;
+    let mut machine = HostMachine::new(rt)?;
+    Ok(daemon(alloc, &words, &mut machine))
+}
+
 fn main(rt: HostRuntime) -> ExitCode {
-    let alloc = rt.alloc();
-    let status = match read_words(alloc, &rt) {
-        Ok(words) => daemon(alloc, &words, &mut Machine::new(rt)),
+    let status = match run_words(rt.alloc(), rt) {
+        Ok(status) => status,
         Err(_) => Status::NoMemory,
     };
     ExitCode::from(status.code())

@@ -80,6 +80,7 @@ fn shown(alloc: Global, status: Status) -> Result<Shown, NoMemory>
         drivers: one(alloc, 0)?,
         files: one(alloc, true)?,
         bad_frames: one(alloc, 0)?,
+        held: Seq::empty(alloc),
         sinks: sinks(alloc, status)?,
         stores: stores(alloc, status)?,
         inlets: inlets(alloc, status)?,

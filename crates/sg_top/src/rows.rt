@@ -1,8 +1,10 @@
 // Whole runs over the machine in memory.
 use crate::daemon;
-use crate::memory::MemoryMachine;
-use sg_device::{Disk, Name, StoreSpec};
-use sg_memory::{MemoryFile, MemoryWorld, Pace, Plan, WorldPlans};
+use sg_device::{Disk, Name};
+use sg_memory::{MemoryFile, MemoryWorld, OutletPlan, Pace};
+use sg_memory_disk::{DiskPlan, Plan};
+use sg_outside::StoreSpec;
+use sg_world::MemoryMachine;
 use std::alloc::{AllocError, Global};
 use std::test::Fail;
 
@@ -21,6 +23,7 @@ one~two;0;;0;one~;source 0 records 1 bad-frames 0 position 4~D 1 E 0~status 0~
 one~two~;100;;0;one~two~;source 0 records 2 bad-frames 0 position 8~D 2 E 0~status 0~
 one~two~;4;;0;two~;source 0 records 1 bad-frames 0 position 8~D 1 E 0~status 0~
 one~two~;8;;0;;source 0 records 0 bad-frames 0 position 8~D 0 E 0~status 0~
+one~two~;6;;0;one~two~;source 0 records 2 bad-frames 0 position 8~D 2 E 0~status 0~
 a\r~~b;0;;0;a~;source 0 records 2 bad-frames 0 position 4~D 1 E 0~status 0~
 one~;x;;5;;store 0 damaged at 40~
 one~;0;store 0;4;;cannot open store 0~
@@ -124,11 +127,17 @@ fn fail(alloc: Global, fails: &str, world: &mut MemoryWorld) -> Result<(), Alloc
     let plan = plan(alloc, call)?;
     match kind {
         "store" => world.stores.opens = plan,
-        "disk" => world.stores.plans.push_back(plan)?,
+        "disk" => world
+            .stores
+            .plans
+            .push_back(DiskPlan::failing(alloc, plan))?,
         "inlet" => world.plans.inlet_opens = plan,
         "pull" => world.plans.inlets.push_back(plan)?,
         "outlet" => world.plans.outlet_opens = plan,
-        "send" => world.plans.outlets.push_back(plan)?,
+        "send" => world
+            .plans
+            .outlets
+            .push_back(OutletPlan::failing(alloc, plan))?,
         _ => world.plans.says = plan,
     }
     Ok(())
@@ -216,9 +225,7 @@ fn taken(alloc: Global, world: &MemoryWorld) -> Result<Vec<u8>, AllocError> {
     if let Some(cell) = world.closed_outlets()
         && let Some(outlet) = &cell.closed
     {
-        for frame in outlet.frames() {
-            bytes.extend_from_slice(frame)?;
-        }
+        bytes.extend_from_slice(outlet.frames().bytes())?;
     }
     Ok(bytes)
 }

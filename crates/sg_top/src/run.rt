@@ -1,11 +1,10 @@
 // Reads the configuration and moves the records.
-ghost use Rattle.std.specs.Prelude.{◌≡◌, ◌∷◌, [], List, Some, IfOk};
-ghost use Rattle.sg_outside.specs.World.{WorldState, OnlyReads, IsContent, content};
+ghost use Rattle.std.specs.Prelude.{◌≡◌, ◌∷◌, [], List, IfOk};
+ghost use Rattle.sg_outside.specs.World.{WorldState, OnlyReads, IsContent};
 ghost use Rattle.sg_expand.specs.Expansion.{State, Goes};
 ghost use Rattle.sg_top.specs.Reading.{ComesTo};
 ghost use Rattle.sg_top.specs.Serving.{IsMainRefused, IsMainUnread, RunsFile};
 
-use crate::World;
 use crate::config::read_config;
 use crate::ending::Ending;
 use crate::serve::serve;
@@ -14,6 +13,7 @@ use sg_device::{FileRefusal, Name, NoMemory};
 use sg_expand::{ExpandRefusal, expand};
 use sg_lex::{ConfigFault, ConfigKind, Token};
 use sg_list::Seq;
+use sg_world::World;
 use std::alloc::Global;
 
 fn names_of(alloc: Global, file: &[u8]) -> Result<Seq<Name>, NoMemory>
@@ -53,7 +53,7 @@ fn leave_unread(alloc: Global, file: &[u8]) -> Ending
 
 /// Moves the records as these tokens of the expanded configuration say.
 fn run_tokens<W: World>(alloc: Global, file: &[u8], tokens: &[Token], world: &mut W) -> Ending
-    ensures { (first : WorldState) (last : State) → OnlyReads first (W.state world.old) → ComesTo first file.now (Goes last) → last.out.tokens ≡ Some tokens.now
+    ensures { (first : WorldState) (last : State) → OnlyReads first (W.state world.old) → ComesTo first file.now (Goes last (W.state world.old)) → tokens.now ≡ last.out
         → RunsFile first (W.state world.new) file.now result }
 {
     match read_config(tokens) {
@@ -64,7 +64,7 @@ fn run_tokens<W: World>(alloc: Global, file: &[u8], tokens: &[Token], world: &mu
 
 /// Expands the main file of this text, and moves the records as its tokens say.
 fn run_text<W: World>(alloc: Global, file: &[u8], text: &[u8], world: &mut W) -> Ending
-    ensures { (first : WorldState) → OnlyReads first (W.state world.old) → IsContent (content first.files file.now) text.now
+    ensures { (first : WorldState) → OnlyReads first (W.state world.old) → IsContent first.files file.now text.now
         → RunsFile first (W.state world.new) file.now result }
 {
     let Ok(name) = Name::new(alloc, file) else {

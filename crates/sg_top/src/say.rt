@@ -3,13 +3,13 @@ ghost use Rattle.std.specs.Prelude.{◌≡◌, IfOk, ◌++◌};
 ghost use Rattle.sg_report.specs.Fault.{fault_text_of};
 ghost use Rattle.sg_top.specs.Said.{text_of, unread_text_of, status_in, text_in, Concludes};
 
-use crate::World;
 use crate::ending::Ending;
 use crate::status::{Device, Status};
 use sg_device::{Name, NoMemory, SayRefusal};
 use sg_lex::ConfigFault;
 use sg_list::Seq;
 use sg_report::fault_text;
+use sg_world::World;
 use std::alloc::{AllocError, Global};
 
 const USAGE: &[u8] =

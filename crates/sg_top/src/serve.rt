@@ -7,15 +7,22 @@ ghost use Rattle.sg_outside.specs.declared.request.StoreSpec.{StoreSpec};
 ghost use Rattle.sg_top.specs.Opening.{IsReady, IsOver, Begun};
 ghost use Rattle.sg_top.specs.Serving.{ServesInlet, ServesCore, ServesStore, Serves};
 
-use crate::World;
 use crate::ending::Ending;
 use crate::opening::{give_back, open_core, refused};
 use crate::rounds::run_rounds;
 use crate::status::{Device, Status};
 use crate::store::position_store;
 use sg_core::{Core, Stored};
-use sg_device::{Disk, InletSpec, Name, OpenRefusal, OutletSpec};
+use sg_device::{Disk, Name, OpenRefusal};
+use sg_outside::{InletSpec, OutletSpec};
+use sg_world::World;
 use std::alloc::Global;
+
+/// The bytes of the longest text of a record: log-msg-size(), by default.
+const LIMIT: u32 = 65_536;
+
+/// The mode of a destination's file that is made: perm(), by default.
+const MODE: u16 = 0o600;
 
 /// Lets the source begin anew where the inlet gives from place 0 and another position is stored.
 /// `false` where the store fails.
@@ -55,7 +62,13 @@ fn serve_inlet<W: World>(
     let Ok(path) = Name::new(alloc, into) else {
         return Ending::Early(Status::NoMemory);
     };
-    let mut drain = match world.open_outlet(alloc, &OutletSpec::File { path }) {
+    let spec = OutletSpec::File {
+        path,
+        fsync: false,
+        mode: MODE,
+        reopen: 0,
+    };
+    let mut drain = match world.open_outlet(alloc, &spec) {
         Ok(drain) => drain,
         Err(OpenRefusal::Failed) => return Ending::Early(Status::OpenFault(Device::Dest(0))),
         Err(OpenRefusal::NoMemory) => return Ending::Early(Status::NoMemory),
@@ -79,7 +92,11 @@ fn serve_core<W: World>(
     let Ok(path) = Name::new(alloc, from) else {
         return Ending::Early(Status::NoMemory);
     };
-    let spec = InletSpec::File { path, once: true };
+    let spec = InletSpec::File {
+        path,
+        once: true,
+        limit: LIMIT,
+    };
     let (mut feed, place) = match world.open_inlet(alloc, &spec, core.position(0)) {
         Ok(opened) => opened,
         Err(OpenRefusal::Failed) => return Ending::Early(Status::OpenFault(Device::Inlet(0))),

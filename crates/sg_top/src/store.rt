@@ -2,7 +2,8 @@
 ghost use Rattle.std.specs.Prelude.{◌≡◌, ◌<◌, ◌++◌, true, IfOk, OnOk};
 ghost use Rattle.sg_top.specs.StoreName.{is_plain_of, hex_digit_of, escaped_byte, escaped, store_name_of};
 
-use sg_device::{Name, NoMemory, StoreSpec};
+use sg_device::{Name, NoMemory};
+use sg_outside::StoreSpec;
 use std::alloc::Global;
 
 fn is_plain(byte: u8) -> bool

@@ -4,13 +4,13 @@ ghost use Rattle.sg_top.specs.Run.{Ran};
 ghost use Rattle.sg_top.specs.Words.{IsRun, JudgesWords};
 ghost use Rattle.sg_top.specs.Verdict.{Judges};
 
-use crate::World;
 use crate::ending::Ending;
 use crate::run::run;
 use crate::say::conclude;
 use crate::status::Status;
 use crate::words::run_file;
 use sg_device::Name;
+use sg_world::World;
 use std::alloc::Global;
 
 /// Does what the words of the command line ask for, without the program's name, and answers how it

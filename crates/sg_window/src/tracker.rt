@@ -124,3 +124,10 @@ fn trim(mark: &mut u64, ring: &mut VecDeque<Record>)
         ring.pop_front();
     }
 }
+
+// A tracker may be handed to another thread.
+fn is_send<T: Send>() {}
+
+fn tracker_is_send() {
+    is_send::<Tracker>();
+}

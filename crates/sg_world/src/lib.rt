@@ -2,6 +2,10 @@
 //! standard output, and a machine in memory.
 #![tactic(auto)]
 
+mod host;
+mod memory;
 mod world;
 
+pub use host::HostMachine;
+pub use memory::MemoryMachine;
 pub use world::{LONGEST, World};

@@ -6,6 +6,7 @@ use sg_device::{FileRefusal, Name, NoMemory};
 use sg_expand::{ExpandRefusal, Expanded, Files, expand};
 use sg_lex::{ConfigFault, Token, TokenKind};
 use sg_list::Seq;
+use sg_outside::Machine;
 use std::alloc::{AllocError, Global};
 use std::test::Fail;
 
@@ -14,26 +15,36 @@ use std::test::Fail;
 struct Texts {
     /// How many readings failed.
     faults: u64,
+    /// The file that wasn't read the last time.
+    unread: Option<Name>,
 }
 
-impl Files for Texts {
+impl Machine for Texts {
     ghost use Rattle.std.specs.Prelude.{None, []};
 
     ghost state = { λ texts. record {
       files = None;
+      unread = texts.unread;
       inlets = record { opened = []; closed = [] };
       outlets = record { opened = []; closed = [] };
       stores = record { opened = []; closed = [] };
+      paths = record { opened = []; closed = [] };
+      shelf = None;
       said = None;
       read_faults = texts.faults;
       inlet_faults = 0;
       outlet_faults = 0;
       store_faults = 0;
+      paths_faults = 0;
       say_faults = 0;
+      build_faults = 0;
     } };
+}
 
+impl Files for Texts {
     fn read(&mut self, alloc: Global, name: &[u8]) -> Result<Vec<u8>, FileRefusal> {
         if name == b"broken".as_slice() {
+            self.unread = Some(Name::new(alloc, name)?);
             self.faults = self.faults.saturating_add(1);
             return Err(FileRefusal::Failed);
         }
@@ -311,6 +322,7 @@ const WHOLE: &str =
 
 /// What the running total counts, behind the room that is left for it. The text begins on line 2.
 const TOTALS: &str = r#"4: abc => abc
+5: abc => abc
 3: abc => TooLong 0 c:2
 4: a b => a b
 3: a~b => TooLong 0 c:3
@@ -322,9 +334,11 @@ const TOTALS: &str = r#"4: abc => abc
 2: .. => TooLong 0 c:2
 6: @define W vw `W` => vw
 5: @define W vw~`W` => TooLong 0 c:2
+7: @define W vw `W` => vw
 8: @define W vw "`W``W`" => "vwvw"
 7: @define W vw~"`W``W`" => TooLong 0 c:3
 4: @define W abc =>
+5: @define W abc =>
 3: ~@define W~abc => TooLong 0 c:3
 9: @define W abc @define X "`W`x" =>
 8: @define W abc~@define X "`W`x" => TooLong 0 c:3
@@ -336,22 +350,48 @@ const TOTALS: &str = r#"4: abc => abc
 7: block root a() {b c;};~a() => TooLong 0 c:3
 4: block root abc() {}; abc() =>
 3: block root abc() {};~abc() => TooLong 0 c:3
+12: block root a() {@module x}; a() =>
 11: block root a() {@module x}; a() =>
 10: block root a() {@module x};~a() => TooLong 0 c:3
-5: block root a(k()) {}; a(k(bc)) =>
-4: block root a(k()) {};~a(k(~bc)) => TooLong 0 c:3
-5: block root a(k(bc)) {}; a() =>
-4: block root a(k(bc)) {};~a() => TooLong 0 c:3
-24: block root a(k()) {}; block root b(x()) {a(k(`x`))}; b(x(cd)) =>
-23: block root a(k()) {}; block root b(x()) {~a(k(`x`))};~b(x(cd)) => TooLong 0 c:3
-18: block root a(k()) {}; block root b(x()) {~a(k(`x`))};~b(x(cd)) => TooLong 0 c:4
-15: block root a(k()) {}; block root b(x()) {~a(k(`x`))};~b(x(cd)) => TooLong 0 c:4
-2: block root a(k()) {};~a(k(bc~`NO`)) => UnknownVariable 0 c:4
-1: block root a(k()) {};~a(k(bc~`NO`)) => TooLong 0 c:3
+9: block root a(k()) {}; a(k()) =>
+8: block root a(k()) {}; a(k()) =>
+7: block root a(k()) {};~a(k()) => TooLong 0 c:3
+17: block root a(k(@module x)) {}; a() =>
+16: block root a(k(@module x)) {};~a() => TooLong 0 c:3
+11: block root a(k(bc)) {}; a(k(@module x)) =>
+10: block root a(k(bc)) {};~a(k(@module x)) => TooLong 0 c:3
+12: block root a(k()) {}; a(k(bc)) =>
+11: block root a(k()) {}; a(k(bc)) =>
+10: block root a(k()) {};~a(k(~bc)) => TooLong 0 c:4
+8: block root a(k()) {};~a(k(~bc)) => TooLong 0 c:4
+7: block root a(k()) {};~a(k(~bc)) => TooLong 0 c:3
+14: block root a(k(bc)) {}; a() =>
+13: block root a(~k(bc)) {};~a() => TooLong 0 c:3
+11: block root a(~k(bc)) {};~a() => TooLong 0 c:3
+10: block root a(~k(bc)) {};~a() => TooLong 0 c:4
+10: block root a(k()) {}; a(k(bcd) k(e)) =>
+9: block root a(k()) {};~a(k(bcd)~k(e)) => TooLong 0 c:4
+16: block root a(k()) {`k`}; a(k(bc)) => bc
+15: block root a(k()) {`k`};~a(k(~bc)) => TooLong 0 c:4
+12: block root a(k()) {`k`};~a(k(~bc)) => TooLong 0 c:4
+16: @define W vw block root a(k()) {}; a(k("`W``W`")) =>
+15: @define W vw block root a(k()) {};~a(k(~"`W``W`")) => TooLong 0 c:4
+17: @define W vw block root a(k()) {}; a(k("" `W` 1)) =>
+14: ~@define W vw block root a(k()) {};~a(k("" `W`)) => TooLong 0 c:3
+11: block root a(k()) {}; a(k(@define W bc)) =>
+10: block root a(k()) {};~a(k(~@define W bc)) => TooLong 0 c:4
+36: block root a(k()) {}; block root b(x()) {a(k(`x`))}; b(x(cd)) =>
+35: block root a(k()) {}; block root b(x()) {~a(k(`x`))};~b(x(~cd)) => TooLong 0 c:5
+32: block root a(k()) {}; block root b(x()) {~a(k(`x`))};~b(x(~cd)) => TooLong 0 c:3
+24: block root a(k()) {}; block root b(x()) {~a(k(`x`))};~b(x(~cd)) => TooLong 0 c:5
+21: block root a(k()) {}; block root b(x()) {~a(k(`x`))};~b(x(~cd)) => TooLong 0 c:4
+11: block root a(k()) {};~a(k(bc~`NO`)) => UnknownVariable 0 c:4
+10: block root a(k()) {};~a(k(bc~`NO`)) => TooLong 0 c:3
 0: block root a(k()) {};~a() => MissingArgument 0 c:3
 3: @include "e" =>
 2: ~@include~"e" => TooLong 0 c:3
 1: ~@include~"e" => TooLong 0 c:3
+35: @include "out.conf" => file ( "out" )
 34: @include "out.conf" => file ( "out" )
 33: @include "out.conf" => TooLong 1 out.conf:1
 21: @include "out.conf" => TooLong 1 out.conf:1
@@ -369,13 +409,16 @@ const TOTALS: &str = r#"4: abc => abc
 12: @include "bad" => TooLong 0 c:2
 "#;
 
-/// Values over the limit. The text begins on line 2.
-const LONG: &str = r#"block root a(k()) {};~a(k(~^)) => TooLong 0 c:3
-block root a(k()) {};~a(k(^~`NO`)) => UnknownVariable 0 c:4
-block root a(k()) {};~a(k(~"^")) => TooLong 0 c:3
+/// Values over the limit, behind a variable of 999 bytes. The text begins on line 2.
+const LONG: &str = r#"block root a(k()) {};~a(k(~^)) => TooLong 0 c:1
+block root a(k()) {};~a(k(^~`NO`)) => TooLong 0 c:1
+block root a(k()) {};~a(k(~"^")) => TooLong 0 c:4
 block root a(k()) {};~a(k("^`NO`")) => UnknownVariable 0 c:3
-block root a(k()) {};~a(k(^~"^" ^; a())) => MissingArgument 0 c:4
-block root a(k(^)) {};~a() => TooLong 0 c:3
+block root a(k()) {};~a(k(^~"^" ^; a())) => TooLong 0 c:1
+block root a(k(^)) {};~a() => TooLong 0 c:1
+block root a(k({~a()})) {`k`};~a() => TooLong 0 c:3
+block root a(k({~a()} `V`)) {`k`};~a() => TooLong 0 c:3
+block root a(k(`V` {~a()})) {`k`};~a() => TooLong 0 c:1
 ^ => TooLong 0 c:1
 ~"^" => TooLong 0 c:3
 "^~`NO`" => UnknownVariable 0 c:2
@@ -383,6 +426,21 @@ block root a(k(^)) {};~a() => TooLong 0 c:3
 @define W~"^`NO`" => UnknownVariable 0 c:3
 @include "^" => TooLong 0 c:2
 @include~"^`NO`" => UnknownVariable 0 c:3
+"#;
+
+/// Texts that are made, by their names. From the line 18 on of those that double the whole is too long.
+/// The files of a hundred lines include the next of 14 each: 12 files of 1,505 bytes with their names
+/// come first, five more of them with a hundred files of 2,005 each follow, and ten more of these. The
+/// file after 65,536, with the main file, isn't asked for, and a main file that is too long isn't
+/// looked at.
+const MADE: &str = r#"doubles => TooLong 0 c:18
+hundreds => TooLong 50517 h12:11
+files => TooLong 0 c:65537
+limit => a ;
+beyond => TooLong 0 c:1
+nested => TooLong 0 c:2
+pairs => TooLong 0 c:3
+defaults => TooLong 0 c:3
 "#;
 
 /// The places at which tokens were written, and the files' names.
@@ -446,6 +504,74 @@ fn text_behind(alloc: Global, head: &str, tail: &str) -> Result<Vec<u8>, NoMemor
     let mut text = Vec::new(alloc);
     push_text(&mut text, head)?;
     push_text(&mut text, tail)?;
+    Ok(text)
+}
+
+/// A definition on each line that names the one before twice.
+fn push_doubles(text: &mut Vec<u8>, alloc: Global) -> Result<(), NoMemory> {
+    text.extend_from_slice(b"@define a0 \"0123456789\"\n")?;
+    for k in 1..21u32 {
+        let line = format!(in alloc; "@define a{} \"`a{}``a{}`\"\n", k, k - 1, k - 1)?;
+        text.extend_from_slice(line.as_bytes())?;
+    }
+    Ok(())
+}
+
+/// Blocks that use the one before twice, 40 deep.
+fn push_pairs(text: &mut Vec<u8>, alloc: Global) -> Result<(), NoMemory> {
+    text.extend_from_slice(b"block root b0(){};\n")?;
+    for k in 1..41u32 {
+        let line = format!(in alloc; "block root b{}() {{b{}(); b{}();}};", k, k - 1, k - 1)?;
+        text.extend_from_slice(line.as_bytes())?;
+    }
+    text.extend_from_slice(b"\nb40();")?;
+    Ok(())
+}
+
+/// The same bytes again and again.
+fn push_times(text: &mut Vec<u8>, count: usize, bytes: &[u8]) -> Result<(), NoMemory> {
+    for _ in 0..count {
+        text.extend_from_slice(bytes)?;
+    }
+    Ok(())
+}
+
+/// Uses in the values of uses, 1,000 deep, over a variable of 10,000 bytes.
+fn push_nested(text: &mut Vec<u8>) -> Result<(), NoMemory> {
+    push_definition(text, b'V', 10_000)?;
+    text.extend_from_slice(b"block root a(k()) {`k`};\n")?;
+    push_times(text, 1_000, b"{a(k(")?;
+    text.extend_from_slice(b"`V`")?;
+    push_times(text, 1_000, b"))}")?;
+    Ok(())
+}
+
+/// The text of a name.
+fn made_text(alloc: Global, name: &str) -> Result<Vec<u8>, NoMemory> {
+    let mut text = Vec::new(alloc);
+    text.extend_from_slice(b"@version: 4.2\n")?;
+    match name {
+        "doubles" => push_doubles(&mut text, alloc)?,
+        "hundreds" => text.extend_from_slice(b"@include \"h01\"")?,
+        "files" => {
+            push_times(&mut text, 65_535, b"@include\"e\"\n")?;
+            text.extend_from_slice(b"@include\"*\"")?;
+        }
+        "limit" => {
+            text.extend_from_slice(b"a;#")?;
+            text.resize(1_048_576, b'$')?;
+        }
+        "beyond" => text.resize(1_048_577, b'$')?,
+        "nested" => push_nested(&mut text)?,
+        "pairs" => push_pairs(&mut text, alloc)?,
+        "defaults" => {
+            text.extend_from_slice(b"block root a(")?;
+            push_times(&mut text, 1_000, b"k(@module x)")?;
+            text.extend_from_slice(b") {};\n")?;
+            push_times(&mut text, 100, b"{a();}")?;
+        }
+        _ => {}
+    }
     Ok(text)
 }
 
@@ -513,7 +639,10 @@ fn unread(alloc: Global, name: &Name, faults: u64) -> Result<Vec<u8>, NoMemory> 
 }
 
 fn answer(alloc: Global, text: &[u8], with_places: bool) -> Result<Vec<u8>, NoMemory> {
-    let mut files = Texts { faults: 0 };
+    let mut files = Texts {
+        faults: 0,
+        unread: None,
+    };
     match expand(alloc, Name::new(alloc, b"c")?, text, &mut files) {
         Ok(expanded) if with_places => placed(alloc, &expanded),
         Ok(expanded) => told(alloc, &expanded),
@@ -552,6 +681,18 @@ fn wrong_behind(
     Ok(wrong)
 }
 
+/// The rows with another answer, where each text is made.
+fn wrong_made(alloc: Global, rows: &str) -> Result<Vec<u8>, NoMemory> {
+    let mut wrong = Vec::new(alloc);
+    for row in rows.lines() {
+        if let Some((name, want)) = row.split_once(" =>") {
+            let shown = answer(alloc, &made_text(alloc, name)?, false)?;
+            compare(&mut wrong, row, &shown, want.as_bytes())?;
+        }
+    }
+    Ok(wrong)
+}
+
 /// The rows with another answer, where each text stands behind one that leaves so much room.
 fn wrong_in_room(alloc: Global, rows: &str) -> Result<Vec<u8>, NoMemory> {
     let mut wrong = Vec::new(alloc);
@@ -573,103 +714,45 @@ fn wrong_in_room(alloc: Global, rows: &str) -> Result<Vec<u8>, NoMemory> {
     Ok(wrong)
 }
 
+/// The texts that stand before those of the tables: nothing, a version, and a variable of 999 bytes.
+fn head_of(alloc: Global, with_version: bool, with_variable: bool) -> Result<Vec<u8>, NoMemory> {
+    let mut head = Vec::new(alloc);
+    if with_version {
+        head.extend_from_slice(b"@version: 4.2 ")?;
+    }
+    if with_variable {
+        push_definition(&mut head, b'V', 999)?;
+        head.push(b'\n')?;
+    }
+    Ok(head)
+}
+
 #[test]
-fn directives(rt: HostRuntime) -> Result<(), Fail> {
+fn texts_are_expanded(rt: HostRuntime) -> Result<(), Fail> {
     let alloc = rt.alloc();
-    for (head, rows) in [
-        ("", VERSIONS),
-        ("@version: 4.2 ", DIRECTIVES),
-        ("@version: 4.2 ", INCLUDES),
+    for (rows, with_version, with_variable, with_places) in [
+        (VERSIONS, false, false, false),
+        (DIRECTIVES, true, false, false),
+        (INCLUDES, true, false, false),
+        (BLOCKS, true, false, false),
+        (USES, true, false, false),
+        (STRINGS, true, false, false),
+        (WHOLE, true, false, false),
+        (PLACES, false, false, true),
+        (LONG, true, true, false),
     ] {
-        let wrong = wrong_behind(alloc, head, rows, false)?;
+        let head = head_of(alloc, with_version, with_variable)?;
+        let wrong = wrong_behind(alloc, str::from_utf8(&head)?, rows, with_places)?;
         assert_eq!(rt; str::from_utf8(&wrong)?, "");
     }
     Ok(())
 }
 
 #[test]
-fn blocks(rt: HostRuntime) -> Result<(), Fail> {
-    let alloc = rt.alloc();
-    for rows in [BLOCKS, USES, STRINGS, WHOLE] {
-        let wrong = wrong_behind(alloc, "@version: 4.2 ", rows, false)?;
-        assert_eq!(rt; str::from_utf8(&wrong)?, "");
-    }
-    let wrong = wrong_behind(alloc, "", PLACES, true)?;
-    assert_eq!(rt; str::from_utf8(&wrong)?, "");
-    Ok(())
-}
-
-#[test]
-fn totals(rt: HostRuntime) -> Result<(), Fail> {
+fn totals_have_a_limit(rt: HostRuntime) -> Result<(), Fail> {
     let wrong = wrong_in_room(rt.alloc(), TOTALS)?;
     assert_eq!(rt; str::from_utf8(&wrong)?, "");
-    Ok(())
-}
-
-#[test]
-fn long_values(rt: HostRuntime) -> Result<(), Fail> {
-    let alloc = rt.alloc();
-    let mut head = Vec::new(alloc);
-    head.extend_from_slice(b"@version: 4.2 ")?;
-    push_definition(&mut head, b'V', 999)?;
-    head.push(b'\n')?;
-    let wrong = wrong_behind(alloc, str::from_utf8(&head)?, LONG, false)?;
+    let wrong = wrong_made(rt.alloc(), MADE)?;
     assert_eq!(rt; str::from_utf8(&wrong)?, "");
-    Ok(())
-}
-
-/// A definition that names the one before twice, on each line from the third: from the 18th on the
-/// whole is too long.
-#[test]
-fn doubling_is_too_long(rt: HostRuntime) -> Result<(), Fail> {
-    let alloc = rt.alloc();
-    let mut text = Vec::new(alloc);
-    text.extend_from_slice(b"@version: 4.2\n@define a0 \"0123456789\"\n")?;
-    for k in 1..21u32 {
-        let line = format!(in alloc; "@define a{} \"`a{}``a{}`\"\n", k, k - 1, k - 1)?;
-        text.extend_from_slice(line.as_bytes())?;
-    }
-    let shown = answer(alloc, &text, false)?;
-    assert_eq!(rt; str::from_utf8(&shown)?, " TooLong 0 c:18");
-    Ok(())
-}
-
-/// Files of a hundred lines that include the next of 14 each: 12 files of 1,505 bytes with their names
-/// come first, five more of them with a hundred files of 2,005 each follow, and ten more of these.
-#[test]
-fn many_lines_are_too_long(rt: HostRuntime) -> Result<(), Fail> {
-    let shown = answer(rt.alloc(), b"@version: 4.2 @include \"h01\"", false)?;
-    assert_eq!(rt; str::from_utf8(&shown)?, " TooLong 50517 h12:11");
-    Ok(())
-}
-
-/// The main file counts as the first of 65,536. The one after those isn't asked for.
-#[test]
-fn too_many_files(rt: HostRuntime) -> Result<(), Fail> {
-    let alloc = rt.alloc();
-    let mut text = Vec::new(alloc);
-    text.extend_from_slice(b"@version: 4.2\n")?;
-    for _ in 0..65535 {
-        text.extend_from_slice(b"@include\"e\"\n")?;
-    }
-    text.extend_from_slice(b"@include\"*\"")?;
-    let shown = answer(alloc, &text, false)?;
-    assert_eq!(rt; str::from_utf8(&shown)?, " TooLong 0 c:65537");
-    Ok(())
-}
-
-/// A main file has at most 1,048,576 bytes, and a longer one isn't looked at.
-#[test]
-fn main_file_of_the_limit(rt: HostRuntime) -> Result<(), Fail> {
-    let alloc = rt.alloc();
-    let mut text = Vec::new(alloc);
-    text.extend_from_slice(b"@version: 4.2 a;#")?;
-    text.resize(1_048_576, b'$')?;
-    let shown = answer(alloc, &text, false)?;
-    assert_eq!(rt; str::from_utf8(&shown)?, " a ;");
-    text.push(b'\n')?;
-    text[0] = b'$';
-    let shown = answer(alloc, &text, false)?;
-    assert_eq!(rt; str::from_utf8(&shown)?, " TooLong 0 c:1");
     Ok(())
 }

@@ -8,7 +8,8 @@ ghost use Rattle.sg_memory.specs.Outlet.{outlet_of};
 use sg_core::Core;
 use sg_device::NoMemory;
 use sg_engine::{Ended, path_setup, serve};
-use sg_memory::{MemoryDisk, MemoryInlet, MemoryOutlet, Pace, Plan};
+use sg_memory::{MemoryInlet, MemoryOutlet, OutletPlan, Pace};
+use sg_memory_disk::{DiskPlan, MemoryDisk, Plan};
 use std::alloc::Global;
 use std::test::Fail;
 
@@ -92,22 +93,13 @@ fn name(ended: Ended) -> &'static str {
 }
 
 // How a run ended, the stored position and the frames, as a row has them.
-fn told(
-    alloc: Global,
-    ended: Ended,
-    position: u64,
-    frames: &[Vec<u8>],
-) -> Result<String, NoMemory> {
+fn told(alloc: Global, ended: Ended, position: u64, frames: &[u8]) -> Result<String, NoMemory> {
     let mut text = format!(in alloc; "{} {position} ", name(ended))?;
-    let mut none = true;
-    for frame in frames {
-        for b in frame {
-            none = false;
-            text.push(if *b == b'\n' { '/' } else { *b as char })?;
-        }
-    }
-    if none {
+    if frames.is_empty() {
         text.push('=')?;
+    }
+    for b in frames {
+        text.push(if *b == b'\n' { '/' } else { *b as char })?;
     }
     Ok(text)
 }
@@ -134,7 +126,7 @@ fn serve_over(
     let ended = serve(alloc, &mut core, &mut feed, &mut drain, 0, rounds);
     let position = core.position(0);
     let _disks = core.into_stores();
-    Ok(Some(told(alloc, ended, position, drain.frames())?))
+    Ok(Some(told(alloc, ended, position, drain.frames().bytes())?))
 }
 
 fn run(alloc: Global, row: &Row<'_>) -> Result<Option<String>, NoMemory> {
@@ -144,20 +136,22 @@ fn run(alloc: Global, row: &Row<'_>) -> Result<Option<String>, NoMemory> {
     let disk = MemoryDisk::failing(
         alloc,
         vec![in alloc; 0u8; 128]?,
-        plan(alloc, "store", row.failing, 5)?,
+        DiskPlan::failing(alloc, plan(alloc, "store", row.failing, 5)?),
     )?;
     let pace = Pace {
         piece: row.piece,
         at: PULLED,
     };
-    let feed = MemoryInlet::new(
+    let feed = MemoryInlet::file(
+        alloc,
         bytes(alloc, row.input)?,
         0,
         pace,
         true,
         plan(alloc, "inlet", row.failing, 1)?,
-    );
-    let drain = MemoryOutlet::new(alloc, plan(alloc, "outlet", row.failing, 1)?);
+    )?;
+    let sends = OutletPlan::failing(alloc, plan(alloc, "outlet", row.failing, 1)?);
+    let drain = MemoryOutlet::new(alloc, sends);
     serve_over(alloc, disk, feed, drain, row.rounds)
 }
 

@@ -5,12 +5,10 @@ ghost use Rattle.sg_core.specs.Sources.{begun_in};
 ghost use Rattle.sg_core.specs.Standing.{setup_of, store_in};
 ghost use Rattle.sg_core.specs.Opening.{NumberStores, HaveWindows, HaveNoBuffers};
 
-use bytes::Bytes;
 use sg_core::{Core, CoreFront, CoreRefusal, Counter, Refill, Refused, Settled, Stored};
-use sg_device::Taken;
 use sg_list::Seq;
 use sg_machine::{Act, DestSetup, Event, Setup, SourceSetup, Tally, Verdict, replay};
-use sg_memory::{DiskChange, MemoryDisk};
+use sg_memory_disk::{DiskChange, MemoryDisk};
 use sg_msg::{Message, Offer};
 use sg_time::Stamp;
 use std::alloc::{AllocError, Global};
@@ -80,7 +78,7 @@ const RUNS: [(u32, u32, &'static [Step]); 3] = [
 ];
 
 fn message(alloc: Global) -> Result<Message, AllocError> {
-    Message::new(alloc, Bytes::new(), 13, STAMP, STAMP)
+    Message::new(alloc, 13, STAMP, STAMP)
 }
 
 // An offer more to that destination, with this flow-control.
@@ -206,9 +204,7 @@ fn answers<C: Counter, T: Wait>(
             };
             Ok(place == expected)
         }
-        Step::Settle(place, settled) => {
-            Ok(counter.settle(rt, 0, place, Taken { count: 1 }) == settled)
-        }
+        Step::Settle(place, settled) => { Ok(counter.settle(rt, 0, place) == settled) }
         Step::Store(stored) => Ok(counter.store(rt, 0) == stored),
         Step::Credit(credit) => Ok(counter.credit(rt, 0) == credit),
         Step::Refill(refill) => Ok(counter.refill(rt, 0) == refill),
@@ -261,7 +257,7 @@ fn admits<C: Counter, T: Wait>(
 fn is_write(change: &DiskChange, at: u64, bytes: &[u8]) -> bool {
     match change {
         DiskChange::Wrote(written) => written.at == at && written.bytes.as_slice() == bytes,
-        DiskChange::Synced => false,
+        DiskChange::Synced | DiskChange::Tore(_) | DiskChange::Lost(_) => false,
     }
 }
 
@@ -358,7 +354,7 @@ fn drain<C: Counter, T: Wait>(
         CoreFront::Empty | CoreFront::Broken => 0,
     };
     log.add(alloc, Act::Look)?;
-    let act = match counter.settle(rt, d, place, Taken { count: 1 }) {
+    let act = match counter.settle(rt, d, place) {
         Settled::Done | Settled::DiskFailed => Act::Settle(d),
         Settled::NotFront => Act::Look,
     };

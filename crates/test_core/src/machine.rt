@@ -1,5 +1,4 @@
 // Replays of small runs.
-use bytes::Bytes;
 use sg_list::Seq;
 use sg_machine::{Act, BufferSetup, DestSetup, Event, Setup, SourceSetup, Verdict, replay};
 use sg_msg::{Message, Offer};
@@ -91,7 +90,7 @@ const ROWS: [Row; 8] = [
 // A message of so many encoded bytes: 58 with an empty value of MESSAGE.
 fn message(alloc: Global, size: usize) -> Result<Message, Fail> {
     let value = vec![in alloc; 0u8; size.saturating_sub(58)]?;
-    let mut message = Message::new(alloc, Bytes::new(), 13, STAMP, STAMP)?;
+    let mut message = Message::new(alloc, 13, STAMP, STAMP)?;
     message.set(b"MESSAGE", &value)?;
     Ok(message)
 }

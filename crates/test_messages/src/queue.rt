@@ -1,5 +1,4 @@
 // A queue from end to end.
-use bytes::Bytes;
 use sg_msg::Message;
 use sg_queue::{Entry, Queue};
 use sg_time::Stamp;
@@ -11,7 +10,7 @@ const STAMP: Stamp = Stamp { at: 0, offset: 0 };
 fn first_in_first_out(rt: HostRuntime) -> Result<(), Fail> {
     let mut queue = Queue::new(rt.alloc());
     for (place, flow) in [(4, true), (5, false), (6, false)] {
-        let message = Message::new(rt.alloc(), Bytes::new(), 13, STAMP, STAMP)?;
+        let message = Message::new(rt.alloc(), 13, STAMP, STAMP)?;
         queue.reserve(1)?;
         queue.push(Entry {
             place,
@@ -23,6 +22,8 @@ fn first_in_first_out(rt: HostRuntime) -> Result<(), Fail> {
     }
     assert_eq!(rt; (queue.len(), queue.unflowed()), (3, 2));
     assert_eq!(rt; queue.front().map(|entry| entry.place), Some(4));
+    assert_eq!(rt; queue.get(2).map(|entry| entry.place), Some(6));
+    assert!(rt; queue.get(3).is_none());
     for (place, unflowed) in [(4, 2), (5, 1), (6, 0)] {
         let entry = queue.pop();
         assert_eq!(rt; entry.map(|entry| entry.place), Some(place));

@@ -7,7 +7,7 @@ use Rattle.std.proofs.lemmas.List.{length-append, length-drop, length-take}
 use Rattle.sg_time.specs.declared.stamp.Stamp.{Stamp}
 use Rattle.sg_msg.specs.Message.{Pair}
 use Rattle.sg_codec.specs.declared.kept.Kept.{Kept}
-use Rattle.sg_codec.specs.Lengths.{tag_lengths, pair_lengths, encoded_len}
+use Rattle.sg_msg.specs.Length.{tag_lengths, pair_lengths, encoded_len}
 use Rattle.sg_codec.specs.Spelling.{number_bytes, flag_bytes, stamp_bytes, text_bytes, tags_bytes, pairs_bytes, tag_list, pair_list, head_bytes, spelling2}
 use Rattle.sg_codec.specs.Reading.{◌>>=◌, bytes_at, number_at, flag_at, end_at, pri_at, is_valid, stamp_at, text_at, name_size_at, may_follow, name_at, last_name, pairs_at, pair_list_at, head_at, last_at, format1_at}
 

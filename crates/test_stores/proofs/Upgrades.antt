@@ -3,7 +3,7 @@ use Rattle.std.proofs.Common.{◌≡◌, ℕ, zero, suc, ◌+◌, ◌^◌, ◌�
 use Rattle.std.specs.Prelude.{◌&&◌}
 use Rattle.std.proofs.lemmas.Bool.{leb-true, le-leb, and_parts, and_from}
 use Rattle.sg_codec.specs.declared.kept.Kept.{Kept}
-use Rattle.sg_codec.specs.Lengths.{encoded_len}
+use Rattle.sg_msg.specs.Length.{encoded_len}
 use Rattle.sg_codec.specs.Reading.{entry_at, placed, reading}
 use Rattle.sg_codec.specs.Spelling.{spelling2, Spells1, Spells2}
 use Rattle.test_stores.specs.Formats.{is_format1, is_older, is_payload, payload_or, renewed, upgraded}

@@ -2,7 +2,7 @@
 #![tactic(auto)]
 
 #[cfg(test)]
-mod host;
+mod disks;
 #[cfg(test)]
 mod lists;
 #[cfg(test)]

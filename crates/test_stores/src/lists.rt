@@ -1,5 +1,5 @@
 // Lists over disks in memory, beside plain ones, stopped at each call and reopened from each image.
-use sg_memory::{MemoryDisk, Pick};
+use sg_memory_disk::{MemoryDisk, Pick};
 use sg_spool::{Appended, Block, Front, Spool};
 use sg_stable::StoreRefusal;
 use std::alloc::Global;
@@ -144,7 +144,7 @@ fn stopped(
     let mut after = numbers.to_vec(alloc)?;
     follow(&mut after, number)?;
     for pick in PICKS {
-        let image = disk.image(pick)?;
+        let image = disk.image(&[pick])?;
         let same = !done && holds(alloc, image.to_vec(alloc)?, numbers)?;
         if !same && !holds(alloc, image, &after)? {
             return Ok((false, done));

@@ -1,6 +1,6 @@
 // Disk-buffers with entries of format 1, spelled anew in format 2: the exact bytes, and what a crash leaves.
 use crate::Upgrade;
-use sg_memory::{DiskChange, MemoryDisk, Pick};
+use sg_memory_disk::{DiskChange, MemoryDisk, Pick};
 use sg_spool::{Front, Spool};
 use sg_stable::StoreRefusal;
 use std::alloc::Global;
@@ -150,6 +150,7 @@ fn rewritten(alloc: Global, before: &str, calls: u64) -> Result<(bool, MemoryDis
 fn is_change(alloc: Global, change: &DiskChange, line: &str) -> Result<bool, Fail> {
     match change {
         DiskChange::Synced => Ok(line == "sync"),
+        DiskChange::Tore(_) | DiskChange::Lost(_) => Ok(false),
         DiskChange::Wrote(written) => {
             let (at, words) = line.split_once(' ').ok_or("no place")?;
             let place: u64 = at.parse()?;
@@ -219,7 +220,7 @@ fn holds(alloc: Global, bytes: Vec<u8>, payloads: &str) -> Result<bool, Fail> {
 fn is_selector(change: &DiskChange) -> bool {
     match change {
         DiskChange::Wrote(written) => written.at == 0,
-        DiskChange::Synced => false,
+        _ => false,
     }
 }
 
@@ -242,7 +243,7 @@ fn is_new(disk: &MemoryDisk, pick: Pick) -> bool {
 fn has_images(alloc: Global, disk: &MemoryDisk, old: &str, new: &str) -> Result<bool, Fail> {
     for pick in PICKS {
         let payloads = if is_new(disk, pick) { new } else { old };
-        if !holds(alloc, disk.image(pick)?, payloads)? {
+        if !holds(alloc, disk.image(&[pick])?, payloads)? {
             return Ok(false);
         }
     }

@@ -1,6 +1,6 @@
 // The device calls and answers of small lists, over disks in memory.
 use sg_device::NoMemory;
-use sg_memory::{DiskChange, MemoryDisk};
+use sg_memory_disk::{DiskChange, MemoryDisk};
 use sg_spool::{Appended, Block, Front, Recode, Spool, Walked};
 use sg_stable::StoreRefusal;
 use std::alloc::Global;
@@ -139,6 +139,8 @@ fn changes(alloc: Global, disk: &MemoryDisk) -> Result<String, Fail> {
         }
         match change {
             DiskChange::Synced => text.push_str("sync")?,
+            DiskChange::Tore(_) => text.push_str("torn")?,
+            DiskChange::Lost(_) => text.push_str("lost")?,
             DiskChange::Wrote(written) => {
                 text.push_str(format!(in alloc; "{} ", written.at)?.as_str())?;
                 for byte in written.bytes.as_slice() {

@@ -1,7 +1,9 @@
 // A position store over disks in memory, stopped at each call, and over a real file.
-use sg_device::{Disk, DiskFault, Name, OpenRefusal, StoreSpec};
+use sg_device::{Disk, DiskFault, Name, OpenRefusal};
 use sg_host::{FileDisk, HostStores};
-use sg_memory::{DiskChange, MemoryDisk, MemoryWorld, Pace, Pick, Plan};
+use sg_memory::{MemoryWorld, Pace};
+use sg_memory_disk::{DiskChange, DiskPlan, MemoryDisk, Pick, Plan};
+use sg_outside::StoreSpec;
 use sg_stable::{Stable, StoreRefusal};
 use std::alloc::Global;
 use std::test::Fail;
@@ -58,7 +60,7 @@ fn store(alloc: Global, len: usize, at: usize) -> Result<MemoryDisk, Fail> {
 fn is_write(change: &DiskChange, at: u64, bytes: &[u8]) -> bool {
     match change {
         DiskChange::Wrote(written) => written.at == at && written.bytes.as_slice() == bytes,
-        DiskChange::Synced => false,
+        _ => false,
     }
 }
 
@@ -74,7 +76,7 @@ fn in_memory(rt: HostRuntime) -> Result<(), Fail> {
     assert!(rt; is_write(&changes[1], 32, &[0, 0, 0, 0, 0, 0, 0, 8]));
     assert!(rt; is_write(&changes[3], 0, &[1]));
     for pick in PICKS {
-        assert_eq!(rt; disk.image(pick)?.as_slice(), disk.bytes());
+        assert_eq!(rt; disk.image(&[pick])?.as_slice(), disk.bytes());
     }
     assert!(rt; position(disk) == Ok(8));
     for (len, at, place) in [
@@ -93,7 +95,7 @@ fn in_memory(rt: HostRuntime) -> Result<(), Fail> {
         let failing = MemoryDisk::failing(
             alloc,
             vec![in alloc; 0u8; 128]?,
-            Plan::new(vec![in alloc; calls]?),
+            DiskPlan::failing(alloc, Plan::new(vec![in alloc; calls]?)),
         )?;
         for disk in [stopped, failing] {
             match put(disk, 8) {
@@ -103,7 +105,7 @@ fn in_memory(rt: HostRuntime) -> Result<(), Fail> {
                 Ok((disk, result)) => {
                     assert_eq!(rt; result.is_ok(), calls == 8);
                     for pick in PICKS {
-                        let value = position(MemoryDisk::new(alloc, disk.image(pick)?)?)?;
+                        let value = position(MemoryDisk::new(alloc, disk.image(&[pick])?)?)?;
                         assert!(rt; value == 8 || (value == 0 && calls < 8), "{calls}");
                     }
                 }

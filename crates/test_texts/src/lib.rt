@@ -2,6 +2,8 @@
 #![tactic(auto)]
 
 #[cfg(test)]
+mod macros;
+#[cfg(test)]
 mod outfmt;
 #[cfg(test)]
 mod report;

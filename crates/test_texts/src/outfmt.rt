@@ -1,7 +1,6 @@
 // Frames of the three kinds of destinations.
-use bytes::Bytes;
 use sg_msg::Message;
-use sg_outfmt::{DriverKind, Shape, default_shape, frame};
+use sg_outfmt::{DriverKind, Shape, default_shape, frame, unpacked};
 use sg_template::{Env, Template};
 use sg_time::Stamp;
 use std::test::Fail;
@@ -36,7 +35,7 @@ fn frames(rt: HostRuntime) -> Result<(), Fail> {
         iso: false,
         old: None,
     };
-    let mut message = Message::new(alloc, Bytes::new(), 165, sent, EPOCH)?;
+    let mut message = Message::new(alloc, 165, sent, EPOCH)?;
     message.set(b"HOST", b"h").ok();
     message.set(b"PROGRAM", b"evntslog").ok();
     message.set(b"MSGID", b"ID47").ok();
@@ -52,5 +51,32 @@ fn frames(rt: HostRuntime) -> Result<(), Fail> {
     out.clear();
     frame(&shape, &message, &env, &mut out)?;
     assert_eq!(rt; out.as_slice(), b"An event\n".as_slice());
+    let shape = Shape::ByPath {
+        path: Template::read(alloc, b"/out/$MSGID")?,
+        text: Template::read(alloc, b"$MSG\n")?,
+    };
+    out.clear();
+    frame(&shape, &message, &env, &mut out)?;
+    assert_eq!(rt; out.as_slice(), b"\0\x09/out/ID47An event\n".as_slice());
+    Ok(())
+}
+
+// Frames, their paths and their texts.
+const PACKED: [(&[u8], &[u8], &[u8]); 6] = [
+    (b"", b"", b""),
+    (b"\0", b"", b"\0"),
+    (b"\0\0text", b"", b"\0\0text"),
+    (b"\0\x02/atext", b"/a", b"text"),
+    (b"\0\x02/a", b"/a", b""),
+    (b"\x01\0/a", b"", b"\x01\0/a"),
+];
+
+#[test]
+fn paths(rt: HostRuntime) -> Result<(), Fail> {
+    for (packed, path, text) in PACKED {
+        let found = unpacked(packed);
+        assert_eq!(rt; found.0, path);
+        assert_eq!(rt; found.1, text);
+    }
     Ok(())
 }

@@ -15,6 +15,7 @@ fn shown(alloc: Global, sinks: &[u32], status: u8) -> Result<Shown, AllocError>
         drivers: Seq::new(Vec::from_slice(alloc, &[0, 1, 1])?),
         files: Seq::new(Vec::from_slice(alloc, &[true, false, false])?),
         bad_frames: Seq::new(Vec::from_slice(alloc, &[0, 2, u64::MAX])?),
+        held: Seq::new(Vec::from_slice(alloc, &[(0, 12), (1, 0)])?),
         sinks: Seq::new(Vec::from_slice(alloc, sinks)?),
         stores: Seq::new(Vec::from_slice(alloc, &[4, 5])?),
         inlets: Seq::empty(alloc),
@@ -51,6 +52,7 @@ const REPORT: &[u8] = b"before\nsource 0 records 100 bad-frames 0 position 8\n\
 source 1 records 6 bad-frames 18446744073709551615\n\
 destination 0 taken 1 dropped-full 2 dropped-disk 3 left 4\n\
 destination 1 taken 1 dropped-full 2 dropped-disk 3 left 4\n\
+buffer 0 held 12\n\
 fault sink 0\nfault sink 7\nfault store 4\nfault store 5\nstatus 6\n";
 
 #[test]

@@ -1,11 +1,7 @@
 // Templates over messages.
-use bytes::Bytes;
 use sg_device::Name;
 use sg_msg::Message;
-use sg_template::{
-    DatePart, Env, Macro, StampKind, Template, TemplateFault, facility_name, macro_of, pair_name,
-    sdata_text, severity_name, text_of,
-};
+use sg_template::{Env, Template, TemplateFault, sdata_text, text_of};
 use sg_time::Stamp;
 use std::alloc::Global;
 use std::test::Fail;
@@ -70,8 +66,8 @@ fn stamps_as_gnu_date_prints_them(rt: HostRuntime) -> Result<(), Fail> {
             offset: offset.parse::<i16>()?,
         };
         assert!(rt; stamp.is_valid(), "{row}");
-        let sent = Message::new(alloc, Bytes::new(), 13, stamp, EPOCH)?;
-        let received = Message::new(alloc, Bytes::new(), 13, EPOCH, stamp)?;
+        let sent = Message::new(alloc, 13, stamp, EPOCH)?;
+        let received = Message::new(alloc, 13, EPOCH, stamp)?;
         for template in [PLAIN, SENT] {
             let out = text(alloc, template, &sent, &env)?;
             assert_eq!(rt; out.as_slice(), shown.as_bytes(), "{row}");
@@ -94,7 +90,7 @@ fn event(alloc: Global) -> Result<Message, Fail> {
         at: 253_402_300_799_999_999,
         offset: 0,
     };
-    let mut message = Message::new(alloc, Bytes::new(), 165, sent, received)?;
+    let mut message = Message::new(alloc, 165, sent, received)?;
     message.set(b"HOST", b"h").ok();
     message.set(b"PROGRAM", b"evntslog").ok();
     message.set(b"PID", b"7").ok();
@@ -135,21 +131,47 @@ fn texts_of_an_event(rt: HostRuntime) -> Result<(), Fail> {
     Ok(())
 }
 
+// Templates, hosts, and the paths that they come to.
+const PATHS: &str = "\
+out-${HOST}|../x|out-_._x
+/var/log/$HOST/${HOST}.log|.|/var/log/_/_.log
+/a/$HOST$HOST|b/c|/a/b_cb_c
+/a/../$PRI.$HOST|.h|/a/../13._h
+$HOST|a\0b.|a_b.
+$HOST$NOPE||_
+${NOPE:-../a}|h|_._a
+${HOST:-/}||_
+a$$b|h|a$b";
+
+fn path(alloc: Global, template: &[u8], host: &[u8]) -> Result<Vec<u8>, Fail> {
+    let mut message = Message::new(alloc, 13, EPOCH, EPOCH)?;
+    message.set(b"HOST", host).ok();
+    let env = Env {
+        zone: None,
+        digits: 0,
+        iso: false,
+        old: None,
+    };
+    let mut out = Vec::new(alloc);
+    Template::read(alloc, template)?.render_path(&message, &env, &mut out)?;
+    Ok(out)
+}
+
 #[test]
-fn parts_of_texts(rt: HostRuntime) -> Result<(), Fail> {
-    let message = Message::new(rt.alloc(), Bytes::new(), 13, EPOCH, EPOCH)?;
-    let mut out = Vec::new(rt.alloc());
+fn paths_of_files(rt: HostRuntime) -> Result<(), Fail> {
+    let alloc = rt.alloc();
+    for row in PATHS.lines() {
+        let (template, rest) = row.split_once('|').ok_or("no host")?;
+        let (host, shown) = rest.split_once('|').ok_or("no path")?;
+        let out = path(alloc, template.as_bytes(), host.as_bytes())?;
+        assert_eq!(rt; out.as_slice(), shown.as_bytes(), "{row}");
+    }
+    let long = [b'x'; 3000];
+    assert_eq!(rt; path(alloc, b"$HOST/$HOST", &long)?.len(), 4095);
+    let message = Message::new(alloc, 13, EPOCH, EPOCH)?;
+    let mut out = Vec::new(alloc);
     sdata_text(&message, &mut out)?;
     assert_eq!(rt; out.as_slice(), b"-".as_slice());
     assert!(rt; text_of(&message, b"HOST").is_empty());
-    assert_eq!(rt;
-        (facility_name(23), severity_name(3)),
-        (b"local7".as_slice(), b"err".as_slice())
-    );
-    assert_eq!(rt; pair_name(b"MSG"), b"MESSAGE".as_slice());
-    assert_eq!(rt;
-        macro_of(b"R_MIN"),
-        Some(Macro::OfStamp(StampKind::Received, DatePart::Minute))
-    );
     Ok(())
 }

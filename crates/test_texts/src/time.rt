@@ -3,6 +3,7 @@ use sg_time::{
     Stamp, bsd_text, four_digits, iso_text, month_abbrev, offset_bytes, read_bsd, read_iso,
     six_digits, two_digits,
 };
+use std::alloc::Global;
 use std::test::Fail;
 
 // Moments with their offsets, and what GNU date prints of them.
@@ -52,62 +53,57 @@ const STAMPS: &str = "\
 1557360062000999 -1439 2019-05-08T00:02:02.000999-23:59 May  8 00:02:02
 1667714399999000 -300 2022-11-06T00:59:59.999000-05:00 Nov  6 00:59:59";
 
-// Stamps, a number of digits, and the ISO and BSD texts with so many digits of the fraction.
-const FRACTIONS: &str = "\
-2003-10-11T22:14:15.003Z 3 2003-10-11T22:14:15.003+00:00 Oct 11 22:14:15.003
-2003-10-11T22:14:15.003Z 0 2003-10-11T22:14:15+00:00 Oct 11 22:14:15
-2023-12-31T23:59:59.999999Z 1 2023-12-31T23:59:59.9+00:00 Dec 31 23:59:59.9
-2006-06-01T15:58:00+01:00 2 2006-06-01T15:58:00.00+01:00 Jun  1 15:58:00.00
-2006-06-01T15:58:00.5-00:00 6 2006-06-01T15:58:00.500000+00:00 Jun  1 15:58:00.500000";
-
-// What has no ISO stamp at its front.
-const NO_ISO: &str = "\
-2006-06-13
-2006-06-13T15:58:60Z
-2006-06-13T15:60:00Z
-2006-06-13T24:00:00Z
-2006-06-13t15:58:00Z
-2006-06-13T15:58:00z
-2006-06-13 15:58:00Z
-2006-06-13T15:58:00
-2006-06-13T15:58:00.Z
-2006-06-13T15:58:00.1234567Z
-2006-06-13T15:58:00,5Z
-2006-06-13T15:58:00+24:00
-2006-06-13T15:58:00+01:60
-2006-06-13T15:58:00+0100
-2006-06-13T15:58:00+01
-2006-6-13T15:58:00Z
-2006-02-29T15:58:00Z
-1900-02-29T15:58:00Z
-2006-13-01T15:58:00Z
-2006-00-01T15:58:00Z
-2006-06-00T15:58:00Z
-0000-06-13T15:58:00Z
-9999-06-13T15:58:00Z";
-
-// What has no BSD stamp at its front that was received in November 2023.
-const NO_BSD: &str = "\
-Feb 30 00:00:00
-Feb 29 00:00:00
-feb  5 00:00:00
-Feb 5 00:00:00
-Feb  0 00:00:00
-Feb 00 00:00:00
-Feb  5  00:00:00
-Feb  5 24:00:00
-Feb  5 00:00:60
-Feb  5 00:00
-Feb\t 5 00:00:00";
-
-// The moment of receipt, the stamp that was received, and its text.
-const YEARS: &str = "\
-2024-01-01T00:00:00Z 2023-12-31T23:59:59+00:00 Dec 31 23:59:59
-2023-12-31T23:59:59Z 2024-01-01T00:00:00+00:00 Jan  1 00:00:00
-2023-12-31T23:59:59Z 2024-01-01T00:00:00+00:00 Jan 01 00:00:00
-2024-01-01T00:00:00Z 2024-11-30T00:00:00+00:00 Nov 30 00:00:00
-2024-12-31T23:59:59Z 2024-02-29T12:00:00+00:00 Feb 29 12:00:00
-2023-12-31T23:30:00-01:00 2023-12-31T23:00:00-01:00 Dec 31 23:00:00";
+// What the other rows show. fraction: a stamp, a number of digits, and the ISO and BSD texts with so
+// many digits of the fraction. year: the moment of receipt, the stamp that was received, and its text.
+// no-iso, no-bsd: what has no ISO stamp at its front, and no BSD stamp that was received in November
+// 2023. parts: a stamp, and the parts of its texts.
+const ROWS: &str = "\
+fraction 2003-10-11T22:14:15.003Z 3 2003-10-11T22:14:15.003+00:00 Oct 11 22:14:15.003
+fraction 2003-10-11T22:14:15.003Z 0 2003-10-11T22:14:15+00:00 Oct 11 22:14:15
+fraction 2023-12-31T23:59:59.999999Z 1 2023-12-31T23:59:59.9+00:00 Dec 31 23:59:59.9
+fraction 2006-06-01T15:58:00+01:00 2 2006-06-01T15:58:00.00+01:00 Jun  1 15:58:00.00
+fraction 2006-06-01T15:58:00.5-00:00 6 2006-06-01T15:58:00.500000+00:00 Jun  1 15:58:00.500000
+year 2024-01-01T00:00:00Z 2023-12-31T23:59:59+00:00 Dec 31 23:59:59
+year 2023-12-31T23:59:59Z 2024-01-01T00:00:00+00:00 Jan  1 00:00:00
+year 2023-12-31T23:59:59Z 2024-01-01T00:00:00+00:00 Jan 01 00:00:00
+year 2024-01-01T00:00:00Z 2024-11-30T00:00:00+00:00 Nov 30 00:00:00
+year 2024-12-31T23:59:59Z 2024-02-29T12:00:00+00:00 Feb 29 12:00:00
+year 2023-12-31T23:30:00-01:00 2023-12-31T23:00:00-01:00 Dec 31 23:00:00
+no-iso 2006-06-13
+no-iso 2006-06-13T15:58:60Z
+no-iso 2006-06-13T15:60:00Z
+no-iso 2006-06-13T24:00:00Z
+no-iso 2006-06-13t15:58:00Z
+no-iso 2006-06-13T15:58:00z
+no-iso 2006-06-13 15:58:00Z
+no-iso 2006-06-13T15:58:00
+no-iso 2006-06-13T15:58:00.Z
+no-iso 2006-06-13T15:58:00.1234567Z
+no-iso 2006-06-13T15:58:00,5Z
+no-iso 2006-06-13T15:58:00+24:00
+no-iso 2006-06-13T15:58:00+01:60
+no-iso 2006-06-13T15:58:00+0100
+no-iso 2006-06-13T15:58:00+01
+no-iso 2006-6-13T15:58:00Z
+no-iso 2006-02-29T15:58:00Z
+no-iso 1900-02-29T15:58:00Z
+no-iso 2006-13-01T15:58:00Z
+no-iso 2006-00-01T15:58:00Z
+no-iso 2006-06-00T15:58:00Z
+no-iso 0000-06-13T15:58:00Z
+no-iso 9999-06-13T15:58:00Z
+no-bsd Feb 30 00:00:00
+no-bsd Feb 29 00:00:00
+no-bsd feb  5 00:00:00
+no-bsd Feb 5 00:00:00
+no-bsd Feb  0 00:00:00
+no-bsd Feb 00 00:00:00
+no-bsd Feb  5  00:00:00
+no-bsd Feb  5 24:00:00
+no-bsd Feb  5 00:00:60
+no-bsd Feb  5 00:00
+no-bsd Feb\t 5 00:00:00
+parts 2023-11-14T18:43:20.123456-03:30 18 2023 Nov 123456 -03:30";
 
 #[test]
 fn stamps_as_gnu_date_prints_them(rt: HostRuntime) -> Result<(), Fail> {
@@ -139,55 +135,70 @@ fn stamps_as_gnu_date_prints_them(rt: HostRuntime) -> Result<(), Fail> {
     Ok(())
 }
 
-#[test]
-fn fractions_years_and_refusals(rt: HostRuntime) -> Result<(), Fail> {
-    for row in FRACTIONS.lines() {
-        let (text, rest) = row.split_once(' ').ok_or("no digits")?;
-        let (digits, expected) = rest.split_once(' ').ok_or("no text")?;
-        let digits = digits.parse::<u8>()?;
-        let (stamp, len) = read_iso(text.as_bytes()).ok_or("no stamp")?;
-        assert!(rt; len == text.len() && digits <= 6, "{row}");
-        let mut out = Vec::new(rt.alloc());
-        iso_text(stamp, digits, &mut out)?;
-        out.push(b' ')?;
-        bsd_text(stamp, digits, &mut out)?;
-        assert_eq!(rt; out.as_slice(), expected.as_bytes(), "{row}");
+// Whether the texts of a stamp with so many digits are these.
+fn has_texts(alloc: Global, row: &str) -> Result<bool, Fail> {
+    let (text, rest) = row.split_once(' ').ok_or("no digits")?;
+    let (digits, expected) = rest.split_once(' ').ok_or("no text")?;
+    let digits = digits.parse::<u8>()?;
+    let (stamp, len) = read_iso(text.as_bytes()).ok_or("no stamp")?;
+    if len != text.len() || digits > 6 {
+        return Ok(false);
     }
-    for row in YEARS.lines() {
-        let (received, rest) = row.split_once(' ').ok_or("no stamp")?;
-        let (expected, text) = rest.split_once(' ').ok_or("no text")?;
-        let (received, _) = read_iso(received.as_bytes()).ok_or("no stamp")?;
-        let (expected, _) = read_iso(expected.as_bytes()).ok_or("no stamp")?;
-        assert_eq!(rt;
-            read_bsd(text.as_bytes(), received),
-            Some((expected, 15)),
-            "{row}"
-        );
-    }
-    Ok(())
+    let mut out = Vec::new(alloc);
+    iso_text(stamp, digits, &mut out)?;
+    out.push(b' ')?;
+    bsd_text(stamp, digits, &mut out)?;
+    Ok(out.as_slice() == expected.as_bytes())
 }
 
-#[test]
-fn refusals_and_parts(rt: HostRuntime) {
-    let stamp = Stamp {
+// Whether the text that was received then is that of this stamp.
+fn has_year(row: &str) -> Result<bool, Fail> {
+    let (received, rest) = row.split_once(' ').ok_or("no stamp")?;
+    let (expected, text) = rest.split_once(' ').ok_or("no text")?;
+    let (received, _) = read_iso(received.as_bytes()).ok_or("no stamp")?;
+    let (expected, _) = read_iso(expected.as_bytes()).ok_or("no stamp")?;
+    Ok(read_bsd(text.as_bytes(), received) == Some((expected, 15)))
+}
+
+// Whether no BSD stamp stands at the text's front.
+fn has_no_bsd(text: &str) -> bool {
+    let received = Stamp {
         at: 1_700_000_000_123_456,
         offset: -210,
     };
-    assert!(rt; stamp.is_valid());
-    for text in NO_ISO.lines() {
-        assert_eq!(rt; read_iso(text.as_bytes()), None, "{text}");
-    }
-    for text in NO_BSD.lines() {
-        assert_eq!(rt; read_bsd(text.as_bytes(), stamp), None, "{text}");
-    }
+    received.is_valid() && read_bsd(text.as_bytes(), received).is_none()
+}
+
+// Whether the parts of a stamp's texts are these.
+fn has_parts(alloc: Global, row: &str) -> Result<bool, Fail> {
+    let (text, expected) = row.split_once(' ').ok_or("no parts")?;
+    let (stamp, _) = read_iso(text.as_bytes()).ok_or("no stamp")?;
     let local = stamp.local();
-    assert_eq!(rt;
-        (two_digits(local.hour), four_digits(local.year)),
-        (*b"18", *b"2023")
-    );
-    assert_eq!(rt;
-        (month_abbrev(local.month), six_digits(local.microsecond)),
-        (*b"Nov", *b"123456")
-    );
-    assert_eq!(rt; offset_bytes(stamp.offset), *b"-03:30");
+    let mut out = Vec::from_array(alloc, two_digits(local.hour))?;
+    out.push(b' ')?;
+    out.extend_from_slice(&four_digits(local.year))?;
+    out.push(b' ')?;
+    out.extend_from_slice(&month_abbrev(local.month))?;
+    out.push(b' ')?;
+    out.extend_from_slice(&six_digits(local.microsecond))?;
+    out.push(b' ')?;
+    out.extend_from_slice(&offset_bytes(stamp.offset))?;
+    Ok(out.as_slice() == expected.as_bytes())
+}
+
+#[test]
+fn fractions_years_and_refusals(rt: HostRuntime) -> Result<(), Fail> {
+    for row in ROWS.lines() {
+        let (what, rest) = row.split_once(' ').ok_or("no text")?;
+        let holds = match what {
+            "fraction" => has_texts(rt.alloc(), rest)?,
+            "year" => has_year(rest)?,
+            "no-iso" => read_iso(rest.as_bytes()).is_none(),
+            "no-bsd" => has_no_bsd(rest),
+            "parts" => has_parts(rt.alloc(), rest)?,
+            _ => return Err("what does the row show?")?,
+        };
+        assert!(rt; holds, "{row}");
+    }
+    Ok(())
 }

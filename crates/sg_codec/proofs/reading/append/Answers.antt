@@ -1,12 +1,9 @@
-use Rattle.std.proofs.Common.{refl}
-use Rattle.sg_codec.proofs.FieldLaws.{may_follow-parts}
-use Rattle.sg_codec.proofs.PairLemmas.{with_pair-last}
 use Rattle.sg_codec.specs.Reading.{last_name}
+use Rattle.sg_codec.proofs.FieldLaws.{may_follow-parts}
 use Rattle.sg_codec.proofs.reading.append.Goals as goal
 
--- the pair goes behind all
-pub returns-in-Ok-clause-ok : goal.returns-in-Ok-clause-ok
-returns-in-Ok-clause-ok c =
-    let follows = may_follow-parts (last_name c.args.message.now.pairs) c.args.name.now c.requires.follows in
-    let e = with_pair-last c.args.message.now.pairs c.args.name.now c.args.value c.requires.ascending follows.0 in
-    rw (c.in-Ok.ensures.ok, e) refl
+-- the name isn't a macro's
+pub put-requires : goal.put-requires
+put-requires c =
+    let parts = may_follow-parts (last_name c.args.builder.now.put) c.args.name.now c.requires.follows in
+    rw c.in_ok-clone.ensures.cases (c.requires.size.0, c.requires.size.1, parts.1)

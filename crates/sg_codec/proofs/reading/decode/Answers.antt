@@ -1,5 +1,5 @@
 use Rattle.std.proofs.Common.{◌≡◌, Ok, Err, refl, sym, ◌∙◌, arith}
-use Rattle.sg_codec.specs.Reading.{reading, entry_at}
+use Rattle.sg_codec.specs.Reading.{reading}
 use Rattle.sg_codec.proofs.EntryLaws.{reading_takes, reading_again}
 use Rattle.sg_codec.proofs.reading.decode.Goals as goal
 

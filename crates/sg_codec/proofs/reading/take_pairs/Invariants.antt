@@ -5,8 +5,8 @@ use Rattle.sg_codec.proofs.reading.take_pairs.Given as goal
 
 abbrev pub invariant-loop : goal.invariant-loop
 invariant-loop l = record {
-  others : l.message ≡ record l.fn.message { pairs = l.message.pairs };
-  read : pairs_at (l.count - l.counter) l.message.pairs l.rest ≡ pairs_at l.count [] l.fn.rest;
-  last : l.last ≡ last_name l.message.pairs;
-  ascending : IsAscending l.message.pairs;
+  others : l.builder ≡ record l.fn.builder { put = l.builder.put };
+  read : pairs_at (l.count - l.counter) l.builder.put l.rest ≡ pairs_at l.count [] l.fn.rest;
+  last : l.last ≡ last_name l.builder.put;
+  ascending : IsAscending l.builder.put;
 }

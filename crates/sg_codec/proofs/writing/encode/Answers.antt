@@ -1,6 +1,6 @@
 use Rattle.std.proofs.Common.{◌≡◌, length, ap, arith}
 use Rattle.sg_codec.specs.Spelling.{spelling2}
-use Rattle.sg_codec.proofs.LengthLemmas.{tag_count-bound, pair_count-bound}
+use Rattle.sg_msg.proofs.LengthLemmas.{tag_count-bound, pair_count-bound}
 use Rattle.sg_codec.proofs.WriteLemmas.{texts_fit, values_fit, joined, length-spelling}
 use Rattle.sg_codec.proofs.writing.encode.Goals as goal
 

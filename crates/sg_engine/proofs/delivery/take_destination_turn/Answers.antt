@@ -12,6 +12,7 @@ loop-count-init g c = record {
   runs = λ feed reader ready. steps-none (run c.args.core.now feed reader (g.O.Outlet.state c.args.drain.now).taken);
   calls = calls-same c.args.core.now _ c.requires.setup;
   none = λ e. (refl, refl);
+  asks = omega arith;
   faults = omega arith;
 }
 
@@ -45,6 +46,7 @@ loop-count-preserved g c =
           steps-then n 1 a b z (c.loop-count.invariant.runs feed reader ready) (steps-true _ b z (search (rules, tests)) (c.in_ok-send_first.ensures.runs feed reader ready));
       calls = calls-then c.args.core.now c.loop-count.core c.send_first.new.core (2 * n) 2 (2 * (n + 1)) (omega arith) c.loop-count.invariant.calls c.send_first.ensures.calls;
       none = λ e. absurd (omega arith);
+      asks = omega (arith, c.loop-count.invariant.asks, c.in_ok-send_first.ensures.asks);
       faults = (let later = sends-later _ c.loop-count.core c.send_first.new.core (g.O.Outlet.state c.loop-count.drain) (g.O.Outlet.state c.send_first.new.drain) c.send_first.ensures.none in omega (arith, c.loop-count.invariant.faults));
     }
 

@@ -1,4 +1,4 @@
-use Rattle.std.proofs.Common.{◌≡◌, ◌≤◌, ◌*◌, ℕ, List, Option}
+use Rattle.std.proofs.Common.{◌≡◌, ◌≤◌, ◌*◌, ◌+◌, ℕ, List, Option}
 use Rattle.sg_device.specs.Inlet.{InletState}
 use Rattle.sg_engine.specs.Reading.{IsReady}
 use Rattle.sg_engine.specs.Turns.{run, Steps, Calls}
@@ -10,5 +10,6 @@ invariant-loop-count g l = record {
   runs : (feed : InletState) (reader : Reader) → IsReady feed reader → Steps l.count (run l.initial.core feed reader (g.O.Outlet.state l.initial.drain).taken) (run l.core feed reader (g.O.Outlet.state l.drain).taken);
   calls : Calls l.initial.core l.core (2 * l.count);
   none : l.count ≡ 0 → (l.core ≡ l.initial.core) × (g.O.Outlet.state l.drain ≡ g.O.Outlet.state l.initial.drain);
+  asks : l.initial.core.calls + l.count ≤ l.core.calls;
   faults : (g.O.Outlet.state l.initial.drain).faults ≤ (g.O.Outlet.state l.drain).faults;
 }

@@ -1,6 +1,8 @@
 use Rattle.std.proofs.Common.{refl, ◌≤◌, length, arith, w64}
 use Rattle.std.proofs.lemmas.Int.{to_z-of_z, ints}
 use Rattle.std.specs.Prelude.{FitsSigned as SFits}
+use Rattle.std.specs.Prelude.{Ok, Err}
+use Rattle.sg_engine.proofs.GivenLemmas.{pulls-once}
 use Rattle.sg_engine.proofs.PullLemmas.{err-memory, pulled-bytes, pulled-unfed, pulled-next, pulled-idle, pulled-end, pulled-fault}
 use Rattle.sg_engine.proofs.reader.pull_once.Goals as goal
 
@@ -36,3 +38,33 @@ returns-in-Ok-Next-clause-reads g c =
 pub returns-in-Err-clause-reads : goal.returns-in-Err-clause-reads
 returns-in-Err-clause-reads g c =
     pulled-fault (g.I.Inlet.state c.args.feed.now) (g.I.Inlet.state c.pull.new.self) c.args.reader.now c.args.reader.now c.pull.new.into _ c.requires.ready c.in-Err.ensures.told c.in-Err.ensures.place c.in-Err.ensures.counts c.in-Err.ensures.faults
+
+pub returns-in_err-feed-in-Ok-Bytes-clause-pulls : goal.returns-in_err-feed-in-Ok-Bytes-clause-pulls
+returns-in_err-feed-in-Ok-Bytes-clause-pulls g c =
+    let e = c.in-Ok-Bytes.ensures in
+    pulls-once (g.I.Inlet.state c.args.feed.now) (g.I.Inlet.state c.pull.new.self) c.pull.new.into _ (Ok c.in-Ok-Bytes.field-0) e.whole e.size e.told e.place e.left e.counts e.faults
+
+pub returns-in_ok-feed-in-Ok-Bytes-clause-pulls : goal.returns-in_ok-feed-in-Ok-Bytes-clause-pulls
+returns-in_ok-feed-in-Ok-Bytes-clause-pulls g c =
+    let e = c.in-Ok-Bytes.ensures in
+    pulls-once (g.I.Inlet.state c.args.feed.now) (g.I.Inlet.state c.pull.new.self) c.pull.new.into _ (Ok c.in-Ok-Bytes.field-0) e.whole e.size e.told e.place e.left e.counts e.faults
+
+pub returns-in-Ok-Next-clause-pulls : goal.returns-in-Ok-Next-clause-pulls
+returns-in-Ok-Next-clause-pulls g c =
+    let e = c.in-Ok-Next.ensures in
+    pulls-once (g.I.Inlet.state c.args.feed.now) (g.I.Inlet.state c.pull.new.self) c.pull.new.into _ (Ok c.in-Ok-Next.field-0) e.whole e.size e.told e.place e.left e.counts e.faults
+
+pub returns-in-Ok-Idle-clause-pulls : goal.returns-in-Ok-Idle-clause-pulls
+returns-in-Ok-Idle-clause-pulls g c =
+    let e = c.in-Ok-Idle.ensures in
+    pulls-once (g.I.Inlet.state c.args.feed.now) (g.I.Inlet.state c.pull.new.self) c.pull.new.into _ (Ok c.in-Ok-Idle.field-0) e.whole e.size e.told e.place e.left e.counts e.faults
+
+pub returns-in-Ok-End-clause-pulls : goal.returns-in-Ok-End-clause-pulls
+returns-in-Ok-End-clause-pulls g c =
+    let e = c.in-Ok-End.ensures in
+    pulls-once (g.I.Inlet.state c.args.feed.now) (g.I.Inlet.state c.pull.new.self) c.pull.new.into _ (Ok c.in-Ok-End.field-0) e.whole e.size e.told e.place e.left e.counts e.faults
+
+pub returns-in-Err-clause-pulls : goal.returns-in-Err-clause-pulls
+returns-in-Err-clause-pulls g c =
+    let e = c.in-Err.ensures in
+    pulls-once (g.I.Inlet.state c.args.feed.now) (g.I.Inlet.state c.pull.new.self) c.pull.new.into _ (Err c.in-Err.field-0) e.whole e.size e.told e.place e.left e.counts e.faults

@@ -1,7 +1,7 @@
 use Rattle.std.proofs.Common.{◌≡◌, ◌≤◌, ◌<◌, ◌*◌, ℕ, length}
 use Rattle.sg_engine.specs.Reading.{IsReady}
 use Rattle.sg_engine.specs.Turns.{Calls}
-use Rattle.sg_engine.proofs.EndLemmas.{Ran}
+use Rattle.sg_engine.proofs.EndLemmas.{Ran, KeepsPast}
 use Rattle.sg_engine.proofs.rounds.serve.Given as goal
 
 abbrev pub invariant-loop-round : goal.invariant-loop-round
@@ -10,7 +10,6 @@ invariant-loop-round g l = record {
   room : 0 < length l.buffer.items;
   ready : IsReady (g.I.Inlet.state l.feed) l.reader;
   calls : Calls l.initial.core l.core (401 * l._round);
-  from : (g.I.Inlet.state l.feed).from ≡ (g.I.Inlet.state l.initial.feed).from;
-  feed_faults : (g.I.Inlet.state l.initial.feed).faults ≤ (g.I.Inlet.state l.feed).faults;
+  past : KeepsPast (g.I.Inlet.state l.initial.feed) (g.I.Inlet.state l.feed);
   drain_faults : (g.O.Outlet.state l.initial.drain).faults ≤ (g.O.Outlet.state l.drain).faults;
 }

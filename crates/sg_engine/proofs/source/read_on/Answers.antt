@@ -1,6 +1,7 @@
 use Rattle.std.proofs.Common.{refl, ◌≡◌, ◌≤◌, ◌<◌, ◌+◌, true, false, List, [], arith, rules, tests, inl, inr, ap, sym, ◌∙◌}
 use Rattle.sg_frame.specs.Framing.{items_left}
 use Rattle.sg_engine.specs.Turns.{run}
+use Rattle.sg_engine.proofs.GivenLemmas.{pulls_none}
 use Rattle.sg_engine.proofs.PullLemmas.{err-is}
 use Rattle.sg_engine.proofs.StateLemmas.{calls-same, calls-then}
 use Rattle.sg_engine.proofs.RunLemmas.{steps-none, steps-true, steps-of, runs-stop}
@@ -51,3 +52,15 @@ returns-clause-runs g c = λ taken.
 pub returns-clause-none : goal.returns-clause-none
 returns-clause-none g c =
     reads-pulled c.in_ok-pulled.pulled c.args.core.now c.pull_on.new.core (g.I.Inlet.state c.args.feed.now) (g.I.Inlet.state c.pull_on.new.feed) c.args.reader.now c.pull_on.new.reader c.in_ok-pulled.ensures.ready
+
+pub returns-then-credit-eq0-clause-pulls : goal.returns-then-credit-eq0-clause-pulls
+returns-then-credit-eq0-clause-pulls g c = pulls_none (g.I.Inlet.state c.args.feed.now)
+
+pub returns-in_err-take_records-clause-pulls : goal.returns-in_err-take_records-clause-pulls
+returns-in_err-take_records-clause-pulls g c = pulls_none (g.I.Inlet.state c.args.feed.now)
+
+pub returns-then-branch-clause-pulls : goal.returns-then-branch-clause-pulls
+returns-then-branch-clause-pulls g c = pulls_none (g.I.Inlet.state c.args.feed.now)
+
+pub returns-then-reader-clause-pulls : goal.returns-then-reader-clause-pulls
+returns-then-reader-clause-pulls g c = pulls_none (g.I.Inlet.state c.args.feed.now)

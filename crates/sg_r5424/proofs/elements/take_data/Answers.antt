@@ -6,7 +6,7 @@ use Rattle.sg_r5424.proofs.elements.take_data.Goals as goal
 pub returns-then-not-first_is-2 : goal.returns-then-not-first_is-2
 returns-then-not-first_is-2 c =
     let opens : c.take_text.new.text ≡ 91 ∷ drop 1 c.as_slice.result.now = sym c.as_slice.ensures ∙ c.if-not-first_is.ensures in
-    let end = so_far_end c.take_text.new.text (drop 1 c.as_slice.result.now) c.args.message.now c.elements.text c.elements.message opens c.elements.invariant
+    let end = so_far_end c.take_text.new.text (drop 1 c.as_slice.result.now) c.args.builder.now c.elements.text c.elements.builder opens c.elements.invariant
     (λ rest h. c.if-not-first_is-2.ensures rest (c.as_slice-in-elements.ensures ∙ h)) in
     let kept = c.if-take_text.ensures.kept in
     let left = end.1.2 in (
@@ -19,7 +19,7 @@ returns-then-not-branch c =
     let opens : c.take_text.new.text ≡ 91 ∷ drop 1 c.as_slice.result.now = sym c.as_slice.ensures ∙ c.if-not-first_is.ensures in
     let again : c.elements.text ≡ 91 ∷ drop 1 c.as_slice-in-elements.result.now = sym c.as_slice-in-elements.ensures ∙ c.if-not-first_is-2.ensures in
     let never = rw c.if-not-branch.true at c.in_ok-take_element.ensures in
-    let stuck = so_far_stuck c.take_text.new.text (drop 1 c.as_slice.result.now) c.args.message.now c.elements.text c.elements.message (drop 1 c.as_slice-in-elements.result.now) opens c.elements.invariant again never.0 in
+    let stuck = so_far_stuck c.take_text.new.text (drop 1 c.as_slice.result.now) c.args.builder.now c.elements.text c.elements.builder (drop 1 c.as_slice-in-elements.result.now) opens c.elements.invariant again never.0 in
     let kept = c.if-take_text.ensures.kept in
     let left = never.1 in
     let so_far = c.elements.invariant.shorter in (
@@ -35,4 +35,4 @@ elements-smaller c =
 pub elements-preserved : goal.elements-preserved
 elements-preserved c =
     let one = rw c.if-not-branch.false at c.in_ok-take_element.ensures in
-    so_far_more c.take_text.new.text c.args.message.now c.elements.text c.elements.message one.0 c.take_element.new.text c.take_element.new.message c.elements.invariant one.1.0 one.1.2 one.1.1
+    so_far_more c.take_text.new.text c.args.builder.now c.elements.text c.elements.builder one.0 c.take_element.new.text c.take_element.new.builder c.elements.invariant one.1.0 one.1.2 one.1.1

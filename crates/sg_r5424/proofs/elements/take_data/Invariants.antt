@@ -3,7 +3,7 @@ use Rattle.sg_r5424.proofs.ElementLemmas.{ElementsSoFar}
 use Rattle.sg_r5424.proofs.elements.take_data.Given as goal
 
 abbrev pub invariant-elements : goal.invariant-elements
-invariant-elements l = ElementsSoFar l.initial.text l.initial.message l.text l.message
+invariant-elements l = ElementsSoFar l.initial.text l.initial.builder l.text l.builder
 
 abbrev pub decreases-elements : goal.decreases-elements
 decreases-elements l = length l.text

@@ -1,5 +1,5 @@
 use Rattle.std.proofs.Common.{◌≡◌, Some, None, length, sym, ap, ◌∙◌, arith, length-drop}
-use Rattle.sg_r3164.specs.Parts.{priority}
+use Rattle.sg_msg.specs.Priority.{priority}
 use Rattle.sg_r5424.proofs.HeaderLemmas.{start_none, start_stuck}
 use Rattle.sg_r5424.proofs.header.take_start.Goals as goal
 

@@ -3,7 +3,7 @@ use Rattle.sg_r5424.proofs.ParamLemmas.{ParamsSoFar}
 use Rattle.sg_r5424.proofs.params.take_params.Given as goal
 
 abbrev pub invariant-params : goal.invariant-params
-invariant-params l = ParamsSoFar l.id l.initial.text l.initial.message l.text l.message
+invariant-params l = ParamsSoFar l.id l.initial.text l.initial.builder l.text l.builder
 
 abbrev pub decreases-params : goal.decreases-params
 decreases-params l = length l.text

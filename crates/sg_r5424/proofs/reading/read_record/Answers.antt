@@ -1,5 +1,5 @@
 use Rattle.std.proofs.Common.{arith, subst}
-use Rattle.sg_msg.specs.Message.{Content}
+use Rattle.sg_msg.specs.Build.{Build}
 use Rattle.sg_r5424.specs.Is5424.{Behind, TryReads}
 use Rattle.sg_r5424.proofs.ReadingLemmas.{no_names, reads_tried}
 use Rattle.sg_r5424.proofs.reading.read_record.Goals as goal
@@ -25,4 +25,4 @@ returns c =
     let shorter = c.in-Some.ensures.front.1 in
     let left = names.1 in
     reads_tried c.args.received c.args.peer.now c.args.opts.now c.args.text.now c.in-Some.front c.take_front.new.text c.in-Some-2.names c.take_names.new.text c.read_behind.new.text c.read_behind.result c.in-Some.ensures.front.0 names.0 (omega arith)
-    (subst (λ (x : Content). TryReads (Behind x c.take_names.new.text) c.take_names.new.text c.read_behind.new.text c.read_behind.result) c.in_ok-message.ensures c.read_behind.ensures)
+    (subst (λ (x : Build). TryReads (Behind x c.take_names.new.text) c.take_names.new.text c.read_behind.new.text c.read_behind.result) c.in_ok-builder.ensures c.read_behind.ensures)

@@ -1,6 +1,6 @@
 use Rattle.std.proofs.Common.{◌≡◌, ℕ, ◌≤◌, ◌∷◌, List, length, drop, sym, ap, ◌∙◌, subst, arith, length-drop}
 use Rattle.std.specs.List.{prefix_len}
-use Rattle.sg_r3164.specs.Parts.{is_print}
+use Rattle.sg_msg.specs.Sets.{is_print}
 use Rattle.sg_r5424.specs.Grammar.{IsField}
 use Rattle.sg_r5424.proofs.NameLemmas.{field_len_is, field_found, field_space}
 use Rattle.sg_r5424.proofs.take.take_field.Goals.{then-len-eq0-via-then-len-eq0, then-len-eq0-via-else-len-eq0+then-len-most}

@@ -1,11 +1,13 @@
-use Rattle.std.proofs.Common.{◌≡◌, ◌++◌, take}
-use Rattle.std.specs.List.{flat_map}
+use Rattle.std.proofs.Common.{◌≡◌, ◌++◌, length}
 use Rattle.sg_template.specs.Begins.{BeginsWith}
-use Rattle.sg_template.specs.Elements.{escaped_byte}
+use Rattle.sg_template.specs.Elements.{escaped}
 use Rattle.sg_template.proofs.elements.append_escaped.Given as goal
 
-abbrev pub invariant-loop-byte : goal.invariant-loop-byte
-invariant-loop-byte l = record {
-  text : l.out.items ≡ l.fn.out.items ++ flat_map escaped_byte (take l.byte-index l.value);
+abbrev pub invariant-loop-rest : goal.invariant-loop-rest
+invariant-loop-rest l = record {
+  text : l.out.items ++ escaped l.rest ≡ l.fn.out.items ++ escaped l.value;
   begins : BeginsWith l.fn.out.items l.out.items;
 }
+
+abbrev pub decreases-loop-rest : goal.decreases-loop-rest
+decreases-loop-rest l = length l.rest

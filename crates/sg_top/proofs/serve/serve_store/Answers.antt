@@ -15,12 +15,12 @@ pub returns-in-Ok : goal.returns-in-Ok
 returns-in-Ok g c = λ spec.
     let opened = c.in-Ok.ensures in
     let disk = g.W.Store.Disk.state c.args.store in
-    over-core (g.W.Files.state c.args.world.now) (g.W.Files.state c.serve_core-ending.new.world) c.in-Ok.core c.serve_core-ending.new.core spec disk (g.W.Store.Disk.state c.give_back.result) c.args.from.now c.args.into.now
+    over-core (g.W.Machine.state c.args.world.now) (g.W.Machine.state c.serve_core-ending.new.world) c.in-Ok.core c.serve_core-ending.new.core spec disk (g.W.Store.Disk.state c.give_back.result) c.args.from.now c.args.into.now
     c.serve_core-ending.result c.give_back.ensures (c.serve_core-ending.ensures spec disk opened.1)
 
 pub returns-in-Err : goal.returns-in-Err
 returns-in-Err g c = λ spec.
-    let w = g.W.Files.state c.args.world.now in
+    let w = g.W.Machine.state c.args.world.now in
     let disk = g.W.Store.Disk.state c.args.store in
     let disk' = g.W.Store.Disk.state c.in-Err.store in
     let P : Status → Type 0 = λ s. ServesStore w w spec disk disk' c.args.from.now c.args.into.now (Early s) in

@@ -6,7 +6,7 @@ use Rattle.sg_msg.proofs.base.Pairs.get.Goals as goal
 pub returns-in-Ok : goal.returns-in-Ok
 returns-in-Ok c =
     let at = rw (c.deref.ensures, c.self.view_is) at c.in-Ok.ensures.found in
-    let e = value-at c.args.name.now c.args.self.now c.in-Ok.place c.index.result.now c.requires at in
+    let e = value-at c.args.name.now c.args.self.now c.in-Ok.place c.index-deref-place.result c.requires at in
     rw e (cc)
 
 -- the name isn't there

@@ -1,0 +1,111 @@
+// Values by name.
+ghost use Rattle.std.specs.Prelude.{◌≡◌, IfOk, OnOk, option_copied};
+ghost use Rattle.std.specs.FinMap as map;
+
+use sg_device::NoMemory;
+use std::alloc::Global;
+use std::collections::BTreeMap;
+use std::marker::Model;
+use std::sync::Arc;
+
+/// Values by name, which are found in time in proportion to the logarithm of their number.
+#[derive(Drop)]
+pub struct Table<V> {
+    entries: BTreeMap<Vec<u8>, V>,
+}
+
+impl<V> Model for Table<V> {
+    ghost use Rattle.std.specs.Ordering.{nat_cmp};
+    ghost use Rattle.std.specs.Cmp.Lexicographic.{slice_cmp};
+    ghost use Rattle.std.specs.FinMap as map;
+    ghost use Rattle.std.specs.Coded.{coded_ℕ, coded_list};
+    ghost use Rattle.sg_block.specs.Names.{by_bytes};
+
+    ghost Value = { map.FinMap (slice_cmp nat_cmp) V };
+
+    ghost coded = { map.code (coded_list coded_ℕ) V.code };
+
+    ghost view = { λ t. map.from_entries (by_bytes t.entries.entries) };
+}
+
+impl<V> Table<V> {
+    pub fn new(alloc: Global) -> Self
+        ensures { result ≡ map.empty }
+    {
+        Table {
+            entries: BTreeMap::new(alloc),
+        }
+    }
+
+    pub fn get(&self, name: &[u8]) -> Option<&V>
+        ensures { option_copied result ≡ map.get self.now name.now }
+    {
+        self.entries.get(name)
+    }
+
+    pub fn has(&self, name: &[u8]) -> bool
+        ensures { result ≡ map.contains_key self.now name.now }
+    {
+        self.get(name).is_some()
+    }
+
+    /// Sets the value of a name.
+    pub fn insert(&mut self, name: Vec<u8>, value: V) -> Result<(), NoMemory>
+    where
+        V: Drop,
+        ensures { OnOk result (self.new ≡ map.insert self.old name.items value) }
+    {
+        self.entries.insert(name, value)?;
+        Ok(())
+    }
+}
+
+/// A table that several owners share.
+#[derive(Drop)]
+pub struct Shared<V> {
+    table: Arc<Table<V>>,
+}
+
+impl<V> Model for Shared<V> {
+    ghost use Rattle.std.specs.Ordering.{nat_cmp};
+    ghost use Rattle.std.specs.Cmp.Lexicographic.{slice_cmp};
+    ghost use Rattle.std.specs.FinMap as map;
+    ghost use Rattle.std.specs.Coded.{coded_ℕ, coded_list};
+    ghost use Rattle.std.specs.Arc.{arc_value};
+
+    ghost Value = { map.FinMap (slice_cmp nat_cmp) V };
+
+    ghost coded = { map.code (coded_list coded_ℕ) V.code };
+
+    ghost view = { λ s. arc_value s.table };
+}
+
+impl<V: Drop> Shared<V> {
+    pub fn new(alloc: Global, table: Table<V>) -> Result<Shared<V>, NoMemory>
+        ensures { IfOk result (λ shared. shared ≡ table) }
+    {
+        Ok(Shared {
+            table: Arc::new(alloc, table)?,
+        })
+    }
+
+    pub fn empty(alloc: Global) -> Result<Shared<V>, NoMemory>
+        ensures { IfOk result (λ shared. shared ≡ map.empty) }
+    {
+        Shared::new(alloc, Table::new(alloc))
+    }
+
+    pub fn share(&self) -> Result<Shared<V>, NoMemory>
+        ensures { IfOk result (λ shared. shared ≡ self.now) }
+    {
+        Ok(Shared {
+            table: Arc::try_clone(&self.table)?,
+        })
+    }
+
+    pub fn values(&self) -> &Table<V>
+        ensures { result.now ≡ self.now }
+    {
+        &self.table
+    }
+}

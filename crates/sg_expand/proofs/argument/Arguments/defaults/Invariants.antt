@@ -1,6 +1,0 @@
-use Rattle.std.proofs.Common.{◌≡◌, ◌++◌, drop}
-use Rattle.sg_expand.specs.Arguments.{defaults}
-use Rattle.sg_expand.proofs.argument.Arguments.defaults.Given as goal
-
-abbrev pub invariant-loop-place : goal.invariant-loop-place
-invariant-loop-place l = defaults l.self l.given ≡ l.left ++ defaults (drop l.place l.self) l.given

@@ -1,0 +1,27 @@
+-- A real file that is read.
+use Rattle.std.specs.Prelude.{◌≡◌, ◌||◌, false, IsTrue, Result, Ok, Err}
+use Rattle.sg_device.specs.Inlet.{InletState}
+use Rattle.sg_device.specs.declared.fault.InletFault.{InletFault}
+use Rattle.sg_device.specs.declared.inlet.Pull.{Pull}
+use Rattle.sg_device.specs.declared.inlet.Pull.TheVariants.{Bytes, Next, Idle, End}
+use Rattle.sg_file.specs.Counts.{inlet_state}
+use Rattle.sg_file.specs.declared.inlet.FileInlet.{FileInlet}
+
+abbrev pub inlet_of : FileInlet → InletState
+inlet_of inlet = inlet_state inlet.counts
+
+-- a file that is read once isn't idle, and another one ends only where it was hung up
+abbrev pub EndsBy : FileInlet → Result Pull InletFault → Type 0
+EndsBy old (Ok (Bytes len at)) = Unit {0}
+EndsBy old (Ok Next) = ⊥
+EndsBy old (Ok Idle) = old.once ≡ false
+EndsBy old (Ok End) = IsTrue (old.once || old.counts.ended || old.counts.hung)
+EndsBy old (Err e) = Unit {0}
+
+-- it brought no bytes
+abbrev pub IsNoBytes : Result Pull InletFault → Type 0
+IsNoBytes (Ok (Bytes len at)) = ⊥
+IsNoBytes (Ok Next) = Unit {0}
+IsNoBytes (Ok Idle) = Unit {0}
+IsNoBytes (Ok End) = Unit {0}
+IsNoBytes (Err e) = Unit {0}

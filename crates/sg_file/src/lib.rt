@@ -1,0 +1,29 @@
+//! Real files as devices, and what all real devices share: what they count, when they wait, and what
+//! they tell their operator. They tell nothing of content.
+#![tactic(auto)]
+
+mod counts;
+mod fresh;
+mod health;
+mod inlet;
+mod clock;
+mod open;
+mod outlet;
+mod place;
+mod read;
+mod rest;
+mod retry;
+mod store;
+mod target;
+
+pub use counts::{InletCounts, OutletCounts};
+pub use health::Health;
+pub use inlet::FileInlet;
+pub use clock::moment;
+pub use open::path_text;
+pub use outlet::FileOutlet;
+pub use read::{read_file, read_some};
+pub use rest::Rest;
+pub use retry::Retry;
+pub use store::FileDisk;
+pub use target::{Appending, Target};

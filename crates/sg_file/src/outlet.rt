@@ -1,0 +1,104 @@
+// A real file that takes frames.
+ghost use Rattle.std.specs.Prelude.{◌≡◌, IfOk};
+ghost use Rattle.sg_file.specs.Counts.{outlet_state, new_outlet};
+ghost use Rattle.sg_file.specs.Outlet.{outlet_of};
+
+use crate::{Appending, OutletCounts, Rest, Target};
+use sg_device::{Frames, OpenRefusal, Outlet, OutletFault, Reopened, SendRefusal};
+use std::alloc::Global;
+
+/// A file that is appended to, by one write for all frames of a send. A frame that was taken is with
+/// the kernel, or on the disk where that is asked. What a full disk left of a frame that wasn't taken
+/// is cut off again, where nobody else changed the file's length.
+#[derive(Drop)]
+pub struct FileOutlet {
+    target: Target,
+    counts: OutletCounts,
+}
+
+impl FileOutlet {
+    /// Opens a file for appending, and makes it where it is missing. A failure is told on standard
+    /// error.
+    pub fn open(
+        alloc: Global,
+        rt: HostRuntime,
+        path: &[u8],
+        how: Appending,
+        rest: Rest,
+    ) -> Result<FileOutlet, OpenRefusal>
+        ensures { IfOk result (λ outlet. outlet_of outlet ≡ new_outlet) }
+    {
+        Ok(FileOutlet {
+            target: Target::open(alloc, rt, path, how, rest)?,
+            counts: OutletCounts::new(),
+        })
+    }
+
+    /// What was counted so far.
+    pub fn counts(&self) -> OutletCounts
+        ensures { outlet_state result ≡ outlet_of self.now }
+    {
+        self.counts
+    }
+}
+
+// Appends the frames to a file, and tells how many of them count.
+fn put(target: &mut Target, frames: &Frames) -> usize {
+    let bytes = frames.bytes();
+    let appended = target.append(bytes);
+    if appended < bytes.len() {
+        return keep_whole(target, frames, appended);
+    }
+    if target.settle() {
+        target.keep(appended);
+        return frames.len();
+    }
+    target.cut(appended, 0);
+    target.keep_what_is_there();
+    0
+}
+
+// Of so many bytes that were appended, keeps the whole frames, and tells how many of them count.
+fn keep_whole(target: &mut Target, frames: &Frames, appended: usize) -> usize {
+    let mut whole = frames.whole_within(appended);
+    let keep = bytes_of(frames, whole);
+    target.cut(appended, keep);
+    if whole > 0 && !target.settle() {
+        target.cut(keep, 0);
+        whole = 0;
+    }
+    target.keep_what_is_there();
+    whole
+}
+
+// The number of bytes of the first `whole` frames.
+fn bytes_of(frames: &Frames, whole: usize) -> usize {
+    let mut bytes = 0usize;
+    for size in frames.sizes().iter().take(whole) {
+        bytes = bytes.saturating_add(*size);
+    }
+    bytes
+}
+
+impl Outlet for FileOutlet {
+    ghost state = { outlet_of };
+
+    fn send(&mut self, frames: &Frames) -> Result<(), SendRefusal> {
+        let all = frames.len();
+        let whole = if self.counts.has_room(all) {
+            put(&mut self.target, frames)
+        } else {
+            0
+        };
+        self.counts.sent(whole, all)
+    }
+
+    fn taken(&self) -> u64 {
+        self.counts.taken
+    }
+
+    fn reopen(&mut self) -> Result<Reopened, OutletFault> {
+        let got = self.target.reopen();
+        self.counts.reopened(got)
+    }
+}

@@ -1,0 +1,38 @@
+// When an outlet is opened anew.
+use std::time::Instant;
+
+/// The time from one try to open an outlet to the next.
+#[derive(Drop)]
+pub struct Retry {
+    rt: HostRuntime,
+    // In seconds.
+    every: u32,
+    last: Option<Instant>,
+}
+
+impl Retry {
+    /// So many seconds; nothing was tried yet.
+    pub fn new(rt: HostRuntime, every: u32) -> Retry {
+        Retry {
+            rt,
+            every,
+            last: None,
+        }
+    }
+
+    /// It is tried now.
+    pub fn begin(&mut self) {
+        self.last = Instant::now(&self.rt).ok();
+    }
+
+    /// Whether it is too early for another try.
+    pub fn is_early(&self) -> bool {
+        let Some(last) = self.last else {
+            return false;
+        };
+        match last.elapsed(&self.rt) {
+            Ok(since) => since.as_secs() < u64::from(self.every),
+            Err(_) => false,
+        }
+    }
+}

@@ -1,0 +1,32 @@
+-- The openers that a real machine opens and closes.
+use Rattle.std.specs.Prelude.{◌≡◌, ◌≤◌, map}
+use Rattle.sg_device.specs.Faults.{Rose}
+use Rattle.sg_device.specs.Paths.{PathsState, IsNewOpener}
+use Rattle.sg_outside.specs.World.{Ledger, Opened, with_opened}
+use Rattle.sg_device.specs.declared.fault.OpenRefusal.{OpenRefusal}
+use Rattle.sg_device.specs.declared.fault.OpenRefusal.TheVariants.{Failed, NoMemory}
+use Rattle.sg_outside.specs.declared.request.OutletSpec.{OutletSpec}
+use Rattle.sg_host.specs.Counts.{paths_state, new_paths}
+use Rattle.sg_host.specs.Cells.{paths_states}
+use Rattle.sg_host.specs.declared.paths.HostOpener.{HostOpener}
+use Rattle.sg_host.specs.declared.paths.HostPaths.{HostPaths}
+
+abbrev pub opener_of : HostOpener → PathsState
+opener_of opener = paths_state opener.counts
+
+-- an opener at its opening
+abbrev pub opened_paths : OutletSpec → Opened OutletSpec PathsState
+opened_paths spec = record { spec = spec; state = new_paths }
+
+-- those opened and those closed
+abbrev pub paths_of : HostPaths → Ledger OutletSpec PathsState
+paths_of paths = record { opened = map opened_paths paths.opened.items; closed = paths_states paths.closed }
+
+-- the opener has opened nothing yet
+abbrev pub PathsOpen : HostPaths → HostPaths → OutletSpec → PathsState → Type 0
+PathsOpen old new spec opener = (paths_of new ≡ with_opened (paths_of old) spec opener) × (new.faults ≡ old.faults) × IsNewOpener opener
+
+-- a failure is counted
+abbrev pub PathsRefuse : HostPaths → HostPaths → OpenRefusal → Type 0
+PathsRefuse old new Failed = (paths_of new ≡ paths_of old) × (old.faults ≤ new.faults) × Rose old.faults new.faults
+PathsRefuse old new NoMemory = (paths_of new ≡ paths_of old) × (new.faults ≡ old.faults)

@@ -1,0 +1,131 @@
+// Which calls of a machine in memory, and of the devices that it opens, are to fail.
+ghost use Rattle.std.specs.Prelude.{◌≡◌, drop};
+ghost use Rattle.sg_memory_disk.specs.Plan.{failing, IsQuiet};
+ghost use Rattle.sg_memory.specs.Plans.{AreQuiet, IsOutletQuiet, IsPathsQuiet, first_failing, IsFirstOutlet, IsFirstPaths};
+
+use sg_memory_disk::Plan;
+use std::alloc::Global;
+use std::collections::VecDeque;
+
+/// What the calls of an outlet come to.
+#[derive(Debug, Drop)]
+pub struct OutletPlan {
+    /// The sends and reopenings that fail, counted together.
+    pub fails: Plan,
+    /// The frames that a send takes before it fails, or all but one of them where there are fewer.
+    pub first: usize,
+    /// The reopenings that answer Later, where they don't fail.
+    pub laters: Plan,
+}
+
+impl OutletPlan {
+    /// No call fails, and none is too early.
+    pub fn never(alloc: Global) -> OutletPlan
+        ensures { IsOutletQuiet result }
+    {
+        OutletPlan::failing(alloc, Plan::never(alloc))
+    }
+
+    /// These calls fail, and take nothing.
+    pub fn failing(alloc: Global, fails: Plan) -> OutletPlan
+        ensures fails { result.fails ≡ fails }
+        ensures laters { IsQuiet result.laters }
+    {
+        OutletPlan {
+            fails,
+            first: 0,
+            laters: Plan::never(alloc),
+        }
+    }
+}
+
+/// What the calls of an opener come to.
+#[derive(Debug, Drop)]
+pub struct PathsPlan {
+    /// The openings, sends and reopenings that fail, counted together.
+    pub fails: Plan,
+    /// The reopenings that answer Later, where they don't fail.
+    pub laters: Plan,
+}
+
+impl PathsPlan {
+    /// No call fails, and none is too early.
+    pub fn never(alloc: Global) -> PathsPlan
+        ensures { IsPathsQuiet result }
+    {
+        PathsPlan {
+            fails: Plan::never(alloc),
+            laters: Plan::never(alloc),
+        }
+    }
+}
+
+/// The calls of a machine that fail, and those of the devices that it opens.
+#[derive(Debug, Drop)]
+pub struct WorldPlans {
+    pub reads: Plan,
+    pub inlet_opens: Plan,
+    pub outlet_opens: Plan,
+    pub paths_opens: Plan,
+    pub says: Plan,
+    /// The patterns that are too large.
+    pub builds: Plan,
+    /// The plans of the inlets that will be opened, in order. No call fails of those behind them.
+    pub inlets: VecDeque<Plan>,
+    /// The same of the outlets.
+    pub outlets: VecDeque<OutletPlan>,
+    /// The same of the openers.
+    pub paths: VecDeque<PathsPlan>,
+}
+
+impl WorldPlans {
+    /// No call fails.
+    pub fn never(alloc: Global) -> WorldPlans
+        ensures { AreQuiet result }
+    {
+        WorldPlans {
+            reads: Plan::never(alloc),
+            inlet_opens: Plan::never(alloc),
+            outlet_opens: Plan::never(alloc),
+            paths_opens: Plan::never(alloc),
+            says: Plan::never(alloc),
+            builds: Plan::never(alloc),
+            inlets: VecDeque::new(alloc),
+            outlets: VecDeque::new(alloc),
+            paths: VecDeque::new(alloc),
+        }
+    }
+}
+
+/// The plan of the inlet that is opened next.
+pub fn take_inlet(alloc: Global, plans: &mut VecDeque<Plan>) -> Plan
+    ensures first { failing result ≡ first_failing plans.old.items }
+    ensures rest { plans.new.items ≡ drop 1 plans.old.items }
+{
+    match plans.pop_front() {
+        Some(plan) => plan,
+        None => Plan::never(alloc),
+    }
+}
+
+/// The plan of the outlet that is opened next.
+pub fn take_outlet(alloc: Global, plans: &mut VecDeque<OutletPlan>) -> OutletPlan
+    ensures first { IsFirstOutlet plans.old.items result }
+    ensures rest { plans.new.items ≡ drop 1 plans.old.items }
+{
+    match plans.pop_front() {
+        Some(plan) => plan,
+        None => OutletPlan::never(alloc),
+    }
+}
+
+/// The plan of the opener that is opened next.
+pub fn take_paths(alloc: Global, plans: &mut VecDeque<PathsPlan>) -> PathsPlan
+    ensures first { IsFirstPaths plans.old.items result }
+    ensures rest { plans.new.items ≡ drop 1 plans.old.items }
+{
+    match plans.pop_front() {
+        Some(plan) => plan,
+        None => PathsPlan::never(alloc),
+    }
+}

@@ -1,0 +1,9 @@
+pub mod Plan
+pub mod DiskPlan
+pub mod DiskChange
+pub mod MemoryDisk
+pub mod MemoryDiskLaws
+pub mod Pick
+pub mod Tear
+pub mod Stores
+pub mod StoresLaws

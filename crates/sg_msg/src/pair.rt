@@ -1,0 +1,67 @@
+// A name and its value.
+ghost use Rattle.std.specs.Prelude.{◌≡◌, []};
+
+use bytes::Bytes;
+use std::alloc::AllocError;
+use std::marker::Model;
+
+/// A name and its value.
+#[derive(Debug, Drop)]
+pub(crate) struct Pair {
+    name: Bytes,
+    value: Bytes,
+}
+
+impl Model for Pair {
+    ghost use Rattle.sg_msg.specs.Message.{Pair as NamedValue};
+
+    ghost Value = { NamedValue };
+
+    ghost view = { λ p. record { name = p.name; value = p.value } };
+}
+
+impl Pair {
+    pub(crate) fn new(name: Bytes, value: Bytes) -> Pair
+        ensures { result ≡ record { name = name; value = value } }
+    {
+        Pair { name, value }
+    }
+
+    pub(crate) fn name(&self) -> &[u8]
+        ensures { result.now ≡ self.now.name }
+    {
+        &self.name
+    }
+
+    pub(crate) fn value(&self) -> &[u8]
+        ensures { result.now ≡ self.now.value }
+    {
+        &self.value
+    }
+
+    pub(crate) fn put(&mut self, value: Bytes)
+        ensures { self.new ≡ record self.old { value = value } }
+    {
+        self.value = value;
+    }
+}
+
+// What the places hold that are kept ready for a message's first pairs.
+impl Default for Pair {
+    ghost is_default = { λ pair. pair ≡ record { name = []; value = [] } };
+
+    fn default() -> Pair {
+        Pair::new(Bytes::new(), Bytes::new())
+    }
+}
+
+impl Clone for Pair {
+    ghost is_clone = { λ pair copy. copy ≡ pair };
+
+    fn clone(&self) -> Result<Pair, AllocError> {
+        Ok(Pair {
+            name: self.name.clone()?,
+            value: self.value.clone()?,
+        })
+    }
+}

@@ -1,0 +1,62 @@
+// Pairs in the order of their names, the later of two of one name.
+ghost use Rattle.std.specs.Prelude.{◌≡◌, ◌++◌, ◌-◌, [], ◌∷◌, length, take, if◌then◌else◌, IfOk, OnOk, OnErr, slice_get};
+ghost use Rattle.sg_msg.specs.Message.{with_all};
+ghost use Rattle.sg_msg.specs.Sorting.{is_named, put_last, put_each, IsInOrder, KeepsEachName};
+
+use crate::base::FEW;
+use crate::pair::Pair;
+use smallvec::SmallVec;
+use std::alloc::{AllocError, Global};
+
+// Whether the pair that stands last has this name.
+fn ends_with_name(pairs: &[Pair], name: &[u8]) -> bool
+    ensures { result ≡ is_named name.now (slice_get pairs.now (length pairs.now - 1)) }
+{
+    match pairs.last() {
+        Some(pair) => pair.name() == name,
+        None => false,
+    }
+}
+
+fn put_last(pairs: &mut SmallVec<Pair, FEW>, pair: Pair) -> Result<(), AllocError>
+    ensures { OnOk result (pairs.new.items ≡ put_last pair pairs.old.items) }
+{
+    if ends_with_name(pairs.as_slice(), pair.name()) {
+        pairs.pop();
+    }
+    pairs.push(pair)?;
+    Ok(())
+}
+
+fn sort(alloc: Global, pairs: &mut SmallVec<Pair, FEW>) -> Result<(), AllocError>
+    ensures sorted { OnOk result (IsInOrder pairs.new.items) }
+    ensures stable { KeepsEachName pairs.old.items pairs.new.items }
+{
+    pairs.sort_by(alloc, |a, b| a.name().cmp(b.name()))
+}
+
+// The pairs, where they stand in order: of those of one name the last.
+fn last_of_each(
+    alloc: Global,
+    pairs: SmallVec<Pair, FEW>,
+) -> Result<SmallVec<Pair, FEW>, AllocError>
+    ensures { IfOk result (λ kept. kept.items ≡ put_each pairs.items []) }
+{
+    let mut kept = SmallVec::with_capacity(alloc, pairs.len())?;
+    for pair in pairs {
+        put_last(&mut kept, pair)?;
+    }
+    Ok(kept)
+}
+
+/// The pairs that setting these one after another gives.
+pub(crate) fn sorted(
+    alloc: Global,
+    mut pairs: SmallVec<Pair, FEW>,
+) -> Result<SmallVec<Pair, FEW>, AllocError>
+    ensures { IfOk result (λ kept. kept.items ≡ with_all pairs.items []) }
+{
+    sort(alloc, &mut pairs)?;
+    let kept = last_of_each(alloc, pairs)?;
+    Ok(kept)
+}

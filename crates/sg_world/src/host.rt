@@ -1,0 +1,139 @@
+// The machine that the program runs on: real files, sockets and standard output.
+ghost use Rattle.std.specs.Prelude.{None};
+ghost use Rattle.sg_outside.specs.World.{WorldState};
+ghost use Rattle.sg_host.specs.Inlets.{inlets_of};
+ghost use Rattle.sg_host.specs.Outlets.{outlets_of};
+ghost use Rattle.sg_host.specs.Paths.{paths_of};
+ghost use Rattle.sg_host.specs.Stores.{stores_of};
+
+use crate::World;
+use crate::world::LONGEST;
+use sg_device::{FileRefusal, Name, NoMemory, OpenRefusal, SayRefusal};
+use sg_expand::Files;
+use sg_host::{
+    HostDrain, HostFeed, HostInlets, HostOpener, HostOutlets, HostPaths, HostStore, HostStores,
+    Rest, read_file, say, tell,
+};
+use sg_outside::{InletSpec, Machine, OutletSpec, StoreSpec};
+use std::alloc::Global;
+
+/// The machine. It tells nothing of the content of files and devices. When a device begins to fail,
+/// and when it works again, it says so on standard error.
+#[derive(Drop)]
+pub struct HostMachine {
+    rt: HostRuntime,
+    inlets: HostInlets,
+    outlets: HostOutlets,
+    paths: HostPaths,
+    stores: HostStores,
+    // The name of the file whose reading failed last.
+    unread: Option<Name>,
+    read_faults: u64,
+    say_faults: u64,
+    build_faults: u64,
+}
+
+impl HostMachine {
+    /// The machine, of which nothing was asked yet.
+    pub fn new(rt: HostRuntime) -> Result<HostMachine, NoMemory> {
+        let alloc = rt.alloc();
+        let rest = Rest::new(alloc, rt)?;
+        Ok(HostMachine {
+            rt,
+            inlets: HostInlets::new(alloc, rt, rest.share()?),
+            outlets: HostOutlets::new(alloc, rt, rest.share()?),
+            paths: HostPaths::new(alloc, rt, rest),
+            stores: HostStores::new(alloc, rt),
+            unread: None,
+            read_faults: 0,
+            say_faults: 0,
+            build_faults: 0,
+        })
+    }
+}
+
+impl Machine for HostMachine {
+    ghost state = { λ m. record {
+      files = None;
+      unread = m.unread;
+      inlets = inlets_of m.inlets;
+      outlets = outlets_of m.outlets;
+      stores = stores_of m.stores;
+      paths = paths_of m.paths;
+      shelf = None;
+      said = None;
+      read_faults = m.read_faults;
+      inlet_faults = m.inlets.faults;
+      outlet_faults = m.outlets.faults;
+      store_faults = m.stores.faults;
+      paths_faults = m.paths.faults;
+      say_faults = m.say_faults;
+      build_faults = m.build_faults;
+    } };
+}
+
+impl Files for HostMachine {
+    fn read(&mut self, alloc: Global, name: &[u8]) -> Result<Vec<u8>, FileRefusal> {
+        let unread = Name::new(alloc, name)?;
+        let result = read_file(alloc, self.rt, &mut self.read_faults, name, LONGEST);
+        if result == Err(FileRefusal::Failed) {
+            self.unread = Some(unread);
+        }
+        result
+    }
+}
+
+impl World for HostMachine {
+    type Feed = HostFeed;
+
+    type Drain = HostDrain;
+
+    type Store = HostStore;
+
+    type Paths = HostOpener;
+
+    fn open_store(&mut self, alloc: Global, spec: &StoreSpec) -> Result<HostStore, OpenRefusal> {
+        self.stores.open(alloc, spec)
+    }
+
+    fn open_inlet(
+        &mut self,
+        alloc: Global,
+        spec: &InletSpec,
+        from: u64,
+    ) -> Result<(HostFeed, u64), OpenRefusal> {
+        self.inlets.open(alloc, spec, from)
+    }
+
+    fn open_outlet(&mut self, alloc: Global, spec: &OutletSpec) -> Result<HostDrain, OpenRefusal> {
+        self.outlets.open(alloc, spec)
+    }
+
+    fn open_paths(&mut self, alloc: Global, spec: &OutletSpec) -> Result<HostOpener, OpenRefusal> {
+        self.paths.open(alloc, spec)
+    }
+
+    fn close_store(&mut self, store: HostStore) {
+        self.stores.close(store);
+    }
+
+    fn close_inlet(&mut self, feed: HostFeed) {
+        self.inlets.close(feed);
+    }
+
+    fn close_outlet(&mut self, drain: HostDrain) {
+        self.outlets.close(drain);
+    }
+
+    fn close_paths(&mut self, opener: HostOpener) {
+        self.paths.close(opener);
+    }
+
+    fn say(&mut self, _alloc: Global, bytes: &[u8]) -> Result<(), SayRefusal> {
+        say(self.rt, &mut self.say_faults, bytes)
+    }
+
+    fn tell(&mut self, bytes: &[u8]) {
+        tell(self.rt, bytes);
+    }
+}

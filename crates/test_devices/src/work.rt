@@ -1,0 +1,108 @@
+// What the program does with a device. Each answers whether the device was opened.
+use sg_device::{Disk, Frames, Inlet, Outlet, Pull};
+use sg_file::{Appending, FileDisk, FileInlet, FileOutlet, Rest, read_file};
+use std::io;
+
+// An outlet that can be opened anew at once.
+fn open(rt: HostRuntime, path: &str, fsync: bool) -> io::Result<Option<FileOutlet>> {
+    let how = Appending {
+        fsync,
+        mode: 0o600,
+        reopen: 0,
+    };
+    let rest = Rest::new(rt.alloc(), rt)?;
+    match FileOutlet::open(rt.alloc(), rt, path.as_bytes(), how, rest) {
+        Ok(outlet) => Ok(Some(outlet)),
+        Err(_) => Ok(None),
+    }
+}
+
+fn push(rt: HostRuntime, frames: &mut Frames, line: &str) -> io::Result<()> {
+    let mut frame = line.as_bytes().to_vec(rt.alloc())?;
+    frame.push(b'\n')?;
+    frames.push(&frame)?;
+    Ok(())
+}
+
+/// Sends all lines of standard input at once, and says how many of them were taken.
+pub fn send(rt: HostRuntime, path: &str, fsync: bool) -> io::Result<bool> {
+    let Some(mut outlet) = open(rt, path, fsync)? else {
+        return Ok(false);
+    };
+    let mut frames = Frames::new(rt.alloc());
+    for line in rt.lines(rt.alloc()) {
+        push(rt, &mut frames, line?.as_str())?;
+    }
+    send_some(&mut outlet, &frames);
+    let taken = outlet.taken();
+    println!(rt; "taken {taken}")?;
+    Ok(true)
+}
+
+fn send_some(outlet: &mut FileOutlet, frames: &Frames) -> bool {
+    !frames.is_empty() && outlet.send(frames).is_ok()
+}
+
+/// Sends each line of standard input for itself. After a refusal the outlet is opened anew before the
+/// next line, and the line is lost.
+pub fn lines(rt: HostRuntime, path: &str) -> io::Result<bool> {
+    let Some(mut outlet) = open(rt, path, false)? else {
+        return Ok(false);
+    };
+    for line in rt.lines(rt.alloc()) {
+        let mut frames = Frames::new(rt.alloc());
+        push(rt, &mut frames, line?.as_str())?;
+        if !send_some(&mut outlet, &frames) {
+            let _ready = outlet.reopen();
+        }
+    }
+    let taken = outlet.taken();
+    println!(rt; "taken {taken}")?;
+    Ok(true)
+}
+
+/// Pulls up to the end, and says how many bytes came.
+pub fn pull(rt: HostRuntime, path: &str) -> io::Result<bool> {
+    let rest = Rest::new(rt.alloc(), rt)?;
+    let opened = FileInlet::open(rt.alloc(), rt, path.as_bytes(), true, 65_536, 0, rest);
+    let Ok(mut inlet) = opened else {
+        return Ok(false);
+    };
+    let mut buffer = [0u8; 4096];
+    for _ in 0..u64::MAX {
+        match inlet.pull(&mut buffer) {
+            Ok(Pull::Bytes { .. }) => {}
+            _ => break,
+        }
+    }
+    let bytes = inlet.counts().bytes;
+    println!(rt; "bytes {bytes}")?;
+    Ok(true)
+}
+
+/// Reads a file whole, and says how many bytes it has.
+pub fn read(rt: HostRuntime, path: &str) -> io::Result<bool> {
+    let mut faults = 0;
+    match read_file(rt.alloc(), rt, &mut faults, path.as_bytes(), 1_048_576) {
+        Ok(bytes) => {
+            let count = bytes.len();
+            println!(rt; "bytes {count}")?;
+            Ok(true)
+        }
+        Err(_) => Ok(false),
+    }
+}
+
+/// Opens a store, made where it is missing, says so, and keeps it until standard input ends.
+pub fn store(rt: HostRuntime, path: &str) -> io::Result<bool> {
+    let Ok(mut disk) = FileDisk::open(rt.alloc(), rt, path.as_bytes(), true) else {
+        return Ok(false);
+    };
+    println!(rt; "opened")?;
+    for line in rt.lines(rt.alloc()) {
+        let line = line?;
+        let written = disk.write_at(0, line.as_bytes()).is_ok() && disk.sync().is_ok();
+        println!(rt; "written {written}")?;
+    }
+    Ok(true)
+}

@@ -1,0 +1,72 @@
+// Stores, sources and destinations over real files.
+use crate::folder::Folder;
+use crate::{destinations, sources, stores};
+use std::test::Fail;
+
+// A step, and what it comes to.
+const STEPS: &str = "
+store lock = opened refused refused opened
+store fresh = opened 128 zeros mode 600 names 1
+store existing = opened 3 bytes mode 644
+store planted = opened untouched
+store dangling = refused absent
+store missing = refused absent
+store folder = refused
+store socket = refused
+store name = refused
+store short = 3 0
+source places = 0 4 0 0 8 0 11 0 0
+source once = abc:de:.:.:
+source idle = abc:-:-:
+source grown = abc:-:de:
+source shorter = abc:-:fault:fault:
+source replaced = abc:-:fault:
+source unlinked = abc:-:-:
+source hung = abc:.:.:
+source folder = refused
+source socket = refused
+source device = refused
+source name = refused
+source missing = refused
+destination modes = mode 640 mode 600 mode 444
+destination appended = taken 2 taken 3 abcdabcab
+destination full = taken 0
+destination later = later later
+destination ready = ready ready
+destination moved = old a new b
+destination folder = refused
+destination socket = refused
+destination device = opened
+destination dangling = refused absent
+destination name = refused
+file whole = 5 bytes
+file long = too long
+file folder = failed 1
+file socket = failed 1
+file name = failed 1
+";
+
+// Runs the steps one after another, each over a folder of its own.
+#[test]
+fn files(rt: HostRuntime) -> Result<(), Fail> {
+    for line in STEPS.lines() {
+        if let Some((step, want)) = line.split_once(" = ") {
+            let folder = Folder::new(rt)?;
+            let got = take(&folder, step)?;
+            folder.remove()?;
+            assert_eq!(rt; (step, got.as_str()), (step, want));
+        }
+    }
+    Ok(())
+}
+
+// What a step comes to.
+fn take(folder: &Folder, step: &str) -> Result<String, Fail> {
+    match step.split_once(' ') {
+        Some(("store", what)) => stores::take(folder, what),
+        Some(("source", what)) => sources::take(folder, what),
+        Some(("destination", what)) => destinations::take(folder, what),
+        Some(("file", what)) => stores::read(folder, what),
+        _ => Err("no such step".into()),
+    }
+}

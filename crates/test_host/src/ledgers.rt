@@ -1,0 +1,248 @@
+// The devices of a machine: what is opened and closed, and what of it fails.
+use crate::folder::Folder;
+use sg_device::{Disk, Frames, Inlet, Name, OpenRefusal, Opener, Outlet, Pull, Reopened};
+use sg_host::{HostInlets, HostOpener, HostOutlets, HostPaths, HostStores, Rest, say, tell};
+use sg_outside::{InletSpec, OutletSpec, StoreSpec};
+use std::io::Write;
+use std::net::{TcpListener, TcpStream};
+use std::test::Fail;
+
+// A step, and what it comes to.
+const STEPS: &str = "
+file inlet = at 4 bytes 2 failed 1
+slot inlets = at 0 parts 1 at 0 parts 1 failed 1
+file outlet = taken 2 failed 1
+tcp outlet = taken 1 failed 1
+store = 128 0 failed 1
+paths = one ab two cd again ef later 0 failed 1
+said = said
+";
+
+// Runs the steps one after another, each over a folder of its own.
+#[test]
+fn ledgers(rt: HostRuntime) -> Result<(), Fail> {
+    for line in STEPS.lines() {
+        if let Some((step, want)) = line.split_once(" = ") {
+            let folder = Folder::new(rt)?;
+            let got = take(&folder, step)?;
+            folder.remove()?;
+            assert_eq!(rt; (step, got.as_str()), (step, want));
+        }
+    }
+    Ok(())
+}
+
+// What a step comes to.
+fn take(folder: &Folder, step: &str) -> Result<String, Fail> {
+    match step {
+        "file inlet" => file_inlet(folder),
+        "slot inlets" => slot_inlets(folder),
+        "file outlet" => file_outlet(folder),
+        "tcp outlet" => tcp_outlet(folder),
+        "store" => store(folder),
+        "paths" => paths(folder),
+        "said" => said(folder),
+        _ => Err("no such step".into()),
+    }
+}
+
+// A device that can move between threads.
+fn is_send<T: Send>(_device: &T) {}
+
+fn name(folder: &Folder, text: &[u8]) -> Result<Name, Fail> {
+    Ok(Name::new(folder.alloc, text)?)
+}
+
+fn file_inlet(folder: &Folder) -> Result<String, Fail> {
+    let path = folder.file("in", b"abc\nde")?;
+    let mut inlets = HostInlets::new(folder.alloc, folder.rt, folder.rest()?);
+    let spec = InletSpec::File {
+        path: name(folder, path.as_bytes())?,
+        once: true,
+        limit: 8,
+    };
+    let (mut feed, place) = inlets.open(folder.alloc, &spec, 4)?;
+    is_send(&feed);
+    let mut buffer = [0u8; 8];
+    feed.pull(&mut buffer)?;
+    let bytes = feed.counts().bytes;
+    inlets.close(feed);
+    let spec = InletSpec::File {
+        path: name(folder, b"/none")?,
+        once: true,
+        limit: 8,
+    };
+    if inlets.open(folder.alloc, &spec, 0).is_ok() {
+        return Err("it opened".into());
+    }
+    let failed = inlets.faults;
+    Ok(format!(in folder.alloc; "at {place} bytes {bytes} failed {failed}")?)
+}
+
+// Two slots share a listener, which is free again once both are closed.
+fn slot_inlets(folder: &Folder) -> Result<String, Fail> {
+    let listener = TcpListener::bind(&folder.rt, ("127.0.0.1", 0))?;
+    let port = listener.local_addr()?.port();
+    drop(listener);
+    let mut inlets = HostInlets::new(folder.alloc, folder.rt, folder.rest()?);
+    let mut text = String::new(folder.alloc);
+    let mut feeds = Vec::new(folder.alloc);
+    for slot in 0..2u16 {
+        let spec = InletSpec::Slot {
+            ip: name(folder, b"127.0.0.1")?,
+            port,
+            slot,
+            once: false,
+        };
+        feeds.push(inlets.open(folder.alloc, &spec, 7)?)?;
+    }
+    let mut streams = Vec::new(folder.alloc);
+    for (feed, place) in &mut feeds {
+        streams.push(TcpStream::connect(&folder.rt, ("127.0.0.1", port))?)?;
+        let mut buffer = [0u8; 8];
+        feed.pull(&mut buffer)?;
+        let parts = feed.counts().parts;
+        let shown = format!(in folder.alloc; "at {place} parts {parts} ")?;
+        text.push_str(shown.as_str())?;
+    }
+    drop(streams);
+    for (feed, _place) in feeds {
+        inlets.close(feed);
+    }
+    let spec = InletSpec::Slot {
+        ip: name(folder, b"no address")?,
+        port,
+        slot: 0,
+        once: false,
+    };
+    if inlets.open(folder.alloc, &spec, 0).is_ok() {
+        return Err("it opened".into());
+    }
+    let failed = inlets.faults;
+    let shown = format!(in folder.alloc; "failed {failed}")?;
+    text.push_str(shown.as_str())?;
+    Ok(text)
+}
+
+fn frames(folder: &Folder, list: &[&str]) -> Result<Frames, Fail> {
+    let mut frames = Frames::new(folder.alloc);
+    for frame in list {
+        frames.push(frame.as_bytes())?;
+    }
+    Ok(frames)
+}
+
+fn file_outlet(folder: &Folder) -> Result<String, Fail> {
+    let mut outlets = HostOutlets::new(folder.alloc, folder.rt, folder.rest()?);
+    let path = folder.at("out")?;
+    let mut spec = OutletSpec::File {
+        path: name(folder, path.as_bytes())?,
+        fsync: false,
+        mode: 0o600,
+        reopen: 0,
+    };
+    let mut drain = outlets.open(folder.alloc, &spec)?;
+    is_send(&drain);
+    drain.send(&frames(folder, &["ab", "cd"])?)?;
+    let taken = drain.taken();
+    outlets.close(drain);
+    spec = OutletSpec::File {
+        path: name(folder, b"/none/out")?,
+        fsync: false,
+        mode: 0o600,
+        reopen: 0,
+    };
+    if outlets.open(folder.alloc, &spec).is_ok() {
+        return Err("it opened".into());
+    }
+    let failed = outlets.faults;
+    Ok(format!(in folder.alloc; "taken {taken} failed {failed}")?)
+}
+
+fn tcp_outlet(folder: &Folder) -> Result<String, Fail> {
+    let listener = TcpListener::bind(&folder.rt, ("127.0.0.1", 0))?;
+    let port = listener.local_addr()?.port();
+    let mut outlets = HostOutlets::new(folder.alloc, folder.rt, folder.rest()?);
+    let mut taken = 0;
+    for host in [b"127.0.0.1".as_slice(), b"\xff"] {
+        let spec = OutletSpec::Tcp {
+            host: name(folder, host)?,
+            port,
+            reopen: 0,
+        };
+        if let Ok(mut drain) = outlets.open(folder.alloc, &spec) {
+            drain.send(&frames(folder, &["ab"])?)?;
+            taken = drain.taken();
+            outlets.close(drain);
+        }
+    }
+    let failed = outlets.faults;
+    Ok(format!(in folder.alloc; "taken {taken} failed {failed}")?)
+}
+
+fn store(folder: &Folder) -> Result<String, Fail> {
+    let mut stores = HostStores::new(folder.alloc, folder.rt);
+    let path = folder.at("q")?;
+    let spec = StoreSpec {
+        name: name(folder, path.as_bytes())?,
+        create: true,
+    };
+    let mut store = stores.open(folder.alloc, &spec)?;
+    is_send(&store);
+    if stores.open(folder.alloc, &spec).is_ok() {
+        return Err("it opened twice".into());
+    }
+    let len = store.len()?;
+    let faults = store.faults();
+    stores.close(store);
+    let failed = stores.faults;
+    Ok(format!(in folder.alloc; "{len} {faults} failed {failed}")?)
+}
+
+fn paths(folder: &Folder) -> Result<String, Fail> {
+    let mut paths = HostPaths::new(folder.alloc, folder.rt, folder.rest()?);
+    let spec = OutletSpec::ByPath {
+        fsync: false,
+        mode: 0o600,
+        reopen: 0,
+    };
+    let mut opener = paths.open(folder.alloc, &spec)?;
+    is_send(&opener);
+    let (one, two) = (folder.at("one")?, folder.at("two")?);
+    opener.open(one.as_bytes())?;
+    opener.open(two.as_bytes())?;
+    if opener.open(b"/none/out").is_ok() {
+        return Err("it opened".into());
+    }
+    opener.send(one.as_bytes(), b"ab")?;
+    opener.send(two.as_bytes(), b"cd")?;
+    let held = held(folder, "one", "two")?;
+    opener.close(one.as_bytes());
+    if opener.reopen(two.as_bytes())? != Reopened::Ready {
+        return Err("it wasn't ready".into());
+    }
+    opener.send(two.as_bytes(), b"ef")?;
+    let bytes = folder.bytes("two")?;
+    let last = str::from_utf8(&bytes[2..])?;
+    let counts = opener.counts();
+    let (laters, failed) = (counts.laters, counts.faults);
+    let text = format!(in folder.alloc; "{held} again {last} later {laters} failed {failed}")?;
+    paths.close(opener);
+    Ok(text)
+}
+
+fn held(folder: &Folder, one: &str, two: &str) -> Result<String, Fail> {
+    let first = folder.bytes(one)?;
+    let first = str::from_utf8(&first)?;
+    let second = folder.bytes(two)?;
+    let second = str::from_utf8(&second)?;
+    Ok(format!(in folder.alloc; "{one} {first} {two} {second}")?)
+}
+
+fn said(folder: &Folder) -> Result<String, Fail> {
+    let mut faults = 0;
+    say(folder.rt, &mut faults, b"said\n")?;
+    tell(folder.rt, b"told\n");
+    let word = if faults == 0 { "said" } else { "failed" };
+    Ok(String::from_str(folder.alloc, word)?)
+}

@@ -1,0 +1,147 @@
+// Steps over stores, and over files that are read whole.
+use crate::folder::Folder;
+use sg_device::{Disk, FileRefusal, OpenRefusal};
+use sg_file::{FileDisk, read_file};
+use std::fs;
+use std::os::unix::fs::{PermissionsExt, symlink};
+use std::os::unix::net::UnixListener;
+use std::test::Fail;
+
+/// What a step over a store comes to.
+pub fn take(folder: &Folder, what: &str) -> Result<String, Fail> {
+    match what {
+        "lock" => lock(folder),
+        "fresh" => fresh(folder),
+        "existing" => existing(folder),
+        "planted" => planted(folder),
+        "dangling" => dangling(folder),
+        "missing" => missing(folder),
+        "folder" => Ok(opened(folder, b"/")?),
+        "socket" => socket(folder),
+        "name" => Ok(opened(folder, b"/tmp/\xff")?),
+        "short" => short(folder),
+        _ => Err("no such step".into()),
+    }
+}
+
+// Whether a store opens that would be made.
+fn opened(folder: &Folder, path: &[u8]) -> Result<String, Fail> {
+    let word = match FileDisk::open(folder.alloc, folder.rt, path, true) {
+        Ok(_) => "opened",
+        Err(_) => "refused",
+    };
+    Ok(String::from_str(folder.alloc, word)?)
+}
+
+// A store is locked while it is open, under each of its names.
+fn lock(folder: &Folder) -> Result<String, Fail> {
+    let path = folder.at("q")?;
+    let other = folder.at("./q")?;
+    let held = FileDisk::open(folder.alloc, folder.rt, path.as_bytes(), true)?;
+    let second = opened(folder, path.as_bytes())?;
+    let third = opened(folder, other.as_bytes())?;
+    drop(held);
+    let last = opened(folder, path.as_bytes())?;
+    Ok(format!(in folder.alloc; "opened {second} {third} {last}")?)
+}
+
+// A fresh store is 128 zero bytes, for its owner alone, and nothing else is left.
+fn fresh(folder: &Folder) -> Result<String, Fail> {
+    let path = folder.at("q")?;
+    let opened = opened(folder, path.as_bytes())?;
+    let bytes = folder.bytes("q")?;
+    let count = bytes.len();
+    let zeros = if bytes.iter().all(|byte| *byte == 0) { "zeros" } else { "others" };
+    let mode = folder.mode("q")?;
+    let names = folder.names()?;
+    Ok(format!(in folder.alloc; "{opened} {count} {zeros}{mode} names {names}")?)
+}
+
+// A store that is there keeps its bytes and its mode.
+fn existing(folder: &Folder) -> Result<String, Fail> {
+    let path = folder.file("q", b"abc")?;
+    let mode = fs::Permissions::from_mode(0o644);
+    fs::set_permissions(&folder.rt, path.as_str(), mode)?;
+    let opened = opened(folder, path.as_bytes())?;
+    let count = folder.bytes("q")?.len();
+    let mode = folder.mode("q")?;
+    Ok(format!(in folder.alloc; "{opened} {count} bytes{mode}")?)
+}
+
+// A link where a temporary file could be isn't followed.
+fn planted(folder: &Folder) -> Result<String, Fail> {
+    let path = folder.at("q")?;
+    let target = folder.file("target", b"abc")?;
+    let link = folder.at("q.new")?;
+    symlink(&folder.rt, target.as_str(), link.as_str())?;
+    let opened = opened(folder, path.as_bytes())?;
+    let untouched = if folder.bytes("target")?.as_slice() == b"abc".as_slice() { "untouched" } else { "changed" };
+    Ok(format!(in folder.alloc; "{opened} {untouched}")?)
+}
+
+// A store that is a link to nothing isn't made.
+fn dangling(folder: &Folder) -> Result<String, Fail> {
+    let target = folder.at("target")?;
+    let link = folder.at("q")?;
+    symlink(&folder.rt, target.as_str(), link.as_str())?;
+    let opened = opened(folder, link.as_bytes())?;
+    let absent = if fs::exists(&folder.rt, target.as_str())? { "there" } else { "absent" };
+    Ok(format!(in folder.alloc; "{opened} {absent}")?)
+}
+
+// A store that isn't to be made is refused where it is missing.
+fn missing(folder: &Folder) -> Result<String, Fail> {
+    let path = folder.at("q")?;
+    let word = match FileDisk::open(folder.alloc, folder.rt, path.as_bytes(), false) {
+        Ok(_) => "opened",
+        Err(OpenRefusal::Failed) => "refused",
+        Err(OpenRefusal::NoMemory) => "starved",
+    };
+    let absent = if fs::exists(&folder.rt, path.as_str())? { "there" } else { "absent" };
+    Ok(format!(in folder.alloc; "{word} {absent}")?)
+}
+
+fn socket(folder: &Folder) -> Result<String, Fail> {
+    let path = folder.at("q")?;
+    let _listener = UnixListener::bind(&folder.rt, path.as_str())?;
+    opened(folder, path.as_bytes())
+}
+
+// A read ends at the end of the file.
+fn short(folder: &Folder) -> Result<String, Fail> {
+    let path = folder.file("q", b"abc")?;
+    let mut disk = FileDisk::open(folder.alloc, folder.rt, path.as_bytes(), true)?;
+    let mut buffer = [0u8; 8];
+    let first = disk.read_at(0, &mut buffer)?;
+    let second = disk.read_at(3, &mut buffer)?;
+    Ok(format!(in folder.alloc; "{first} {second}")?)
+}
+
+/// What a step over a file that is read whole comes to.
+pub fn read(folder: &Folder, what: &str) -> Result<String, Fail> {
+    let path = folder.file("f", b"abcde")?;
+    let other = folder.at("s")?;
+    let _listener = UnixListener::bind(&folder.rt, other.as_str())?;
+    match what {
+        "whole" => told(folder, path.as_bytes(), 5),
+        "long" => told(folder, path.as_bytes(), 4),
+        "folder" => told(folder, b"/", 5),
+        "socket" => told(folder, other.as_bytes(), 5),
+        "name" => told(folder, b"/tmp/\xff", 5),
+        _ => Err("no such step".into()),
+    }
+}
+
+fn told(folder: &Folder, path: &[u8], limit: u64) -> Result<String, Fail> {
+    let mut faults = 0;
+    let result = read_file(folder.alloc, folder.rt, &mut faults, path, limit);
+    match result {
+        Ok(bytes) => {
+            let count = bytes.len();
+            Ok(format!(in folder.alloc; "{count} bytes")?)
+        }
+        Err(FileRefusal::TooLong) => Ok(String::from_str(folder.alloc, "too long")?),
+        Err(FileRefusal::NoMemory) => Ok(String::from_str(folder.alloc, "starved")?),
+        Err(FileRefusal::Failed) => Ok(format!(in folder.alloc; "failed {faults}")?),
+    }
+}

@@ -1,0 +1,121 @@
+#!/bin/sh
+# Runs the real devices over full disks, FIFOs, locked stores and modes, by the program test_devices.
+#   tests/devices.sh [PROGRAM]
+top=$(cd "$(dirname "$0")/.." && pwd)
+program=${1:-$top/crates/test_devices/out/test_devices}
+[ -x "$program" ] || { echo "no program $program: rt run builds it"; exit 2; }
+folder=$(mktemp -d) || exit 2
+mounted=
+trap '[ -z "$mounted" ] || umount "$folder/small"; rm -rf "$folder"' EXIT
+cd "$folder" || exit 2
+passed=0 failed=0
+
+# expect NAME WANTED: compares the file `got` with WANTED, a printf format. `got` is what was said, what was told without its moments,
+# and the status.
+expect() {
+    printf "$2" >wanted
+    if cmp -s got wanted; then
+        passed=$((passed + 1))
+    else
+        failed=$((failed + 1))
+        echo "$1: got"
+        cat got
+    fi
+}
+
+# run WORD..: at most five seconds, since a device over a FIFO waits for nobody
+run() {
+    timeout 5 "$program" "$@" >said 2>told
+    status=$?
+    { cat said; sed 's/^[0-9T:+-]* //' told; echo "status $status"; } >got
+}
+
+# A FIFO is refused, and not waited for.
+mkfifo fifo
+for what in send lines pull read store; do
+    run $what fifo </dev/null
+    case $what in
+        send | lines) expect "a FIFO: $what" 'destination fifo: cannot open: not a regular file or a character device\nstatus 4\n' ;;
+        pull) expect "a FIFO: $what" 'source fifo: cannot open: not a regular file\nstatus 4\n' ;;
+        read) expect "a FIFO: $what" 'file fifo: cannot open: not a regular file\nstatus 4\n' ;;
+        store) expect "a FIFO: $what" 'store fifo: cannot open: not a regular file\nstatus 4\n' ;;
+    esac
+done
+
+# Modes of what is made, whatever the umask.
+(umask 022; run store q </dev/null; run send d </dev/null)
+[ "$(stat -c %a q)" = 600 ] && [ "$(stat -c %a d)" = 600 ] && echo yes >got || echo no >got
+expect 'modes' 'yes\n'
+
+# One program a store, under each of its names; the lock ends with the program.
+mkfifo hold
+"$program" store q <hold >held &
+exec 3>hold
+for try in 1 2 3 4 5 6 7 8 9 10; do [ -s held ] && break; sleep 0.1; done
+run store ./q </dev/null
+expect 'a store in use' 'store ./q: cannot open: in use by another program\nstatus 4\n'
+exec 3>&-
+wait
+run store q </dev/null
+expect 'a store that is free again' 'opened\nstatus 0\n'
+[ "$(ls)" = "$(printf 'd\nfifo\ngot\nheld\nhold\nq\nsaid\ntold\nwanted')" ] && echo yes >got || ls >got
+expect 'nothing is left of the making of a store' 'yes\n'
+
+# A limit on the size of a file: what is left of a frame that wasn't taken is cut off again, also with fsync.
+trap '' XFSZ
+seq -f 'line %05g' 1 1000 >lines
+(ulimit -f 1 && head -c 3000 /dev/zero >sized) 2>/dev/null
+whole=$(($(stat -c %s sized) / 11))
+for fsync in '' fsync; do
+    (ulimit -f 1 && run send limited$fsync $fsync <lines && echo "bytes $(stat -c %s limited$fsync)" >>got)
+    expect "a limit on the size $fsync" "taken $whole\ndestination limited$fsync: cannot write: File too large (os error 27)\nstatus 0\nbytes $((whole * 11))\n"
+    head -n $whole lines | cmp -s - limited$fsync && echo same >got || echo other >got
+    expect "whole lines under a limit $fsync" 'same\n'
+done
+
+# A full disk, and what comes once it has space again: no line is torn, and what was told.
+mkdir small
+if mount -t tmpfs -o size=16k none small 2>/dev/null; then
+    mounted=yes
+    head -c 9000 /dev/zero >small/filler
+    mkfifo more
+    timeout 20 "$program" lines small/out <more >said 2>told &
+    exec 3>more
+    seq -f 'first %05g' 1 1500 >&3
+    for try in 1 2 3 4 5 6 7 8 9 10; do [ -s told ] && break; sleep 0.1; done
+    sleep 0.5
+    rm small/filler
+    seq -f 'second %05g' 1 10 >&3
+    exec 3>&-
+    wait
+    sed 's/^[0-9T:+-]* //' told >got
+    expect 'a full disk is told' 'destination small/out: cannot write: No space left on device (os error 28)\ndestination small/out: works again\n'
+    grep -v -x -E 'first [0-9]{5}|second [0-9]{5}' small/out >got
+    expect 'no line is torn' ''
+    tail -n 1 small/out >got
+    expect 'the last line' 'second 00010\n'
+    echo "taken $(grep -c '' small/out)" >wanted.taken
+    cmp -s said wanted.taken && echo same >got || cat said wanted.taken >got
+    expect 'the lines taken are those that are there' 'same\n'
+    # another one appends at the same time: the file is left as it is
+    rm small/out
+    head -c 11000 /dev/zero >small/filler
+    rm more
+    mkfifo more
+    timeout 20 "$program" lines small/out <more >said 2>told &
+    exec 3>more
+    seq -f 'mine %05g' 1 2 >&3
+    for try in 1 2 3 4 5 6 7 8 9 10; do [ -s small/out ] && break; sleep 0.1; done
+    printf 'of another\n' >>small/out
+    seq -f 'mine %05g' 3 1500 >&3
+    exec 3>&-
+    wait
+    grep -c -x 'of another' small/out >got
+    expect 'lines of another one stay' '1\n'
+    umount small && mounted=
+else
+    echo 'no file system of its own can be mounted here: a full disk is tried by a limit on the size alone'
+fi
+
+echo "$passed passed, $failed failed"
+[ $failed = 0 ]
