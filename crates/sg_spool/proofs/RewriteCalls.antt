@@ -1,5 +1,5 @@
 -- Spelling a list anew, call by call.
-use Rattle.std.proofs.Common.{◌≡◌, ◌⊎◌, inl, inr, ℕ, ◌+◌, ◌-◌, ◌<◌, ◌≤◌, List, length, map, refl, sym, ◌∙◌, ap, subst, arith, ◌^◌, Some, None, Option, Bool, true, false}
+use Rattle.std.proofs.Common.{◌≡◌, ℕ, ◌+◌, ◌-◌, ◌<◌, ◌≤◌, List, length, map, refl, sym, ◌∙◌, ap, subst, ◌^◌, None, Option, Bool, true}
 use Rattle.std.specs.Prelude.{is_some}
 use Rattle.sg_device.specs.DiskBytes.{Written, Same}
 use Rattle.sg_device.specs.Disk.{DiskState, content, IsImage, Changes, Elapses, Preserves, Durable, Within, EachNow, WhereTold}

@@ -1,21 +1,20 @@
 -- What each call leaves of a disk-buffer.
-use Rattle.std.proofs.Common.{◌≡◌, ◌⊎◌, inl, inr, ⊎_elim, ℕ, zero, suc, ◌+◌, ◌-◌, ◌*◌, ◌<◌, ◌≤◌, ◌^◌, max, min, List, [], ◌∷◌, ◌++◌, length, drop, map, get_or, refl, sym, ◌∙◌, ap, subst, arith, length-append, length-drop, Some, None, Option}
+use Rattle.std.proofs.Common.{◌≡◌, ◌⊎◌, inl, inr, ⊎_elim, ℕ, ◌+◌, ◌-◌, ◌<◌, ◌≤◌, ◌^◌, List, [], ◌∷◌, ◌++◌, length, drop, map, refl, sym, ◌∙◌, ap, subst, arith, length-append, length-drop, Some, None, Option}
 use Rattle.std.proofs.lemmas.List.{append-nil, append_cancel_left, drop_all, length-map}
 use Rattle.std.specs.Option.{option_map}
-use Rattle.std.specs.Prelude.{false, true, Bool}
 use Rattle.sg_device.specs.Disk.{DiskLog, DiskState, DiskEvent, content, clock, bytes_after, IsLeft, IsImage, IsImageAt, Moves, Elapses, Preserves, Durable, Within, EachNow, WhereTold}
 use Rattle.sg_device.specs.DiskBytes.{Torn}
-use Rattle.sg_device.proofs.Disks.{started, goes_on, now_same, within_as, within_now, told_back}
+use Rattle.sg_device.proofs.Disks.{started, goes_on, now_same, within_as, told_back}
 use Rattle.sg_device.proofs.DiskCalls.{unchanged, reads_as_image}
 use Rattle.sg_stable.specs.Cell.{HasCell}
 use Rattle.sg_stable.specs.declared.cell.Pair.{Pair}
-use Rattle.sg_spool.specs.Advancing.{HasEntries, IsFirstSize, IsAdvanced, IsShrunk}
+use Rattle.sg_spool.specs.Advancing.{HasEntries, IsFirstSize, IsAdvanced}
 use Rattle.sg_spool.specs.Lists.{IsOneOf, Perhaps, Recodes}
 use Rattle.sg_spool.specs.Places.{AreOrdered, IsOrdered, live, gate_past, Remains, AreCompact, bound}
 use Rattle.sg_spool.specs.Ring.{Entries, IsEntry, IsList, IsRow, IsLaid, space}
 use Rattle.sg_spool.specs.Rows.{AreRows, listed, committed}
 use Rattle.sg_spool.specs.Staging.{OpensTo}
-use Rattle.sg_spool.specs.Steps.{RingAt, Spares, Grows, Stems, After}
+use Rattle.sg_spool.specs.Steps.{Spares, Grows, Stems, After}
 use Rattle.sg_spool.specs.View.{Awaits, HoldsAt, IsCompactIn, IsCompactAt, IsRing, AreHeld, AreHeldAfter, IsFront, IsHeld, IsWhole}
 use Rattle.sg_spool.specs.declared.places.Places.{Places}
 use Rattle.sg_spool.specs.declared.rows.Rows.{Rows}
@@ -24,8 +23,8 @@ use Rattle.sg_spool.proofs.Chains.{elapses_as}
 use Rattle.sg_spool.proofs.Advancing.{first_entry}
 use Rattle.sg_spool.proofs.Looking.{between_small}
 use Rattle.sg_spool.proofs.Remaining.{remains_of}
-use Rattle.sg_spool.proofs.Rings.{list_of, row_between, length_space, space-append}
-use Rattle.sg_spool.proofs.Rooms.{spared_rings, compact_room}
+use Rattle.sg_spool.proofs.Rings.{list_of, row_between, length_space}
+use Rattle.sg_spool.proofs.Rooms.{spared_rings}
 use Rattle.sg_spool.proofs.Staging.{ahead_none, with_gate, with_gate_torn, with_gate_is, grows_torn}
 use Rattle.sg_spool.proofs.Unique.{list_unique, laid_places}
 

@@ -1,4 +1,4 @@
-use Rattle.std.proofs.Common.{◌≡◌, ◌⊎◌, inl, inr, ◌+◌, ◌-◌, ◌<◌, ◌≤◌, ◌∙◌, ℕ, List, ◌++◌, ◌∷◌, [], length, map, ap, subst, sym, refl, arith, Some, None, Option}
+use Rattle.std.proofs.Common.{◌≡◌, ◌∙◌, [], map, ap, subst, sym, refl}
 use Rattle.std.specs.Prelude.{true, false}
 use Rattle.std.specs.Option.{option_map}
 use Rattle.sg_device.proofs.Disks.{moves_within}
