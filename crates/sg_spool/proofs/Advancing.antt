@@ -1,9 +1,9 @@
 -- The places behind the first entry.
-use Rattle.std.proofs.Common.{◌≡◌, ◌≢◌, ◌⊎◌, inl, inr, ⊎_elim, ℕ, zero, suc, ◌+◌, ◌-◌, ◌<◌, ◌≤◌, ◌^◌, min, List, [], ◌∷◌, ◌++◌, length, drop, get_or, refl, sym, ◌∙◌, ap, subst, arith, Some, None, Option}
+use Rattle.std.proofs.Common.{◌≡◌, ◌⊎◌, inl, inr, ℕ, zero, suc, ◌+◌, ◌<◌, ◌≤◌, ◌^◌, List, [], ◌∷◌, ◌++◌, length, drop, refl, sym, ◌∙◌, ap, subst, arith, Some, None, Option}
 use Rattle.std.proofs.lemmas.Bool.{cases_eq}
 use Rattle.std.proofs.lemmas.Bool.Decides.{nat_tests}
 use Rattle.sg_spool.specs.Places.{AreOrdered, behind, first_past, after_first, gate_past}
-use Rattle.sg_spool.specs.Ring.{Entries, Run, IsEntry, IsJump, IsEnd, IsWrapped, IsRow, IsBelow, IsLaid}
+use Rattle.sg_spool.specs.Ring.{Entries, Run, IsEntry, IsRow, IsLaid}
 use Rattle.sg_spool.specs.declared.places.Places.{Places}
 use Rattle.sg_spool.proofs.Rings.{run_grows}
 use Rattle.sg_spool.specs.Advancing.{IsReady, IsReadyAt, IsFirstSize}

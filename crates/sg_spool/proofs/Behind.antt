@@ -1,13 +1,12 @@
 -- An entry behind the end of the list.
-use Rattle.std.proofs.Common.{◌≡◌, ◌≢◌, ◌⊎◌, inl, inr, ℕ, ◌+◌, ◌<◌, ◌≤◌, ◌^◌, List, [], ◌∷◌, ◌++◌, length, get_or, refl, sym, ◌∙◌, ap, subst, arith, append_assoc, length-append, length-take, length-drop, take, drop, ◌-◌, Some, None, Option}
-use Rattle.std.proofs.lemmas.Bool.{cases_lt}
+use Rattle.std.proofs.Common.{◌≡◌, ◌≢◌, ℕ, ◌+◌, ◌≤◌, List, [], ◌∷◌, ◌++◌, length, get_or, refl, sym, ◌∙◌, ap, subst, arith, append_assoc, length-append, length-take, length-drop, take, drop, ◌-◌, Option}
 use Rattle.std.proofs.lemmas.List.{take_all}
 use Rattle.std.specs.Int.{to_be_bytes, w32}
-use Rattle.sg_device.specs.DiskBytes.{part, Torn, Written}
-use Rattle.sg_device.proofs.Parts.{part_at, part_same, part_front, part_back, torn_length, torn_elsewhere, torn_of_written}
+use Rattle.sg_device.specs.DiskBytes.{part}
+use Rattle.sg_device.proofs.Parts.{part_at, part_front, part_back}
 use Rattle.sg_stable.specs.declared.cell.Pair.{Pair}
 use Rattle.sg_spool.specs.Places.{HasRoom}
-use Rattle.sg_spool.specs.Ring.{Entries, IsPayload, IsEntry, IsRow, IsBuffer, IsLaid, block_of, payload_of}
+use Rattle.sg_spool.specs.Ring.{Entries, IsPayload, IsEntry, block_of, payload_of}
 use Rattle.sg_spool.specs.Steps.{RingAt}
 use Rattle.sg_spool.proofs.Rings.{SameButEnd, size_of, has_cell_same, used_front, buffer_kept, row_kept, row_push, below_room}
 

@@ -1,6 +1,6 @@
 -- What every call keeps.
-use Rattle.std.proofs.Common.{◌≡◌, ◌⊎◌, inl, inr, ⊎_elim, ℕ, ◌+◌, ◌-◌, ◌≤◌, ◌^◌, min, List, [], ◌∷◌, ◌++◌, length, refl, sym, ◌∙◌, ap, subst, arith, Some, None}
-use Rattle.std.specs.Prelude.{Bool, true, false}
+use Rattle.std.proofs.Common.{◌≡◌, ◌⊎◌, inl, ⊎_elim, ℕ, ◌+◌, ◌-◌, ◌≤◌, ◌^◌, min, List, [], ◌∷◌, ◌++◌, length, refl, sym, ◌∙◌, ap, subst, arith}
+use Rattle.std.specs.Prelude.{true, false}
 use Rattle.sg_device.specs.Disk.{DiskState, Moves, Within}
 use Rattle.sg_device.specs.Faults.{Rose}
 use Rattle.sg_device.proofs.Disks.{moves_refl, within_as}
@@ -12,7 +12,7 @@ use Rattle.sg_spool.specs.Ring.{Entries, IsList}
 use Rattle.sg_spool.specs.Rows.{listed, committed, total}
 use Rattle.sg_spool.specs.declared.rows.Rows.{Rows}
 use Rattle.sg_spool.proofs.Chains.{within_join}
-use Rattle.sg_spool.specs.View.{View, HoldsAt, IsCompactAt, IsCompactIn}
+use Rattle.sg_spool.specs.View.{View, HoldsAt, IsCompactIn}
 use Rattle.sg_spool.proofs.Whole.{stay_one, stay_short, listed_same}
 
 -- nothing changed

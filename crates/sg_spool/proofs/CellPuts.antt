@@ -1,5 +1,5 @@
 -- What a change of the cell makes of a ring.
-use Rattle.std.proofs.Common.{◌≡◌, ◌≢◌, ◌⊎◌, inl, inr, ⊎_elim, ℕ, ◌+◌, ◌<◌, ◌≤◌, List, [], ◌∷◌, ◌++◌, length, get_or, refl, sym, ◌∙◌, ap, subst, arith, Some, None, Option}
+use Rattle.std.proofs.Common.{◌≡◌, ◌⊎◌, inl, inr, ⊎_elim, ℕ, ◌+◌, ◌≤◌, List, get_or, sym, ◌∙◌, ap, arith, Some, None, Option}
 use Rattle.sg_device.specs.Disk.{DiskState, IsImage, Within, EachNow}
 use Rattle.sg_device.proofs.Disks.{within_now, within_as}
 use Rattle.sg_stable.specs.Cell.{cell_value, HasCell, SameOutside, Puts}
@@ -7,7 +7,7 @@ use Rattle.sg_stable.specs.declared.cell.Pair.{Pair}
 use Rattle.sg_stable.proofs.Cells.{value_of}
 use Rattle.sg_spool.specs.Advancing.{IsReady}
 use Rattle.sg_spool.specs.Lists.{Perhaps}
-use Rattle.sg_spool.specs.Ring.{Entries, IsEnd, IsBuffer, IsRow, IsBelow, IsLaid, IsList}
+use Rattle.sg_spool.specs.Ring.{Entries, IsBuffer, IsRow, IsLaid}
 use Rattle.sg_spool.specs.Steps.{RingAt, Stems, After}
 use Rattle.sg_spool.proofs.Rings.{run_same, run_grows, head_above, end_above, size_same}
 use Rattle.sg_spool.proofs.Chains.{after_stays, after_step, within_join}

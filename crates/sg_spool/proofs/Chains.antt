@@ -1,17 +1,13 @@
 -- How a ring goes on from call to call.
-use Rattle.std.proofs.Common.{◌≡◌, ◌≢◌, ◌⊎◌, inl, inr, ℕ, ◌+◌, ◌<◌, ◌≤◌, List, [], ◌∷◌, ◌++◌, length, get_or, refl, sym, ◌∙◌, ap, subst, arith, Some, None, Option}
-use Rattle.std.proofs.lemmas.Bool.{cases_eq, cases_lt}
-use Rattle.sg_device.specs.DiskBytes.{Torn, Written}
-use Rattle.sg_device.specs.Disk.{DiskState, content, clock, IsImage, IsImageAt, Changes, Elapses, Durable, Within, EachNow}
-use Rattle.sg_device.proofs.Disks.{started, goes_on, now_on, within_now, within_as, durable_now, told_on}
-use Rattle.sg_device.proofs.DiskCalls.{reads_as_image}
-use Rattle.sg_device.proofs.Parts.{part_at, torn_of_written}
+use Rattle.std.proofs.Common.{◌≡◌, inl, inr, ℕ, List, refl, subst, arith, Option}
+use Rattle.std.proofs.lemmas.Bool.{cases_lt}
+use Rattle.sg_device.specs.Disk.{DiskState, clock, IsImage, IsImageAt, Elapses, Within, EachNow}
+use Rattle.sg_device.proofs.Disks.{started, goes_on, now_on}
 use Rattle.sg_stable.specs.declared.cell.Pair.{Pair}
-use Rattle.sg_spool.specs.Lists.{Stays, Perhaps}
+use Rattle.sg_spool.specs.Lists.{Perhaps}
 use Rattle.sg_spool.specs.Ring.{Entries, IsList}
 use Rattle.sg_spool.specs.Steps.{RingAt, Stems, After, Spares}
-use Rattle.sg_spool.proofs.Rings.{ring_spared, list_of, shut_spares}
-use Rattle.sg_spool.proofs.Unique.{list_unique}
+use Rattle.sg_spool.proofs.Rings.{ring_spared, list_of}
 
 -- a step that says less
 pub elapses_as : {one two : List ℕ → List ℕ → Type 0} (old new : DiskState) → ((d c : List ℕ) → one d c → two d c) → Elapses one old new → Elapses two old new

@@ -1,6 +1,6 @@
 -- Opening the gate at the list's end, call by call.
-use Rattle.std.proofs.Common.{◌≡◌, ◌≢◌, ◌⊎◌, inl, inr, ⊎_elim, ℕ, ◌+◌, ◌-◌, ◌<◌, ◌≤◌, List, [], ◌∷◌, ◌++◌, length, get_or, refl, sym, ◌∙◌, ap, subst, arith, Some, None, Option}
-use Rattle.std.proofs.lemmas.Bool.{cases_eq, cases_lt}
+use Rattle.std.proofs.Common.{◌≡◌, ◌⊎◌, inl, inr, ℕ, List, [], ◌∷◌, ◌++◌, length, get_or, sym, ◌∙◌, ap, subst, arith, Option}
+use Rattle.std.proofs.lemmas.Bool.{cases_eq}
 use Rattle.sg_device.specs.DiskBytes.{Torn, Written, Same}
 use Rattle.sg_device.specs.Disk.{DiskState, content, Changes, Elapses, Preserves, Durable, Within, EachNow, WhereTold}
 use Rattle.sg_device.proofs.Disks.{started, goes_on, same_on, durable_now, told_on, told_same}

@@ -1,5 +1,5 @@
 -- Copies behind all that a ring uses.
-use Rattle.std.proofs.Common.{◌≡◌, ◌≢◌, ◌⊎◌, inl, inr, ℕ, ◌+◌, ◌-◌, ◌<◌, ◌≤◌, ◌^◌, List, [], ◌∷◌, ◌++◌, length, get_or, refl, sym, ◌∙◌, ap, subst, arith, Some, None, Option}
+use Rattle.std.proofs.Common.{◌≡◌, inl, inr, ℕ, ◌+◌, ◌-◌, ◌<◌, ◌≤◌, List, [], ◌∷◌, ◌++◌, length, get_or, refl, sym, ◌∙◌, ap, subst, arith, Some, None, Option}
 use Rattle.std.proofs.lemmas.Bool.{cases_lt}
 use Rattle.std.proofs.lemmas.List.{ext_get_or}
 use Rattle.std.specs.Int.{from_be_bytes, w32}
@@ -8,7 +8,7 @@ use Rattle.sg_device.proofs.Parts.{part_at, length-part, read_here, torn_of_writ
 use Rattle.sg_spool.specs.Copying.{Beyond, Copies}
 use Rattle.sg_spool.specs.Places.{AreOrdered}
 use Rattle.sg_spool.specs.Rewriting.{past_end}
-use Rattle.sg_spool.specs.Ring.{size_at, Entries, IsEntry, Run, IsEnd, IsLaid}
+use Rattle.sg_spool.specs.Ring.{size_at, Entries, IsEntry, Run, IsLaid}
 use Rattle.sg_spool.specs.Steps.{IsUsed, Spares}
 use Rattle.sg_spool.specs.Advancing.{IsReady}
 use Rattle.sg_spool.proofs.Rings.{run_grows}

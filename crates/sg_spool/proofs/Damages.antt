@@ -1,8 +1,8 @@
 -- Bytes that stand for a list are damaged nowhere.
-use Rattle.std.proofs.Common.{◌≡◌, ◌≢◌, ◌⊎◌, inl, inr, ⊎_elim, ℕ, ◌+◌, ◌<◌, ◌≤◌, List, [], ◌∷◌, ◌++◌, length, get_or, refl, sym, ◌∙◌, ap, subst, arith, Some, None, Option}
+use Rattle.std.proofs.Common.{◌≡◌, ◌≢◌, ◌⊎◌, inl, inr, ℕ, ◌+◌, ◌<◌, ◌≤◌, List, [], ◌∷◌, length, get_or, refl, sym, ◌∙◌, ap, subst, arith, Some, None, Option}
 use Rattle.std.proofs.lemmas.Bool.{cases_lt}
 use Rattle.sg_stable.specs.Cell.{cell_value, IsFirstNonzero}
-use Rattle.sg_spool.specs.Opening.{IsReached, IsBadGate, IsDamagedWalk, IsDamagedBehind, IsDamagedAt}
+use Rattle.sg_spool.specs.Opening.{IsReached, IsBadGate, IsDamagedBehind, IsDamagedAt}
 use Rattle.sg_spool.specs.Ring.{Entries, IsEntry, Run, IsEnd, IsJump, IsRow, IsLaid, IsList}
 use Rattle.sg_spool.proofs.Rings.{run_grows}
 use Rattle.sg_spool.proofs.Unique.{run_unique, at_end, at_jump}

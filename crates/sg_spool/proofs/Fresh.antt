@@ -1,8 +1,8 @@
 -- A fresh store is within its bound.
-use Rattle.std.proofs.Common.{◌≡◌, ℕ, ◌+◌, ◌*◌, ◌<◌, ◌≤◌, max, List, [], ◌∷◌, length, replicate, get_or, refl, sym, ◌∙◌, ap, arith, Some, None, Option}
+use Rattle.std.proofs.Common.{◌≡◌, ℕ, ◌+◌, [], ◌∷◌, replicate, refl, sym, ◌∙◌, ap, arith, Some, None, Option}
 use Rattle.sg_device.proofs.Parts.{zeros_at}
-use Rattle.sg_stable.specs.Cell.{word, slot, cell_value}
-use Rattle.sg_spool.specs.Places.{AreCompact, bound}
+use Rattle.sg_stable.specs.Cell.{word, cell_value}
+use Rattle.sg_spool.specs.Places.{AreCompact}
 use Rattle.sg_spool.specs.View.{IsCompactIn}
 use Rattle.sg_spool.specs.Ring.{Entries, Run, IsLaid}
 

@@ -1,5 +1,5 @@
 -- Moving a list behind its jump, call by call.
-use Rattle.std.proofs.Common.{◌≡◌, ◌⊎◌, inl, inr, ⊎_elim, ℕ, ◌+◌, ◌-◌, ◌<◌, ◌≤◌, List, length, refl, sym, ◌∙◌, ap, subst, arith, Some, None, Option}
+use Rattle.std.proofs.Common.{◌≡◌, ⊎_elim, ℕ, ◌+◌, ◌-◌, ◌≤◌, List, length, refl, sym, ◌∙◌, ap, subst, arith, Some, None, Option}
 use Rattle.std.specs.Prelude.{Result, is_some}
 use Rattle.sg_device.specs.DiskBytes.{Written, IsRead, Same}
 use Rattle.sg_device.specs.Disk.{DiskState, content, IsImage, Changes, Elapses, Preserves, Durable, Within, EachNow, WhereTold, Writes}

@@ -1,14 +1,12 @@
 -- An entry at the front of the ring, and a jump to it behind the end of the list.
-use Rattle.std.proofs.Common.{◌≡◌, ◌≢◌, ◌⊎◌, inl, inr, ℕ, ◌+◌, ◌<◌, ◌≤◌, ◌^◌, List, [], ◌∷◌, ◌++◌, length, get_or, refl, sym, ◌∙◌, ap, subst, arith, append_assoc, length-append, Some, None, Option}
-use Rattle.std.proofs.lemmas.Bool.{cases_lt}
+use Rattle.std.proofs.Common.{◌≡◌, ◌≢◌, ℕ, ◌+◌, ◌≤◌, List, [], ◌∷◌, ◌++◌, length, get_or, refl, sym, ◌∙◌, ap, arith, append_assoc, length-append, Some, None}
 use Rattle.std.specs.Int.{from_be_bytes, to_be_bytes, w32}
-use Rattle.sg_device.specs.DiskBytes.{part, Torn, Written}
-use Rattle.sg_device.proofs.Parts.{part_at, part_same, part_front, part_back, torn_length, torn_elsewhere, torn_of_written}
+use Rattle.sg_device.specs.DiskBytes.{part}
+use Rattle.sg_device.proofs.Parts.{part_at, part_front, part_back}
 use Rattle.sg_stable.specs.declared.cell.Pair.{Pair}
-use Rattle.sg_spool.specs.Ring.{size_at, Entries, IsPayload, IsEntry, IsJump, Run, IsLaid, block_of}
+use Rattle.sg_spool.specs.Ring.{size_at, Entries, IsPayload, IsEntry, IsJump, block_of}
 use Rattle.sg_spool.specs.Steps.{RingAt}
 use Rattle.sg_spool.proofs.Rings.{SameButEnd, size_of, has_cell_same, used_front, buffer_kept, row_kept, run_grows}
-use Rattle.sg_spool.proofs.Behind.{length-block}
 
 module _ (cell : Pair) (head end : ℕ) (es : Entries) (payload : List ℕ) (fits : IsPayload payload) (room : 64 + length payload + 6 ≤ head) (low : 64 ≤ end) where
   abbrev n : ℕ

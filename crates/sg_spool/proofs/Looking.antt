@@ -1,14 +1,13 @@
 -- What the first 64 bytes show of a disk-buffer.
-use Rattle.std.proofs.Common.{◌≡◌, ◌≢◌, ◌⊎◌, inl, inr, ◌∙◌, sym, refl, ap, subst, ℕ, List, ◌+◌, ◌-◌, ◌<◌, ◌≤◌, ◌^◌, length, get_or, arith, min, Option, Some, None}
+use Rattle.std.proofs.Common.{◌≡◌, inl, inr, ◌∙◌, sym, ap, subst, ℕ, List, ◌+◌, ◌-◌, ◌<◌, ◌≤◌, ◌^◌, length, get_or, arith, min, Option, Some, None}
 use Rattle.sg_device.specs.Disk.{DiskState, content, Preserves, Durable, WhereTold}
-use Rattle.sg_device.specs.Faults.{Rose}
 use Rattle.sg_device.proofs.Disks.{told_before}
 use Rattle.sg_device.proofs.DiskCalls.{durable_same}
 use Rattle.sg_stable.specs.Cell.{cell_value, HasCell, AreZero}
 use Rattle.sg_stable.proofs.Cells.{value_of}
 use Rattle.sg_stable.specs.declared.fault.StoreRefusal.{StoreRefusal}
 use Rattle.sg_stable.specs.declared.fault.StoreRefusal.TheVariants.{Damage, DiskFault, NoMemory}
-use Rattle.sg_spool.specs.Ring.{Entries, IsRow, IsLaid, IsEnd, IsBuffer, space}
+use Rattle.sg_spool.specs.Ring.{Entries, IsRow, IsEnd}
 use Rattle.sg_stable.specs.declared.cell.Pair.{Pair}
 use Rattle.sg_spool.specs.Places.{AreOrdered, bytes_between}
 use Rattle.sg_spool.specs.View.{IsHeld}
@@ -17,7 +16,7 @@ use Rattle.sg_spool.specs.declared.open.Found.{Found}
 use Rattle.sg_spool.proofs.Rings.{has_cell_same, length_space, row_between}
 use Rattle.std.specs.Prelude.{Result, Ok, Err, IfOk, IfErr, OnOk}
 use Rattle.sg_spool.specs.declared.walk.Place.{Place}
-use Rattle.sg_spool.specs.Opening.{IsDamagedWalk, IsDamagedBehind, IsDamagedAt, HasReason, WalkReason}
+use Rattle.sg_spool.specs.Opening.{IsDamagedWalk, IsDamagedAt, HasReason, WalkReason}
 
 pub between_small : (jump : Option ℕ) (head end : ℕ) → AreOrdered jump head end → bytes_between jump head end < 2 ^ 63
 between_small None head end ordered = omega (arith, ordered.0, ordered.1, ordered.2)

@@ -1,8 +1,8 @@
 -- The entries that are left from a gate on.
-use Rattle.std.proofs.Common.{◌≡◌, ◌⊎◌, inl, inr, ℕ, ◌+◌, ◌-◌, ◌<◌, ◌≤◌, ◌^◌, List, [], ◌∷◌, ◌++◌, length, get_or, refl, sym, ◌∙◌, ap, subst, arith, Some, None, Option}
+use Rattle.std.proofs.Common.{◌≡◌, ℕ, ◌+◌, ◌<◌, List, [], ◌∷◌, ◌++◌, length, get_or, refl, sym, ◌∙◌, ap, subst, arith, Some, None, Option}
 use Rattle.std.proofs.lemmas.Bool.Decides.{nat_tests}
 use Rattle.sg_spool.specs.Places.{gate_past, Remains}
-use Rattle.sg_spool.specs.Ring.{Entries, Run, IsEntry, IsEnd, IsRow, IsLaid}
+use Rattle.sg_spool.specs.Ring.{Entries, Run, IsEntry, IsEnd, IsLaid}
 use Rattle.sg_spool.proofs.Rings.{run_grows}
 
 past_none : (c : List ℕ) (k : ℕ) (es : Entries) (e : ℕ) → Run c k es e → Remains c None k es e

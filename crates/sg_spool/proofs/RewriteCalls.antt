@@ -1,5 +1,5 @@
 -- Spelling a list anew, call by call.
-use Rattle.std.proofs.Common.{◌≡◌, ◌⊎◌, inl, inr, ℕ, ◌+◌, ◌-◌, ◌<◌, ◌≤◌, List, length, map, refl, sym, ◌∙◌, ap, subst, arith, ◌^◌, Some, None, Option, Bool, true, false}
+use Rattle.std.proofs.Common.{◌≡◌, ℕ, ◌+◌, ◌-◌, ◌<◌, ◌≤◌, List, length, map, refl, sym, ◌∙◌, ap, subst, ◌^◌, None, Option, Bool, true}
 use Rattle.std.specs.Prelude.{is_some}
 use Rattle.sg_device.specs.DiskBytes.{Written, Same}
 use Rattle.sg_device.specs.Disk.{DiskState, content, IsImage, Changes, Elapses, Preserves, Durable, Within, EachNow, WhereTold}
@@ -7,7 +7,8 @@ use Rattle.sg_device.proofs.Disks.{durable_now, told_same, same_on}
 use Rattle.sg_device.proofs.DiskCalls.{reads_as_image}
 use Rattle.sg_stable.specs.Cell.{HasCell, Puts}
 use Rattle.sg_stable.specs.declared.cell.Pair.{Pair}
-use Rattle.sg_spool.specs.Answers.{WhereNoMemory}
+use Rattle.sg_device.specs.Faults.{Rose}
+use Rattle.sg_spool.specs.Answers.{HasReadCause, WhereNoMemory}
 use Rattle.sg_spool.specs.declared.answers.RewriteRefusal.{RewriteRefusal}
 use Rattle.sg_spool.specs.declared.answers.RewriteRefusal.TheVariants.{DiskFault, NoMemory}
 use Rattle.sg_spool.specs.Copying.{Beyond}
@@ -108,3 +109,6 @@ where_no_memory Q NoMemory q = q
 
 pub lost_memory : (Q : Type 0) (e : RewriteRefusal) → e ≡ NoMemory → WhereNoMemory Q e → Q
 lost_memory Q e is lost = subst (WhereNoMemory Q) is lost
+
+pub fault_rose : (before now : ℕ) (e : RewriteRefusal) → e ≡ DiskFault → HasReadCause before now e → Rose before now
+fault_rose before now e is cause = subst (HasReadCause before now) is cause

@@ -1,20 +1,19 @@
 -- Entries written anew, one behind another.
-use Rattle.std.proofs.Common.{◌≡◌, ◌≢◌, ◌⊎◌, inl, inr, ℕ, ◌+◌, ◌-◌, ◌<◌, ◌≤◌, ◌^◌, List, [], ◌∷◌, ◌++◌, length, take, map, get_or, refl, sym, ◌∙◌, ap, subst, arith, append_assoc, length-append, Some, None, Option, Bool, true, false}
-use Rattle.std.proofs.lemmas.Bool.{cases_lt}
-use Rattle.std.proofs.lemmas.List.{take_at, take_all, append-nil}
+use Rattle.std.proofs.Common.{◌≡◌, ℕ, ◌+◌, ◌-◌, ◌<◌, ◌≤◌, ◌^◌, List, [], ◌∷◌, ◌++◌, length, take, map, get_or, refl, sym, ◌∙◌, ap, subst, arith, append_assoc, length-append, Some, None, Option, Bool, true, false}
+use Rattle.std.proofs.lemmas.List.{take_at, append-nil}
 use Rattle.std.specs.Int.{to_be_bytes, w32}
-use Rattle.sg_device.specs.DiskBytes.{part, SameIn, Torn, Written}
+use Rattle.sg_device.specs.DiskBytes.{part, Written}
 use Rattle.sg_device.proofs.Parts.{part_at, part_same, part_front, part_back, torn_of_written}
 use Rattle.sg_spool.specs.Copying.{Beyond}
 use Rattle.sg_spool.specs.Places.{AreOrdered, IsOrdered, gate_past}
 use Rattle.sg_spool.specs.Rewriting.{past_end, past, written_of, HasPayload, Stand, IsShutAt, Adds, Spells}
-use Rattle.sg_spool.specs.Ring.{Entries, IsPayload, IsEntry, Run, IsEnd, IsRow, IsLaid, size_at, block_of}
+use Rattle.sg_spool.specs.Ring.{Entries, IsPayload, IsEntry, Run, IsEnd, IsLaid, block_of}
 use Rattle.sg_spool.specs.declared.places.Places.{Places}
 use Rattle.sg_spool.proofs.Behind.{length-block}
 use Rattle.sg_spool.specs.Advancing.{IsReady}
 use Rattle.sg_spool.proofs.Copying.{beyond_refl, beyond_trans, beyond_less, beyond_torn}
 use Rattle.sg_spool.proofs.Remaining.{past_other, past_jump}
-use Rattle.sg_spool.proofs.Rings.{run_grows, run_same, size_same, size_of, end_above}
+use Rattle.sg_spool.proofs.Rings.{run_grows, size_same, size_of}
 
 -- an open gate, a length and a payload
 abbrev body : List ℕ → List ℕ

@@ -1,15 +1,15 @@
 -- What writes outside a ring leave of it.
-use Rattle.std.proofs.Common.{◌≡◌, ◌≢◌, ◌⊎◌, inl, inr, ℕ, ◌+◌, ◌-◌, ◌<◌, ◌≤◌, ◌^◌, List, [], ◌∷◌, ◌++◌, length, get_or, refl, sym, ◌∙◌, ap, subst, arith, append_assoc, Some, None, Option}
+use Rattle.std.proofs.Common.{◌≡◌, ◌⊎◌, inl, inr, ℕ, ◌+◌, ◌<◌, ◌≤◌, ◌^◌, List, [], ◌∷◌, ◌++◌, length, get_or, refl, sym, ◌∙◌, ap, subst, arith, append_assoc, Some, None, Option}
 use Rattle.std.proofs.lemmas.Bool.{cases_eq, cases_lt}
 use Rattle.std.proofs.lemmas.Nat.{from_be_bytes-to_be_bytes_4}
 use Rattle.std.specs.Int.{from_be_bytes, to_be_bytes, w32}
 use Rattle.sg_device.specs.DiskBytes.{part, SameIn, Torn}
-use Rattle.sg_device.proofs.Parts.{part_same, torn_length, torn_elsewhere}
+use Rattle.sg_device.proofs.Parts.{part_same, torn_elsewhere}
 use Rattle.sg_stable.specs.Cell.{HasCell}
 use Rattle.sg_stable.specs.declared.cell.Pair.{Pair}
 use Rattle.sg_stable.proofs.Cells.{cell_same, has_cell_same as cell_stays}
 use Rattle.sg_spool.specs.Places.{HasRoom, bytes_between}
-use Rattle.sg_spool.specs.Ring.{size_at, Entries, space, IsEntry, Run, IsEnd, IsBuffer, IsRow, IsBelow, IsLaid, IsList}
+use Rattle.sg_spool.specs.Ring.{size_at, Entries, space, IsEntry, Run, IsBuffer, IsRow, IsBelow, IsLaid, IsList}
 use Rattle.sg_spool.specs.Steps.{RingAt, IsUsed, Spares}
 
 pub size_same : (at : ℕ) (c d : List ℕ) → at + 4 ≤ length c → at + 4 ≤ length d → SameIn at (at + 4) c d → size_at at d ≡ size_at at c

@@ -10,7 +10,7 @@ use Rattle.sg_spool.specs.Places.{AreOrdered, IsOrdered, AreCompact, HasRoom, by
 use Rattle.sg_spool.specs.Ring.{Entries, IsList}
 use Rattle.sg_spool.specs.Rows.{AreRows, IsAhead, IsPast, listed, total}
 use Rattle.sg_spool.specs.Staging.{IsStaged}
-use Rattle.sg_spool.specs.Steps.{RingAt, Stems, After, Spares}
+use Rattle.sg_spool.specs.Steps.{Stems, After, Spares}
 use Rattle.sg_spool.specs.View.{IsRing, AreHeld, AreHeldAfter}
 use Rattle.sg_spool.specs.declared.places.Places.{Places}
 use Rattle.sg_spool.specs.declared.rows.Rows.{Rows}

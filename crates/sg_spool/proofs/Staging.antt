@@ -1,5 +1,5 @@
 -- What is staged behind a list, write by write.
-use Rattle.std.proofs.Common.{◌≡◌, ◌≢◌, ◌⊎◌, inl, inr, ⊎_elim, ℕ, zero, suc, ◌+◌, ◌-◌, ◌<◌, ◌≤◌, ◌^◌, max, List, [], ◌∷◌, ◌++◌, length, get_or, take, drop, length-drop, refl, sym, ◌∙◌, ap, subst, arith, append_assoc, Some, None, Option}
+use Rattle.std.proofs.Common.{◌≡◌, ◌⊎◌, inl, inr, ⊎_elim, ℕ, zero, suc, ◌+◌, ◌-◌, ◌<◌, ◌≤◌, List, [], ◌∷◌, ◌++◌, length, get_or, take, drop, length-drop, refl, sym, ◌∙◌, ap, subst, arith, append_assoc, Some, None, Option}
 use Rattle.std.specs.Prelude.{◌==◌, Bool, true, false}
 use Rattle.std.proofs.lemmas.Bool.{cases_eq, cases_lt}
 use Rattle.std.proofs.lemmas.Bool.Decides.{nat_tests}
@@ -10,12 +10,12 @@ use Rattle.sg_stable.specs.declared.cell.Pair.{Pair}
 use Rattle.sg_spool.specs.Places.{AreOrdered, HasRoom}
 use Rattle.sg_spool.specs.Ring.{Entries, IsPayload, block_of}
 use Rattle.sg_spool.specs.Rows.{IsPast, IsAhead}
-use Rattle.sg_spool.specs.Staging.{OpensTo, StagedAt, IsStaged, Lays, LaysTorn}
+use Rattle.sg_spool.specs.Staging.{StagedAt, IsStaged, Lays, LaysTorn}
 use Rattle.sg_spool.specs.Steps.{RingAt, IsUsed, Spares, Grows}
 use Rattle.sg_spool.specs.declared.places.Places.{Places}
 use Rattle.sg_spool.proofs.Behind.{length-block, length_front, opened_behind}
 use Rattle.sg_spool.proofs.InFront.{opened_front}
-use Rattle.sg_spool.proofs.Rings.{SameButEnd, ring_spared, spares_torn, spares_refl, spares_trans, behind_away, front_away, length_away, run_grows}
+use Rattle.sg_spool.proofs.Rings.{ring_spared, spares_torn, spares_trans, behind_away, front_away, length_away, run_grows}
 
 pub is_zero : (n : ℕ) → (n == 0) ≡ true → n ≡ 0
 is_zero n is = grind (arith, nat_tests)

@@ -1,21 +1,20 @@
 -- What each call leaves of a disk-buffer.
-use Rattle.std.proofs.Common.{◌≡◌, ◌⊎◌, inl, inr, ⊎_elim, ℕ, zero, suc, ◌+◌, ◌-◌, ◌*◌, ◌<◌, ◌≤◌, ◌^◌, max, min, List, [], ◌∷◌, ◌++◌, length, drop, map, get_or, refl, sym, ◌∙◌, ap, subst, arith, length-append, length-drop, Some, None, Option}
+use Rattle.std.proofs.Common.{◌≡◌, ◌⊎◌, inl, inr, ⊎_elim, ℕ, ◌+◌, ◌-◌, ◌<◌, ◌≤◌, ◌^◌, List, [], ◌∷◌, ◌++◌, length, drop, map, refl, sym, ◌∙◌, ap, subst, arith, length-append, length-drop, Some, None, Option}
 use Rattle.std.proofs.lemmas.List.{append-nil, append_cancel_left, drop_all, length-map}
 use Rattle.std.specs.Option.{option_map}
-use Rattle.std.specs.Prelude.{false, true, Bool}
 use Rattle.sg_device.specs.Disk.{DiskLog, DiskState, DiskEvent, content, clock, bytes_after, IsLeft, IsImage, IsImageAt, Moves, Elapses, Preserves, Durable, Within, EachNow, WhereTold}
 use Rattle.sg_device.specs.DiskBytes.{Torn}
-use Rattle.sg_device.proofs.Disks.{started, goes_on, now_same, within_as, within_now, told_back}
+use Rattle.sg_device.proofs.Disks.{started, goes_on, now_same, within_as, told_back}
 use Rattle.sg_device.proofs.DiskCalls.{unchanged, reads_as_image}
 use Rattle.sg_stable.specs.Cell.{HasCell}
 use Rattle.sg_stable.specs.declared.cell.Pair.{Pair}
-use Rattle.sg_spool.specs.Advancing.{HasEntries, IsFirstSize, IsAdvanced, IsShrunk}
-use Rattle.sg_spool.specs.Lists.{IsOneOf}
+use Rattle.sg_spool.specs.Advancing.{HasEntries, IsFirstSize, IsAdvanced}
+use Rattle.sg_spool.specs.Lists.{IsOneOf, Perhaps, Recodes}
 use Rattle.sg_spool.specs.Places.{AreOrdered, IsOrdered, live, gate_past, Remains, AreCompact, bound}
 use Rattle.sg_spool.specs.Ring.{Entries, IsEntry, IsList, IsRow, IsLaid, space}
 use Rattle.sg_spool.specs.Rows.{AreRows, listed, committed}
 use Rattle.sg_spool.specs.Staging.{OpensTo}
-use Rattle.sg_spool.specs.Steps.{RingAt, Spares, Grows, Stems, After}
+use Rattle.sg_spool.specs.Steps.{Spares, Grows, Stems, After}
 use Rattle.sg_spool.specs.View.{Awaits, HoldsAt, IsCompactIn, IsCompactAt, IsRing, AreHeld, AreHeldAfter, IsFront, IsHeld, IsWhole}
 use Rattle.sg_spool.specs.declared.places.Places.{Places}
 use Rattle.sg_spool.specs.declared.rows.Rows.{Rows}
@@ -24,8 +23,8 @@ use Rattle.sg_spool.proofs.Chains.{elapses_as}
 use Rattle.sg_spool.proofs.Advancing.{first_entry}
 use Rattle.sg_spool.proofs.Looking.{between_small}
 use Rattle.sg_spool.proofs.Remaining.{remains_of}
-use Rattle.sg_spool.proofs.Rings.{list_of, row_between, length_space, space-append}
-use Rattle.sg_spool.proofs.Rooms.{spared_rings, compact_room}
+use Rattle.sg_spool.proofs.Rings.{list_of, row_between, length_space}
+use Rattle.sg_spool.proofs.Rooms.{spared_rings}
 use Rattle.sg_spool.proofs.Staging.{ahead_none, with_gate, with_gate_torn, with_gate_is, grows_torn}
 use Rattle.sg_spool.proofs.Unique.{list_unique, laid_places}
 
@@ -246,6 +245,16 @@ module _ (cell : Pair) (rows : Rows) (front : Option (List ℕ)) (d0 : DiskState
     waits = refl;
   }
 
+  -- the list as it was, behind which nothing is staged
+  pub whole_before : (d1 : DiskState) → rows.staged ≡ 0 → Moves d0 d1 → EachNow d1 (Stems (IsImage d0) (IsRing cell rows.list w.entries)) → IsWhole d1 cell rows front
+  whole_before d1 none moves rings = record {
+    entries = w.entries;
+    staged = [];
+    each = λ c left. let was = number_at d1 moves c left in record { ring = (rings c left).holds; number = was.0; first = was.1 };
+    opens = λ b told. tt;
+    waits = none;
+  }
+
   -- a call that changes nothing
   pub whole_still : (d1 : DiskState) → d1.told ≡ d0.told → IsWhole d1 cell rows front
   whole_still d1 is = record {
@@ -386,3 +395,20 @@ advanced_compact places count next capacity d is compact now = subst (IsCompactA
 
 pub listed_same : (places : Places) (count : ℕ) (next : Rows) → next ≡ listed places count → next ≡ listed next.list count
 listed_same places count next is = is ∙ ap (λ (p : Places). listed p count) (sym (ap (λ (r : Rows). r.list) is))
+
+-- where nothing is staged
+pub unstaged_same : (rows : Rows) → AreRows rows → rows.staged ≡ 0 → rows ≡ listed rows.list rows.count
+unstaged_same rows are none =
+    let same = ahead_none rows.staged rows.list rows.ahead none are.apart in
+    λ i. record { list = rows.list; ahead = same i; count = rows.count; staged = none i }
+
+-- the list, or its new spelling
+pub respell_one : (f : List ℕ → List ℕ) (d0 d1 : DiskState) (list : Entries) → Within d0 d1 (Stems (IsImage d0) (After (Perhaps (Recodes f)) list)) → Within d0 d1 (IsOneOf list (map f list))
+respell_one f d0 d1 list so_far = within_as d0 d1 (Stems (IsImage d0) (After (Perhaps (Recodes f)) list)) (IsOneOf list (map f list)) so_far
+    (λ c stem. ⊎_elim (λ same. inl (subst (λ (l : Entries). IsList l c) same stem.holds.2)) (λ step. inr (subst (λ (l : Entries). IsList l c) step stem.holds.2)) stem.holds.1)
+
+pub respelled_holds : (cell : Pair) (places : Places) (count : ℕ) (next : Rows) (list : Entries) (d0 d1 : DiskState) → next ≡ listed places count → EachNow d1 (Stems (IsImage d0) (IsRing cell places list)) → HoldsAt d1 next list []
+respelled_holds cell places count next list d0 d1 is rings = advanced_holds cell places count next list d1 is (λ c left. (rings c left).holds)
+
+pub before_holds : (cell : Pair) (rows : Rows) (list : Entries) (d0 d1 : DiskState) → rows.staged ≡ 0 → EachNow d1 (Stems (IsImage d0) (IsRing cell rows.list list)) → HoldsAt d1 rows list []
+before_holds cell rows list d0 d1 none rings = list_holds cell rows list d1 none (λ c left. (rings c left).holds)

@@ -1,5 +1,5 @@
 -- What each call that changes a disk-buffer keeps, whatever it answers.
-use Rattle.std.specs.Prelude.{◌≡◌, ◌⊎◌, ℕ, ◌≤◌, List, Bool, true, false}
+use Rattle.std.specs.Prelude.{◌≡◌, ℕ, ◌≤◌, true}
 use Rattle.sg_device.specs.Disk.{DiskState, Moves, Within}
 use Rattle.sg_device.specs.Faults.{Rose}
 use Rattle.sg_spool.specs.Lists.{IsOneOf}

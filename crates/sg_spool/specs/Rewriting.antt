@@ -1,5 +1,5 @@
 -- Entries written anew behind all that the list uses.
-use Rattle.std.specs.Prelude.{◌≡◌, ◌≢◌, ℕ, ◌+◌, ◌<◌, ◌≤◌, List, [], ◌∷◌, length, take, slice_index, map, Option, Some, None, Bool, true, false}
+use Rattle.std.specs.Prelude.{◌≡◌, ◌≢◌, ℕ, ◌+◌, ◌≤◌, List, [], ◌∷◌, length, take, slice_index, map, Option, Some, None, Bool, true, false}
 use Rattle.sg_device.specs.DiskBytes.{part}
 use Rattle.sg_spool.specs.Copying.{Beyond}
 use Rattle.sg_spool.specs.Ring.{Entries, IsPayload, IsEnd, IsLaid, size_at, block_of}

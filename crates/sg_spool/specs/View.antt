@@ -1,5 +1,5 @@
 -- What contracts see of a disk-buffer.
-use Rattle.std.specs.Prelude.{◌≡◌, ◌⊎◌, ℕ, ◌+◌, ◌-◌, ◌≤◌, ◌^◌, min, List, [], ◌∷◌, ◌++◌, length, Option, Some, None, Bool, true, false}
+use Rattle.std.specs.Prelude.{◌≡◌, ◌⊎◌, ℕ, ◌≤◌, List, [], ◌∷◌, ◌++◌, length, Option, Some, None, Bool, true, false}
 use Rattle.sg_device.specs.Disk.{DiskState, EachNow, WhereTold, content}
 use Rattle.sg_device.specs.DiskBytes.{overwritten}
 use Rattle.sg_stable.specs.declared.cell.Pair.{Pair}

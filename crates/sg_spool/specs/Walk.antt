@@ -1,8 +1,7 @@
 -- What a walk along the gates meets.
-use Rattle.std.specs.Prelude.{◌≡◌, ◌≢◌, ℕ, ◌+◌, ◌-◌, ◌<◌, ◌≤◌, ◌^◌, min, List, length, slice_index, Option, Some, None, if◌then◌else◌, ◌==◌}
+use Rattle.std.specs.Prelude.{◌≡◌, ◌≢◌, ℕ, ◌+◌, ◌-◌, ◌<◌, ◌≤◌, ◌^◌, min, List, length, slice_index, Option, Some, None}
 use Rattle.sg_spool.specs.Ring.{size_at, Entries, IsEntry, IsEnd, IsJump, IsRow, IsBelow}
 use Rattle.sg_spool.specs.Opening.{IsReached, IsDamagedWalk}
-use Rattle.sg_spool.specs.declared.places.Places.{Places}
 use Rattle.sg_spool.specs.declared.walk.Gate.{Gate}
 use Rattle.sg_spool.specs.declared.walk.Gate.TheVariants.{Shut, Entry, Jump, Broken}
 use Rattle.sg_spool.specs.declared.walk.Place.{Place}

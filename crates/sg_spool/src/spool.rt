@@ -166,7 +166,7 @@ impl<D: Disk> Spool<D> {
         }
     }
 
-    /// The first entry. Behind one that answered Item, with no call between but `fits`, `count` or `head`,
+    /// The first entry. Behind one that answered Item, with no call between but `fits`, `count`, `staged` or `head`,
     /// it reads nothing.
     pub fn front(&mut self, alloc: Global) -> Result<Front, NoMemory>
         requires { self.old.rows.staged ≡ 0 }
@@ -230,6 +230,13 @@ impl<D: Disk> Spool<D> {
         ensures list { self.now.closed ≡ false → EachNow (D.state self.now.disk) (λ bytes. (list : Entries) → IsList list bytes → result ≡ length list) }
     {
         self.rows.count
+    }
+
+    /// The number of payloads that are staged.
+    pub fn staged(&self) -> u64
+        ensures { result ≡ self.now.rows.staged }
+    {
+        self.rows.staged
     }
 
     /// The place of the first entry's gate, or of the end's where there is no entry.

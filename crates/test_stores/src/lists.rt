@@ -27,6 +27,9 @@ fn drains(alloc: Global, spool: &mut Spool<MemoryDisk>, numbers: &[u64]) -> Resu
     }
     for number in numbers {
         let wanted = payload(alloc, *number)?;
+        if spool.staged() > 0 {
+            return Ok(false);
+        }
         match spool.front(alloc)? {
             Front::Item(found) => {
                 if found.as_slice() != wanted.as_slice() {
@@ -35,9 +38,7 @@ fn drains(alloc: Global, spool: &mut Spool<MemoryDisk>, numbers: &[u64]) -> Resu
             }
             _ => return Ok(false),
         }
-        if spool.count() > 0 {
-            spool.advance()?;
-        }
+        take_off(spool, 1)?;
     }
     Ok(spool.count() == 0)
 }
@@ -50,25 +51,65 @@ fn holds(alloc: Global, bytes: Vec<u8>, numbers: &[u64]) -> Result<bool, Fail> {
     result
 }
 
-// Appends an entry, and else takes one off. Whether the list changed.
-fn take_step(alloc: Global, spool: &mut Spool<MemoryDisk>, number: u64) -> Result<bool, Fail> {
-    if number % 5 < 3 {
-        let payload = payload(alloc, number)?;
-        if payload.is_empty() || payload.len() > 7 {
-            return Ok(false);
-        }
-        let block = Block::new(alloc, payload)?;
-        return Ok(spool.append(&block) == Appended::Done);
+// Takes entries off the list, as far as there are so many, and tells how many.
+fn take_off(spool: &mut Spool<MemoryDisk>, n: u64) -> Result<u64, Fail> {
+    let n = n.min(spool.count());
+    if n == 0 || spool.staged() > 0 {
+        return Ok(0);
     }
-    Ok(spool.count() > 0 && spool.advance().is_ok())
+    spool.advance(n)?;
+    Ok(n)
+}
+
+// Stages an entry.
+fn stage(alloc: Global, spool: &mut Spool<MemoryDisk>, number: u64) -> Result<Appended, Fail> {
+    let payload = payload(alloc, number)?;
+    if payload.is_empty() || payload.len() > 7 {
+        return Ok(Appended::NoRoom);
+    }
+    let block = Block::new(alloc, payload)?;
+    Ok(spool.stage(&block))
+}
+
+// The numbers of the entries that a step stages, as far as they fit: 1 to 5 of them.
+fn batch(number: u64) -> core::ops::Range<u64> {
+    let first = (number % 100_000) * 5;
+    first..first + 1 + number / 5 % 5
+}
+
+// Stages entries and commits them, and else takes 1 to 3 off. How many that were.
+fn take_step(alloc: Global, spool: &mut Spool<MemoryDisk>, number: u64) -> Result<u64, Fail> {
+    if number % 5 >= 3 {
+        return match take_off(spool, 1 + number % 3) {
+            Ok(taken) => Ok(taken),
+            Err(_) => Ok(0),
+        };
+    }
+    let mut staged: u64 = 0;
+    for entry in batch(number) {
+        if stage(alloc, spool, entry)? != Appended::Done {
+            break;
+        }
+        staged = staged.saturating_add(1);
+    }
+    if spool.commit().is_err() {
+        return Ok(0);
+    }
+    Ok(staged)
 }
 
 // The same to a plain list.
-fn follow(numbers: &mut Vec<u64>, number: u64) -> Result<(), Fail> {
-    if number % 5 < 3 {
-        numbers.push(number)?;
-    } else if !numbers.is_empty() {
-        let _ = numbers.remove(0);
+fn follow(numbers: &mut Vec<u64>, number: u64, changed: u64) -> Result<(), Fail> {
+    if number % 5 >= 3 {
+        for _ in 0..changed {
+            if !numbers.is_empty() {
+                let _ = numbers.remove(0);
+            }
+        }
+        return Ok(());
+    }
+    for entry in batch(number).take(changed as usize) {
+        numbers.push(entry)?;
     }
     Ok(())
 }
@@ -81,9 +122,8 @@ fn run(
     steps: u64,
 ) -> Result<(), Fail> {
     for number in 0..steps {
-        if take_step(alloc, spool, number)? {
-            follow(numbers, number)?;
-        }
+        let changed = take_step(alloc, spool, number)?;
+        follow(numbers, number, changed)?;
     }
     Ok(())
 }
@@ -123,54 +163,87 @@ fn beside_plain_lists(rt: HostRuntime) -> Result<(), Fail> {
     Ok(())
 }
 
+// Whether each image has the list, or the list after so many changes as one of these says.
+fn images_hold(
+    alloc: Global,
+    disk: &MemoryDisk,
+    numbers: &[u64],
+    number: u64,
+    changes: &[u64],
+) -> Result<bool, Fail> {
+    for pick in PICKS {
+        let image = disk.image(&[pick])?;
+        let mut found = false;
+        for changed in changes {
+            let mut after = numbers.to_vec(alloc)?;
+            follow(&mut after, number, *changed)?;
+            if holds(alloc, image.to_vec(alloc)?, &after)? {
+                found = true;
+            }
+        }
+        if !found {
+            return Ok(false);
+        }
+    }
+    Ok(true)
+}
+
 // One step that is stopped after so many calls, opening included. Whether each image then has the list
-// before the step or after it; and whether the step was done.
+// before the step or after all of it; under a greater capacity also after the first ones that are staged.
 fn stopped(
     alloc: Global,
     bytes: Vec<u8>,
     capacity: u64,
     numbers: &[u64],
     number: u64,
-    calls: u64,
-) -> Result<(bool, bool), Fail> {
+    limits: (u64, u64, bool),
+) -> Result<bool, Fail> {
+    let (calls, whole, greater) = limits;
     let mut disk = MemoryDisk::new(alloc, bytes)?;
     disk.stop_after(calls);
     let Ok(mut spool) = open(disk, capacity) else {
-        return Ok((true, false));
+        return Ok(true);
     };
     let result = take_step(alloc, &mut spool, number);
     let disk = spool.into_disk();
     let done = result?;
-    let mut after = numbers.to_vec(alloc)?;
-    follow(&mut after, number)?;
-    for pick in PICKS {
-        let image = disk.image(&[pick])?;
-        let same = !done && holds(alloc, image.to_vec(alloc)?, numbers)?;
-        if !same && !holds(alloc, image, &after)? {
-            return Ok((false, done));
-        }
+    if done > 0 {
+        return images_hold(alloc, &disk, numbers, number, &[whole]);
     }
-    Ok((true, done))
+    if greater {
+        return images_hold(alloc, &disk, numbers, number, &[0, 1, 2, 3, 4, whole]);
+    }
+    images_hold(alloc, &disk, numbers, number, &[0, whole])
+}
+
+// How many entries a step changes.
+fn whole_step(
+    alloc: Global,
+    disk: MemoryDisk,
+    capacity: u64,
+    number: u64,
+) -> Result<(MemoryDisk, u64), Fail> {
+    let mut spool = open(disk, capacity)?;
+    let result = take_step(alloc, &mut spool, number);
+    let disk = spool.into_disk();
+    Ok((disk, result?))
 }
 
 // A stretch of steps over the end of the ring, each stopped at each of its calls.
 fn stretch(alloc: Global, before: u64, capacity: u64) -> Result<bool, Fail> {
     let mut numbers = Vec::new(alloc);
     let mut disk = run_from(alloc, fresh(alloc)?, before, &mut numbers, 40)?;
-    for number in 40..55 {
-        for calls in 0..30 {
-            let bytes = disk.bytes().to_vec(alloc)?;
-            let (good, _) = stopped(alloc, bytes, capacity, &numbers, number, calls)?;
-            if !good {
+    for number in 40..70 {
+        let bytes = disk.bytes().to_vec(alloc)?;
+        let (next, whole) = whole_step(alloc, disk, capacity, number)?;
+        for calls in 0..40 {
+            let limits = (calls, whole, before < capacity);
+            if !stopped(alloc, bytes.to_vec(alloc)?, capacity, &numbers, number, limits)? {
                 return Ok(false);
             }
         }
-        let mut spool = open(disk, capacity)?;
-        let result = take_step(alloc, &mut spool, number);
-        disk = spool.into_disk();
-        if result? {
-            follow(&mut numbers, number)?;
-        }
+        disk = next;
+        follow(&mut numbers, number, whole)?;
     }
     holds(alloc, disk.bytes().to_vec(alloc)?, &numbers)
 }

@@ -193,6 +193,9 @@ fn exact_bytes(rt: HostRuntime) -> Result<(), Fail> {
 fn drains(alloc: Global, spool: &mut Spool<MemoryDisk>, payloads: &str) -> Result<bool, Fail> {
     for line in payloads.lines() {
         let wanted = spelled(alloc, line)?;
+        if spool.staged() > 0 {
+            return Ok(false);
+        }
         match spool.front(alloc)? {
             Front::Item(found) => {
                 if found.as_slice() != wanted.as_slice() {
@@ -201,8 +204,8 @@ fn drains(alloc: Global, spool: &mut Spool<MemoryDisk>, payloads: &str) -> Resul
             }
             _ => return Ok(false),
         }
-        if spool.count() > 0 {
-            spool.advance()?;
+        if spool.count() > 0 && spool.staged() == 0 {
+            spool.advance(1)?;
         }
     }
     Ok(spool.count() == 0)

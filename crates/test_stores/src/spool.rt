@@ -14,20 +14,70 @@ const FORMAT1: &[u8; 47] =
 const CAPACITY: &str = "append abcd: Done, abcd
 append efgh: Done, abcd efgh
 append ijkl: NoRoom, abcd efgh
-advance: Done, efgh
+advance 1: Done, efgh
 append ijkl: Done, efgh ijkl
 append m: NoRoom, efgh ijkl
-advance: Done, ijkl
-advance: Done,";
+advance 1: Done, ijkl
+advance 1: Done,";
 
 // The same, from a fresh store over the end of the ring.
 const RING: &str = "append abcd: Done, abcd
 append efgh: Done, abcd efgh
-advance: Done, efgh
+advance 1: Done, efgh
 append ijkl: Done, efgh ijkl
-advance: Done, ijkl
+advance 1: Done, ijkl
 append mnop: Done, ijkl mnop
-advance: Done, mnop";
+advance 1: Done, mnop";
+
+// An empty list whose head stands at 91.
+const ROW: &str = "append abcd: Done, abcd
+append efgh: Done, abcd efgh
+advance 2: Done,
+append ijkl: Done, ijkl
+advance 1: Done,";
+
+// Two entries staged and committed, and both taken off.
+const COMMITTED: &str = "sync
+65 00000002616200
+71 0100000002636400
+sync
+64 01
+sync
+32 000000000000000e
+sync
+0 01
+sync";
+
+// Two entries staged over the end of the ring.
+const STAGED_OVER: &str = "sync
+92 000000046162636400
+64 0100000002656600
+100 0100000000
+sync
+91 01
+sync
+32 0000000000000007
+sync
+0 03
+sync";
+
+// An entry staged, and one for which the list is moved first.
+const STAGED_GATHERED: &str = "sync
+74 00000002616200
+sync
+73 01
+sync
+105 01000000046d6e6f70
+114 0100000004717273740100000002616200
+sync
+16 0000000000000029
+sync
+0 04
+sync
+131 0000000e303030303030303030303030303000
+sync
+130 01
+sync";
 
 // The changes since an opening: a write's place and bytes in hexadecimal, or a sync.
 const APPENDED: &str = "sync
@@ -103,30 +153,55 @@ fn drain(alloc: Global, disk: MemoryDisk) -> Result<String, Fail> {
 
 fn take_all(alloc: Global, spool: &mut Spool<MemoryDisk>, text: &mut String) -> Result<(), Fail> {
     for _ in 0..spool.count() {
+        if spool.staged() > 0 {
+            return Err(Fail::from("something is staged"));
+        }
         if let Front::Item(payload) = spool.front(alloc)? {
             text.push(' ')?;
             text.push_str(str::from_utf8(&payload)?)?;
         }
-        if spool.count() > 0 {
-            spool.advance()?;
-        }
+        take_off(spool, 1)?;
     }
     Ok(())
 }
 
+// Takes so many entries off a list that has them.
+fn take_off(spool: &mut Spool<MemoryDisk>, n: u64) -> Result<(), Fail> {
+    if n == 0 || n > spool.count() || spool.staged() > 0 {
+        return Err(Fail::from("not so many"));
+    }
+    spool.advance(n)?;
+    Ok(())
+}
+
+fn said(appended: Appended) -> &'static str {
+    match appended {
+        Appended::Done => "Done",
+        Appended::NoRoom => "NoRoom",
+        Appended::DiskFailed => "DiskFailed",
+    }
+}
+
+// A call: `append TEXT`, `stage TEXT`, `commit` or `advance N`.
 fn perform(alloc: Global, spool: &mut Spool<MemoryDisk>, call: &str) -> Result<&'static str, Fail> {
-    if let Some(("append", payload)) = call.split_once(' ') {
-        let block = block(alloc, payload.as_bytes())?;
-        return Ok(match spool.append(&block) {
-            Appended::Done => "Done",
-            Appended::NoRoom => "NoRoom",
-            Appended::DiskFailed => "DiskFailed",
-        });
+    if call == "commit" {
+        spool.commit()?;
+        return Ok("Done");
     }
-    if spool.count() == 0 {
-        return Ok("empty");
+    let (name, text) = call.split_once(' ').ok_or("no call")?;
+    if name == "stage" {
+        return Ok(said(spool.stage(&block(alloc, text.as_bytes())?)));
     }
-    spool.advance()?;
+    if spool.staged() > 0 {
+        return Err(Fail::from("something is staged"));
+    }
+    if name == "append" {
+        return Ok(said(spool.append(&block(alloc, text.as_bytes())?)));
+    }
+    if name != "advance" {
+        return Err(Fail::from("no call"));
+    }
+    take_off(spool, text.parse()?)?;
     Ok("Done")
 }
 
@@ -218,14 +293,24 @@ fn perform_all(alloc: Global, spool: &mut Spool<MemoryDisk>, calls: &[&str]) -> 
 #[test]
 fn device_calls(rt: HostRuntime) -> Result<(), Fail> {
     let alloc = rt.alloc();
-    let (text, _) = traced(alloc, &[0; 128], 20, &["append ab", "advance"])?;
+    let (text, _) = traced(alloc, &[0; 128], 20, &["append ab", "advance 1"])?;
     assert_eq!(rt; text.as_str(), APPENDED);
     let (_, ring) = rows(alloc, RING, 20)?;
-    let (text, _) = traced(alloc, ring.bytes(), 20, &["append qrst", "advance"])?;
+    let (text, _) = traced(alloc, ring.bytes(), 20, &["append qrst", "advance 1"])?;
     assert_eq!(rt; text.as_str(), WRAPPED);
     let (_, wrapped) = traced(alloc, ring.bytes(), 20, &["append qrst"])?;
     let (text, _) = traced(alloc, wrapped.bytes(), 60, &["append 00000000000000"])?;
     assert_eq!(rt; text.as_str(), GATHERED);
+    let calls = ["stage ab", "stage cd", "commit", "advance 2"];
+    let (text, _) = traced(alloc, &[0; 128], 20, &calls)?;
+    assert_eq!(rt; text.as_str(), COMMITTED);
+    let (_, row) = rows(alloc, ROW, 20)?;
+    let calls = ["stage abcd", "stage ef", "commit", "advance 2"];
+    let (text, _) = traced(alloc, row.bytes(), 20, &calls)?;
+    assert_eq!(rt; text.as_str(), STAGED_OVER);
+    let calls = ["stage ab", "stage 00000000000000", "commit"];
+    let (text, _) = traced(alloc, wrapped.bytes(), 60, &calls)?;
+    assert_eq!(rt; text.as_str(), STAGED_GATHERED);
     Ok(())
 }
 
@@ -263,7 +348,7 @@ fn append_bytes(alloc: Global, spool: &mut Spool<MemoryDisk>, payload: &[u8]) ->
         return Err(Fail::from("no payload"));
     }
     let block = Block::new(alloc, payload.to_vec(alloc)?)?;
-    if spool.append(&block) != Appended::Done {
+    if spool.staged() > 0 || spool.append(&block) != Appended::Done {
         return Err(Fail::from("not appended"));
     }
     Ok(())

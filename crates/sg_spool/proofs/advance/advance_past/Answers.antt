@@ -1,6 +1,5 @@
-use Rattle.std.proofs.Common.{◌≡◌, ◌+◌, ◌-◌, ◌<◌, ◌≤◌, ℕ, List, length, drop, ap, subst, sym, ◌∙◌, arith}
-use Rattle.sg_device.specs.Disk.{Within, EachNow, IsImage}
-use Rattle.sg_spool.proofs.AdvanceCalls.{advance_read, advance_put, advanced, head_high, short_put}
+use Rattle.std.proofs.Common.{◌-◌, arith}
+use Rattle.sg_spool.proofs.AdvanceCalls.{advance_read, advance_put, advanced, head_high}
 use Rattle.sg_spool.proofs.advance.advance_past.Goals as goal
 
 pub returns-in_err-next-clause-within : goal.returns-in_err-next-clause-within

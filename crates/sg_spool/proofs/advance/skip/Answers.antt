@@ -1,5 +1,4 @@
-use Rattle.std.proofs.Common.{◌≡◌, ◌⊎◌, ℕ, suc, ◌+◌, ◌-◌, ◌<◌, ◌≤◌, ◌∙◌, List, length, drop, ap, subst, sym, arith, Some, Option}
-use Rattle.sg_device.specs.Disk.{content}
+use Rattle.std.proofs.Common.{◌≡◌, ℕ, suc, ◌-◌, ◌<◌, ◌∙◌, length, drop, subst, sym, arith}
 use Rattle.sg_device.proofs.DiskCalls.{content_same}
 use Rattle.sg_spool.specs.Advancing.{IsReadyAt}
 use Rattle.sg_spool.specs.Places.{AreCompact, after_first}

@@ -1,4 +1,4 @@
-use Rattle.std.proofs.Common.{◌≡◌, ◌+◌, ◌-◌, ◌<◌, ◌≤◌, ◌^◌, List, ℕ, length, drop}
+use Rattle.std.proofs.Common.{◌≡◌, ◌-◌, ◌≤◌, List, ℕ, length, drop}
 use Rattle.sg_device.specs.Disk.{content, WhereTold}
 use Rattle.sg_spool.specs.Advancing.{IsFirstSize, IsReadyAt}
 use Rattle.sg_spool.specs.Places.{IsOrdered, AreCompact}

@@ -1,4 +1,4 @@
-use Rattle.std.proofs.Common.{◌≡◌, ◌∷◌, ◌++◌, [], ◌∙◌, ap, arith, length, List, ℕ}
+use Rattle.std.proofs.Common.{arith}
 use Rattle.sg_spool.specs.Ring.{block_of}
 use Rattle.sg_spool.proofs.block.spell.Goals as goal
 

@@ -1,4 +1,4 @@
-use Rattle.std.proofs.Common.{◌≡◌, ◌⊎◌, inl, inr, ◌++◌, ◌∷◌, ℕ, List, length, refl, sym, subst, arith}
+use Rattle.std.proofs.Common.{◌⊎◌, inl, ◌++◌, sym, subst}
 use Rattle.sg_spool.specs.declared.rows.Rows.{Rows}
 use Rattle.sg_device.specs.Disk.{content, Within, EachNow, WhereTold}
 use Rattle.sg_device.proofs.Disks.{started, preserves_refl}

@@ -1,5 +1,5 @@
 use Rattle.sg_device.proofs.DiskCalls.{sync_rests, sync_preserves, sync_durable, write_elapses, write_written}
-use Rattle.std.proofs.Common.{[], ◌∷◌, ◌∙◌, ap}
+use Rattle.std.proofs.Common.{[], ◌∷◌}
 use Rattle.sg_spool.proofs.Committing.{commit1, commit2, commit3, committed3, same_torn, join_torn}
 use Rattle.sg_spool.proofs.commit.open_gate.Goals as goal
 

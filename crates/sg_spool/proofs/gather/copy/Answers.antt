@@ -1,6 +1,6 @@
-use Rattle.std.proofs.Common.{◌≡◌, ◌+◌, ◌-◌, ◌<◌, ◌≤◌, ◌^◌, ℕ, min, arith}
+use Rattle.std.proofs.Common.{◌+◌, ◌≤◌, arith}
 use Rattle.sg_device.specs.Disk.{content}
-use Rattle.sg_spool.proofs.Gathering.{copied_none, copied_more, untold_beyond, join_beyond, less_beyond}
+use Rattle.sg_spool.proofs.Gathering.{copied_more, join_beyond, less_beyond}
 use Rattle.sg_spool.proofs.gather.copy.Goals as goal
 
 pub loop-done-preserved : goal.loop-done-preserved

@@ -1,4 +1,4 @@
-use Rattle.std.proofs.Common.{◌≡◌, ◌+◌, ◌-◌, ◌<◌, ◌≤◌, ◌^◌}
+use Rattle.std.proofs.Common.{◌+◌, ◌-◌, ◌<◌, ◌≤◌, ◌^◌}
 use Rattle.sg_device.specs.Disk.{content, Changes, Elapses}
 use Rattle.sg_spool.specs.Copying.{Copies, Beyond}
 use Rattle.sg_spool.proofs.gather.copy.Given as goal

@@ -1,4 +1,4 @@
-use Rattle.std.proofs.Common.{◌≡◌, ◌+◌, ◌<◌, ◌≤◌, ℕ, List, length, refl, ap, subst, sym, ◌∙◌, arith}
+use Rattle.std.proofs.Common.{length, refl}
 use Rattle.sg_device.proofs.DiskCalls.{write_written}
 use Rattle.sg_spool.proofs.Gathering.{piece_images, piece_copied}
 use Rattle.sg_spool.proofs.gather.copy_through.Goals as goal

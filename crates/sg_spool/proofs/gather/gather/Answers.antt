@@ -1,7 +1,6 @@
-use Rattle.std.proofs.Common.{◌≡◌, ◌+◌, ◌-◌, ◌<◌, ◌≤◌, ℕ, List, length, ap, subst, sym, ◌∙◌, arith, Some, None, Option}
-use Rattle.sg_device.specs.Disk.{Elapses, EachNow}
+use Rattle.std.proofs.Common.{◌+◌, ◌-◌, ℕ, subst, arith, Option}
+use Rattle.sg_device.specs.Disk.{EachNow}
 use Rattle.sg_device.proofs.DiskCalls.{sync_preserves, sync_rests, sync_durable}
-use Rattle.sg_spool.specs.Copying.{Beyond}
 use Rattle.sg_spool.specs.Places.{AreOrdered}
 use Rattle.sg_spool.specs.Steps.{RingAt}
 use Rattle.sg_spool.proofs.Gathering.{join_beyond, less_beyond, still_beyond, beyond_cells, stays_beyond, stays_put, ring_put}

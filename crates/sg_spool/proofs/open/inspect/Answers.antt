@@ -1,6 +1,5 @@
-use Rattle.std.proofs.Common.{◌≡◌, ◌⊎◌, inl, inr, ◌∙◌, ◌+◌, ◌<◌, ◌≤◌, sym, ap, subst, ℕ, List, length, get_or, arith, Some}
+use Rattle.std.proofs.Common.{◌≡◌, inl, inr, ◌∙◌, ◌≤◌, subst, ℕ, length, arith}
 use Rattle.std.proofs.lemmas.Result.{err_from_is_err_and}
-use Rattle.sg_device.specs.Disk.{content}
 use Rattle.sg_device.proofs.DiskCalls.{content_same}
 use Rattle.sg_device.proofs.Parts.{read_zeros, zeros_at}
 use Rattle.sg_spool.proofs.Looking.{held_at, head_out, reason_of, walk_bad, cell_there}

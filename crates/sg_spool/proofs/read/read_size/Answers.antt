@@ -1,4 +1,4 @@
-use Rattle.std.proofs.Common.{◌∙◌, ◌≤◌, sym, refl, arith, length}
+use Rattle.std.proofs.Common.{refl, arith}
 use Rattle.sg_spool.proofs.Walking.{read_at_gate}
 use Rattle.sg_spool.proofs.read.read_size.Goals as goal
 

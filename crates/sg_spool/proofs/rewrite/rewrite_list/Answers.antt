@@ -1,4 +1,4 @@
-use Rattle.std.proofs.Common.{◌≡◌, ◌+◌, ◌-◌, ◌<◌, ◌≤◌, ◌∙◌, ℕ, List, length, map, ap, subst, sym, refl, arith, Some, None, Option}
+use Rattle.std.proofs.Common.{◌-◌, ℕ, map, subst, sym, arith, None}
 use Rattle.std.proofs.lemmas.Result.{err_from_is_err_and}
 use Rattle.sg_device.specs.Disk.{EachNow, IsImage}
 use Rattle.sg_spool.specs.Rewriting.{past}

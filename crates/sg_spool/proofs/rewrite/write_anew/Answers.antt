@@ -1,5 +1,5 @@
-use Rattle.std.proofs.Common.{◌≡◌, ◌+◌, ◌-◌, ◌<◌, ◌≤◌, ◌∙◌, ◌^◌, ℕ, List, length, ap, subst, sym, refl, arith, rules}
-use Rattle.std.specs.Prelude.{true, nat_eq}
+use Rattle.std.proofs.Common.{◌≡◌, ◌+◌, ◌-◌, ◌<◌, ◌∙◌, ◌^◌, ℕ, List, length, ap, subst, sym, refl, arith, rules}
+use Rattle.std.specs.Prelude.{nat_eq}
 use Rattle.sg_device.specs.Disk.{content, Changes}
 use Rattle.sg_device.proofs.Disks.{preserves_refl}
 use Rattle.sg_device.proofs.DiskCalls.{content_same}
@@ -7,7 +7,7 @@ use Rattle.sg_spool.specs.Places.{gate_past}
 use Rattle.sg_spool.specs.Rewriting.{Adds, past}
 use Rattle.sg_spool.proofs.Rewriting.{Spelling}
 use Rattle.sg_spool.proofs.Gathering.{untold_beyond, still_beyond, join_beyond, less_beyond}
-use Rattle.sg_spool.proofs.RewriteCalls.{spelling_start, spelling_on, spelling_end}
+use Rattle.sg_spool.proofs.RewriteCalls.{spelling_start, spelling_on}
 use Rattle.sg_spool.proofs.rewrite.write_anew.Goals as goal
 
 pub loop-left-init : goal.loop-left-init

@@ -1,4 +1,4 @@
-use Rattle.std.proofs.Common.{◌≡◌, ◌+◌, ◌-◌, ◌<◌, ◌≤◌, ◌^◌, List, ℕ}
+use Rattle.std.proofs.Common.{◌≡◌, ◌<◌, ◌≤◌, ◌^◌, List, ℕ}
 use Rattle.sg_device.specs.Disk.{content, Changes, Elapses}
 use Rattle.sg_spool.specs.Copying.{Beyond}
 use Rattle.sg_spool.specs.Rewriting.{past}

@@ -1,6 +1,6 @@
 use Rattle.std.proofs.lemmas.Bool.{cases_lt, false≢true}
 use Rattle.sg_spool.proofs.Rewriting.{written_long}
-use Rattle.std.proofs.Common.{◌≡◌, ◌+◌, ◌<◌, ◌≤◌, ◌^◌, inl, inr, arith, List, ℕ, length, subst, ap, sym}
+use Rattle.std.proofs.Common.{◌+◌, ◌^◌, inl, inr, arith, List, ℕ, length, subst, ap}
 use Rattle.sg_device.specs.DiskBytes.{Written}
 use Rattle.sg_device.specs.Disk.{content, Changes}
 use Rattle.sg_device.proofs.DiskCalls.{write_elapses, write_written}

@@ -1,4 +1,4 @@
-use Rattle.std.proofs.Common.{◌≡◌, ◌∙◌, List, ℕ, length, subst, ap, sym}
+use Rattle.std.proofs.Common.{◌∙◌, List, ℕ, subst, sym}
 use Rattle.sg_device.specs.Disk.{content, Changes}
 use Rattle.sg_spool.specs.Ring.{IsPayload}
 use Rattle.sg_spool.specs.Rewriting.{Adds}

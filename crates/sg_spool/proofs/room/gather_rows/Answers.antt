@@ -1,6 +1,5 @@
-use Rattle.std.proofs.Common.{◌≡◌, ◌⊎◌, inl, inr, ◌+◌, ◌-◌, ◌<◌, ◌≤◌, ◌∙◌, ◌++◌, ◌∷◌, [], ℕ, List, length, ap, subst, sym, refl, arith, Some, None, Option}
-use Rattle.sg_device.specs.Disk.{EachNow, Within, IsImage}
-use Rattle.sg_spool.specs.Ring.{Entries}
+use Rattle.std.proofs.Common.{◌∙◌, ◌++◌, ap, subst, sym, arith}
+use Rattle.sg_device.specs.Disk.{EachNow}
 use Rattle.sg_spool.specs.Places.{IsOrdered}
 use Rattle.sg_spool.specs.View.{IsRing}
 use Rattle.sg_spool.specs.declared.rows.Rows.{Rows}

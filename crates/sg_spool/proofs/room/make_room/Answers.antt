@@ -1,7 +1,4 @@
-use Rattle.std.proofs.Common.{◌≡◌, ◌⊎◌, inl, inr, ◌+◌, ◌-◌, ◌<◌, ◌≤◌, ◌^◌, ◌∙◌, ◌++◌, ◌∷◌, [], ℕ, List, length, min, ap, subst, sym, refl, arith, Some, None, Option}
-use Rattle.sg_spool.specs.Places.{live, HasRoom, bytes_between}
-use Rattle.sg_spool.specs.declared.places.Places.{Places}
-use Rattle.sg_spool.proofs.Rooms.{stay_held, held_same, gathered_held, listed_rows, listed_ahead, room_none, room_some, no_room}
+use Rattle.sg_spool.proofs.Rooms.{stay_held, held_same, gathered_held}
 use Rattle.sg_spool.proofs.room.make_room.Goals as goal
 
 pub returns-in-None-clause-within : goal.returns-in-None-clause-within

@@ -1,7 +1,7 @@
-use Rattle.std.proofs.Common.{◌≡◌, ◌⊎◌, inl, inr, ◌+◌, ◌-◌, ◌<◌, ◌≤◌, ◌^◌, ◌∙◌, ◌++◌, ◌∷◌, [], ℕ, List, length, min, ap, subst, sym, refl, arith, Some, None, Option}
+use Rattle.std.proofs.Common.{ℕ, length, ap, subst, sym}
 use Rattle.sg_device.specs.Disk.{DiskState, Elapses}
 use Rattle.sg_spool.specs.Places.{HasRoom, AreCompact, bound}
-use Rattle.sg_spool.specs.Steps.{Spares, Grows}
+use Rattle.sg_spool.specs.Steps.{Grows}
 use Rattle.sg_spool.specs.declared.rows.Rows.{Rows}
 use Rattle.sg_spool.proofs.Rooms.{after_stage, within_stage, staged_rows, compact_room}
 use Rattle.sg_spool.proofs.room.stage_block.Goals as goal

@@ -1,4 +1,4 @@
-use Rattle.std.proofs.Common.{◌≡◌, ◌+◌, ◌-◌, ◌<◌, ◌≤◌, ◌∙◌, ℕ, List, length, drop, subst, sym, ap, arith}
+use Rattle.std.proofs.Common.{◌+◌, ℕ, List, length, subst, sym}
 use Rattle.std.specs.Prelude.{Bool}
 use Rattle.sg_device.specs.Disk.{content, Changes, Elapses}
 use Rattle.sg_device.specs.DiskBytes.{Torn, Written}

@@ -1,7 +1,6 @@
-use Rattle.std.proofs.Common.{◌≡◌, ◌∙◌, ◌+◌, ◌<◌, ◌≤◌, ℕ, List, [], ◌∷◌, ◌++◌, length, ap, subst, sym, arith}
+use Rattle.std.proofs.Common.{◌∙◌, ℕ, List, [], ◌∷◌, ◌++◌, length, ap, subst, arith}
 use Rattle.std.specs.Prelude.{◌==◌}
 use Rattle.sg_device.proofs.Disks.{told_on}
-use Rattle.sg_spool.specs.Ring.{block_of}
 use Rattle.sg_spool.specs.Staging.{IsStaged, Lays, LaysTorn}
 use Rattle.sg_spool.proofs.Behind.{length_front}
 use Rattle.sg_spool.proofs.Chains.{elapses_as}

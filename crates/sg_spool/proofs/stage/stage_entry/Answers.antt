@@ -1,8 +1,8 @@
-use Rattle.std.proofs.Common.{◌≡◌, ◌+◌, ◌-◌, ◌*◌, ◌<◌, ◌≤◌, ◌∙◌, ℕ, List, ◌++◌, ◌∷◌, [], length, ap, subst, sym, arith, Some, None, Option}
+use Rattle.std.proofs.Common.{◌+◌, ℕ, ◌++◌, ◌∷◌, [], length, subst, sym, arith, Some}
 use Rattle.sg_device.specs.Disk.{content, WhereTold}
-use Rattle.sg_spool.specs.Places.{bound, AreOrdered}
+use Rattle.sg_spool.specs.Places.{bound}
 use Rattle.sg_spool.specs.Staging.{IsStaged}
-use Rattle.sg_spool.proofs.Rooms.{front_room, row_none, compact_none, ordered_behind, short_behind}
+use Rattle.sg_spool.proofs.Rooms.{front_room, row_none, compact_none, short_behind}
 use Rattle.sg_spool.proofs.stage.stage_entry.Goals as goal
 
 pub returns-in_err-stage_in_front-clause-short : goal.returns-in_err-stage_in_front-clause-short

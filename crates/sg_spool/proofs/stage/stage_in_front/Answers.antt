@@ -1,16 +1,12 @@
-use Rattle.std.proofs.Common.{◌≡◌, ◌∙◌, ◌+◌, ◌<◌, ◌≤◌, ℕ, List, [], ◌∷◌, ◌++◌, length, ap, subst, sym, arith}
+use Rattle.std.proofs.Common.{◌∙◌, ℕ, List, length, ap, subst, arith}
 use Rattle.std.specs.Prelude.{◌==◌}
-use Rattle.sg_device.specs.Disk.{content}
 use Rattle.sg_device.specs.DiskBytes.{Torn, Written}
-use Rattle.sg_device.proofs.Disks.{told_on, changes_trans}
 use Rattle.sg_device.proofs.DiskCalls.{write_elapses, write_written}
-use Rattle.sg_spool.specs.Ring.{block_of}
-use Rattle.sg_spool.specs.Staging.{IsStaged, Lays}
 use Rattle.sg_spool.specs.Steps.{Spares, Grows}
 use Rattle.sg_spool.proofs.Behind.{length_front}
 use Rattle.sg_spool.proofs.Chains.{elapses_as, elapses_join}
 use Rattle.sg_spool.proofs.Rings.{spares_refl, spares_trans}
-use Rattle.sg_spool.proofs.Staging.{is_zero, is_more, front_list, jump_list, jump_size, told_front, fronted, grows_torn, grows_lay, grows_refl, grows_trans}
+use Rattle.sg_spool.proofs.Staging.{is_zero, is_more, front_list, jump_list, told_front, grows_torn, grows_lay, grows_refl, grows_trans}
 use Rattle.sg_spool.proofs.stage.stage_in_front.Goals as goal
 
 pub returns-in_err-write_at-clause-images : goal.returns-in_err-write_at-clause-images

@@ -1,8 +1,8 @@
-use Rattle.std.proofs.Common.{inl, inr, ⊎_elim, ◌∙◌, ◌+◌, ◌<◌, sym, subst, arith}
+use Rattle.std.proofs.Common.{inl, inr, ⊎_elim, ◌∙◌, ◌+◌, sym, subst, arith}
 use Rattle.sg_spool.specs.Ring.{IsRow}
 use Rattle.sg_spool.specs.Opening.{IsDamagedWalk}
 use Rattle.sg_spool.specs.Walk.{IsGate}
-use Rattle.sg_spool.proofs.Walking.{below_of, goes_past, goes_over, jumps_to_head}
+use Rattle.sg_spool.proofs.Walking.{below_of, goes_past, jumps_to_head}
 use Rattle.sg_spool.proofs.walk.next_step.Goals as goal
 
 pub returns-then-head-eq64-clause-leads : goal.returns-then-head-eq64-clause-leads

@@ -1,5 +1,5 @@
-use Rattle.std.proofs.Common.{◌≡◌, ◌∷◌, ◌∙◌, ap, sym, arith, length, List, ℕ, subst}
-use Rattle.sg_spool.specs.Ring.{IsPayload, block_of, payload_of}
+use Rattle.std.proofs.Common.{◌∷◌, ◌∙◌, ap, sym, List, ℕ, subst}
+use Rattle.sg_spool.specs.Ring.{IsPayload, block_of}
 use Rattle.sg_spool.proofs.Behind.{payload_back}
 use Rattle.sg_spool.proofs.block.Block.new.Goals as goal
 

@@ -1,10 +1,10 @@
-use Rattle.std.proofs.Common.{◌≡◌, ◌⊎◌, inl, inr, ⊎_elim, ◌+◌, ◌-◌, ◌<◌, ◌≤◌, ◌∙◌, ◌^◌, ℕ, List, ◌++◌, ◌∷◌, [], length, drop, ap, subst, sym, refl, arith, Some, None, Option}
+use Rattle.std.proofs.Common.{◌≡◌, ◌-◌, ℕ, [], drop, subst, sym, refl, Option}
 use Rattle.std.specs.Prelude.{true, false}
 use Rattle.std.specs.Option.{option_map}
 use Rattle.sg_device.specs.Disk.{EachNow}
 use Rattle.sg_device.proofs.Disks.{within_now, moves_within}
 use Rattle.sg_spool.specs.Advancing.{HasEntries}
-use Rattle.sg_spool.specs.Places.{bound, AreCompact}
+use Rattle.sg_spool.specs.Places.{bound}
 use Rattle.sg_spool.specs.View.{IsCompactIn}
 use Rattle.sg_spool.proofs.Calls.{lasts_open}
 use Rattle.sg_spool.proofs.Whole.{holds, has_entries, advance_one, advance_short, whole_advanced, advanced_rows, advanced_whole, advanced_holds, advanced_compact, listed_same}

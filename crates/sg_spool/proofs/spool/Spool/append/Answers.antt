@@ -1,4 +1,4 @@
-use Rattle.std.proofs.Common.{◌≡◌, ◌⊎◌, inl, inr, ⊎_elim, ◌+◌, ◌∙◌, ℕ, List, ◌++◌, ◌∷◌, [], ap, subst, sym, refl, arith}
+use Rattle.std.proofs.Common.{◌≡◌, inr, ⊎_elim, ◌∙◌, ◌∷◌, [], ap, sym, arith}
 use Rattle.std.specs.Prelude.{true, false}
 use Rattle.sg_spool.specs.Places.{live}
 use Rattle.sg_spool.specs.declared.rows.Rows.{Rows}

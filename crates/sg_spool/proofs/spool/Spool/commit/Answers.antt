@@ -1,4 +1,4 @@
-use Rattle.std.proofs.Common.{◌≡◌, ◌⊎◌, inl, inr, ⊎_elim, ◌+◌, ◌-◌, ◌<◌, ◌≤◌, ◌∙◌, ◌^◌, ℕ, List, ◌++◌, ◌∷◌, [], length, drop, map, min, ap, subst, sym, refl, arith, Some, None, Option}
+use Rattle.std.proofs.Common.{◌≡◌, ◌++◌, ap, refl}
 use Rattle.std.specs.Prelude.{true, false}
 use Rattle.std.specs.Option.{option_map}
 use Rattle.sg_device.proofs.Disks.{within_now, moves_within}

@@ -1,4 +1,4 @@
-use Rattle.std.proofs.Common.{◌≡◌, ◌+◌, ◌<◌, ◌≤◌, ◌∙◌, ℕ, List, ◌∷◌, [], length, ap, subst, sym, refl, arith, Some, None, Option}
+use Rattle.std.proofs.Common.{◌∙◌, ℕ, List, ◌∷◌, ap, subst, sym, arith}
 use Rattle.std.specs.Option.{option_map}
 use Rattle.sg_spool.specs.Ring.{IsEntry}
 use Rattle.sg_spool.proofs.Whole.{first_known, first_read, whole_read}

@@ -1,4 +1,4 @@
-use Rattle.std.proofs.Common.{◌≡◌, ◌∙◌, sym, ap, subst, ℕ}
+use Rattle.std.proofs.Common.{sym, subst, ℕ}
 use Rattle.std.specs.Option.{option_map}
 use Rattle.sg_device.proofs.DiskCalls.{reads_as_image}
 use Rattle.sg_spool.specs.Places.{Remains}

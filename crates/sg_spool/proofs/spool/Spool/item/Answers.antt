@@ -1,5 +1,4 @@
-use Rattle.std.proofs.Common.{◌≡◌, ◌+◌, ◌<◌, ◌≤◌, ◌∙◌, ◌^◌, ℕ, List, ◌∷◌, [], length, ap, subst, sym, refl, arith, Some, None, Option}
-use Rattle.std.specs.Option.{option_map}
+use Rattle.std.proofs.Common.{◌≡◌, ◌+◌, ◌∙◌, ℕ, length, ap, arith}
 use Rattle.sg_device.proofs.DiskCalls.{reads_as_image}
 use Rattle.sg_spool.specs.Places.{gate_past}
 use Rattle.sg_spool.proofs.Remaining.{none_remain, one_remains}

@@ -1,4 +1,4 @@
-use Rattle.std.proofs.Common.{◌≡◌, None}
+use Rattle.std.proofs.Common.{◌≡◌}
 use Rattle.std.specs.Prelude.{true, false}
 use Rattle.sg_spool.proofs.Whole.{whole_open, advanced_rows}
 use Rattle.sg_spool.proofs.spool.Spool.open.Goals as goal
