@@ -118,7 +118,9 @@ fn stops(alloc: Global) -> Result<bool, Fail> {
     let again = world.open_store(alloc, &spec)?;
     let kept = again.disk.bytes().first() == Some(&b'x') && image.first() == Some(&0);
     world.close_store(again);
-    world.stores.put(alloc, b"b", MemoryDisk::new(alloc, image)?)?;
+    world
+        .stores
+        .put(alloc, b"b", MemoryDisk::new(alloc, image)?)?;
     let mut other = StoreSpec {
         name: Name::new(alloc, b"b")?,
         create: false,

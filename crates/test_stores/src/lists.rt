@@ -1,4 +1,5 @@
 // Lists over disks in memory, beside plain ones, stopped at each call and reopened from each image.
+use sg_device::DiskFault;
 use sg_memory_disk::{MemoryDisk, Pick};
 use sg_spool::{Appended, Block, Front, Spool};
 use sg_stable::StoreRefusal;
@@ -52,7 +53,7 @@ fn holds(alloc: Global, bytes: Vec<u8>, numbers: &[u64]) -> Result<bool, Fail> {
 }
 
 // Takes entries off the list, as far as there are so many, and tells how many.
-fn take_off(spool: &mut Spool<MemoryDisk>, n: u64) -> Result<u64, Fail> {
+fn take_off(spool: &mut Spool<MemoryDisk>, n: u64) -> Result<u64, DiskFault> {
     let n = n.min(spool.count());
     if n == 0 || spool.staged() > 0 {
         return Ok(0);
@@ -80,10 +81,11 @@ fn batch(number: u64) -> core::ops::Range<u64> {
 // Stages entries and commits them, and else takes 1 to 3 off. How many that were.
 fn take_step(alloc: Global, spool: &mut Spool<MemoryDisk>, number: u64) -> Result<u64, Fail> {
     if number % 5 >= 3 {
-        return match take_off(spool, 1 + number % 3) {
-            Ok(taken) => Ok(taken),
-            Err(_) => Ok(0),
+        let taken = match take_off(spool, 1 + number % 3) {
+            Ok(taken) => taken,
+            Err(_) => 0,
         };
+        return Ok(taken);
     }
     let mut staged: u64 = 0;
     for entry in batch(number) {
@@ -238,7 +240,14 @@ fn stretch(alloc: Global, before: u64, capacity: u64) -> Result<bool, Fail> {
         let (next, whole) = whole_step(alloc, disk, capacity, number)?;
         for calls in 0..40 {
             let limits = (calls, whole, before < capacity);
-            if !stopped(alloc, bytes.to_vec(alloc)?, capacity, &numbers, number, limits)? {
+            if !stopped(
+                alloc,
+                bytes.to_vec(alloc)?,
+                capacity,
+                &numbers,
+                number,
+                limits,
+            )? {
                 return Ok(false);
             }
         }

@@ -1,6 +1,7 @@
 // A machine in memory, and calls that fail.
 use sg_device::{
-    FileRefusal, Frames, Inlet, Name, Opener, OutletFault, Outlet, Pull, Reopened, SayRefusal, SendRefusal,
+    FileRefusal, Frames, Inlet, Name, Opener, Outlet, OutletFault, Pull, Reopened, SayRefusal,
+    SendRefusal,
 };
 use sg_memory::{
     MemoryConnection, MemoryFeed, MemoryFile, MemoryWorld, OutletPlan, Pace, PathsPlan, WorldPlans,
@@ -36,7 +37,12 @@ fn add_text(text: &mut Vec<u8>, bytes: &[u8]) -> Result<(), Fail> {
 
 // What pulls give, with `.` for an end, `|` for the next part, `_` for nothing, `!` for a fault and
 // `#` for a hangup behind the third pull, if that is wanted.
-fn pulled(alloc: Global, feed: &mut MemoryFeed, hangs: bool, pulls: usize) -> Result<Vec<u8>, Fail> {
+fn pulled(
+    alloc: Global,
+    feed: &mut MemoryFeed,
+    hangs: bool,
+    pulls: usize,
+) -> Result<Vec<u8>, Fail> {
     let mut given = Vec::new(alloc);
     let mut buffer = [0u8; 8];
     for pull in 0..pulls {
@@ -187,7 +193,10 @@ fn devices_in_memory(rt: HostRuntime) -> Result<(), Fail> {
     assert!(rt; files(alloc, &mut world)?);
     assert!(rt; world.read_file(alloc, b"in", 7) == Err(FileRefusal::TooLong));
     assert!(rt; world.read_file(alloc, b"on", 7) == Err(FileRefusal::Failed));
-    assert_eq!(rt; world.read_file(alloc, b"in", 8)?.as_slice(), b"one\ntwo\n".as_slice());
+    assert_eq!(rt;
+        world.read_file(alloc, b"in", 8)?.as_slice(),
+        b"one\ntwo\n".as_slice()
+    );
     world.plans.says = plan(alloc, 1)?;
     world.plans.builds = plan(alloc, 0)?;
     world.say(b"said\n")?;

@@ -229,7 +229,7 @@ fn is_selector(change: &DiskChange) -> bool {
 
 // Whether an image of this pick has the new list: the selector is odd in it, as written or all ones, or
 // stable.
-fn is_new(disk: &MemoryDisk, pick: Pick) -> bool {
+fn is_new(disk: &MemoryDisk, pick: &Pick) -> bool {
     let Some((last, before)) = disk.changes().split_last() else {
         return false;
     };
@@ -245,8 +245,9 @@ fn is_new(disk: &MemoryDisk, pick: Pick) -> bool {
 // Whether each image has the list that it must have.
 fn has_images(alloc: Global, disk: &MemoryDisk, old: &str, new: &str) -> Result<bool, Fail> {
     for pick in PICKS {
-        let payloads = if is_new(disk, pick) { new } else { old };
-        if !holds(alloc, disk.image(&[pick])?, payloads)? {
+        let picks = [pick];
+        let payloads = if is_new(disk, &picks[0]) { new } else { old };
+        if !holds(alloc, disk.image(&picks)?, payloads)? {
             return Ok(false);
         }
     }
