@@ -1,0 +1,49 @@
+-- What building a pattern answers.
+use Rattle.std.specs.Prelude.{◌≡◌, ℕ, Bool, List, [], None, Result, Ok, Err, IsSomeAnd}
+use Rattle.sg_device.specs.Faults.{Rose}
+use Rattle.sg_outside.specs.World.{WorldState, OnlyBuilds}
+use Rattle.regex.specs.Patterns.{Re, SameCaptures}
+use Rattle.regex.specs.Bytes.{regex_pattern}
+use Rattle.regex.specs.declared.bytes.regex.Regex as kit
+use Rattle.sg_pattern.specs.Pattern.{Pattern, regex_of}
+use Rattle.sg_pattern.specs.declared.pattern.Kind.TheVariants.{Regex}
+use Rattle.sg_pattern.specs.declared.fault.BuildFault.{BuildFault}
+use Rattle.sg_pattern.specs.declared.fault.BuildFault.TheVariants.{Syntax, TooLarge, NoMemory}
+use Rattle.sg_pattern.specs.declared.fault.PatternRefusal.{PatternRefusal}
+use Rattle.sg_pattern.specs.declared.fault.PatternRefusal.TheVariants as refusal
+
+-- a machine that holds nothing, and has refused so many patterns as too large
+abbrev pub refusing_machine : ℕ → WorldState
+refusing_machine count = record {
+  files = None;
+  unread = None;
+  inlets = record { opened = []; closed = [] };
+  outlets = record { opened = []; closed = [] };
+  stores = record { opened = []; closed = [] };
+  paths = record { opened = []; closed = [] };
+  shelf = None;
+  said = None;
+  read_faults = 0;
+  inlet_faults = 0;
+  outlet_faults = 0;
+  store_faults = 0;
+  paths_faults = 0;
+  say_faults = 0;
+  build_faults = count;
+}
+
+-- the text is a regular expression, and a caller sees the same of this one
+abbrev pub MatchesAs : Bool → List ℕ → Re → Type 0
+MatchesAs ignore_case text re = IsSomeAnd (regex_of ignore_case text) (SameCaptures re)
+
+abbrev pub Builds : WorldState → WorldState → List ℕ → Bool → Result kit.Regex BuildFault → Type 0
+Builds old new text ignore_case (Ok regex) = OnlyBuilds old new × MatchesAs ignore_case text (regex_pattern regex)
+Builds old new text ignore_case (Err Syntax) = OnlyBuilds old new × (regex_of ignore_case text ≡ None)
+Builds old new text ignore_case (Err TooLarge) = OnlyBuilds old new × Rose old.build_faults new.build_faults
+Builds old new text ignore_case (Err NoMemory) = OnlyBuilds old new
+
+-- why a pattern was refused
+abbrev pub RefusesPattern : WorldState → WorldState → Pattern → PatternRefusal → Type 0
+RefusesPattern old new p refusal.Syntax = (p.kind ≡ Regex) × (regex_of p.flags.ignore_case p.text ≡ None)
+RefusesPattern old new p refusal.TooLarge = (p.kind ≡ Regex) × Rose old.build_faults new.build_faults
+RefusesPattern old new p refusal.NoMemory = Unit {0}
