@@ -20,44 +20,65 @@ use Rattle.sg_device.specs.declared.fault.DiskFault.{DiskFault as DeviceFault}
 abbrev pub HasFailed : Bool → ℕ → ℕ → Type 0
 HasFailed closed before now = (closed ≡ true) ⊎ Rose before now
 
+-- a payload fits the capacity, beside the entries that stand and those staged
+abbrev pub FitsBehind : {D : Type 0} → View D → List ℕ → Type 0
+FitsBehind view payload = Fits view.capacity view.rows.ahead (length payload)
+
+-- it was open, the payload doesn't fit, and nothing changed
+abbrev pub Refuses : {D : Type 0} → View D → View D → List ℕ → Type 0
+Refuses old new payload = (old.closed ≡ false) × (FitsBehind old payload → ⊥) × (new ≡ old)
+
+-- the disk failed earlier, or the payload fits and the disk failed now; it is closed, and nothing is staged
+abbrev pub Drops : {D : Type 0} → (D → DiskState) → View D → View D → List ℕ → Type 0
+Drops state old new payload = ((old.closed ≡ true) ⊎ (FitsBehind old payload × Rose (state old.disk).faults (state new.disk).faults))
+    × (new.closed ≡ true) × (new.rows.staged ≡ 0)
+
 -- Done: it was open, and the payload fits; it is staged, and where there was no room behind the others, the list has taken
--- those. NoRoom: it was open, and the payload doesn't fit. DiskFailed: the disk failed earlier, or the payload fits and the disk
--- failed now; it is closed, and nothing is staged.
+-- those.
 abbrev pub Stages : {D : Type 0} → (D → DiskState) → View D → View D → List ℕ → Appended → Type 0
-Stages state old new payload Done = (old.closed ≡ false) × Fits old.capacity old.rows.ahead (length payload) × (new.closed ≡ false) × (live new.rows.ahead ≡ live old.rows.ahead + 5 + length payload)
+Stages state old new payload Done = (old.closed ≡ false) × FitsBehind old payload × (new.closed ≡ false)
+    × (live new.rows.ahead ≡ live old.rows.ahead + 5 + length payload)
     × (total new.rows ≡ min (total old.rows + 1) (2 ^ 64 - 1))
     × ((list staged : Entries) → Holds state old list staged
-    → (Holds state new list (staged ++ payload ∷ []) × (new.rows.count ≡ old.rows.count)) ⊎ (Holds state new (list ++ staged) (payload ∷ []) × (new.rows.count ≡ total old.rows)))
-Stages state old new payload NoRoom = (old.closed ≡ false) × (Fits old.capacity old.rows.ahead (length payload) → ⊥) × (new ≡ old)
-Stages state old new payload DiskFailed = ((old.closed ≡ true) ⊎ (Fits old.capacity old.rows.ahead (length payload) × Rose (state old.disk).faults (state new.disk).faults)) × (new.closed ≡ true) × (new.rows.staged ≡ 0)
+    → (Holds state new list (staged ++ payload ∷ []) × (new.rows.count ≡ old.rows.count))
+    ⊎ (Holds state new (list ++ staged) (payload ∷ []) × (new.rows.count ≡ total old.rows)))
+Stages state old new payload NoRoom = Refuses old new payload
+Stages state old new payload DiskFailed = Drops state old new payload
 
 -- the same of staging and committing, where nothing was staged
 abbrev pub Appends : {D : Type 0} → (D → DiskState) → View D → View D → List ℕ → Appended → Type 0
-Appends state old new payload Done = (old.closed ≡ false) × Fits old.capacity old.rows.ahead (length payload) × (new.closed ≡ false) × (live new.rows.list ≡ live old.rows.ahead + 5 + length payload)
+Appends state old new payload Done = (old.closed ≡ false) × FitsBehind old payload × (new.closed ≡ false)
+    × (live new.rows.list ≡ live old.rows.ahead + 5 + length payload)
     × (new.rows ≡ listed new.rows.list (min (old.rows.count + 1) (2 ^ 64 - 1)))
     × ((list : Entries) → Holds state old list [] → Holds state new (list ++ payload ∷ []) [])
-Appends state old new payload NoRoom = (old.closed ≡ false) × (Fits old.capacity old.rows.ahead (length payload) → ⊥) × (new ≡ old)
-Appends state old new payload DiskFailed = ((old.closed ≡ true) ⊎ (Fits old.capacity old.rows.ahead (length payload) × Rose (state old.disk).faults (state new.disk).faults)) × (new.closed ≡ true) × (new.rows.staged ≡ 0)
+Appends state old new payload NoRoom = Refuses old new payload
+Appends state old new payload DiskFailed = Drops state old new payload
 
 -- Ok: it was open, and the list has taken what was staged. A fault: the disk failed, it is closed, and nothing is staged.
 abbrev pub Commits : {D : Type 0} → (D → DiskState) → View D → View D → Result Unit DeviceFault → Type 0
 Commits state old new (Ok done) = (old.closed ≡ false) × (new.closed ≡ false) × (new.rows ≡ committed old.rows)
     × ((list staged : Entries) → Holds state old list staged → Holds state new (list ++ staged) [])
-Commits state old new (Err e) = HasFailed old.closed (state old.disk).faults (state new.disk).faults × (new.closed ≡ true) × (new.rows.staged ≡ 0)
+Commits state old new (Err e) = HasFailed old.closed (state old.disk).faults (state new.disk).faults
+    × (new.closed ≡ true) × (new.rows.staged ≡ 0)
 
 -- Ok: it was open, and the list is without its first entries. A fault: the disk failed, and it is closed.
 abbrev pub Advances : {D : Type 0} → (D → DiskState) → View D → View D → ℕ → Result Unit DeviceFault → Type 0
-Advances state old new n (Ok done) = (old.closed ≡ false) × (new.closed ≡ false) × (new.rows ≡ listed new.rows.list (old.rows.count - n)) × (new.front ≡ None)
+Advances state old new n (Ok done) = (old.closed ≡ false) × (new.closed ≡ false)
+    × (new.rows ≡ listed new.rows.list (old.rows.count - n)) × (new.front ≡ None)
     × ((list : Entries) → Holds state old list [] → Holds state new (drop n list) [])
-Advances state old new n (Err e) = HasFailed old.closed (state old.disk).faults (state new.disk).faults × (new.closed ≡ true) × (new.rows ≡ old.rows)
+Advances state old new n (Err e) = HasFailed old.closed (state old.disk).faults (state new.disk).faults
+    × (new.closed ≡ true) × (new.rows ≡ old.rows)
 
 -- Ok: it was open, and each entry is spelled anew. DiskFault: the disk failed, and it is closed. NoMemory: it is open, and has
 -- the same list.
 abbrev pub Respells : {D : Type 0} → (D → DiskState) → View D → View D → (List ℕ → List ℕ) → Result Unit RewriteRefusal → Type 0
-Respells state old new meaning (Ok done) = (old.closed ≡ false) × (new.closed ≡ false) × (new.rows ≡ listed new.rows.list old.rows.count)
+Respells state old new meaning (Ok done) = (old.closed ≡ false) × (new.closed ≡ false)
+    × (new.rows ≡ listed new.rows.list old.rows.count)
     × ((list : Entries) → Holds state old list [] → Holds state new (map meaning list) [])
-Respells state old new meaning (Err DiskFault) = HasFailed old.closed (state old.disk).faults (state new.disk).faults × (new.closed ≡ true) × (new.rows ≡ old.rows)
-Respells state old new meaning (Err NoMemory) = (old.closed ≡ false) × (new.closed ≡ false) × (new.rows ≡ old.rows) × (new.front ≡ old.front)
+Respells state old new meaning (Err DiskFault) = HasFailed old.closed (state old.disk).faults (state new.disk).faults
+    × (new.closed ≡ true) × (new.rows ≡ old.rows)
+Respells state old new meaning (Err NoMemory) = (old.closed ≡ false) × (new.closed ≡ false)
+    × (new.rows ≡ old.rows) × (new.front ≡ old.front)
     × ((list : Entries) → Holds state old list [] → Holds state new list [])
 
 -- Item: it is open, has an entry, and keeps the payload. Empty: it is open and has no entry. DiskFailed: the disk failed, and

@@ -72,10 +72,9 @@ fn stage(alloc: Global, spool: &mut Spool<MemoryDisk>, number: u64) -> Result<Ap
     Ok(spool.stage(&block))
 }
 
-// The numbers of the entries that a step stages, as far as they fit: 1 to 5 of them.
-fn batch(number: u64) -> core::ops::Range<u64> {
-    let first = (number % 100_000) * 5;
-    first..first + 1 + number / 5 % 5
+// The number of the first entry that a step stages, and how many they are: 1 to 5.
+fn batch(number: u64) -> (u64, u64) {
+    ((number % 100_000) * 5, 1 + number / 5 % 5)
 }
 
 // Stages entries and commits them, and else takes 1 to 3 off. How many that were.
@@ -88,8 +87,9 @@ fn take_step(alloc: Global, spool: &mut Spool<MemoryDisk>, number: u64) -> Resul
         return Ok(taken);
     }
     let mut staged: u64 = 0;
-    for entry in batch(number) {
-        if stage(alloc, spool, entry)? != Appended::Done {
+    let (first, count) = batch(number);
+    for k in 0..count {
+        if stage(alloc, spool, first.saturating_add(k))? != Appended::Done {
             break;
         }
         staged = staged.saturating_add(1);
@@ -110,8 +110,9 @@ fn follow(numbers: &mut Vec<u64>, number: u64, changed: u64) -> Result<(), Fail>
         }
         return Ok(());
     }
-    for entry in batch(number).take(changed as usize) {
-        numbers.push(entry)?;
+    let (first, _) = batch(number);
+    for k in 0..changed {
+        numbers.push(first.saturating_add(k))?;
     }
     Ok(())
 }

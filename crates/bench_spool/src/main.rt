@@ -1,0 +1,62 @@
+//! Puts entries of 200 bytes into the file of a disk-buffer, so many at a time:
+//! `bench_spool FILE COMMITS STAGED`. For measuring alone.
+#![tactic(auto)]
+
+use sg_file::FileDisk;
+use sg_spool::{Appended, Block, Spool};
+use std::env;
+use std::process::ExitCode;
+
+const CAPACITY: u64 = 1 << 40;
+
+// Stages and commits entries. Whether all of them were taken.
+fn fill(spool: &mut Spool<FileDisk>, block: &Block, commits: u64, staged: u64) -> bool {
+    for _ in 0..commits {
+        for _ in 0..staged {
+            if spool.stage(block) != Appended::Done {
+                return false;
+            }
+        }
+        if spool.commit().is_err() {
+            return false;
+        }
+    }
+    true
+}
+
+// Opens the file, or makes it, and fills it.
+fn run(rt: HostRuntime, path: &str, commits: u64, staged: u64) -> bool {
+    let alloc = rt.alloc();
+    let Ok(disk) = FileDisk::open(alloc, rt, path.as_bytes(), true) else {
+        return false;
+    };
+    let Ok(payload) = vec![in alloc; 120u8; 200] else {
+        return false;
+    };
+    let Ok(block) = Block::new(alloc, payload) else {
+        return false;
+    };
+    let Ok(mut spool) = Spool::open(disk, CAPACITY) else {
+        return false;
+    };
+    let good = fill(&mut spool, &block, commits, staged);
+    let _ = spool.into_disk();
+    good
+}
+
+// Does what the words ask for.
+fn work(rt: HostRuntime) -> anyhow::Result<bool> {
+    let mut words = env::args(&rt)?.skip(1);
+    let (Some(path), Some(commits), Some(staged)) = (words.next(), words.next(), words.next())
+    else {
+        return Ok(false);
+    };
+    Ok(run(rt, &path, commits.parse()?, staged.parse()?))
+}
+
+fn main(rt: HostRuntime) -> ExitCode {
+    match work(rt) {
+        Ok(true) => ExitCode::SUCCESS,
+        _ => ExitCode::FAILURE,
+    }
+}
