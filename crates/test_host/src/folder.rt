@@ -55,10 +55,10 @@ impl Folder {
 
     /// The number of names in it.
     pub fn names(&self) -> Result<usize, Fail> {
-        let mut count = 0;
+        let mut count = 0usize;
         for entry in fs::read_dir(&self.rt, self.path.as_str())? {
             let _entry = entry?;
-            count += 1;
+            count = count.saturating_add(1);
         }
         Ok(count)
     }

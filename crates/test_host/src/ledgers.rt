@@ -223,7 +223,7 @@ fn paths(folder: &Folder) -> Result<String, Fail> {
     }
     opener.send(two.as_bytes(), b"ef")?;
     let bytes = folder.bytes("two")?;
-    let last = str::from_utf8(&bytes[2..])?;
+    let last = str::from_utf8(bytes.get(2..).ok_or("too short")?)?;
     let counts = opener.counts();
     let (laters, failed) = (counts.laters, counts.faults);
     let text = format!(in folder.alloc; "{held} again {last} later {laters} failed {failed}")?;

@@ -57,6 +57,7 @@ fn reopened(got: Result<Reopened, OutletFault>) -> &'static str {
 // So many bytes of a connection as text.
 fn heard(rt: HostRuntime, stream: &mut TcpStream, count: usize) -> Result<String, Fail> {
     let mut buffer = [0u8; 16];
+    let count = count.min(16);
     stream.read_exact(&mut buffer[..count])?;
     Ok(String::from_str(rt.alloc(), str::from_utf8(&buffer[..count])?)?)
 }
