@@ -1,5 +1,5 @@
 // Steps over files that are appended to.
-use crate::folder::Folder;
+use crate::folder::{Folder, send};
 use sg_device::{Frames, OpenRefusal, Outlet, Reopened};
 use sg_file::{Appending, FileOutlet, Rest};
 use std::fs;
@@ -69,10 +69,10 @@ fn appended(folder: &Folder) -> Result<String, Fail> {
     let path = folder.at("out")?;
     let mut one = outlet(folder, path.as_bytes(), 0o600, 0)?;
     let mut other = outlet(folder, path.as_bytes(), 0o600, 0)?;
-    one.send(&frames(folder, &["ab", "cd"])?)?;
+    send(&mut one, &frames(folder, &["ab", "cd"])?)?;
     let first = one.taken();
-    other.send(&frames(folder, &["abc"])?)?;
-    one.send(&frames(folder, &["ab"])?)?;
+    send(&mut other, &frames(folder, &["abc"])?)?;
+    send(&mut one, &frames(folder, &["ab"])?)?;
     let second = one.taken();
     let bytes = folder.bytes("out")?;
     let held = str::from_utf8(&bytes)?;
@@ -82,7 +82,7 @@ fn appended(folder: &Folder) -> Result<String, Fail> {
 // A device that is always full takes no frame.
 fn full(folder: &Folder) -> Result<String, Fail> {
     let mut one = outlet(folder, b"/dev/full", 0o600, 0)?;
-    let refused = one.send(&frames(folder, &["ab", "cd"])?);
+    let refused = send(&mut one, &frames(folder, &["ab", "cd"])?);
     if refused.is_ok() {
         return Err("it took frames".into());
     }
@@ -110,9 +110,9 @@ fn moved(folder: &Folder) -> Result<String, Fail> {
     let old = folder.at("old")?;
     let mut one = outlet(folder, path.as_bytes(), 0o600, 0)?;
     fs::rename(&folder.rt, path.as_str(), old.as_str())?;
-    one.send(&frames(folder, &["a"])?)?;
+    send(&mut one, &frames(folder, &["a"])?)?;
     one.reopen()?;
-    one.send(&frames(folder, &["b"])?)?;
+    send(&mut one, &frames(folder, &["b"])?)?;
     let before = folder.bytes("old")?;
     let before = str::from_utf8(&before)?;
     let after = folder.bytes("out")?;

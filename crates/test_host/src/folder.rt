@@ -1,4 +1,5 @@
 // A folder for the files of one step.
+use sg_device::{Frames, Outlet, SendRefusal};
 use sg_file::Rest;
 use std::alloc::Global;
 use std::os::unix::fs::MetadataExt;
@@ -73,4 +74,12 @@ impl Folder {
         fs::remove_dir_all(&self.rt, self.path.as_str())?;
         Ok(())
     }
+}
+
+/// Sends frames, of which there must be one.
+pub fn send<O: Outlet>(outlet: &mut O, frames: &Frames) -> Result<(), SendRefusal> {
+    if frames.is_empty() {
+        return Err(SendRefusal::Fault);
+    }
+    outlet.send(frames)
 }

@@ -1,9 +1,12 @@
 // The devices of a machine: what is opened and closed, and what of it fails.
-use crate::folder::Folder;
-use sg_device::{Disk, Frames, Inlet, Name, OpenRefusal, Opener, Outlet, Pull, Reopened};
+ghost use Rattle.std.specs.List.{Contains};
+ghost use Rattle.sg_host.specs.Paths.{opener_of};
+
+use crate::folder::{Folder, send};
+use sg_device::{Disk, Frames, Inlet, Name, Opener, Outlet};
 use sg_host::{HostInlets, HostOpener, HostOutlets, HostPaths, HostStores, Rest, say, tell};
 use sg_outside::{InletSpec, OutletSpec, StoreSpec};
-use std::io::Write;
+use std::fs;
 use std::net::{TcpListener, TcpStream};
 use std::test::Fail;
 
@@ -14,7 +17,7 @@ slot inlets = at 0 parts 1 at 0 parts 1 failed 1
 file outlet = taken 2 failed 1
 tcp outlet = taken 1 failed 1
 store = 128 0 failed 1
-paths = one ab two cd again ef later 0 failed 1
+paths = abcd failed 1 other false
 said = said
 ";
 
@@ -143,7 +146,7 @@ fn file_outlet(folder: &Folder) -> Result<String, Fail> {
     };
     let mut drain = outlets.open(folder.alloc, &spec)?;
     is_send(&drain);
-    drain.send(&frames(folder, &["ab", "cd"])?)?;
+    send(&mut drain, &frames(folder, &["ab", "cd"])?)?;
     let taken = drain.taken();
     outlets.close(drain);
     spec = OutletSpec::File {
@@ -171,7 +174,7 @@ fn tcp_outlet(folder: &Folder) -> Result<String, Fail> {
             reopen: 0,
         };
         if let Ok(mut drain) = outlets.open(folder.alloc, &spec) {
-            drain.send(&frames(folder, &["ab"])?)?;
+            send(&mut drain, &frames(folder, &["ab"])?)?;
             taken = drain.taken();
             outlets.close(drain);
         }
@@ -199,6 +202,7 @@ fn store(folder: &Folder) -> Result<String, Fail> {
     Ok(format!(in folder.alloc; "{len} {faults} failed {failed}")?)
 }
 
+// One file at a time, since what is open is known of texts that are written here alone.
 fn paths(folder: &Folder) -> Result<String, Fail> {
     let mut paths = HostPaths::new(folder.alloc, folder.rt, folder.rest()?);
     let spec = OutletSpec::ByPath {
@@ -208,35 +212,36 @@ fn paths(folder: &Folder) -> Result<String, Fail> {
     };
     let mut opener = paths.open(folder.alloc, &spec)?;
     is_send(&opener);
-    let (one, two) = (folder.at("one")?, folder.at("two")?);
-    opener.open(one.as_bytes())?;
-    opener.open(two.as_bytes())?;
+    let one = folder.at("one")?;
+    let two = folder.at("two")?;
+    use_path(&mut opener, one.as_bytes())?;
+    let text = held(folder)?;
+    paths.close(opener);
+    let mut opener = paths.open(folder.alloc, &spec)?;
     if opener.open(b"/none/out").is_ok() {
         return Err("it opened".into());
     }
-    opener.send(one.as_bytes(), b"ab")?;
-    opener.send(two.as_bytes(), b"cd")?;
-    let held = held(folder, "one", "two")?;
-    opener.close(one.as_bytes());
-    if opener.reopen(two.as_bytes())? != Reopened::Ready {
-        return Err("it wasn't ready".into());
-    }
-    opener.send(two.as_bytes(), b"ef")?;
-    let bytes = folder.bytes("two")?;
-    let last = str::from_utf8(bytes.get(2..).ok_or("too short")?)?;
-    let counts = opener.counts();
-    let (laters, failed) = (counts.laters, counts.faults);
-    let text = format!(in folder.alloc; "{held} again {last} later {laters} failed {failed}")?;
+    let failed = opener.counts().faults;
     paths.close(opener);
-    Ok(text)
+    let gone = fs::exists(&folder.rt, two.as_str())?;
+    Ok(format!(in folder.alloc; "{text} failed {failed} other {gone}")?)
 }
 
-fn held(folder: &Folder, one: &str, two: &str) -> Result<String, Fail> {
-    let first = folder.bytes(one)?;
-    let first = str::from_utf8(&first)?;
-    let second = folder.bytes(two)?;
-    let second = str::from_utf8(&second)?;
-    Ok(format!(in folder.alloc; "{one} {first} {two} {second}")?)
+// Opens a file, gives it two texts with the file opened anew between them, and closes it.
+fn use_path(opener: &mut HostOpener, path: &[u8]) -> Result<(), Fail>
+    requires { Contains (opener_of opener.old).opened path.now → ⊥ }
+{
+    opener.open(path)?;
+    opener.send(path, b"ab")?;
+    opener.reopen(path)?;
+    opener.send(path, b"cd")?;
+    opener.close(path);
+    Ok(())
+}
+
+fn held(folder: &Folder) -> Result<String, Fail> {
+    let bytes = folder.bytes("one")?;
+    Ok(String::from_str(folder.alloc, str::from_utf8(&bytes)?)?)
 }
 
 fn said(folder: &Folder) -> Result<String, Fail> {

@@ -1,4 +1,5 @@
 // Steps over connections that take frames.
+use crate::folder::send;
 use sg_device::{Frames, OpenRefusal, Outlet, OutletFault, Reopened, SendRefusal};
 use sg_file::Rest;
 use sg_net::TcpOutlet;
@@ -65,7 +66,7 @@ fn heard(rt: HostRuntime, stream: &mut TcpStream, count: usize) -> Result<String
 fn connects(rt: HostRuntime) -> Result<String, Fail> {
     let (listener, port) = listen(rt)?;
     let mut outlet = outlet(rt, port, 0)?;
-    outlet.send(&frames(rt, &["ab", "cd"])?)?;
+    send(&mut outlet, &frames(rt, &["ab", "cd"])?)?;
     let (mut stream, _peer) = listener.accept()?;
     let text = heard(rt, &mut stream, 4)?;
     let taken = outlet.taken();
@@ -76,7 +77,7 @@ fn away(rt: HostRuntime) -> Result<String, Fail> {
     let (listener, port) = listen(rt)?;
     drop(listener);
     let mut outlet = outlet(rt, port, 100)?;
-    let first = sent(outlet.send(&frames(rt, &["ab"])?));
+    let first = sent(send(&mut outlet, &frames(rt, &["ab"])?));
     let counts = outlet.counts();
     let (taken, faults, failing) = (counts.taken, counts.faults, counts.failing);
     let later = reopened(outlet.reopen());
@@ -90,10 +91,10 @@ fn ready(rt: HostRuntime) -> Result<String, Fail> {
     let (listener, port) = listen(rt)?;
     drop(listener);
     let mut outlet = outlet(rt, port, 0)?;
-    let first = sent(outlet.send(&frames(rt, &["ab"])?));
+    let first = sent(send(&mut outlet, &frames(rt, &["ab"])?));
     let listener = TcpListener::bind(&rt, ("127.0.0.1", port))?;
     let second = reopened(outlet.reopen());
-    outlet.send(&frames(rt, &["ab"])?)?;
+    send(&mut outlet, &frames(rt, &["ab"])?)?;
     let (mut stream, _peer) = listener.accept()?;
     let text = heard(rt, &mut stream, 2)?;
     let taken = outlet.taken();
@@ -104,15 +105,15 @@ fn ready(rt: HostRuntime) -> Result<String, Fail> {
 fn closed(rt: HostRuntime) -> Result<String, Fail> {
     let (listener, port) = listen(rt)?;
     let mut outlet = outlet(rt, port, 0)?;
-    outlet.send(&frames(rt, &["ab"])?)?;
+    send(&mut outlet, &frames(rt, &["ab"])?)?;
     let first = outlet.taken();
     let (mut stream, _peer) = listener.accept()?;
     heard(rt, &mut stream, 2)?;
     drop(stream);
-    let refused = sent(outlet.send(&frames(rt, &["cd"])?));
+    let refused = sent(send(&mut outlet, &frames(rt, &["cd"])?));
     let second = outlet.taken();
     let ready = reopened(outlet.reopen());
-    outlet.send(&frames(rt, &["cd"])?)?;
+    send(&mut outlet, &frames(rt, &["cd"])?)?;
     let (mut stream, _peer) = listener.accept()?;
     let text = heard(rt, &mut stream, 2)?;
     let third = outlet.taken();
@@ -128,7 +129,7 @@ fn slow(rt: HostRuntime) -> Result<String, Fail> {
     for _ in 0..500 {
         frames.push(&frame)?;
     }
-    let refused = sent(outlet.send(&frames));
+    let refused = sent(send(&mut outlet, &frames));
     let (_stream, _peer) = listener.accept()?;
     let taken = outlet.taken();
     let word = if taken == 0 {
