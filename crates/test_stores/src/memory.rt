@@ -190,7 +190,6 @@ fn devices_in_memory(rt: HostRuntime) -> Result<(), Fail> {
     }
     assert_eq!(rt; outlet(alloc, &mut world)?.as_slice(), b"+l!r+r".as_slice());
     assert_eq!(rt; taken(alloc, &world)?.as_slice(), b"abcdf".as_slice());
-    assert!(rt; files(alloc, &mut world)?);
     assert!(rt; world.read_file(alloc, b"in", 7) == Err(FileRefusal::TooLong));
     assert!(rt; world.read_file(alloc, b"on", 7) == Err(FileRefusal::Failed));
     assert_eq!(rt;
@@ -206,28 +205,4 @@ fn devices_in_memory(rt: HostRuntime) -> Result<(), Fail> {
     assert!(rt; world.fails_build() && !world.fails_build());
     assert!(rt; is_record_end(4, b"abcdefgh", 4) && !is_record_end(5, b"abcdefgh", 4));
     Ok(())
-}
-
-// Whether an opener opens, takes and closes as it should.
-fn files(alloc: Global, world: &mut MemoryWorld) -> Result<bool, Fail> {
-    let spec = OutletSpec::ByPath {
-        fsync: false,
-        mode: 0o600,
-        reopen: 60,
-    };
-    let mut plan = PathsPlan::never(alloc);
-    plan.fails = self::plan(alloc, 2)?;
-    world.plans.paths.push_back(plan)?;
-    let mut opener = world.open_paths(alloc, &spec)?;
-    is_send(&opener);
-    opener.open(b"a")?;
-    opener.send(b"a", b"one")?;
-    let failed = opener.send(b"a", b"two") == Err(SendRefusal::Fault);
-    let ready = opener.reopen(b"a") == Ok(Reopened::Ready);
-    opener.close(b"a");
-    let closed = opener.paths.opened().is_empty();
-    let taken = opener.paths.taken();
-    let one = taken.len() == 1 && taken[0].text.as_slice() == b"one".as_slice();
-    world.close_paths(opener);
-    Ok(failed && ready && closed && one)
 }

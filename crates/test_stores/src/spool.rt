@@ -328,49 +328,6 @@ impl Recode for Same {
     }
 }
 
-// A store with one entry, spelled anew.
-fn migrated(alloc: Global) -> Result<MemoryDisk, Fail> {
-    let mut spool = open(fresh(alloc)?, 1000)?;
-    let result = append_bytes(alloc, &mut spool, FORMAT1);
-    let disk = spool.into_disk();
-    result?;
-    let bytes = disk.bytes().to_vec(alloc)?;
-    let mut spool = open(MemoryDisk::new(alloc, bytes)?, 1000)?;
-    let mut same = Same;
-    let result = spool.rewrite(alloc, &mut same);
-    let disk = spool.into_disk();
-    result?;
-    Ok(disk)
-}
-
-fn append_bytes(alloc: Global, spool: &mut Spool<MemoryDisk>, payload: &[u8]) -> Result<(), Fail> {
-    if payload.is_empty() || payload.len() > 100 {
-        return Err(Fail::from("no payload"));
-    }
-    let block = Block::new(alloc, payload.to_vec(alloc)?)?;
-    if spool.staged() > 0 || spool.append(&block) != Appended::Done {
-        return Err(Fail::from("not appended"));
-    }
-    Ok(())
-}
-
-#[test]
-fn migration(rt: HostRuntime) -> Result<(), Fail> {
-    let alloc = rt.alloc();
-    let disk = migrated(alloc)?;
-    assert_eq!(rt; changes(alloc, &disk)?.as_str(), MIGRATED);
-    let mut spool = open(disk, 1000)?;
-    let gate = spool.head();
-    let walked = spool.item(alloc, gate);
-    let _ = spool.into_disk();
-    let Walked::Item { payload, next } = walked? else {
-        return Err(Fail::from("no item"));
-    };
-    assert_eq!(rt; (gate, next), (117, 169));
-    assert_eq!(rt; payload.as_slice(), FORMAT1.as_slice());
-    Ok(())
-}
-
 // Damaged stores of 128 bytes: a place, its byte, and the place of the damage.
 const DAMAGED: &str = "1 1 1
 15 255 15
