@@ -3,7 +3,7 @@
 #   tests/devices.sh [PROGRAM]
 top=$(cd "$(dirname "$0")/.." && pwd)
 program=${1:-$top/crates/test_devices/out/test_devices}
-[ -x "$program" ] || { echo "no program $program: rt run builds it"; exit 2; }
+[ -x "$program" ] || { echo "devices: there is no program $program: \`rt ci\` builds it, and so does \`rt run\` in crates/test_devices"; exit 2; }
 folder=$(mktemp -d) || exit 2
 mounted=
 trap '[ -z "$mounted" ] || umount "$folder/small"; rm -rf "$folder"' EXIT
@@ -60,6 +60,25 @@ run store q </dev/null
 expect 'a store that is free again' 'opened\nstatus 0\n'
 [ "$(ls)" = "$(printf 'd\nfifo\ngot\nheld\nhold\nq\nsaid\ntold\nwanted')" ] && echo yes >got || ls >got
 expect 'nothing is left of the making of a store' 'yes\n'
+
+# A file of the kernel's own that says that it is longer than what can be read of it, and that can't be synced.
+short=
+for file in /sys/kernel/profiling /sys/kernel/mm/transparent_hugepage/enabled; do [ -w $file ] && short=$file; done
+if [ -n "$short" ]; then
+    run look $short
+    expect 'a store that reads short' "read failed\nsynced false\nstore $short: cannot read: unexpected end of file\nstatus 0\n"
+else
+    echo 'no file here says that it is longer than it is: a store that reads short is not tried'
+fi
+run look q
+expect 'a store that reads whole' 'read 128\nsynced true\nstatus 0\n'
+
+# A device that can't be synced takes no frame under fsync.
+printf 'one\ntwo\n' >two
+run send /dev/null fsync <two
+expect 'a device that cannot be synced' 'taken 0\ndestination /dev/null: cannot sync: Invalid argument (os error 22)\nstatus 0\n'
+run send /dev/null <two
+expect 'the same without fsync' 'taken 2\nstatus 0\n'
 
 # A limit on the size of a file: what is left of a frame that wasn't taken is cut off again, also with fsync.
 trap '' XFSZ

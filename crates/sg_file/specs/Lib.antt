@@ -3,5 +3,7 @@ pub mod Inlet
 pub mod Reading
 pub mod Seeking
 pub mod Outlet
+pub mod Target
+pub mod Waiting
 pub mod Store
 pub mod NothingTold

@@ -25,7 +25,7 @@ pub fn moment(clock: &impl Clock) -> Option<i64>
 
 /// The present moment as text, to the second: `2026-11-27T10:53:51+00:00`. It is `-` where the clock
 /// doesn't tell it.
-pub fn moment_text(alloc: Global, clock: &impl Clock) -> Result<Vec<u8>, AllocError> {
+pub(crate) fn moment_text(alloc: Global, clock: &impl Clock) -> Result<Vec<u8>, AllocError> {
     let mut text = Vec::new(alloc);
     match moment(clock) {
         Some(at) => iso_text(Stamp { at, offset: 0 }, 0, &mut text)?,

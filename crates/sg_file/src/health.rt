@@ -1,4 +1,6 @@
 // What the operator is told of a device.
+ghost use Rattle.std.specs.Prelude.{◌≡◌, true, false, IfOk};
+
 use crate::clock::moment_text;
 use std::alloc::{AllocError, Global};
 use std::io::{self, Write};
@@ -20,7 +22,9 @@ impl Health {
         rt: HostRuntime,
         kind: &str,
         name: &[u8],
-    ) -> Result<Health, AllocError> {
+    ) -> Result<Health, AllocError>
+        ensures { IfOk result (λ health. health.failing ≡ false) }
+    {
         let mut device = kind.as_bytes().to_vec(alloc)?;
         device.push(b' ')?;
         for byte in name {
@@ -39,7 +43,10 @@ impl Health {
     }
 
     /// Something could not be done, for this reason.
-    pub fn fails(&mut self, what: &str, reason: &io::Error) {
+    pub fn fails(&mut self, what: &str, reason: &io::Error)
+        ensures failing { self.new.failing ≡ true }
+        ensures device { self.new.device ≡ self.old.device }
+    {
         if self.failing {
             return;
         }
@@ -53,7 +60,10 @@ impl Health {
     }
 
     /// Something was done.
-    pub fn works(&mut self) {
+    pub fn works(&mut self)
+        ensures failing { self.new.failing ≡ false }
+        ensures device { self.new.device ≡ self.old.device }
+    {
         if self.failing {
             self.failing = false;
             self.line(b"works again");

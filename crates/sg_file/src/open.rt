@@ -1,11 +1,16 @@
 // Opening files by their names, so that nothing is waited for.
+ghost use Rattle.std.specs.Prelude.{◌≡◌, MatchResult};
+ghost use Rattle.std.specs.Str.{IsUtf8};
+
 use std::fs::{self, File, Metadata, OpenOptions};
 use std::io::{self, ErrorKind};
 use std::os::unix::fs::{FileTypeExt, MetadataExt};
 use std::path::Path;
 
 /// A name as text. Files are opened by names in UTF-8 alone.
-pub fn path_text(name: &[u8]) -> io::Result<&str> {
+pub fn path_text(name: &[u8]) -> io::Result<&str>
+    ensures { MatchResult result (λ text. (text.now ≡ name.now) × IsUtf8 name.now) (λ _. ¬ (IsUtf8 name.now)) }
+{
     match str::from_utf8(name) {
         Ok(text) => Ok(text),
         Err(_) => Err(io::Error::other("the name is not UTF-8")),
@@ -15,7 +20,7 @@ pub fn path_text(name: &[u8]) -> io::Result<&str> {
 /// Opens a file that is there, and is a regular file, or also a character device where `device` says
 /// so. What the name stands for is looked at first, since to open a FIFO waits for its other end, and
 /// again once it is open.
-pub fn open_known(
+pub(crate) fn open_known(
     rt: &HostRuntime,
     path: &str,
     how: &OpenOptions,
@@ -28,7 +33,7 @@ pub fn open_known(
 }
 
 /// Opens a regular file for reading.
-pub fn open_to_read(rt: &HostRuntime, path: &str) -> io::Result<File> {
+pub(crate) fn open_to_read(rt: &HostRuntime, path: &str) -> io::Result<File> {
     let mut how = OpenOptions::new();
     how.read(true);
     open_known(rt, path, &how, false)
@@ -45,7 +50,7 @@ fn check_type(about: &Metadata, device: bool) -> io::Result<()> {
 }
 
 /// Whether the name stands for nothing, also not for a link.
-pub fn is_free(rt: &HostRuntime, path: &str) -> bool {
+pub(crate) fn is_free(rt: &HostRuntime, path: &str) -> bool {
     match fs::symlink_metadata(rt, path) {
         Ok(_) => false,
         Err(error) => error.kind() == ErrorKind::NotFound,
@@ -53,7 +58,7 @@ pub fn is_free(rt: &HostRuntime, path: &str) -> bool {
 }
 
 /// Makes stable which names a file's folder has.
-pub fn sync_folder(rt: &HostRuntime, path: &str) -> io::Result<()> {
+pub(crate) fn sync_folder(rt: &HostRuntime, path: &str) -> io::Result<()> {
     let folder = match Path::new(path).parent() {
         Some(folder) if !folder.as_os_str().is_empty() => folder,
         _ => Path::new("."),
@@ -62,6 +67,6 @@ pub fn sync_folder(rt: &HostRuntime, path: &str) -> io::Result<()> {
 }
 
 /// Whether both are of one file.
-pub fn is_same(one: &Metadata, other: &Metadata) -> bool {
+pub(crate) fn is_same(one: &Metadata, other: &Metadata) -> bool {
     one.dev() == other.dev() && one.ino() == other.ino()
 }

@@ -1,4 +1,7 @@
 // When an adapter waits that has nothing to give.
+ghost use Rattle.std.specs.Prelude.{◌≡◌, IfOk};
+ghost use Rattle.sg_file.specs.Waiting.{IsFirst, IsAnother};
+
 use std::alloc::{AllocError, Global};
 use std::sync::Arc;
 use std::sync::atomic::{AtomicU64, Ordering};
@@ -29,7 +32,9 @@ pub struct Rest {
 
 impl Rest {
     /// Of the first adapter.
-    pub fn new(alloc: Global, rt: HostRuntime) -> Result<Rest, AllocError> {
+    pub fn new(alloc: Global, rt: HostRuntime) -> Result<Rest, AllocError>
+        ensures { IfOk result IsFirst }
+    {
         let shared = Shared {
             streak: AtomicU64::new(0),
             waits: AtomicU64::new(0),
@@ -42,7 +47,9 @@ impl Rest {
     }
 
     /// Of another adapter of the same machine.
-    pub fn share(&self) -> Result<Rest, AllocError> {
+    pub fn share(&self) -> Result<Rest, AllocError>
+        ensures { IfOk result (IsAnother self.now) }
+    {
         Ok(Rest {
             rt: self.rt,
             shared: Arc::try_clone(&self.shared)?,

@@ -1,4 +1,6 @@
 // A real file that is appended to, and can be opened anew.
+ghost use Rattle.std.specs.Prelude.{◌≡◌, ◌≤◌, length, true, false, IsTrue, IfOk};
+ghost use Rattle.sg_file.specs.Target.{IsFor, KeepsTarget, WaitsOnly, grown};
 
 use crate::open::{is_free, open_known, path_text, sync_folder};
 use crate::{Health, Rest, Retry};
@@ -42,7 +44,9 @@ impl Target {
         path: &[u8],
         how: Appending,
         rest: Rest,
-    ) -> Result<Target, OpenRefusal> {
+    ) -> Result<Target, OpenRefusal>
+        ensures { IfOk result (IsFor path.now how) }
+    {
         let mut health = Health::new(alloc, rt, "destination", path)?;
         let mut retry = Retry::new(rt, how.reopen);
         retry.begin();
@@ -67,7 +71,10 @@ impl Target {
     }
 
     /// Opens the file anew, where it isn't too early for another try.
-    pub fn reopen(&mut self) -> Result<Reopened, OutletFault> {
+    pub fn reopen(&mut self) -> Result<Reopened, OutletFault>
+        ensures keeps { KeepsTarget self.old self.new }
+        ensures early { WaitsOnly self.old self.new result }
+    {
         if self.retry.is_early() {
             self.rest.wait();
             return Ok(Reopened::Later);
@@ -88,7 +95,11 @@ impl Target {
 
     /// Appends the bytes, by one write where the system takes them so, and tells how many it took. A
     /// failure is told on standard error.
-    pub fn append(&mut self, bytes: &[u8]) -> usize {
+    pub(crate) fn append(&mut self, bytes: &[u8]) -> usize
+        ensures count { result ≤ length bytes.now }
+        ensures keeps { KeepsTarget self.old self.new }
+        ensures end { self.new.end ≡ self.old.end }
+    {
         let mut done = 0;
         for _ in 0..u64::MAX {
             if done >= bytes.len() {
@@ -113,7 +124,10 @@ impl Target {
 
     /// Appends a text whole, and tells whether it counts. What was appended of one that doesn't is
     /// cut off again, where nobody else changed the file's length.
-    pub fn put(&mut self, text: &[u8]) -> bool {
+    pub fn put(&mut self, text: &[u8]) -> bool
+        ensures keeps { KeepsTarget self.old self.new }
+        ensures end { IsTrue result → self.new.end ≡ grown self.old.end (length text.now) }
+    {
         let appended = self.append(text);
         if appended == text.len() && self.settle() {
             self.keep(appended);
@@ -126,7 +140,11 @@ impl Target {
 
     /// Makes what was appended stable, where that is asked, and tells whether it counts. A failure
     /// is told on standard error.
-    pub fn settle(&mut self) -> bool {
+    pub(crate) fn settle(&mut self) -> bool
+        ensures keeps { KeepsTarget self.old self.new }
+        ensures end { self.new.end ≡ self.old.end }
+        ensures kernel { self.old.how.fsync ≡ false → result ≡ true }
+    {
         if !self.how.fsync {
             return true;
         }
@@ -142,7 +160,9 @@ impl Target {
     /// Cuts what was appended last, of which so many bytes are in the file, to its first `keep`
     /// bytes. It is left as it is where the file's length isn't what this program left and those
     /// bytes, as when another one appends to it too.
-    pub fn cut(&mut self, appended: usize, keep: usize) {
+    pub(crate) fn cut(&mut self, appended: usize, keep: usize)
+        ensures { KeepsTarget self.old self.new }
+    {
         let Ok(about) = self.file.metadata() else {
             return;
         };
@@ -152,14 +172,19 @@ impl Target {
     }
 
     /// All of so many bytes that were appended count.
-    pub fn keep(&mut self, appended: usize) {
+    pub(crate) fn keep(&mut self, appended: usize)
+        ensures keeps { KeepsTarget self.old self.new }
+        ensures end { self.new.end ≡ grown self.old.end appended }
+    {
         self.end = self.end.saturating_add(appended as u64);
         self.health.works();
         self.rest.happened();
     }
 
     /// Not all that was appended counts. The file's length is what it is now.
-    pub fn keep_what_is_there(&mut self) {
+    pub(crate) fn keep_what_is_there(&mut self)
+        ensures { KeepsTarget self.old self.new }
+    {
         if let Ok(about) = self.file.metadata() {
             self.end = about.len();
         }
@@ -170,7 +195,9 @@ fn open_by_name<'a>(
     rt: &HostRuntime,
     path: &'a [u8],
     how: Appending,
-) -> io::Result<(&'a str, File, u64)> {
+) -> io::Result<(&'a str, File, u64)>
+    ensures { IfOk result (λ opened. opened.0.now ≡ path.now) }
+{
     let path = path_text(path)?;
     let (file, end) = open_to_append(rt, path, how)?;
     Ok((path, file, end))

@@ -38,7 +38,7 @@ pub struct PathsCell {
 }
 
 /// Memory for an inlet's closing.
-pub fn inlet_cell(alloc: Global) -> Result<Box<InletCell>, AllocError> {
+pub(crate) fn inlet_cell(alloc: Global) -> Result<Box<InletCell>, AllocError> {
     Ok(Box::new(
         alloc,
         InletCell {
@@ -58,7 +58,7 @@ pub fn add_inlet(last: &mut Option<Box<InletCell>>, mut cell: Box<InletCell>, co
 }
 
 /// Memory for an outlet's closing.
-pub fn outlet_cell(alloc: Global) -> Result<Box<OutletCell>, AllocError> {
+pub(crate) fn outlet_cell(alloc: Global) -> Result<Box<OutletCell>, AllocError> {
     Ok(Box::new(
         alloc,
         OutletCell {
@@ -82,7 +82,7 @@ pub fn add_outlet(
 }
 
 /// Memory for a store's closing.
-pub fn store_cell(alloc: Global) -> Result<Box<StoreCell>, AllocError> {
+pub(crate) fn store_cell(alloc: Global) -> Result<Box<StoreCell>, AllocError> {
     Ok(Box::new(
         alloc,
         StoreCell {
@@ -102,7 +102,7 @@ pub fn add_store(last: &mut Option<Box<StoreCell>>, mut cell: Box<StoreCell>, fa
 }
 
 /// Memory for an opener's closing.
-pub fn paths_cell(alloc: Global) -> Result<Box<PathsCell>, AllocError> {
+pub(crate) fn paths_cell(alloc: Global) -> Result<Box<PathsCell>, AllocError> {
     Ok(Box::new(
         alloc,
         PathsCell {

@@ -30,7 +30,7 @@ pub struct PathsCell {
 }
 
 /// Memory for an inlet's closing.
-pub fn inlet_cell(alloc: Global) -> Result<Box<InletCell>, AllocError> {
+pub(crate) fn inlet_cell(alloc: Global) -> Result<Box<InletCell>, AllocError> {
     Ok(Box::new(
         alloc,
         InletCell {
@@ -41,7 +41,7 @@ pub fn inlet_cell(alloc: Global) -> Result<Box<InletCell>, AllocError> {
 }
 
 /// Memory for an outlet's closing.
-pub fn outlet_cell(alloc: Global) -> Result<Box<OutletCell>, AllocError> {
+pub(crate) fn outlet_cell(alloc: Global) -> Result<Box<OutletCell>, AllocError> {
     Ok(Box::new(
         alloc,
         OutletCell {
@@ -52,7 +52,7 @@ pub fn outlet_cell(alloc: Global) -> Result<Box<OutletCell>, AllocError> {
 }
 
 /// Memory for an opener's closing.
-pub fn paths_cell(alloc: Global) -> Result<Box<PathsCell>, AllocError> {
+pub(crate) fn paths_cell(alloc: Global) -> Result<Box<PathsCell>, AllocError> {
     Ok(Box::new(
         alloc,
         PathsCell {

@@ -11,7 +11,7 @@ const PATIENCE: u64 = 5_000;
 
 /// Connects to the first address of a host that answers, within 5 seconds. To look a name up may
 /// take longer. The connection doesn't block.
-pub fn connect(rt: &HostRuntime, host: &str, port: u16) -> io::Result<TcpStream> {
+pub(crate) fn connect(rt: &HostRuntime, host: &str, port: u16) -> io::Result<TcpStream> {
     let start = Instant::now(rt)?;
     let mut failed = io::Error::other("the host has no address");
     for address in (host, port).to_socket_addrs(rt)? {
@@ -31,7 +31,7 @@ pub fn connect(rt: &HostRuntime, host: &str, port: u16) -> io::Result<TcpStream>
 }
 
 /// Drops what the peer sent, and fails where it has closed the connection.
-pub fn look(stream: &mut TcpStream) -> io::Result<()> {
+pub(crate) fn look(stream: &mut TcpStream) -> io::Result<()> {
     let mut dropped = [0u8; 512];
     for _ in 0..128 {
         match stream.read(&mut dropped) {
@@ -47,7 +47,7 @@ pub fn look(stream: &mut TcpStream) -> io::Result<()> {
 
 /// Sends the bytes, and tells how many the system took, and why no more of them. A peer that takes
 /// none for 5 seconds is an error.
-pub fn send_all(rt: &HostRuntime, stream: &mut TcpStream, bytes: &[u8]) -> (usize, io::Result<()>) {
+pub(crate) fn send_all(rt: &HostRuntime, stream: &mut TcpStream, bytes: &[u8]) -> (usize, io::Result<()>) {
     let mut done = 0;
     let mut waited = 0u64;
     for _ in 0..u64::MAX {

@@ -1,4 +1,8 @@
 // A listener that slots share.
+ghost use Rattle.std.specs.Prelude.{◌≡◌, ◌↔◌, IsTrue, IfOk};
+ghost use Rattle.std.specs.Arc.{arc_value};
+ghost use Rattle.sg_net.specs.Listener.{IsBoundTo};
+
 use sg_device::Name;
 use sg_file::path_text;
 use std::alloc::{AllocError, Global};
@@ -16,7 +20,9 @@ pub struct Listener {
 
 impl Listener {
     /// Binds the address. The error's kind is OutOfMemory where memory ran out.
-    pub fn bind(alloc: Global, rt: HostRuntime, ip: &[u8], port: u16) -> io::Result<Listener> {
+    pub fn bind(alloc: Global, rt: HostRuntime, ip: &[u8], port: u16) -> io::Result<Listener>
+        ensures { IfOk result (λ listener. IsBoundTo ip.now port listener) }
+    {
         let text = path_text(ip)?;
         let socket = TcpListener::bind(&rt, (text, port))?;
         socket.set_nonblocking(true)?;
@@ -28,12 +34,16 @@ impl Listener {
     }
 
     /// Whether it is bound to this address.
-    pub fn is_on(&self, ip: &[u8], port: u16) -> bool {
+    pub fn is_on(&self, ip: &[u8], port: u16) -> bool
+        ensures { IsTrue result ↔ IsBoundTo ip.now port self.now }
+    {
         self.port == port && self.ip.bytes() == ip
     }
 
     /// The socket, for a slot.
-    pub fn socket(&self) -> Result<Arc<TcpListener>, AllocError> {
+    pub fn socket(&self) -> Result<Arc<TcpListener>, AllocError>
+        ensures { IfOk result (λ socket. arc_value socket ≡ arc_value self.now.socket) }
+    {
         Arc::try_clone(&self.socket)
     }
 }

@@ -8,7 +8,7 @@ use std::process::ExitCode;
 use std::{env, io};
 
 const USAGE: &str =
-    "usage: test_devices send PATH [fsync] | lines PATH | pull PATH | read PATH | store PATH";
+    "usage: test_devices send PATH [fsync] | lines PATH | pull PATH | read PATH | store PATH | look PATH";
 
 fn main(rt: HostRuntime) -> io::Result<ExitCode> {
     let mut words = env::args(&rt)?.skip(1);
@@ -23,6 +23,7 @@ fn main(rt: HostRuntime) -> io::Result<ExitCode> {
         "pull" => work::pull(rt, path.as_str())?,
         "read" => work::read(rt, path.as_str())?,
         "store" => work::store(rt, path.as_str())?,
+        "look" => work::look(rt, path.as_str())?,
         _ => false,
     };
     Ok(ExitCode::from(if done { 0 } else { 4 }))

@@ -25,7 +25,7 @@ fn push(rt: HostRuntime, frames: &mut Frames, line: &str) -> io::Result<()> {
 }
 
 /// Sends all lines of standard input at once, and says how many of them were taken.
-pub fn send(rt: HostRuntime, path: &str, fsync: bool) -> io::Result<bool> {
+pub(crate) fn send(rt: HostRuntime, path: &str, fsync: bool) -> io::Result<bool> {
     let Some(mut outlet) = open(rt, path, fsync)? else {
         return Ok(false);
     };
@@ -45,7 +45,7 @@ fn send_some(outlet: &mut FileOutlet, frames: &Frames) -> bool {
 
 /// Sends each line of standard input for itself. After a refusal the outlet is opened anew before the
 /// next line, and the line is lost.
-pub fn lines(rt: HostRuntime, path: &str) -> io::Result<bool> {
+pub(crate) fn lines(rt: HostRuntime, path: &str) -> io::Result<bool> {
     let Some(mut outlet) = open(rt, path, false)? else {
         return Ok(false);
     };
@@ -62,7 +62,7 @@ pub fn lines(rt: HostRuntime, path: &str) -> io::Result<bool> {
 }
 
 /// Pulls up to the end, and says how many bytes came.
-pub fn pull(rt: HostRuntime, path: &str) -> io::Result<bool> {
+pub(crate) fn pull(rt: HostRuntime, path: &str) -> io::Result<bool> {
     let rest = Rest::new(rt.alloc(), rt)?;
     let opened = FileInlet::open(rt.alloc(), rt, path.as_bytes(), true, 65_536, 0, rest);
     let Ok(mut inlet) = opened else {
@@ -81,7 +81,7 @@ pub fn pull(rt: HostRuntime, path: &str) -> io::Result<bool> {
 }
 
 /// Reads a file whole, and says how many bytes it has.
-pub fn read(rt: HostRuntime, path: &str) -> io::Result<bool> {
+pub(crate) fn read(rt: HostRuntime, path: &str) -> io::Result<bool> {
     let mut faults = 0;
     match read_file(rt.alloc(), rt, &mut faults, path.as_bytes(), 1_048_576) {
         Ok(bytes) => {
@@ -94,7 +94,7 @@ pub fn read(rt: HostRuntime, path: &str) -> io::Result<bool> {
 }
 
 /// Opens a store, made where it is missing, says so, and keeps it until standard input ends.
-pub fn store(rt: HostRuntime, path: &str) -> io::Result<bool> {
+pub(crate) fn store(rt: HostRuntime, path: &str) -> io::Result<bool> {
     let Ok(mut disk) = FileDisk::open(rt.alloc(), rt, path.as_bytes(), true) else {
         return Ok(false);
     };
@@ -104,5 +104,21 @@ pub fn store(rt: HostRuntime, path: &str) -> io::Result<bool> {
         let written = disk.write_at(0, line.as_bytes()).is_ok() && disk.sync().is_ok();
         println!(rt; "written {written}")?;
     }
+    Ok(true)
+}
+
+/// Opens a store that is there, and says how much of its first 4,096 bytes was read, and whether it was synced.
+pub(crate) fn look(rt: HostRuntime, path: &str) -> io::Result<bool> {
+    let Ok(mut disk) = FileDisk::open(rt.alloc(), rt, path.as_bytes(), false) else {
+        return Ok(false);
+    };
+    let mut buffer = [0u8; 4096];
+    if let Ok(count) = disk.read_at(0, &mut buffer) {
+        println!(rt; "read {count}")?;
+    } else {
+        println!(rt; "read failed")?;
+    }
+    let synced = disk.sync().is_ok();
+    println!(rt; "synced {synced}")?;
     Ok(true)
 }

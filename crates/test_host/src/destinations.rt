@@ -8,13 +8,14 @@ use std::os::unix::net::UnixListener;
 use std::test::Fail;
 
 /// What a step over a destination comes to.
-pub fn take(folder: &Folder, what: &str) -> Result<String, Fail> {
+pub(crate) fn take(folder: &Folder, what: &str) -> Result<String, Fail> {
     let other = folder.at("s")?;
     let _listener = UnixListener::bind(&folder.rt, other.as_str())?;
     match what {
         "modes" => modes(folder),
         "appended" => appended(folder),
-        "full" => full(folder),
+        "full" => refused(folder, b"/dev/full"),
+        "unsynced" => refused(folder, b"/dev/null"),
         "later" => reopened(folder, 100),
         "ready" => reopened(folder, 0),
         "moved" => moved(folder),
@@ -79,9 +80,9 @@ fn appended(folder: &Folder) -> Result<String, Fail> {
     Ok(format!(in folder.alloc; "taken {first} taken {second} {held}")?)
 }
 
-// A device that is always full takes no frame.
-fn full(folder: &Folder) -> Result<String, Fail> {
-    let mut one = outlet(folder, b"/dev/full", 0o600, 0)?;
+// A device takes no frame that is always full, or that can't be synced where that is asked.
+fn refused(folder: &Folder, path: &[u8]) -> Result<String, Fail> {
+    let mut one = outlet(folder, path, 0o600, 0)?;
     let refused = send(&mut one, &frames(folder, &["ab", "cd"])?);
     if refused.is_ok() {
         return Err("it took frames".into());

@@ -31,6 +31,7 @@ source missing = refused
 destination modes = mode 640 mode 600 mode 444
 destination appended = taken 2 taken 3 abcdabcab
 destination full = taken 0
+destination unsynced = taken 0
 destination later = later later
 destination ready = ready ready
 destination moved = old a new b

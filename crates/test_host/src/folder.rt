@@ -16,7 +16,7 @@ pub struct Folder {
 }
 
 impl Folder {
-    pub fn new(rt: HostRuntime) -> Result<Folder, Fail> {
+    pub(crate) fn new(rt: HostRuntime) -> Result<Folder, Fail> {
         let alloc = rt.alloc();
         let temporary = env::temp_dir(&rt)?;
         let above = temporary.as_path().to_str().ok_or("no text")?;
@@ -29,33 +29,33 @@ impl Folder {
     }
 
     /// The path of a file in it.
-    pub fn at(&self, name: &str) -> Result<String, Fail> {
+    pub(crate) fn at(&self, name: &str) -> Result<String, Fail> {
         let folder = &self.path;
         Ok(format!(in self.alloc; "{folder}/{name}")?)
     }
 
     /// The path of a file in it, which has these bytes.
-    pub fn file(&self, name: &str, bytes: &[u8]) -> Result<String, Fail> {
+    pub(crate) fn file(&self, name: &str, bytes: &[u8]) -> Result<String, Fail> {
         let path = self.at(name)?;
         fs::write(&self.rt, path.as_str(), bytes)?;
         Ok(path)
     }
 
     /// The bytes of a file in it.
-    pub fn bytes(&self, name: &str) -> Result<Vec<u8>, Fail> {
+    pub(crate) fn bytes(&self, name: &str) -> Result<Vec<u8>, Fail> {
         let path = self.at(name)?;
         Ok(fs::read(&self.rt, path.as_str())?)
     }
 
     /// ` mode ` and the permission bits of a file in it.
-    pub fn mode(&self, name: &str) -> Result<String, Fail> {
+    pub(crate) fn mode(&self, name: &str) -> Result<String, Fail> {
         let path = self.at(name)?;
         let mode = fs::metadata(&self.rt, path.as_str())?.mode() & 0o777;
         Ok(format!(in self.alloc; " mode {mode:o}")?)
     }
 
     /// The number of names in it.
-    pub fn names(&self) -> Result<usize, Fail> {
+    pub(crate) fn names(&self) -> Result<usize, Fail> {
         let mut count = 0usize;
         for entry in fs::read_dir(&self.rt, self.path.as_str())? {
             let _entry = entry?;
@@ -65,19 +65,19 @@ impl Folder {
     }
 
     /// Another wait of the same machine.
-    pub fn rest(&self) -> Result<Rest, Fail> {
+    pub(crate) fn rest(&self) -> Result<Rest, Fail> {
         Ok(Rest::new(self.alloc, self.rt)?)
     }
 
     /// Takes it away with all that is in it.
-    pub fn remove(self) -> Result<(), Fail> {
+    pub(crate) fn remove(self) -> Result<(), Fail> {
         fs::remove_dir_all(&self.rt, self.path.as_str())?;
         Ok(())
     }
 }
 
 /// Sends frames, of which there must be one.
-pub fn send<O: Outlet>(outlet: &mut O, frames: &Frames) -> Result<(), SendRefusal> {
+pub(crate) fn send<O: Outlet>(outlet: &mut O, frames: &Frames) -> Result<(), SendRefusal> {
     if frames.is_empty() {
         return Err(SendRefusal::Fault);
     }

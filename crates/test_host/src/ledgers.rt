@@ -1,12 +1,14 @@
 // The devices of a machine: what is opened and closed, and what of it fails.
+ghost use Rattle.std.specs.Prelude.{◌≡◌, []};
 ghost use Rattle.std.specs.List.{Contains};
 ghost use Rattle.sg_host.specs.Paths.{opener_of};
 
 use crate::folder::{Folder, send};
-use sg_device::{Disk, Frames, Inlet, Name, Opener, Outlet};
-use sg_host::{HostInlets, HostOpener, HostOutlets, HostPaths, HostStores, Rest, say, tell};
+use sg_device::{Disk, Frames, Inlet, Name, Opener, Outlet, Pull};
+use sg_host::{HostFeed, HostInlets, HostOpener, HostOutlets, HostPaths, HostStores, Rest, say, tell};
 use sg_outside::{InletSpec, OutletSpec, StoreSpec};
 use std::fs;
+use std::io::Write;
 use std::net::{TcpListener, TcpStream};
 use std::test::Fail;
 
@@ -14,10 +16,13 @@ use std::test::Fail;
 const STEPS: &str = "
 file inlet = at 4 bytes 2 failed 1
 slot inlets = at 0 parts 1 at 0 parts 1 failed 1
+slot limit = next next 1 2 - - next - 3 -
 file outlet = taken 2 failed 1
 tcp outlet = taken 1 failed 1
 store = 128 0 failed 1
 paths = abcd failed 1 other false
+several paths = abef cdgh
+unsynced path = refused 1
 said = said
 ";
 
@@ -40,10 +45,13 @@ fn take(folder: &Folder, step: &str) -> Result<String, Fail> {
     match step {
         "file inlet" => file_inlet(folder),
         "slot inlets" => slot_inlets(folder),
+        "slot limit" => slot_limit(folder),
         "file outlet" => file_outlet(folder),
         "tcp outlet" => tcp_outlet(folder),
         "store" => store(folder),
         "paths" => paths(folder),
+        "several paths" => several_paths(folder),
+        "unsynced path" => unsynced_path(folder),
         "said" => said(folder),
         _ => Err("no such step".into()),
     }
@@ -82,13 +90,18 @@ fn file_inlet(folder: &Folder) -> Result<String, Fail> {
     Ok(format!(in folder.alloc; "at {place} bytes {bytes} failed {failed}")?)
 }
 
-// Two slots share a listener, which is free again once both are closed.
-fn slot_inlets(folder: &Folder) -> Result<String, Fail> {
+// A port that is free.
+fn free_port(folder: &Folder) -> Result<u16, Fail> {
     let listener = TcpListener::bind(&folder.rt, ("127.0.0.1", 0))?;
-    let port = listener.local_addr()?.port();
-    drop(listener);
-    let mut inlets = HostInlets::new(folder.alloc, folder.rt, folder.rest()?);
-    let mut text = String::new(folder.alloc);
+    Ok(listener.local_addr()?.port())
+}
+
+// Two slots of a port.
+fn two_slots(
+    folder: &Folder,
+    inlets: &mut HostInlets,
+    port: u16,
+) -> Result<Vec<(HostFeed, u64)>, Fail> {
     let mut feeds = Vec::new(folder.alloc);
     for slot in 0..2u16 {
         let spec = InletSpec::Slot {
@@ -99,6 +112,54 @@ fn slot_inlets(folder: &Folder) -> Result<String, Fail> {
         };
         feeds.push(inlets.open(folder.alloc, &spec, 7)?)?;
     }
+    Ok(feeds)
+}
+
+// One pull: bytes, `next` for a part, `-` for a pause, each with a space behind it.
+fn pull(feed: &mut HostFeed, text: &mut String) -> Result<(), Fail> {
+    let mut buffer = [0u8; 8];
+    match feed.pull(&mut buffer)? {
+        Pull::Bytes { len, .. } => text.push_str(str::from_utf8(&buffer[..len])?)?,
+        Pull::Next => text.push_str("next")?,
+        Pull::Idle => text.push('-')?,
+        Pull::End => text.push('.')?,
+    }
+    text.push(' ')?;
+    Ok(())
+}
+
+// Two slots serve two connections, and a third one waits until one of them has ended.
+fn slot_limit(folder: &Folder) -> Result<String, Fail> {
+    let port = free_port(folder)?;
+    let mut inlets = HostInlets::new(folder.alloc, folder.rt, folder.rest()?);
+    let mut feeds = two_slots(folder, &mut inlets, port)?;
+    let mut streams = Vec::new(folder.alloc);
+    for bytes in [b"1", b"2", b"3"] {
+        let mut stream = TcpStream::connect(&folder.rt, ("127.0.0.1", port))?;
+        stream.write_all(bytes)?;
+        streams.push(Some(stream))?;
+    }
+    let mut text = String::new(folder.alloc);
+    for round in 0..5 {
+        if round == 3 {
+            streams[0] = None;
+        }
+        for (feed, _place) in &mut feeds {
+            pull(feed, &mut text)?;
+        }
+    }
+    for (feed, _place) in feeds {
+        inlets.close(feed);
+    }
+    Ok(String::from_str(folder.alloc, text.as_str().trim())?)
+}
+
+// Two slots share a listener, which is free again once both are closed.
+fn slot_inlets(folder: &Folder) -> Result<String, Fail> {
+    let port = free_port(folder)?;
+    let mut inlets = HostInlets::new(folder.alloc, folder.rt, folder.rest()?);
+    let mut text = String::new(folder.alloc);
+    let mut feeds = two_slots(folder, &mut inlets, port)?;
     let mut streams = Vec::new(folder.alloc);
     for (feed, place) in &mut feeds {
         streams.push(TcpStream::connect(&folder.rt, ("127.0.0.1", port))?)?;
@@ -202,20 +263,24 @@ fn store(folder: &Folder) -> Result<String, Fail> {
     Ok(format!(in folder.alloc; "{len} {faults} failed {failed}")?)
 }
 
-// One file at a time, since what is open is known of texts that are written here alone.
-fn paths(folder: &Folder) -> Result<String, Fail> {
-    let mut paths = HostPaths::new(folder.alloc, folder.rt, folder.rest()?);
-    let spec = OutletSpec::ByPath {
-        fsync: false,
+// Files by their paths.
+fn by_path(fsync: bool) -> OutletSpec {
+    OutletSpec::ByPath {
+        fsync,
         mode: 0o600,
         reopen: 0,
-    };
+    }
+}
+
+fn paths(folder: &Folder) -> Result<String, Fail> {
+    let mut paths = HostPaths::new(folder.alloc, folder.rt, folder.rest()?);
+    let spec = by_path(false);
     let mut opener = paths.open(folder.alloc, &spec)?;
     is_send(&opener);
     let one = folder.at("one")?;
     let two = folder.at("two")?;
     use_path(&mut opener, one.as_bytes())?;
-    let text = held(folder)?;
+    let text = held(folder, "one")?;
     paths.close(opener);
     let mut opener = paths.open(folder.alloc, &spec)?;
     if opener.open(b"/none/out").is_ok() {
@@ -239,8 +304,54 @@ fn use_path(opener: &mut HostOpener, path: &[u8]) -> Result<(), Fail>
     Ok(())
 }
 
-fn held(folder: &Folder) -> Result<String, Fail> {
-    let bytes = folder.bytes("one")?;
+// Two files are open at once, and each takes its own texts.
+fn several_paths(folder: &Folder) -> Result<String, Fail> {
+    let mut paths = HostPaths::new(folder.alloc, folder.rt, folder.rest()?);
+    let mut opener = paths.open(folder.alloc, &by_path(false))?;
+    let one = folder.at("one")?;
+    let two = folder.at("two")?;
+    use_two(&mut opener, one.as_bytes(), two.as_bytes())?;
+    paths.close(opener);
+    let one = held(folder, "one")?;
+    let two = held(folder, "two")?;
+    Ok(format!(in folder.alloc; "{one} {two}")?)
+}
+
+// Opens two files, gives each of them two texts, and closes the first one before the other's last.
+fn use_two(opener: &mut HostOpener, one: &[u8], two: &[u8]) -> Result<(), Fail>
+    requires { (opener_of opener.old).opened ≡ [] }
+{
+    if one == two {
+        return Err("the paths are the same".into());
+    }
+    opener.open(one)?;
+    opener.open(two)?;
+    opener.send(one, b"ab")?;
+    opener.send(two, b"cd")?;
+    opener.reopen(one)?;
+    opener.send(one, b"ef")?;
+    opener.close(one);
+    opener.send(two, b"gh")?;
+    opener.close(two);
+    Ok(())
+}
+
+// A text isn't taken that can't be synced where that is asked.
+fn unsynced_path(folder: &Folder) -> Result<String, Fail> {
+    let mut paths = HostPaths::new(folder.alloc, folder.rt, folder.rest()?);
+    let mut opener = paths.open(folder.alloc, &by_path(true))?;
+    opener.open(b"/dev/null")?;
+    let word = match opener.send(b"/dev/null", b"ab") {
+        Ok(()) => "taken",
+        Err(_) => "refused",
+    };
+    let faults = opener.counts().faults;
+    paths.close(opener);
+    Ok(format!(in folder.alloc; "{word} {faults}")?)
+}
+
+fn held(folder: &Folder, name: &str) -> Result<String, Fail> {
+    let bytes = folder.bytes(name)?;
     Ok(String::from_str(folder.alloc, str::from_utf8(&bytes)?)?)
 }
 

@@ -8,7 +8,7 @@ use std::net::{TcpListener, TcpStream};
 use std::test::Fail;
 
 /// What a step over a connection comes to.
-pub fn take(rt: HostRuntime, what: &str) -> Result<String, Fail> {
+pub(crate) fn take(rt: HostRuntime, what: &str) -> Result<String, Fail> {
     match what {
         "connects" => connects(rt),
         "away" => away(rt),

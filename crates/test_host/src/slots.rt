@@ -8,7 +8,7 @@ use std::test::Fail;
 use std::time::Instant;
 
 /// What a step over slots comes to.
-pub fn take(rt: HostRuntime, what: &str) -> Result<String, Fail> {
+pub(crate) fn take(rt: HostRuntime, what: &str) -> Result<String, Fail> {
     match what {
         "served" => served(rt),
         "second" => second(rt),

@@ -11,7 +11,7 @@ use std::test::Fail;
 const LIMIT: u32 = 4;
 
 /// What a step over a source comes to.
-pub fn take(folder: &Folder, what: &str) -> Result<String, Fail> {
+pub(crate) fn take(folder: &Folder, what: &str) -> Result<String, Fail> {
     let other = folder.at("s")?;
     let _listener = UnixListener::bind(&folder.rt, other.as_str())?;
     let missing = folder.at("none")?;

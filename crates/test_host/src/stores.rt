@@ -8,7 +8,7 @@ use std::os::unix::net::UnixListener;
 use std::test::Fail;
 
 /// What a step over a store comes to.
-pub fn take(folder: &Folder, what: &str) -> Result<String, Fail> {
+pub(crate) fn take(folder: &Folder, what: &str) -> Result<String, Fail> {
     match what {
         "lock" => lock(folder),
         "fresh" => fresh(folder),
@@ -134,7 +134,7 @@ fn short(folder: &Folder) -> Result<String, Fail> {
 }
 
 /// What a step over a file that is read whole comes to.
-pub fn read(folder: &Folder, what: &str) -> Result<String, Fail> {
+pub(crate) fn read(folder: &Folder, what: &str) -> Result<String, Fail> {
     let path = folder.file("f", b"abcde")?;
     let other = folder.at("s")?;
     let _listener = UnixListener::bind(&folder.rt, other.as_str())?;

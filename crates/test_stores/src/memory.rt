@@ -1,10 +1,13 @@
 // A machine in memory, and calls that fail.
+ghost use Rattle.std.specs.List.{Contains};
+ghost use Rattle.sg_memory.specs.Open.{opener_of};
+
 use sg_device::{
     FileRefusal, Frames, Inlet, Name, Opener, Outlet, OutletFault, Pull, Reopened, SayRefusal,
     SendRefusal,
 };
 use sg_memory::{
-    MemoryConnection, MemoryFeed, MemoryFile, MemoryWorld, OutletPlan, Pace, PathsPlan, WorldPlans,
+    MemoryConnection, MemoryFeed, MemoryFile, MemoryOpener, MemoryWorld, OutletPlan, Pace, PathsPlan, WorldPlans,
     is_record_end,
 };
 use sg_memory_disk::Plan;
@@ -190,6 +193,7 @@ fn devices_in_memory(rt: HostRuntime) -> Result<(), Fail> {
     }
     assert_eq!(rt; outlet(alloc, &mut world)?.as_slice(), b"+l!r+r".as_slice());
     assert_eq!(rt; taken(alloc, &world)?.as_slice(), b"abcdf".as_slice());
+    assert!(rt; files(alloc, &mut world)?);
     assert!(rt; world.read_file(alloc, b"in", 7) == Err(FileRefusal::TooLong));
     assert!(rt; world.read_file(alloc, b"on", 7) == Err(FileRefusal::Failed));
     assert_eq!(rt;
@@ -205,4 +209,46 @@ fn devices_in_memory(rt: HostRuntime) -> Result<(), Fail> {
     assert!(rt; world.fails_build() && !world.fails_build());
     assert!(rt; is_record_end(4, b"abcdefgh", 4) && !is_record_end(5, b"abcdefgh", 4));
     Ok(())
+}
+
+// Whether an opener opens, takes and closes as it should.
+fn files(alloc: Global, world: &mut MemoryWorld) -> Result<bool, Fail> {
+    let spec = OutletSpec::ByPath {
+        fsync: false,
+        mode: 0o600,
+        reopen: 60,
+    };
+    let mut plan = PathsPlan::never(alloc);
+    plan.fails = self::plan(alloc, 2)?;
+    world.plans.paths.push_back(plan)?;
+    let mut opener = world.open_paths(alloc, &spec)?;
+    is_send(&opener);
+    let kept = keeps(&mut opener, b"a")?;
+    let one = has_one(&opener);
+    world.close_paths(opener);
+    Ok(kept && one)
+}
+
+// Whether an opener takes one text, refuses the second one, and is ready again.
+fn keeps(opener: &mut MemoryOpener, path: &[u8]) -> Result<bool, Fail>
+    requires { Contains (opener_of opener.old).opened path.now → ⊥ }
+{
+    opener.open(path)?;
+    opener.send(path, b"one")?;
+    match opener.send(path, b"two") {
+        Err(SendRefusal::Fault) => {}
+        _ => return Ok(false),
+    }
+    match opener.reopen(path) {
+        Ok(Reopened::Ready) => {}
+        _ => return Ok(false),
+    }
+    opener.close(path);
+    Ok(true)
+}
+
+// Whether an opener has no open path, and took one text.
+fn has_one(opener: &MemoryOpener) -> bool {
+    let taken = opener.paths.taken();
+    opener.paths.opened().is_empty() && taken.len() == 1 && taken[0].text.as_slice() == b"one".as_slice()
 }

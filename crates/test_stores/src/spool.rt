@@ -328,6 +328,67 @@ impl Recode for Same {
     }
 }
 
+// Puts an entry on a list.
+fn put(alloc: Global, spool: &mut Spool<MemoryDisk>, payload: &[u8]) -> Result<(), Fail> {
+    let entry = block(alloc, payload)?;
+    if spool.staged() > 0 {
+        return Err(Fail::from("something is staged"));
+    }
+    match spool.append(&entry) {
+        Appended::Done => Ok(()),
+        _ => Err(Fail::from("not appended")),
+    }
+}
+
+// Spells a list anew, each payload as it is.
+fn respell(alloc: Global, spool: &mut Spool<MemoryDisk>) -> Result<(), Fail> {
+    if spool.staged() > 0 {
+        return Err(Fail::from("something is staged"));
+    }
+    let mut same = Same;
+    spool.rewrite(alloc, &mut same)?;
+    Ok(())
+}
+
+// The place of a list's first entry, and what stands there.
+fn first(alloc: Global, spool: &mut Spool<MemoryDisk>) -> Result<(u64, Walked), Fail> {
+    if spool.staged() > 0 {
+        return Err(Fail::from("something is staged"));
+    }
+    let gate = spool.head();
+    Ok((gate, spool.item(alloc, gate)?))
+}
+
+// A store with one entry, spelled anew.
+fn migrated(alloc: Global) -> Result<MemoryDisk, Fail> {
+    let mut spool = open(fresh(alloc)?, 1000)?;
+    let result = put(alloc, &mut spool, FORMAT1);
+    let disk = spool.into_disk();
+    result?;
+    let bytes = disk.bytes().to_vec(alloc)?;
+    let mut spool = open(MemoryDisk::new(alloc, bytes)?, 1000)?;
+    let result = respell(alloc, &mut spool);
+    let disk = spool.into_disk();
+    result?;
+    Ok(disk)
+}
+
+#[test]
+fn migration(rt: HostRuntime) -> Result<(), Fail> {
+    let alloc = rt.alloc();
+    let disk = migrated(alloc)?;
+    assert_eq!(rt; changes(alloc, &disk)?.as_str(), MIGRATED);
+    let mut spool = open(disk, 1000)?;
+    let result = first(alloc, &mut spool);
+    let _ = spool.into_disk();
+    let (gate, Walked::Item { payload, next }) = result? else {
+        return Err(Fail::from("no item"));
+    };
+    assert_eq!(rt; (gate, next), (117, 169));
+    assert_eq!(rt; payload.as_slice(), FORMAT1.as_slice());
+    Ok(())
+}
+
 // Damaged stores of 128 bytes: a place, its byte, and the place of the damage.
 const DAMAGED: &str = "1 1 1
 15 255 15
