@@ -47,7 +47,11 @@ pub(crate) fn look(stream: &mut TcpStream) -> io::Result<()> {
 
 /// Sends the bytes, and tells how many the system took, and why no more of them. A peer that takes
 /// none for 5 seconds is an error.
-pub(crate) fn send_all(rt: &HostRuntime, stream: &mut TcpStream, bytes: &[u8]) -> (usize, io::Result<()>) {
+pub(crate) fn send_all(
+    rt: &HostRuntime,
+    stream: &mut TcpStream,
+    bytes: &[u8],
+) -> (usize, io::Result<()>) {
     let mut done = 0;
     let mut waited = 0u64;
     for _ in 0..u64::MAX {
