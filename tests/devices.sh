@@ -61,17 +61,17 @@ expect 'a store that is free again' 'opened\nstatus 0\n'
 [ "$(ls)" = "$(printf 'd\nfifo\ngot\nheld\nhold\nq\nsaid\ntold\nwanted')" ] && echo yes >got || ls >got
 expect 'nothing is left of the making of a store' 'yes\n'
 
-# A file of the kernel's own that says that it is longer than what can be read of it, and that can't be synced.
+# A file of the kernel's own that says that it is longer than what can be read of it.
 short=
 for file in /sys/kernel/profiling /sys/kernel/mm/transparent_hugepage/enabled; do [ -w $file ] && short=$file; done
 if [ -n "$short" ]; then
     run look $short
-    expect 'a store that reads short' "read failed\nsynced false\nstore $short: cannot read: unexpected end of file\nstatus 0\n"
+    expect 'a store that reads short' "read failed\nstore $short: cannot read: unexpected end of file\nstatus 0\n"
 else
     echo 'no file here says that it is longer than it is: a store that reads short is not tried'
 fi
 run look q
-expect 'a store that reads whole' 'read 128\nsynced true\nstatus 0\n'
+expect 'a store that reads whole' 'read 128\nstatus 0\n'
 
 # A device that can't be synced takes no frame under fsync.
 printf 'one\ntwo\n' >two

@@ -28,6 +28,9 @@ expect() {
     fi
 }
 
+for needed in "$devices" "$program"; do
+    [ -x "$needed" ] || echo "there is no program $needed: what it should sync is not tried (\`rt ci\` builds it)"
+done
 if [ -x "$devices" ]; then
     calls "$devices" store q </dev/null
     expect 'a store that is made: locked, synced, linked, and its folder synced' 'flock q.new\nfsync q.new\nlink\nfsync .\n'
@@ -49,4 +52,4 @@ if [ -x "$program" ]; then
     expect 'a run with nothing new' 'flock pos-in\nfsync .\n'
 fi
 echo "$passed passed, $failed failed"
-[ $failed = 0 ]
+[ $failed = 0 ] && [ $passed -gt 0 ]

@@ -1,14 +1,13 @@
 -- The inlets that a real machine opens and closes.
-use Rattle.std.specs.Prelude.{◌≡◌, ◌≤◌, ℕ, None, map}
-use Rattle.sg_device.specs.Faults.{Rose}
+use Rattle.std.specs.Prelude.{◌≡◌, ℕ, None, map}
 use Rattle.sg_device.specs.Inlet.{InletState, IsFresh}
-use Rattle.sg_outside.specs.World.{Ledger, Opened, StandsIn, with_opened}
+use Rattle.sg_outside.specs.World.{Ledger, Opened, StandsIn}
 use Rattle.sg_device.specs.declared.fault.OpenRefusal.{OpenRefusal}
-use Rattle.sg_device.specs.declared.fault.OpenRefusal.TheVariants.{Failed, NoMemory}
 use Rattle.sg_outside.specs.declared.request.InletSpec.{InletSpec}
 use Rattle.sg_file.specs.Counts.{inlet_state}
 use Rattle.sg_file.specs.Inlet.{inlet_of}
 use Rattle.sg_net.specs.Slot.{slot_of}
+use Rattle.sg_host.specs.Ledgers.{LedgerOpens, LedgerRefuses}
 use Rattle.sg_host.specs.Cells.{inlet_states}
 use Rattle.sg_host.specs.declared.inlets.HostFeed.{HostFeed}
 use Rattle.sg_host.specs.declared.inlets.HostInlets.{HostInlets}
@@ -37,9 +36,7 @@ IsOpenedFor spec from inlet = IsFresh inlet × StandsIn None spec from inlet
 
 -- the inlet stands at its place, and nothing was given yet
 abbrev pub InletsOpen : HostInlets → HostInlets → InletSpec → ℕ → InletState → ℕ → Type 0
-InletsOpen old new spec from feed place = (inlets_of new ≡ with_opened (inlets_of old) spec feed) × (new.faults ≡ old.faults) × IsFresh feed × (feed.place ≡ place) × StandsIn None spec from feed
+InletsOpen old new spec from feed place = LedgerOpens (inlets_of old) (inlets_of new) old.faults new.faults spec feed × IsFresh feed × (feed.place ≡ place) × StandsIn None spec from feed
 
--- a failure is counted
 abbrev pub InletsRefuse : HostInlets → HostInlets → OpenRefusal → Type 0
-InletsRefuse old new Failed = (inlets_of new ≡ inlets_of old) × (old.faults ≤ new.faults) × Rose old.faults new.faults
-InletsRefuse old new NoMemory = (inlets_of new ≡ inlets_of old) × (new.faults ≡ old.faults)
+InletsRefuse old new refusal = LedgerRefuses (inlets_of old) (inlets_of new) old.faults new.faults refusal

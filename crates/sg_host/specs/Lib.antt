@@ -1,5 +1,6 @@
 pub mod Counts
 pub mod Cells
+pub mod Ledgers
 pub mod Inlets
 pub mod Outlets
 pub mod Stores

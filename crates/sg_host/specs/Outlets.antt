@@ -1,14 +1,13 @@
 -- The outlets that a real machine opens and closes.
-use Rattle.std.specs.Prelude.{◌≡◌, ◌≤◌, map}
-use Rattle.sg_device.specs.Faults.{Rose}
+use Rattle.std.specs.Prelude.{map}
 use Rattle.sg_device.specs.Outlet.{OutletState, IsNew}
-use Rattle.sg_outside.specs.World.{Ledger, Opened, with_opened}
+use Rattle.sg_outside.specs.World.{Ledger, Opened}
 use Rattle.sg_device.specs.declared.fault.OpenRefusal.{OpenRefusal}
-use Rattle.sg_device.specs.declared.fault.OpenRefusal.TheVariants.{Failed, NoMemory}
 use Rattle.sg_outside.specs.declared.request.OutletSpec.{OutletSpec}
 use Rattle.sg_file.specs.Counts.{new_outlet}
 use Rattle.sg_file.specs.Outlet.{outlet_of}
 use Rattle.sg_net.specs.Outlet.{tcp_of}
+use Rattle.sg_host.specs.Ledgers.{LedgerOpens, LedgerRefuses}
 use Rattle.sg_host.specs.Cells.{outlet_states}
 use Rattle.sg_host.specs.declared.outlets.HostDrain.{HostDrain}
 use Rattle.sg_host.specs.declared.outlets.HostOutlets.{HostOutlets}
@@ -32,9 +31,7 @@ outlets_of outlets = record { opened = map opened_outlet outlets.opened.items; c
 
 -- the outlet took nothing yet
 abbrev pub OutletsOpen : HostOutlets → HostOutlets → OutletSpec → OutletState → Type 0
-OutletsOpen old new spec drain = (outlets_of new ≡ with_opened (outlets_of old) spec drain) × (new.faults ≡ old.faults) × IsNew drain
+OutletsOpen old new spec drain = LedgerOpens (outlets_of old) (outlets_of new) old.faults new.faults spec drain × IsNew drain
 
--- a failure is counted
 abbrev pub OutletsRefuse : HostOutlets → HostOutlets → OpenRefusal → Type 0
-OutletsRefuse old new Failed = (outlets_of new ≡ outlets_of old) × (old.faults ≤ new.faults) × Rose old.faults new.faults
-OutletsRefuse old new NoMemory = (outlets_of new ≡ outlets_of old) × (new.faults ≡ old.faults)
+OutletsRefuse old new refusal = LedgerRefuses (outlets_of old) (outlets_of new) old.faults new.faults refusal

@@ -1,12 +1,11 @@
 -- The openers that a real machine opens and closes.
-use Rattle.std.specs.Prelude.{◌≡◌, ◌≤◌, map}
-use Rattle.sg_device.specs.Faults.{Rose}
+use Rattle.std.specs.Prelude.{map}
 use Rattle.sg_device.specs.Paths.{PathsState, IsNewOpener}
-use Rattle.sg_outside.specs.World.{Ledger, Opened, with_opened}
+use Rattle.sg_outside.specs.World.{Ledger, Opened}
 use Rattle.sg_device.specs.declared.fault.OpenRefusal.{OpenRefusal}
-use Rattle.sg_device.specs.declared.fault.OpenRefusal.TheVariants.{Failed, NoMemory}
 use Rattle.sg_outside.specs.declared.request.OutletSpec.{OutletSpec}
 use Rattle.sg_host.specs.Counts.{paths_state, new_paths}
+use Rattle.sg_host.specs.Ledgers.{LedgerOpens, LedgerRefuses}
 use Rattle.sg_host.specs.Cells.{paths_states}
 use Rattle.sg_host.specs.declared.paths.HostOpener.{HostOpener}
 use Rattle.sg_host.specs.declared.paths.HostPaths.{HostPaths}
@@ -24,9 +23,7 @@ paths_of paths = record { opened = map opened_paths paths.opened.items; closed =
 
 -- the opener has opened nothing yet
 abbrev pub PathsOpen : HostPaths → HostPaths → OutletSpec → PathsState → Type 0
-PathsOpen old new spec opener = (paths_of new ≡ with_opened (paths_of old) spec opener) × (new.faults ≡ old.faults) × IsNewOpener opener
+PathsOpen old new spec opener = LedgerOpens (paths_of old) (paths_of new) old.faults new.faults spec opener × IsNewOpener opener
 
--- a failure is counted
 abbrev pub PathsRefuse : HostPaths → HostPaths → OpenRefusal → Type 0
-PathsRefuse old new Failed = (paths_of new ≡ paths_of old) × (old.faults ≤ new.faults) × Rose old.faults new.faults
-PathsRefuse old new NoMemory = (paths_of new ≡ paths_of old) × (new.faults ≡ old.faults)
+PathsRefuse old new refusal = LedgerRefuses (paths_of old) (paths_of new) old.faults new.faults refusal

@@ -1,11 +1,10 @@
 -- The stores that a real machine opens and closes.
-use Rattle.std.specs.Prelude.{◌≡◌, ◌≤◌, map}
+use Rattle.std.specs.Prelude.{map}
 use Rattle.sg_device.specs.Disk.{DiskState}
-use Rattle.sg_device.specs.Faults.{Rose}
-use Rattle.sg_outside.specs.World.{Ledger, Opened, with_opened}
+use Rattle.sg_outside.specs.World.{Ledger, Opened}
 use Rattle.sg_device.specs.declared.fault.OpenRefusal.{OpenRefusal}
-use Rattle.sg_device.specs.declared.fault.OpenRefusal.TheVariants.{Failed, NoMemory}
 use Rattle.sg_outside.specs.declared.request.StoreSpec.{StoreSpec}
+use Rattle.sg_host.specs.Ledgers.{LedgerOpens, LedgerRefuses}
 use Rattle.sg_host.specs.Cells.{store_states}
 use Rattle.sg_file.specs.Store.{disk_of, new_disk}
 use Rattle.sg_host.specs.declared.stores.HostStore.{HostStore}
@@ -23,9 +22,7 @@ abbrev pub stores_of : HostStores → Ledger StoreSpec DiskState
 stores_of stores = record { opened = map opened_store stores.opened.items; closed = store_states stores.closed }
 
 abbrev pub StoresOpen : HostStores → HostStores → StoreSpec → DiskState → Type 0
-StoresOpen old new spec store = (stores_of new ≡ with_opened (stores_of old) spec store) × (new.faults ≡ old.faults)
+StoresOpen old new spec store = LedgerOpens (stores_of old) (stores_of new) old.faults new.faults spec store
 
--- a failure is counted
 abbrev pub StoresRefuse : HostStores → HostStores → OpenRefusal → Type 0
-StoresRefuse old new Failed = (stores_of new ≡ stores_of old) × (old.faults ≤ new.faults) × Rose old.faults new.faults
-StoresRefuse old new NoMemory = (stores_of new ≡ stores_of old) × (new.faults ≡ old.faults)
+StoresRefuse old new refusal = LedgerRefuses (stores_of old) (stores_of new) old.faults new.faults refusal

@@ -25,7 +25,10 @@ impl MemoryConnection {
         port: u16,
         peer: &[u8],
         bytes: &[u8],
-    ) -> Result<MemoryConnection, NoMemory> {
+    ) -> Result<MemoryConnection, NoMemory>
+        ensures address { IfOk result (λ connection. (connection.ip ≡ ip.now) × (connection.port ≡ port) × (connection.slot ≡ 0)) }
+        ensures sent { IfOk result (λ connection. (connection.peer ≡ peer.now) × (connection.bytes.items ≡ bytes.now)) }
+    {
         Ok(MemoryConnection {
             ip: Name::new(alloc, ip)?,
             port,

@@ -107,7 +107,7 @@ pub(crate) fn store(rt: HostRuntime, path: &str) -> io::Result<bool> {
     Ok(true)
 }
 
-/// Opens a store that is there, and says how much of its first 4,096 bytes was read, and whether it was synced.
+/// Opens a store that is there, and says how many of its first 4,096 bytes were read.
 pub(crate) fn look(rt: HostRuntime, path: &str) -> io::Result<bool> {
     let Ok(mut disk) = FileDisk::open(rt.alloc(), rt, path.as_bytes(), false) else {
         return Ok(false);
@@ -118,7 +118,5 @@ pub(crate) fn look(rt: HostRuntime, path: &str) -> io::Result<bool> {
     } else {
         println!(rt; "read failed")?;
     }
-    let synced = disk.sync().is_ok();
-    println!(rt; "synced {synced}")?;
     Ok(true)
 }

@@ -1,6 +1,6 @@
-// Stores, sources and destinations over real files.
+// Stores, sources and destinations over real files, and a machine that opens and closes them.
 use crate::folder::Folder;
-use crate::{destinations, sources, stores};
+use crate::{destinations, ledgers, sources, stores};
 use std::test::Fail;
 
 // A step, and what it comes to.
@@ -45,6 +45,16 @@ file long = too long
 file folder = failed 1
 file socket = failed 1
 file name = failed 1
+machine file inlet = at 4 bytes 2 failed 1
+machine slot inlets = at 0 parts 1 at 0 parts 1 failed 1
+machine slot limit = next next 1 2 - - next - 3 -
+machine file outlet = taken 2 failed 1
+machine tcp outlet = taken 1 failed 1
+machine store = 128 0 failed 1
+machine paths = abcd failed 1 other false
+machine several paths = abef cdgh
+machine unsynced path = refused 1
+machine said = said
 ";
 
 // Runs the steps one after another, each over a folder of its own.
@@ -68,6 +78,7 @@ fn take(folder: &Folder, step: &str) -> Result<String, Fail> {
         Some(("source", what)) => sources::take(folder, what),
         Some(("destination", what)) => destinations::take(folder, what),
         Some(("file", what)) => stores::read(folder, what),
+        Some(("machine", what)) => ledgers::take(folder, what),
         _ => Err("no such step".into()),
     }
 }

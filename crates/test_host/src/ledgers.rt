@@ -5,44 +5,18 @@ ghost use Rattle.sg_host.specs.Paths.{opener_of};
 
 use crate::folder::{Folder, send};
 use sg_device::{Disk, Frames, Inlet, Name, Opener, Outlet, Pull};
-use sg_host::{HostFeed, HostInlets, HostOpener, HostOutlets, HostPaths, HostStores, Rest, say, tell};
+use sg_host::{
+    HostFeed, HostInlets, HostOpener, HostOutlets, HostPaths, HostStores, Rest, say, tell,
+};
 use sg_outside::{InletSpec, OutletSpec, StoreSpec};
 use std::fs;
 use std::io::Write;
 use std::net::{TcpListener, TcpStream};
 use std::test::Fail;
 
-// A step, and what it comes to.
-const STEPS: &str = "
-file inlet = at 4 bytes 2 failed 1
-slot inlets = at 0 parts 1 at 0 parts 1 failed 1
-slot limit = next next 1 2 - - next - 3 -
-file outlet = taken 2 failed 1
-tcp outlet = taken 1 failed 1
-store = 128 0 failed 1
-paths = abcd failed 1 other false
-several paths = abef cdgh
-unsynced path = refused 1
-said = said
-";
-
-// Runs the steps one after another, each over a folder of its own.
-#[test]
-fn ledgers(rt: HostRuntime) -> Result<(), Fail> {
-    for line in STEPS.lines() {
-        if let Some((step, want)) = line.split_once(" = ") {
-            let folder = Folder::new(rt)?;
-            let got = take(&folder, step)?;
-            folder.remove()?;
-            assert_eq!(rt; (step, got.as_str()), (step, want));
-        }
-    }
-    Ok(())
-}
-
-// What a step comes to.
-fn take(folder: &Folder, step: &str) -> Result<String, Fail> {
-    match step {
+/// What a step over a machine's devices comes to.
+pub(crate) fn take(folder: &Folder, what: &str) -> Result<String, Fail> {
+    match what {
         "file inlet" => file_inlet(folder),
         "slot inlets" => slot_inlets(folder),
         "slot limit" => slot_limit(folder),

@@ -7,7 +7,8 @@ use Rattle.sg_msg.specs.Length.{encoded_len}
 use Rattle.sg_codec.specs.Reading.{entry_at, placed, reading}
 use Rattle.sg_codec.specs.Spelling.{spelling2, Spells1, Spells2}
 use Rattle.test_stores.specs.Formats.{is_format1, is_older, is_payload, payload_or, renewed, upgraded}
-use Rattle.test_stores.proofs.Lengths.{format1-len, spelling2-len}
+use Rattle.sg_codec.proofs.WriteLemmas.{length-spelling}
+use Rattle.test_stores.proofs.Lengths.{format1-len}
 
 placed-ok : (count : ℕ) (r : Result Kept ℕ) (kept : Kept) → placed count r ≡ Ok kept → r ≡ Ok kept
 placed-ok count (Ok k) kept e = e
@@ -44,8 +45,8 @@ pub upgraded-entry : (bytes : List ℕ) (kept : Kept) → is_older bytes ≡ tru
 unfolding upgraded
 upgraded-entry bytes kept is e =
     let new = spelling2 kept in
-    let some : leb 1 (length new) ≡ true = le-leb 1 (length new) (omega (arith, spelling2-len kept)) in
-    let limit : leb (length new) (2 ^ 30 + 64) ≡ true = le-leb (length new) (2 ^ 30 + 64) (omega (arith, spelling2-len kept, older-len bytes kept is e)) in
+    let some : leb 1 (length new) ≡ true = le-leb 1 (length new) (omega (arith, length-spelling kept)) in
+    let limit : leb (length new) (2 ^ 30 + 64) ≡ true = le-leb (length new) (2 ^ 30 + 64) (omega (arith, length-spelling kept, older-len bytes kept is e)) in
     let found : cond (is_older bytes) (renewed bytes (reading bytes)) bytes ≡ new = chosen (is_older bytes) (renewed bytes (reading bytes)) bytes is ∙ ap (λ (r : Result Kept ℕ). renewed bytes r) e in
     ap (λ (n : List ℕ). payload_or bytes n) found ∙ chosen (is_payload new) new bytes (and_from (leb 1 (length new)) (leb (length new) (2 ^ 30 + 64)) some limit)
 

@@ -7,8 +7,8 @@ use sg_device::{
     SendRefusal,
 };
 use sg_memory::{
-    MemoryConnection, MemoryFeed, MemoryFile, MemoryOpener, MemoryWorld, OutletPlan, Pace, PathsPlan, WorldPlans,
-    is_record_end,
+    MemoryConnection, MemoryFeed, MemoryFile, MemoryOpener, MemoryWorld, OutletPlan, Pace,
+    PathsPlan, WorldPlans, is_record_end,
 };
 use sg_memory_disk::Plan;
 use sg_outside::{InletSpec, OutletSpec};
@@ -250,5 +250,7 @@ fn keeps(opener: &mut MemoryOpener, path: &[u8]) -> Result<bool, Fail>
 // Whether an opener has no open path, and took one text.
 fn has_one(opener: &MemoryOpener) -> bool {
     let taken = opener.paths.taken();
-    opener.paths.opened().is_empty() && taken.len() == 1 && taken[0].text.as_slice() == b"one".as_slice()
+    opener.paths.opened().is_empty()
+        && taken.len() == 1
+        && taken[0].text.as_slice() == b"one".as_slice()
 }
