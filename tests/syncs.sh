@@ -10,10 +10,11 @@ trap 'rm -rf "$folder"' EXIT
 cd "$folder" || exit 2
 passed=0 failed=0
 
-# calls WORD..: runs a program and prints its calls that open for writing, link, write at a place or sync, one a line, with the file
+# calls WORD..: runs a program and prints its calls that lock, link, write at a place or sync, one a line, with the file. One that was
+# opened under a name of its own that is gone has the name that it was given then.
 calls() {
     strace -f -y -s 0 -e trace=fsync,fdatasync,link,linkat,pwrite64,flock -o trace "$@" >said 2>told
-    sed -n 's/^[0-9]* *\([a-z0-9]*\)(.*<\([^>]*\)>.*/\1 \2/p; s/^[0-9]* *\(link\|linkat\)(.*/link/p' trace | sed "s|$folder/*||; s| $| .|; s/\.[0-9a-f]\{16\}\.new/.new/" >got
+    sed 's/\.[0-9a-f]\{16\}\.new>(deleted)/>/' trace | sed -n 's/^[0-9]* *\([a-z0-9]*\)(.*<\([^>]*\)>.*/\1 \2/p; s/^[0-9]* *\(link\|linkat\)(.*/link/p' | sed "s|$folder/*||; s| $| .|; s/\.[0-9a-f]\{16\}\.new/.new/" >got
 }
 
 # expect NAME WANTED: compares the calls with a printf format
@@ -47,9 +48,9 @@ if [ -x "$program" ]; then
     printf '@version: 4.2\nsource s { file("in" flags(no-parse)); };\ndestination d { file("out" template("$MSG\\n")); };\nlog { source(s); destination(d); flags(flow-control); };\n' >c
     printf 'one\ntwo\n' >in
     calls "$program" run c --once
-    expect 'a run: each put of a position is two writes, each synced' 'flock pos-in.new\nfsync pos-in.new\nlink\nfsync .\npwrite64 pos-in\nfsync pos-in\npwrite64 pos-in\nfsync pos-in\n'
+    expect 'a run: its store is made and synced at its opening, and each put of a position is two writes, each synced' 'flock pos-in.new\nfsync pos-in.new\nlink\nfsync .\nfsync pos-in\npwrite64 pos-in\nfsync pos-in\npwrite64 pos-in\nfsync pos-in\n'
     calls "$program" run c --once
-    expect 'a run with nothing new' 'flock pos-in\nfsync .\n'
+    expect 'a run with nothing new' 'flock pos-in\nfsync .\nfsync pos-in\n'
 fi
 echo "$passed passed, $failed failed"
 [ $failed = 0 ] && [ $passed -gt 0 ]
