@@ -1,5 +1,5 @@
 // A machine in memory: files by name, devices over them, and the bytes said.
-ghost use Rattle.std.specs.Prelude.{◌≡◌, ◌||◌, ◌++◌, ◌∷◌, [], is_none, MatchResult, IfOk, OnOk, OnErr};
+ghost use Rattle.std.specs.Prelude.{◌≡◌, ◌≤◌, ◌||◌, ◌++◌, ◌∷◌, [], false, is_none, MatchResult, IfOk, OnOk, OnErr};
 ghost use Rattle.std.specs.Bool.{OnTrue};
 ghost use Rattle.sg_device.specs.Faults.{Rose};
 ghost use Rattle.sg_outside.specs.World.{Reads, InletOpens, InletRefused, OutletOpens, OutletRefused, StoreOpens, StoreRefused, PathsOpen, PathsRefused, ClosesInlet, ClosesOutlet, ClosesStore, ClosesPaths, OnlyBuilds, Says};
@@ -284,14 +284,11 @@ impl MemoryWorld {
         ensures quiet { AreQuiet self.old.plans → AreQuiet self.new.plans }
         ensures quiet_outlet { IfOk result (λ drain. AreQuiet self.old.plans → IsOutletQuiet drain.outlet.plan) }
     {
-        if self.plans.outlet_opens.next() {
-            self.outlet_faults = self.outlet_faults.saturating_add(1);
+        if fails_to_open(&mut self.plans.outlet_opens, &mut self.outlet_faults) {
             return Err(OpenRefusal::Failed);
         }
         let cell = outlet_cell(alloc)?;
-        if self.opened_outlets.push(spec.copy()?).is_err() {
-            return Err(OpenRefusal::NoMemory);
-        }
+        add_asked(&mut self.opened_outlets, spec)?;
         let plan = take_outlet(alloc, &mut self.plans.outlets);
         Ok(MemoryDrain {
             outlet: MemoryOutlet::new(alloc, plan),
@@ -313,14 +310,11 @@ impl MemoryWorld {
         ensures quiet { AreQuiet self.old.plans → AreQuiet self.new.plans }
         ensures quiet_paths { IfOk result (λ opener. AreQuiet self.old.plans → IsPathsQuiet opener.paths.plan) }
     {
-        if self.plans.paths_opens.next() {
-            self.paths_faults = self.paths_faults.saturating_add(1);
+        if fails_to_open(&mut self.plans.paths_opens, &mut self.paths_faults) {
             return Err(OpenRefusal::Failed);
         }
         let cell = paths_cell(alloc)?;
-        if self.opened_paths.push(spec.copy()?).is_err() {
-            return Err(OpenRefusal::NoMemory);
-        }
+        add_asked(&mut self.opened_paths, spec)?;
         let plan = take_paths(alloc, &mut self.plans.paths);
         Ok(MemoryOpener {
             paths: MemoryPaths::new(alloc, plan),
@@ -432,5 +426,29 @@ fn add_opened(opened: &mut Vec<OpenedInlet>, inlet: OpenedInlet) -> Result<(), N
     ensures err { OnErr result (opened.new.items ≡ opened.old.items) }
 {
     opened.push(inlet)?;
+    Ok(())
+}
+
+// Counts an opening, and its fault where it fails.
+fn fails_to_open(plan: &mut Plan, faults: &mut u64) -> bool
+    ensures fails { result ≡ fails_now plan.old }
+    ensures plan { plan.new ≡ after_call plan.old }
+    ensures kept { result ≡ false → faults.new ≡ faults.old }
+    ensures later { faults.old ≤ faults.new }
+    ensures rose { OnTrue result (Rose faults.old faults.new) }
+{
+    let fails = plan.next();
+    if fails {
+        *faults = faults.saturating_add(1);
+    }
+    fails
+}
+
+// One opening more that was asked for.
+fn add_asked(opened: &mut Vec<OutletSpec>, spec: &OutletSpec) -> Result<(), NoMemory>
+    ensures ok { OnOk result (opened.new.items ≡ opened.old.items ++ spec.now ∷ []) }
+    ensures err { OnErr result (opened.new.items ≡ opened.old.items) }
+{
+    opened.push(spec.copy()?)?;
     Ok(())
 }
