@@ -102,25 +102,36 @@ fn pull(feed: &mut HostFeed, text: &mut String) -> Result<(), Fail> {
     Ok(())
 }
 
+// A connection that sends these bytes.
+fn connected(folder: &Folder, port: u16, bytes: &[u8]) -> Result<TcpStream, Fail> {
+    let mut stream = TcpStream::connect(&folder.rt, ("127.0.0.1", port))?;
+    stream.write_all(bytes)?;
+    Ok(stream)
+}
+
+// One pull of each slot.
+fn pull_all(feeds: &mut Vec<(HostFeed, u64)>, text: &mut String) -> Result<(), Fail> {
+    for (feed, _place) in feeds {
+        pull(feed, text)?;
+    }
+    Ok(())
+}
+
 // Two slots serve two connections, and a third one waits until one of them has ended.
 fn slot_limit(folder: &Folder) -> Result<String, Fail> {
     let port = free_port(folder)?;
     let mut inlets = HostInlets::new(folder.alloc, folder.rt, folder.rest()?);
     let mut feeds = two_slots(folder, &mut inlets, port)?;
-    let mut streams = Vec::new(folder.alloc);
-    for bytes in [b"1", b"2", b"3"] {
-        let mut stream = TcpStream::connect(&folder.rt, ("127.0.0.1", port))?;
-        stream.write_all(bytes)?;
-        streams.push(Some(stream))?;
-    }
+    let first = connected(folder, port, b"1")?;
+    let _second = connected(folder, port, b"2")?;
+    let _third = connected(folder, port, b"3")?;
     let mut text = String::new(folder.alloc);
-    for round in 0..5 {
-        if round == 3 {
-            streams[0] = None;
-        }
-        for (feed, _place) in &mut feeds {
-            pull(feed, &mut text)?;
-        }
+    for _ in 0..3 {
+        pull_all(&mut feeds, &mut text)?;
+    }
+    drop(first);
+    for _ in 0..2 {
+        pull_all(&mut feeds, &mut text)?;
     }
     for (feed, _place) in feeds {
         inlets.close(feed);
