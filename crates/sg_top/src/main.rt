@@ -19,10 +19,9 @@ use sg_device::Name;
 use sg_world::HostMachine;
 pub use status::{Device, Status};
 use std::alloc::{AllocError, Global};
-use std::env;
-use std::fs;
 use std::io::ErrorKind;
 use std::process::ExitCode;
+use std::{env, fs};
 pub use top::daemon;
 
 /// The words of the command line, without the program's name.

@@ -37,13 +37,9 @@ fn push_byte(shown: &mut Vec<u8>, alloc: Global, byte: u8) -> Result<(), NoMemor
 
 /// A token behind a space.
 fn push_token(shown: &mut Vec<u8>, alloc: Global, token: &Token) -> Result<(), NoMemory> {
-    let place = format!(
-        in alloc;
+    let place = format!(in alloc;
         " {:?}@{}:{}:{}=",
-        token.kind,
-        token.file,
-        token.line,
-        token.column
+        token.kind, token.file, token.line, token.column
     )?;
     shown.extend_from_slice(place.as_bytes())?;
     for byte in token.text.bytes() {
