@@ -4,15 +4,14 @@
     bench/expansion.py [PROGRAM]     by default the program that syslogr builds
 
 It makes one text for each family, runs `PROGRAM run FILE --once` on it, which expands it and refuses it, and
-prints the text's bytes, the seconds, the processor's seconds, the most memory held beyond that of a run
-over a text of one line, and what the program said. It ends with status 1 where a family takes more than two
-seconds of the processor.
+prints the text's bytes, the seconds, the processor's seconds and the most memory held, as /usr/bin/time (GNU)
+tells them, the memory beyond that of the first run, and what the program said. It ends with status 1 where a
+family takes more than two seconds of the processor.
 """
 import os
 import subprocess
 import sys
 import tempfile
-import time
 
 TOP = os.path.dirname(os.path.dirname(os.path.abspath(__file__)))
 PROGRAM = os.path.join(TOP, "crates", "sg_top", "out", "sg_top")
@@ -21,6 +20,13 @@ SECONDS = 2.0
 
 def variable(count):
     return '@define V "%s"\n' % ("v" * count)
+
+
+def doubled(count):
+    """A variable for each line, of twice the bytes of the one before, the last named V."""
+    names = ["a%d" % k for k in range(count)] + ["V"]
+    lines = ['@define a0 "0123456789"'] + ['@define %s "`%s``%s`"' % (name, before, before) for before, name in zip(names, names[1:])]
+    return "\n".join(lines) + "\n"
 
 
 def nested(count, depth):
@@ -48,43 +54,43 @@ FAMILIES = [
     ("uses in their own defaults", "block root a(k({a()})) {`k`};\na()"),
     ("the same, over 320 KB", variable(320_000) + "block root a(k({a()} `V`)) {`k`};\na()"),
     ("the same, 320 KB first", variable(320_000) + "block root a(k(`V` {a()})) {`k`};\na()"),
+    ("the same, doubled to 320 KB", doubled(15) + "block root a(k({a()} `V`)) {`k`};\na()"),
     ("open uses, 1,000 parameters", open_uses(1_000, 2_000)),
     ("open uses, 10 parameters", open_uses(10, 60_000)),
     ("10,000 defaults of nothing", "block root a(%s) {};\n" % " ".join("k%d(@module x)" % k for k in range(10_000)) + "{a();}" * 100),
     ("defaults of directives alone", "block root a(k(%s)) {};\n" % ("@module x " * 5_000) + "{a();}" * 1_000),
     ("pairs of uses, 40 deep", pairs(40)),
     ("60,000 variables", "".join("@define a%05d 1\n" % k for k in range(60_000))),
+    ("48,000 blocks", "".join("block root b%05d(){};" % k for k in range(48_000))),
     ("500,000 braces", "{" * 500_000),
     ("one variable in a string", variable(1_000) + '"' + "`V`" * 300_000 + '"'),
     ("one argument, 100,000 times", "block root a(k()) {`k`};\na(%s)" % ("k() " * 100_000)),
 ]
 
 
-def run(program, path):
+def run(program, folder):
     """The seconds, the processor's seconds, the peak in KiB, and what was said."""
-    start = time.monotonic()
-    child = subprocess.Popen([program, "run", os.path.basename(path), "--once"], cwd=os.path.dirname(path), stdout=subprocess.PIPE)
-    said = child.stdout.read()
-    _, status, usage = os.wait4(child.pid, 0)
-    child.returncode = os.waitstatus_to_exitcode(status)
-    elapsed = time.monotonic() - start
-    return elapsed, usage.ru_utime + usage.ru_stime, usage.ru_maxrss, said.decode(errors="replace").strip()
+    figures = os.path.join(folder, "figures")
+    words = ["/usr/bin/time", "-o", figures, "-f", "%e %U %S %M", program, "run", "c", "--once"]
+    said = subprocess.run(words, cwd=folder, stdout=subprocess.PIPE).stdout.decode(errors="replace").strip()
+    with open(figures) as lines:
+        elapsed, user, system, peak = lines.read().splitlines()[-1].split()
+    return float(elapsed), float(user) + float(system), int(peak), said
 
 
 def main():
     program = os.path.abspath(sys.argv[1]) if len(sys.argv) > 1 else PROGRAM
     late = False
-    print("%-30s %9s %8s %8s %9s  %s" % ("family", "bytes", "seconds", "cpu", "KiB", "said"))
+    print("%-30s %9s %8s %8s %9s %9s  %s" % ("family", "bytes", "seconds", "cpu", "KiB", "more", "said"))
     with tempfile.TemporaryDirectory() as folder:
         base = None
         for name, text in FAMILIES:
-            path = os.path.join(folder, "c")
-            with open(path, "w") as out:
+            with open(os.path.join(folder, "c"), "w") as out:
                 size = out.write("@version: 4.2\n" + text)
-            elapsed, processor, peak, said = run(program, path)
+            elapsed, processor, peak, said = run(program, folder)
             base = peak if base is None else base
             late = late or processor > SECONDS
-            print("%-30s %9d %8.2f %8.2f %9d  %s" % (name, size, elapsed, processor, peak - base, said))
+            print("%-30s %9d %8.2f %8.2f %9d %9d  %s" % (name, size, elapsed, processor, peak, peak - base, said))
     return 1 if late else 0
 
 
