@@ -61,7 +61,7 @@ FAMILIES = [
     ("defaults of directives alone", "block root a(k(%s)) {};\n" % ("@module x " * 5_000) + "{a();}" * 1_000),
     ("pairs of uses, 40 deep", pairs(40)),
     ("60,000 variables", "".join("@define a%05d 1\n" % k for k in range(60_000))),
-    ("48,000 blocks", "".join("block root b%05d(){};" % k for k in range(48_000))),
+    ("45,000 blocks", "".join("block root b%05d(){};" % k for k in range(45_000))),
     ("500,000 braces", "{" * 500_000),
     ("one variable in a string", variable(1_000) + '"' + "`V`" * 300_000 + '"'),
     ("one argument, 100,000 times", "block root a(k()) {`k`};\na(%s)" % ("k() " * 100_000)),
