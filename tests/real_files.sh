@@ -119,7 +119,8 @@ told='source .: cannot open: not a regular file\n'
 expect 'a source that is a folder' 4 'cannot open inlet 0\n' - run c3 --once
 expect 'no words' 1 "$usage" -
 expect 'other words' 1 "$usage" - run c
-expect 'a word that is not UTF-8' 1 "$usage" - run "$(printf 'c\377')" --once
+told='file c\377: cannot open: the name is not UTF-8\n'
+expect 'a word that is not UTF-8' 3 'cannot read c\377\n' - run "$(printf 'c\377')" --once
 if [ -w /dev/full ]; then
     config in /dev/full >c4
     printf 'one\n' >in

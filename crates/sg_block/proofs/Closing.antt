@@ -7,9 +7,10 @@ use Rattle.std.proofs.lemmas.Bool.{cases_eq}
 use Rattle.sg_list.specs.Lists.{passes_at}
 use Rattle.sg_list.proofs.ListLemmas.{drop-get, slice_get-none, slice_get-below, passes_at-some}
 use Rattle.sg_lex.specs.declared.token.Token.{Token}
+use Rattle.sg_lex.specs.declared.token.TokenKind.TheVariants.{Sym}
 use Rattle.sg_block.specs.declared.token.Bracket.{Bracket}
 use Rattle.sg_block.specs.declared.token.Bracket.TheVariants.{Opens, Closes, Neither}
-use Rattle.sg_block.specs.Tokens.{is_symbol, is_symbol_kind, is_byte}
+use Rattle.sg_block.specs.Tokens.{is_symbol, is_of_kind, is_byte}
 use Rattle.sg_block.proofs.Lists.{take-take}
 use Rattle.sg_block.specs.Brackets.{Parted, bracket, open_behind, inner_behind, parted_behind, inside, closed_at, EndsAt, EndsBehind, HasEndsFrom}
 
@@ -144,7 +145,7 @@ opens-by k false false false true h = inr (let e : k ≡ 125 = cc in e)
 opens-by k false false false false h = let wrong : Neither ≡ Opens k = h in cc
 
 closed-by : (t : Token) (k : ℕ) → ((k ≡ 41) × (is_symbol 41 t ≡ true)) ⊎ ((k ≡ 125) × (is_symbol 41 t ≡ false) × (is_symbol 125 t ≡ true)) → (is_symbol 41 t ≡ eqb k 41) × (is_symbol 125 t ≡ eqb k 125)
-closed-by t k (inl h) = (h.1 ∙ sym (ap (λ n. eqb n 41) h.0), not_both (is_symbol_kind t.kind) t.text h.1 ∙ sym (ap (λ n. eqb n 125) h.0))
+closed-by t k (inl h) = (h.1 ∙ sym (ap (λ n. eqb n 41) h.0), not_both (is_of_kind Sym t) t.text h.1 ∙ sym (ap (λ n. eqb n 125) h.0))
 closed-by t k (inr h) = (h.1 ∙ sym (ap (λ n. eqb n 41) h.0), h.2 ∙ sym (ap (λ n. eqb n 125) h.0))
 
 pub ends-neither : (xs : List Token) (place : ℕ) (t : Token) (end : ℕ) → slice_get xs place ≡ Some t → bracket t ≡ Neither → EndsAt xs end (place + 1) → EndsAt xs end place

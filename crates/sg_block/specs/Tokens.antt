@@ -1,5 +1,5 @@
 -- What a token is, for the forms that are looked for.
-use Rattle.std.specs.Prelude.{ℕ, ◌+◌, Bool, true, false, ◌==◌, ◌&&◌, ◌||◌, List, [], ◌∷◌, length, codes, slice_get}
+use Rattle.std.specs.Prelude.{ℕ, ◌+◌, Bool, false, ◌==◌, ◌&&◌, ◌||◌, List, [], ◌∷◌, length, codes, slice_get}
 use Rattle.std.specs.Option.{option_map_or}
 use Rattle.std.specs.Str.{bytes_eq}
 use Rattle.sg_lex.specs.declared.token.Token.{Token}
@@ -7,57 +7,29 @@ use Rattle.sg_lex.specs.declared.token.TokenKind.{TokenKind}
 use Rattle.sg_lex.specs.declared.token.TokenKind.TheVariants.{Word, Str, Sym, Op, At, Tick}
 use Rattle.sg_block.specs.declared.token.Line.{Line}
 
-abbrev pub is_word_kind : TokenKind → Bool
-is_word_kind Word = true
-is_word_kind Str = false
-is_word_kind Sym = false
-is_word_kind Op = false
-is_word_kind At = false
-is_word_kind Tick = false
+-- kinds are told apart by numbers
+abbrev pub kind_number : TokenKind → ℕ
+kind_number Word = 0
+kind_number Str = 1
+kind_number Sym = 2
+kind_number Op = 3
+kind_number At = 4
+kind_number Tick = 5
 
-abbrev pub is_string_kind : TokenKind → Bool
-is_string_kind Word = false
-is_string_kind Str = true
-is_string_kind Sym = false
-is_string_kind Op = false
-is_string_kind At = false
-is_string_kind Tick = false
-
-abbrev pub is_symbol_kind : TokenKind → Bool
-is_symbol_kind Word = false
-is_symbol_kind Str = false
-is_symbol_kind Sym = true
-is_symbol_kind Op = false
-is_symbol_kind At = false
-is_symbol_kind Tick = false
-
-abbrev pub is_at_kind : TokenKind → Bool
-is_at_kind Word = false
-is_at_kind Str = false
-is_at_kind Sym = false
-is_at_kind Op = false
-is_at_kind At = true
-is_at_kind Tick = false
-
-abbrev pub is_tick_kind : TokenKind → Bool
-is_tick_kind Word = false
-is_tick_kind Str = false
-is_tick_kind Sym = false
-is_tick_kind Op = false
-is_tick_kind At = false
-is_tick_kind Tick = true
+abbrev pub is_of_kind : TokenKind → Token → Bool
+is_of_kind kind token = kind_number token.kind == kind_number kind
 
 abbrev pub is_word : Token → Bool
-is_word token = is_word_kind token.kind
+is_word token = is_of_kind Word token
 
 abbrev pub is_string : Token → Bool
-is_string token = is_string_kind token.kind
+is_string token = is_of_kind Str token
 
 abbrev pub is_at : Token → Bool
-is_at token = is_at_kind token.kind
+is_at token = is_of_kind At token
 
 abbrev pub is_tick : Token → Bool
-is_tick token = is_tick_kind token.kind
+is_tick token = is_of_kind Tick token
 
 -- a Word or a Str
 abbrev pub is_name : Token → Bool
@@ -70,7 +42,7 @@ is_byte c (b ∷ d ∷ bytes) = false
 
 -- the symbol of one byte
 abbrev pub is_symbol : ℕ → Token → Bool
-is_symbol c token = is_symbol_kind token.kind && is_byte c token.text
+is_symbol c token = is_of_kind Sym token && is_byte c token.text
 
 -- a use may stand behind `{`, `}` and `;`
 abbrev pub is_front : Token → Bool

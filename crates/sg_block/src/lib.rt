@@ -4,6 +4,7 @@
 mod argument;
 mod form;
 mod part;
+mod shared;
 mod source;
 mod table;
 mod token;
@@ -12,6 +13,7 @@ mod values;
 pub use argument::{Argument, Arguments};
 pub use form::{Definition, read_definition, use_form};
 pub use part::Part;
-pub use table::{Shared, Table};
+pub use shared::Shared;
+pub use table::Table;
 pub use token::{Line, copy_token, is_at, is_front, is_tick, line_of, token_size};
 pub use values::{Replaced, Values, find, replace};

@@ -1,12 +1,11 @@
 // Values by name.
-ghost use Rattle.std.specs.Prelude.{◌≡◌, IfOk, OnOk, option_copied};
+ghost use Rattle.std.specs.Prelude.{◌≡◌, OnOk, option_copied};
 ghost use Rattle.std.specs.FinMap as map;
 
 use sg_device::NoMemory;
 use std::alloc::Global;
 use std::collections::BTreeMap;
 use std::marker::Model;
-use std::sync::Arc;
 
 /// Values by name, which are found in time in proportion to the logarithm of their number.
 #[derive(Drop)]
@@ -57,55 +56,5 @@ impl<V> Table<V> {
     {
         self.entries.insert(name, value)?;
         Ok(())
-    }
-}
-
-/// A table that several owners share.
-#[derive(Drop)]
-pub struct Shared<V> {
-    table: Arc<Table<V>>,
-}
-
-impl<V> Model for Shared<V> {
-    ghost use Rattle.std.specs.Ordering.{nat_cmp};
-    ghost use Rattle.std.specs.Cmp.Lexicographic.{slice_cmp};
-    ghost use Rattle.std.specs.FinMap as map;
-    ghost use Rattle.std.specs.Coded.{coded_ℕ, coded_list};
-    ghost use Rattle.std.specs.Arc.{arc_value};
-
-    ghost Value = { map.FinMap (slice_cmp nat_cmp) V };
-
-    ghost coded = { map.code (coded_list coded_ℕ) V.code };
-
-    ghost view = { λ s. arc_value s.table };
-}
-
-impl<V: Drop> Shared<V> {
-    pub fn new(alloc: Global, table: Table<V>) -> Result<Shared<V>, NoMemory>
-        ensures { IfOk result (λ shared. shared ≡ table) }
-    {
-        Ok(Shared {
-            table: Arc::new(alloc, table)?,
-        })
-    }
-
-    pub fn empty(alloc: Global) -> Result<Shared<V>, NoMemory>
-        ensures { IfOk result (λ shared. shared ≡ map.empty) }
-    {
-        Shared::new(alloc, Table::new(alloc))
-    }
-
-    pub fn share(&self) -> Result<Shared<V>, NoMemory>
-        ensures { IfOk result (λ shared. shared ≡ self.now) }
-    {
-        Ok(Shared {
-            table: Arc::try_clone(&self.table)?,
-        })
-    }
-
-    pub fn values(&self) -> &Table<V>
-        ensures { result.now ≡ self.now }
-    {
-        &self.table
     }
 }

@@ -19,7 +19,7 @@ use Rattle.sg_block.specs.declared.token.Line.{Line}
 use Rattle.sg_expand.specs.declared.block.Block.{Block}
 use Rattle.sg_expand.specs.declared.frame.Context.{Context}
 use Rattle.sg_expand.specs.Bounded.{HoldsWithin, StaysWithin}
-use Rattle.sg_expand.specs.Expansion.{State, Outcome, Goes, Stops, Step, Ends, Moves, Faults, Includes, Uses, Job, Tokens, Runs, charged, emitted_by, plain_text, variable_tokens, plain, text_of, retold, is_in_reach, use_size, used, use_of, word_or_use, definition_or_word, is_version, begins_version, begins_define, begins_include, begins_ignored, version_read, with_variable, define_read, has_wildcard, named_file, included, include_read, front, step, with_out, with_file, file_tokens, lexed, first_context, first_state}
+use Rattle.sg_expand.specs.Expansion.{State, Outcome, Goes, Stops, Step, Ends, Moves, Faults, Includes, Uses, Job, Tokens, Runs, charged, emitted_by, plain_text, variable_tokens, plain, text_of, retold, is_in_reach, use_size, used, use_of, word_or_use, definition_or_word, is_version, begins_version, begins_define, begins_include, begins_ignored, version_read, with_variable, define_read, names_no_file, named_file, included, include_read, front, step, with_out, with_file, file_tokens, lexed, first_context, first_state}
 use Rattle.sg_expand.specs.Expansion.Runs.{ends, moves, faults, includes, included_stops, file_faults, file_too_long, file_unread, uses, use_stops, binds, value_stops, body_runs}
 use Rattle.sg_expand.specs.Faults.{fault_at}
 use Rattle.sg_expand.specs.Total.{counted}
@@ -124,7 +124,7 @@ define-keeps fresh tokens s (Some text) =
 named-keeps : (tokens : List Token) (name : List ℕ) (s next : State) → Keeps s next → StepKeeps s (named_file tokens name next)
 named-keeps tokens name s next h =
     keeps-if s (nat_le 65536 (length next.names)) (Faults TooLong (line_at tokens 0)) _ tt
-    (keeps-if s (has_wildcard name) (Faults Unsupported (line_at tokens 0)) (Includes (line_at tokens 0) name (drop 2 tokens) next) tt h)
+    (keeps-if s (names_no_file name) (Faults Unsupported (line_at tokens 0)) (Includes (line_at tokens 0) name (drop 2 tokens) next) tt h)
 
 included-keeps : (tokens : List Token) (s : State) (name : Option (List ℕ)) → StepKeeps s (included tokens s name)
 included-keeps tokens s None = tt

@@ -1,5 +1,7 @@
 pub mod Lexing
 pub mod Putting
+pub mod Emitting
+pub mod Naming
 pub mod Leading
 pub mod Turning
 pub mod Using

@@ -11,7 +11,7 @@ use Rattle.sg_block.specs.declared.form.Definition.{Definition}
 use Rattle.sg_expand.specs.declared.frame.Context.{Context}
 use Rattle.sg_block.specs.declared.token.Line.{Line}
 use Rattle.sg_block.specs.Arguments.{is_missing, is_unknown}
-use Rattle.sg_expand.specs.Expansion.{State, Step, Ends, Moves, Faults, Includes, Uses, charged, emitted_by, emitted, text_of, plain_text, variable_tokens, plain, is_in_reach, use_size, used, use_of, word_or_use, definition_or_word, is_version, begins_version, begins_define, begins_include, begins_ignored, version_read, retold, with_variable, define_read, has_wildcard, named_file, included, include_read, front, step}
+use Rattle.sg_expand.specs.Expansion.{State, Step, Ends, Moves, Faults, Includes, Uses, charged, emitted_by, emitted, text_of, plain_text, variable_tokens, plain, is_in_reach, use_size, used, use_of, word_or_use, definition_or_word, is_version, begins_version, begins_define, begins_include, begins_ignored, version_read, retold, with_variable, define_read, names_no_file, named_file, included, include_read, front, step}
 use Rattle.sg_block.specs.Forms.{Use, definition, use_form}
 use Rattle.sg_expand.specs.Total.{counted}
 use Rattle.sg_block.specs.Tokens.{is_word, is_tick, is_front, text_at, line_at}
@@ -111,8 +111,8 @@ module _ (n : ℕ) (some : 0 < n) where
       let line : Line = line_at tokens 0 in
       let stands : (line_at tokens 0).file < n = line-of n some tokens 0 t in
       let asks : Step = Includes line name (drop 2 tokens) state in
-      choice-of (nat_le 65536 (length state.names)) (Faults TooLong line) (cond (has_wildcard name) (Faults Unsupported line) asks) stands
-      (choice-of (has_wildcard name) (Faults Unsupported line) asks stands (stands, (each-drop (IsOf n) 2 tokens t, s)))
+      choice-of (nat_le 65536 (length state.names)) (Faults TooLong line) (cond (names_no_file name) (Faults Unsupported line) asks) stands
+      (choice-of (names_no_file name) (Faults Unsupported line) asks stands (stands, (each-drop (IsOf n) 2 tokens t, s)))
 
   included-of : (tokens : List Token) (state : State) (name : Option (List ℕ)) → AreOf n tokens → StateOf n state → StepOf n (included tokens state name)
   included-of tokens state None t s = line-of n some tokens 1 t

@@ -1,10 +1,10 @@
 -- What a configuration is expanded to: a relation by cases, from left to right, over the state of variables, blocks, files and the running
 -- total. Variables, `@define`, `@include` and blocks are those of syslog-ng's administration guide.
-use Rattle.std.specs.Prelude.{◌≡◌, ℕ, ◌+◌, ◌-◌, ◌^◌, min, Bool, true, false, ◌==◌, ◌&&◌, ◌||◌, nat_le, nat_lt, if◌then◌else◌, List, [], ◌∷◌, ◌++◌, length, Option, Some, None, Result, Ok, Err, Vec, codes, drop, slice_get, slice_index}
+use Rattle.std.specs.Prelude.{◌≡◌, ℕ, ◌+◌, ◌-◌, ◌^◌, min, Bool, true, false, ◌==◌, ◌&&◌, ◌||◌, not, nat_le, nat_lt, if◌then◌else◌, List, [], ◌∷◌, ◌++◌, length, Option, Some, None, Result, Ok, Err, Vec, codes, drop, slice_get, slice_index}
 use Rattle.std.specs.List.{list_any, list_all}
 use Rattle.std.specs.Option.{option_map_or}
 use Rattle.std.specs.Char.{is_ascii_digit}
-use Rattle.std.specs.Str.{bytes_eq}
+use Rattle.std.specs.Str.{bytes_eq, is_utf8}
 use Rattle.std.specs.Ordering.{nat_cmp}
 use Rattle.std.specs.Cmp.Lexicographic.{slice_cmp}
 use Rattle.std.specs.FinMap as map
@@ -192,10 +192,14 @@ define_read fresh tokens state (Some text) =
 abbrev pub has_wildcard : List ℕ → Bool
 has_wildcard name = list_any (λ b. (b == 42) || (b == 63)) name
 
+-- no file is asked for by a name with a wildcard, or by one that isn't UTF-8
+abbrev pub names_no_file : List ℕ → Bool
+names_no_file name = has_wildcard name || not (is_utf8 name)
+
 abbrev pub named_file : List Token → List ℕ → State → Step
 named_file tokens name state =
     if nat_le 65536 (length state.names) then Faults TooLong (line_at tokens 0)
-    else (if has_wildcard name then Faults Unsupported (line_at tokens 0)
+    else (if names_no_file name then Faults Unsupported (line_at tokens 0)
     else Includes (line_at tokens 0) name (drop 2 tokens) state)
 
 abbrev pub included : List Token → State → Option (List ℕ) → Step

@@ -22,7 +22,7 @@ use Rattle.sg_expand.specs.declared.frame.Frame.{Frame}
 use Rattle.sg_expand.specs.declared.frame.Frame.TheVariants.{Expands, Binds}
 use Rattle.sg_expand.specs.declared.frame.Wait.{Wait}
 use Rattle.sg_expand.specs.declared.uses.Asked.{Asked}
-use Rattle.sg_expand.specs.Expansion.{State, Step, Ends, Moves, Faults, Includes, Uses, body_context, file_context, file_tokens, with_file, has_wildcard, charged, use_size, plain, word_or_use}
+use Rattle.sg_expand.specs.Expansion.{State, Step, Ends, Moves, Faults, Includes, Uses, body_context, file_context, file_tokens, with_file, names_no_file, charged, use_size, plain, word_or_use}
 use Rattle.sg_expand.specs.Faults.{fault_at}
 use Rattle.sg_expand.specs.Total.{Emits, IsSize}
 
@@ -173,10 +173,10 @@ NamesFile step line rest old new (Err NoMemory) = Unit {0}
 
 -- whether a file of this name may be read, as the next one
 abbrev pub ChecksName : List (List ℕ) → List ℕ → Line → Result Unit Stop → Type 0
-ChecksName names name line (Ok done) = (length names < 65536) × (has_wildcard name ≡ false)
+ChecksName names name line (Ok done) = (length names < 65536) × (names_no_file name ≡ false)
 ChecksName names name line (Err (Fault fault)) =
     ((65536 ≤ length names) × (fault ≡ fault_at TooLong line))
-    ⊎ ((length names < 65536) × (has_wildcard name ≡ true) × (fault ≡ fault_at Unsupported line))
+    ⊎ ((length names < 65536) × (names_no_file name ≡ true) × (fault ≡ fault_at Unsupported line))
 ChecksName names name line (Err (ReadFault other)) = ⊥
 ChecksName names name line (Err NoMemory) = ⊥
 

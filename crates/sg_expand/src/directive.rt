@@ -1,6 +1,6 @@
 // The forms of directives.
 ghost use Rattle.std.specs.Prelude.{◌≡◌, ◌<◌, IsTrue, length, codes};
-ghost use Rattle.sg_expand.specs.Expansion.{is_directive, begins_version, begins_define, begins_include, begins_ignored, is_version, has_wildcard};
+ghost use Rattle.sg_expand.specs.Expansion.{is_directive, begins_version, begins_define, begins_include, begins_ignored, is_version, has_wildcard, names_no_file};
 ghost use Rattle.std.specs.List.{list_all};
 ghost use Rattle.std.specs.Char.{is_ascii_digit};
 
@@ -70,8 +70,21 @@ pub fn is_version(word: &[u8]) -> bool
 }
 
 /// Whether a file's name holds `*` or `?`.
-pub fn has_wildcard(name: &[u8]) -> bool
+fn has_wildcard(name: &[u8]) -> bool
     ensures { result ≡ has_wildcard name.now }
 {
     name.iter().any(|b| *b == b'*' || *b == b'?')
+}
+
+/// Whether no file is asked for by this name: one with a wildcard, or one that isn't UTF-8.
+pub fn names_no_file(name: &[u8]) -> bool
+    ensures { result ≡ names_no_file name.now }
+{
+    if has_wildcard(name) {
+        return true;
+    }
+    match str::from_utf8(name) {
+        Ok(_) => false,
+        Err(_) => true,
+    }
 }

@@ -12,7 +12,7 @@ use crate::block::Block;
 use crate::directive::{begins_version, is_version};
 use crate::fault::{ExpandRefusal, Expanded, Stop, fault_at};
 use crate::files::Files;
-use crate::frame::{Context, Frame, Rest, Scope, push_frame};
+use crate::frame::{Context, Frame, Rest, empty_scope, push_frame};
 use crate::total::Total;
 use sg_block::{Line, Part, Table, Values};
 use sg_device::{Name, NoMemory};
@@ -154,7 +154,7 @@ impl Expander {
         let tokens = main_tokens(self.alloc, text)?;
         let context = Context {
             depth: 0,
-            scope: Scope::empty(self.alloc)?,
+            scope: empty_scope(self.alloc)?,
             limit: None,
         };
         let rest = Rest {

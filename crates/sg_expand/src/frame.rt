@@ -1,13 +1,22 @@
 // What is still to be done.
 ghost use Rattle.std.specs.Prelude.{◌≡◌, [], ◌∷◌, ◌++◌, IfOk, OnOk};
+ghost use Rattle.std.specs.FinMap as map;
 
 use sg_block::{Arguments, Part, Shared, Values};
 use sg_device::{Name, NoMemory};
 use sg_lex::Token;
 use sg_list::Seq;
+use std::alloc::Global;
 
 /// The arguments in reach, which the tokens of a body share.
-pub type Scope = Shared<Seq<Token>>;
+pub type Scope = Shared<Values>;
+
+/// No arguments.
+pub fn empty_scope(alloc: Global) -> Result<Scope, NoMemory>
+    ensures { IfOk result (λ scope. scope ≡ map.empty) }
+{
+    Scope::new(alloc, Values::new(alloc))
+}
 
 /// Where tokens stand.
 #[derive(Drop)]

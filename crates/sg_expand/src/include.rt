@@ -5,11 +5,11 @@ ghost use Rattle.sg_block.specs.Tokens.{line_at};
 ghost use Rattle.sg_expand.specs.Expansion.{include_read, named_file};
 ghost use Rattle.sg_expand.specs.Machine.{DoesStep, TakesFile, NamesFile, ChecksName, state_of};
 
-use crate::directive::has_wildcard;
+use crate::directive::names_no_file;
 use crate::expander::{Expander, lex};
 use crate::fault::{Stop, fault_at};
 use crate::files::Files;
-use crate::frame::{Context, Rest, Scope};
+use crate::frame::{Context, Rest, empty_scope};
 use sg_block::{Line, Replaced, replace};
 use sg_device::{FileRefusal, Name};
 use sg_lex::ConfigKind;
@@ -32,7 +32,7 @@ impl Expander {
         if rest.context.depth >= DEPTH_LIMIT {
             return Err(Stop::Fault(fault_at(ConfigKind::IncludeDepth, line)));
         }
-        let scope = rest.context.scope.values();
+        let scope = rest.context.scope.value();
         match replace(
             self.alloc,
             scope,
@@ -60,7 +60,7 @@ impl Expander {
         if self.names.len() >= FILE_LIMIT {
             return Err(Stop::Fault(fault_at(ConfigKind::TooLong, line)));
         }
-        if has_wildcard(name.bytes()) {
+        if names_no_file(name.bytes()) {
             return Err(Stop::Fault(fault_at(ConfigKind::Unsupported, line)));
         }
         Ok(())
@@ -101,7 +101,7 @@ impl Expander {
         let found = lex(self.alloc, number, text)?;
         let context = Context {
             depth: rest.context.depth + 1,
-            scope: Scope::empty(self.alloc)?,
+            scope: empty_scope(self.alloc)?,
             limit: None,
         };
         self.go_on(rest.context, rest.fresh, rest.tokens.behind(2))?;

@@ -128,7 +128,7 @@ impl Expander {
         if tokens.is_string_at(place) {
             return replace(
                 self.alloc,
-                context.scope.values(),
+                context.scope.value(),
                 &self.variables,
                 text,
                 room,
@@ -208,7 +208,7 @@ impl Expander {
             (line_at rest.now.tokens 0) self.old self.new result }
     {
         match find(
-            rest.context.scope.values(),
+            rest.context.scope.value(),
             &self.variables,
             rest.tokens.text(0),
         ) {

@@ -19,22 +19,39 @@ use sg_device::Name;
 use sg_world::HostMachine;
 pub use status::{Device, Status};
 use std::alloc::{AllocError, Global};
-use std::env;
 use std::io::ErrorKind;
 use std::process::ExitCode;
+use std::{env, fs};
 pub use top::daemon;
 
-/// The words of the command line, without the program's name. Where one of them isn't UTF-8 there
-/// are none.
+/// The words of the command line, without the program's name.
 fn read_words(alloc: Global, rt: &HostRuntime) -> Result<Vec<Name>, AllocError> {
-    let mut words = Vec::new(alloc);
     let args = match env::args(rt) {
         Ok(args) => args,
         Err(error) if error.kind() == ErrorKind::OutOfMemory => return Err(AllocError),
-        Err(_) => return Ok(words),
+        Err(_) => return read_bytes(alloc, rt),
     };
+    let mut words = Vec::new(alloc);
     for word in args.skip(1) {
         words.push(Name::from_vec(word.into_bytes()))?;
+    }
+    Ok(words)
+}
+
+/// The same words where one of them isn't UTF-8, which the standard library gives none of: Linux tells
+/// them with NUL behind each. None where it doesn't.
+fn read_bytes(alloc: Global, rt: &HostRuntime) -> Result<Vec<Name>, AllocError> {
+    let mut words = Vec::new(alloc);
+    let bytes = match fs::read(rt, "/proc/self/cmdline") {
+        Ok(bytes) => bytes,
+        Err(error) if error.kind() == ErrorKind::OutOfMemory => return Err(AllocError),
+        Err(_) => return Ok(words),
+    };
+    let Some(told) = bytes.strip_suffix(b"\0") else {
+        return Ok(words);
+    };
+    for word in told.split(|byte| *byte == 0).skip(1) {
+        words.push(Name::new(alloc, word)?)?;
     }
     Ok(words)
 }

@@ -43,18 +43,15 @@ impl Machine for Texts {
 
 impl Files for Texts {
     fn read(&mut self, alloc: Global, name: &[u8]) -> Result<Vec<u8>, FileRefusal> {
-        if name == b"broken".as_slice() {
-            self.unread = Some(Name::new(alloc, name)?);
-            self.faults = self.faults.saturating_add(1);
-            return Err(FileRefusal::Failed);
-        }
         if name == b"long".as_slice() {
             return Err(FileRefusal::TooLong);
         }
-        if name == b"e".as_slice() || name == b"h14".as_slice() {
-            return Ok(Vec::new(alloc));
-        }
-        let text = file_of(alloc, row_of(name))?;
+        let Some(row) = row_of(name) else {
+            self.unread = Some(Name::new(alloc, name)?);
+            self.faults = self.faults.saturating_add(1);
+            return Err(FileRefusal::Failed);
+        };
+        let text = file_of(alloc, row)?;
         if text.len() > 1_048_576 {
             return Err(FileRefusal::TooLong);
         }
@@ -62,16 +59,19 @@ impl Files for Texts {
     }
 }
 
-/// What stands behind a file's name.
-fn row_of(name: &[u8]) -> &'static str {
+/// What stands behind a file's name, where there is such a file.
+fn row_of(name: &[u8]) -> Option<&'static str> {
+    if name == b"e".as_slice() || name == b"ab".as_slice() || name == b"h14".as_slice() {
+        return Some("");
+    }
     for row in FILES.lines() {
         if let Some((known, text)) = row.split_once(" => ") {
             if known.as_bytes() == name {
-                return text;
+                return Some(text);
             }
         }
     }
-    ""
+    None
 }
 
 /// A file's text, or where a name stands behind `*`, a hundred lines that include the file of that name.
@@ -90,7 +90,7 @@ fn file_of(alloc: Global, row: &str) -> Result<Vec<u8>, NoMemory> {
     Ok(text)
 }
 
-/// Included files by name. Another is empty, but for `broken` and `long`, which can't be read.
+/// Included files by name. `e`, `ab` and `h14` are empty, `long` is too long, and no other can be read.
 const FILES: &str = r#"h13 => *h14
 h12 => *h13
 h11 => *h12
@@ -122,6 +122,7 @@ d15 => @include "d16"
 d16 => deep(); block root deep() {@include "out.conf"};
 c => @version: 4.2 ~@include "c"
 out.conf => file("out")
+é.conf => file("out")
 later.conf => @version: 4.7 @version: current y
 old.conf => ~@version: 3.2
 bad => x~`NO` "
@@ -196,6 +197,16 @@ const INCLUDES: &str = r#"d {@include "out.conf"; } => d { file ( "out" ) ; }
 @include "`NO`*" => UnknownVariable 0 c:1
 @include "broken" => broken not read 1
 @define V "*" @include "`V`broken" => Unsupported 0 c:1
+@include "é.conf" => file ( "out" )
+@include "\xc3\xa9.conf" => file ( "out" )
+~@include~"\xff" => Unsupported 0 c:2
+@include "broken\xe9" => Unsupported 0 c:1
+@define F "\xe9" @include "`F`.conf" => Unsupported 0 c:1
+@include "\xc0\xafe" => Unsupported 0 c:1
+@include "e\xc3" => Unsupported 0 c:1
+@include "e\xed\xa0\x80" => Unsupported 0 c:1
+@include "e\xf4\x90\x80\x80" => Unsupported 0 c:1
+@include "\xff`NO`" => UnknownVariable 0 c:1
 ~x @include~"long" => TooLong 0 c:2
 @include "bad" => OpenString 1 bad:2
 @include "worse" `NO` => BadByte 1 worse:2
@@ -402,6 +413,8 @@ const TOTALS: &str = r#"4: abc => abc
 0: ~@include~"`NO`" => UnknownVariable 0 c:4
 4: @include "a*b" => Unsupported 0 c:2
 3: @include "a*b" => TooLong 0 c:2
+4: @include "a\xffb" => Unsupported 0 c:2
+3: @include "a\xffb" => TooLong 0 c:2
 7: @include "broken" => broken not read 1
 6: @include "broken" => TooLong 0 c:2
 5: @include "long" => TooLong 0 c:2
@@ -481,7 +494,10 @@ fn push_definition(text: &mut Vec<u8>, name: u8, count: usize) -> Result<(), NoM
     Ok(())
 }
 
-/// A text behind a first line that leaves so much room, up to 175: two hundred uses of a block whose
+/// How much room a text in a row may have.
+const MOST_ROOM: usize = 175;
+
+/// A text behind a first line that leaves so much room: two hundred uses of a block whose
 /// body comes to nothing count 5,242 each, and the value of a variable the rest.
 fn text_with_room(alloc: Global, room: usize, tail: &str) -> Result<Vec<u8>, NoMemory> {
     let mut text = Vec::new(alloc);
@@ -493,7 +509,7 @@ fn text_with_room(alloc: Global, room: usize, tail: &str) -> Result<Vec<u8>, NoM
     for _ in 0..200 {
         text.extend_from_slice(b"f() block root g() {};")?;
     }
-    push_definition(&mut text, b'W', 175usize.saturating_sub(room))?;
+    push_definition(&mut text, b'W', MOST_ROOM.saturating_sub(room))?;
     text.push(b'\n')?;
     push_text(&mut text, tail)?;
     Ok(text)
@@ -546,8 +562,8 @@ fn push_nested(text: &mut Vec<u8>) -> Result<(), NoMemory> {
     Ok(())
 }
 
-/// The text of a name.
-fn made_text(alloc: Global, name: &str) -> Result<Vec<u8>, NoMemory> {
+/// The text of a name, where there is one.
+fn made_text(alloc: Global, name: &str) -> Result<Option<Vec<u8>>, NoMemory> {
     let mut text = Vec::new(alloc);
     text.extend_from_slice(b"@version: 4.2\n")?;
     match name {
@@ -570,9 +586,9 @@ fn made_text(alloc: Global, name: &str) -> Result<Vec<u8>, NoMemory> {
             text.extend_from_slice(b") {};\n")?;
             push_times(&mut text, 100, b"{a();}")?;
         }
-        _ => {}
+        _ => return Ok(None),
     }
-    Ok(text)
+    Ok(Some(text))
 }
 
 /// A token's text behind a space, with what shows its kind.
@@ -663,6 +679,13 @@ fn compare(wrong: &mut Vec<u8>, row: &str, shown: &[u8], want: &[u8]) -> Result<
     Ok(())
 }
 
+/// Adds a row that isn't understood.
+fn push_unread(wrong: &mut Vec<u8>, row: &str) -> Result<(), NoMemory> {
+    wrong.extend_from_slice(row.as_bytes())?;
+    wrong.extend_from_slice(b" is not understood\n")?;
+    Ok(())
+}
+
 /// The rows with another answer, where each text stands behind this one.
 fn wrong_behind(
     alloc: Global,
@@ -672,43 +695,58 @@ fn wrong_behind(
 ) -> Result<Vec<u8>, NoMemory> {
     let mut wrong = Vec::new(alloc);
     for row in rows.lines() {
-        if let Some((tail, want)) = row.split_once(" =>") {
-            let text = text_behind(alloc, head, tail)?;
-            let shown = answer(alloc, &text, with_places)?;
-            compare(&mut wrong, row, &shown, &text_behind(alloc, "", want)?)?;
+        match row.split_once(" =>") {
+            Some((tail, want)) => {
+                let text = text_behind(alloc, head, tail)?;
+                let shown = answer(alloc, &text, with_places)?;
+                compare(&mut wrong, row, &shown, &text_behind(alloc, "", want)?)?;
+            }
+            None => push_unread(&mut wrong, row)?,
         }
     }
     Ok(wrong)
 }
 
-/// The rows with another answer, where each text is made.
-fn wrong_made(alloc: Global, rows: &str) -> Result<Vec<u8>, NoMemory> {
-    let mut wrong = Vec::new(alloc);
-    for row in rows.lines() {
-        if let Some((name, want)) = row.split_once(" =>") {
-            let shown = answer(alloc, &made_text(alloc, name)?, false)?;
-            compare(&mut wrong, row, &shown, want.as_bytes())?;
-        }
+/// The text of a row's name, and the answer that is wanted.
+fn made_row(alloc: Global, row: &str) -> Result<Option<(Vec<u8>, &str)>, NoMemory> {
+    let Some((name, want)) = row.split_once(" =>") else {
+        return Ok(None);
+    };
+    match made_text(alloc, name)? {
+        Some(text) => Ok(Some((text, want))),
+        None => Ok(None),
     }
-    Ok(wrong)
 }
 
-/// The rows with another answer, where each text stands behind one that leaves so much room.
-fn wrong_in_room(alloc: Global, rows: &str) -> Result<Vec<u8>, NoMemory> {
+/// The text of a row behind one that leaves so much room, and the answer that is wanted.
+fn row_in_room(alloc: Global, row: &str) -> Result<Option<(Vec<u8>, &str)>, NoMemory> {
+    let Some((text, want)) = row.split_once(" =>") else {
+        return Ok(None);
+    };
+    let Some((room, tail)) = text.split_once(": ") else {
+        return Ok(None);
+    };
+    match room.parse::<usize>() {
+        Ok(room) if room <= MOST_ROOM => Ok(Some((text_with_room(alloc, room, tail)?, want))),
+        _ => Ok(None),
+    }
+}
+
+/// The rows with another answer, where each text is made or stands behind one that leaves room.
+fn wrong_made(alloc: Global, rows: &str, in_room: bool) -> Result<Vec<u8>, NoMemory> {
     let mut wrong = Vec::new(alloc);
     for row in rows.lines() {
-        if let (Some((room, _)), Some((text, want))) = (
-            row.split_once(": "),
-            row.split_once(" =>"),
-        ) {
-            let tail = text
-                .strip_prefix(room)
-                .unwrap_or("")
-                .strip_prefix(": ")
-                .unwrap_or("");
-            let text = text_with_room(alloc, room.parse::<usize>().unwrap_or(0), tail)?;
-            let shown = answer(alloc, &text, false)?;
-            compare(&mut wrong, row, &shown, want.as_bytes())?;
+        let made = if in_room {
+            row_in_room(alloc, row)?
+        } else {
+            made_row(alloc, row)?
+        };
+        match made {
+            Some((text, want)) => {
+                let shown = answer(alloc, &text, false)?;
+                compare(&mut wrong, row, &shown, want.as_bytes())?;
+            }
+            None => push_unread(&mut wrong, row)?,
         }
     }
     Ok(wrong)
@@ -750,9 +788,9 @@ fn texts_are_expanded(rt: HostRuntime) -> Result<(), Fail> {
 
 #[test]
 fn totals_have_a_limit(rt: HostRuntime) -> Result<(), Fail> {
-    let wrong = wrong_in_room(rt.alloc(), TOTALS)?;
-    assert_eq!(rt; str::from_utf8(&wrong)?, "");
-    let wrong = wrong_made(rt.alloc(), MADE)?;
-    assert_eq!(rt; str::from_utf8(&wrong)?, "");
+    for (rows, in_room) in [(TOTALS, true), (MADE, false)] {
+        let wrong = wrong_made(rt.alloc(), rows, in_room)?;
+        assert_eq!(rt; str::from_utf8(&wrong)?, "");
+    }
     Ok(())
 }
