@@ -1,4 +1,4 @@
-//! `syslogr`: moves the lines of one file to another.
+//! `syslogr`: moves the lines of one file to another, and lists the entries of a disk-buffer's store.
 #![tactic(auto)]
 
 mod config;
@@ -10,6 +10,7 @@ mod rows;
 mod run;
 mod say;
 mod serve;
+mod spooled;
 mod status;
 mod store;
 mod top;
