@@ -13,6 +13,8 @@ mod serve;
 mod spooled;
 mod status;
 mod store;
+#[cfg(test)]
+mod store_rows;
 mod top;
 mod words;
 
