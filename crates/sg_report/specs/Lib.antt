@@ -1,2 +1,4 @@
 pub mod Report
 pub mod Fault
+pub mod Entry
+pub mod Store

@@ -49,3 +49,9 @@ one_remains jump gate end next [] c payload other read goes remains = absurd (ot
 one_remains jump gate end next (p ∷ ps) c payload other read goes remains =
     let same = read p remains.0 in
     (ps, ap (λ (l : List ℕ). l ∷ ps) (sym same), subst (λ (k : ℕ). Remains c jump k ps end) (sym (goes p remains.0)) remains.1)
+
+-- and the next gate is the one behind it
+pub one_behind : (jump : Option ℕ) (gate end next : ℕ) (es : Entries) (c payload : List ℕ) → (gate ≡ end → ⊥) → ((p : List ℕ) → IsEntry c gate p → payload ≡ p) → ((p : List ℕ) → IsEntry c gate p → next ≡ gate_past jump (gate + 5 + length p)) → Remains c jump gate es end → next ≡ gate_past jump (gate + 5 + length payload)
+one_behind jump gate end next [] c payload other read goes remains = absurd (other remains)
+one_behind jump gate end next (p ∷ ps) c payload other read goes remains =
+    goes p remains.0 ∙ ap (λ (l : List ℕ). gate_past jump (gate + 5 + length l)) (sym (read p remains.0))

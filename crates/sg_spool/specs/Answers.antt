@@ -1,8 +1,8 @@
 -- Which answer each call gives, and when.
-use Rattle.std.specs.Prelude.{◌≡◌, ◌⊎◌, ℕ, ◌+◌, ◌-◌, ◌≤◌, ◌^◌, min, List, [], ◌∷◌, ◌++◌, length, drop, map, Some, None, Bool, true, false, Result, Ok, Err}
+use Rattle.std.specs.Prelude.{◌≡◌, ◌⊎◌, ℕ, ◌+◌, ◌-◌, ◌≤◌, ◌^◌, min, List, [], ◌∷◌, ◌++◌, length, drop, map, Option, Some, None, Bool, true, false, Result, Ok, Err}
 use Rattle.sg_device.specs.Disk.{DiskState, content, WhereTold}
 use Rattle.sg_device.specs.Faults.{Rose}
-use Rattle.sg_spool.specs.Places.{Fits, Remains, live}
+use Rattle.sg_spool.specs.Places.{Fits, Remains, gate_past, live}
 use Rattle.sg_spool.specs.Ring.{Entries, IsList}
 use Rattle.sg_spool.specs.Rows.{listed, committed, total}
 use Rattle.sg_spool.specs.View.{View, Holds}
@@ -105,6 +105,12 @@ abbrev pub IsNext : {D : Type 0} → View D → List ℕ → Entries → Walked 
 IsNext old bytes entries (WalkedItem payload next) = (rest : Entries) × (entries ≡ payload.items ∷ rest) × Remains bytes old.rows.list.jump next rest old.rows.list.end
 IsNext old bytes entries WalkedEmpty = entries ≡ []
 IsNext old bytes entries WalkedFailed = Unit {0}
+
+-- behind an item the next gate is the one behind its payload, over the jump
+abbrev pub IsBehind : Option ℕ → ℕ → Walked → Type 0
+IsBehind jump gate (WalkedItem payload next) = next ≡ gate_past jump (gate + 5 + length payload.items)
+IsBehind jump gate WalkedEmpty = Unit {0}
+IsBehind jump gate WalkedFailed = Unit {0}
 
 -- the disk failed now
 abbrev pub HasReadCause : ℕ → ℕ → RewriteRefusal → Type 0

@@ -2,7 +2,7 @@
 ghost use Rattle.std.specs.Prelude.{◌≡◌, ◌⊎◌, ◌↔◌, ◌≤◌, ◌<◌, ◌+◌, ◌-◌, ◌^◌, ◌++◌, [], ◌∷◌, List, ℕ, length, drop, map, min, OnOk, OnErr, IfOk, IfErr, Some, None, true, false, IsTrue, is_err};
 ghost use Rattle.std.specs.Option.{option_map};
 ghost use Rattle.sg_device.specs.Disk.{content, Preserves, Rests, Durable, Within, EachNow, WhereTold};
-ghost use Rattle.sg_spool.specs.Answers.{Stages, Appends, Commits, Advances, Respells, IsFronted, IsFirst, IsWalked, IsNext};
+ghost use Rattle.sg_spool.specs.Answers.{Stages, Appends, Commits, Advances, Respells, IsFronted, IsFirst, IsWalked, IsNext, IsBehind};
 ghost use Rattle.sg_spool.specs.Calls.{Lasts, Leaves, Reads};
 ghost use Rattle.sg_spool.specs.Lists.{IsOneOf};
 ghost use Rattle.sg_spool.specs.Opening.{HasReason};
@@ -242,6 +242,7 @@ impl<D: Disk> Spool<D> {
     /// The place of the first entry's gate, or of the end's where there is no entry.
     pub fn head(&self) -> u64
         ensures head { result ≡ gate_past self.now.rows.list.jump self.now.rows.list.head }
+        ensures laid { self.now.closed ≡ false → WhereTold (content (D.state self.now.disk)) (λ bytes. (entries : Entries) × IsLaid self.now.rows.list.jump self.now.rows.list.head self.now.rows.list.end entries bytes) }
         ensures here { self.now.closed ≡ false → WhereTold (content (D.state self.now.disk)) (λ bytes. (entries : Entries) × IsList entries bytes × Remains bytes self.now.rows.list.jump result entries self.now.rows.list.end) }
         ensures remains { self.now.closed ≡ false → EachNow (D.state self.now.disk) (λ bytes. (entries : Entries) → IsList entries bytes → Remains bytes self.now.rows.list.jump result entries self.now.rows.list.end) }
     {
@@ -255,6 +256,7 @@ impl<D: Disk> Spool<D> {
         ensures reads { Reads D.state self.old self.new }
         ensures answer { IfOk result (IsWalked self.old self.new gate (D.state self.old.disk).faults (D.state self.new.disk).faults) }
         ensures next { IfOk result (λ walked. WhereTold (content (D.state self.old.disk)) (λ bytes. (entries : Entries) → Remains bytes self.old.rows.list.jump gate entries self.old.rows.list.end → IsNext self.old bytes entries walked)) }
+        ensures behind { IfOk result (λ walked. WhereTold (content (D.state self.old.disk)) (λ bytes. (entries : Entries) → Remains bytes self.old.rows.list.jump gate entries self.old.rows.list.end → IsBehind self.old.rows.list.jump gate walked)) }
         ensures no_memory { OnErr result (self.new.closed ≡ false) }
         ensures front { self.new.front ≡ self.old.front }
     {

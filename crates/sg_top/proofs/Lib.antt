@@ -6,3 +6,4 @@ pub mod RunLemmas
 pub mod RoundsLemmas
 pub mod ServingLemmas
 pub mod WordsLemmas
+pub mod SpoolLemmas

@@ -107,7 +107,7 @@ bad-read world file fault last tokens from into files (names, wrong) configures 
 pub complete : (old new : WorldState) (words : List (List ℕ)) (file : List ℕ) (last : State) (tokens : List Token) (from into : List ℕ) (files : Files) (reached : Reached) (status : Status)
     → HasStatus old new reached status → JudgesWords words status → Judges old file status → IsRun words file → Configures old file last tokens from into → old.files ≡ Some files → IsUntroubled old new reached → IsComplete status
 complete old new words file last tokens from into files reached Ok cause w j run is told u = tt
-complete old new words file last tokens from into files reached Usage cause w j run is told u = w file run
+complete old new words file last tokens from into files reached Usage cause w j run is told u = w.0 file run
 complete old new words file last tokens from into files reached (BadConfig fault) cause w j run is told u = bad-read old file fault last tokens from into files j is told
 complete old new words file last tokens from into files reached ReadFault cause w j run is told u = u.read cause.1
 complete old new words file last tokens from into files reached (OpenFault (Store n)) cause w j run is told u = u.store cause.2

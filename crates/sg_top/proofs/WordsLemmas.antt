@@ -15,7 +15,7 @@ use Rattle.sg_top.specs.Run.{HasStatus, Holds, KeepsCounts, Shelves, RanWith, Ra
 use Rattle.sg_top.specs.Said.{status_in, text_in, said_text, Concludes, SaidText, SaysStatus}
 use Rattle.sg_top.specs.Serving.{Serves, IsMainRefused, IsMainUnread, EndsFile, RunsFile, RunsFileWith}
 use Rattle.sg_top.specs.Verdict.{IsAfterConfig, Judges}
-use Rattle.sg_top.specs.Words.{IsRun, JudgesWords}
+use Rattle.sg_top.specs.Words.{IsRun, IsSpool, JudgesWords}
 use Rattle.sg_top.specs.declared.ending.Ending.{Ending}
 use Rattle.sg_top.specs.declared.ending.Ending.TheVariants.{Early, Refused, Unread, Reported}
 use Rattle.sg_top.specs.declared.status.Status.{Status}
@@ -211,23 +211,23 @@ says old w new words file reached (Reported status text) run ends same said = sa
 
 -- the run was said, or it couldn't be
 judged-read-words : (words : List (List ℕ)) (file : List ℕ) (status : Status) → IsRun words file → IsAfterConfig status → JudgesWords words status
-judged-read-words words file Ok run after = (file, run)
+judged-read-words words file Ok run after = inl (file, run)
 judged-read-words words file Usage run after = absurd after
 judged-read-words words file (BadConfig fault) run after = absurd after
 judged-read-words words file ReadFault run after = absurd after
-judged-read-words words file (OpenFault device) run after = (file, run)
-judged-read-words words file (Damage n at) run after = (file, run)
-judged-read-words words file (SinkFault n) run after = (file, run)
-judged-read-words words file (DiskFault n) run after = (file, run)
-judged-read-words words file (InletFault n) run after = (file, run)
-judged-read-words words file RoundsSpent run after = (file, run)
+judged-read-words words file (OpenFault device) run after = inl (file, run)
+judged-read-words words file (Damage n at) run after = inl (file, run)
+judged-read-words words file (SinkFault n) run after = inl (file, run)
+judged-read-words words file (DiskFault n) run after = inl (file, run)
+judged-read-words words file (InletFault n) run after = inl (file, run)
+judged-read-words words file RoundsSpent run after = inl (file, run)
 judged-read-words words file SayFault run after = absurd after
 judged-read-words words file NoMemory run after = tt
 
 judged-words : (old w : WorldState) (words : List (List ℕ)) (file : List ℕ) (reached : Reached) (ending : Ending) → IsRun words file → EndsFile old w file reached ending → JudgesWords words (status_in ending)
 judged-words old w words file reached (Early status) run ends = judged-read-words words file status run ends.0
-judged-words old w words file reached (Refused fault names) run ends = (file, run)
-judged-words old w words file reached (Unread name) run ends = (file, run)
+judged-words old w words file reached (Refused fault names) run ends = inl (file, run)
+judged-words old w words file reached (Unread name) run ends = inl (file, run)
 judged-words old w words file reached (Reported status text) run ends = judged-read-words words file status run ends.0
 
 one-file : (words : List (List ℕ)) (file other : List ℕ) → IsRun words file → IsRun words other → file ≡ other
@@ -316,7 +316,7 @@ pub conclude-config : (old w new : WorldState) (words : List (List ℕ)) (file :
     → (other : List ℕ) → IsRun words other → Judges old other result
 conclude-config old w new words file ending result run ran concludes other is = subst (λ f. Judges old f result) (one-file words file other run is) (judges-result old w new file ending result ran concludes)
 
-pub other-usage : (old new : WorldState) (words : List (List ℕ)) (result : Status) → ((file : List ℕ) → ¬ IsRun words file) → Concludes old new (Early Usage) result → JudgesWords words result
-other-usage old new words result none (state, later, inl said) = subst (JudgesWords words) (sym said.0) none
-other-usage old new words result none (state, later, inr (inl fault)) = subst (JudgesWords words) (sym fault.0) tt
-other-usage old new words result none (state, later, inr (inr memory)) = subst (JudgesWords words) (sym memory) tt
+pub other-usage : (old new : WorldState) (words : List (List ℕ)) (result : Status) → ((file : List ℕ) → ¬ IsRun words file) → ((file : List ℕ) → ¬ IsSpool words file) → Concludes old new (Early Usage) result → JudgesWords words result
+other-usage old new words result none other (state, later, inl said) = subst (JudgesWords words) (sym said.0) (none, other)
+other-usage old new words result none other (state, later, inr (inl fault)) = subst (JudgesWords words) (sym fault.0) tt
+other-usage old new words result none other (state, later, inr (inr memory)) = subst (JudgesWords words) (sym memory) tt

@@ -11,3 +11,4 @@ pub mod Verdict
 pub mod Opening
 pub mod Rounds
 pub mod Serving
+pub mod Spooled

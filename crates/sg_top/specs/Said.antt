@@ -1,13 +1,13 @@
 -- What is said at the end of a run.
 use Rattle.std.specs.Prelude.{◌≡◌, ◌⊎◌, ◌≤◌, ℕ, true, List, [], ◌∷◌, ◌++◌, codes, Some}
 use Rattle.std.specs.Option.{option_map}
-use Rattle.std.specs.Fmt.{decimal}
 use Rattle.sg_device.specs.Faults.{Rose}
 use Rattle.sg_outside.specs.World.{WorldState}
 use Rattle.sg_lex.specs.declared.fault.ConfigFault.{ConfigFault}
 use Rattle.sg_machine.specs.Tallies.{tally_of}
 use Rattle.sg_report.specs.Fault.{fault_text_of}
 use Rattle.sg_report.specs.Report.{report_text}
+use Rattle.sg_report.specs.Store.{unopened_line, damaged_line, failed_line}
 use Rattle.sg_report.specs.declared.shown.Shown.{Shown}
 use Rattle.sg_top.specs.Devices.{Reached, AtRounds}
 use Rattle.sg_top.specs.History.{state_of}
@@ -26,11 +26,11 @@ usage_text = codes "usage: syslogr check FILE | trace FILE SOURCE INPUT | run FI
 -- the text of a status before the rounds, where the configuration was read
 abbrev pub text_of : Status → List ℕ
 text_of Usage = usage_text
-text_of (OpenFault (Store n)) = codes "cannot open store " ++ (decimal n ++ codes "\n")
-text_of (OpenFault (Inlet n)) = codes "cannot open inlet " ++ (decimal n ++ codes "\n")
-text_of (OpenFault (Dest n)) = codes "cannot open destination " ++ (decimal n ++ codes "\n")
-text_of (Damage n at) = codes "store " ++ (decimal n ++ (codes " damaged at " ++ (decimal at ++ codes "\n")))
-text_of (DiskFault n) = codes "store " ++ (decimal n ++ codes " failed\n")
+text_of (OpenFault (Store n)) = unopened_line (codes "store") n
+text_of (OpenFault (Inlet n)) = unopened_line (codes "inlet") n
+text_of (OpenFault (Dest n)) = unopened_line (codes "destination") n
+text_of (Damage n at) = damaged_line n at
+text_of (DiskFault n) = failed_line n
 text_of status = []
 
 -- the text where the file of this name couldn't be read

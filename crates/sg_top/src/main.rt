@@ -1,4 +1,4 @@
-//! `syslogr`: moves the lines of one file to another.
+//! `syslogr`: moves the lines of one file to another, and lists the entries of a disk-buffer's store.
 #![tactic(auto)]
 
 mod config;
@@ -10,8 +10,11 @@ mod rows;
 mod run;
 mod say;
 mod serve;
+mod spooled;
 mod status;
 mod store;
+#[cfg(test)]
+mod store_rows;
 mod top;
 mod words;
 

@@ -93,7 +93,7 @@ const TEXTS: &str =
 const DONE: &str = "source 0 records 2 bad-frames 0 position 8~D 2 E 0~status 0~";
 
 /// The field before the next `;`, and the rest.
-fn field(row: &str) -> (&str, &str) {
+pub(crate) fn field(row: &str) -> (&str, &str) {
     match row.split_once(';') {
         Some((field, rest)) => (field, rest),
         None => (row, ""),
@@ -101,7 +101,7 @@ fn field(row: &str) -> (&str, &str) {
 }
 
 /// The bytes that a field stands for.
-fn bytes(alloc: Global, field: &str) -> Result<Vec<u8>, AllocError> {
+pub(crate) fn bytes(alloc: Global, field: &str) -> Result<Vec<u8>, AllocError> {
     let mut bytes = Vec::new(alloc);
     for byte in field.as_bytes() {
         match byte {
@@ -119,7 +119,7 @@ fn plan(alloc: Global, call: u64) -> Result<Plan, AllocError> {
 }
 
 /// Lets the call fail that a row names.
-fn fail(alloc: Global, fails: &str, world: &mut MemoryWorld) -> Result<(), AllocError> {
+pub(crate) fn fail(alloc: Global, fails: &str, world: &mut MemoryWorld) -> Result<(), AllocError> {
     let Some((kind, number)) = fails.split_once(' ') else {
         return Ok(());
     };
@@ -160,7 +160,7 @@ fn keep(alloc: Global, stored: &str, world: &mut MemoryWorld) -> Result<(), Fail
 }
 
 /// A machine with these files: its inlets give four bytes a pull, received at 2026-02-05T17:32:21Z.
-fn with_files(alloc: Global, files: Vec<MemoryFile>) -> MemoryMachine {
+pub(crate) fn with_files(alloc: Global, files: Vec<MemoryFile>) -> MemoryMachine {
     let pace = Pace {
         piece: 4,
         at: 1_770_312_741_000_000,

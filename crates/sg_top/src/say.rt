@@ -1,5 +1,5 @@
 // What is said at the end of a run.
-ghost use Rattle.std.specs.Prelude.{◌≡◌, IfOk, ◌++◌};
+ghost use Rattle.std.specs.Prelude.{◌≡◌, IfOk, OnOk, ◌++◌};
 ghost use Rattle.sg_report.specs.Fault.{fault_text_of};
 ghost use Rattle.sg_top.specs.Said.{text_of, unread_text_of, status_in, text_in, Concludes};
 
@@ -8,7 +8,7 @@ use crate::status::{Device, Status};
 use sg_device::{Name, NoMemory, SayRefusal};
 use sg_lex::ConfigFault;
 use sg_list::Seq;
-use sg_report::fault_text;
+use sg_report::{damaged_text, failed_text, fault_text, unopened_text};
 use sg_world::World;
 use std::alloc::{AllocError, Global};
 
@@ -38,26 +38,26 @@ fn unread_text(alloc: Global, name: &Name) -> Result<Vec<u8>, NoMemory>
     joined(alloc, b"cannot read ", name.bytes(), b"\n")
 }
 
+fn append_status(alloc: Global, status: Status, text: &mut Vec<u8>) -> Result<(), NoMemory>
+    ensures { OnOk result (text.new.items ≡ text.old.items ++ text_of status) }
+{
+    match status {
+        Status::Usage => text.extend_from_slice(USAGE),
+        Status::OpenFault(Device::Store(n)) => unopened_text(alloc, "store", n, text),
+        Status::OpenFault(Device::Inlet(n)) => unopened_text(alloc, "inlet", n, text),
+        Status::OpenFault(Device::Dest(n)) => unopened_text(alloc, "destination", n, text),
+        Status::Damage { store, at } => damaged_text(alloc, store, at, text),
+        Status::DiskFault(n) => failed_text(alloc, n, text),
+        _ => Ok(()),
+    }
+}
+
 fn status_text(alloc: Global, status: Status) -> Result<Vec<u8>, NoMemory>
     ensures { IfOk result (λ text. text.items ≡ text_of status) }
 {
-    match status {
-        Status::Usage => USAGE.to_vec(alloc),
-        Status::OpenFault(Device::Store(n)) => Ok(format!(in alloc;
-            "cannot open store {n}\n"
-        )?.into_bytes()),
-        Status::OpenFault(Device::Inlet(n)) => Ok(format!(in alloc;
-            "cannot open inlet {n}\n"
-        )?.into_bytes()),
-        Status::OpenFault(Device::Dest(n)) => Ok(format!(in alloc;
-            "cannot open destination {n}\n"
-        )?.into_bytes()),
-        Status::Damage { store, at } => Ok(format!(in alloc;
-            "store {store} damaged at {at}\n"
-        )?.into_bytes()),
-        Status::DiskFault(n) => Ok(format!(in alloc; "store {n} failed\n")?.into_bytes()),
-        _ => Ok(Vec::new(alloc)),
-    }
+    let mut text = Vec::new(alloc);
+    append_status(alloc, status, &mut text)?;
+    Ok(text)
 }
 
 fn ending_text(alloc: Global, ending: Ending) -> Result<(Status, Vec<u8>), NoMemory>

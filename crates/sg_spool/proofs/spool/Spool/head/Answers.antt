@@ -18,3 +18,10 @@ returns-clause-here g c = rw (← c.self.view_is) (λ shut bytes told.
     let left = reads_as_image (g.D.Disk.state m.disk) bytes told in
     let is = lists m.cell m.rows (option_map (λ v. v.items) m.front) (g.D.Disk.state m.disk) whole bytes left in
     (whole.entries, is, subst (λ (k : ℕ). Remains bytes m.rows.list.jump k whole.entries m.rows.list.end) (sym c.gate_past.ensures) (remains m.cell m.rows (option_map (λ v. v.items) m.front) (g.D.Disk.state m.disk) whole whole.entries bytes left is)))
+
+pub returns-clause-laid : goal.returns-clause-laid
+returns-clause-laid g c = rw (← c.self.view_is) (λ shut bytes told.
+    let m = c.self.inside in
+    let whole = c.self.invariant.whole shut in
+    let left = reads_as_image (g.D.Disk.state m.disk) bytes told in
+    (whole.entries, (whole.each bytes left).ring.laid))

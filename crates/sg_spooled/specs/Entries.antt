@@ -1,0 +1,65 @@
+-- The entries of a store, and the lines that list them.
+use Rattle.std.specs.Prelude.{◌≡◌, ◌⊎◌, ◌≤◌, ◌^◌, ℕ, ◌+◌, zero, suc, Bool, true, false, ◌&&◌, nat_lt, Option, List, [], ◌∷◌, ◌++◌, length, map}
+use Rattle.sg_codec.specs.Spelling.{Spells1, Spells2}
+use Rattle.sg_codec.specs.declared.kept.Kept.{Kept}
+use Rattle.sg_report.specs.Entry.{entry_line}
+use Rattle.sg_spool.specs.Places.{Remains, gate_past}
+use Rattle.sg_spool.specs.Ring.{Entries, IsLaid, IsList}
+
+-- an entry, and the payload that spells it
+pub record Row : Type 0 where
+  pub kept : Kept
+  pub payload : List ℕ
+
+-- in a store an entry is spelled in format 2, or in format 1 with at most 2 ^ 30 bytes
+abbrev pub IsStored : Kept → List ℕ → Type 0
+IsStored kept payload = Spells2 kept payload ⊎ (Spells1 kept payload × (length payload ≤ 2 ^ 30))
+
+-- the payload is no entry
+abbrev pub IsNoEntry : List ℕ → Type 0
+IsNoEntry payload = (kept : Kept) → IsStored kept payload → ⊥
+
+-- the first byte tells the format
+abbrev pub is_older : List ℕ → Bool
+is_older [] = false
+is_older (zero ∷ rest) = false
+is_older (suc zero ∷ rest) = true
+is_older (suc (suc other) ∷ rest) = false
+
+-- it begins as an entry of format 1, and is longer than one in a store
+abbrev pub is_beyond : List ℕ → Bool
+is_beyond payload = is_older payload && nat_lt (2 ^ 30) (length payload)
+
+abbrev pub AreStored : List Row → Type 0
+AreStored [] = Unit {0}
+AreStored (row ∷ rows) = IsStored row.kept row.payload × AreStored rows
+
+abbrev pub payload_in : Row → List ℕ
+payload_in row = row.payload
+
+abbrev pub payloads_of : List Row → Entries
+payloads_of rows = map payload_in rows
+
+-- the line of an entry of this number
+abbrev pub row_line : ℕ → Row → List ℕ
+row_line number row = entry_line number row.kept.source row.kept.end row.kept.flow (length row.payload)
+
+-- the lines of entries from this number on
+abbrev pub row_lines : ℕ → List Row → List ℕ
+row_lines number [] = []
+row_lines number (row ∷ rows) = row_line number row ++ row_lines (number + 1) rows
+
+-- the bytes' list begins with these entries, or there are none
+abbrev pub IsBegun : List Row → List ℕ → Type 0
+IsBegun rows bytes = (rows ≡ []) ⊎ ((rest : Entries) × IsList (payloads_of rows ++ rest) bytes)
+
+-- Behind these entries of the bytes' list a payload stands at this gate that is no entry.
+pub record IsFirstBad (at : ℕ) (rows : List Row) (bytes : List ℕ) : Type 0 where
+  pub jump : Option ℕ
+  pub head : ℕ
+  pub end : ℕ
+  pub payload : List ℕ
+  pub rest : Entries
+  pub laid : IsLaid jump head end (payloads_of rows ++ payload ∷ rest) bytes
+  pub gate : Remains bytes jump (gate_past jump head) (payloads_of rows) at
+  pub bad : IsNoEntry payload

@@ -1,0 +1,3 @@
+pub mod Entries
+pub mod Walking
+pub mod Listing

@@ -1,0 +1,129 @@
+-- What `spool FILE` does: it says the entries of a store, and leaves it as it was.
+use Rattle.std.specs.Prelude.{◌≡◌, ◌⊎◌, ◌≤◌, ℕ, false, List, [], ◌++◌, length, codes, Option, Some, None, Result, Ok, Err}
+use Rattle.std.specs.List.{Contains}
+use Rattle.sg_device.specs.Disk.{DiskState, content, WhereTold, Preserves, Rests}
+use Rattle.sg_device.specs.Faults.{Rose}
+use Rattle.sg_outside.specs.World.{WorldState, Ledger, with_opened, with_closed}
+use Rattle.sg_outside.specs.declared.request.StoreSpec.{StoreSpec}
+use Rattle.sg_report.specs.Entry.{entries_line}
+use Rattle.sg_report.specs.Store.{unopened_line, damaged_line, failed_line}
+use Rattle.sg_spool.specs.Opening.{IsDamagedAt}
+use Rattle.sg_spool.specs.Ring.{IsList}
+use Rattle.sg_stable.specs.declared.fault.StoreRefusal.{StoreRefusal}
+use Rattle.sg_stable.specs.declared.fault.StoreRefusal.TheVariants.{Damage as StoreDamage, DiskFault as StoreFault, NoMemory as StoreNoMemory}
+use Rattle.sg_spooled.specs.Entries.{Row, AreStored, payloads_of, row_lines, IsBegun, IsFirstBad}
+use Rattle.sg_spooled.specs.Walking.{OnlySays, SaidText}
+use Rattle.sg_spooled.specs.declared.unlisted.Unlisted.{Unlisted}
+use Rattle.sg_spooled.specs.declared.unlisted.Unlisted.TheVariants.{NotOpened, Damage, DiskFault, SayFault, NoMemory}
+
+-- the store, as it was opened and as it was closed
+pub record Shelf : Type 0 where
+  pub opened : DiskState
+  pub closed : DiskState
+
+-- the store of FILE, which isn't made where it is missing
+abbrev pub spec_of : List ℕ → StoreSpec
+spec_of file = record { name = file; create = false }
+
+-- the ledger with that store opened and closed, where it was
+abbrev pub shelved : Ledger StoreSpec DiskState → List ℕ → Option Shelf → Ledger StoreSpec DiskState
+shelved ledger file None = ledger
+shelved ledger file (Some shelf) = with_closed (with_opened ledger (spec_of file) shelf.opened) shelf.closed
+
+abbrev pub IfOpened : Option Shelf → (Shelf → Type 0) → Type 0
+IfOpened None P = Unit {0}
+IfOpened (Some shelf) P = P shelf
+
+abbrev pub IsOpenedAnd : Option Shelf → (Shelf → Type 0) → Type 0
+IsOpenedAnd None P = ⊥
+IsOpenedAnd (Some shelf) P = P shelf
+
+-- a store of this name was there, where the machine tells its stores
+abbrev pub IsThere : Option (List (List ℕ)) → List ℕ → Type 0
+IsThere None file = Unit {0}
+IsThere (Some names) file = Contains names file
+
+-- Nothing was written: the bytes are as they were, and so is each image. Where the opening failed a read may give another of the images.
+abbrev pub IsKept : Result Unit Unlisted → DiskState → DiskState → Type 0
+IsKept (Ok done) opened closed = Preserves opened closed
+IsKept (Err refusal) opened closed = Rests opened closed
+
+-- what a store of bytes is damaged at, behind these entries: the bytes are no store, or a payload is no entry
+abbrev pub IsDamaged : ℕ → List Row → List ℕ → Type 0
+IsDamaged at rows bytes = ((rows ≡ []) × IsDamagedAt at bytes) ⊎ IsFirstBad at rows bytes
+
+-- When each answer comes, behind these entries. Want of memory is free.
+abbrev pub HasCause : WorldState → WorldState → Option Shelf → List Row → Result Unit Unlisted → Type 0
+HasCause old new shelf rows (Ok done) = IsOpenedAnd shelf (λ s. WhereTold (content s.opened) (IsList (payloads_of rows)))
+HasCause old new shelf rows (Err NotOpened) = (shelf ≡ None) × (rows ≡ []) × Rose old.store_faults new.store_faults
+HasCause old new shelf rows (Err (Damage at)) = IsOpenedAnd shelf (λ s. WhereTold (content s.opened) (IsDamaged at rows))
+HasCause old new shelf rows (Err DiskFault) = IsOpenedAnd shelf (λ s. Rose s.opened.faults s.closed.faults × WhereTold (content s.opened) (IsBegun rows))
+HasCause old new shelf rows (Err SayFault) = Rose old.say_faults new.say_faults
+HasCause old new shelf rows (Err NoMemory) = Unit {0}
+
+-- what is said: a line for each of these entries, and how it ended
+abbrev pub SaysList : WorldState → WorldState → List Row → Result Unit Unlisted → Type 0
+SaysList old new rows (Ok done) = SaidText old new (row_lines 0 rows ++ entries_line (length rows))
+SaysList old new rows (Err NotOpened) = SaidText old new (row_lines 0 rows ++ unopened_line (codes "store") 0)
+SaysList old new rows (Err (Damage at)) = SaidText old new (row_lines 0 rows ++ damaged_line 0 at)
+SaysList old new rows (Err DiskFault) = SaidText old new (row_lines 0 rows ++ failed_line 0)
+SaysList old new rows (Err SayFault) = Unit {0}
+SaysList old new rows (Err NoMemory) = Unit {0}
+
+-- a disk whose bytes are a store of entries
+pub record IsSpelled (disk : DiskState) : Type 0 where
+  pub bytes : List ℕ
+  pub rows : List Row
+  pub told : content disk ≡ Some bytes
+  pub list : IsList (payloads_of rows) bytes
+  pub stored : AreStored rows
+
+-- no count of faults rose
+pub record IsUntroubled (old new : WorldState) (shelf : Option Shelf) : Type 0 where
+  pub open' : ¬ Rose old.store_faults new.store_faults
+  pub say : ¬ Rose old.say_faults new.say_faults
+  pub disk : IfOpened shelf (λ s. ¬ Rose s.opened.faults s.closed.faults)
+
+-- all was listed, or memory ran out
+abbrev pub IsComplete : Result Unit Unlisted → Type 0
+IsComplete (Ok done) = Unit {0}
+IsComplete (Err NoMemory) = Unit {0}
+IsComplete (Err NotOpened) = ⊥
+IsComplete (Err (Damage at)) = ⊥
+IsComplete (Err DiskFault) = ⊥
+IsComplete (Err SayFault) = ⊥
+
+-- why a store wasn't opened as a disk-buffer's
+abbrev pub unlisted_for : StoreRefusal → Unlisted
+unlisted_for (StoreDamage at) = Damage at
+unlisted_for StoreFault = DiskFault
+unlisted_for StoreNoMemory = NoMemory
+
+-- the part that has the store open, which comes back
+pub record ListsBy (old new : WorldState) (opened closed : DiskState) (result : Result Unit Unlisted) (rows : List Row) : Type 0 where
+  pub says : OnlySays old new
+  pub kept : IsKept result opened closed
+  pub later : opened.faults ≤ closed.faults
+  pub stored : AreStored rows
+  pub cause : HasCause old new (Some (record { opened = opened; closed = closed })) rows result
+  pub said : SaysList old new rows result
+
+abbrev pub Lists : WorldState → WorldState → (opened closed : DiskState) → Result Unit Unlisted → Type 0
+Lists old new opened closed result = (rows : List Row) × ListsBy old new opened closed result rows
+
+-- the store of FILE was listed up to these entries
+pub record SpoolsBy (old new : WorldState) (file : List ℕ) (result : Result Unit Unlisted) (shelf : Option Shelf) (rows : List Row) : Type 0 where
+  -- nothing but that store was opened, and it was closed; no store was made, and no file changed
+  pub state : new ≡ record old { stores = shelved old.stores file shelf; store_faults = new.store_faults; say_faults = new.say_faults; said = new.said }
+  pub store_later : old.store_faults ≤ new.store_faults
+  pub say_later : old.say_faults ≤ new.say_faults
+  pub there : IfOpened shelf (λ s. IsThere old.shelf file)
+  pub kept : IfOpened shelf (λ s. IsKept result s.opened s.closed × (s.opened.faults ≤ s.closed.faults))
+  pub stored : AreStored rows
+  pub cause : HasCause old new shelf rows result
+  pub said : SaysList old new rows result
+  -- a store of entries and no trouble give success, where memory is there
+  pub complete : IsUntroubled old new shelf → IfOpened shelf (λ s. IsSpelled s.opened) → IsComplete result
+
+abbrev pub Spools : WorldState → WorldState → List ℕ → Result Unit Unlisted → Type 0
+Spools old new file result = (shelf : Option Shelf) × ((rows : List Row) × SpoolsBy old new file result shelf rows)

@@ -1,0 +1,28 @@
+// The entries of a disk-buffer's store.
+ghost use Rattle.std.specs.Prelude.{◌≡◌};
+ghost use Rattle.sg_top.specs.Spooled.{status_listed, SpoolsFile};
+
+use crate::status::{Device, Status};
+use sg_spooled::{Unlisted, list_store};
+use sg_world::World;
+use std::alloc::Global;
+
+fn status_of(listed: Result<(), Unlisted>) -> Status
+    ensures { result ≡ status_listed listed }
+{
+    match listed {
+        Ok(()) => Status::Ok,
+        Err(Unlisted::NotOpened) => Status::OpenFault(Device::Store(0)),
+        Err(Unlisted::Damage(at)) => Status::Damage { store: 0, at },
+        Err(Unlisted::DiskFault) => Status::DiskFault(0),
+        Err(Unlisted::SayFault) => Status::SayFault,
+        Err(Unlisted::NoMemory) => Status::NoMemory,
+    }
+}
+
+/// Says the entries of the store FILE, and how that ended.
+pub fn spool<W: World>(alloc: Global, file: &[u8], world: &mut W) -> Status
+    ensures { SpoolsFile (W.state world.old) (W.state world.new) file.now result }
+{
+    status_of(list_store(alloc, file, world))
+}
