@@ -5,4 +5,4 @@ mod TagLemmas
 mod ListLaws
 mod EntryLaws
 mod ReadSteps
-mod WriteLemmas
+pub mod WriteLemmas

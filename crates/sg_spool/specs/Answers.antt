@@ -3,7 +3,7 @@ use Rattle.std.specs.Prelude.{◌≡◌, ◌⊎◌, ℕ, ◌+◌, ◌-◌, ◌�
 use Rattle.sg_device.specs.Disk.{DiskState, content, WhereTold}
 use Rattle.sg_device.specs.Faults.{Rose}
 use Rattle.sg_spool.specs.Places.{Fits, Remains, live}
-use Rattle.sg_spool.specs.Ring.{Entries, IsList}
+use Rattle.sg_spool.specs.Ring.{Entries, IsList, IsPayload}
 use Rattle.sg_spool.specs.Rows.{listed, committed, total}
 use Rattle.sg_spool.specs.View.{View, Holds}
 use Rattle.sg_spool.specs.declared.answers.Appended.{Appended}
@@ -105,6 +105,12 @@ abbrev pub IsNext : {D : Type 0} → View D → List ℕ → Entries → Walked 
 IsNext old bytes entries (WalkedItem payload next) = (rest : Entries) × (entries ≡ payload.items ∷ rest) × Remains bytes old.rows.list.jump next rest old.rows.list.end
 IsNext old bytes entries WalkedEmpty = entries ≡ []
 IsNext old bytes entries WalkedFailed = Unit {0}
+
+-- what was read has the length of a payload
+abbrev pub IsWholeItem : Walked → Type 0
+IsWholeItem (WalkedItem payload next) = IsPayload payload.items
+IsWholeItem WalkedEmpty = Unit {0}
+IsWholeItem WalkedFailed = Unit {0}
 
 -- the disk failed now
 abbrev pub HasReadCause : ℕ → ℕ → RewriteRefusal → Type 0

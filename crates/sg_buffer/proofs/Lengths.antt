@@ -1,14 +1,13 @@
--- How many bytes a field takes, and how long an entry is in format 2.
-use Rattle.std.proofs.Common.{◌≡◌, ℕ, zero, suc, ◌+◌, ◌^◌, ◌≤◌, Bool, true, false, cond, ltb, leb, List, [], ◌∷◌, ◌++◌, length, take, drop, Result, Ok, Err, refl, subst, arith, of_z}
+-- How many bytes a field takes.
+use Rattle.std.proofs.Common.{◌≡◌, ℕ, zero, suc, ◌+◌, ◌^◌, ◌≤◌, Bool, true, false, cond, ltb, leb, List, [], ◌∷◌, ◌++◌, length, take, drop, Result, Ok, Err, refl, subst, arith}
 use Rattle.std.specs.Prelude.{◌&&◌}
 use Rattle.std.specs.Int.{Width, w16, w32, w64, byte_len, from_be_bytes, cast_signed}
 use Rattle.std.proofs.lemmas.Bool.{ltb-false}
-use Rattle.std.proofs.lemmas.List.{length-append, length-drop, length-take}
+use Rattle.std.proofs.lemmas.List.{length-drop, length-take}
 use Rattle.sg_time.specs.declared.stamp.Stamp.{Stamp}
 use Rattle.sg_msg.specs.Message.{Pair}
 use Rattle.sg_codec.specs.declared.kept.Kept.{Kept}
-use Rattle.sg_msg.specs.Length.{tag_lengths, pair_lengths, encoded_len}
-use Rattle.sg_codec.specs.Spelling.{number_bytes, flag_bytes, stamp_bytes, text_bytes, tags_bytes, pairs_bytes, tag_list, pair_list, head_bytes, spelling2}
+use Rattle.sg_msg.specs.Length.{pair_lengths, encoded_len}
 use Rattle.sg_codec.specs.Reading.{◌>>=◌, bytes_at, number_at, flag_at, end_at, pri_at, is_valid, stamp_at, text_at, name_size_at, may_follow, name_at, last_name, pairs_at, pair_list_at, head_at, last_at, format1_at}
 
 -- what holds of the value of a field that isn't damaged
@@ -153,47 +152,3 @@ format1_takes bytes =
 -- an entry of format 1 has at most 14 bytes more in format 2
 pub format1-len : (bytes : List ℕ) (kept : Kept) → format1_at bytes ≡ Ok kept → Short bytes kept
 format1-len bytes kept e = value (Short bytes) (format1_at bytes) kept (format1_takes bytes) e
-
--- what is written
-
-length-flag : (flag : Bool) → length (flag_bytes flag) ≡ 1
-length-flag false = refl
-length-flag true = refl
-
-length-16 : (number : ℕ) → length (number_bytes w16 number) ≡ 2
-unfolding number_bytes
-length-16 number = refl
-
-length-32 : (number : ℕ) → length (number_bytes w32 number) ≡ 4
-unfolding number_bytes
-length-32 number = refl
-
-length-64 : (number : ℕ) → length (number_bytes w64 number) ≡ 8
-unfolding number_bytes
-length-64 number = refl
-
-length-stamp : (stamp : Stamp) → length (stamp_bytes stamp) ≡ 10
-length-stamp stamp = rw (length-append (number_bytes w64 (of_z w64 stamp.at)) (number_bytes w16 (of_z w16 stamp.offset)), length-64 (of_z w64 stamp.at), length-16 (of_z w16 stamp.offset)) refl
-
-length-text : (text : List ℕ) → length (text_bytes text) ≡ 4 + length text
-length-text text = rw (length-append (number_bytes w32 (length text)) text, length-32 (length text)) refl
-
-length-tags : (tags : List (List ℕ)) → length (tags_bytes tags) ≡ tag_lengths tags
-length-tags [] = refl
-length-tags (tag ∷ tags) = rw (length-append (text_bytes tag) (tags_bytes tags), length-text tag, length-tags tags) refl
-
-length-pairs : (pairs : List Pair) → length (pairs_bytes pairs) ≡ pair_lengths pairs
-length-pairs [] = refl
-length-pairs (pair ∷ pairs) =
-    omega (arith, length-append (text_bytes pair.name) (text_bytes pair.value ++ pairs_bytes pairs), length-append (text_bytes pair.value) (pairs_bytes pairs), length-text pair.name, length-text pair.value, length-pairs pairs)
-
-length-head : (kept : Kept) → length (head_bytes kept) ≡ 24
-length-head kept =
-    let last = kept.message.pri ∷ stamp_bytes kept.message.sent in
-    omega (arith, length-append (flag_bytes kept.flow) (number_bytes w32 kept.source ++ (number_bytes w64 kept.end ++ last)), length-append (number_bytes w32 kept.source) (number_bytes w64 kept.end ++ last), length-append (number_bytes w64 kept.end) last, length-flag kept.flow, length-32 kept.source, length-64 kept.end, length-stamp kept.message.sent)
-
--- the length of an entry in format 2
-pub spelling2-len : (kept : Kept) → length (spelling2 kept) ≡ encoded_len kept.message
-spelling2-len kept =
-    let message = kept.message in
-    omega (arith, length-append (head_bytes kept) (stamp_bytes message.received ++ (tag_list message.tags ++ pair_list message.pairs)), length-append (stamp_bytes message.received) (tag_list message.tags ++ pair_list message.pairs), length-append (tag_list message.tags) (pair_list message.pairs), length-append (number_bytes w32 (length message.tags)) (tags_bytes message.tags), length-append (number_bytes w32 (length message.pairs)) (pairs_bytes message.pairs), length-head kept, length-stamp message.received, length-32 (length message.tags), length-32 (length message.pairs), length-tags message.tags, length-pairs message.pairs)
