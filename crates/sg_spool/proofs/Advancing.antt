@@ -1,19 +1,11 @@
--- The places behind the first entry.
-use Rattle.std.proofs.Common.{◌≡◌, ◌⊎◌, inl, inr, ℕ, zero, suc, ◌+◌, ◌<◌, ◌≤◌, ◌^◌, List, [], ◌∷◌, ◌++◌, length, drop, refl, sym, ◌∙◌, ap, subst, arith, Some, None, Option}
-use Rattle.std.proofs.lemmas.Bool.{cases_eq}
+-- The places behind the first entries.
+use Rattle.std.proofs.Common.{◌≡◌, ◌⊎◌, inl, inr, ⊎_elim, ℕ, zero, suc, ◌+◌, ◌-◌, ◌<◌, ◌≤◌, List, [], ◌∷◌, ◌++◌, length, take, drop, refl, sym, ◌∙◌, ap, subst, arith, Some, None, Option}
 use Rattle.std.proofs.lemmas.Bool.Decides.{nat_tests}
-use Rattle.sg_spool.specs.Places.{AreOrdered, behind, first_past, after_first, gate_past}
-use Rattle.sg_spool.specs.Ring.{Entries, Run, IsEntry, IsRow, IsLaid}
+use Rattle.sg_spool.specs.Places.{AreOrdered, skipped, gate_past}
+use Rattle.sg_spool.specs.Ring.{Entries, Run, IsEntry, IsRow, IsLaid, space}
 use Rattle.sg_spool.specs.declared.places.Places.{Places}
 use Rattle.sg_spool.proofs.Rings.{run_grows}
-use Rattle.sg_spool.specs.Advancing.{IsReady, IsReadyAt, IsFirstSize}
-
-pub behind_is : (gate size last : ℕ) → gate + 5 + size ≤ last → last < 2 ^ 63 → behind gate size last ≡ gate + 5 + size
-behind_is gate size last le small = omega (arith, le, small)
-
--- the places as a ring
-abbrev ReadyAt : Places → Entries → List ℕ → Type 0
-ReadyAt places es c = IsReady places.jump places.head places.end es c
+use Rattle.sg_spool.specs.Advancing.{IsReadyAt, IsFirstSize}
 
 -- the first entry stands at the first gate
 pub first_entry : (jump : Option ℕ) (head end : ℕ) (p : List ℕ) (es : Entries) (c : List ℕ) → IsRow jump c head end (p ∷ es) → IsEntry c (gate_past jump head) p
@@ -32,93 +24,92 @@ first_entry (Some jump) head end p es c row = wrapped row.first row.second row.b
         let here : gate_past (Some jump) head ≡ head = grind (arith, nat_tests) in
         subst (λ (k : ℕ). IsEntry c k p) (sym here) (subst (λ (l : List ℕ). IsEntry c head l) (sym same) to_jump.0)
 
--- behind the first entry the others stand
-pub ready_behind : (jump : Option ℕ) (head end : ℕ) (p : List ℕ) (es : Entries) (c : List ℕ) → AreOrdered jump head end → IsReady jump head end (p ∷ es) c → ReadyAt (first_past jump head end (length p)) es c
-ready_behind None head end p es c ordered laid =
-    let high = laid.high in
-    let up = run_grows c (head + 5 + length p) es end laid.row.1 in
-    let is : behind head (length p) end ≡ head + 5 + length p = behind_is head (length p) end up ordered.2 in
-    subst (λ (k : ℕ). IsReady None k end es c) (sym is) (record {
-      size = laid.size;
-      high = omega (arith, high);
-      low = omega (arith, high, up);
-      inside = laid.row.0.next;
-      row = laid.row.1;
+-- the entries behind the first ones, which take so many bytes
+run_drop : (c : List ℕ) (gate : ℕ) (es : Entries) (end n : ℕ) → n ≤ length es → Run c gate es end → Run c (gate + space (take n es)) (drop n es) end
+run_drop c gate es end zero le run = subst (λ (k : ℕ). Run c k es end) (let n : gate ≡ gate + 0 = omega arith in n) run
+run_drop c gate [] end (suc n) le run = absurd (omega (arith, le))
+run_drop c gate (p ∷ ps) end (suc n) le run =
+    subst (λ (k : ℕ). Run c k (drop n ps) end) (let same : gate + 5 + length p + space (take n ps) ≡ gate + (5 + length p + space (take n ps)) = omega arith in same) (run_drop c (gate + 5 + length p) ps end n (omega (arith, le)) run.1)
+
+-- where the first ones stand before the jump, the others go on from there; else they stand behind it
+abbrev Splits : List ℕ → ℕ → ℕ → ℕ → Entries → ℕ → Entries → Type 0
+Splits c head jump end second size left = ((size < jump - head) × ((rest : Entries) × (left ≡ rest ++ second) × Run c (head + size) rest jump))
+    ⊎ ((jump - head ≤ size) × Run c (64 + (size - (jump - head))) left end)
+
+split_drop : (c : List ℕ) (head jump end : ℕ) (first second : Entries) (n : ℕ) → n ≤ length (first ++ second) → Run c head first jump → Run c 64 second end → Splits c head jump end second (space (take n (first ++ second))) (drop n (first ++ second))
+split_drop c head jump end [] second n le to_jump from_front =
+    let at : head ≡ jump = to_jump in
+    let same : 64 + space (take n second) ≡ 64 + (space (take n second) - (jump - head)) = omega (arith, at) in
+    inr (omega (arith, at), subst (λ (k : ℕ). Run c k (drop n second) end) same (run_drop c 64 second end n le from_front))
+split_drop c head jump end (q ∷ qs) second zero le to_jump from_front =
+    let up = run_grows c (head + 5 + length q) qs jump to_jump.1 in
+    inl (omega (arith, up), (q ∷ qs, refl, subst (λ (k : ℕ). Run c k (q ∷ qs) jump) (let n : head ≡ head + 0 = omega arith in n) to_jump))
+split_drop c head jump end (q ∷ qs) second (suc n) le to_jump from_front =
+    let up = run_grows c (head + 5 + length q) qs jump to_jump.1 in
+    let size = space (take n (qs ++ second)) in
+    ⊎_elim
+    (λ before. inl (let lt = before.0 in omega (arith, lt, up), (before.1.0, before.1.1, subst (λ (k : ℕ). Run c k before.1.0 jump) (let same : head + 5 + length q + size ≡ head + (5 + length q + size) = omega arith in same) before.1.2)))
+    (λ behind. inr (let le = behind.0 in omega (arith, le, up), subst (λ (k : ℕ). Run c k (drop n (qs ++ second)) end) (let le = behind.0 in let same : 64 + (size - (jump - (head + 5 + length q))) ≡ 64 + (5 + length q + size - (jump - head)) = omega (arith, le, up) in same) behind.1))
+    (split_drop c (head + 5 + length q) jump end qs second n (omega (arith, le)) to_jump.1 from_front)
+
+-- behind the first entries the others stand
+pub ready_skip : (jump : Option ℕ) (head end n size : ℕ) (es : Entries) (c : List ℕ) → AreOrdered jump head end → n ≤ length es → size ≡ space (take n es) → IsLaid jump head end es c → IsReadyAt (skipped jump head end size) (drop n es) c
+ready_skip None head end n size es c ordered le sized laid =
+    let run = subst (λ (k : ℕ). Run c k (drop n es) end) (ap (λ (m : ℕ). head + m) (sym sized)) (run_drop c head es end n le laid.row) in
+    let up = run_grows c (head + size) (drop n es) end run in
+    let inside = laid.ends.inside in
+    record {
+      size = laid.buffer.size;
+      high = omega (arith, ordered.0);
+      low = omega (arith, ordered.0, ordered.1);
+      inside = omega (arith, up, inside);
+      row = run;
       ends = laid.ends;
       below = tt;
-    })
-ready_behind (Some jump) head end p es c ordered laid = wrapped laid.row.first laid.row.second laid.row.both laid.row.to_jump laid.row.from_front
+    }
+ready_skip (Some jump) head end n size es c ordered le sized laid =
+    let row = laid.row in
+    let both = row.both in
+    let le2 : n ≤ length (row.first ++ row.second) = subst (λ (l : Entries). n ≤ length l) both le in
+    let sized2 : space (take n (row.first ++ row.second)) ≡ size = ap (λ (l : Entries). space (take n l)) (sym both) ∙ sym sized in
+    let split = subst (λ (m : ℕ). Splits c head jump end row.second m (drop n (row.first ++ row.second))) sized2 (split_drop c head jump end row.first row.second n le2 row.to_jump row.from_front) in
+    let left : drop n es ≡ drop n (row.first ++ row.second) = ap (λ (l : Entries). drop n l) both in
+    subst (λ (l : Entries). IsReadyAt (skipped (Some jump) head end size) l c) (sym left) (⊎_elim (λ before. in_row before.0 before.1.0 before.1.1 before.1.2) (λ behind. at_front behind.0 behind.1) split)
   where
-    high : 64 ≤ head
-    high = laid.high
-
     low : 64 ≤ end
-    low = laid.low
-
-    size : 128 ≤ length c
-    size = laid.size
+    low = ordered.0
 
     below : end < head
-    below = laid.below
+    below = ordered.1
 
-    -- the jump is at the head
-    at_head : (q : List ℕ) (qs : Entries) → head ≡ jump → p ≡ q → es ≡ qs → Run c 64 (q ∷ qs) end → ReadyAt (first_past (Some jump) head end (length p)) es c
-    at_head q qs at same rest from_front =
-        let up = run_grows c (64 + 5 + length q) qs end from_front.1 in
-        let long : length p ≡ length q = ap length same in
-        let is : behind 64 (length p) end ≡ 64 + 5 + length q = behind_is 64 (length p) end (omega (arith, up, long)) (omega (arith, ordered.1, ordered.2, ordered.3)) ∙ ap (λ (n : ℕ). 64 + 5 + n) long in
-        let places : first_past (Some jump) head end (length p) ≡ record { jump = None; head = behind 64 (length p) end; end = end } = grind (arith, nat_tests) in
-        subst (λ (q : Places). ReadyAt q es c) (sym places) (subst (λ (k : ℕ). IsReady None k end es c) (sym is) (record {
-          size = size;
+    in_row : size < jump - head → (rest : Entries) → drop n (laid.row.first ++ laid.row.second) ≡ rest ++ laid.row.second → Run c (head + size) rest jump → IsReadyAt (skipped (Some jump) head end size) (drop n (laid.row.first ++ laid.row.second)) c
+    in_row lt rest is run =
+        let places : skipped (Some jump) head end size ≡ record { jump = Some jump; head = head + size; end = end } = grind (arith, nat_tests) in
+        let whole = laid.row.jumps.whole in
+        subst (λ (q : Places). IsReadyAt q (drop n (laid.row.first ++ laid.row.second)) c) (sym places) (record {
+          size = laid.buffer.size;
+          high = omega (arith, low, below);
+          low = low;
+          inside = omega (arith, lt, whole);
+          row = record { first = rest; second = laid.row.second; both = is; to_jump = run; jumps = laid.row.jumps; from_front = laid.row.from_front };
+          ends = laid.ends;
+          below = omega (arith, below);
+        })
+
+    at_front : jump - head ≤ size → Run c (64 + (size - (jump - head))) (drop n (laid.row.first ++ laid.row.second)) end → IsReadyAt (skipped (Some jump) head end size) (drop n (laid.row.first ++ laid.row.second)) c
+    at_front le run =
+        let places : skipped (Some jump) head end size ≡ record { jump = None; head = 64 + (size - (jump - head)); end = end } = grind (arith, nat_tests) in
+        let up = run_grows c (64 + (size - (jump - head))) (drop n (laid.row.first ++ laid.row.second)) end run in
+        let inside = laid.ends.inside in
+        subst (λ (q : Places). IsReadyAt q (drop n (laid.row.first ++ laid.row.second)) c) (sym places) (record {
+          size = laid.buffer.size;
           high = omega arith;
           low = low;
-          inside = from_front.0.next;
-          row = subst (λ (l : Entries). Run c (64 + 5 + length q) l end) (sym rest) from_front.1;
+          inside = omega (arith, up, inside);
+          row = run;
           ends = laid.ends;
           below = tt;
-        }))
-
-    wrapped : (first second : Entries) → (p ∷ es) ≡ first ++ second → Run c head first jump → Run c 64 second end → ReadyAt (first_past (Some jump) head end (length p)) es c
-    wrapped [] [] both to_jump from_front = absurd (let e : (p ∷ es) ≡ [] = both in cc)
-    wrapped [] (q ∷ qs) both to_jump from_front =
-        let e : (p ∷ es) ≡ (q ∷ qs) = both in
-        at_head q qs to_jump (let same : p ≡ q = cc in same) (let rest : es ≡ qs = cc in rest) from_front
-    wrapped (q ∷ qs) second both to_jump from_front =
-        let e : (p ∷ es) ≡ (q ∷ (qs ++ second)) = both in
-        let same : p ≡ q = cc in
-        let rest : es ≡ qs ++ second = cc in
-        let long : length p ≡ length q = ap length same in
-        let up = run_grows c (head + 5 + length q) qs jump to_jump.1 in
-        let is : behind head (length p) jump ≡ head + 5 + length q = behind_is head (length p) jump (omega (arith, up, long)) (omega (arith, ordered.3)) ∙ ap (λ (n : ℕ). head + 5 + n) long in
-        elim (cases_eq (head + 5 + length q) jump) [
-          | inl last ↦
-              let places : first_past (Some jump) head end (length p) ≡ record { jump = None; head = 64; end = end } = grind (arith, nat_tests, is, last) in
-              let none : qs ≡ [] = none_left qs to_jump.1 last in
-              subst (λ (q : Places). ReadyAt q es c) (sym places) (record {
-                size = size;
-                high = omega arith;
-                low = low;
-                inside = omega (arith, size);
-                row = subst (λ (l : Entries). Run c 64 l end) (sym (rest ∙ ap (λ (l : Entries). l ++ second) none)) from_front;
-                ends = laid.ends;
-                below = tt;
-              })
-          | inr more ↦
-              let places : first_past (Some jump) head end (length p) ≡ record { jump = Some jump; head = behind head (length p) jump; end = end } = grind (arith, nat_tests, is, more) in
-              subst (λ (q : Places). ReadyAt q es c) (sym places) (subst (λ (k : ℕ). IsReady (Some jump) k end es c) (sym is) (record {
-                size = size;
-                high = omega (arith, high);
-                low = low;
-                inside = to_jump.0.next;
-                row = record { first = qs; second = second; both = rest; to_jump = to_jump.1; jumps = laid.row.jumps; from_front = from_front };
-                ends = laid.ends;
-                below = omega (arith, below);
-              }))
-        ]
-      where
-        none_left : (qs : Entries) → Run c (head + 5 + length q) qs jump → head + 5 + length q ≡ jump → qs ≡ []
-        none_left [] run last = refl
-        none_left (r ∷ rs) run last = absurd (let up = run_grows c (head + 5 + length q + 5 + length r) rs jump run.1 in omega (arith, up, last))
+        })
 
 -- the entry behind so many others
 pub drop_split : (k : ℕ) (es : Entries) → k < length es → (p : List ℕ) × (ps : Entries) × (drop k es ≡ p ∷ ps) × (drop (suc k) es ≡ ps)
@@ -129,19 +120,6 @@ drop_split (suc k) (e ∷ es) lt = drop_split k es (omega (arith, lt))
 pub known_size : (known : Option ℕ) (p : List ℕ) (ps : Entries) → IsFirstSize known (p ∷ ps) → (known ≡ None) ⊎ (known ≡ Some (length p))
 known_size None p ps is = inl refl
 known_size (Some n) p ps is = inr (ap (λ (k : ℕ). Some k) is)
-
--- One entry more is skipped: its length is told by one image, and is the same in all.
-pub skip_step : (places next : Places) (known : Option ℕ) (k size : ℕ) (es : Entries) (b : List ℕ) → AreOrdered next.jump next.head next.end → k < length es → ((c : List ℕ) → IsLaid places.jump places.head places.end es c → IsReadyAt next (drop k es) c)
-    → IsFirstSize known (drop k es) → IsLaid places.jump places.head places.end es b → ((p : List ℕ) → (known ≡ None) ⊎ (known ≡ Some (length p)) → IsEntry b (gate_past next.jump next.head) p → size ≡ length p)
-    → (c : List ℕ) → IsLaid places.jump places.head places.end es c → IsReadyAt (after_first next size) (drop (suc k) es) c
-skip_step places next known k size es b ordered lt ready first laid_b sized c laid_c =
-    let split = drop_split k es lt in
-    let p = split.0 in
-    let ps = split.1 in
-    let at_b = subst (λ (l : Entries). IsReadyAt next l b) split.2 (ready b laid_b) in
-    let at_c = subst (λ (l : Entries). IsReadyAt next l c) split.2 (ready c laid_c) in
-    let is : size ≡ length p = sized p (known_size known p ps (subst (λ (l : Entries). IsFirstSize known l) split.2 first)) (first_entry next.jump next.head next.end p ps b at_b.row) in
-    subst (λ (l : Entries). IsReadyAt (after_first next size) l c) (sym split.3) (subst (λ (n : ℕ). IsReadyAt (after_first next n) ps c) (sym is) (ready_behind next.jump next.head next.end p ps c ordered at_c))
 
 pub first_none : (es : Entries) → IsFirstSize None es
 first_none es = tt

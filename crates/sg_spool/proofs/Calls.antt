@@ -1,10 +1,12 @@
 -- What every call keeps.
-use Rattle.std.proofs.Common.{◌≡◌, ◌⊎◌, inl, ⊎_elim, ℕ, ◌+◌, ◌-◌, ◌≤◌, ◌^◌, min, List, [], ◌∷◌, ◌++◌, length, refl, sym, ◌∙◌, ap, subst, arith}
-use Rattle.std.specs.Prelude.{true, false}
-use Rattle.sg_device.specs.Disk.{DiskState, Moves, Within}
+use Rattle.std.proofs.Common.{◌≡◌, ◌⊎◌, inl, inr, ⊎_elim, ℕ, ◌+◌, ◌-◌, ◌≤◌, ◌^◌, min, List, [], ◌∷◌, ◌++◌, length, refl, sym, ◌∙◌, ap, subst, arith}
+use Rattle.std.specs.Prelude.{true, false, Result, Ok, Err}
+use Rattle.sg_device.specs.Disk.{DiskState, Moves, Preserves, Within}
 use Rattle.sg_device.specs.Faults.{Rose}
-use Rattle.sg_device.proofs.Disks.{moves_refl, within_as}
-use Rattle.sg_device.proofs.DiskCalls.{moves_trans}
+use Rattle.sg_device.proofs.Disks.{moves_refl, now_same, within_as, within_preserves}
+use Rattle.sg_device.proofs.DiskCalls.{content_same, moves_trans, unchanged}
+use Rattle.sg_device.specs.declared.fault.DiskFault.{DiskFault as DeviceFault}
+use Rattle.sg_spool.specs.Answers.{Advances}
 use Rattle.sg_spool.specs.Calls.{Lasts, Leaves}
 use Rattle.sg_spool.specs.Lists.{IsOneOf}
 use Rattle.std.proofs.lemmas.List.{append-nil}
@@ -12,7 +14,7 @@ use Rattle.sg_spool.specs.Ring.{Entries, IsList}
 use Rattle.sg_spool.specs.Rows.{listed, committed, total}
 use Rattle.sg_spool.specs.declared.rows.Rows.{Rows}
 use Rattle.sg_spool.proofs.Chains.{within_join}
-use Rattle.sg_spool.specs.View.{View, HoldsAt, IsCompactIn}
+use Rattle.sg_spool.specs.View.{View, HoldsAt, IsCompactAt, IsCompactIn}
 use Rattle.sg_spool.proofs.Whole.{stay_one, stay_short, listed_same}
 
 -- nothing changed
@@ -85,3 +87,36 @@ pub appended_rows : (old mid new : Rows) → old.staged ≡ 0 → total mid ≡ 
 appended_rows old mid new none totals is =
     let count : total mid ≡ min (old.count + 1) (2 ^ 64 - 1) = omega (arith, totals, none) in
     listed_same mid.ahead (min (old.count + 1) (2 ^ 64 - 1)) new (is ∙ ap (λ (k : ℕ). listed mid.ahead k) count)
+
+-- a call before which the disk was only read
+module _ {D : Type 0} (state : D → DiskState) (old : View D) (disk : D) (told : (state disk).told ≡ (state old.disk).told) (later : (state old.disk).faults ≤ (state disk).faults) where
+  abbrev pub mid : View D
+  mid = record old { disk = disk }
+
+  keeps : Preserves (state old.disk) (state disk)
+  keeps = unchanged (state old.disk) (state disk) told
+
+  holds_read : (list staged : Entries) → HoldsAt (state old.disk) old.rows list staged → HoldsAt (state disk) old.rows list staged
+  holds_read list staged h = record {
+    images = now_same (state old.disk) (state disk) (IsList list) keeps.still h.images;
+    number = h.number;
+    waits = λ b is. h.waits b (sym (content_same (state old.disk) (state disk) told) ∙ is);
+  }
+
+  compact_read : IsCompactAt (state old.disk) old.capacity old.rows → IsCompactAt (state disk) old.capacity old.rows
+  compact_read compact = record { list = compact.list; ahead = compact.ahead; images = now_same (state old.disk) (state disk) (IsCompactIn old.capacity) keeps.still compact.images }
+
+  pub leaves_read : (new : View D) (step : Entries → Entries → Entries) → Leaves state mid new step → Leaves state old new step
+  leaves_read new step second = record {
+    within = λ list staged holds. within_join (state old.disk) (state disk) (state new.disk) (IsOneOf list (step list staged)) (IsOneOf list (step list staged))
+        (within_preserves (state old.disk) (state old.disk) (state disk) (IsOneOf list (step list staged)) (stay_one old.rows list staged (step list staged) (state old.disk) holds) keeps)
+        (second.within list staged (holds_read list staged holds)) (λ c at. at);
+    short = λ compact. within_join (state old.disk) (state disk) (state new.disk) (IsCompactIn old.capacity) (IsCompactIn old.capacity)
+        (within_preserves (state old.disk) (state old.disk) (state disk) (IsCompactIn old.capacity) (stay_short old.rows old.capacity (state old.disk) compact) keeps)
+        (second.short (compact_read compact)) (λ c at. at);
+    compact = λ compact. second.compact (compact_read compact);
+  }
+
+  pub advances_read : (new : View D) (n : ℕ) (result : Result Unit DeviceFault) → Advances state mid new n result → Advances state old new n result
+  advances_read new n (Ok done) answer = (answer.0, answer.1, answer.2, answer.3, λ list holds. answer.4 list (holds_read list [] holds))
+  advances_read new n (Err e) answer = (⊎_elim (λ shut. inl shut) (λ rose. inr (omega (arith, rose, later))) answer.0, answer.1, answer.2)

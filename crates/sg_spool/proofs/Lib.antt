@@ -11,6 +11,7 @@ pub mod Fresh
 pub mod Gathering
 pub mod InFront
 pub mod Looking
+pub mod Measuring
 pub mod Remaining
 pub mod RewriteCalls
 pub mod Rewriting

@@ -1,5 +1,5 @@
 -- What each call leaves of a disk-buffer.
-use Rattle.std.proofs.Common.{◌≡◌, ◌⊎◌, inl, inr, ⊎_elim, ℕ, ◌+◌, ◌-◌, ◌<◌, ◌≤◌, ◌^◌, List, [], ◌∷◌, ◌++◌, length, drop, map, refl, sym, ◌∙◌, ap, subst, arith, length-append, length-drop, Some, None, Option}
+use Rattle.std.proofs.Common.{◌≡◌, ◌⊎◌, inl, inr, ⊎_elim, ℕ, ◌+◌, ◌-◌, ◌<◌, ◌≤◌, ◌^◌, List, [], ◌∷◌, ◌++◌, length, take, drop, map, refl, sym, ◌∙◌, ap, subst, arith, length-append, length-drop, Some, None, Option}
 use Rattle.std.proofs.lemmas.List.{append-nil, append_cancel_left, drop_all, length-map}
 use Rattle.std.specs.Option.{option_map}
 use Rattle.sg_device.specs.Disk.{DiskLog, DiskState, DiskEvent, content, clock, bytes_after, IsLeft, IsImage, IsImageAt, Moves, Elapses, Preserves, Durable, Within, EachNow, WhereTold}
@@ -65,6 +65,10 @@ empty_map f (e ∷ es) is = absurd (omega (arith, is))
 -- the number of entries is small
 pub number_small : (cell : Pair) (places : Places) (es : Entries) (c : List ℕ) → IsOrdered places → IsRing cell places es c → length es < 2 ^ 63
 number_small cell places es c ordered ring = omega (arith, length_space es, row_between places.jump c places.head places.end es ring.laid.row, between_small places.jump places.head places.end ordered)
+
+no_staged : (ps : Entries) → length ps ≡ 0 → ps ≡ []
+no_staged [] none = refl
+no_staged (p ∷ ps) none = absurd (omega (arith, none))
 
 -- what awaits the gate is one list
 staged_unique : (cell : Pair) (end : ℕ) (longer : Option ℕ) (first last : ℕ) (es ps list qs : Entries) (b : List ℕ) → es ≡ list → length ps ≡ length qs → OpensTo cell end longer first last es ps b → Awaits end list qs b → ps ≡ qs
@@ -178,6 +182,13 @@ module _ (cell : Pair) (rows : Rows) (front : Option (List ℕ)) (d0 : DiskState
           let ring = at.opens b told d (with_gate_torn rows.list.end 1 b) (λ shut. let no : 1 ≡ 0 = sym (with_gate_is rows.list.end 1 b) ∙ shut in omega (arith, no)) in
           row_between rows.ahead.jump d rows.ahead.head rows.ahead.end (list ++ p ∷ ps) ring.laid.row
 
+  -- where nothing is staged
+  pub space_listed : AreRows rows → rows.staged ≡ 0 → (b : List ℕ) → content d0 ≡ Some b → (list : Entries) → IsList list b → live rows.ahead ≡ space list
+  space_listed are none b told list is =
+      let same = is_entries list b (reads_as_image d0 b told) is in
+      let empty = no_staged w.staged (sym w.waits ∙ none) in
+      spaces are w.entries w.staged holds b told ∙ ap (λ (l : Entries). space (w.entries ++ l)) empty ∙ ap space (append-nil w.entries) ∙ ap space same
+
   -- something more is staged
   pub whole_staged : (d1 : DiskState) (after : Pair) (next : Rows) (more : Entries) → Moves d0 d1 → AreRows next → AreHeldAfter d1 after rows next w.entries w.staged more → IsWhole d1 after next front
   whole_staged d1 after next more moves are (inl at) = record {
@@ -219,12 +230,22 @@ module _ (cell : Pair) (rows : Rows) (front : Option (List ℕ)) (d0 : DiskState
     waits = ap (λ (r : Rows). r.staged) is;
   }
 
-  -- the first entries
-  pub has_entries : (n : ℕ) → n ≤ rows.count → (list staged : Entries) → HoldsAt d0 rows list staged → EachNow d0 (HasEntries cell rows.list n (option_map length front) list)
-  has_entries n enough list staged h c left =
+  -- the first entries, and what they take
+  pub has_entries : (n size : ℕ) → n ≤ rows.count → WhereTold (content d0) (λ b. (list : Entries) → IsList list b → size ≡ space (take n list)) → (list staged : Entries) → HoldsAt d0 rows list staged → EachNow d0 (HasEntries cell rows.list n size list)
+  has_entries n size enough sized list staged h c left =
       let at = w.each c left in
-      subst (λ (l : Entries). HasEntries cell rows.list n (option_map length front) l c) (is_entries list c left (h.images c left))
-      (record { ring = at.ring; enough = omega (arith, enough, at.number); first = front_size front w.entries at.first })
+      let b = image_told d0 c left in
+      subst (λ (l : Entries). HasEntries cell rows.list n size l c) (is_entries list c left (h.images c left))
+      (record { ring = at.ring; enough = omega (arith, enough, at.number); sized = sized b.0 b.1 w.entries (lists b.0 (reads_as_image d0 b.0 b.1)) })
+
+  -- what was read of them
+  pub measured : (n size : ℕ) → n ≤ rows.count
+      → WhereTold (content d0) (λ b. (es : Entries) → n ≤ length es → IsFirstSize (option_map length front) es → IsLaid rows.list.jump rows.list.head rows.list.end es b → size ≡ space (take n es))
+      → WhereTold (content d0) (λ b. (list : Entries) → IsList list b → size ≡ space (take n list))
+  measured n size enough read b told list is =
+      let left = reads_as_image d0 b told in
+      let at = w.each b left in
+      subst (λ (l : Entries). size ≡ space (take n l)) (is_entries list b left is) (read b told w.entries (omega (arith, enough, at.number)) (front_size front w.entries at.first) at.ring.laid)
 
   pub whole_advanced : (n : ℕ) (d1 : DiskState) (after : Pair) (next : Places) → Moves d0 d1 → n ≤ rows.count → EachNow d1 (IsRing after next (drop n w.entries)) → IsWhole d1 after (listed next (rows.count - n)) None
   whole_advanced n d1 after next moves enough rings = record {

@@ -1,8 +1,8 @@
 -- Taking the first entries off a list.
-use Rattle.std.specs.Prelude.{◌≡◌, ◌⊎◌, ℕ, ◌<◌, ◌≤◌, List, [], ◌∷◌, length, drop, Option, Some, None}
+use Rattle.std.specs.Prelude.{◌≡◌, ◌⊎◌, ℕ, ◌<◌, ◌≤◌, List, [], ◌∷◌, length, take, drop, Option, Some, None}
 use Rattle.sg_stable.specs.declared.cell.Pair.{Pair}
 use Rattle.sg_spool.specs.Places.{AreCompact}
-use Rattle.sg_spool.specs.Ring.{Entries, IsEnd, IsRow, IsBelow, IsLaid}
+use Rattle.sg_spool.specs.Ring.{Entries, IsEnd, IsRow, IsBelow, IsLaid, space}
 use Rattle.sg_spool.specs.View.{IsRing}
 use Rattle.sg_spool.specs.declared.places.Places.{Places}
 
@@ -12,11 +12,11 @@ IsFirstSize None entries = Unit {0}
 IsFirstSize (Some size) [] = ⊥
 IsFirstSize (Some size) (payload ∷ payloads) = size ≡ length payload
 
--- the bytes are the ring of at least so many entries
-pub record HasEntries (cell : Pair) (places : Places) (n : ℕ) (size : Option ℕ) (entries : Entries) (bytes : List ℕ) : Type 0 where
+-- the bytes are the ring of at least so many entries, the first of which take so many bytes
+pub record HasEntries (cell : Pair) (places : Places) (n size : ℕ) (entries : Entries) (bytes : List ℕ) : Type 0 where
   pub ring : IsRing cell places entries bytes
   pub enough : n ≤ length entries
-  pub first : IsFirstSize size entries
+  pub sized : size ≡ space (take n entries)
 
 -- a ring stands at these places, but for the cell's value
 pub record IsReady (jump : Option ℕ) (head end : ℕ) (entries : Entries) (bytes : List ℕ) : Type 0 where

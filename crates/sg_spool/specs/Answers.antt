@@ -3,7 +3,7 @@ use Rattle.std.specs.Prelude.{◌≡◌, ◌⊎◌, ℕ, ◌+◌, ◌-◌, ◌�
 use Rattle.sg_device.specs.Disk.{DiskState, content, WhereTold}
 use Rattle.sg_device.specs.Faults.{Rose}
 use Rattle.sg_spool.specs.Places.{Fits, Remains, gate_past, live}
-use Rattle.sg_spool.specs.Ring.{Entries, IsList}
+use Rattle.sg_spool.specs.Ring.{Entries, IsList, IsPayload}
 use Rattle.sg_spool.specs.Rows.{listed, committed, total}
 use Rattle.sg_spool.specs.View.{View, Holds}
 use Rattle.sg_spool.specs.declared.answers.Appended.{Appended}
@@ -111,6 +111,12 @@ abbrev pub IsBehind : Option ℕ → ℕ → Walked → Type 0
 IsBehind jump gate (WalkedItem payload next) = next ≡ gate_past jump (gate + 5 + length payload.items)
 IsBehind jump gate WalkedEmpty = Unit {0}
 IsBehind jump gate WalkedFailed = Unit {0}
+
+-- what was read has the length of a payload
+abbrev pub IsWholeItem : Walked → Type 0
+IsWholeItem (WalkedItem payload next) = IsPayload payload.items
+IsWholeItem WalkedEmpty = Unit {0}
+IsWholeItem WalkedFailed = Unit {0}
 
 -- the disk failed now
 abbrev pub HasReadCause : ℕ → ℕ → RewriteRefusal → Type 0

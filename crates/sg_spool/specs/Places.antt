@@ -1,5 +1,5 @@
 -- The places of a ring.
-use Rattle.std.specs.Prelude.{◌≡◌, ℕ, ◌+◌, ◌-◌, ◌*◌, ◌<◌, ◌≤◌, ◌^◌, min, max, List, [], ◌∷◌, length, Option, Some, None, if◌then◌else◌, ◌==◌}
+use Rattle.std.specs.Prelude.{◌≡◌, ℕ, ◌+◌, ◌-◌, ◌*◌, ◌<◌, ◌≤◌, ◌^◌, max, List, [], ◌∷◌, length, Option, Some, None, nat_lt, if◌then◌else◌, ◌==◌}
 use Rattle.sg_spool.specs.Ring.{Entries, IsEntry}
 use Rattle.sg_spool.specs.declared.places.Places.{Places}
 
@@ -48,15 +48,11 @@ abbrev pub AreCompact : ℕ → Option ℕ → ℕ → ℕ → Type 0
 AreCompact capacity None head end = end < 64 + max 1 (2 * capacity)
 AreCompact capacity (Some jump) head end = (64 + capacity < head) × (jump < 64 + max 1 (2 * capacity))
 
--- the gate behind an entry of this size, and no place past the last
-abbrev pub behind : ℕ → ℕ → ℕ → ℕ
-behind gate size last = min (min (min (gate + 5) (2 ^ 64 - 1) + size) (2 ^ 64 - 1)) last
+-- the places once so many bytes of entries are off the front
+abbrev pub skipped : Option ℕ → ℕ → ℕ → ℕ → Places
+skipped None head end bytes = record { jump = None; head = head + bytes; end = end }
+skipped (Some jump) head end bytes = if nat_lt bytes (jump - head) then record { jump = Some jump; head = head + bytes; end = end }
+    else record { jump = None; head = 64 + (bytes - (jump - head)); end = end }
 
--- the places behind the first entry, whose payload has this size
-abbrev pub first_past : Option ℕ → ℕ → ℕ → ℕ → Places
-first_past None head end size = record { jump = None; head = behind head size end; end = end }
-first_past (Some jump) head end size = if jump == head then record { jump = None; head = behind 64 size end; end = end }
-    else (if behind head size jump == jump then record { jump = None; head = 64; end = end } else record { jump = Some jump; head = behind head size jump; end = end })
-
-abbrev pub after_first : Places → ℕ → Places
-after_first places size = first_past places.jump places.head places.end size
+abbrev pub skip : Places → ℕ → Places
+skip places bytes = skipped places.jump places.head places.end bytes

@@ -1,10 +1,10 @@
 // Taking the first entries off the list.
-ghost use Rattle.std.specs.Prelude.{◌≡◌, ◌⊎◌, ◌≤◌, ◌<◌, ◌+◌, ◌-◌, ◌^◌, List, ℕ, length, drop, OnOk, IfOk, Some, None, Option, false};
+ghost use Rattle.std.specs.Prelude.{◌≡◌, ◌⊎◌, ◌≤◌, ◌<◌, ◌+◌, ◌-◌, ◌^◌, List, ℕ, length, take, drop, OnOk, IfOk, Some, None, Option, false};
 ghost use Rattle.sg_device.specs.Disk.{content, Within, EachNow, HasCause, WhereTold};
 ghost use Rattle.sg_stable.specs.Cell.{HasCell};
-ghost use Rattle.sg_spool.specs.Advancing.{HasEntries, IsFirstSize, IsAdvanced, IsReadyAt};
-ghost use Rattle.sg_spool.specs.Places.{IsOrdered, AreCompact, gate_past};
-ghost use Rattle.sg_spool.specs.Ring.{Entries, IsEntry, IsLaid};
+ghost use Rattle.sg_spool.specs.Advancing.{HasEntries, IsAdvanced, IsFirstSize};
+ghost use Rattle.sg_spool.specs.Places.{IsOrdered, AreCompact, gate_past, live};
+ghost use Rattle.sg_spool.specs.Ring.{Entries, IsEntry, IsLaid, space};
 ghost use Rattle.sg_spool.specs.View.{IsRing};
 
 use crate::Places;
@@ -12,61 +12,72 @@ use crate::read::read_size;
 use sg_device::{Disk, DiskFault};
 use sg_stable::Pair;
 
-// Puts the place behind the first entries into the cell, once for all of them. The first one's length may
-// be known.
+// Puts the place behind the first entries, which take so many bytes, into the cell.
 pub(crate) fn advance_past<D: Disk>(
     disk: &mut D,
     cell: &mut Pair,
     places: Places,
-    n: u64,
-    first: Option<u64>,
+    size: u64,
 ) -> Result<Places, DiskFault>
     requires ordered { IsOrdered places }
+    requires enough { size ≤ live places }
     requires cell_open { cell.old.closed ≡ false }
     requires has_cell { EachNow (D.state disk.old) (HasCell cell.old.selector cell.old.value) }
 
-    ensures within { (entries : Entries) → EachNow (D.state disk.old) (HasEntries cell.old places n first entries)
+    ensures within { (n : ℕ) (entries : Entries) → EachNow (D.state disk.old) (HasEntries cell.old places n size entries)
         → Within (D.state disk.old) (D.state disk.new) (IsAdvanced places n entries) }
 
-    ensures ring { IfOk result (λ next. (entries : Entries) → EachNow (D.state disk.old) (HasEntries cell.old places n first entries)
+    ensures ring { IfOk result (λ next. (n : ℕ) (entries : Entries) → EachNow (D.state disk.old) (HasEntries cell.old places n size entries)
         → EachNow (D.state disk.new) (IsRing cell.new next (drop n entries))) }
 
     ensures ordered { IfOk result (λ next. IsOrdered next) }
+    ensures live { IfOk result (λ next. live next + size ≡ live places) }
     ensures compact { IfOk result (λ next. (capacity : ℕ) → AreCompact capacity places.jump places.head places.end → AreCompact capacity next.jump next.head next.end) }
     ensures short { (most : ℕ) → EachNow (D.state disk.old) (λ bytes. length bytes ≤ most) → Within (D.state disk.old) (D.state disk.new) (λ bytes. length bytes ≤ most) }
     ensures cell_open { OnOk result (cell.new.closed ≡ false) }
     ensures cause { HasCause (D.state disk.old).faults (D.state disk.new).faults result }
 {
-    let next = skip(disk, places, n, first)?;
+    let next = places.skip(size);
     cell.put(disk, next.head - 64)?;
     Ok(next)
 }
 
-// The places behind so many entries.
-fn skip<D: Disk>(
+// What the first entries take, so many: their lengths are read, but the first one's where it is known.
+pub(crate) fn space_of<D: Disk>(
     disk: &mut D,
     places: Places,
     n: u64,
     first: Option<u64>,
-) -> Result<Places, DiskFault>
+) -> Result<u64, DiskFault>
     requires ordered { IsOrdered places }
-    ensures behind { IfOk result (λ next. WhereTold (content (D.state disk.old)) (λ b. (entries : Entries) → n ≤ length entries → IsFirstSize first entries → IsLaid places.jump places.head places.end entries b
-        → (c : List ℕ) → IsLaid places.jump places.head places.end entries c → IsReadyAt next (drop n entries) c)) }
-    ensures ordered { IfOk result (λ next. IsOrdered next) }
-    ensures compact { IfOk result (λ next. (capacity : ℕ) → AreCompact capacity places.jump places.head places.end → AreCompact capacity next.jump next.head next.end) }
+    ensures sized { IfOk result (λ size. WhereTold (content (D.state disk.old)) (λ b. (entries : Entries) → n ≤ length entries → IsFirstSize first entries → IsLaid places.jump places.head places.end entries b
+        → size ≡ space (take n entries))) }
+    ensures inside { IfOk result (λ size. size ≤ live places) }
     ensures told { (D.state disk.new).told ≡ (D.state disk.old).told }
     ensures cause { HasCause (D.state disk.old).faults (D.state disk.new).faults result }
 {
-    let mut next = places;
+    let most = places.live();
+    let mut size = 0;
+    let mut gate = places.gate_past(places.head);
     let mut known = first;
     let mut left = n;
     while left > 0 {
-        let size = first_size(disk, next.gate_past(next.head), known)?;
-        next = next.after_first(size);
+        let length = first_size(disk, gate, known)?;
+        size = past(size, length, most);
+        gate = places.gate_past(gate.saturating_add(5).saturating_add(length));
         known = None;
         left -= 1;
     }
-    Ok(next)
+    Ok(size)
+}
+
+// So many bytes and an entry of this length, and no more than all.
+fn past(size: u64, length: u64, most: u64) -> u64
+    requires { size ≤ most }
+    ensures inside { result ≤ most }
+    ensures size { size + 5 + length ≤ most → result ≡ size + 5 + length }
+{
+    size.saturating_add(5).saturating_add(length).min(most)
 }
 
 // The length of the entry's payload at this gate, which may be known.

@@ -1,6 +1,6 @@
 // The places of a ring.
 ghost use Rattle.std.specs.Prelude.{◌≡◌, ◌+◌, ◌≤◌, ◌<◌, ◌^◌, Some};
-ghost use Rattle.sg_spool.specs.Places.{IsOrdered, live, gate_past, after_first, behind};
+ghost use Rattle.sg_spool.specs.Places.{IsOrdered, live, gate_past, skip};
 
 /// Where a ring's list begins and ends, in bytes from the beginning of the file.
 #[derive(Clone, Copy, Debug, PartialEq, Eq, Drop)]
@@ -35,48 +35,35 @@ impl Places {
         }
     }
 
-    // The places behind the first entry, whose payload has this length.
-    pub(crate) fn after_first(self, size: u64) -> Places
-        requires { IsOrdered self }
-        ensures places { result ≡ after_first self size }
+    // The places once so many bytes of entries are off the front.
+    pub(crate) fn skip(self, bytes: u64) -> Places
+        requires ordered { IsOrdered self }
+        requires enough { bytes ≤ live self }
+        ensures places { result ≡ skip self bytes }
         ensures ordered { IsOrdered result }
+        ensures live { live result + bytes ≡ live self }
     {
         match self.jump {
             None => Places {
                 jump: None,
-                head: behind(self.head, size, self.end),
+                head: self.head + bytes,
                 end: self.end,
             },
             Some(jump) => {
-                if jump == self.head {
+                let before = jump - self.head;
+                if bytes < before {
                     return Places {
-                        jump: None,
-                        head: behind(64, size, self.end),
-                        end: self.end,
-                    };
-                }
-                let next = behind(self.head, size, jump);
-                if next == jump {
-                    return Places {
-                        jump: None,
-                        head: 64,
+                        jump: Some(jump),
+                        head: self.head + bytes,
                         end: self.end,
                     };
                 }
                 Places {
-                    jump: Some(jump),
-                    head: next,
+                    jump: None,
+                    head: 64 + (bytes - before),
                     end: self.end,
                 }
             }
         }
     }
-}
-
-// The gate behind an entry of this length, and no place past the last.
-fn behind(gate: u64, size: u64, last: u64) -> u64
-    requires { gate ≤ last }
-    ensures { result ≡ behind gate size last }
-{
-    gate.saturating_add(5).saturating_add(size).min(last)
 }

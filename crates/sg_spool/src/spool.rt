@@ -1,8 +1,8 @@
 // The disk-buffer on its disk.
-ghost use Rattle.std.specs.Prelude.{◌≡◌, ◌⊎◌, ◌↔◌, ◌≤◌, ◌<◌, ◌+◌, ◌-◌, ◌^◌, ◌++◌, [], ◌∷◌, List, ℕ, length, drop, map, min, OnOk, OnErr, IfOk, IfErr, Some, None, true, false, IsTrue, is_err};
+ghost use Rattle.std.specs.Prelude.{◌≡◌, ◌⊎◌, ◌↔◌, ◌≤◌, ◌<◌, ◌+◌, ◌-◌, ◌^◌, ◌++◌, [], ◌∷◌, List, ℕ, length, take, drop, map, min, OnOk, OnErr, IfOk, IfErr, Some, None, true, false, IsTrue, is_err};
 ghost use Rattle.std.specs.Option.{option_map};
 ghost use Rattle.sg_device.specs.Disk.{content, Preserves, Rests, Durable, Within, EachNow, WhereTold};
-ghost use Rattle.sg_spool.specs.Answers.{Stages, Appends, Commits, Advances, Respells, IsFronted, IsFirst, IsWalked, IsNext, IsBehind};
+ghost use Rattle.sg_spool.specs.Answers.{Stages, Appends, Commits, Advances, Respells, IsFronted, IsFirst, IsWalked, IsNext, IsBehind, IsWholeItem};
 ghost use Rattle.sg_spool.specs.Calls.{Lasts, Leaves, Reads};
 ghost use Rattle.sg_spool.specs.Lists.{IsOneOf};
 ghost use Rattle.sg_spool.specs.Opening.{HasReason};
@@ -11,7 +11,7 @@ ghost use Rattle.sg_spool.specs.Ring.{Entries, IsList, IsLaid, space};
 ghost use Rattle.sg_spool.specs.Rows.{listed};
 ghost use Rattle.sg_spool.specs.View.{View, Holds, IsCompact, IsCompactIn};
 
-use crate::advance::advance_past;
+use crate::advance::{advance_past, space_of};
 use crate::commit::commit_rows;
 use crate::open::look;
 use crate::read::{copy_of, read_entry};
@@ -202,7 +202,7 @@ impl<D: Disk> Spool<D> {
     }
 
     /// Takes the first entries off the list, so many: an image has the list with all of them or without
-    /// any. It takes no memory.
+    /// any. Their lengths are read, but for the first one's behind a `front`. It takes no memory.
     pub fn advance(&mut self, n: u64) -> Result<(), DiskFault>
         requires some { 1 ≤ n }
         requires enough { n ≤ self.old.rows.count }
@@ -214,14 +214,49 @@ impl<D: Disk> Spool<D> {
         if self.closed {
             return Err(DiskFault);
         }
+        let first = length_of(&self.front);
+        match space_of(&mut self.disk, self.rows.list, n, first) {
+            Ok(size) => self.advance_over(n, size),
+            Err(fault) => {
+                self.closed = true;
+                Err(fault)
+            }
+        }
+    }
+
+    /// The same of entries that take so many bytes, 5 and its length for each, as whoever put them there
+    /// may know. It reads nothing.
+    pub fn advance_over(&mut self, n: u64, size: u64) -> Result<(), DiskFault>
+        requires some { 1 ≤ n }
+        requires enough { n ≤ self.old.rows.count }
+        requires unstaged { self.old.rows.staged ≡ 0 }
+        requires inside { size ≤ live self.old.rows.list }
+        requires sized { self.old.closed ≡ false → WhereTold (content (D.state self.old.disk)) (λ bytes. (list : Entries) → IsList list bytes → size ≡ space (take n list)) }
+        ensures lasts { Lasts D.state self.old self.new }
+        ensures leaves { Leaves D.state self.old self.new (λ list staged. drop n list) }
+        ensures answer { Advances D.state self.old self.new n result }
+        ensures live { OnOk result (live self.new.rows.list + size ≡ live self.old.rows.list) }
+    {
+        if self.closed {
+            return Err(DiskFault);
+        }
         self.closed = true;
         let rows = self.rows;
-        let first = length_of(&self.front);
-        let next = advance_past(&mut self.disk, &mut self.cell, rows.list, n, first)?;
+        let next = advance_past(&mut self.disk, &mut self.cell, rows.list, size)?;
         self.rows = Rows::listed(next, rows.count - n);
         self.front = None;
         self.closed = false;
         Ok(())
+    }
+
+    /// The bytes that the entries take, those staged too: 5 and its length for each.
+    pub fn live(&self) -> u64
+        ensures live { result ≡ live self.now.rows.ahead }
+        ensures list { self.now.rows.staged ≡ 0 → result ≡ live self.now.rows.list }
+        ensures small { result < 2 ^ 63 }
+        ensures space { self.now.closed ≡ false → self.now.rows.staged ≡ 0 → WhereTold (content (D.state self.now.disk)) (λ bytes. (list : Entries) → IsList list bytes → result ≡ space list) }
+    {
+        self.rows.ahead.live()
     }
 
     /// The number of entries of the list.
@@ -257,6 +292,7 @@ impl<D: Disk> Spool<D> {
         ensures answer { IfOk result (IsWalked self.old self.new gate (D.state self.old.disk).faults (D.state self.new.disk).faults) }
         ensures next { IfOk result (λ walked. WhereTold (content (D.state self.old.disk)) (λ bytes. (entries : Entries) → Remains bytes self.old.rows.list.jump gate entries self.old.rows.list.end → IsNext self.old bytes entries walked)) }
         ensures behind { IfOk result (λ walked. WhereTold (content (D.state self.old.disk)) (λ bytes. (entries : Entries) → Remains bytes self.old.rows.list.jump gate entries self.old.rows.list.end → IsBehind self.old.rows.list.jump gate walked)) }
+        ensures whole { IfOk result IsWholeItem }
         ensures no_memory { OnErr result (self.new.closed ≡ false) }
         ensures front { self.new.front ≡ self.old.front }
     {

@@ -1,4 +1,4 @@
-//! Tests of stores and devices, in memory and real, and the new spelling of older entries.
+//! Tests of stores and devices, in memory and real.
 #![tactic(auto)]
 
 #[cfg(test)]
@@ -9,10 +9,7 @@ mod lists;
 mod memory;
 #[cfg(test)]
 mod migration;
-mod recode;
 #[cfg(test)]
 mod spool;
 #[cfg(test)]
 mod stores;
-
-pub use recode::{Upgrade, entries_stay};

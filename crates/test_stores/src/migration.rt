@@ -1,5 +1,5 @@
 // Disk-buffers with entries of format 1, spelled anew in format 2: the exact bytes, and what a crash leaves.
-use crate::Upgrade;
+use sg_buffer::Upgrade;
 use sg_memory_disk::{DiskChange, MemoryDisk, Pick};
 use sg_spool::{Front, Spool};
 use sg_stable::StoreRefusal;

@@ -1,72 +1,24 @@
-use Rattle.std.proofs.Common.{◌≡◌, ◌-◌, ℕ, [], drop, subst, sym, refl, Option}
-use Rattle.std.specs.Prelude.{true, false}
+use Rattle.std.proofs.Common.{◌∙◌, sym}
 use Rattle.std.specs.Option.{option_map}
-use Rattle.sg_device.specs.Disk.{EachNow}
-use Rattle.sg_device.proofs.Disks.{within_now, moves_within}
-use Rattle.sg_spool.specs.Advancing.{HasEntries}
-use Rattle.sg_spool.specs.Places.{bound}
-use Rattle.sg_spool.specs.View.{IsCompactIn}
-use Rattle.sg_spool.proofs.Calls.{lasts_open}
-use Rattle.sg_spool.proofs.Whole.{holds, has_entries, advance_one, advance_short, whole_advanced, advanced_rows, advanced_whole, advanced_holds, advanced_compact, listed_same}
+use Rattle.sg_device.proofs.DiskCalls.{content_same}
+use Rattle.sg_spool.proofs.Calls.{advances_read, leaves_read}
+use Rattle.sg_spool.specs.View.{View}
+use Rattle.sg_spool.proofs.Whole.{measured}
 use Rattle.sg_spool.proofs.spool.Spool.advance.Goals as goal
 
-pub returns-in_err-next-clause-lasts : goal.returns-in_err-next-clause-lasts
-returns-in_err-next-clause-lasts g c =
+pub advance_over-requires-clause-sized : goal.advance_over-requires-clause-sized
+advance_over-requires-clause-sized g c = λ shut b told.
     let m = c.self.inside in
-    let whole = c.self.invariant.whole c.if-self.false in
     let enough = rw (← c.self.view_is) at c.requires.enough in
-    rw (← c.self.view_is) (lasts_open g.D.Disk.state _ _ c.if-self.false refl (moves_within (c.advance_past.ensures.within whole.entries (subst (λ (s : Option ℕ). EachNow (g.D.Disk.state m.disk) (HasEntries m.cell m.rows.list c.args.n s whole.entries)) (sym c.length_of-first.ensures) (has_entries m.cell m.rows (option_map (λ v. v.items) m.front) (g.D.Disk.state m.disk) whole c.args.n enough whole.entries whole.staged (holds m.cell m.rows (option_map (λ v. v.items) m.front) (g.D.Disk.state m.disk) whole))))) c.advance_past.ensures.cause.later (λ shut. c.in_err-next.ensures.cause.failed))
+    measured m.cell m.rows (option_map (λ v. v.items) m.front) (g.D.Disk.state m.disk) (c.self.invariant.whole shut) c.args.n c.in-Ok.size enough
+    (rw c.length_of-first.ensures at c.in-Ok.ensures.sized) b (sym (content_same (g.D.Disk.state m.disk) (g.D.Disk.state c.space_of.new.disk) c.space_of.ensures.told) ∙ told)
 
-pub returns-clause-lasts : goal.returns-clause-lasts
-returns-clause-lasts g c =
-    let m = c.self.inside in
-    let whole = c.self.invariant.whole c.if-self.false in
-    let enough = rw (← c.self.view_is) at c.requires.enough in
-    rw (← c.self.view_is) (lasts_open g.D.Disk.state _ _ c.if-self.false refl (moves_within (c.advance_past.ensures.within whole.entries (subst (λ (s : Option ℕ). EachNow (g.D.Disk.state m.disk) (HasEntries m.cell m.rows.list c.args.n s whole.entries)) (sym c.length_of-first.ensures) (has_entries m.cell m.rows (option_map (λ v. v.items) m.front) (g.D.Disk.state m.disk) whole c.args.n enough whole.entries whole.staged (holds m.cell m.rows (option_map (λ v. v.items) m.front) (g.D.Disk.state m.disk) whole))))) c.advance_past.ensures.cause.later (λ shut. absurd (let no : false ≡ true = shut in cc)))
+pub returns-in-Ok-clause-leaves : goal.returns-in-Ok-clause-leaves
+returns-in-Ok-clause-leaves g c =
+    rw (← c.self.view_is) (leaves_read g.D.Disk.state _ c.space_of.new.disk c.space_of.ensures.told c.space_of.ensures.cause.later c.advance_over.new.self _ c.advance_over.ensures.leaves)
 
-pub returns-in_err-next-clause-leaves : goal.returns-in_err-next-clause-leaves
-returns-in_err-next-clause-leaves g c =
+pub returns-in-Ok-clause-answer : goal.returns-in-Ok-clause-answer
+returns-in-Ok-clause-answer g c =
     let m = c.self.inside in
-    let whole = c.self.invariant.whole c.if-self.false in
-    let enough = rw (← c.self.view_is) at c.requires.enough in
-    rw (← c.self.view_is) (record {
-      within = λ list staged at. advance_one m.cell m.rows (option_map (λ v. v.items) m.front) (g.D.Disk.state m.disk) whole c.args.n (g.D.Disk.state c.advance_past.new.disk) list (c.advance_past.ensures.within list (subst (λ (s : Option ℕ). EachNow (g.D.Disk.state m.disk) (HasEntries m.cell m.rows.list c.args.n s list)) (sym c.length_of-first.ensures) (has_entries m.cell m.rows (option_map (λ v. v.items) m.front) (g.D.Disk.state m.disk) whole c.args.n enough list staged at)));
-      short = λ compact. advance_short m.cell m.rows (option_map (λ v. v.items) m.front) (g.D.Disk.state m.disk) whole m.capacity compact c.self.invariant.rows c.args.n (g.D.Disk.state c.advance_past.new.disk) (c.advance_past.ensures.within whole.entries (subst (λ (s : Option ℕ). EachNow (g.D.Disk.state m.disk) (HasEntries m.cell m.rows.list c.args.n s whole.entries)) (sym c.length_of-first.ensures) (has_entries m.cell m.rows (option_map (λ v. v.items) m.front) (g.D.Disk.state m.disk) whole c.args.n enough whole.entries whole.staged (holds m.cell m.rows (option_map (λ v. v.items) m.front) (g.D.Disk.state m.disk) whole)))) (c.advance_past.ensures.short (bound m.capacity) (λ b left. (compact.images b left).short));
-      compact = λ compact. record { list = compact.list; ahead = compact.ahead; images = (within_now (g.D.Disk.state m.disk) (g.D.Disk.state c.advance_past.new.disk) (IsCompactIn m.capacity) (advance_short m.cell m.rows (option_map (λ v. v.items) m.front) (g.D.Disk.state m.disk) whole m.capacity compact c.self.invariant.rows c.args.n (g.D.Disk.state c.advance_past.new.disk) (c.advance_past.ensures.within whole.entries (subst (λ (s : Option ℕ). EachNow (g.D.Disk.state m.disk) (HasEntries m.cell m.rows.list c.args.n s whole.entries)) (sym c.length_of-first.ensures) (has_entries m.cell m.rows (option_map (λ v. v.items) m.front) (g.D.Disk.state m.disk) whole c.args.n enough whole.entries whole.staged (holds m.cell m.rows (option_map (λ v. v.items) m.front) (g.D.Disk.state m.disk) whole)))) (c.advance_past.ensures.short (bound m.capacity) (λ b left. (compact.images b left).short)))) };
-    })
-
-pub returns-clause-leaves : goal.returns-clause-leaves
-returns-clause-leaves g c =
-    let m = c.self.inside in
-    let whole = c.self.invariant.whole c.if-self.false in
-    let enough = rw (← c.self.view_is) at c.requires.enough in
-    rw (← c.self.view_is) (record {
-      within = λ list staged at. advance_one m.cell m.rows (option_map (λ v. v.items) m.front) (g.D.Disk.state m.disk) whole c.args.n (g.D.Disk.state c.advance_past.new.disk) list (c.advance_past.ensures.within list (subst (λ (s : Option ℕ). EachNow (g.D.Disk.state m.disk) (HasEntries m.cell m.rows.list c.args.n s list)) (sym c.length_of-first.ensures) (has_entries m.cell m.rows (option_map (λ v. v.items) m.front) (g.D.Disk.state m.disk) whole c.args.n enough list staged at)));
-      short = λ compact. advance_short m.cell m.rows (option_map (λ v. v.items) m.front) (g.D.Disk.state m.disk) whole m.capacity compact c.self.invariant.rows c.args.n (g.D.Disk.state c.advance_past.new.disk) (c.advance_past.ensures.within whole.entries (subst (λ (s : Option ℕ). EachNow (g.D.Disk.state m.disk) (HasEntries m.cell m.rows.list c.args.n s whole.entries)) (sym c.length_of-first.ensures) (has_entries m.cell m.rows (option_map (λ v. v.items) m.front) (g.D.Disk.state m.disk) whole c.args.n enough whole.entries whole.staged (holds m.cell m.rows (option_map (λ v. v.items) m.front) (g.D.Disk.state m.disk) whole)))) (c.advance_past.ensures.short (bound m.capacity) (λ b left. (compact.images b left).short));
-      compact = λ compact. advanced_compact c.in_ok-next.next (m.rows.count - c.args.n) c.listed-self-inside.result m.capacity (g.D.Disk.state c.advance_past.new.disk) c.listed-self-inside.ensures (c.in_ok-next.ensures.compact m.capacity compact.list) (within_now (g.D.Disk.state m.disk) (g.D.Disk.state c.advance_past.new.disk) (IsCompactIn m.capacity) (advance_short m.cell m.rows (option_map (λ v. v.items) m.front) (g.D.Disk.state m.disk) whole m.capacity compact c.self.invariant.rows c.args.n (g.D.Disk.state c.advance_past.new.disk) (c.advance_past.ensures.within whole.entries (subst (λ (s : Option ℕ). EachNow (g.D.Disk.state m.disk) (HasEntries m.cell m.rows.list c.args.n s whole.entries)) (sym c.length_of-first.ensures) (has_entries m.cell m.rows (option_map (λ v. v.items) m.front) (g.D.Disk.state m.disk) whole c.args.n enough whole.entries whole.staged (holds m.cell m.rows (option_map (λ v. v.items) m.front) (g.D.Disk.state m.disk) whole)))) (c.advance_past.ensures.short (bound m.capacity) (λ b left. (compact.images b left).short))));
-    })
-
-pub returns-clause-answer : goal.returns-clause-answer
-returns-clause-answer g c =
-    let m = c.self.inside in
-    let whole = c.self.invariant.whole c.if-self.false in
-    let enough = rw (← c.self.view_is) at c.requires.enough in
-    rw (← c.self.view_is) (
-      c.if-self.false,
-      refl,
-      listed_same c.in_ok-next.next (m.rows.count - c.args.n) c.listed-self-inside.result c.listed-self-inside.ensures,
-      refl,
-      λ list at. advanced_holds c.advance_past.new.cell c.in_ok-next.next (m.rows.count - c.args.n) c.listed-self-inside.result (drop c.args.n list) (g.D.Disk.state c.advance_past.new.disk) c.listed-self-inside.ensures (c.in_ok-next.ensures.ring list (subst (λ (s : Option ℕ). EachNow (g.D.Disk.state m.disk) (HasEntries m.cell m.rows.list c.args.n s list)) (sym c.length_of-first.ensures) (has_entries m.cell m.rows (option_map (λ v. v.items) m.front) (g.D.Disk.state m.disk) whole c.args.n enough list [] at))),
-    )
-
-pub invariant_of-self-2 : goal.invariant_of-self-2
-invariant_of-self-2 g c =
-    let m = c.self.inside in
-    let whole = c.self.invariant.whole c.if-self.false in
-    let enough = rw (← c.self.view_is) at c.requires.enough in
-    record {
-      rows = advanced_rows c.in_ok-next.next (m.rows.count - c.args.n) c.listed-self-inside.result c.listed-self-inside.ensures c.in_ok-next.ensures.ordered;
-      unstaged = λ shut. absurd (let no : false ≡ true = shut in cc);
-      cell_open = λ shut. c.in_ok-next.ensures.cell_open;
-      whole = λ shut. advanced_whole c.advance_past.new.cell c.in_ok-next.next (m.rows.count - c.args.n) c.listed-self-inside.result (g.D.Disk.state c.advance_past.new.disk) c.listed-self-inside.ensures (whole_advanced m.cell m.rows (option_map (λ v. v.items) m.front) (g.D.Disk.state m.disk) whole c.args.n (g.D.Disk.state c.advance_past.new.disk) c.advance_past.new.cell c.in_ok-next.next (moves_within (c.advance_past.ensures.within whole.entries (subst (λ (s : Option ℕ). EachNow (g.D.Disk.state m.disk) (HasEntries m.cell m.rows.list c.args.n s whole.entries)) (sym c.length_of-first.ensures) (has_entries m.cell m.rows (option_map (λ v. v.items) m.front) (g.D.Disk.state m.disk) whole c.args.n enough whole.entries whole.staged (holds m.cell m.rows (option_map (λ v. v.items) m.front) (g.D.Disk.state m.disk) whole))))) enough (c.in_ok-next.ensures.ring whole.entries (subst (λ (s : Option ℕ). EachNow (g.D.Disk.state m.disk) (HasEntries m.cell m.rows.list c.args.n s whole.entries)) (sym c.length_of-first.ensures) (has_entries m.cell m.rows (option_map (λ v. v.items) m.front) (g.D.Disk.state m.disk) whole c.args.n enough whole.entries whole.staged (holds m.cell m.rows (option_map (λ v. v.items) m.front) (g.D.Disk.state m.disk) whole)))));
-    }
+    let old : View g.row.D.Denot = record { disk = m.disk; capacity = m.capacity; rows = m.rows; front = option_map (λ v. v.items) m.front; closed = m.closed } in
+    rw (← c.self.view_is) (advances_read g.D.Disk.state old c.space_of.new.disk c.space_of.ensures.told c.space_of.ensures.cause.later c.advance_over.new.self c.args.n c.advance_over.result c.advance_over.ensures.answer)

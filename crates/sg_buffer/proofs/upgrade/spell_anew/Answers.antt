@@ -1,7 +1,7 @@
 use Rattle.std.proofs.Common.{rules, ◌≡◌, Err, sym, ◌∙◌}
 use Rattle.sg_codec.specs.Reading.{reading}
-use Rattle.test_stores.proofs.Upgrades.{older-len, upgraded-entry, upgraded-damaged}
-use Rattle.test_stores.proofs.recode.spell_anew.Goals as goal
+use Rattle.sg_buffer.proofs.Upgrades.{older-len, upgraded-entry, upgraded-damaged}
+use Rattle.sg_buffer.proofs.upgrade.spell_anew.Goals as goal
 
 pub encode-requires-clause-len : goal.encode-requires-clause-len
 encode-requires-clause-len c = older-len c.args.payload.now c.in-Ok.kept c.requires c.in-Ok.ensures.exact

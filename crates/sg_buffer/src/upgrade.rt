@@ -2,12 +2,15 @@
 ghost use Rattle.std.specs.Prelude.{◌≡◌, ◌≤◌, ◌^◌, true, List, ℕ, length, IfOk};
 ghost use Rattle.sg_codec.specs.declared.kept.Kept.{Kept as Entry};
 ghost use Rattle.sg_codec.specs.Spelling.{Spells, Spells1, Spells2};
-ghost use Rattle.test_stores.specs.Formats.{is_older, upgraded, upgraded-fits};
+ghost use Rattle.sg_buffer.specs.Formats.{is_format1, is_older, upgraded, upgraded-fits};
 
-use sg_codec::{CodecRefusal, decode, encode, spellings_are_read};
+use sg_codec::{CodecRefusal, decode, encode};
 use sg_device::NoMemory;
 use sg_spool::Recode;
 use std::alloc::{AllocError, Global};
+
+// An entry of format 1 in a store has at most so many bytes.
+pub(crate) const LONGEST: usize = 1 << 30;
 
 /// Spells each entry of format 1, of at most 2^30 bytes, in format 2. Every other payload stays as it is.
 #[derive(Clone, Copy, Debug, Drop)]
@@ -35,11 +38,18 @@ impl Recode for Upgrade {
     ghost fits = { λ _ payload fits. upgraded-fits payload fits };
 }
 
-// Whether the bytes begin as an entry of format 1 does, and are no more than such an entry has.
+// Whether the bytes begin as an entry of format 1 does.
+pub(crate) fn is_format1(payload: &[u8]) -> bool
+    ensures { result ≡ is_format1 payload.now }
+{
+    matches!(payload, [1, ..])
+}
+
+// Whether they are no more than such an entry has, too.
 fn is_older(payload: &[u8]) -> bool
     ensures { result ≡ is_older payload.now }
 {
-    matches!(payload, [1, ..]) && payload.len() <= 1 << 30
+    is_format1(payload) && payload.len() <= LONGEST
 }
 
 // The entry in format 2. Bytes that are no entry stay.
@@ -54,12 +64,4 @@ fn spell_anew(alloc: Global, payload: &[u8]) -> Result<Vec<u8>, NoMemory>
         Err(CodecRefusal::Damage(_)) => Ok(payload.to_vec(alloc)?),
         Err(CodecRefusal::NoMemory) => Err(AllocError),
     }
-}
-
-/// Spelled anew, an entry stays the same entry.
-pub fn entries_stay()
-    ensures older { (kept : Entry) (bytes : List ℕ) → Spells1 kept bytes → length bytes ≤ 2 ^ 30 → Spells2 kept (upgraded bytes) }
-    ensures newer { (kept : Entry) (bytes : List ℕ) → Spells2 kept bytes → upgraded bytes ≡ bytes }
-{
-    spellings_are_read();
 }

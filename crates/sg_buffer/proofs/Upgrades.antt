@@ -6,9 +6,9 @@ use Rattle.sg_codec.specs.declared.kept.Kept.{Kept}
 use Rattle.sg_msg.specs.Length.{encoded_len}
 use Rattle.sg_codec.specs.Reading.{entry_at, placed, reading}
 use Rattle.sg_codec.specs.Spelling.{spelling2, Spells1, Spells2}
-use Rattle.test_stores.specs.Formats.{is_format1, is_older, is_payload, payload_or, renewed, upgraded}
+use Rattle.sg_buffer.specs.Formats.{is_format1, is_older, is_payload, payload_or, renewed, upgraded}
 use Rattle.sg_codec.proofs.WriteLemmas.{length-spelling}
-use Rattle.test_stores.proofs.Lengths.{format1-len}
+use Rattle.sg_buffer.proofs.Lengths.{format1-len}
 
 placed-ok : (count : ℕ) (r : Result Kept ℕ) (kept : Kept) → placed count r ≡ Ok kept → r ≡ Ok kept
 placed-ok count (Ok k) kept e = e
@@ -20,6 +20,18 @@ first-len [] kept is e = absurd cc
 first-len (zero ∷ rest) kept is e = absurd cc
 first-len (suc zero ∷ rest) kept is e = omega (arith, format1-len rest kept e)
 first-len (suc (suc other) ∷ rest) kept is e = absurd cc
+
+-- in format 2 an entry of format 1 has at most 14 bytes more
+pub entry-len : (bytes : List ℕ) (kept : Kept) → is_format1 bytes ≡ true → reading bytes ≡ Ok kept → encoded_len kept.message ≤ length bytes + 14
+unfolding reading
+entry-len bytes kept is e = first-len bytes kept is (placed-ok (length bytes) (entry_at bytes) kept e)
+
+-- the first byte of a spelling
+pub spells1-first : (kept : Kept) (bytes : List ℕ) → Spells1 kept bytes → is_format1 bytes ≡ true
+spells1-first kept bytes one = ap is_format1 one.spelled
+
+pub spells2-first : (kept : Kept) (bytes : List ℕ) → Spells2 kept bytes → is_format1 bytes ≡ false
+spells2-first kept bytes two = ap is_format1 two.spelled
 
 -- an entry of format 1 is no longer than a payload in format 2
 pub older-len : (bytes : List ℕ) (kept : Kept) → is_older bytes ≡ true → reading bytes ≡ Ok kept → encoded_len kept.message ≤ 2 ^ 30 + 64

@@ -1,7 +1,7 @@
 use Rattle.std.proofs.Common.{rules, ◌≡◌, false, sym, ◌∙◌}
-use Rattle.test_stores.specs.Formats.{is_older}
-use Rattle.test_stores.proofs.Upgrades.{upgraded-same}
-use Rattle.test_stores.proofs.recode.UpgradeRecode.recode.Goals as goal
+use Rattle.sg_buffer.specs.Formats.{is_older}
+use Rattle.sg_buffer.proofs.Upgrades.{upgraded-same}
+use Rattle.sg_buffer.proofs.upgrade.UpgradeRecode.recode.Goals as goal
 
 pub returns-clause-payload : goal.returns-clause-payload
 returns-clause-payload c =

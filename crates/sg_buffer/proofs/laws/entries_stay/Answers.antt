@@ -1,6 +1,6 @@
 use Rattle.std.proofs.Common.{inr}
-use Rattle.test_stores.proofs.Upgrades.{spells1-older, spells2-newer, upgraded-entry, upgraded-same}
-use Rattle.test_stores.proofs.recode.entries_stay.Goals as goal
+use Rattle.sg_buffer.proofs.Upgrades.{spells1-older, spells2-newer, upgraded-entry, upgraded-same}
+use Rattle.sg_buffer.proofs.laws.entries_stay.Goals as goal
 
 pub returns-clause-older : goal.returns-clause-older
 returns-clause-older c = λ kept bytes one few.

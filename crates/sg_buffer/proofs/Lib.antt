@@ -1,0 +1,5 @@
+pub mod Lengths
+pub mod Renewed
+pub mod Stored
+pub mod Upgrades
+pub mod Walked

@@ -1,0 +1,7 @@
+-- Entries without their messages.
+use Rattle.sg_msg.specs.Length.{encoded_len}
+use Rattle.sg_codec.specs.declared.kept.Kept.{Kept}
+use Rattle.sg_buffer.specs.declared.found.Head.{Head}
+
+abbrev pub head_of : Kept → Head
+head_of kept = record { source = kept.source; end = kept.end; flow = kept.flow; length = encoded_len kept.message }

@@ -1,0 +1,51 @@
+// Older entries, spelled anew.
+ghost use Rattle.std.specs.Prelude.{◌≡◌, [], List, IfErr, OnOk, false};
+ghost use Rattle.sg_device.specs.Disk.{Within};
+ghost use Rattle.sg_codec.specs.declared.kept.Kept.{Kept as Entry};
+ghost use Rattle.sg_spool.specs.Calls.{Lasts};
+ghost use Rattle.sg_spool.specs.Places.{live};
+ghost use Rattle.sg_spool.specs.Ring.{Entries};
+ghost use Rattle.sg_spool.specs.View.{Holds};
+ghost use Rattle.sg_buffer.specs.Entries.{IsListOf, size_of, spelled};
+ghost use Rattle.sg_buffer.specs.Found.{Finds};
+ghost use Rattle.sg_buffer.specs.Renewing.{RenewReason};
+
+use crate::{Found, Upgrade, entries_stay};
+use sg_device::Disk;
+use sg_spool::{RewriteRefusal, Spool};
+use sg_stable::StoreRefusal;
+use std::alloc::Global;
+
+/// Spells the entries that were found in format 2, where one of them is of format 1; else it makes no call
+/// to the disk. At every moment an image has the same entries.
+pub fn renew<D: Disk>(
+    alloc: Global,
+    spool: &mut Spool<D>,
+    found: &Found,
+) -> Result<(), StoreRefusal>
+    requires open { spool.old.closed ≡ false }
+    requires unstaged { spool.old.rows.staged ≡ 0 }
+    ensures lasts { Lasts D.state spool.old spool.new }
+    ensures within { (entries : List Entry) (payloads : Entries) → Finds (D.state spool.old.disk) spool.old.rows found.now entries → Holds D.state spool.old payloads [] → Within (D.state spool.old.disk) (D.state spool.new.disk) (IsListOf entries) }
+    ensures renewed { OnOk result ((entries : List Entry) (payloads : Entries) → Finds (D.state spool.old.disk) spool.old.rows found.now entries → Holds D.state spool.old payloads [] → Holds D.state spool.new (spelled entries) []) }
+    ensures size { OnOk result ((entries : List Entry) → Finds (D.state spool.old.disk) spool.old.rows found.now entries → live spool.new.rows.list ≡ size_of entries) }
+    ensures open { OnOk result (spool.new.closed ≡ false) }
+    ensures count { OnOk result (spool.new.rows.count ≡ spool.old.rows.count) }
+    ensures unstaged { OnOk result (spool.new.rows.staged ≡ 0) }
+    ensures reason { IfErr result (λ e. (entries : List Entry) (payloads : Entries) → Finds (D.state spool.old.disk) spool.old.rows found.now entries → Holds D.state spool.old payloads [] → RenewReason (D.state spool.old.disk) (D.state spool.new.disk) e) }
+{
+    if !found.older {
+        return Ok(());
+    }
+    entries_stay();
+    let mut upgrade = Upgrade;
+    match spool.rewrite(alloc, &mut upgrade) {
+        Ok(()) => {}
+        Err(RewriteRefusal::DiskFault) => return Err(StoreRefusal::DiskFault),
+        Err(RewriteRefusal::NoMemory) => return Err(StoreRefusal::NoMemory),
+    }
+    if spool.live() != found.size {
+        return Err(StoreRefusal::Damage(spool.head()));
+    }
+    Ok(())
+}
