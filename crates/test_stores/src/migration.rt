@@ -18,10 +18,10 @@ const ONE: &str =
 const ONE_NEW: &str =
     "02 01 00000000 0000000000000004 0d 0000000000000000 0000 0000000000000000 0000 00000000 00000001 00000007 4d455353414745 00000003 6f6e65";
 
-const ONE_BEFORE: &str =
+pub const ONE_BEFORE: &str =
     "64 01 0000002f 01 01 00000000 0000000000000004 0d 0000000000000000 0000 00000001 00000007 4d455353414745 00000003 6f6e65";
 
-const ONE_CHANGES: &str = "sync
+pub const ONE_CHANGES: &str = "sync
 117 01 0000003d 02 01 00000000 0000000000000004 0d 0000000000000000 0000 0000000000000000 0000 00000000 00000001 00000007 4d455353414745 00000003 6f6e65 00
 sync
 32 0000000000000035
@@ -29,7 +29,7 @@ sync
 0 01
 sync";
 
-const ONE_AFTER: &str = "0 01
+pub const ONE_AFTER: &str = "0 01
 32 0000000000000035
 64 01 0000002f 01 01 00000000 0000000000000004 0d 0000000000000000 0000 00000001 00000007 4d455353414745 00000003 6f6e65 00
 117 01 0000003d 02 01 00000000 0000000000000004 0d 0000000000000000 0000 0000000000000000 0000 00000000 00000001 00000007 4d455353414745 00000003 6f6e65 00";
@@ -112,7 +112,7 @@ fn spelled(alloc: Global, words: &str) -> Result<Vec<u8>, Fail> {
 }
 
 // A store with these parts, of 128 bytes at least.
-fn store(alloc: Global, parts: &str) -> Result<Vec<u8>, Fail> {
+pub fn store(alloc: Global, parts: &str) -> Result<Vec<u8>, Fail> {
     let mut bytes = Vec::new(alloc);
     for line in parts.lines() {
         let (at, words) = line.split_once(' ').ok_or("no place")?;
@@ -161,7 +161,7 @@ fn is_change(alloc: Global, change: &DiskChange, line: &str) -> Result<bool, Fai
 }
 
 // Whether the disk was changed as the lines say.
-fn has_changes(alloc: Global, disk: &MemoryDisk, lines: &str) -> Result<bool, Fail> {
+pub fn has_changes(alloc: Global, disk: &MemoryDisk, lines: &str) -> Result<bool, Fail> {
     let changes = disk.changes();
     for (change, line) in changes.iter().zip(lines.lines()) {
         if !is_change(alloc, change, line)? {
