@@ -14,7 +14,12 @@ const MODE: u32 = 0o600;
 
 /// Opens the regular file of a store, and locks it. With `create` it is made where it is missing, and
 /// its folder is made stable.
-pub(crate) fn open_store(alloc: Global, rt: &HostRuntime, path: &[u8], create: bool) -> io::Result<File> {
+pub(crate) fn open_store(
+    alloc: Global,
+    rt: &HostRuntime,
+    path: &[u8],
+    create: bool,
+) -> io::Result<File> {
     let path = path_text(path)?;
     if !create {
         return open_locked(rt, path);
