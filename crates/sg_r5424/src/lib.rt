@@ -4,6 +4,7 @@
 mod elements;
 mod header;
 mod laws;
+mod names;
 mod params;
 mod reading;
 mod refusal;
