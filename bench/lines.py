@@ -1,17 +1,24 @@
 #!/usr/bin/env python3
-"""How fast `syslogr run FILE --once` copies the lines of a file, beside a small C program that makes
-one write call for each line, and beside syslog-ng where it is installed.
+"""How fast records go, beside a small C program that makes one write call for each line, and beside
+syslog-ng where it is installed:
+
+- `syslogr run FILE --once` copies the lines of a file;
+- `bench_lines 3164` makes texts of a file destination of the lines of a file, of RFC 3164;
+- `bench_lines 5424` makes counted lines of counted records of RFC 5424, with three parameters each, which
+  it reads from a file; syslog-ng gets the same bytes over TCP, and writes lines.
 
     bench/lines.py [LINES [LENGTH [ROUNDS]]]     by default 1,000,000 lines of 200 bytes, 5 rounds
 
-The programs take turns; what is printed is the median of the rounds: lines per second, the ratio to
-the C program, the same with syslogr's syncs left out, how often it synced its store, the time of a run that finds nothing new, and the most
-memory that syslogr held. No threshold is tested here.
+The programs take turns; what is printed is the median of the rounds: lines per second and the ratio to
+the C program; of syslogr also the same with its syncs left out, how often it synced its store, the time
+of a run that finds nothing new, and the most memory that it held; and how long a record of 1 MiB takes
+that has 100,000 parameters in descending order. No threshold is tested here.
 """
 import os
 import resource
 import shutil
 import signal
+import socket
 import statistics
 import subprocess
 import sys
@@ -20,6 +27,10 @@ import time
 
 TOP = os.path.dirname(os.path.dirname(os.path.abspath(__file__)))
 PROGRAM = os.path.join(TOP, "crates", "sg_top", "out", "sg_top")
+READER = os.path.join(TOP, "crates", "bench_lines")
+STEPS = os.path.join(READER, "out", "bench_lines")
+PULLS = "follow-freq(1) log-fetch-limit(1000) log-iw-size(10000)"
+SYSLOG_NG = 'source s { %s };\ndestination d { file("%s/out-ng" template("%s\\n")); };\nlog { source(s); destination(d); flags(flow-control); };\n'
 
 
 def make_input(path, lines, length):
@@ -68,30 +79,80 @@ def peak_kib(words, folder):
     return usage.ru_maxrss
 
 
-def syslog_ng(folder, size):
-    """Runs until all bytes are there: it doesn't end at the end of its input."""
+def filled(record, length):
+    return record + b"x" * (length - 1 - len(record)) + b"\n"
+
+
+def make_3164(path, lines, length):
+    with open(path, "wb") as out:
+        for k in range(lines):
+            out.write(filled(b"<34>Oct 11 22:14:15 mymachine su[7]: record %d " % k, length))
+
+
+def make_5424(path, lines, length):
+    with open(path, "wb") as out:
+        for k in range(lines):
+            record = filled(
+                b"<165>1 2003-10-11T22:14:15.003Z mymachine evntslog 8710 ID47 "
+                b'[exampleSDID@32473 iut="3" eventSource="Application" eventID="1011"] record %d ' % k,
+                length,
+            )
+            out.write(b"%d %s" % (len(record), record))
+
+
+def make_descending(path):
+    """One record of about 1 MiB."""
+    record = b"<13>1 - - - - - [a" + b"".join(b' %05d="v"' % k for k in range(99999, -1, -1)) + b"]"
+    with open(path, "wb") as out:
+        out.write(b"%d %s" % (len(record), record))
+
+
+def sent_over_tcp(port):
+    """Sends a file to a server that may still be starting."""
+
+    def send(path):
+        for _ in range(500):
+            try:
+                with socket.create_connection(("127.0.0.1", port)) as to, open(path, "rb") as records:
+                    to.sendfile(records)
+                return
+            except ConnectionRefusedError:
+                time.sleep(0.01)
+
+    return send
+
+
+def free_port():
+    with socket.socket() as probe:
+        probe.bind(("127.0.0.1", 0))
+        return probe.getsockname()[1]
+
+
+def syslog_ng(folder, lines, source, template, send=None):
+    """Runs until all lines are there: it doesn't end at the end of its input."""
+    out = os.path.join(folder, "out-ng")
     with open(os.path.join(folder, "ng.conf"), "w") as conf:
-        conf.write(
-            '@version: current\n'
-            'source s { file("%(f)s/in" flags(no-parse) follow-freq(1) log-fetch-limit(1000) log-iw-size(10000)); };\n'
-            'destination d { file("%(f)s/out-ng" template("$MSG\\n")); };\n'
-            'log { source(s); destination(d); flags(flow-control); };\n' % {"f": folder}
-        )
+        conf.write("@version: current\noptions { keep-hostname(yes); };\n" + SYSLOG_NG % (source, folder, template))
     for name in ("out-ng", "ng.persist", "ng.ctl", "ng.pid"):
         if os.path.exists(os.path.join(folder, name)):
             os.remove(os.path.join(folder, name))
-    words = ["syslog-ng", "-F", "--no-caps", "-f", "ng.conf", "-R", "ng.persist", "-c", "ng.ctl", "-p", "ng.pid"]
+    state = [os.path.join(folder, name) for name in ("ng.persist", "ng.ctl", "ng.pid")]
+    words = ["syslog-ng", "-F", "--no-caps", "-f", "ng.conf", "-R", state[0], "-c", state[1], "-p", state[2]]
     start = time.monotonic()
     child = subprocess.Popen(words, cwd=folder, stdout=subprocess.DEVNULL, stderr=subprocess.DEVNULL)
     try:
-        while time.monotonic() - start < 120:
-            if child.poll() is not None:
-                return None
-            try:
-                if os.path.getsize(os.path.join(folder, "out-ng")) >= size:
-                    return time.monotonic() - start
-            except OSError:
-                pass
+        if send:
+            send(os.path.join(folder, "in"))
+        size, changed = 0, start
+        while time.monotonic() - start < 120 and child.poll() is None:
+            now = os.path.getsize(out) if os.path.exists(out) else 0
+            if now != size:
+                size, changed = now, time.monotonic()
+            elif size and time.monotonic() - changed > 0.5:
+                with open(out, "rb") as written:
+                    if sum(piece.count(b"\n") for piece in iter(lambda: written.read(1 << 20), b"")) == lines:
+                        return changed - start
+                changed = time.monotonic()
             time.sleep(0.002)
         return None
     finally:
@@ -100,10 +161,45 @@ def syslog_ng(folder, size):
             child.wait()
 
 
+def told(times, lines):
+    """Says the medians, each beside that of the C program."""
+    reference = times["one write a line, in C"]
+    base = statistics.median(reference) if reference else None
+    for name, took in times.items():
+        if not took:
+            print("%-24s not measured" % name)
+            continue
+        middle = statistics.median(took)
+        ratio = "   %.2f of the C program's speed" % (base / middle) if base else ""
+        print("%-24s %12.0f lines per second%s" % (name, lines / middle, ratio))
+
+
+def through(form, make, source, template, send, lines, length, rounds, reference, folder):
+    """Measures the way of records to their frames."""
+    make(os.path.join(folder, "in"), lines, length)
+    times = {"bench_lines " + form: [], "one write a line, in C": [], "syslog-ng": []}
+    for _ in range(rounds):
+        forget(folder)
+        start = time.monotonic()
+        said = subprocess.run([STEPS, form, "in", "out"], cwd=folder, check=True, stdout=subprocess.PIPE).stdout
+        times["bench_lines " + form].append(time.monotonic() - start)
+        if int(said) != lines:
+            raise SystemExit("bench_lines didn't read each record")
+        if reference:
+            times["one write a line, in C"].append(timed([reference, "in", "out-c"], folder))
+        if shutil.which("syslog-ng"):
+            took = syslog_ng(folder, lines, source, template, send)
+            if took is not None:
+                times["syslog-ng"].append(took)
+    told(times, lines)
+
+
 def main():
     lines, length, rounds = (int(word) for word in (sys.argv[1:] + ["1000000", "200", "5"][len(sys.argv) - 1 :]))
     if not os.path.exists(PROGRAM):
         subprocess.run([os.path.join(TOP, "syslogr")], check=False)
+    if not os.path.exists(STEPS):
+        subprocess.run(["rt", "run", "--", "5424", "data/in", "/dev/null"], cwd=READER, check=True, stdout=subprocess.DEVNULL)
     with tempfile.TemporaryDirectory(prefix="syslogr-bench-") as folder:
         make_input(os.path.join(folder, "in"), lines, length)
         size = os.path.getsize(os.path.join(folder, "in"))
@@ -133,23 +229,24 @@ def main():
             if reference:
                 times["one write a line, in C"].append(timed([reference, "in", "out-c"], folder))
             if shutil.which("syslog-ng"):
-                took = syslog_ng(folder, size)
+                took = syslog_ng(folder, lines, 'file("%s/in" flags(no-parse) %s);' % (folder, PULLS), "$MSG")
                 if took is not None:
                     times["syslog-ng"].append(took)
-        base = statistics.median(times["one write a line, in C"]) if reference else None
-        for name, took in times.items():
-            if not took:
-                print("%-24s not measured" % name)
-                continue
-            middle = statistics.median(took)
-            ratio = "   %.2f of the C program's speed" % (base / middle) if base else ""
-            print("%-24s %12.0f lines per second%s" % (name, lines / middle, ratio))
+        told(times, lines)
         print("%-24s %12.3f seconds" % ("nothing new to move", statistics.median(again)))
         forget(folder)
         count = syncs([PROGRAM, "run", "c", "--once"], folder)
         print("%-24s %12s syncs, of %d lines" % ("syslogr's store", "not counted" if count is None else count, lines))
         forget(folder)
         print("%-24s %12.1f MiB at most" % ("syslogr's memory", peak_kib([PROGRAM, "run", "c", "--once"], folder) / 1024))
+        source = 'file("%s/in" %s);' % (folder, PULLS)
+        through("3164", make_3164, source, "$DATE $HOST $MSGHDR$MSG", None, lines, length, rounds, reference, folder)
+        port = free_port()
+        source = 'syslog(ip("127.0.0.1") port(%d) transport("tcp") log-fetch-limit(1000) log-iw-size(10000));' % port
+        template = "<$PRI>1 $ISODATE $HOST $PROGRAM $PID $MSGID $SDATA $MSG"
+        through("5424", make_5424, source, template, sent_over_tcp(port), lines, length, rounds, reference, folder)
+        make_descending(os.path.join(folder, "in"))
+        print("%-24s %12.3f seconds" % ("100,000 parameters", timed([STEPS, "5424", "in", "out"], folder)))
 
 
 if __name__ == "__main__":

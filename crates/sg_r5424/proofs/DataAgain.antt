@@ -16,11 +16,11 @@ use Rattle.sg_r5424.proofs.NamedValues.{AreData}
 use Rattle.sg_r5424.proofs.WrittenData.{param_list, open_params, other_pairs, written_pairs}
 
 -- what a name says, as a name again
-abbrev name_by : List ℕ → Option (List ℕ) → List ℕ
+abbrev pub name_by : List ℕ → Option (List ℕ) → List ℕ
 name_by id None = element_name id
 name_by id (Some param) = param_name id param
 
-abbrev pair_of : Item → Pair
+abbrev pub pair_of : Item → Pair
 pair_of item = record { name = name_by item.id item.param; value = item.value }
 
 same_bytes : (x y : List ℕ) → bytes_eq x y ≡ true → x ≡ y
@@ -71,7 +71,7 @@ id_at : (text : List ℕ) → IsCut (id_length text) text
 id_at text = id_if text (prefix_len is_no_at text) (nat_eq (prefix_len is_no_at text) (length text)) (prefix_len-le-length is_no_at text)
 
 -- a name that is split is put together again
-abbrev split_by : List ℕ → ℕ → Bool → SdName
+abbrev pub split_by : List ℕ → ℕ → Bool → SdName
 split_by text n test = cond test (record { id = text; param = None }) (record { id = take n text; param = Some (drop (n + 1) text) })
 
 back_if : (text : List ℕ) (n : ℕ) (test : Bool) → nat_eq n (length text) ≡ test → IsCut n text → name_by (split_by text n test).id (split_by text n test).param ≡ codes ".SDATA." ++ text

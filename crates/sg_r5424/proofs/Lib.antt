@@ -12,5 +12,7 @@ pub mod NamedValues
 pub mod WrittenHeader
 pub mod WrittenData
 pub mod DataAgain
+pub mod OwnNames
+pub mod OwnData
 pub mod WrittenLine
 pub mod SaidAgain

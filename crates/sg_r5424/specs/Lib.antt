@@ -5,3 +5,4 @@ pub mod Takes
 pub mod Is5424
 pub mod Write
 pub mod Again
+pub mod OwnForm

@@ -3,6 +3,7 @@ ghost use Rattle.std.specs.Prelude.{◌≡◌, ◌≤◌, ◌++◌, ◌∷◌, [
 ghost use Rattle.sg_r5424.specs.Data.{IsElement, IsData, element_name};
 ghost use Rattle.sg_r5424.specs.Takes.{Puts};
 
+use crate::names::NameRoom;
 use crate::params::take_params;
 use crate::take::{first_is, take_name, take_text};
 use bytes::Bytes;
@@ -10,16 +11,17 @@ use sg_msg::{MessageBuilder, PairName};
 use std::alloc::{AllocError, Global};
 
 // Puts the pair of an element without parameters.
-fn put_element(alloc: Global, builder: &mut MessageBuilder, id: &[u8]) -> Result<(), AllocError>
+fn put_element(
+    names: &mut NameRoom,
+    builder: &mut MessageBuilder,
+    id: &[u8],
+) -> Result<(), AllocError>
     requires { length id.now ≤ 32 }
     ensures { OnOk result (builder.new ≡ record builder.old {
       put = builder.old.put ++ (record { name = element_name id.now; value = [] }) ∷ [];
     }) }
 {
-    let mut name = Vec::with_capacity(alloc, 39)?;
-    name.extend_from_slice(b".SDATA.")?;
-    name.extend_from_slice(id)?;
-    let name = Bytes::from_vec(name)?;
+    let name = names.element(id)?;
     builder.put(PairName::Other(name), Bytes::new())?;
     Ok(())
 }
@@ -27,6 +29,7 @@ fn put_element(alloc: Global, builder: &mut MessageBuilder, id: &[u8]) -> Result
 // Takes an element, and puts its pairs.
 fn take_element(
     alloc: Global,
+    names: &mut NameRoom,
     builder: &mut MessageBuilder,
     text: &mut Bytes,
 ) -> Result<bool, AllocError>
@@ -39,10 +42,10 @@ fn take_element(
         return Ok(false);
     };
     if take_text(text, b"]") {
-        put_element(alloc, builder, id.as_slice())?;
+        put_element(names, builder, id.as_slice())?;
         return Ok(true);
     }
-    take_params(alloc, builder, text, id.as_slice())
+    take_params(alloc, names, builder, text, id.as_slice())
 }
 
 // Takes structured data, and puts its pairs.
@@ -59,11 +62,12 @@ pub(crate) fn take_data(
     if !first_is(text.as_slice(), b'[') {
         return Ok(false);
     }
+    let mut names = NameRoom::new(alloc)?;
     'elements: loop {
         if !first_is(text.as_slice(), b'[') {
             return Ok(true);
         }
-        if !take_element(alloc, builder, text)? {
+        if !take_element(alloc, &mut names, builder, text)? {
             return Ok(false);
         }
     }

@@ -4,6 +4,7 @@
 mod elements;
 mod header;
 mod laws;
+mod names;
 mod params;
 mod reading;
 mod refusal;
@@ -11,7 +12,7 @@ mod take;
 mod values;
 mod writing;
 
-pub use laws::{lines_are_records, records_say_one_message};
+pub use laws::{data_is_said_again, lines_are_records, records_say_one_message};
 pub use reading::{read, refused};
 pub use refusal::R5424Refusal;
 pub use writing::write;

@@ -1,8 +1,9 @@
 // The parameters of an element.
 ghost use Rattle.std.specs.Prelude.{◌≡◌, ◌≤◌, ◌++◌, ◌∷◌, [], length, IfOk, OnOk};
-ghost use Rattle.sg_r5424.specs.Data.{IsParam, HasParams, param_name, param_pair};
+ghost use Rattle.sg_r5424.specs.Data.{IsParam, HasParams, param_pair};
 ghost use Rattle.sg_r5424.specs.Takes.{TryTakes, Puts};
 
+use crate::names::NameRoom;
 use crate::take::{take_name, take_text};
 use crate::values::take_value;
 use bytes::Bytes;
@@ -35,21 +36,9 @@ fn take_param(alloc: Global, text: &mut Bytes) -> Result<Option<Param>, AllocErr
     Ok(Some(Param { name, value }))
 }
 
-// The name of a parameter's pair.
-fn pair_name(alloc: Global, id: &[u8], param: &[u8]) -> Result<Bytes, AllocError>
-    ensures { IfOk result (λ name. name ≡ param_name id.now param.now) }
-{
-    let mut name = Vec::with_capacity(alloc, 72)?;
-    name.extend_from_slice(b".SDATA.")?;
-    name.extend_from_slice(id)?;
-    name.extend_from_slice(b".")?;
-    name.extend_from_slice(param)?;
-    Ok(Bytes::from_vec(name)?)
-}
-
 // Puts the pair of a parameter of this element.
 fn put_param(
-    alloc: Global,
+    names: &mut NameRoom,
     builder: &mut MessageBuilder,
     id: &[u8],
     param: Param,
@@ -59,7 +48,7 @@ fn put_param(
     ensures { OnOk result (builder.new
         ≡ record builder.old { put = builder.old.put ++ param_pair id.now param ∷ [] }) }
 {
-    let name = pair_name(alloc, id, param.name.as_slice())?;
+    let name = names.param(id, param.name.as_slice())?;
     builder.put(PairName::Other(name), param.value)?;
     Ok(())
 }
@@ -67,6 +56,7 @@ fn put_param(
 // Takes the parameters of this element, with the bracket that closes it, and puts their pairs.
 pub(crate) fn take_params(
     alloc: Global,
+    names: &mut NameRoom,
     builder: &mut MessageBuilder,
     text: &mut Bytes,
     id: &[u8],
@@ -81,6 +71,6 @@ pub(crate) fn take_params(
         let Some(param) = take_param(alloc, text)? else {
             return Ok(false);
         };
-        put_param(alloc, builder, id, param)?;
+        put_param(names, builder, id, param)?;
     }
 }

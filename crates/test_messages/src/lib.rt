@@ -15,3 +15,5 @@ mod r3164;
 mod r5424;
 #[cfg(test)]
 mod r5424_lines;
+#[cfg(test)]
+mod source;

@@ -1,28 +1,13 @@
 // Records, and the messages that RFC 3164 and syslog-ng's guide say they are.
 ghost use Rattle.std.specs.Prelude.{◌≤ℤ◌, pos};
 
+use crate::source::{OPTS, PULLED, RECEIVED, has_pairs};
 use bytes::Bytes;
 use sg_msg::Message;
 use sg_r3164::{ReadOpts, read, readings_are_one};
 use sg_time::Stamp;
 use std::alloc::{AllocError, Global};
 use std::test::Fail;
-
-// 2026-02-05T17:32:21Z
-const PULLED: i64 = 1_770_312_741_000_000;
-
-const RECEIVED: Stamp = Stamp {
-    at: PULLED,
-    offset: 0,
-};
-
-const OPTS: ReadOpts = ReadOpts {
-    pri: 13,
-    zone: 0,
-    keep_hostname: true,
-    keep_timestamp: true,
-    parse: true,
-};
 
 // Items, and their PRI, their stamp, and their pairs with tabs between. Without a host of its own an item
 // has its peer's. The first four are examples of RFC 3164, section 5.4; the last fifty are what real
@@ -126,22 +111,6 @@ fn message_of(alloc: Global, item: &[u8], at: i64, opts: &ReadOpts) -> Result<Me
     read(alloc, Bytes::copy_from_slice(alloc, item)?, at, &peer, opts)
 }
 
-// Whether these are all the pairs.
-fn has_pairs(message: &Message, pairs: &str) -> bool {
-    let mut count = 0;
-    for (place, pair) in pairs.split('\t').enumerate() {
-        let Some((name, value)) = pair.split_once('=') else {
-            return false;
-        };
-        match message.pair(place) {
-            Some(found) if found.0 == name.as_bytes() && found.1 == value.as_bytes() => {}
-            _ => return false,
-        }
-        count = place + 1;
-    }
-    message.pair(count).is_none()
-}
-
 #[test]
 fn records_are_read(rt: HostRuntime) -> Result<(), Fail> {
     readings_are_one();
@@ -157,7 +126,7 @@ fn records_are_read(rt: HostRuntime) -> Result<(), Fail> {
         assert_eq!(rt; message.pri(), pri.parse::<u8>()?, "{row}");
         assert_eq!(rt; message.sent(), sent, "{row}");
         assert_eq!(rt; message.received(), RECEIVED, "{row}");
-        assert!(rt; has_pairs(&message, pairs), "{row}");
+        assert!(rt; has_pairs(&message, pairs, '\t'), "{row}");
     }
     Ok(())
 }

@@ -1,29 +1,13 @@
 // Records, and what RFC 5424 says of them.
 ghost use Rattle.std.specs.Prelude.{◌≤ℤ◌, pos};
 
+use crate::source::{OPTS, PULLED, RECEIVED, has_pairs};
 use bytes::Bytes;
 use sg_msg::Message;
-use sg_r3164::ReadOpts;
 use sg_r5424::{R5424Refusal, read, records_say_one_message, refused};
 use sg_time::Stamp;
 use std::alloc::Global;
 use std::test::Fail;
-
-// 2026-02-05T17:32:21Z
-const PULLED: i64 = 1_770_312_741_000_000;
-
-const RECEIVED: Stamp = Stamp {
-    at: PULLED,
-    offset: 0,
-};
-
-const OPTS: ReadOpts = ReadOpts {
-    pri: 13,
-    zone: 0,
-    keep_hostname: true,
-    keep_timestamp: true,
-    parse: true,
-};
 
 // Records, and their PRI, their stamp and its offset, and their pairs. The first four are the examples
 // of RFC 5424, 6.5, and the last two have the first stamps of 6.2.3.1.
@@ -99,22 +83,6 @@ fn read_row(alloc: Global, item: &[u8]) -> Result<Message, R5424Refusal> {
     )
 }
 
-// Whether these are all the pairs.
-fn has_pairs(message: &Message, pairs: &str) -> bool {
-    let mut count = 0;
-    for (place, pair) in pairs.split('|').enumerate() {
-        let Some((name, value)) = pair.split_once('=') else {
-            return false;
-        };
-        match message.pair(place) {
-            Some(found) if found.0 == name.as_bytes() && found.1 == value.as_bytes() => {}
-            _ => return false,
-        }
-        count = place + 1;
-    }
-    message.pair(count).is_none()
-}
-
 #[test]
 fn records_are_read(rt: HostRuntime) -> Result<(), Fail> {
     records_say_one_message();
@@ -131,7 +99,7 @@ fn records_are_read(rt: HostRuntime) -> Result<(), Fail> {
         assert_eq!(rt; message.pri(), pri.parse::<u8>()?, "{row}");
         assert_eq!(rt; message.sent(), sent, "{row}");
         assert_eq!(rt; message.received(), RECEIVED, "{row}");
-        assert!(rt; has_pairs(&message, pairs), "{row}");
+        assert!(rt; has_pairs(&message, pairs, '|'), "{row}");
     }
     Ok(())
 }
@@ -187,6 +155,6 @@ fn other_records_are_refused(rt: HostRuntime) -> Result<(), Fail> {
     assert_eq!(rt; message.pri(), 43);
     assert_eq!(rt; message.sent(), RECEIVED);
     let pairs = "HOST=peer|MESSAGE=Error processing log message: <34>1|PROGRAM=syslog-ng";
-    assert!(rt; has_pairs(&message, pairs));
+    assert!(rt; has_pairs(&message, pairs, '|'));
     Ok(())
 }

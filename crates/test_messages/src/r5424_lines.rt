@@ -1,6 +1,6 @@
 // Lines of RFC 5424.
 use sg_msg::Message;
-use sg_r5424::{lines_are_records, write};
+use sg_r5424::{data_is_said_again, lines_are_records, write};
 use sg_template::Env;
 use sg_time::Stamp;
 use std::test::Fail;
@@ -29,7 +29,11 @@ PROGRAM=ppppppppppppppppppppppppppppppppppppppppppppppppp => - ppppppppppppppppp
 .SDATA.x@1.b.c=1|.SDATA.x@1.2.b=3 => - - - - [x@1.2 b=\"3\"][x@1 b.c=\"1\"]
 .SDATA.a.b@1.2= => - - - - [a.b@1.2]
 .SDATA.x@1..c=2 => - - - - [x@1 .c=\"2\"]
-.SDATA.x@1.=2 => - - - - -";
+.SDATA.x@1.=2 => - - - - -
+.SDATA.x@1.1a=v => - - - - [x@1.1a]
+.SDATA.a.b@c=v => - - - - [a.b@c]
+.SDATA.a.b@c.d=v => - - - - [a.b@c d=\"v\"]
+.SDATA.x@1=|.SDATA.x@1.p=v => - - - - [x@1 p=\"v\"]";
 
 fn set(message: &mut Message, name: &[u8], value: &[u8]) -> bool {
     if name.is_empty() || name.len() > 255 {
@@ -54,6 +58,7 @@ fn fill(message: &mut Message, pairs: &str) -> bool {
 #[test]
 fn lines(rt: HostRuntime) -> Result<(), Fail> {
     lines_are_records();
+    data_is_said_again();
     let alloc = rt.alloc();
     let sent = Stamp {
         at: 1_065_910_455_003_000,
