@@ -179,6 +179,47 @@ told='store pos-in: cannot open: not a regular file\n'
 again 'a FIFO as store' 4 'cannot open store 0\n' - run c --once
 rm pos-in
 
+# A disk-buffer's store is listed, and stays as it is. The entries are one of format 1 and one of format 2.
+rm -f out
+entry1='\1\0\0\0\057\1\1\0\0\0\0\0\0\0\0\0\0\0\4\15\0\0\0\0\0\0\0\0\0\0\0\0\0\1\0\0\0\7MESSAGE\0\0\0\3one'
+entry2='\1\0\0\0\053\2\0\0\0\0\2\177\377\377\377\377\377\377\377\15\0\0\0\0\0\0\0\0\0\0\0\0\0\0\0\0\0\0\0\0\0\0\0\0\0\0\0\0'
+listed='entry 0 source 0 end 4 flow yes length 47\n'
+
+# list NAME ENTRIES STATUS SAID: of a store q with these bytes behind its first 64, a printf format
+list() {
+    { head -c 64 /dev/zero; printf "$2"; head -c 64 /dev/zero; } >q
+    cp q q.before
+    again "$1" "$3" "$4" - spool q
+    cmp -s q q.before || { failed=$((failed + 1)); echo "$1: the store changed"; }
+}
+
+list 'an empty disk-buffer' '' 0 'entries 0\n'
+list 'a disk-buffer' "$entry1$entry2" 0 "${listed}entry 1 source 2 end 9223372036854775807 flow no length 43\nentries 2\n"
+list 'a payload that is no entry' "$entry1\1\0\0\0\2ab" 5 "${listed}store 0 damaged at 116\n"
+list 'a gate that leads nowhere' "$entry1\1\0\1\0\0" 5 'store 0 damaged at 116\n'
+told='store none: cannot open: No such file or directory (os error 2)\n'
+again 'no disk-buffer' 4 'cannot open store 0\n' - spool none
+[ ! -e none ] && passed=$((passed + 1)) || { failed=$((failed + 1)); echo 'no disk-buffer: it was made'; }
+told='store sub: cannot open: not a regular file\n'
+again 'a folder as disk-buffer' 4 'cannot open store 0\n' - spool sub
+again 'a list of two' 1 "$usage" - spool q q
+if command -v flock >/dev/null; then
+    exec 9<>q
+    flock 9
+    told='store q: cannot open: in use by another program\n'
+    again 'a disk-buffer in use' 4 'cannot open store 0\n' - spool q
+    exec 9>&-
+fi
+if [ -w /dev/full ]; then
+    "$top/syslogr" spool q >/dev/full 2>errors
+    if [ $? = 10 ] && [ ! -s errors ]; then passed=$((passed + 1)); else failed=$((failed + 1)); echo 'a list to a full standard output: not status 10'; fi
+fi
+bench=$top/crates/bench_spool/out/bench_spool
+if [ -x "$bench" ]; then
+    "$bench" made 100 30 && "$top/syslogr" spool made >said 2>errors
+    [ $? = 0 ] && { seq -f 'entry %.0f source 0 end 4 flow yes length 200' 0 2999; echo 'entries 3000'; } | cmp -s - said && passed=$((passed + 1)) || { failed=$((failed + 1)); echo 'a disk-buffer of 3,000 entries: not the same'; }
+fi
+
 # A full disk has whole lines alone, and once it has space again the lines go on behind them, from the stored position on: none is
 # torn, and none is missing.
 mkdir small

@@ -4,10 +4,22 @@
 
 use sg_file::FileDisk;
 use sg_spool::{Appended, Block, Spool};
+use std::alloc::{AllocError, Global};
 use std::env;
 use std::process::ExitCode;
 
 const CAPACITY: u64 = 1 << 40;
+
+// An entry up to the text of its one pair, MESSAGE, which has 142 bytes.
+const FRONT: &[u8; 58] =
+    b"\x02\x01\0\0\0\0\0\0\0\0\0\0\0\x04\x0d\0\0\0\0\0\0\0\0\0\0\0\0\0\0\0\0\0\0\0\0\0\0\0\0\0\0\0\x01\0\0\0\x07MESSAGE\0\0\0\x8e";
+
+// An entry of 200 bytes.
+fn entry(alloc: Global) -> Result<Vec<u8>, AllocError> {
+    let mut payload = FRONT.to_vec(alloc)?;
+    payload.resize(200, b'x')?;
+    Ok(payload)
+}
 
 // Stages and commits entries. Whether all of them were taken.
 fn fill(spool: &mut Spool<FileDisk>, block: &Block, commits: u64, staged: u64) -> bool {
@@ -30,7 +42,7 @@ fn run(rt: HostRuntime, path: &str, commits: u64, staged: u64) -> bool {
     let Ok(disk) = FileDisk::open(alloc, rt, path.as_bytes(), true) else {
         return false;
     };
-    let Ok(payload) = vec![in alloc; 120u8; 200] else {
+    let Ok(payload) = entry(alloc) else {
         return false;
     };
     let Ok(block) = Block::new(alloc, payload) else {

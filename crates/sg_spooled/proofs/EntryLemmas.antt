@@ -1,52 +1,8 @@
--- Which payloads are entries, and the lines of entries.
-use Rattle.std.proofs.Common.{◌≡◌, ◌⊎◌, inl, inr, ℕ, zero, suc, ◌+◌, ◌^◌, ◌≤◌, ◌<◌, Bool, true, false, List, [], ◌∷◌, ◌++◌, length, Result, Ok, Err, refl, sym, ◌∙◌, ap, subst, arith, append_assoc}
-use Rattle.std.proofs.lemmas.Bool.{ltb-false, ltb-true}
+-- Entries, one behind another, and their lines.
+use Rattle.std.proofs.Common.{◌≡◌, ℕ, ◌+◌, List, [], ◌∷◌, ◌++◌, length, refl, sym, ◌∙◌, ap, subst, arith, append_assoc}
 use Rattle.std.proofs.lemmas.List.{append-nil}
-use Rattle.sg_codec.specs.Answers.{Decodes}
-use Rattle.sg_codec.specs.Spelling.{spelling1, spelling2, Spells}
-use Rattle.sg_codec.specs.declared.kept.Kept.{Kept}
-use Rattle.sg_codec.specs.declared.refusal.CodecRefusal.TheVariants.{Damage}
 use Rattle.sg_spool.specs.Ring.{Entries}
-use Rattle.sg_spooled.specs.Entries.{Row, IsStored, IsNoEntry, is_older, is_beyond, AreStored, payloads_of, row_line, row_lines}
-
-not-newer : (rest : List ℕ) (kept : Kept) → 1 ∷ rest ≡ spelling2 kept → ⊥
-not-newer rest kept e = cc
-
-older-is : (payload : List ℕ) (kept : Kept) → payload ≡ spelling1 kept → is_older payload ≡ true
-older-is payload kept e = ap is_older e
-
-long-no-entry : (rest : List ℕ) → 2 ^ 30 < length (1 ∷ rest) → (kept : Kept) → IsStored kept (1 ∷ rest) → ⊥
-long-no-entry rest long kept (inl newer) = not-newer rest kept newer.spelled
-long-no-entry rest long kept (inr older) = (let short = older.1 in absurd (omega (arith, long, short)))
-
--- what begins as an entry of format 1 and is longer than one is no entry
-pub beyond-no-entry : (payload : List ℕ) → is_beyond payload ≡ true → IsNoEntry payload
-beyond-no-entry [] e = cc
-beyond-no-entry (zero ∷ rest) e = cc
-beyond-no-entry (suc (suc other) ∷ rest) e = cc
-beyond-no-entry (suc zero ∷ rest) e = long-no-entry rest (ltb-true (2 ^ 30) (length (1 ∷ rest)) e)
-
-within : (payload : List ℕ) → is_older payload ≡ true → is_beyond payload ≡ false → length payload ≤ 2 ^ 30
-within [] o e = cc
-within (zero ∷ rest) o e = cc
-within (suc (suc other) ∷ rest) o e = cc
-within (suc zero ∷ rest) o e = ltb-false (2 ^ 30) (length (1 ∷ rest)) e
-
--- what is read of the others is an entry
-pub within-stored : (payload : List ℕ) (kept : Kept) → is_beyond payload ≡ false → Spells kept payload → IsStored kept payload
-within-stored payload kept e (inl newer) = inl newer
-within-stored payload kept e (inr older) = inr (older, within payload (older-is payload kept older.spelled) e)
-
-stored-spells : (payload : List ℕ) (kept : Kept) → IsStored kept payload → Spells kept payload
-stored-spells payload kept (inl newer) = inl newer
-stored-spells payload kept (inr older) = inr older.0
-
-wrong-read : (kept : Kept) (place : ℕ) → Decodes (Err (Damage place)) (Ok kept) → ⊥
-wrong-read kept place h = cc
-
--- what is damaged is no entry
-pub damaged-no-entry : (payload : List ℕ) (place : ℕ) → ((kept : Kept) → Spells kept payload → Decodes (Err (Damage place)) (Ok kept)) → IsNoEntry payload
-damaged-no-entry payload place only = λ kept stored. wrong-read kept place (only kept (stored-spells payload kept stored))
+use Rattle.sg_spooled.specs.Entries.{Row, IsStored, IsNoEntry, AreStored, payloads_of, row_line, row_lines}
 
 -- one entry more
 

@@ -1,7 +1,7 @@
 -- The whole of a listing.
-use Rattle.std.proofs.Common.{◌≡◌, ◌⊎◌, inl, inr, ℕ, ◌≤◌, false, true, List, [], ◌∷◌, ◌++◌, length, Option, Some, None, Result, Ok, Err, refl, sym, ◌∙◌, ap, subst, arith, append_assoc}
+use Rattle.std.proofs.Common.{◌≡◌, ◌⊎◌, inl, inr, ℕ, ◌≤◌, false, true, List, [], ◌∷◌, ◌++◌, Option, Some, None, Result, Ok, Err, refl, sym, ◌∙◌, ap, subst, arith, append_assoc}
 use Rattle.std.specs.Option.{option_map}
-use Rattle.sg_device.specs.Disk.{DiskState, content, WhereTold, Preserves, Rests}
+use Rattle.sg_device.specs.Disk.{DiskState, Preserves, Rests}
 use Rattle.sg_device.specs.Faults.{Rose}
 use Rattle.sg_device.proofs.Disks.{preserves_trans, told_before}
 use Rattle.sg_device.proofs.DiskCalls.{tells_same, unchanged}
@@ -9,20 +9,20 @@ use Rattle.sg_outside.specs.World.{WorldState, Ledger, StandsShelved, StoreOpens
 use Rattle.sg_outside.specs.declared.request.StoreSpec.{StoreSpec}
 use Rattle.sg_outside.specs.declared.request.StoreSpec.{StoreSpec}
 use Rattle.sg_report.specs.Entry.{entries_line}
-use Rattle.sg_spool.specs.Opening.{IsDamagedAt, HasReason}
-use Rattle.sg_spool.specs.Ring.{Entries, IsList}
+use Rattle.sg_spool.specs.Opening.{HasReason}
+use Rattle.sg_spool.specs.Ring.{IsList}
 use Rattle.sg_spool.specs.View.{View}
 use Rattle.sg_spool.proofs.Damages.{no_damage}
 use Rattle.sg_spool.proofs.Unique.{list_unique}
 use Rattle.sg_stable.specs.declared.fault.StoreRefusal.{StoreRefusal}
 use Rattle.sg_stable.specs.declared.fault.StoreRefusal.TheVariants.{Damage as StoreDamage, DiskFault as StoreFault, NoMemory as StoreNoMemory}
-use Rattle.sg_spooled.specs.Entries.{Row, AreStored, payloads_of, row_lines, IsBegun, IsFirstBad}
-use Rattle.sg_spooled.specs.Walking.{OnlySays, SaidText, SaidSome, UnlessUnsaid, SaysAll, WalkEnds, WalksBy, Walks, end_text, answer_of, Ends}
-use Rattle.sg_spooled.specs.Listing.{Shelf, spec_of, shelved, IfOpened, IsThere, IsKept, IsDamaged, HasCause, SaysList, IsSpelled, IsUntroubled, IsComplete, unlisted_for, ListsBy, Lists, SpoolsBy, Spools}
+use Rattle.sg_spooled.specs.Entries.{Row, AreStored, payloads_of, row_lines, IsBegun}
+use Rattle.sg_spooled.specs.Walking.{OnlySays, SaidText, SaidSome, UnlessUnsaid, WalkEnds, WalksBy, Walks, end_text, answer_of, Ends}
+use Rattle.sg_spooled.specs.Listing.{Shelf, spec_of, IfOpened, IsThere, IsKept, IsDamaged, HasCause, SaysList, IsSpelled, IsUntroubled, IsComplete, unlisted_for, ListsBy, Lists, Spools}
 use Rattle.sg_spooled.specs.declared.unlisted.Unlisted.{Unlisted}
 use Rattle.sg_spooled.specs.declared.unlisted.Unlisted.TheVariants.{NotOpened, Damage, DiskFault, SayFault, NoMemory}
 use Rattle.sg_spooled.proofs.EntryLemmas.{stored-among}
-use Rattle.sg_spooled.proofs.WalkLemmas.{rose-later, rose-on, says-text, only-says-none, only-says-then}
+use Rattle.sg_spooled.proofs.WalkLemmas.{rose-later, rose-on, says-text, only-says-then}
 
 -- over an open store
 

@@ -1,5 +1,5 @@
 -- Lemmas on words that ask for the entries of a store.
-use Rattle.std.proofs.Common.{◌≡◌, inl, inr, List, [], ◌∷◌, ℕ, codes, Result, Ok, Err, subst, sym, ◌∙◌}
+use Rattle.std.proofs.Common.{◌≡◌, inr, List, [], ◌∷◌, ℕ, codes, Result, Ok, Err, subst, sym, ◌∙◌}
 use Rattle.sg_outside.specs.World.{WorldState}
 use Rattle.sg_spooled.specs.declared.unlisted.Unlisted.{Unlisted}
 use Rattle.sg_spooled.specs.declared.unlisted.Unlisted.TheVariants.{NotOpened, Damage, DiskFault, SayFault, NoMemory}

@@ -6,6 +6,8 @@ mod buffers;
 #[cfg(test)]
 mod disks;
 #[cfg(test)]
+mod files;
+#[cfg(test)]
 mod lists;
 #[cfg(test)]
 mod memory;

@@ -1,4 +1,5 @@
 // A position store over disks in memory, stopped at each call, and over a real file.
+use crate::files::keeps_its_list;
 use sg_device::{Disk, DiskFault, Name, OpenRefusal};
 use sg_host::{FileDisk, HostStores};
 use sg_memory::{MemoryWorld, Pace};
@@ -176,6 +177,8 @@ fn in_a_file(rt: HostRuntime) -> Result<(), Fail> {
     assert!(rt; disk.write_at(u64::MAX, &[0]).is_err());
     assert_eq!(rt; disk.faults(), 1);
     assert!(rt; position(disk) == Err(StoreRefusal::Damage(128)));
+    fs::remove_file(&rt, path)?;
+    assert!(rt; keeps_its_list(alloc, rt, path)?);
     fs::remove_file(&rt, path)?;
     Ok(())
 }
