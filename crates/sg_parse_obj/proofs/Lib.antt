@@ -1,0 +1,5 @@
+mod Apart
+mod Texts
+mod DriverLaws
+mod ObjectLaws
+mod Places
