@@ -1,13 +1,13 @@
 -- Keywords, and terms with a word between them: what is read is of the grammar, and what is of the grammar is read.
-use Rattle.std.proofs.Common.{◌≡◌, ◌⊎◌, inl, inr, ℕ, zero, suc, ◌+◌, ◌-◌, ◌<◌, ◌≤◌, Bool, true, false, cond, List, [], ◌∷◌, ◌++◌, length, Result, Ok, Err, refl, sym, ap, subst, ◌∙◌, append_assoc, arith}
-use Rattle.std.specs.Prelude.{◌&&◌, ◌||◌, ◌==◌}
+use Rattle.std.proofs.Common.{◌≡◌, inl, inr, ℕ, zero, suc, ◌≤◌, Bool, true, false, List, [], ◌∷◌, ◌++◌, length, Ok, refl, sym, subst, ◌∙◌, append_assoc, arith}
+use Rattle.std.specs.Prelude.{◌&&◌, ◌==◌}
 use Rattle.std.proofs.lemmas.Bool.{and_parts}
-use Rattle.std.proofs.lemmas.List.{length-append, append-nil}
+use Rattle.std.proofs.lemmas.List.{append-nil}
 use Rattle.sg_lex.specs.declared.token.TokenKind.{TokenKind}
 use Rattle.sg_lex.specs.declared.token.TokenKind.TheVariants.{Word, Str, Sym, Op, At, Tick}
 use Rattle.sg_parse_base.specs.declared.spot.Spot.{Spot}
-use Rattle.sg_parse_base.specs.Tokens.{is_word, is_string, is_symbol, is_keyword, is_word_kind, is_string_kind, is_symbol_kind, is_byte, same_keyword, dashed}
-use Rattle.sg_parse_base.specs.Input.{Outcome, Parser, ◌>>=◌, behind, next_is, sees, sees_word}
+use Rattle.sg_parse_base.specs.Tokens.{is_word, is_string, is_symbol, is_keyword, is_word_kind, is_string_kind, is_symbol_kind, is_byte}
+use Rattle.sg_parse_base.specs.Input.{Parser, ◌>>=◌, behind, next_is, sees, sees_word}
 use Rattle.sg_parse_base.specs.Lists.{chain_from, chain}
 use Rattle.sg_parse_base.specs.Grammar.{Stands, Keyword, Links, Chain}
 use Rattle.sg_parse_base.specs.Laws.{Leaves}
@@ -92,7 +92,6 @@ module _ {A : Type 0} (item : Parser A) (One : Stands A) (word : List ℕ) (Foll
     (again : (s r : List Spot) (x : A) → One s x r → Follows r → item s ≡ Ok (x, r))
     (leaves : (s r : List Spot) (x : A) → One s x r → Leaves s r)
     (goes_on : (s r : List Spot) → Keyword word s r → Follows s) where
-
   chain_from-sound : (n : ℕ) (found : List A) (s : List Spot) (y : List A × List Spot) → chain_from item word n found s ≡ Ok y → (xs : List A) × (y.0 ≡ found ++ xs) × Links One word s xs y.1
   unfolding chain_from
   chain_from-sound zero found s y e =

@@ -1,16 +1,15 @@
 -- Lists of items: what is read is of the grammar, and what is of the grammar is read.
-use Rattle.std.proofs.Common.{◌≡◌, ◌⊎◌, inl, inr, ℕ, zero, suc, ◌+◌, ◌-◌, ◌<◌, ◌≤◌, Bool, true, false, cond, List, [], ◌∷◌, ◌++◌, length, Result, Ok, Err, refl, sym, ap, subst, ◌∙◌, append_assoc, arith}
+use Rattle.std.proofs.Common.{◌≡◌, ◌⊎◌, inl, inr, ℕ, zero, suc, ◌≤◌, Bool, true, false, cond, List, [], ◌∷◌, ◌++◌, length, Ok, refl, sym, ap, subst, ◌∙◌, append_assoc, arith}
 use Rattle.std.specs.Prelude.{◌&&◌}
-use Rattle.std.proofs.lemmas.List.{length-append, append-nil}
+use Rattle.std.proofs.lemmas.List.{append-nil}
 use Rattle.sg_parse_base.specs.declared.spot.Spot.{Spot}
-use Rattle.sg_parse_base.specs.declared.fault.Fault.{Fault}
 use Rattle.sg_lex.specs.declared.fault.ConfigKind.TheVariants.{Unexpected}
-use Rattle.sg_parse_base.specs.Tokens.{is_name, is_symbol}
-use Rattle.sg_parse_base.specs.Input.{Outcome, Parser, ◌>>=◌, behind, next_is, sees, sees_word, symbol, fault_at}
+use Rattle.sg_parse_base.specs.Tokens.{is_symbol}
+use Rattle.sg_parse_base.specs.Input.{Parser, ◌>>=◌, behind, sees, symbol, fault_at}
 use Rattle.sg_parse_base.specs.Lists.{after_commas, gap, items_from, items, many, single, ending, body_from, body}
 use Rattle.sg_parse_base.specs.Grammar.{Stands, Symbol, Commas, Single, Rest, Items, Many, Body, Braced, Ending}
 use Rattle.sg_parse_base.specs.Laws.{Agrees, Matches, Leaves}
-use Rattle.sg_parse_base.proofs.Steps.{step_ok, guard_ok, test_ok, ok_is, chosen, sees-takes, symbol-takes, takes-sees, takes-symbol, takes-behind, leaves-then, symbol-leaves, shorter, name-sees, symbol-sees}
+use Rattle.sg_parse_base.proofs.Steps.{step_ok, guard_ok, ok_is, chosen, sees-takes, symbol-takes, takes-sees, takes-symbol, takes-behind, leaves-then, symbol-leaves, shorter, name-sees, symbol-sees}
 
 -- ---- commas
 

@@ -1,17 +1,16 @@
 -- Balanced tokens: what is passed over is of the grammar, and what is of the grammar is passed over.
-use Rattle.std.proofs.Common.{◌≡◌, ◌⊎◌, inl, inr, ℕ, zero, suc, ◌+◌, ◌<◌, ◌≤◌, Bool, true, false, cond, List, [], ◌∷◌, ◌++◌, length, Option, Some, None, Result, Ok, Err, refl, sym, ap, subst, ◌∙◌, arith}
-use Rattle.std.specs.Prelude.{◌==◌, ◌&&◌}
-use Rattle.std.proofs.lemmas.Bool.{and_parts}
+use Rattle.std.proofs.Common.{◌≡◌, ◌⊎◌, inl, inr, ℕ, zero, suc, ◌≤◌, Bool, true, false, cond, List, [], ◌∷◌, length, Some, None, Ok, refl, sym, ap, subst, arith}
+use Rattle.std.specs.Prelude.{◌==◌}
 use Rattle.sg_lex.specs.declared.token.Token.{Token}
 use Rattle.sg_parse_base.specs.declared.spot.Spot.{Spot}
 use Rattle.sg_parse_base.specs.declared.skip.Bracket.{Bracket}
 use Rattle.sg_parse_base.specs.declared.skip.Bracket.TheVariants.{Opens, Closes, Neither}
 use Rattle.sg_parse_base.specs.Tokens.{is_symbol}
-use Rattle.sg_parse_base.specs.Input.{Outcome, ◌>>=◌, behind, sees, symbol, fault_at}
-use Rattle.sg_parse_base.specs.Skipping.{bracket, next_bracket, open_behind, skipped_behind, skipped_from, skipped}
+use Rattle.sg_parse_base.specs.Input.{sees, symbol}
+use Rattle.sg_parse_base.specs.Skipping.{bracket, open_behind, skipped_behind, skipped_from, skipped}
 use Rattle.sg_parse_base.specs.Grammar.{Symbol, Balanced, Skipped}
 use Rattle.sg_parse_base.specs.Laws.{Leaves}
-use Rattle.sg_parse_base.proofs.Steps.{step_ok, ok_is, chosen, symbol-takes, takes-symbol, leaves-then, symbol-leaves, symbol-sees, shorter}
+use Rattle.sg_parse_base.proofs.Steps.{step_ok, ok_is, symbol-takes, takes-symbol, leaves-then, symbol-leaves, symbol-sees}
 
 -- what a bracket that opens or closes is
 abbrev pub IsOf : Token → Bracket → Type 0

@@ -1,12 +1,12 @@
 -- Turns of passing over balanced tokens.
-use Rattle.std.proofs.Common.{◌≡◌, ℕ, suc, ◌+◌, ◌-◌, ◌<◌, ◌≤◌, Bool, true, false, List, [], ◌∷◌, reverse, Option, Some, None, Result, Ok, Err, refl, sym, ap, ◌∙◌, arith}
+use Rattle.std.proofs.Common.{◌≡◌, ℕ, ◌+◌, ◌-◌, ◌<◌, Bool, true, false, List, [], ◌∷◌, reverse, Some, Ok, Err, refl, sym, ap, ◌∙◌}
 use Rattle.std.proofs.lemmas.List.{reverse-reverse}
 use Rattle.sg_lex.specs.declared.fault.ConfigKind.TheVariants.{Unexpected}
 use Rattle.sg_parse_base.specs.declared.spot.Spot.{Spot}
 use Rattle.sg_parse_base.specs.declared.skip.Bracket.{Bracket}
 use Rattle.sg_parse_base.specs.Input.{Outcome, behind, fault_at}
 use Rattle.sg_parse_base.specs.Skipping.{next_bracket, open_behind, skipped_behind, skipped_from, IsBehind}
-use Rattle.sg_parse_base.proofs.Turns.{one_more, no_more}
+use Rattle.sg_parse_base.proofs.Turns.{one_more}
 
 turn : {x : Outcome (Unit {0})} (turns at : ℕ) (open_ones : List ℕ) (spots : List Spot) (b : Bracket) → x ≡ skipped_from (turns - at) open_ones spots → at < turns → b ≡ next_bracket spots
     → x ≡ skipped_behind (open_behind b open_ones) (λ later. skipped_from (turns - (at + 1)) later (behind spots)) spots

@@ -1,9 +1,8 @@
 -- The tokens from a place on, with their places.
-use Rattle.std.proofs.Common.{◌≡◌, ℕ, zero, suc, ◌+◌, ◌<◌, ◌≤◌, List, [], ◌∷◌, length, drop, Option, Some, None, slice_get, refl, ap, sym, ◌∙◌, arith}
+use Rattle.std.proofs.Common.{◌≡◌, ℕ, suc, ◌+◌, ◌<◌, ◌≤◌, List, [], ◌∷◌, length, drop, Some, None, slice_get, refl, ap}
 use Rattle.std.proofs.lemmas.List.{drop_all}
 use Rattle.sg_list.proofs.ListLemmas.{drop-get, slice_get-all, slice_get-some}
 use Rattle.sg_lex.specs.declared.token.Token.{Token}
-use Rattle.sg_parse_base.specs.declared.spot.Spot.{Spot}
 use Rattle.sg_parse_base.specs.Input.{spots_from}
 
 pub spots-length : (at : ℕ) (tokens : List Token) → length (spots_from at tokens) ≡ length tokens

@@ -1,18 +1,17 @@
 -- Steps of parsers.
-use Rattle.std.proofs.Common.{◌≡◌, ◌⊎◌, inl, inr, ℕ, zero, suc, ◌+◌, ◌-◌, ◌<◌, ◌≤◌, Bool, true, false, cond, List, [], ◌∷◌, ◌++◌, length, drop, Result, Ok, Err, refl, sym, ap, subst, ◌∙◌, append_assoc, arith}
+use Rattle.std.proofs.Common.{◌≡◌, ◌⊎◌, inl, inr, ℕ, ◌<◌, Bool, true, false, cond, List, [], ◌∷◌, ◌++◌, length, Ok, Err, refl, sym, ap, subst, ◌∙◌, append_assoc, arith}
 use Rattle.std.proofs.lemmas.List.{length-append}
 use Rattle.std.proofs.lemmas.Bool.{and_parts}
-use Rattle.std.specs.Prelude.{◌||◌, ◌&&◌}
+use Rattle.std.specs.Prelude.{◌||◌}
 use Rattle.sg_lex.specs.declared.token.TokenKind.{TokenKind}
 use Rattle.sg_lex.specs.declared.token.TokenKind.TheVariants.{Word, Str, Sym, Op, At, Tick}
 use Rattle.sg_lex.specs.declared.token.Token.{Token}
-use Rattle.sg_lex.specs.declared.fault.ConfigKind.{ConfigKind}
 use Rattle.sg_lex.specs.declared.fault.ConfigKind.TheVariants.{Unexpected}
 use Rattle.sg_parse_base.specs.declared.fault.Fault.{Fault}
 use Rattle.sg_parse_base.specs.declared.spot.Spot.{Spot}
 use Rattle.sg_parse_base.specs.Tokens.{is_name, is_symbol, is_word_kind, is_string_kind, is_symbol_kind, is_byte}
-use Rattle.sg_parse_base.specs.Input.{Outcome, Parser, ◌>>=◌, behind, next_is, any, expected, sees, sees_word, symbol, fault_at}
-use Rattle.sg_parse_base.specs.Grammar.{Stands, Takes, Symbol, Keyword}
+use Rattle.sg_parse_base.specs.Input.{Outcome, ◌>>=◌, behind, next_is, any, expected, sees, symbol, fault_at}
+use Rattle.sg_parse_base.specs.Grammar.{Takes, Symbol}
 use Rattle.sg_parse_base.specs.Laws.{Leaves}
 
 -- ---- what an outcome says

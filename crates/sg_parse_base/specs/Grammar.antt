@@ -1,8 +1,7 @@
 -- The grammar of lists: what stands at the front of tokens, and what stands behind it.
-use Rattle.std.specs.Prelude.{◌≡◌, ◌⊎◌, ℕ, zero, suc, Bool, true, false, List, [], ◌∷◌}
+use Rattle.std.specs.Prelude.{◌≡◌, ◌⊎◌, ℕ, Bool, true, List, [], ◌∷◌}
 use Rattle.sg_lex.specs.declared.token.Token.{Token}
 use Rattle.sg_parse_base.specs.declared.spot.Spot.{Spot}
-use Rattle.sg_parse_base.specs.declared.skip.Bracket.{Bracket}
 use Rattle.sg_parse_base.specs.declared.skip.Bracket.TheVariants.{Neither}
 use Rattle.sg_parse_base.specs.Tokens.{is_symbol, is_keyword}
 use Rattle.sg_parse_base.specs.Skipping.{bracket}

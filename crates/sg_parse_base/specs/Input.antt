@@ -1,5 +1,5 @@
 -- What a statement is read from, and the steps that each rule is made of.
-use Rattle.std.specs.Prelude.{◌≡◌, ℕ, ◌+◌, Bool, true, false, if◌then◌else◌, List, [], ◌∷◌, ◌++◌, Option, Some, None, Result, Ok, Err}
+use Rattle.std.specs.Prelude.{◌≡◌, ℕ, ◌+◌, Bool, false, if◌then◌else◌, List, [], ◌∷◌, Option, Some, None, Result, Ok, Err}
 use Rattle.sg_lex.specs.declared.token.Token.{Token}
 use Rattle.sg_lex.specs.declared.fault.ConfigKind.{ConfigKind}
 use Rattle.sg_lex.specs.declared.fault.ConfigKind.TheVariants.{Unexpected, Unsupported}
@@ -8,7 +8,7 @@ use Rattle.sg_lex.specs.declared.place.Line.{Line}
 use Rattle.sg_parse_base.specs.declared.fault.Fault.{Fault}
 use Rattle.sg_parse_base.specs.declared.fault.Stop.{Stop}
 use Rattle.sg_parse_base.specs.declared.fault.Stop.TheVariants as stops
-use Rattle.sg_parse_base.specs.Tokens.{line_of, is_word, is_string, is_name, is_symbol, is_dots, is_keyword}
+use Rattle.sg_parse_base.specs.Tokens.{line_of, is_word, is_name, is_symbol, is_dots, is_keyword}
 
 -- the tokens with their places, of which the first is this
 abbrev pub spots_from : ℕ → List Token → List Spot

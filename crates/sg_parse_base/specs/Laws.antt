@@ -1,5 +1,5 @@
 -- What a parser and a rule of the grammar have in common.
-use Rattle.std.specs.Prelude.{◌≡◌, true, List, ◌∷◌, ◌++◌, Result, Ok}
+use Rattle.std.specs.Prelude.{◌≡◌, true, List, ◌∷◌, ◌++◌, Ok}
 use Rattle.sg_parse_base.specs.declared.spot.Spot.{Spot}
 use Rattle.sg_parse_base.specs.Tokens.{is_name}
 use Rattle.sg_parse_base.specs.Input.{Parser, next_is}

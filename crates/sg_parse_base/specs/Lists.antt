@@ -1,9 +1,9 @@
 -- Lists of items, as rules of which one item is a parameter. A number bounds the turns: each takes a token, so the number of tokens is enough.
-use Rattle.std.specs.Prelude.{ℕ, zero, suc, Bool, true, false, ◌&&◌, if◌then◌else◌, List, [], ◌∷◌, ◌++◌, length, Result, Ok, Err}
+use Rattle.std.specs.Prelude.{ℕ, zero, suc, ◌&&◌, if◌then◌else◌, List, [], ◌∷◌, ◌++◌, length, Ok, Err}
 use Rattle.sg_lex.specs.declared.fault.ConfigKind.TheVariants.{Unexpected}
 use Rattle.sg_parse_base.specs.declared.spot.Spot.{Spot}
 use Rattle.sg_parse_base.specs.Tokens.{is_symbol}
-use Rattle.sg_parse_base.specs.Input.{Parser, Outcome, ◌>>=◌, behind, sees, sees_word, symbol, fault_at}
+use Rattle.sg_parse_base.specs.Input.{Parser, ◌>>=◌, behind, sees, sees_word, symbol, fault_at}
 
 -- commas at the front passed over
 abbrev pub after_commas : List Spot → List Spot

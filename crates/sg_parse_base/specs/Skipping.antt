@@ -1,5 +1,5 @@
 -- What stands in parentheses and has no effect: any tokens between which brackets are balanced.
-use Rattle.std.specs.Prelude.{◌≡◌, ℕ, zero, suc, Bool, true, false, ◌==◌, if◌then◌else◌, List, [], ◌∷◌, length, Option, Some, None, Result, Ok, Err}
+use Rattle.std.specs.Prelude.{◌≡◌, ℕ, zero, suc, Bool, true, false, ◌==◌, if◌then◌else◌, List, [], ◌∷◌, length, Option, Some, None, Ok, Err}
 use Rattle.sg_lex.specs.declared.token.Token.{Token}
 use Rattle.sg_lex.specs.declared.fault.ConfigKind.TheVariants.{Unexpected}
 use Rattle.sg_parse_base.specs.declared.spot.Spot.{Spot}

@@ -9,5 +9,4 @@ ghost use Rattle.sg_parse_base.specs.Grammar.{Skipped};
 pub fn skipped_tokens_are_balanced()
     ensures read { (s r : List Spot) → skipped_at s ≡ Ok (tt, r) → Skipped s r }
     ensures again { (s r : List Spot) → Skipped s r → skipped_at s ≡ Ok (tt, r) }
-{
-}
+{}

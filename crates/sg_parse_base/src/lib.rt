@@ -11,8 +11,8 @@ mod spot;
 mod token;
 
 pub use cursor::{
-    Cursor, name, next_is_dots, next_is_name, next_is_operator, next_is_string, next_is_word,
-    sees, sees_word, symbol, word,
+    Cursor, name, next_is_dots, next_is_name, next_is_operator, next_is_string, next_is_word, sees,
+    sees_word, symbol, word,
 };
 pub use fault::{Fault, Stop, unsupported};
 pub use laws::skipped_tokens_are_balanced;

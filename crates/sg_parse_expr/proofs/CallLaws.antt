@@ -1,6 +1,6 @@
 -- Values and calls: what is read is of the grammar, and what is of the grammar is read.
-use Rattle.std.proofs.Common.{◌≡◌, ◌⊎◌, inl, inr, ℕ, Bool, true, false, cond, List, [], ◌∷◌, ◌++◌, Option, Some, None, Result, Ok, Err, refl, sym, ap, subst, ◌∙◌}
-use Rattle.std.specs.Prelude.{◌&&◌, ◌||◌, not, is_none}
+use Rattle.std.proofs.Common.{◌≡◌, inl, inr, ℕ, Bool, true, false, cond, List, [], ◌∷◌, ◌++◌, Option, Some, None, Ok, refl, sym, ap, subst, ◌∙◌}
+use Rattle.std.specs.Prelude.{◌&&◌, ◌||◌, is_none}
 use Rattle.std.proofs.lemmas.Bool.{and_parts}
 use Rattle.sg_lex.specs.declared.token.Token.{Token}
 use Rattle.sg_lex.specs.declared.fault.ConfigKind.{ConfigKind}
@@ -8,10 +8,10 @@ use Rattle.sg_lex.specs.declared.fault.ConfigKind.TheVariants as kind
 use Rattle.sg_macro.specs.Reading.{parts_of}
 use Rattle.sg_parse_base.specs.declared.spot.Spot.{Spot}
 use Rattle.sg_parse_base.specs.Tokens.{is_name, is_word, is_string, is_symbol, is_dots, is_number, is_truth, is_word_kind, is_string_kind}
-use Rattle.sg_parse_base.specs.Input.{Outcome, Parser, ◌>>=◌, behind, next_is, any, known, sees, sees_dots, symbol, word, fault_at}
-use Rattle.sg_parse_base.specs.Lists.{gap, items, many, single}
+use Rattle.sg_parse_base.specs.Input.{Parser, ◌>>=◌, behind, next_is, any, known, sees_dots, symbol, word}
+use Rattle.sg_parse_base.specs.Lists.{gap, items}
 use Rattle.sg_parse_base.specs.Skipping.{skipped}
-use Rattle.sg_parse_base.specs.Grammar.{Stands, Takes, Symbol, Commas, Rest, Single, Many, Skipped}
+use Rattle.sg_parse_base.specs.Grammar.{Stands, Takes, Rest, Skipped}
 use Rattle.sg_parse_base.specs.Laws.{Agrees, Matches, Leaves}
 use Rattle.sg_parse_base.proofs.Steps.{step_ok, ok_is, chosen, expected-takes, takes-expected, symbol-takes, takes-symbol, leaves-then, takes-leaves, symbol-leaves, name-sees}
 use Rattle.sg_parse_base.proofs.ListLaws.{gap-sound, gap-next, rest-of, rest-gap, rest-leaves, commas-leave, items-sound, items-again, many-law, single-law}
@@ -26,11 +26,11 @@ use Rattle.sg_parse_expr.specs.declared.form.Flat.TheVariants as flat
 use Rattle.sg_parse_expr.specs.declared.form.FilterTable.{FilterTable}
 use Rattle.sg_parse_expr.specs.declared.form.FilterForm.{FilterForm}
 use Rattle.sg_parse_expr.specs.declared.form.FilterForm.TheVariants as filter
-use Rattle.sg_parse_expr.specs.Classes.{verdict, passes, named_verdict, name_verdict, text_verdict, template_verdict, no_number, number_verdict, truth_verdict, yes_verdict, supported, is_yes}
+use Rattle.sg_parse_expr.specs.Classes.{verdict, passes, name_verdict, template_verdict, no_number, supported, is_yes}
 use Rattle.sg_parse_expr.specs.Forms.{row_of, filters, filter_options}
 use Rattle.sg_parse_expr.specs.Args as a
 use Rattle.sg_parse_expr.specs.Filters as f
-use Rattle.sg_parse_expr.specs.Grammar.{OneItem, TwoItems, Span, NoArgs, FlatArgs, Called, Option_of, Named, Paired, FilterOption, FilterArgs, FilterCall}
+use Rattle.sg_parse_expr.specs.Grammar.{OneItem, Span, NoArgs, FlatArgs, Called, Option_of, Named, Paired, FilterOption, FilterArgs, FilterCall}
 
 -- ---- values
 

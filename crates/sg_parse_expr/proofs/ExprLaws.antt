@@ -1,14 +1,14 @@
 -- Expressions: what is read is of the grammar, and what is of the grammar is read where neither `and` nor `or` follows.
-use Rattle.std.proofs.Common.{◌≡◌, ◌⊎◌, inl, inr, ℕ, zero, suc, ◌+◌, ◌<◌, Bool, true, false, cond, List, [], ◌∷◌, ◌++◌, Option, Some, None, Result, Ok, Err, refl, sym, ap, subst, ◌∙◌, arith}
-use Rattle.std.specs.Prelude.{◌&&◌, ◌||◌, ◌==◌, codes}
+use Rattle.std.proofs.Common.{◌≡◌, inl, inr, ℕ, zero, suc, Bool, true, false, cond, List, [], ◌∷◌, Option, Some, None, Ok, Err, refl, sym, ap, subst, ◌∙◌, arith}
+use Rattle.std.specs.Prelude.{◌||◌, codes}
 use Rattle.std.proofs.lemmas.Bool.{and_parts}
 use Rattle.sg_lex.specs.declared.place.Cmp.{Cmp}
-use Rattle.sg_lex.specs.declared.fault.ConfigKind.TheVariants.{Unexpected, Unsupported, DepthOver64}
+use Rattle.sg_lex.specs.declared.fault.ConfigKind.TheVariants.{Unexpected, Unsupported}
 use Rattle.sg_parse_base.specs.declared.spot.Spot.{Spot}
 use Rattle.sg_parse_base.specs.Tokens.{is_word, is_string, is_keyword, is_operator, same_keyword, dashed}
-use Rattle.sg_parse_base.specs.Input.{Outcome, Parser, ◌>>=◌, behind, next_is, sees, sees_word, symbol, fault_at}
+use Rattle.sg_parse_base.specs.Input.{Parser, ◌>>=◌, behind, next_is, sees, sees_word, symbol, fault_at}
 use Rattle.sg_parse_base.specs.Lists.{chain}
-use Rattle.sg_parse_base.specs.Grammar.{Stands, Takes, Symbol, Keyword, Links, Chain}
+use Rattle.sg_parse_base.specs.Grammar.{Stands, Takes, Symbol, Keyword, Chain}
 use Rattle.sg_parse_base.specs.Laws.{Leaves}
 use Rattle.sg_parse_base.proofs.Steps.{step_ok, guard_ok, ok_is, chosen, symbol-takes, takes-sees, takes-symbol, leaves-then, takes-leaves, symbol-leaves}
 use Rattle.sg_parse_base.proofs.ChainLaws.{word-takes, takes-word, keyword-behind, keyword-leaves, symbol-no_word, string-no_word, string-no_symbol, word-no_symbol, word-no_string, first_differs, chain-sound, chain-again, chain-leaves}
@@ -18,7 +18,7 @@ use Rattle.sg_parse_expr.specs.declared.class.Class.TheVariants.{Text}
 use Rattle.sg_parse_expr.specs.Classes.{passes}
 use Rattle.sg_parse_expr.specs.Args.{value}
 use Rattle.sg_parse_expr.specs.Filters.{filter_call}
-use Rattle.sg_parse_expr.specs.Expr.{cmp_of, no_cmp, cmp_behind, comparison, compare, is_reserved, filtered, and_of, or_of, primary, negation, conjunction, disjunction, grouped, group, expr}
+use Rattle.sg_parse_expr.specs.Expr.{cmp_of, cmp_behind, comparison, compare, is_reserved, filtered, and_of, or_of, primary, negation, conjunction, disjunction, grouped, group, expr}
 use Rattle.sg_parse_expr.specs.Ends.{NoAnd, Ends}
 use Rattle.sg_parse_expr.specs.Grammar.{Compare, Filtered, FilterCall, Primary, Negation, Conjunction, Disjunction, Group, Expr}
 use Rattle.sg_parse_expr.proofs.CallLaws.{value-takes, takes-value, text-string, filter-sound, filter-again, filter-word, filter-leaves}
@@ -42,6 +42,7 @@ comparison-sound s x e = by (cmp_of s) refl e
     refused : (b : Bool) → cond b (Err (fault_at Unsupported s)) (Err (fault_at Unexpected s)) ≡ Ok x → ⊥
     refused true h = absurd cc
     refused false h = absurd cc
+
     by : (o : Option Cmp) → cmp_of s ≡ o → cmp_behind o s ≡ Ok x → (o ≡ Some x.0) × (behind s ≡ x.1)
     by (Some cmp) is h = let both = ok_is cmp x.0 (behind s) x.1 h in (ap (λ (c : Cmp). Some c) both.0, both.1)
     by None is h = absurd (refused (next_is is_operator s) h)

@@ -1,12 +1,11 @@
 -- Rewrites: what is read is of the grammar, and what is of the grammar is read.
-use Rattle.std.proofs.Common.{◌≡◌, ℕ, List, [], ◌∷◌, Result, Ok, Err, refl, sym, subst}
+use Rattle.std.proofs.Common.{ℕ, List, [], ◌∷◌, Ok, refl, sym, subst}
 use Rattle.sg_parse_base.specs.declared.spot.Spot.{Spot}
 use Rattle.sg_parse_base.specs.Input.{◌>>=◌, symbol}
 use Rattle.sg_parse_base.specs.Grammar.{Symbol}
-use Rattle.sg_parse_base.specs.Laws.{Agrees, Matches, Leaves}
+use Rattle.sg_parse_base.specs.Laws.{Agrees, Matches}
 use Rattle.sg_parse_base.proofs.Steps.{step_ok, ok_is, symbol-takes, takes-symbol, leaves-then, symbol-leaves}
 use Rattle.sg_parse_base.proofs.ListLaws.{many-law}
-use Rattle.sg_parse_expr.specs.declared.tree.Arg.{Arg}
 use Rattle.sg_parse_expr.specs.declared.tree.Arg.TheVariants.{Test}
 use Rattle.sg_parse_expr.specs.declared.class.Class.TheVariants.{Name, Template}
 use Rattle.sg_parse_expr.specs.declared.form.RewriteTable.{RewriteTable}
@@ -17,7 +16,7 @@ use Rattle.sg_parse_expr.specs.declared.form.RewriteForm.TheVariants as rewrite
 use Rattle.sg_parse_expr.specs.Forms.{row_of, rewrite_options, rewrites}
 use Rattle.sg_parse_expr.specs.Expr.{expr}
 use Rattle.sg_parse_expr.specs.Rewrites.{condition, option_args, rewrite_option, rewrite_args, rewrite_call}
-use Rattle.sg_parse_expr.specs.Grammar.{Expr, Condition, OptionArgs, RewriteOptionOf, RewriteArgs, RewriteCall}
+use Rattle.sg_parse_expr.specs.Grammar.{Condition, OptionArgs, RewriteOptionOf, RewriteArgs, RewriteCall}
 use Rattle.sg_parse_expr.proofs.CallLaws.{flat_args-law, called-law, nested-law, named-law, paired-law}
 use Rattle.sg_parse_expr.proofs.ExprLaws.{symbol-ends, expr-sound, expr-again, expr-leaves}
 

@@ -1,9 +1,9 @@
 -- Values and arguments: what is read, or the first fault.
-use Rattle.std.specs.Prelude.{ℕ, if◌then◌else◌, List, [], ◌∷◌, Option, Some, None, Result, Ok, Err}
+use Rattle.std.specs.Prelude.{ℕ, if◌then◌else◌, List, [], ◌∷◌, Option, Some, None, Ok, Err}
 use Rattle.sg_lex.specs.declared.fault.ConfigKind.{ConfigKind}
 use Rattle.sg_lex.specs.declared.fault.ConfigKind.TheVariants.{Unexpected}
 use Rattle.sg_parse_base.specs.declared.spot.Spot.{Spot}
-use Rattle.sg_parse_base.specs.Input.{Parser, Outcome, ◌>>=◌, behind, any, known, sees_dots, symbol, word, fault_at}
+use Rattle.sg_parse_base.specs.Input.{Parser, ◌>>=◌, behind, any, known, sees_dots, symbol, word, fault_at}
 use Rattle.sg_parse_base.specs.Lists.{many, single, items, gap}
 use Rattle.sg_parse_base.specs.Skipping.{skipped}
 use Rattle.sg_parse_expr.specs.declared.tree.Call.{Call, roll-Call}

@@ -1,6 +1,6 @@
 -- What may stand in the place of a value, and what another token there is (syslog-ng's administration guide, the options of drivers, filters and
 -- rewrites; RFC 5424, tables 1 and 2, for facilities and severities).
-use Rattle.std.specs.Prelude.{◌≡◌, ℕ, Bool, true, false, not, ◌&&◌, ◌||◌, ◌==◌, nat_le, is_none, if◌then◌else◌, List, [], ◌∷◌, codes, bytes_eq, Option, Some, None, Result, Ok, Err}
+use Rattle.std.specs.Prelude.{ℕ, Bool, true, false, not, ◌&&◌, ◌||◌, ◌==◌, nat_le, is_none, if◌then◌else◌, List, [], ◌∷◌, codes, bytes_eq, Option, Some, None, Result, Ok, Err}
 use Rattle.sg_lex.specs.declared.token.Token.{Token}
 use Rattle.sg_lex.specs.declared.fault.ConfigKind.{ConfigKind}
 use Rattle.sg_lex.specs.declared.fault.ConfigKind.TheVariants as kind

@@ -1,12 +1,12 @@
 -- Conditions. A group is an expression in parentheses.
-use Rattle.std.specs.Prelude.{ℕ, zero, suc, Bool, true, false, ◌||◌, if◌then◌else◌, List, [], ◌∷◌, codes, Option, Some, None, Result, Ok, Err}
+use Rattle.std.specs.Prelude.{ℕ, zero, suc, Bool, ◌||◌, if◌then◌else◌, List, [], ◌∷◌, codes, Option, Some, None, Ok, Err}
 use Rattle.sg_lex.specs.declared.fault.ConfigKind.TheVariants.{Unexpected, Unsupported, DepthOver64}
 use Rattle.sg_parse_base.specs.declared.spot.Spot.{Spot}
 use Rattle.sg_lex.specs.declared.place.Cmp.{Cmp}
 use Rattle.sg_lex.specs.declared.place.Cmp.TheVariants.{Eq, Ne, Lt, Gt, Le, Ge}
 use Rattle.sg_parse_expr.specs.declared.tree.RawExpr.{RawExpr}
 use Rattle.sg_parse_expr.specs.declared.tree.RawExpr.TheVariants as e
-use Rattle.sg_parse_base.specs.Tokens.{is_operator, is_string, is_keyword}
+use Rattle.sg_parse_base.specs.Tokens.{is_operator, is_string}
 use Rattle.sg_parse_base.specs.Input.{Parser, ◌>>=◌, behind, next_is, sees, sees_word, symbol, fault_at}
 use Rattle.sg_parse_base.specs.Lists.{chain}
 use Rattle.sg_parse_expr.specs.declared.class.Class.TheVariants.{Text}

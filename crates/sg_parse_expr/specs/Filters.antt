@@ -1,5 +1,5 @@
 -- Filters: what is read, or the first fault.
-use Rattle.std.specs.Prelude.{List, Result, Ok, Err}
+use Rattle.std.specs.Prelude.{List}
 use Rattle.sg_parse_base.specs.Input.{Parser}
 use Rattle.sg_parse_expr.specs.declared.tree.Call.{Call}
 use Rattle.sg_parse_expr.specs.declared.tree.Arg.{Arg}

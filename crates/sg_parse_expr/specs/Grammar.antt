@@ -1,10 +1,10 @@
 -- The grammar of calls and expressions: what stands at the front of tokens, and what stands behind it.
-use Rattle.std.specs.Prelude.{◌≡◌, ◌⊎◌, ℕ, zero, suc, Bool, true, false, List, [], ◌∷◌, codes, Option, Some, None}
+use Rattle.std.specs.Prelude.{◌≡◌, ◌⊎◌, ℕ, zero, suc, false, List, [], ◌∷◌, codes, Option, Some}
 use Rattle.sg_lex.specs.declared.place.Cmp.{Cmp}
 use Rattle.sg_parse_base.specs.declared.spot.Spot.{Spot}
 use Rattle.sg_parse_base.specs.Tokens.{is_word, is_dots}
 use Rattle.sg_parse_base.specs.Input.{sees_dots}
-use Rattle.sg_parse_base.specs.Grammar.{Stands, Takes, Symbol, Keyword, Commas, Single, Rest, Many, Links, Chain, Skipped}
+use Rattle.sg_parse_base.specs.Grammar.{Stands, Takes, Symbol, Keyword, Commas, Single, Rest, Many, Chain, Skipped}
 use Rattle.sg_parse_expr.specs.declared.tree.Arg.{Arg}
 use Rattle.sg_parse_expr.specs.declared.tree.Arg.TheVariants.{Item, Range, Nested, Test}
 use Rattle.sg_parse_expr.specs.declared.tree.Call.{Call}

@@ -1,5 +1,5 @@
 -- Rewrites: what is read, or the first fault.
-use Rattle.std.specs.Prelude.{ℕ, List, [], ◌∷◌, Result, Ok, Err}
+use Rattle.std.specs.Prelude.{ℕ, List, [], ◌∷◌, Ok}
 use Rattle.sg_parse_base.specs.Input.{Parser, ◌>>=◌, symbol}
 use Rattle.sg_parse_base.specs.Lists.{many}
 use Rattle.sg_parse_expr.specs.declared.tree.Call.{Call}

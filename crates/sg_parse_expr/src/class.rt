@@ -5,9 +5,7 @@ ghost use Rattle.sg_parse_expr.specs.Classes as spec;
 
 use sg_lex::{ConfigKind, Token};
 use sg_macro::{TemplateFault, read_parts};
-use sg_parse_base::{
-    is_name, is_number, is_string, is_symbol, is_truth, is_word, same_keyword,
-};
+use sg_parse_base::{is_name, is_number, is_string, is_symbol, is_truth, is_word, same_keyword};
 use std::alloc::{AllocError, Global};
 
 /// A set of words.
@@ -125,17 +123,8 @@ const FACILITIES: [&[u8]; 24] = [
 ];
 
 const LEVELS: [&[u8]; 11] = [
-    b"emerg",
-    b"alert",
-    b"crit",
-    b"err",
-    b"warning",
-    b"notice",
-    b"info",
-    b"debug",
-    b"panic",
-    b"error",
-    b"warn",
+    b"emerg", b"alert", b"crit", b"err", b"warning", b"notice", b"info", b"debug", b"panic",
+    b"error", b"warn",
 ];
 
 #[tactic(auto, unfolding(crate::specs::Classes::facilities))]
@@ -244,7 +233,11 @@ fn number_verdict(token: &Token) -> Option<ConfigKind>
 }
 
 /// Of a word or a string.
-fn name_verdict(alloc: Global, class: Class, token: &Token) -> Result<Option<ConfigKind>, AllocError>
+fn name_verdict(
+    alloc: Global,
+    class: Class,
+    token: &Token,
+) -> Result<Option<ConfigKind>, AllocError>
     ensures { IfOk result (λ verdict. verdict ≡ spec.name_verdict class token.now) }
 {
     let text = token.text.bytes();
@@ -258,7 +251,11 @@ fn name_verdict(alloc: Global, class: Class, token: &Token) -> Result<Option<Con
     }
 }
 
-fn named_verdict(alloc: Global, class: Class, token: &Token) -> Result<Option<ConfigKind>, AllocError>
+fn named_verdict(
+    alloc: Global,
+    class: Class,
+    token: &Token,
+) -> Result<Option<ConfigKind>, AllocError>
     ensures { IfOk result (λ verdict. verdict ≡ spec.named_verdict class token.now) }
 {
     if !is_name(token) {

@@ -89,8 +89,14 @@ const SET: [(&[u8], RewriteOption); 2] = [
 
 const SUBST: [(&[u8], RewriteOption); 4] = [
     (b"value", RewriteOption::Flat(Flat::One(Class::Name))),
-    (b"type", RewriteOption::Flat(Flat::One(Class::Word(Choice::PatternKind)))),
-    (b"flags", RewriteOption::Flat(Flat::Many(Class::Word(Choice::SubstFlag)))),
+    (
+        b"type",
+        RewriteOption::Flat(Flat::One(Class::Word(Choice::PatternKind))),
+    ),
+    (
+        b"flags",
+        RewriteOption::Flat(Flat::Many(Class::Word(Choice::SubstFlag))),
+    ),
     (b"condition", RewriteOption::Condition),
 ];
 
@@ -102,13 +108,25 @@ const GROUP: [(&[u8], RewriteOption); 2] = [
 const TAG: [(&[u8], RewriteOption); 1] = [(b"condition", RewriteOption::Condition)];
 
 const REWRITES: [(&[u8], RewriteForm); 7] = [
-    (b"set", RewriteForm::Named(Class::Template, RewriteTable::Set)),
+    (
+        b"set",
+        RewriteForm::Named(Class::Template, RewriteTable::Set),
+    ),
     (b"unset", RewriteForm::Options(RewriteTable::Set)),
     (b"subst", RewriteForm::Pattern(RewriteTable::Subst)),
-    (b"groupset", RewriteForm::Named(Class::Template, RewriteTable::Group)),
+    (
+        b"groupset",
+        RewriteForm::Named(Class::Template, RewriteTable::Group),
+    ),
     (b"groupunset", RewriteForm::Options(RewriteTable::Group)),
-    (b"set-tag", RewriteForm::Named(Class::Name, RewriteTable::Tag)),
-    (b"clear-tag", RewriteForm::Named(Class::Name, RewriteTable::Tag)),
+    (
+        b"set-tag",
+        RewriteForm::Named(Class::Name, RewriteTable::Tag),
+    ),
+    (
+        b"clear-tag",
+        RewriteForm::Named(Class::Name, RewriteTable::Tag),
+    ),
 ];
 
 /// What stands in the first row of this keyword.

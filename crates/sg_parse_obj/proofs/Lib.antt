@@ -1,5 +1,5 @@
-mod Apart
+pub mod Apart
 mod Texts
-mod DriverLaws
-mod ObjectLaws
-mod Places
+pub mod DriverLaws
+pub mod ObjectLaws
+pub mod Places

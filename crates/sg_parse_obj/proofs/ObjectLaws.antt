@@ -56,7 +56,7 @@ filter_body-law depth = record {
         closing = d.0.1;
         opens = symbol-takes 123 s b.0 b.1;
         is_expr = subst (λ (x : RawExpr). Expr depth b.0.1 x c.0.1) is.0 (expr-sound depth b.0.1 c.0 c.1);
-        ends = elim (ending-sound c.0.1 d.0 d.1) [ | inl e ↦ inl e.1 | inr t ↦ inr t ];
+        ends = elim (ending-sound c.0.1 d.0 d.1) [ inl e ↦ inl e.1 | inr t ↦ inr t ];
         closes = subst (λ (r : List Spot). Symbol 125 d.0.1 r) is.1 (symbol-takes 125 d.0.1 k.0 k.1);
       };
   again = λ s r x t.

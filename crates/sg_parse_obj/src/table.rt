@@ -38,23 +38,44 @@ const SOURCE_DRIVERS: [(&[u8], DriverForm); 3] = [
 ];
 
 const DESTINATION_DRIVERS: [(&[u8], DriverForm); 3] = [
-    (b"file", DriverForm::Named(Class::FileName, Table::FileDestination)),
-    (b"network", DriverForm::Named(Class::Name, Table::NetworkDestination)),
-    (b"syslog", DriverForm::Named(Class::Name, Table::SyslogDestination)),
+    (
+        b"file",
+        DriverForm::Named(Class::FileName, Table::FileDestination),
+    ),
+    (
+        b"network",
+        DriverForm::Named(Class::Name, Table::NetworkDestination),
+    ),
+    (
+        b"syslog",
+        DriverForm::Named(Class::Name, Table::SyslogDestination),
+    ),
 ];
 
 const SOURCE: [(&[u8], OptionForm); 12] = [
-    (b"flags", OptionForm::Flat(Flat::Many(Class::Word(Choice::SourceFlag)))),
+    (
+        b"flags",
+        OptionForm::Flat(Flat::Many(Class::Word(Choice::SourceFlag))),
+    ),
     (b"log-iw-size", OptionForm::Flat(Flat::One(Class::Number))),
-    (b"log-fetch-limit", OptionForm::Flat(Flat::One(Class::Number))),
+    (
+        b"log-fetch-limit",
+        OptionForm::Flat(Flat::One(Class::Number)),
+    ),
     (b"log-msg-size", OptionForm::Flat(Flat::One(Class::Number))),
     (b"keep-hostname", OptionForm::Flat(Flat::One(Class::Truth))),
     (b"keep-timestamp", OptionForm::Flat(Flat::One(Class::Truth))),
     (b"recv-time-zone", OptionForm::Flat(Flat::One(Class::Name))),
     (b"time-zone", OptionForm::Flat(Flat::One(Class::Name))),
-    (b"default-facility", OptionForm::Flat(Flat::One(Class::Facility))),
+    (
+        b"default-facility",
+        OptionForm::Flat(Flat::One(Class::Facility)),
+    ),
     (b"default-level", OptionForm::Flat(Flat::One(Class::Level))),
-    (b"default-priority", OptionForm::Flat(Flat::One(Class::Level))),
+    (
+        b"default-priority",
+        OptionForm::Flat(Flat::One(Class::Level)),
+    ),
     (b"tags", OptionForm::Flat(Flat::Many(Class::Name))),
 ];
 
@@ -62,8 +83,14 @@ const LISTENER: [(&[u8], OptionForm); 5] = [
     (b"ip", OptionForm::Flat(Flat::One(Class::Name))),
     (b"port", OptionForm::Flat(Flat::One(Class::Number))),
     (b"localport", OptionForm::Flat(Flat::One(Class::Number))),
-    (b"transport", OptionForm::Flat(Flat::One(Class::Word(Choice::Transport)))),
-    (b"max-connections", OptionForm::Flat(Flat::One(Class::Number))),
+    (
+        b"transport",
+        OptionForm::Flat(Flat::One(Class::Word(Choice::Transport))),
+    ),
+    (
+        b"max-connections",
+        OptionForm::Flat(Flat::One(Class::Number)),
+    ),
 ];
 
 const DESTINATION: [(&[u8], OptionForm); 6] = [
@@ -71,7 +98,10 @@ const DESTINATION: [(&[u8], OptionForm); 6] = [
     (b"disk-buffer", OptionForm::Disk),
     (b"time-zone", OptionForm::Flat(Flat::One(Class::Name))),
     (b"frac-digits", OptionForm::Flat(Flat::One(Class::Number))),
-    (b"ts-format", OptionForm::Flat(Flat::One(Class::Word(Choice::StampForm)))),
+    (
+        b"ts-format",
+        OptionForm::Flat(Flat::One(Class::Word(Choice::StampForm))),
+    ),
     (b"time-reopen", OptionForm::Flat(Flat::One(Class::Number))),
 ];
 
@@ -83,11 +113,13 @@ const WRITER: [(&[u8], OptionForm); 3] = [
 
 const SENDER: [(&[u8], OptionForm); 2] = [
     (b"port", OptionForm::Flat(Flat::One(Class::Number))),
-    (b"transport", OptionForm::Flat(Flat::One(Class::Word(Choice::Transport)))),
+    (
+        b"transport",
+        OptionForm::Flat(Flat::One(Class::Word(Choice::Transport))),
+    ),
 ];
 
-const FRAMED: [(&[u8], OptionForm); 1] =
-    [(b"template", OptionForm::Flat(Flat::One(Class::Name)))];
+const FRAMED: [(&[u8], OptionForm); 1] = [(b"template", OptionForm::Flat(Flat::One(Class::Name)))];
 
 const DISK: [(&[u8], Flat); 13] = [
     (b"reliable", Flat::One(Class::Yes)),

@@ -34,7 +34,7 @@ fn parsed(alloc: Global, tokens: &[Token], whole: bool) -> io::Result<Vec<u8>> {
 
 // What a line of standard input comes to.
 fn answer(alloc: Global, line: &str) -> io::Result<Vec<u8>> {
-    let row = text::row(alloc, line)?;
+    let row = text::read_row(alloc, line)?;
     if row.text.len() > TEXT_LIMIT {
         return text::copied(alloc, b"too long");
     }

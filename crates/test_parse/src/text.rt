@@ -44,7 +44,7 @@ fn long(alloc: Global, count: u32, parts: &str) -> io::Result<Vec<u8>> {
     Ok(out)
 }
 
-pub fn row(alloc: Global, line: &str) -> io::Result<Row> {
+pub fn read_row(alloc: Global, line: &str) -> io::Result<Row> {
     if let Some((count, parts)) = line.split_once(' ') {
         if let Ok(count) = count.parse() {
             let text = long(alloc, count, parts)?;

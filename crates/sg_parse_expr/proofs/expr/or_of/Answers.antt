@@ -1,4 +1,4 @@
-use Rattle.std.proofs.Common.{◌≡◌, List, [], ◌∷◌, length, slice_get, Some, refl, ap, sym, ◌∙◌, arith}
+use Rattle.std.proofs.Common.{◌≡◌, List, [], ◌∷◌, length, refl, arith}
 use Rattle.sg_parse_expr.specs.declared.tree.RawExpr.{RawExpr}
 use Rattle.sg_parse_expr.specs.declared.tree.RawExpr.TheVariants as e
 use Rattle.sg_parse_expr.specs.Expr.{or_of}
