@@ -1,0 +1,85 @@
+// What stands in parentheses and has no effect.
+ghost use Rattle.std.specs.Prelude.{◌≡◌, [], ◌∷◌, reverse, MatchOption, ◌++◌, List, ℕ, IfOk, Result};
+ghost use Rattle.sg_parse_base.specs.Input.{Reads};
+ghost use Rattle.sg_parse_base.specs.Skipping.{bracket, next_bracket, open_behind, skipped, IsBehind};
+
+use crate::cursor::{Cursor, symbol};
+use crate::fault::Stop;
+use crate::token::is_symbol;
+use sg_lex::{ConfigKind, Token};
+use sqlite_items::Items;
+use std::alloc::{AllocError, Global};
+
+/// What a token does to the brackets that are open.
+#[derive(Clone, Copy, Drop)]
+pub enum Bracket {
+    /// It opens one, which this byte closes.
+    Opens(u8),
+    /// It closes the one that this byte closes.
+    Closes(u8),
+    Neither,
+}
+
+fn read_bracket(token: &Token) -> Bracket
+    ensures { result ≡ bracket token.now }
+{
+    if is_symbol(token, b')') {
+        return Bracket::Closes(b')');
+    }
+    if is_symbol(token, b'}') {
+        return Bracket::Closes(b'}');
+    }
+    if is_symbol(token, b'(') {
+        return Bracket::Opens(b')');
+    }
+    if is_symbol(token, b'{') {
+        return Bracket::Opens(b'}');
+    }
+    Bracket::Neither
+}
+
+fn next_bracket(cursor: &Cursor<'_>) -> Bracket
+    ensures { result ≡ next_bracket cursor.now }
+{
+    match cursor.peek() {
+        Some(token) => read_bracket(token),
+        None => Bracket::Neither,
+    }
+}
+
+/// Changes the open brackets, the innermost last, by a token, and says whether it may stand there.
+fn pass(open_ones: &mut Items<u8>, bracket: Bracket) -> Result<bool, AllocError>
+    ensures { IfOk result (λ b. IsBehind (open_behind bracket (reverse open_ones.old)) (reverse open_ones.new) b) }
+{
+    match bracket {
+        Bracket::Opens(byte) => {
+            open_ones.push(byte)?;
+            Ok(true)
+        }
+        Bracket::Closes(byte) => match open_ones.pop() {
+            Some(last) => Ok(last == byte),
+            None => Ok(false),
+        },
+        Bracket::Neither => Ok(true),
+    }
+}
+
+/// Passes over parentheses and whatever tokens stand in them, of which the brackets `(` `)` and `{` `}`
+/// must be balanced: one that closes no open bracket of its kind is `Unexpected`.
+pub fn skipped(alloc: Global, cursor: &mut Cursor<'_>) -> Result<(), Stop>
+    ensures { Reads (skipped cursor.old) result cursor.new }
+{
+    symbol(cursor, b'(')?;
+    let mut open_ones = Items::new(alloc);
+    open_ones.push(b')')?;
+    for _turn in 0..cursor.left() {
+        if !pass(&mut open_ones, next_bracket(cursor))? {
+            return Err(cursor.fault(ConfigKind::Unexpected));
+        }
+        cursor.skip();
+        if open_ones.is_empty() {
+            return Ok(());
+        }
+    }
+    Err(cursor.fault(ConfigKind::Unexpected))
+}

@@ -1,0 +1,6 @@
+use Rattle.std.proofs.Common.{◌≡◌, map, drop}
+use Rattle.sg_parse_expr.specs.Forms.{row_of}
+use Rattle.sg_parse_expr.proofs.form.row_of.Given as goal
+
+abbrev pub invariant-loop-row : goal.invariant-loop-row
+invariant-loop-row g l = row_of (map (λ row. (row.0.now, row.1)) l.rows) l.text ≡ row_of (map (λ row. (row.0.now, row.1)) (drop l.row-index l.rows)) l.text

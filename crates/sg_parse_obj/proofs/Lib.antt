@@ -1,0 +1,5 @@
+pub mod Apart
+mod Texts
+pub mod DriverLaws
+pub mod ObjectLaws
+pub mod Places
