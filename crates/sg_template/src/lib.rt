@@ -2,6 +2,7 @@
 #![tactic(auto)]
 
 mod append;
+mod copy;
 mod date;
 mod elements;
 mod env;
