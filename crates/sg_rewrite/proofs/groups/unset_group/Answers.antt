@@ -1,0 +1,17 @@
+use Rattle.std.proofs.Common.{◌≡◌, ◌+◌, drop, ap, sym, ◌∙◌}
+use Rattle.sg_msg.specs.Message.{Content}
+use Rattle.sg_rewrite.specs.Rewritten.{unset_each}
+use Rattle.sg_rewrite.proofs.Walks.{unset-step, name-of}
+use Rattle.sg_rewrite.proofs.groups.unset_group.Goals as goal
+
+pub unset_picked-requires : goal.unset_picked-requires
+unset_picked-requires c = name-of c.args.message.now.pairs c.loop-place.place c.in-Some.name.now c.in-Some._value.now c.pri-pri.ensures.whole.names c.in-Some.ensures
+
+pub loop-place-preserved : goal.loop-place-preserved
+loop-place-preserved c =
+    let pairs = c.args.message.now.pairs in
+    let place = c.loop-place.place in
+    let globs = c.args.globs.now in
+    ap (λ (content : Content). unset_each globs (drop (place + 1) pairs) content) c.in_ok-unset_picked.ensures
+    ∙ sym (unset-step globs pairs place c.in-Some.name.now c.in-Some._value.now c.loop-place.changed c.in-Some.ensures)
+    ∙ c.loop-place.invariant
