@@ -21,7 +21,7 @@ set-step globs parts pairs k name value content e = rw (pair-next pairs k name v
 pub unset-step : (globs : List (List ℕ)) (pairs : List Pair) (k : ℕ) (name value : List ℕ) (content : Content) →
     Some (record { name = name; value = value }) ≡ slice_get pairs k →
     unset_each globs (drop k pairs) content
-    ≡ unset_each globs (drop (k + 1) pairs) (if is_picked globs name then without_value name content else content)
+    ≡ (if is_picked globs name then without_value name (unset_each globs (drop (k + 1) pairs) content) else unset_each globs (drop (k + 1) pairs) content)
 unset-step globs pairs k name value content e = rw (pair-next pairs k name value e) refl
 
 -- a pair of a message has a name

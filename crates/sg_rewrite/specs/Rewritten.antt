@@ -35,11 +35,11 @@ set_each globs parts [] content = content
 set_each globs parts (pair ∷ pairs) content =
     set_each globs parts pairs (if is_picked globs pair.name then with_text parts pair.name content else content)
 
--- the names of these pairs that are picked are unset
+-- the names of these pairs that are picked are unset, the last one first
 abbrev pub unset_each : List (List ℕ) → List Pair → Content → Content
 unset_each globs [] content = content
 unset_each globs (pair ∷ pairs) content =
-    unset_each globs pairs (if is_picked globs pair.name then without_value pair.name content else content)
+    if is_picked globs pair.name then without_value pair.name (unset_each globs pairs content) else unset_each globs pairs content
 
 -- Groups are of the names that the message has before it, in byte order.
 unfoldable pub rewritten : Change → Content → Content

@@ -112,14 +112,16 @@ fn unset_picked(globs: &[Name], name: &[u8], message: &mut Message) -> Result<()
     Ok(())
 }
 
-/// Takes away the value of each name that a glob matches.
+/// Takes away the value of each name that a glob matches, from the last one on, so that few pairs move up.
 pub(crate) fn unset_group(globs: &[Name], message: &mut Message) -> Result<(), NoMemory>
     ensures ok { OnOk result (message.new ≡ unset_each globs.now message.old.pairs message.old) }
     ensures err { OnErr result (message.new ≡ message.old) }
 {
     let mut changed = message.share()?;
     let _pri = message.pri();
-    for place in 0..message.pair_count() {
+    let mut place = message.pair_count();
+    'pairs: while place > 0 {
+        place -= 1;
         let Some((name, _value)) = message.pair(place) else {
             unreachable!()
         };

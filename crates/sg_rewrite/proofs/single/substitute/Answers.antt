@@ -21,10 +21,10 @@ returns-clause-ok c =
     let are : spans ≡ spans_of search.matcher bytes = c.in_ok-spans.ensures.value in
     let some : 0 < length spans = grind (arith, nat_tests, c.is_empty.ensures, c.if-is_empty.false) in
     let text_is : c.deref-2.result.now ≡ text_over search.text None content =
-          c.deref-2.ensures.value ∙ c.in_ok-render.ensures ∙ ap (λ (env : Env). render_of search.text content env) c.own_env.ensures in
+    c.deref-2.ensures.value ∙ c.in_ok-render.ensures ∙ ap (λ (env : Env). render_of search.text content env) c.own_env.ensures in
     let spans_are : c.deref.result.now ≡ spans = c.deref.ensures.value in
     let value_is : c.replace.new.value.items ≡ cut (replaced spans bytes (text_over search.text None content) 0) =
-          c.in_ok-replace.ensures ∙ ap₂ (λ (ss : List (ℕ × ℕ)) (text : List ℕ). cut (replaced ss bytes text 0)) spans_are text_is in
+    c.in_ok-replace.ensures ∙ ap₂ (λ (ss : List (ℕ × ℕ)) (text : List ℕ). cut (replaced ss bytes text 0)) spans_are text_is in
     let set_is : c.set.new.message ≡ with_value search.name c.replace.new.value.items content =
-          c.in_ok-set.ensures.ok ∙ ap₂ (λ (name value : List ℕ). with_value name value content) name_is c.deref-3.ensures.value in
+    c.in_ok-set.ensures.ok ∙ ap₂ (λ (name value : List ℕ). with_value name value content) name_is c.deref-3.ensures.value in
     set_is ∙ found search content bytes spans c.replace.new.value.items has are some value_is
