@@ -23,6 +23,12 @@ const RECEIVED: Stamp = Stamp {
     offset: 0,
 };
 
+const LINE: Line = Line {
+    file: 0,
+    line: 7,
+    at: 40,
+};
+
 // Each character of this text and of the next is the byte of that number. A message: its PRI, its pairs,
 // and its tags behind `#`.
 const MESSAGES: &str = "\
@@ -212,11 +218,7 @@ fn subst_of(
         kind,
         text: name_of(alloc, pattern)?,
         flags: flags_of(flags),
-        line: Line {
-            file: 0,
-            line: 7,
-            at: 40,
-        },
+        line: LINE,
     };
     Ok(Some(Op::Subst {
         name: name_of(alloc, name)?,
@@ -337,5 +339,49 @@ fn rows(rt: HostRuntime) -> Result<(), Fail> {
     for row in ROWS.lines() {
         assert!(rt; holds(alloc, row)?, "{row}");
     }
+    Ok(())
+}
+
+// How many bytes the rewrite makes of 600,000.
+fn length_of(alloc: Global, words: &str, pattern: &str, text: &str) -> Result<usize, Fail> {
+    let Some(op) = op_of(alloc, words, "k", pattern, text)? else {
+        return Ok(0);
+    };
+    let Some(mut rewrite) = rewrite_of(alloc, &op)? else {
+        return Ok(0);
+    };
+    let mut message = Message::new(alloc, 13, SENT, RECEIVED)?;
+    let value = vec![in alloc; b'a'; 600_000]?;
+    message.set(b"k", &value)?;
+    rewrite.apply(alloc, &mut message)?;
+    match message.get(b"k") {
+        Some(value) => Ok(value.len()),
+        None => Ok(0),
+    }
+}
+
+// Why a pattern is refused, and the count of those that were too large.
+fn refusal_of(alloc: Global, pattern: &str) -> Result<(Option<BuildRefusal>, u64), Fail> {
+    let mut patterns = Patterns { too_large: 0 };
+    match op_of(alloc, "regex -", "k", pattern, "")? {
+        Some(op) if may_be_made(&op) => {
+            let refusal = Rewrite::new(alloc, &mut patterns, &op).err();
+            Ok((refusal, patterns.too_large))
+        }
+        _ => Ok((None, 0)),
+    }
+}
+
+#[test]
+fn limits(rt: HostRuntime) -> Result<(), Fail> {
+    let alloc = rt.alloc();
+    assert_eq!(rt; length_of(alloc, "set", "", "${k}${k}")?, 1_048_576);
+    assert_eq!(rt; length_of(alloc, "groupset", "", "$_$_")?, 1_048_576);
+    assert_eq!(rt; length_of(alloc, "regex g", "a", "bb")?, 1_048_576);
+    assert_eq!(rt; length_of(alloc, "text sg", "aa", "b")?, 300_000);
+    let bad = refusal_of(alloc, "a(")?;
+    assert!(rt; bad == (Some(BuildRefusal::BadPattern(LINE)), 0));
+    let large = refusal_of(alloc, "(\\w{1000}){100}")?;
+    assert!(rt; large == (Some(BuildRefusal::TooLarge(LINE)), 1));
     Ok(())
 }
