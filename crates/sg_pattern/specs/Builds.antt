@@ -5,12 +5,15 @@ use Rattle.sg_outside.specs.World.{WorldState, OnlyBuilds}
 use Rattle.regex.specs.Patterns.{Re, SameCaptures}
 use Rattle.regex.specs.Bytes.{regex_pattern}
 use Rattle.regex.specs.declared.bytes.regex.Regex as kit
-use Rattle.sg_pattern.specs.Pattern.{Pattern, regex_of}
+use Rattle.sg_pattern.specs.Pattern.{Pattern, regex_of, pattern_of, IsNoPattern}
 use Rattle.sg_pattern.specs.declared.pattern.Kind.TheVariants.{Regex}
 use Rattle.sg_pattern.specs.declared.fault.BuildFault.{BuildFault}
 use Rattle.sg_pattern.specs.declared.fault.BuildFault.TheVariants.{Syntax, TooLarge, NoMemory}
 use Rattle.sg_pattern.specs.declared.fault.PatternRefusal.{PatternRefusal}
 use Rattle.sg_pattern.specs.declared.fault.PatternRefusal.TheVariants as refusal
+use Rattle.sg_pattern.specs.declared.text.PatternText.{PatternText}
+use Rattle.sg_pattern.specs.declared.text.BuildRefusal.{BuildRefusal}
+use Rattle.sg_pattern.specs.declared.text.BuildRefusal.TheVariants as build
 
 -- a machine that holds nothing, and has refused so many patterns as too large
 abbrev pub refusing_machine : ℕ → WorldState
@@ -44,6 +47,12 @@ Builds old new text ignore_case (Err NoMemory) = OnlyBuilds old new
 
 -- why a pattern was refused
 abbrev pub RefusesPattern : WorldState → WorldState → Pattern → PatternRefusal → Type 0
-RefusesPattern old new p refusal.Syntax = (p.kind ≡ Regex) × (regex_of p.flags.ignore_case p.text ≡ None)
+RefusesPattern old new p refusal.Syntax = IsNoPattern p
 RefusesPattern old new p refusal.TooLarge = (p.kind ≡ Regex) × Rose old.build_faults new.build_faults
 RefusesPattern old new p refusal.NoMemory = Unit {0}
+
+-- why nothing was made of a pattern that a configuration writes
+abbrev pub RefusesText : WorldState → WorldState → PatternText → BuildRefusal → Type 0
+RefusesText old new p (build.BadPattern line) = (line ≡ p.line) × IsNoPattern (pattern_of p)
+RefusesText old new p (build.TooLarge line) = (line ≡ p.line) × (p.kind ≡ Regex) × Rose old.build_faults new.build_faults
+RefusesText old new p build.NoMemory = Unit {0}

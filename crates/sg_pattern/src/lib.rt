@@ -9,9 +9,11 @@ mod literal;
 mod matcher;
 mod pattern;
 mod search;
+mod text;
 
 pub use builder::{Builder, Patterns};
 pub use fault::{BuildFault, PatternRefusal};
 pub use glob::glob_matches;
 pub use matcher::Matcher;
 pub use pattern::{Flags, Kind};
+pub use text::{BuildRefusal, PatternText};

@@ -5,3 +5,4 @@ pub mod Texts
 pub mod Elements
 pub mod Render
 pub mod Path
+pub mod Own

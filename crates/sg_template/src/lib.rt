@@ -2,12 +2,14 @@
 #![tactic(auto)]
 
 mod append;
+mod copy;
 mod date;
 mod elements;
 mod env;
 mod header;
 mod laws;
 mod names;
+mod own;
 mod path;
 mod template;
 mod threads;
@@ -17,5 +19,6 @@ pub use elements::sdata_text;
 pub use env::Env;
 pub use laws::{macros_are_hard, paths_fit, texts_are_names};
 pub use names::{facility_name, severity_name};
+pub use own::own_env;
 pub use sg_macro::TemplateFault;
 pub use template::Template;

@@ -6,6 +6,7 @@ ghost use Rattle.sg_template.specs.Path.{path_of};
 
 use crate::Env;
 use crate::append::append_parts;
+use crate::copy::copied_parts;
 use crate::path::append_path;
 use sg_list::Seq;
 use sg_macro::{Part, TemplateFault, read_parts};
@@ -41,6 +42,15 @@ impl Template {
     {
         Ok(Template {
             parts: read_parts(alloc, text)?,
+        })
+    }
+
+    /// Another template of the same parts.
+    pub fn copy(&self, alloc: Global) -> Result<Template, AllocError>
+        ensures { IfOk result (λ copy. copy ≡ self.now) }
+    {
+        Ok(Template {
+            parts: copied_parts(alloc, self.parts.as_slice())?,
         })
     }
 
