@@ -16,7 +16,7 @@ pairs-preserved c =
     let place = c.pairs.place - 1 in
     let next : c.pairs.place ≡ place + 1 = omega (arith, c.pairs-test.true) in
     let before : c.pairs.changed ≡ unset_each globs (drop (place + 1) content.pairs) content =
-          c.pairs.invariant.changed ∙ ap (λ (n : ℕ). unset_each globs (drop n content.pairs) content) next in
+    c.pairs.invariant.changed ∙ ap (λ (n : ℕ). unset_each globs (drop n content.pairs) content) next in
     record {
       within = omega (arith, c.pairs.invariant.within);
       changed = c.in_ok-unset_picked.ensures
