@@ -2,6 +2,8 @@
 //! `bench_spool FILE COMMITS STAGED`. For measuring alone.
 #![tactic(auto)]
 
+ghost use Rattle.std.specs.Prelude.{◌≡◌, IfOk, length};
+
 use sg_file::FileDisk;
 use sg_spool::{Appended, Block, Spool};
 use std::alloc::{AllocError, Global};
@@ -15,7 +17,9 @@ const FRONT: &[u8; 58] =
     b"\x02\x01\0\0\0\0\0\0\0\0\0\0\0\x04\x0d\0\0\0\0\0\0\0\0\0\0\0\0\0\0\0\0\0\0\0\0\0\0\0\0\0\0\0\x01\0\0\0\x07MESSAGE\0\0\0\x8e";
 
 // An entry of 200 bytes.
-fn entry(alloc: Global) -> Result<Vec<u8>, AllocError> {
+fn entry(alloc: Global) -> Result<Vec<u8>, AllocError>
+    ensures { IfOk result (λ entry. length entry.items ≡ 200) }
+{
     let mut payload = FRONT.to_vec(alloc)?;
     payload.resize(200, b'x')?;
     Ok(payload)

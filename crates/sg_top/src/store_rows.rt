@@ -51,16 +51,23 @@ const ROWS: &str = "\
 256;64 B, 69 01;;5;store 0 damaged at 64~
 ";
 
+fn half(digit: u8) -> u8 {
+    match digit {
+        b'0'..=b'9' => digit - b'0',
+        b'a'..=b'f' => digit - b'a' + 10,
+        _ => 0,
+    }
+}
+
 // The bytes of hexadecimal digits.
 fn digits(alloc: Global, text: &str) -> Result<Vec<u8>, AllocError> {
     let mut bytes = Vec::new(alloc);
     let mut high = None;
     for digit in text.as_bytes() {
-        let half = (*digit as char).to_digit(16).unwrap_or(0) as u8;
         match high {
-            None => high = Some(half),
+            None => high = Some(half(*digit)),
             Some(first) => {
-                bytes.push(half | first << 4)?;
+                bytes.push(half(*digit) | first << 4)?;
                 high = None;
             }
         }
