@@ -1,0 +1,30 @@
+use Rattle.std.proofs.Common.{◌≡◌, ℕ, ◌==◌, ◌<◌, false, List, length, None, Some, sym, ap, ap₂, ◌∙◌, arith}
+use Rattle.std.proofs.lemmas.Bool.Decides.{nat_tests}
+use Rattle.sg_msg.specs.Message.{Content, value_of}
+use Rattle.sg_template.specs.declared.env.Env.{Env}
+use Rattle.sg_template.specs.Render.{render_of}
+use Rattle.sg_template.specs.Own.{own_env}
+use Rattle.sg_pattern.specs.Pattern.{spans_of}
+use Rattle.sg_rewrite.specs.Values.{cut, with_value, text_over, replaced}
+use Rattle.sg_rewrite.specs.Rewritten.{substituted}
+use Rattle.sg_rewrite.proofs.Found.{found}
+use Rattle.sg_rewrite.proofs.single.substitute.Goals as goal
+
+pub returns-clause-ok : goal.returns-clause-ok
+returns-clause-ok c =
+    let search = c.args.search.now in
+    let content = c.args.message.now in
+    let spans = c.in_ok-spans.spans.items in
+    let bytes = c.in-Some.bytes.now in
+    let name_is : c.bytes-name.result.now ≡ search.name = c.bytes-name.ensures in
+    let has : Some bytes ≡ value_of search.name content.pairs = rw (← name_is) c.in-Some.ensures in
+    let are : spans ≡ spans_of search.matcher bytes = c.in_ok-spans.ensures.value in
+    let some : 0 < length spans = grind (arith, nat_tests, c.is_empty.ensures, c.if-is_empty.false) in
+    let text_is : c.deref-2.result.now ≡ text_over search.text None content =
+    c.deref-2.ensures.value ∙ c.in_ok-render.ensures ∙ ap (λ (env : Env). render_of search.text content env) c.own_env.ensures in
+    let spans_are : c.deref.result.now ≡ spans = c.deref.ensures.value in
+    let value_is : c.replace.new.value.items ≡ cut (replaced spans bytes (text_over search.text None content) 0) =
+    c.in_ok-replace.ensures ∙ ap₂ (λ (ss : List (ℕ × ℕ)) (text : List ℕ). cut (replaced ss bytes text 0)) spans_are text_is in
+    let set_is : c.set.new.message ≡ with_value search.name c.replace.new.value.items content =
+    c.in_ok-set.ensures.ok ∙ ap₂ (λ (name value : List ℕ). with_value name value content) name_is c.deref-3.ensures.value in
+    set_is ∙ found search content bytes spans c.replace.new.value.items has are some value_is

@@ -1,0 +1,4 @@
+pub mod Values
+pub mod Rewritten
+pub mod Changes
+pub mod Ops

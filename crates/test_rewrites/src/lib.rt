@@ -1,0 +1,5 @@
+//! Tests of rewrites.
+#![tactic(auto)]
+
+#[cfg(test)]
+mod rewrites;

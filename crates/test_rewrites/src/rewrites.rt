@@ -1,0 +1,387 @@
+// Rewrites over messages.
+ghost use Rattle.std.specs.Prelude.{◌≡◌, true};
+ghost use Rattle.sg_msg.specs.Message.{IsName};
+ghost use Rattle.sg_rewrite.specs.Ops.{IsOp};
+
+use sg_device::Name;
+use sg_lex::Line;
+use sg_msg::{Message, is_hard};
+use sg_pattern::{BuildRefusal, Flags, Kind, PatternText, Patterns};
+use sg_rewrite::{Op, Rewrite};
+use sg_template::Template;
+use sg_time::Stamp;
+use std::alloc::{AllocError, Global};
+use std::test::Fail;
+
+const SENT: Stamp = Stamp {
+    at: 1_500_000,
+    offset: 60,
+};
+
+const RECEIVED: Stamp = Stamp {
+    at: 2_000_000,
+    offset: 0,
+};
+
+const LINE: Line = Line {
+    file: 0,
+    line: 7,
+    at: 40,
+};
+
+// Each character of this text and of the next is the byte of that number. A message: its PRI, its pairs,
+// and its tags behind `#`.
+const MESSAGES: &str = "\
+38;HOST=web1;MESSAGE=Failed for root from 10.0.0.1;PID=42;PROGRAM=sshd
+13;a=1;ab=2;b=3
+13;MESSAGE=abc
+13;MESSAGE=\u{ff}a\u{fe}\u{ff}
+0;
+13;MESSAGE=x;#red;#blue
+165;.SDATA.id@1.event=7;.SDATA.id@1.user=Ann;.SDATA.z@1.q=;MESSAGE=m
+13;MESSAGE=;k=AbAB aB
+";
+
+// A message's place, the rewrite, its name or globs, its pattern and its template, and the pairs and tags that come
+// of it. A kind of patterns stands for `subst`, with the flags: i ignore-case, p prefix, s substring, g global, - none.
+const ROWS: &str = "\
+0 set ~ MESSAGE ~  ~ $PROGRAM[${PID}]: $MSG ~ HOST=web1;MESSAGE=sshd[42]: Failed for root from 10.0.0.1;PID=42;PROGRAM=sshd
+0 set ~ HOST ~  ~ $FACILITY.$LEVEL ~ HOST=auth.info;MESSAGE=Failed for root from 10.0.0.1;PID=42;PROGRAM=sshd
+4 set ~ new ~  ~ $MSG$_- ~ new=-
+4 set ~ new ~  ~ ${MESSAGE:-none} ~ new=none
+4 set ~ new ~  ~ $STAMP ~ new=Jan  1 01:00:01
+4 set ~ new ~  ~ $R_ISODATE ~ new=1970-01-01T00:00:02+00:00
+1 set ~ ab ~  ~ ${b}${a} ~ a=1;ab=31;b=3
+1 set ~ aa ~  ~  ~ a=1;aa=;ab=2;b=3
+5 set ~ t ~  ~ $TAGS ~ MESSAGE=x;t=red,blue;#red;#blue
+1 unset ~ ab ~  ~  ~ a=1;b=3
+4 unset ~ ab ~  ~  ~ 
+2 regex g ~ MESSAGE ~ x* ~ - ~ MESSAGE=-a-b-c-
+2 regex - ~ MESSAGE ~ x* ~ - ~ MESSAGE=-abc
+0 regex - ~ MESSAGE ~ [0-9]+ ~ N ~ HOST=web1;MESSAGE=Failed for root from N.0.0.1;PID=42;PROGRAM=sshd
+0 regex g ~ MESSAGE ~ [0-9]+ ~ N ~ HOST=web1;MESSAGE=Failed for root from N.N.N.N;PID=42;PROGRAM=sshd
+0 regex i ~ MESSAGE ~ FAILED|ROOT ~ $PID ~ HOST=web1;MESSAGE=42 for root from 10.0.0.1;PID=42;PROGRAM=sshd
+0 regex - ~ MESSAGE ~ FAILED ~ $PID ~ HOST=web1;MESSAGE=Failed for root from 10.0.0.1;PID=42;PROGRAM=sshd
+7 regex ig ~ k ~ ab ~ <$k> ~ MESSAGE=;k=<AbAB aB><AbAB aB> <AbAB aB>
+7 regex - ~ MESSAGE ~ ^$ ~ none ~ MESSAGE=none;k=AbAB aB
+3 regex g ~ MESSAGE ~ (?-u:\\xff) ~ F ~ MESSAGE=Fa\u{fe}F
+4 regex g ~ MESSAGE ~ x* ~ - ~ 
+2 text - ~ MESSAGE ~ abc ~ X ~ MESSAGE=X
+2 text g ~ MESSAGE ~ ab ~ X ~ MESSAGE=abc
+2 text i ~ MESSAGE ~ ABC ~ X ~ MESSAGE=X
+7 text p ~ k ~ Ab ~ - ~ MESSAGE=;k=-AB aB
+7 text ipg ~ k ~ aB ~ - ~ MESSAGE=;k=-AB aB
+7 text s ~ k ~ AB ~ - ~ MESSAGE=;k=Ab- aB
+7 text sg ~ k ~ A ~ - ~ MESSAGE=;k=-b-B aB
+7 text isg ~ k ~ ab ~ - ~ MESSAGE=;k=-- -
+3 text sg ~ MESSAGE ~ \u{ff} ~  ~ MESSAGE=a\u{fe}
+7 glob - ~ k ~ Ab*B ~ ($k) ~ MESSAGE=;k=(AbAB aB)
+2 glob g ~ MESSAGE ~ ?b ~ X ~ MESSAGE=abc
+1 groupset ~ a* ~  ~ $_! ~ a=1!;ab=2!;b=3
+1 groupset ~ b,a ~  ~ ${a}${b} ~ a=13;ab=2;b=133
+0 groupset ~ PRI,P*,_ ~  ~ ${PID}.$_ ~ HOST=web1;MESSAGE=Failed for root from 10.0.0.1;PID=42.42;PROGRAM=42.42.sshd
+6 groupset ~ .SDATA.id* ~  ~ <$_>$MSG ~ .SDATA.id@1.event=<7>m;.SDATA.id@1.user=<Ann>m;.SDATA.z@1.q=;MESSAGE=m
+7 groupset ~ M*,none ~  ~ ${_:-none} ~ MESSAGE=none;k=AbAB aB
+4 groupset ~ * ~  ~ X ~ 
+1 groupunset ~ a* ~  ~  ~ b=3
+6 groupunset ~ .SDATA.* ~  ~  ~ MESSAGE=m
+0 groupunset ~ *O*,PID ~  ~  ~ MESSAGE=Failed for root from 10.0.0.1
+1 groupunset ~ a?? ~  ~  ~ a=1;ab=2;b=3
+5 set-tag ~ green ~  ~  ~ MESSAGE=x;#red;#blue;#green
+5 set-tag ~ red ~  ~  ~ MESSAGE=x;#red;#blue
+4 set-tag ~ $MSG ~  ~  ~ #$MSG
+5 clear-tag ~ red ~  ~  ~ MESSAGE=x;#blue
+5 clear-tag ~ green ~  ~  ~ MESSAGE=x;#red;#blue
+";
+
+// The bytes that the characters stand for.
+fn bytes_of(alloc: Global, text: &str) -> Result<Vec<u8>, AllocError> {
+    let mut bytes = Vec::new(alloc);
+    for letter in text.chars() {
+        bytes.push((letter as u32 % 256) as u8)?;
+    }
+    Ok(bytes)
+}
+
+fn name_of(alloc: Global, text: &str) -> Result<Name, AllocError> {
+    Ok(Name::from_vec(bytes_of(alloc, text)?))
+}
+
+fn names_of(alloc: Global, text: &str) -> Result<Vec<Name>, AllocError> {
+    let mut names = Vec::new(alloc);
+    for name in text.split(',') {
+        names.push(name_of(alloc, name)?)?;
+    }
+    Ok(names)
+}
+
+// A pair or a tag more.
+fn put(alloc: Global, message: &mut Message, item: &str) -> Result<(), Fail> {
+    if let Some(tag) = item.strip_prefix('#') {
+        message.set_tag(tag.as_bytes())?;
+        return Ok(());
+    }
+    let Some((name, value)) = item.split_once('=') else {
+        return Ok(());
+    };
+    let name = name.as_bytes();
+    if name.is_empty() || name.len() > 255 {
+        return Ok(());
+    }
+    let value = bytes_of(alloc, value)?;
+    message.set(name, &value)?;
+    Ok(())
+}
+
+fn message_of(alloc: Global, row: &str) -> Result<Option<Message>, Fail> {
+    let Some((pri, items)) = row.split_once(';') else {
+        return Ok(None);
+    };
+    let Ok(pri) = pri.parse::<u8>() else {
+        return Ok(None);
+    };
+    if pri > 191 {
+        return Ok(None);
+    }
+    let mut message = Message::new(alloc, pri, SENT, RECEIVED)?;
+    for item in items.split(';') {
+        put(alloc, &mut message, item)?;
+    }
+    Ok(Some(message))
+}
+
+// The message of this place.
+fn message_at(alloc: Global, place: &str) -> Result<Option<Message>, Fail> {
+    let Ok(place) = place.parse::<usize>() else {
+        return Ok(None);
+    };
+    match MESSAGES.lines().nth(place) {
+        Some(row) => message_of(alloc, row),
+        None => Ok(None),
+    }
+}
+
+// The pairs and the tags, as the table writes them.
+fn written(alloc: Global, message: &Message) -> Result<Vec<u8>, AllocError> {
+    let mut text = Vec::new(alloc);
+    let mut place = 0;
+    while let Some((name, value)) = message.pair(place) {
+        text.extend_from_slice(name)?;
+        text.extend_from_slice(b"=")?;
+        text.extend_from_slice(value)?;
+        text.extend_from_slice(b";")?;
+        place += 1;
+    }
+    place = 0;
+    while let Some(tag) = message.tag(place) {
+        text.extend_from_slice(b"#")?;
+        text.extend_from_slice(tag)?;
+        text.extend_from_slice(b";")?;
+        place += 1;
+    }
+    text.pop();
+    Ok(text)
+}
+
+fn kind_of(word: &str) -> Option<Kind> {
+    match word {
+        "regex" => Some(Kind::Regex),
+        "text" => Some(Kind::Text),
+        "glob" => Some(Kind::Glob),
+        _ => None,
+    }
+}
+
+fn flags_of(word: &str) -> Flags {
+    Flags {
+        ignore_case: word.contains('i'),
+        prefix: word.contains('p'),
+        substring: word.contains('s'),
+        global: word.contains('g'),
+    }
+}
+
+fn subst_of(
+    alloc: Global,
+    words: &str,
+    name: &str,
+    pattern: &str,
+    text: Template,
+) -> Result<Option<Op>, AllocError> {
+    let Some((kind, flags)) = words.split_once(' ') else {
+        return Ok(None);
+    };
+    let Some(kind) = kind_of(kind) else {
+        return Ok(None);
+    };
+    let pattern = PatternText {
+        kind,
+        text: name_of(alloc, pattern)?,
+        flags: flags_of(flags),
+        line: LINE,
+    };
+    Ok(Some(Op::Subst {
+        name: name_of(alloc, name)?,
+        pattern,
+        text,
+    }))
+}
+
+// The rewrite of a row, if its words are understood.
+fn op_of(
+    alloc: Global,
+    words: &str,
+    name: &str,
+    pattern: &str,
+    text: &str,
+) -> Result<Option<Op>, Fail> {
+    let text = Template::read(alloc, &bytes_of(alloc, text)?)?;
+    let op = match words {
+        "set" => Op::Set {
+            name: name_of(alloc, name)?,
+            text,
+        },
+        "unset" => Op::Unset {
+            name: name_of(alloc, name)?,
+        },
+        "groupset" => Op::GroupSet {
+            globs: names_of(alloc, name)?,
+            text,
+        },
+        "groupunset" => Op::GroupUnset {
+            globs: names_of(alloc, name)?,
+        },
+        "set-tag" => Op::SetTag {
+            tag: name_of(alloc, name)?,
+        },
+        "clear-tag" => Op::ClearTag {
+            tag: name_of(alloc, name)?,
+        },
+        _ => return Ok(subst_of(alloc, words, name, pattern, text)?),
+    };
+    Ok(Some(op))
+}
+
+fn is_name(name: &[u8]) -> bool
+    ensures { result ≡ true → IsName name.now }
+{
+    !name.is_empty() && name.len() <= 255 && !is_hard(name)
+}
+
+fn may_be_made(op: &Op) -> bool
+    ensures { result ≡ true → IsOp op.now }
+{
+    match op {
+        Op::Set { name, .. } => is_name(name.bytes()),
+        Op::Unset { name } => is_name(name.bytes()),
+        Op::Subst { name, .. } => is_name(name.bytes()),
+        Op::GroupSet { .. } => true,
+        Op::GroupUnset { .. } => true,
+        Op::SetTag { .. } => true,
+        Op::ClearTag { .. } => true,
+    }
+}
+
+fn rewrite_of(alloc: Global, op: &Op) -> Result<Option<Rewrite>, Fail> {
+    if !may_be_made(op) {
+        return Ok(None);
+    }
+    let mut patterns = Patterns { too_large: 0 };
+    Ok(Some(Rewrite::new(alloc, &mut patterns, op)?))
+}
+
+// What the rewrite makes of another handle of the message, by itself and by one shared of it, and
+// whether the message says what it said before.
+fn changed(
+    alloc: Global,
+    rewrite: &mut Rewrite,
+    message: &Message,
+) -> Result<(Vec<u8>, bool), Fail> {
+    let before = written(alloc, message)?;
+    let mut one = message.share()?;
+    rewrite.apply(alloc, &mut one)?;
+    let mut other = message.share()?;
+    rewrite.share(alloc)?.apply(alloc, &mut other)?;
+    let text = written(alloc, &one)?;
+    let same = written(alloc, &other)? == text && written(alloc, message)? == before;
+    Ok((text, same))
+}
+
+// Whether a row holds, and whether it was understood.
+fn holds(alloc: Global, row: &str) -> Result<bool, Fail> {
+    let Some((head, rest)) = row.split_once(" ~ ") else {
+        return Ok(false);
+    };
+    let (Some((place, words)), Some((name, rest))) = (head.split_once(' '), rest.split_once(" ~ "))
+    else {
+        return Ok(false);
+    };
+    let Some((pattern, rest)) = rest.split_once(" ~ ") else {
+        return Ok(false);
+    };
+    let Some((text, expected)) = rest.split_once(" ~ ") else {
+        return Ok(false);
+    };
+    let Some(op) = op_of(alloc, words, name, pattern, text)? else {
+        return Ok(false);
+    };
+    let (Some(mut rewrite), Some(message)) = (rewrite_of(alloc, &op)?, message_at(alloc, place)?)
+    else {
+        return Ok(false);
+    };
+    let (found, same) = changed(alloc, &mut rewrite, &message)?;
+    Ok(same && found == bytes_of(alloc, expected)?)
+}
+
+#[test]
+fn rows(rt: HostRuntime) -> Result<(), Fail> {
+    let alloc = rt.alloc();
+    for row in ROWS.lines() {
+        assert!(rt; holds(alloc, row)?, "{row}");
+    }
+    Ok(())
+}
+
+// How many bytes the rewrite makes of 600,000.
+fn length_of(alloc: Global, words: &str, pattern: &str, text: &str) -> Result<usize, Fail> {
+    let Some(op) = op_of(alloc, words, "k", pattern, text)? else {
+        return Ok(0);
+    };
+    let Some(mut rewrite) = rewrite_of(alloc, &op)? else {
+        return Ok(0);
+    };
+    let mut message = Message::new(alloc, 13, SENT, RECEIVED)?;
+    let value = vec![in alloc; b'a'; 600_000]?;
+    message.set(b"k", &value)?;
+    rewrite.apply(alloc, &mut message)?;
+    match message.get(b"k") {
+        Some(value) => Ok(value.len()),
+        None => Ok(0),
+    }
+}
+
+// Why a pattern is refused, and the count of those that were too large.
+fn refusal_of(alloc: Global, pattern: &str) -> Result<(Option<BuildRefusal>, u64), Fail> {
+    let mut patterns = Patterns { too_large: 0 };
+    match op_of(alloc, "regex -", "k", pattern, "")? {
+        Some(op) if may_be_made(&op) => {
+            let refusal = Rewrite::new(alloc, &mut patterns, &op).err();
+            Ok((refusal, patterns.too_large))
+        }
+        _ => Ok((None, 0)),
+    }
+}
+
+#[test]
+fn limits(rt: HostRuntime) -> Result<(), Fail> {
+    let alloc = rt.alloc();
+    assert_eq!(rt; length_of(alloc, "set", "", "${k}${k}")?, 1_048_576);
+    assert_eq!(rt; length_of(alloc, "groupset", "", "$_$_")?, 1_048_576);
+    assert_eq!(rt; length_of(alloc, "regex g", "a", "bb")?, 1_048_576);
+    assert_eq!(rt; length_of(alloc, "text sg", "aa", "b")?, 300_000);
+    let bad = refusal_of(alloc, "a(")?;
+    assert!(rt; bad == (Some(BuildRefusal::BadPattern(LINE)), 0));
+    let large = refusal_of(alloc, "(\\w{1000}){100}")?;
+    assert!(rt; large == (Some(BuildRefusal::TooLarge(LINE)), 1));
+    Ok(())
+}
