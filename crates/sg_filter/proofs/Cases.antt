@@ -1,5 +1,5 @@
 -- What a turn does with each kind of frame.
-use Rattle.std.proofs.Common.{◌≡◌, ℕ, zero, suc, ◌+◌, ◌<◌, ◌≤◌, List, [], ◌∷◌, ◌++◌, map, length, Bor, refl, sym, ap, ap₂, ◌∙◌, subst, arith}
+use Rattle.std.proofs.Common.{◌≡◌, ℕ, ◌+◌, List, [], ◌∷◌, ◌++◌, map, length, Bor, refl, sym, ap, ◌∙◌, subst, arith}
 use Rattle.std.proofs.lemmas.List.{append-nil, append_assoc}
 use Rattle.sg_outside.specs.World.{WorldState}
 use Rattle.sg_pattern.specs.Builds.{RefusesText}
@@ -9,14 +9,13 @@ use Rattle.sg_pattern.specs.declared.text.BuildRefusal.TheVariants.{BadPattern, 
 use Rattle.sg_filter.specs.declared.check.Check.{Check}
 use Rattle.sg_filter.specs.declared.expr.Expr.{Expr}
 use Rattle.sg_filter.specs.declared.expr.Expr.TheVariants as e
-use Rattle.sg_filter.specs.declared.node.Node.{Node}
 use Rattle.sg_filter.specs.declared.work.Frame.{Frame}
 use Rattle.sg_filter.specs.declared.work.Frame.TheVariants as frame
 use Rattle.sg_filter.specs.declared.work.Work.{Work}
-use Rattle.sg_filter.specs.Decisions.{Decision, Fork, ask, forks, no_fork, all_fork, any_fork}
+use Rattle.sg_filter.specs.Decisions.{Fork, ask, forks, no_fork, all_fork, any_fork}
 use Rattle.sg_filter.specs.Patterns.{joined, patterns_within, AreValid, RefusesAny}
 use Rattle.sg_filter.specs.Table.{decision_at}
-use Rattle.sg_filter.specs.Work.{run, waiting_patterns, Turns}
+use Rattle.sg_filter.specs.Work.{Turns}
 use Rattle.sg_filter.proofs.Equations.{forks-And, forks-Or, forks-Not, patterns-And, patterns-Or, patterns-Not}
 use Rattle.sg_filter.proofs.Turning.{comes-pushed, comes-asked, all-last, any-last, map-last}
 

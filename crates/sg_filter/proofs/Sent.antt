@@ -2,6 +2,7 @@
 use denote.Param.Send.{IsSend, sendable, struct_send, enum_send, recorded_send}
 use denote.Struct.Declared.{shape}
 use denote.Enum.Declared as choice
+use Rattle.std.proofs.Crossing as heap
 use Rattle.sg_device.proofs.name.Name.TheSendSync as name
 use Rattle.sg_template.proofs.template.Template.TheSendSync as template
 use Rattle.sqlite_items.proofs.items.Items.TheSendSync as items
@@ -13,7 +14,7 @@ use Rattle.sg_filter.specs.contracts.node.Node as Node
 use Rattle.sg_filter.specs.contracts.filter.Filter as Filter
 use Rattle.sg_filter.specs.contracts.filter.Filter.TheInside as inside
 
-ruleset parts = (sendable, name.the_send, items.the_send, room.the_send, room.the_field_send)
+ruleset parts = (heap.crosses, sendable, name.the_send, items.the_send, room.the_send, room.the_field_send)
 
 found : IsSend Search.the_field.row
 found = struct_send (shape Search.the_type) (name.the_send, (matcher, tt))

@@ -1,5 +1,5 @@
 -- Tags from a place on.
-use Rattle.std.proofs.Common.{◌≡◌, ℕ, ◌+◌, Bool, true, false, List, [], ◌∷◌, drop, Option, None, Some, bytes_eq, refl, sym, ap, ◌∙◌, subst}
+use Rattle.std.proofs.Common.{◌≡◌, ℕ, ◌+◌, Bool, true, false, List, drop, None, Some, bytes_eq, refl, sym, ap, ◌∙◌}
 use Rattle.std.specs.Prelude.{slice_get, ◌||◌}
 use Rattle.sg_list.proofs.ListLemmas.{drop-get, slice_get-all}
 use Rattle.sg_msg.specs.Message.{has_tag}

@@ -1,18 +1,15 @@
 -- What a decision answers.
-use Rattle.std.proofs.Common.{◌≡◌, ℕ, zero, suc, Bool, true, false, List, [], ◌∷◌, map, length, Option, None, Some, refl, sym, ap, ap₂, ◌∙◌, subst}
+use Rattle.std.proofs.Common.{◌≡◌, ℕ, zero, suc, Bool, true, false, List, [], ◌∷◌, map, length, Option, None, Some, refl, sym, ap, ◌∙◌, subst}
 use Rattle.std.specs.Prelude.{cond, not, ◌&&◌, ◌||◌, slice_get}
 use Rattle.std.specs.List.{list_all, list_any}
 use Rattle.sg_msg.specs.Message.{Content}
-use Rattle.sg_pattern.specs.Pattern.{pattern_of}
-use Rattle.sg_filter.specs.declared.check.Check.TheVariants as check
 use Rattle.sg_filter.specs.declared.expr.Expr.{Expr}
 use Rattle.sg_filter.specs.declared.expr.Expr.TheOpen.{Expr-F}
 use Rattle.sg_filter.specs.declared.expr.Expr.TheViews.{roll-Expr}
 use Rattle.sg_filter.specs.declared.expr.Expr.TheFolds.{fold-Expr, fold-roll-Expr, map-Expr, ind-Expr}
-use Rattle.sg_filter.specs.Checks.{check_holds}
 use Rattle.sg_filter.specs.Names.{of_named}
-use Rattle.sg_filter.specs.Holds.{holds_step, name_holds, holds_within, holds}
-use Rattle.sg_filter.specs.Decisions.{Decision, answer, ask, decides, Fork, all_fork, any_fork, fork_step, no_fork, name_fork, forks, decision_of}
+use Rattle.sg_filter.specs.Holds.{holds_step, name_holds, holds_within}
+use Rattle.sg_filter.specs.Decisions.{Decision, answer, decides, Fork, all_fork, any_fork, fork_step, no_fork, name_fork, forks}
 use Rattle.sg_filter.specs.Laws.{FiltersHold}
 
 -- the fork goes one way where that is true, and the other where it is false

@@ -1,11 +1,8 @@
 -- The turns of the work.
-use Rattle.std.proofs.Common.{◌≡◌, ℕ, zero, suc, ◌+◌, ◌<◌, ◌≤◌, List, [], ◌∷◌, ◌++◌, map, length, Bor, refl, sym, ap, ap₂, ◌∙◌, subst, arith, length-append}
+use Rattle.std.proofs.Common.{◌≡◌, ℕ, ◌+◌, ◌<◌, ◌≤◌, List, [], ◌∷◌, ◌++◌, map, length, Bor, refl, sym, ap, ap₂, ◌∙◌, subst, arith, length-append}
 use Rattle.std.proofs.lemmas.List.{append_assoc, append-nil}
-use Rattle.sg_device.specs.Faults.{Rose}
 use Rattle.sg_outside.specs.World.{WorldState, OnlyBuilds}
-use Rattle.sg_pattern.specs.Pattern.{pattern_of, IsValid}
 use Rattle.sg_pattern.specs.declared.text.PatternText.{PatternText}
-use Rattle.sg_lex.specs.declared.place.Line.{Line}
 use Rattle.sg_pattern.specs.declared.text.BuildRefusal.{BuildRefusal}
 use Rattle.sg_pattern.specs.declared.text.BuildRefusal.TheVariants.{BadPattern, TooLarge, NoMemory}
 use Rattle.sg_filter.specs.declared.check.Check.{Check}
@@ -15,7 +12,7 @@ use Rattle.sg_filter.specs.declared.work.Frame.{Frame}
 use Rattle.sg_filter.specs.declared.work.Frame.TheVariants as frame
 use Rattle.sg_filter.specs.declared.work.Work.{Work}
 use Rattle.sg_filter.specs.Decisions.{Decision, Fork, ask, forks, all_fork, any_fork, decision_of}
-use Rattle.sg_filter.specs.Patterns.{joined, patterns_of, AreValid, IsAmong, IsBadAt, IsLargeAt, RefusesAny, RefusesExpr}
+use Rattle.sg_filter.specs.Patterns.{joined, patterns_of, AreValid, IsAmong, RefusesAny, RefusesExpr}
 use Rattle.sg_filter.specs.Table.{decision_at, IsTable}
 use Rattle.sg_filter.specs.Work.{does, run, frame_patterns, waiting_patterns, IsIn, AreIn, Grows, Comes, Turns, Leads}
 use Rattle.sg_filter.proofs.Tables.{table-none, grows-none, grows-one, grows-kept, grows-length, decision-pushed}

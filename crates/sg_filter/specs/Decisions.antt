@@ -1,5 +1,5 @@
 -- What a filter asks of a message, one check after another, and what it answers.
-use Rattle.std.specs.Prelude.{ℕ, zero, suc, Bool, true, false, if◌then◌else◌, List, [], ◌∷◌, Option, None, Some, length, slice_get}
+use Rattle.std.specs.Prelude.{ℕ, zero, suc, Bool, true, false, if◌then◌else◌, List, [], ◌∷◌, length, slice_get}
 use Rattle.sg_msg.specs.Message.{Content}
 use Rattle.sg_pattern.specs.Pattern.{pattern_of}
 use Rattle.sg_filter.specs.declared.check.Check.{Check}

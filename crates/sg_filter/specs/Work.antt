@@ -1,5 +1,5 @@
 -- What the frames that wait come to.
-use Rattle.std.specs.Prelude.{◌≡◌, ℕ, ◌+◌, ◌<◌, true, List, [], ◌∷◌, ◌++◌, map, length}
+use Rattle.std.specs.Prelude.{◌≡◌, ℕ, ◌+◌, ◌<◌, List, [], ◌∷◌, ◌++◌, map, length}
 use Rattle.std.specs.List.{AllByRecursion}
 use Rattle.sg_pattern.specs.declared.text.PatternText.{PatternText}
 use Rattle.sg_filter.specs.declared.expr.Expr.{Expr}

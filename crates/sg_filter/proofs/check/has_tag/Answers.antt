@@ -1,4 +1,4 @@
-use Rattle.std.proofs.Common.{◌≡◌, sym, ◌∙◌}
+use Rattle.std.proofs.Common.{sym, ◌∙◌}
 use Rattle.sg_filter.proofs.Tagged.{tag-here, tag-past, tag-end}
 use Rattle.sg_filter.proofs.check.has_tag.Goals as goal
 

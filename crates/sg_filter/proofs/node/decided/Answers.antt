@@ -1,4 +1,4 @@
-use Rattle.std.proofs.Common.{◌≡◌, sym, ap, ◌∙◌, arith}
+use Rattle.std.proofs.Common.{ap, ◌∙◌, arith}
 use Rattle.sg_filter.specs.Decisions.{decides}
 use Rattle.sg_filter.specs.Table.{decision_at}
 use Rattle.sg_filter.proofs.Tables.{step-below, step-same, answer-at}

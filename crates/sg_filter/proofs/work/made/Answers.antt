@@ -1,4 +1,4 @@
-use Rattle.std.proofs.Common.{◌≡◌, ℕ, ◌+◌, ◌<◌, List, [], ◌∷◌, ◌++◌, Ok, Err, refl, sym, ap, ◌∙◌, subst, arith}
+use Rattle.std.proofs.Common.{refl}
 use Rattle.sg_filter.specs.declared.work.Work.{Work}
 use Rattle.sg_filter.proofs.Turning.{leads-start, leads-on, refuses-on, only-none, only-more}
 use Rattle.sg_filter.proofs.work.made.Goals as goal

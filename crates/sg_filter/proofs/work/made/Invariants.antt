@@ -1,4 +1,3 @@
-use Rattle.std.proofs.Common.{◌≡◌}
 use Rattle.sg_outside.specs.World.{OnlyBuilds}
 use Rattle.sg_filter.specs.Work.{Leads}
 use Rattle.sg_filter.proofs.work.made.Given as goal

@@ -1,10 +1,9 @@
-use Rattle.std.proofs.Common.{◌≡◌, ◌-◌, List, [], ◌∷◌, ◌++◌, None, Some, refl, sym, ap, ◌∙◌}
-use Rattle.sg_pattern.specs.Pattern.{pattern_of}
+use Rattle.std.proofs.Common.{◌-◌, [], ◌∷◌, None, Some, refl, sym, ap, ◌∙◌}
 use Rattle.sg_filter.specs.declared.check.Check.TheVariants as check
 use Rattle.sg_filter.specs.declared.expr.Expr.TheVariants as e
 use Rattle.sg_filter.specs.declared.work.Frame.TheVariants as frame
 use Rattle.sg_filter.specs.Decisions.{ask, forks}
-use Rattle.sg_filter.specs.Patterns.{patterns_within, RefusesAny}
+use Rattle.sg_filter.specs.Patterns.{patterns_within}
 use Rattle.sg_filter.specs.Work.{frame_patterns}
 use Rattle.sg_filter.proofs.Equations.{deeper, forks-Facility, forks-Level, forks-Tags, forks-Compare, forks-Field, forks-deep, forks-named, patterns-Facility, patterns-Level, patterns-Tags, patterns-Compare, patterns-Field, patterns-deep, patterns-named}
 use Rattle.sg_filter.proofs.Cases.{turns-as, turns-check, turns-none, turns-one, turns-not, turns-and, turns-or, turns-all-none, turns-any-none, turns-all, turns-any, refuses-one}
@@ -17,9 +16,9 @@ returns-in_ok-ask-in-Facility-clause-turns g c =
     let done = c.in_ok-ask-in-Facility.ensures in
     turns-as named (frame.One f.expr f.depth f.yes f.no) c.args.frame c.args.self.now c.ask.new.self (sym f.is)
     (turns-check named f.expr f.depth f.yes f.no c.args.self.now c.ask.new.self (check.Facility c.in_ok-copied_ranges-in-Facility.field-0) []
-        (ap (forks f.depth named) c.in-Facility.is ∙ forks-Facility f.depth named c.in-Facility.ranges ∙ ap (λ r. ask (check.Facility r)) (sym c.in_ok-copied_ranges-in-Facility.ensures))
-        (ap (patterns_within f.depth named) c.in-Facility.is ∙ patterns-Facility f.depth named c.in-Facility.ranges) tt
-        done.0 done.1 done.2)
+    (ap (forks f.depth named) c.in-Facility.is ∙ forks-Facility f.depth named c.in-Facility.ranges ∙ ap (λ r. ask (check.Facility r)) (sym c.in_ok-copied_ranges-in-Facility.ensures))
+    (ap (patterns_within f.depth named) c.in-Facility.is ∙ patterns-Facility f.depth named c.in-Facility.ranges) tt
+    done.0 done.1 done.2)
 
 pub returns-in_ok-ask-in-Level-clause-turns : goal.returns-in_ok-ask-in-Level-clause-turns
 returns-in_ok-ask-in-Level-clause-turns g c =
@@ -28,9 +27,9 @@ returns-in_ok-ask-in-Level-clause-turns g c =
     let done = c.in_ok-ask-in-Level.ensures in
     turns-as named (frame.One f.expr f.depth f.yes f.no) c.args.frame c.args.self.now c.ask-in-Level.new.self (sym f.is)
     (turns-check named f.expr f.depth f.yes f.no c.args.self.now c.ask-in-Level.new.self (check.Level c.in_ok-copied_ranges-in-Level.field-0) []
-        (ap (forks f.depth named) c.in-Level.is ∙ forks-Level f.depth named c.in-Level.ranges ∙ ap (λ r. ask (check.Level r)) (sym c.in_ok-copied_ranges-in-Level.ensures))
-        (ap (patterns_within f.depth named) c.in-Level.is ∙ patterns-Level f.depth named c.in-Level.ranges) tt
-        done.0 done.1 done.2)
+    (ap (forks f.depth named) c.in-Level.is ∙ forks-Level f.depth named c.in-Level.ranges ∙ ap (λ r. ask (check.Level r)) (sym c.in_ok-copied_ranges-in-Level.ensures))
+    (ap (patterns_within f.depth named) c.in-Level.is ∙ patterns-Level f.depth named c.in-Level.ranges) tt
+    done.0 done.1 done.2)
 
 pub returns-in_ok-ask-in-Tags-clause-turns : goal.returns-in_ok-ask-in-Tags-clause-turns
 returns-in_ok-ask-in-Tags-clause-turns g c =
@@ -39,9 +38,9 @@ returns-in_ok-ask-in-Tags-clause-turns g c =
     let done = c.in_ok-ask-in-Tags.ensures in
     turns-as named (frame.One f.expr f.depth f.yes f.no) c.args.frame c.args.self.now c.ask-in-Tags.new.self (sym f.is)
     (turns-check named f.expr f.depth f.yes f.no c.args.self.now c.ask-in-Tags.new.self (check.Tags c.in_ok-copied_names-in-Tags.field-0) []
-        (ap (forks f.depth named) c.in-Tags.is ∙ forks-Tags f.depth named c.in-Tags.tags ∙ ap (λ r. ask (check.Tags r)) (sym c.in_ok-copied_names-in-Tags.ensures))
-        (ap (patterns_within f.depth named) c.in-Tags.is ∙ patterns-Tags f.depth named c.in-Tags.tags) tt
-        done.0 done.1 done.2)
+    (ap (forks f.depth named) c.in-Tags.is ∙ forks-Tags f.depth named c.in-Tags.tags ∙ ap (λ r. ask (check.Tags r)) (sym c.in_ok-copied_names-in-Tags.ensures))
+    (ap (patterns_within f.depth named) c.in-Tags.is ∙ patterns-Tags f.depth named c.in-Tags.tags) tt
+    done.0 done.1 done.2)
 
 pub returns-in_ok-ask-in-Compare-clause-turns : goal.returns-in_ok-ask-in-Compare-clause-turns
 returns-in_ok-ask-in-Compare-clause-turns g c =
@@ -50,9 +49,9 @@ returns-in_ok-ask-in-Compare-clause-turns g c =
     let done = c.in_ok-ask-in-Compare.ensures in
     turns-as named (frame.One f.expr f.depth f.yes f.no) c.args.frame c.args.self.now c.ask-in-Compare.new.self (sym f.is)
     (turns-check named f.expr f.depth f.yes f.no c.args.self.now c.ask-in-Compare.new.self c.in_ok-check-in-Compare.check []
-        (ap (forks f.depth named) c.in-Compare.is ∙ forks-Compare f.depth named c.in-Compare.left c.in-Compare.cmp c.in-Compare.right ∙ ap (λ x. ask x) (sym c.in_ok-check-in-Compare.ensures))
-        (ap (patterns_within f.depth named) c.in-Compare.is ∙ patterns-Compare f.depth named c.in-Compare.left c.in-Compare.cmp c.in-Compare.right) tt
-        done.0 done.1 done.2)
+    (ap (forks f.depth named) c.in-Compare.is ∙ forks-Compare f.depth named c.in-Compare.left c.in-Compare.cmp c.in-Compare.right ∙ ap (λ x. ask x) (sym c.in_ok-check-in-Compare.ensures))
+    (ap (patterns_within f.depth named) c.in-Compare.is ∙ patterns-Compare f.depth named c.in-Compare.left c.in-Compare.cmp c.in-Compare.right) tt
+    done.0 done.1 done.2)
 
 pub returns-in_ok-ask-in-Ok-clause-turns : goal.returns-in_ok-ask-in-Ok-clause-turns
 returns-in_ok-ask-in-Ok-clause-turns g c =
