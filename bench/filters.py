@@ -17,6 +17,7 @@ PROGRAM = os.path.join(CRATE, "out", "bench_filters")
 
 # what is done, what is said of it, and the most microseconds that it may take
 ROWS = [
+    ("match", 'a filter with match("error|fail")', 0.2),
     ("subst", "subst() with one match", 0.6),
 ]
 

@@ -1,8 +1,10 @@
 //! Does one thing many times: `bench_filters WHAT TURNS`. For measuring alone.
 #![tactic(auto)]
 
+mod matched;
 mod subst;
 
+use matched::matched;
 use std::env;
 use std::process::ExitCode;
 use subst::subst;
@@ -16,6 +18,7 @@ fn work(rt: HostRuntime) -> anyhow::Result<bool> {
     };
     let turns = turns.parse()?;
     match what.as_str() {
+        "match" => Ok(matched(alloc, turns).is_ok()),
         "subst" => Ok(subst(alloc, turns).is_ok()),
         _ => Ok(false),
     }

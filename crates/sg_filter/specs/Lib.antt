@@ -1,0 +1,9 @@
+pub mod Checks
+pub mod Names
+pub mod Holds
+pub mod Decisions
+pub mod Codes
+pub mod Patterns
+pub mod Table
+pub mod Work
+pub mod Laws

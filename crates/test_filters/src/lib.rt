@@ -1,0 +1,5 @@
+//! Tests of filters.
+#![tactic(auto)]
+
+#[cfg(test)]
+mod filters;
