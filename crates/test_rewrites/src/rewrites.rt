@@ -1,5 +1,5 @@
 // Rewrites over messages.
-ghost use Rattle.std.specs.Prelude.{◌≡◌, true};
+ghost use Rattle.std.specs.Prelude.{OnSome};
 ghost use Rattle.sg_msg.specs.Message.{IsName};
 ghost use Rattle.sg_rewrite.specs.Ops.{IsOp};
 
@@ -161,24 +161,47 @@ fn message_at(alloc: Global, place: &str) -> Result<Option<Message>, Fail> {
     }
 }
 
+// Puts the pair of this place behind the text, as the table writes it.
+fn put_pair(message: &Message, place: usize, text: &mut Vec<u8>) -> Result<(), AllocError> {
+    let Some((name, value)) = message.pair(place) else {
+        return Ok(());
+    };
+    text.extend_from_slice(name)?;
+    text.extend_from_slice(b"=")?;
+    text.extend_from_slice(value)?;
+    text.extend_from_slice(b";")
+}
+
+// Puts the tag of this place behind the text.
+fn put_tag(message: &Message, place: usize, text: &mut Vec<u8>) -> Result<(), AllocError> {
+    let Some(tag) = message.tag(place) else {
+        return Ok(());
+    };
+    text.extend_from_slice(b"#")?;
+    text.extend_from_slice(tag)?;
+    text.extend_from_slice(b";")
+}
+
+fn put_pairs(message: &Message, text: &mut Vec<u8>) -> Result<(), AllocError> {
+    for place in 0..message.pair_count() {
+        put_pair(message, place, text)?;
+    }
+    Ok(())
+}
+
+// At most nine tags.
+fn put_tags(message: &Message, text: &mut Vec<u8>) -> Result<(), AllocError> {
+    for place in 0..9 {
+        put_tag(message, place, text)?;
+    }
+    Ok(())
+}
+
 // The pairs and the tags, as the table writes them.
 fn written(alloc: Global, message: &Message) -> Result<Vec<u8>, AllocError> {
     let mut text = Vec::new(alloc);
-    let mut place = 0;
-    while let Some((name, value)) = message.pair(place) {
-        text.extend_from_slice(name)?;
-        text.extend_from_slice(b"=")?;
-        text.extend_from_slice(value)?;
-        text.extend_from_slice(b";")?;
-        place += 1;
-    }
-    place = 0;
-    while let Some(tag) = message.tag(place) {
-        text.extend_from_slice(b"#")?;
-        text.extend_from_slice(tag)?;
-        text.extend_from_slice(b";")?;
-        place += 1;
-    }
+    put_pairs(message, &mut text)?;
+    put_tags(message, &mut text)?;
     text.pop();
     Ok(text)
 }
@@ -262,30 +285,41 @@ fn op_of(
     Ok(Some(op))
 }
 
-fn is_name(name: &[u8]) -> bool
-    ensures { result ≡ true → IsName name.now }
+// Whether a pair may have this name.
+fn checked_name(name: &[u8]) -> Option<()>
+    ensures { OnSome result (IsName name.now) }
 {
-    !name.is_empty() && name.len() <= 255 && !is_hard(name)
+    if name.is_empty() {
+        return None;
+    }
+    if name.len() > 255 {
+        return None;
+    }
+    if is_hard(name) {
+        return None;
+    }
+    Some(())
 }
 
-fn may_be_made(op: &Op) -> bool
-    ensures { result ≡ true → IsOp op.now }
+// Whether a rewrite can be made of it.
+fn checked_op(op: &Op) -> Option<()>
+    ensures { OnSome result (IsOp op.now) }
 {
     match op {
-        Op::Set { name, .. } => is_name(name.bytes()),
-        Op::Unset { name } => is_name(name.bytes()),
-        Op::Subst { name, .. } => is_name(name.bytes()),
-        Op::GroupSet { .. } => true,
-        Op::GroupUnset { .. } => true,
-        Op::SetTag { .. } => true,
-        Op::ClearTag { .. } => true,
+        Op::Set { name, .. } => checked_name(name.bytes()),
+        Op::Unset { name } => checked_name(name.bytes()),
+        Op::Subst { name, .. } => checked_name(name.bytes()),
+        Op::GroupSet { .. } => Some(()),
+        Op::GroupUnset { .. } => Some(()),
+        Op::SetTag { .. } => Some(()),
+        Op::ClearTag { .. } => Some(()),
     }
 }
 
 fn rewrite_of(alloc: Global, op: &Op) -> Result<Option<Rewrite>, Fail> {
-    if !may_be_made(op) {
+    let Some(()) = checked_op(op) else {
         return Ok(None);
-    }
+    };
     let mut patterns = Patterns { too_large: 0 };
     Ok(Some(Rewrite::new(alloc, &mut patterns, op)?))
 }
@@ -363,13 +397,14 @@ fn length_of(alloc: Global, words: &str, pattern: &str, text: &str) -> Result<us
 // Why a pattern is refused, and the count of those that were too large.
 fn refusal_of(alloc: Global, pattern: &str) -> Result<(Option<BuildRefusal>, u64), Fail> {
     let mut patterns = Patterns { too_large: 0 };
-    match op_of(alloc, "regex -", "k", pattern, "")? {
-        Some(op) if may_be_made(&op) => {
-            let refusal = Rewrite::new(alloc, &mut patterns, &op).err();
-            Ok((refusal, patterns.too_large))
-        }
-        _ => Ok((None, 0)),
-    }
+    let Some(op) = op_of(alloc, "regex -", "k", pattern, "")? else {
+        return Ok((None, 0));
+    };
+    let Some(()) = checked_op(&op) else {
+        return Ok((None, 0));
+    };
+    let refusal = Rewrite::new(alloc, &mut patterns, &op).err();
+    Ok((refusal, patterns.too_large))
 }
 
 #[test]
