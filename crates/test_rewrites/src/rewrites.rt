@@ -324,21 +324,38 @@ fn rewrite_of(alloc: Global, op: &Op) -> Result<Option<Rewrite>, Fail> {
     Ok(Some(Rewrite::new(alloc, &mut patterns, op)?))
 }
 
-// What the rewrite makes of another handle of the message, by itself and by one shared of it, and
-// whether the message says what it said before.
-fn changed(
+// What the rewrite makes of another handle of the message.
+fn changed(alloc: Global, rewrite: &mut Rewrite, message: &Message) -> Result<Vec<u8>, AllocError> {
+    let mut other = message.share()?;
+    rewrite.apply(alloc, &mut other)?;
+    written(alloc, &other)
+}
+
+// Whether an equal rewrite makes the same of the message.
+fn again(
+    alloc: Global,
+    rewrite: &Rewrite,
+    message: &Message,
+    found: &[u8],
+) -> Result<bool, AllocError> {
+    let mut other = rewrite.share(alloc)?;
+    let text = changed(alloc, &mut other, message)?;
+    Ok(text.as_slice() == found)
+}
+
+// Whether the rewrite makes this of the message, also an equal one, and the message says what it said
+// before.
+fn gives(
     alloc: Global,
     rewrite: &mut Rewrite,
     message: &Message,
-) -> Result<(Vec<u8>, bool), Fail> {
+    expected: &[u8],
+) -> Result<bool, AllocError> {
     let before = written(alloc, message)?;
-    let mut one = message.share()?;
-    rewrite.apply(alloc, &mut one)?;
-    let mut other = message.share()?;
-    rewrite.share(alloc)?.apply(alloc, &mut other)?;
-    let text = written(alloc, &one)?;
-    let same = written(alloc, &other)? == text && written(alloc, message)? == before;
-    Ok((text, same))
+    let found = changed(alloc, rewrite, message)?;
+    let same = again(alloc, rewrite, message, &found)?;
+    let after = written(alloc, message)?;
+    Ok(same && found.as_slice() == expected && before.as_slice() == after.as_slice())
 }
 
 // Whether a row holds, and whether it was understood.
@@ -363,8 +380,8 @@ fn holds(alloc: Global, row: &str) -> Result<bool, Fail> {
     else {
         return Ok(false);
     };
-    let (found, same) = changed(alloc, &mut rewrite, &message)?;
-    Ok(same && found == bytes_of(alloc, expected)?)
+    let expected = bytes_of(alloc, expected)?;
+    Ok(gives(alloc, &mut rewrite, &message, &expected)?)
 }
 
 #[test]
