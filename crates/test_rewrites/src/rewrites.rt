@@ -393,6 +393,26 @@ fn rows(rt: HostRuntime) -> Result<(), Fail> {
     Ok(())
 }
 
+// A value of so many bytes.
+fn long_value(alloc: Global, length: usize) -> Result<Vec<u8>, AllocError> {
+    let mut value = Vec::new(alloc);
+    for _ in 0..length {
+        value.push(b'a')?;
+    }
+    Ok(value)
+}
+
+// The length of what the rewrite makes of the value.
+fn length_after(alloc: Global, rewrite: &mut Rewrite, value: &[u8]) -> Result<usize, Fail> {
+    let mut message = Message::new(alloc, 13, SENT, RECEIVED)?;
+    message.set(b"k", value)?;
+    rewrite.apply(alloc, &mut message)?;
+    match message.get(b"k") {
+        Some(value) => Ok(value.len()),
+        None => Ok(0),
+    }
+}
+
 // How many bytes the rewrite makes of 600,000.
 fn length_of(alloc: Global, words: &str, pattern: &str, text: &str) -> Result<usize, Fail> {
     let Some(op) = op_of(alloc, words, "k", pattern, text)? else {
@@ -401,14 +421,8 @@ fn length_of(alloc: Global, words: &str, pattern: &str, text: &str) -> Result<us
     let Some(mut rewrite) = rewrite_of(alloc, &op)? else {
         return Ok(0);
     };
-    let mut message = Message::new(alloc, 13, SENT, RECEIVED)?;
-    let value = vec![in alloc; b'a'; 600_000]?;
-    message.set(b"k", &value)?;
-    rewrite.apply(alloc, &mut message)?;
-    match message.get(b"k") {
-        Some(value) => Ok(value.len()),
-        None => Ok(0),
-    }
+    let value = long_value(alloc, 600_000)?;
+    length_after(alloc, &mut rewrite, &value)
 }
 
 // Why a pattern is refused, and the count of those that were too large.
