@@ -1,9 +1,8 @@
 -- Texts that are cut where they are too long.
-use Rattle.std.proofs.Common.{◌≡◌, ℕ, ◌+◌, ◌-◌, ◌≤◌, ◌<◌, List, [], ◌∷◌, ◌++◌, take, drop, length, refl, sym, ap, ◌∙◌, append_assoc, append-nil, length-append, arith}
-use Rattle.std.proofs.lemmas.List.{take_all, take_at, take-append-drop, length-take-le, take-append-le, take-take}
-use Rattle.std.specs.Prelude.{slice_range}
+use Rattle.std.proofs.Common.{◌≡◌, ℕ, ◌+◌, ◌≤◌, List, [], ◌∷◌, ◌++◌, take, drop, length, sym, ap, ◌∙◌, append_assoc, append-nil, length-append, arith}
+use Rattle.std.proofs.lemmas.List.{take_all, take_at, take-append-drop, length-take-le, take-take}
 use Rattle.sg_pattern.specs.Pattern.{InOrder}
-use Rattle.sg_rewrite.specs.Values.{cut, replaced}
+use Rattle.sg_rewrite.specs.Values.{cut}
 
 -- Bytes that fit are put whole. Of others as many as make it full.
 pub cut_full : (old bytes rest : List ℕ) (room : ℕ) → length old + room ≡ 1048576 → room ≤ length bytes →

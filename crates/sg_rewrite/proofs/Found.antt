@@ -1,5 +1,5 @@
 -- What a search makes of a message.
-use Rattle.std.proofs.Common.{◌≡◌, ℕ, ◌<◌, List, [], ◌∷◌, length, Option, None, Some, refl, sym, ap, ◌∙◌, arith}
+use Rattle.std.proofs.Common.{◌≡◌, ℕ, ◌<◌, List, [], ◌∷◌, length, Option, None, Some, refl, ap, ◌∙◌, arith}
 use Rattle.sg_msg.specs.Message.{Content, value_of}
 use Rattle.sg_macro.specs.declared.part.Part.{Part}
 use Rattle.sg_pattern.specs.Pattern.{spans_of}

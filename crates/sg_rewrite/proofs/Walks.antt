@@ -1,5 +1,5 @@
 -- Walks over the pairs of a message, one pair on.
-use Rattle.std.proofs.Common.{◌≡◌, ℕ, zero, suc, ◌+◌, if◌then◌else◌, List, [], ◌∷◌, drop, Option, None, Some, refl, slice_get}
+use Rattle.std.proofs.Common.{◌≡◌, ℕ, zero, suc, ◌+◌, if◌then◌else◌, List, [], ◌∷◌, drop, Some, refl, slice_get}
 use Rattle.sg_list.proofs.ListLemmas.{drop-get}
 use Rattle.sg_msg.specs.Message.{Content, Pair, IsName, HaveNames}
 use Rattle.sg_macro.specs.declared.part.Part.{Part}

@@ -1,5 +1,4 @@
 -- What holds of each rewrite.
-use Rattle.std.specs.Prelude.{ℕ, List}
 use Rattle.sg_msg.specs.Message.{IsName}
 use Rattle.sg_pattern.specs.Pattern.{IsValid}
 use Rattle.sg_rewrite.specs.declared.change.Change.{Change}

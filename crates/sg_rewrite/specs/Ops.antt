@@ -1,5 +1,5 @@
 -- Rewrites as a configuration writes them.
-use Rattle.std.specs.Prelude.{◌≡◌, ℕ, List}
+use Rattle.std.specs.Prelude.{◌≡◌}
 use Rattle.sg_outside.specs.World.{WorldState}
 use Rattle.sg_msg.specs.Message.{IsName}
 use Rattle.sg_pattern.specs.Pattern.{pattern_of}

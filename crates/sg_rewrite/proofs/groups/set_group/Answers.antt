@@ -1,4 +1,4 @@
-use Rattle.std.proofs.Common.{◌≡◌, ◌+◌, drop, ap, sym, ◌∙◌}
+use Rattle.std.proofs.Common.{◌+◌, drop, ap, sym, ◌∙◌}
 use Rattle.sg_msg.specs.Message.{Content}
 use Rattle.sg_rewrite.specs.Rewritten.{set_each}
 use Rattle.sg_rewrite.proofs.Walks.{set-step, name-of}

@@ -1,4 +1,4 @@
-use Rattle.std.proofs.Common.{◌≡◌, ℕ, ◌+◌, ◌-◌, ◌≤◌, if◌then◌else◌, drop, ap, sym, ◌∙◌, arith}
+use Rattle.std.proofs.Common.{◌≡◌, ℕ, ◌+◌, ◌-◌, if◌then◌else◌, drop, ap, sym, ◌∙◌, arith}
 use Rattle.sg_msg.specs.Message.{Content}
 use Rattle.sg_rewrite.specs.Values.{without_value}
 use Rattle.sg_rewrite.specs.Rewritten.{is_picked, unset_each}

@@ -1,4 +1,4 @@
-use Rattle.std.proofs.Common.{◌≡◌, sym, arith}
+use Rattle.std.proofs.Common.{sym, arith}
 use Rattle.std.proofs.lemmas.List.{length-take-le}
 use Rattle.sg_rewrite.proofs.Cuts.{cut_short}
 use Rattle.sg_rewrite.proofs.render.at_most.Goals as goal

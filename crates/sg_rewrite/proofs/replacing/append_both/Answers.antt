@@ -1,4 +1,4 @@
-use Rattle.std.proofs.Common.{◌≡◌, ◌++◌, ℕ, List, ap, ◌∙◌, sym, append_assoc, slice_range}
+use Rattle.std.proofs.Common.{◌++◌, ℕ, List, ap, ◌∙◌, sym, append_assoc, slice_range}
 use Rattle.sg_rewrite.specs.Values.{cut}
 use Rattle.sg_rewrite.proofs.replacing.append_both.Goals as goal
 

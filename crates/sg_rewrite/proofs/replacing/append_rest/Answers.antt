@@ -1,4 +1,4 @@
-use Rattle.std.proofs.Common.{◌≡◌, ◌++◌, ℕ, List, ap, ◌∙◌, drop}
+use Rattle.std.proofs.Common.{◌++◌, ℕ, List, ap, ◌∙◌, drop}
 use Rattle.std.proofs.lemmas.List.{take_rest}
 use Rattle.sg_rewrite.specs.Values.{cut}
 use Rattle.sg_rewrite.proofs.Cuts.{cut_behind}

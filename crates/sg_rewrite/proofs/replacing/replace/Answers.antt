@@ -1,4 +1,4 @@
-use Rattle.std.proofs.Common.{◌≡◌, ◌+◌, ℕ, List, length, ◌∷◌, drop, slice_index_or, subst}
+use Rattle.std.proofs.Common.{◌+◌, ℕ, List, length, drop, slice_index_or, subst}
 use Rattle.std.proofs.lemmas.List.{drop_more}
 use Rattle.sg_pattern.specs.Pattern.{InOrder}
 use Rattle.sg_rewrite.proofs.Cuts.{span_within}

@@ -1,12 +1,10 @@
-use Rattle.std.proofs.Common.{◌≡◌, ℕ, ◌==◌, ◌<◌, false, List, length, None, Some, sym, ap, ap₂, ◌∙◌, arith}
+use Rattle.std.proofs.Common.{◌≡◌, ℕ, ◌<◌, List, length, None, Some, ap, ap₂, ◌∙◌, arith}
 use Rattle.std.proofs.lemmas.Bool.Decides.{nat_tests}
-use Rattle.sg_msg.specs.Message.{Content, value_of}
+use Rattle.sg_msg.specs.Message.{value_of}
 use Rattle.sg_template.specs.declared.env.Env.{Env}
 use Rattle.sg_template.specs.Render.{render_of}
-use Rattle.sg_template.specs.Own.{own_env}
 use Rattle.sg_pattern.specs.Pattern.{spans_of}
 use Rattle.sg_rewrite.specs.Values.{cut, with_value, text_over, replaced}
-use Rattle.sg_rewrite.specs.Rewritten.{substituted}
 use Rattle.sg_rewrite.proofs.Found.{found}
 use Rattle.sg_rewrite.proofs.single.substitute.Goals as goal
 
