@@ -6,7 +6,7 @@ use Rattle.sg_macro.specs.declared.part.Part.{Part}
 use Rattle.sg_rewrite.specs.Values.{without_value}
 use Rattle.sg_rewrite.specs.Rewritten.{is_picked, with_text, set_each, unset_each}
 
-pair-next : (pairs : List Pair) (k : ℕ) (name value : List ℕ) → Some (record { name = name; value = value }) ≡ slice_get pairs k
+pub pair-next : (pairs : List Pair) (k : ℕ) (name value : List ℕ) → Some (record { name = name; value = value }) ≡ slice_get pairs k
     → drop k pairs ≡ (record { name = name; value = value }) ∷ drop (k + 1) pairs
 pair-next pairs k name value e =
     let pair : Pair = record { name = name; value = value } in

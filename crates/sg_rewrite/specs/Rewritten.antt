@@ -41,6 +41,11 @@ unset_each globs [] content = content
 unset_each globs (pair ∷ pairs) content =
     if is_picked globs pair.name then without_value pair.name (unset_each globs pairs content) else unset_each globs pairs content
 
+-- the pairs whose names aren't picked
+abbrev pub unpicked : List (List ℕ) → List Pair → List Pair
+unpicked globs [] = []
+unpicked globs (pair ∷ pairs) = if is_picked globs pair.name then unpicked globs pairs else pair ∷ unpicked globs pairs
+
 -- Groups are of the names that the message has before it, in byte order.
 unfoldable pub rewritten : Change → Content → Content
 rewritten (Set name parts) content = with_value name (text_over parts None content) content

@@ -4,6 +4,7 @@ ghost use Rattle.sg_msg.specs.Message.{IsName, value_of};
 ghost use Rattle.sg_rewrite.specs.Values.{without_value};
 ghost use Rattle.sg_rewrite.specs.Rewritten.{is_picked, with_text, set_each, unset_each};
 
+use crate::anew::without_group;
 use crate::render::{render, set, unset};
 use crate::rewrite::Buffers;
 use sg_device::{Name, NoMemory};
@@ -13,7 +14,8 @@ use sg_template::{Template, own_env};
 use std::alloc::Global;
 use std::mem::replace;
 
-fn is_picked(globs: &[Name], name: &[u8]) -> bool
+/// Whether a glob matches the name.
+pub(crate) fn is_picked(globs: &[Name], name: &[u8]) -> bool
     ensures { result ≡ is_picked globs.now name.now }
 {
     globs.iter().any(|glob| glob_matches(glob.bytes(), name))
@@ -112,8 +114,8 @@ fn unset_picked(globs: &[Name], name: &[u8], message: &mut Message) -> Result<()
     Ok(())
 }
 
-/// Takes away the value of each name that a glob matches, from the last one on, so that few pairs move up.
-pub(crate) fn unset_group(globs: &[Name], message: &mut Message) -> Result<(), NoMemory>
+// Takes the values away one by one, from the last one on, so that few pairs move up.
+fn unset_few(globs: &[Name], message: &mut Message) -> Result<(), NoMemory>
     ensures ok { OnOk result (message.new ≡ unset_each globs.now message.old.pairs message.old) }
     ensures err { OnErr result (message.new ≡ message.old) }
 {
@@ -128,5 +130,24 @@ pub(crate) fn unset_group(globs: &[Name], message: &mut Message) -> Result<(), N
         unset_picked(globs, name, &mut changed)?;
     }
     *message = changed;
+    Ok(())
+}
+
+// Up to so many pairs, moving them up takes less than copying those that stay.
+const FEW: usize = 64;
+
+/// Takes away the value of each name that a glob matches, in time in proportion to the pairs.
+pub(crate) fn unset_group(
+    alloc: Global,
+    globs: &[Name],
+    message: &mut Message,
+) -> Result<(), NoMemory>
+    ensures ok { OnOk result (message.new ≡ unset_each globs.now message.old.pairs message.old) }
+    ensures err { OnErr result (message.new ≡ message.old) }
+{
+    if message.pair_count() <= FEW {
+        return unset_few(globs, message);
+    }
+    *message = without_group(alloc, globs, message)?;
     Ok(())
 }

@@ -1,6 +1,7 @@
 //! Rewrites: the changes of messages on their way, as `set()`, `subst()` and their kin ask for them.
 #![tactic(auto)]
 
+mod anew;
 mod change;
 mod groups;
 mod op;

@@ -91,7 +91,7 @@ impl Rewrite {
                 let globs = globs.as_slice();
                 set_group(alloc, globs, text, message, buffers)
             }
-            Change::GroupUnset { globs } => unset_group(globs.as_slice(), message),
+            Change::GroupUnset { globs } => unset_group(alloc, globs.as_slice(), message),
             Change::SetTag { tag } => message.set_tag(tag.bytes()),
             Change::ClearTag { tag } => message.clear_tag(tag.bytes()),
         }

@@ -1,6 +1,6 @@
 use Rattle.std.proofs.Common.{◌≡◌, ◌≤◌, drop, length}
 use Rattle.sg_rewrite.specs.Rewritten.{unset_each}
-use Rattle.sg_rewrite.proofs.groups.unset_group.Given as goal
+use Rattle.sg_rewrite.proofs.groups.unset_few.Given as goal
 
 abbrev pub invariant-pairs : goal.invariant-pairs
 invariant-pairs l = record {

@@ -3,7 +3,7 @@ use Rattle.sg_msg.specs.Message.{Content}
 use Rattle.sg_rewrite.specs.Values.{without_value}
 use Rattle.sg_rewrite.specs.Rewritten.{is_picked, unset_each}
 use Rattle.sg_rewrite.proofs.Walks.{unset-step, name-of}
-use Rattle.sg_rewrite.proofs.groups.unset_group.Goals as goal
+use Rattle.sg_rewrite.proofs.groups.unset_few.Goals as goal
 
 pub unset_picked-requires : goal.unset_picked-requires
 unset_picked-requires c = name-of c.args.message.now.pairs (c.pairs.place - 1) c.in-Some.name.now c.in-Some._value.now c.pri-pri.ensures.whole.names c.in-Some.ensures

@@ -1,0 +1,144 @@
+-- A message made anew of the pairs that aren't picked.
+use Rattle.std.proofs.Common.{◌≡◌, ◌≤◌, ◌+◌, ℕ, zero, suc, Bool, true, false, List, [], ◌∷◌, ◌++◌, length, take, drop, slice_get, None, Some, bytes_eq, refl, sym, ap, subst, ◌∙◌, append_assoc, arith}
+use Rattle.std.proofs.lemmas.List.{take_more, take_all, take-append-drop}
+use Rattle.std.proofs.lemmas.Option.{slice_get_within, get_or_from_slice_get}
+use Rattle.std.specs.declared.cmp.Ordering.TheVariants.{Less}
+use Rattle.sg_msg.specs.Message.{Content, Pair, byte_order, without_pair, with_all, has_tag, with_tag, IsBelow, IsAscending, AreDistinct}
+use Rattle.sg_msg.specs.Build.{Build, built}
+use Rattle.sg_list.proofs.ListLemmas.{drop-get}
+use Rattle.sg_msg.proofs.ByteOrder.{test-same, test-less, test-back}
+use Rattle.sg_msg.proofs.ManyPairs.{all-ascending}
+use Rattle.sg_rewrite.specs.Values.{without_value}
+use Rattle.sg_rewrite.specs.Rewritten.{is_picked, unset_each, unpicked}
+use Rattle.sg_rewrite.proofs.Walks.{pair-next}
+
+-- none of the pairs has the name
+abbrev Lacks : List ℕ → List Pair → Type 0
+Lacks name [] = Unit {0}
+Lacks name (pair ∷ pairs) = (bytes_eq pair.name name ≡ false) × Lacks name pairs
+
+below-at : (x : List ℕ) (before : List Pair) (pair : Pair) (after : List Pair) → IsBelow x (before ++ pair ∷ after) → byte_order x pair.name ≡ Less
+below-at x [] pair after below = below.0
+below-at x (first ∷ before) pair after below = below-at x before pair after below.1
+
+lacks : (before : List Pair) (pair : Pair) (after : List Pair) → IsAscending (before ++ pair ∷ after) → Lacks pair.name before
+lacks [] pair after up = tt
+lacks (first ∷ before) pair after up = (test-less first.name pair.name (below-at first.name before pair after up.0), lacks before pair after up.1)
+
+without-at : (before : List Pair) (pair : Pair) (after : List Pair) → Lacks pair.name before → without_pair pair.name (before ++ pair ∷ after) ≡ before ++ after
+without-at [] pair after none = rw (test-same pair.name pair.name refl) refl
+without-at (first ∷ before) pair after none = rw none.0 (ap (λ (pairs : List Pair). first ∷ pairs) (without-at before pair after none.1))
+
+module _ (globs : List (List ℕ)) where
+  below-unpicked : (x : List ℕ) (pairs : List Pair) → IsBelow x pairs → IsBelow x (unpicked globs pairs)
+  below-unpicked x [] below = tt
+  below-unpicked x (pair ∷ pairs) below = by (below-unpicked x pairs below.1) (is_picked globs pair.name) refl
+    where
+      by : IsBelow x (unpicked globs pairs) → (b : Bool) → is_picked globs pair.name ≡ b → IsBelow x (unpicked globs (pair ∷ pairs))
+      by rest true is = rw is rest
+      by rest false is = rw is (below.0, rest)
+
+  ascending-unpicked : (pairs : List Pair) → IsAscending pairs → IsAscending (unpicked globs pairs)
+  ascending-unpicked [] up = tt
+  ascending-unpicked (pair ∷ pairs) up = by (ascending-unpicked pairs up.1) (is_picked globs pair.name) refl
+    where
+      by : IsAscending (unpicked globs pairs) → (b : Bool) → is_picked globs pair.name ≡ b → IsAscending (unpicked globs (pair ∷ pairs))
+      by rest true is = rw is rest
+      by rest false is = rw is (below-unpicked pair.name pairs up.0, rest)
+
+  -- setting them gives them
+  pub set-unpicked : (pairs : List Pair) → IsAscending pairs → with_all (unpicked globs pairs) [] ≡ unpicked globs pairs
+  set-unpicked pairs up = all-ascending (unpicked globs pairs) (ascending-unpicked pairs up)
+
+  -- they are what unsetting the others one after another leaves
+  unset-behind : (before pairs : List Pair) (content : Content) → content.pairs ≡ before ++ pairs → IsAscending (before ++ pairs) →
+      unset_each globs pairs content ≡ record content { pairs = before ++ unpicked globs pairs }
+  unset-behind before [] content are up = ap (λ (ps : List Pair). record content { pairs = ps }) are
+  unset-behind before (pair ∷ pairs) content are up =
+      by (unset-behind (before ++ pair ∷ []) pairs content (are ∙ sym joined) (subst (λ (ps : List Pair). IsAscending ps) (sym joined) up)) (is_picked globs pair.name) refl
+    where
+      joined : (before ++ pair ∷ []) ++ pairs ≡ before ++ pair ∷ pairs
+      joined = append_assoc before (pair ∷ []) pairs
+
+      rest : (before ++ pair ∷ []) ++ unpicked globs pairs ≡ before ++ pair ∷ unpicked globs pairs
+      rest = append_assoc before (pair ∷ []) (unpicked globs pairs)
+
+      gone : without_pair pair.name ((before ++ pair ∷ []) ++ unpicked globs pairs) ≡ before ++ unpicked globs pairs
+      gone = ap (λ (ps : List Pair). without_pair pair.name ps) rest ∙ without-at before pair (unpicked globs pairs) (lacks before pair pairs up)
+
+      by : unset_each globs pairs content ≡ record content { pairs = (before ++ pair ∷ []) ++ unpicked globs pairs } → (b : Bool) → is_picked globs pair.name ≡ b →
+          unset_each globs (pair ∷ pairs) content ≡ record content { pairs = before ++ unpicked globs (pair ∷ pairs) }
+      by tail true is = rw is (ap (λ (c : Content). without_value pair.name c) tail ∙ ap (λ (ps : List Pair). record content { pairs = ps }) gone)
+      by tail false is = rw is (tail ∙ ap (λ (ps : List Pair). record content { pairs = ps }) rest)
+
+  pub unset-all : (content : Content) → IsAscending content.pairs → unset_each globs content.pairs content ≡ record content { pairs = unpicked globs content.pairs }
+  unset-all content up = unset-behind [] content.pairs content refl up
+
+  -- one pair on
+  unpicked-first : (pair : Pair) (pairs : List Pair) → unpicked globs (pair ∷ []) ++ unpicked globs pairs ≡ unpicked globs (pair ∷ pairs)
+  unpicked-first pair pairs = by (is_picked globs pair.name) refl
+    where
+      by : (b : Bool) → is_picked globs pair.name ≡ b → unpicked globs (pair ∷ []) ++ unpicked globs pairs ≡ unpicked globs (pair ∷ pairs)
+      by true is = rw is refl
+      by false is = rw is refl
+
+  pub unpicked-step : (put : List Pair) (pair : Pair) (pairs : List Pair) →
+      (put ++ unpicked globs (pair ∷ [])) ++ unpicked globs pairs ≡ put ++ unpicked globs (pair ∷ pairs)
+  unpicked-step put pair pairs = append_assoc put (unpicked globs (pair ∷ [])) (unpicked globs pairs) ∙ ap (λ (ps : List Pair). put ++ ps) (unpicked-first pair pairs)
+
+-- a tag that isn't among these is none of them
+is-other : (first tag : List ℕ) (after others : List (List ℕ)) → has_tag first (others ++ tag ∷ after) ≡ false → bytes_eq tag first ≡ false
+is-other first tag after [] none = by (bytes_eq tag first) refl
+  where
+    by : (b : Bool) → bytes_eq tag first ≡ b → bytes_eq tag first ≡ false
+    by false is = is
+    by true is = let wrong : true ≡ false = rw is at none in absurd (cc)
+is-other first tag after (next ∷ others) none = by (λ rest. is-other first tag after others rest) (bytes_eq next first) refl
+  where
+    by : (has_tag first (others ++ tag ∷ after) ≡ false → bytes_eq tag first ≡ false) → (b : Bool) → bytes_eq next first ≡ b → bytes_eq tag first ≡ false
+    by further false is = further (rw is at none)
+    by further true is = let wrong : true ≡ false = rw is at none in absurd (cc)
+
+-- a tag isn't among those before it
+fresh : (before : List (List ℕ)) (tag : List ℕ) (after : List (List ℕ)) → AreDistinct (before ++ tag ∷ after) → has_tag tag before ≡ false
+fresh [] tag after apart = refl
+fresh (first ∷ before) tag after apart =
+    let other : bytes_eq first tag ≡ false = test-back first tag ∙ is-other first tag after before apart.0 in
+    rw (other, fresh before tag after apart.1) refl
+
+tag-behind : (before : List (List ℕ)) (tag : List ℕ) (after : List (List ℕ)) → AreDistinct (before ++ tag ∷ after) → with_tag tag before ≡ before ++ tag ∷ []
+tag-behind before tag after apart = rw (fresh before tag after apart) refl
+
+-- one tag on
+pub tag-next : (tags : List (List ℕ)) (place : ℕ) (tag : List ℕ) → AreDistinct tags → slice_get tags place ≡ Some tag → with_tag tag (take place tags) ≡ take (place + 1) tags
+tag-next tags place tag apart e =
+    let whole : take place tags ++ tag ∷ drop (place + 1) tags ≡ tags =
+    ap (λ (ts : List (List ℕ)). take place tags ++ ts) (sym (drop-get tags place tag e)) ∙ take-append-drop place tags in
+    let more : take (place + 1) tags ≡ take place tags ++ tag ∷ [] =
+    take_more tags place tag (slice_get_within tags place tag e) ∙ ap (λ (t : List ℕ). take place tags ++ t ∷ []) (get_or_from_slice_get tags place tag tag e) in
+    tag-behind (take place tags) tag (drop (place + 1) tags) (subst (λ (ts : List (List ℕ)). AreDistinct ts) (sym whole) apart) ∙ sym more
+
+end-at : (tags : List (List ℕ)) (place : ℕ) → slice_get tags place ≡ None → length tags ≤ place
+end-at [] place e = omega arith
+end-at (first ∷ tags) zero e = absurd (cc)
+end-at (first ∷ tags) (suc place) e = omega (arith, end-at tags place e)
+
+pub tags-end : (tags : List (List ℕ)) (place : ℕ) → slice_get tags place ≡ None → take place tags ≡ tags
+tags-end tags place e = take_all place tags (end-at tags place e)
+
+module _ (globs : List (List ℕ)) where
+  -- one pair on, in what is made anew
+  pub pair-on : (old new : Build) (pairs : List Pair) (place : ℕ) (name value : List ℕ) →
+      Some (record { name = name; value = value }) ≡ slice_get pairs place →
+      new ≡ record old { put = old.put ++ unpicked globs ((record { name = name; value = value }) ∷ []) } →
+      record new { put = new.put ++ unpicked globs (drop (place + 1) pairs) } ≡ record old { put = old.put ++ unpicked globs (drop place pairs) }
+  pair-on old new pairs place name value e is =
+      let pair : Pair = record { name = name; value = value } in
+      ap (λ (b : Build). record b { put = b.put ++ unpicked globs (drop (place + 1) pairs) }) is
+      ∙ ap (λ (ps : List Pair). record old { put = ps }) (unpicked-step globs old.put pair (drop (place + 1) pairs) ∙ ap (λ (ps : List Pair). old.put ++ unpicked globs ps) (sym (pair-next pairs place name value e)))
+
+  pub made-anew : (content : Content) (build : Build) → IsAscending content.pairs →
+      build ≡ record { pri = content.pri; sent = content.sent; received = content.received; put = unpicked globs content.pairs; tags = content.tags } →
+      built build ≡ unset_each globs content.pairs content
+  made-anew content build up is =
+      ap (λ (b : Build). built b) is ∙ ap (λ (ps : List Pair). record content { pairs = ps }) (set-unpicked globs content.pairs up) ∙ sym (unset-all globs content up)
