@@ -7,16 +7,14 @@ use Rattle.sg_lex.specs.declared.fault.ConfigKind.TheVariants.{Unexpected, Unsup
 use Rattle.sg_parse_base.specs.declared.fault.Fault.{Fault}
 use Rattle.sg_parse_base.specs.declared.spot.Spot.{Spot}
 use Rattle.sg_parse_base.specs.Tokens.{is_name, is_keyword}
-use Rattle.sg_parse_base.specs.Input.{Outcome, Parser, ◌>>=◌, behind, any, next_is, sees, sees_word, symbol, fault_at}
+use Rattle.sg_parse_base.specs.Input.{Parser, ◌>>=◌, behind, any, next_is, sees, sees_word, symbol, fault_at}
 use Rattle.sg_parse_base.specs.Lists.{many, body, ending}
 use Rattle.sg_parse_base.specs.Grammar.{Stands, Takes, Symbol, Keyword, Many, Braced}
 use Rattle.sg_parse_base.specs.Laws.{Agrees, Matches, Leaves}
 use Rattle.sg_parse_base.proofs.Steps.{step_ok, guard_ok, test_ok, ok_is, chosen, next-takes, sees-takes, symbol-takes, takes-symbol, takes-sees, takes-behind, leaves-then, takes-leaves, symbol-leaves, symbol-sees, shorter, name-sees}
 use Rattle.sg_parse_base.proofs.ListLaws.{body-law, ending-sound, ending-closes, ending-goes_on}
-use Rattle.sg_parse_base.proofs.ChainLaws.{word-takes, takes-word, keyword-behind, keyword-leaves, symbol-no_word}
-use Rattle.sg_parse_expr.specs.declared.tree.RawExpr.{RawExpr}
+use Rattle.sg_parse_base.proofs.ChainLaws.{word-takes, takes-word, keyword-behind, keyword-leaves}
 use Rattle.sg_parse_expr.specs.Expr.{expr}
-use Rattle.sg_parse_expr.specs.Grammar.{Expr}
 use Rattle.sg_parse_expr.proofs.ExprLaws.{symbol-ends, expr-sound, expr-again, expr-leaves}
 use Rattle.sg_parse_obj.proofs.Apart.{apart}
 use Rattle.sg_parse_path.specs.declared.tree.RawLog.{RawLog}
@@ -31,7 +29,7 @@ use Rattle.sg_parse_path.specs.declared.path.Path.{Path}
 use Rattle.sg_parse_path.specs.declared.reference.Kind.{Kind}
 use Rattle.sg_parse_path.specs.Flags.{flag, names_flag}
 use Rattle.sg_parse_path.specs.declared.reference.Kind.TheVariants as kind
-use Rattle.sg_parse_path.specs.References.{mapped, kind_of, referring, word_of}
+use Rattle.sg_parse_path.specs.References.{mapped, kind_of, word_of}
 use Rattle.sg_parse_path.specs.Paths as p
 use Rattle.sg_parse_path.specs.Grammar.{path_of, Ended, Worded, Other, Arm, Arms, Element, Part, Parts, Block, IsLog}
 use Rattle.sg_parse_path.proofs.ReferenceLaws.{flags-law, mapped-law, takes-any, referring-sound, referring-again, referring-leaves, keyword-name, kind-sound, kind-again, junction-no_kind, if-no_kind}

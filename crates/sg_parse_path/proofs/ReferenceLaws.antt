@@ -1,5 +1,5 @@
 -- Flags and what elements refer to: what is read is of the grammar, and what is of the grammar is read.
-use Rattle.std.proofs.Common.{◌≡◌, inl, inr, ℕ, Bool, true, false, cond, List, [], ◌∷◌, Option, Some, None, Ok, Err, refl, sym, subst, arith}
+use Rattle.std.proofs.Common.{◌≡◌, inl, inr, ℕ, true, false, cond, List, [], ◌∷◌, Option, Some, None, Ok, Err, refl, sym, subst, arith}
 use Rattle.std.specs.Prelude.{codes}
 use Rattle.std.proofs.lemmas.Bool.{and_parts}
 use Rattle.sg_lex.specs.declared.fault.ConfigKind.TheVariants.{Unexpected, Unsupported}
@@ -8,12 +8,11 @@ use Rattle.sg_parse_base.specs.Tokens.{is_name, is_word, is_keyword, same_keywor
 use Rattle.sg_parse_base.specs.Input.{Parser, ◌>>=◌, any, next_is, sees, sees_word, symbol, name, expected, fault_at, spot_line}
 use Rattle.sg_parse_base.specs.Lists.{many}
 use Rattle.sg_parse_base.specs.Grammar.{Stands, Takes, Symbol, Keyword, Many}
-use Rattle.sg_parse_base.specs.Laws.{Agrees, Matches, Leaves}
+use Rattle.sg_parse_base.specs.Laws.{Matches, Leaves}
 use Rattle.sg_parse_base.proofs.Steps.{step_ok, test_ok, ok_is, chosen, next-takes, expected-takes, takes-expected, sees-takes, symbol-takes, takes-symbol, takes-sees, leaves-then, takes-leaves, symbol-leaves, symbol-sees}
 use Rattle.sg_parse_base.proofs.ListLaws.{many-law}
 use Rattle.sg_parse_base.proofs.ChainLaws.{takes-word}
 use Rattle.sg_parse_expr.proofs.CallLaws.{word-name}
-use Rattle.sg_parse_obj.specs.declared.object.Object.{Object}
 use Rattle.sg_parse_obj.specs.declared.object.Object.TheVariants as object
 use Rattle.sg_parse_obj.specs.declared.driver.Side.TheVariants as side
 use Rattle.sg_parse_obj.specs.Drivers.{drivers}

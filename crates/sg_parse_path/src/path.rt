@@ -119,12 +119,7 @@ fn branch_of(test: RawExpr, path: Path) -> RawBranch
 /// A word, and a path in braces.
 #[tactic(auto, unfolding(crate::specs::Paths::worded))]
 #[cycle(path)]
-fn worded(
-    alloc: Global,
-    cursor: &mut Cursor<'_>,
-    depth: usize,
-    word: &[u8],
-) -> Result<RawLog, Stop>
+fn worded(alloc: Global, cursor: &mut Cursor<'_>, depth: usize, word: &[u8]) -> Result<RawLog, Stop>
     ensures { Reads (spec.worded (spec.block depth) word.now cursor.old) result cursor.new }
 {
     if !sees_word(cursor, word) {
@@ -286,12 +281,7 @@ fn read_piece(
 
 /// What stands in braces, behind the one that opens them.
 #[cycle(path)]
-fn pieces(
-    alloc: Global,
-    cursor: &mut Cursor<'_>,
-    depth: usize,
-    first: Stage,
-) -> Result<Path, Stop>
+fn pieces(alloc: Global, cursor: &mut Cursor<'_>, depth: usize, first: Stage) -> Result<Path, Stop>
     ensures { Reads (spec.pieces depth (spec.block depth) first cursor.old) result cursor.new }
 {
     let mut found = empty_path(alloc);
