@@ -3,21 +3,49 @@
 //! that begins with a number stands for a text of that many pieces, of which only the end is said.
 #![tactic(auto)]
 
+ghost use Rattle.std.specs.Prelude.{◌<◌, ◌^◌, length};
+
+mod paths;
 mod say;
 mod text;
 
 use sg_lex::{TEXT_LIMIT, Token, tokens};
+use sg_parse_base::is_keyword;
 use sg_parse_obj::{ParseRefusal, statement};
+use sg_parse_path::log_statement;
 use std::alloc::Global;
 use std::io;
 
-// What stands at the front of the tokens.
-fn parsed(alloc: Global, tokens: &[Token], whole: bool) -> io::Result<Vec<u8>> {
+fn refused(alloc: Global, refusal: ParseRefusal) -> io::Result<Vec<u8>> {
     let mut out = Vec::new(alloc);
-    if tokens.is_empty() || tokens.len() > u32::MAX as usize {
-        out.extend_from_slice(b"nothing")?;
-        return Ok(out);
+    match refusal {
+        ParseRefusal::Bad(fault) => say::fault(alloc, &mut out, &fault)?,
+        ParseRefusal::NoMemory => out.extend_from_slice(b"no memory")?,
     }
+    Ok(out)
+}
+
+fn parsed_log(alloc: Global, tokens: &[Token], whole: bool) -> io::Result<Vec<u8>>
+    requires { (0 < length tokens.now) × (length tokens.now < 2 ^ 32) }
+{
+    let mut out = Vec::new(alloc);
+    match log_statement(alloc, tokens, 0) {
+        Ok((log, end)) => {
+            if whole {
+                paths::log(&mut out, &log)?;
+                out.push(b' ')?;
+            }
+            say::number(alloc, &mut out, end as u64)?;
+        }
+        Err(refusal) => return refused(alloc, refusal),
+    }
+    Ok(out)
+}
+
+fn parsed_statement(alloc: Global, tokens: &[Token], whole: bool) -> io::Result<Vec<u8>>
+    requires { (0 < length tokens.now) × (length tokens.now < 2 ^ 32) }
+{
+    let mut out = Vec::new(alloc);
     match statement(alloc, tokens, 0) {
         Ok((object, end)) => {
             if whole {
@@ -26,10 +54,20 @@ fn parsed(alloc: Global, tokens: &[Token], whole: bool) -> io::Result<Vec<u8>> {
             }
             say::number(alloc, &mut out, end as u64)?;
         }
-        Err(ParseRefusal::Bad(fault)) => say::fault(alloc, &mut out, &fault)?,
-        Err(ParseRefusal::NoMemory) => out.extend_from_slice(b"no memory")?,
+        Err(refusal) => return refused(alloc, refusal),
     }
     Ok(out)
+}
+
+// What stands at the front of the tokens.
+fn parsed(alloc: Global, tokens: &[Token], whole: bool) -> io::Result<Vec<u8>> {
+    if tokens.is_empty() || tokens.len() > u32::MAX as usize {
+        return text::copied(alloc, b"nothing");
+    }
+    if is_keyword(&tokens[0], b"log") {
+        return parsed_log(alloc, tokens, whole);
+    }
+    parsed_statement(alloc, tokens, whole)
 }
 
 // What a line of standard input comes to.

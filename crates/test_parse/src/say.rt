@@ -29,7 +29,7 @@ pub fn fault(alloc: Global, out: &mut Vec<u8>, fault: &ConfigFault) -> Result<()
     number(alloc, out, u64::from(fault.line))
 }
 
-fn spot(out: &mut Vec<u8>, spot: &Spot) -> Result<(), AllocError> {
+pub fn spot(out: &mut Vec<u8>, spot: &Spot) -> Result<(), AllocError> {
     let quoted = match spot.token.kind {
         TokenKind::Str => true,
         _ => false,
@@ -68,7 +68,7 @@ fn range(out: &mut Vec<u8>, low: &Spot, high: &Spot) -> Result<(), AllocError> {
 }
 
 #[cycle(say)]
-fn expr(out: &mut Vec<u8>, x: &RawExpr) -> Result<(), AllocError> {
+pub fn expr(out: &mut Vec<u8>, x: &RawExpr) -> Result<(), AllocError> {
     match x {
         RawExpr::Call(inner) => call(out, inner),
         RawExpr::Compare { left, cmp, right } => compare(out, left, *cmp, right),

@@ -1,0 +1,5 @@
+pub mod Flags
+pub mod References
+pub mod Paths
+pub mod Grammar
+pub mod Answers
