@@ -103,7 +103,7 @@ fn element(out: &mut Vec<u8>, one: &RawElement) -> Result<(), AllocError> {
 }
 
 #[cycle(paths)]
-pub fn log(out: &mut Vec<u8>, one: &RawLog) -> Result<(), AllocError> {
+pub(crate) fn log(out: &mut Vec<u8>, one: &RawLog) -> Result<(), AllocError> {
     spot(out, &one.word)?;
     out.extend_from_slice(b" {")?;
     elements(out, one.elements.as_slice())?;

@@ -6,7 +6,7 @@ use sg_parse_expr::{Arg, Call, RawExpr};
 use sg_parse_obj::Object;
 use std::alloc::{AllocError, Global};
 
-pub fn number(alloc: Global, out: &mut Vec<u8>, number: u64) -> Result<(), AllocError> {
+pub(crate) fn number(alloc: Global, out: &mut Vec<u8>, number: u64) -> Result<(), AllocError> {
     out.extend_from_slice(format!(in alloc; "{number}")?.as_bytes())?;
     Ok(())
 }
@@ -23,13 +23,17 @@ fn kind_text(kind: ConfigKind) -> &'static [u8] {
     }
 }
 
-pub fn fault(alloc: Global, out: &mut Vec<u8>, fault: &ConfigFault) -> Result<(), AllocError> {
+pub(crate) fn fault(
+    alloc: Global,
+    out: &mut Vec<u8>,
+    fault: &ConfigFault,
+) -> Result<(), AllocError> {
     out.extend_from_slice(kind_text(fault.kind))?;
     out.push(b' ')?;
     number(alloc, out, u64::from(fault.line))
 }
 
-pub fn spot(out: &mut Vec<u8>, spot: &Spot) -> Result<(), AllocError> {
+pub(crate) fn spot(out: &mut Vec<u8>, spot: &Spot) -> Result<(), AllocError> {
     let quoted = match spot.token.kind {
         TokenKind::Str => true,
         _ => false,
@@ -68,7 +72,7 @@ fn range(out: &mut Vec<u8>, low: &Spot, high: &Spot) -> Result<(), AllocError> {
 }
 
 #[cycle(say)]
-pub fn expr(out: &mut Vec<u8>, x: &RawExpr) -> Result<(), AllocError> {
+pub(crate) fn expr(out: &mut Vec<u8>, x: &RawExpr) -> Result<(), AllocError> {
     match x {
         RawExpr::Call(inner) => call(out, inner),
         RawExpr::Compare { left, cmp, right } => compare(out, left, *cmp, right),
@@ -127,7 +131,7 @@ fn named(out: &mut Vec<u8>, word: &[u8], name: &Spot) -> Result<(), AllocError> 
     spot(out, name)
 }
 
-pub fn object(out: &mut Vec<u8>, object: &Object) -> Result<(), AllocError> {
+pub(crate) fn object(out: &mut Vec<u8>, object: &Object) -> Result<(), AllocError> {
     match object {
         Object::Options(all) => {
             out.extend_from_slice(b"options")?;

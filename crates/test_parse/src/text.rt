@@ -10,7 +10,7 @@ pub struct Row {
     pub whole: bool,
 }
 
-pub fn copied(alloc: Global, text: &[u8]) -> io::Result<Vec<u8>> {
+pub(crate) fn copied(alloc: Global, text: &[u8]) -> io::Result<Vec<u8>> {
     Ok(Vec::from_slice(alloc, text)?)
 }
 
@@ -44,7 +44,7 @@ fn long(alloc: Global, count: u32, parts: &str) -> io::Result<Vec<u8>> {
     Ok(out)
 }
 
-pub fn read_row(alloc: Global, line: &str) -> io::Result<Row> {
+pub(crate) fn read_row(alloc: Global, line: &str) -> io::Result<Row> {
     if let Some((count, parts)) = line.split_once(' ') {
         if let Ok(count) = count.parse() {
             let text = long(alloc, count, parts)?;

@@ -112,7 +112,7 @@ fn spelled(alloc: Global, words: &str) -> Result<Vec<u8>, Fail> {
 }
 
 // A store with these parts, of 128 bytes at least.
-pub fn store(alloc: Global, parts: &str) -> Result<Vec<u8>, Fail> {
+pub(crate) fn store(alloc: Global, parts: &str) -> Result<Vec<u8>, Fail> {
     let mut bytes = Vec::new(alloc);
     for line in parts.lines() {
         let (at, words) = line.split_once(' ').ok_or("no place")?;
@@ -161,7 +161,7 @@ fn is_change(alloc: Global, change: &DiskChange, line: &str) -> Result<bool, Fai
 }
 
 // Whether the disk was changed as the lines say.
-pub fn has_changes(alloc: Global, disk: &MemoryDisk, lines: &str) -> Result<bool, Fail> {
+pub(crate) fn has_changes(alloc: Global, disk: &MemoryDisk, lines: &str) -> Result<bool, Fail> {
     let changes = disk.changes();
     for (change, line) in changes.iter().zip(lines.lines()) {
         if !is_change(alloc, change, line)? {
