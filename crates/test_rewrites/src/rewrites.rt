@@ -425,6 +425,33 @@ fn length_of(alloc: Global, words: &str, pattern: &str, text: &str) -> Result<us
     length_after(alloc, &mut rewrite, &value)
 }
 
+// A message of 1,000 pairs `n0` to `n999`, and a tag.
+fn many_pairs(alloc: Global) -> Result<Message, Fail> {
+    let mut message = Message::new(alloc, 13, SENT, RECEIVED)?;
+    for place in 0..1000 {
+        let item = format!(in alloc; "n{place}=v")?;
+        put(alloc, &mut message, item.as_str())?;
+    }
+    put(alloc, &mut message, "#red")?;
+    Ok(message)
+}
+
+// How many pairs are left of 1,000 without those whose names match, where the tag is.
+fn left_without(alloc: Global, glob: &str) -> Result<usize, Fail> {
+    let Some(op) = op_of(alloc, "groupunset", glob, "", "")? else {
+        return Ok(0);
+    };
+    let Some(mut rewrite) = rewrite_of(alloc, &op)? else {
+        return Ok(0);
+    };
+    let mut message = many_pairs(alloc)?;
+    rewrite.apply(alloc, &mut message)?;
+    match message.tag(0) {
+        Some(_) => Ok(message.pair_count()),
+        None => Ok(0),
+    }
+}
+
 // Why a pattern is refused, and the count of those that were too large.
 fn refusal_of(alloc: Global, pattern: &str) -> Result<(Option<BuildRefusal>, u64), Fail> {
     let mut patterns = Patterns { too_large: 0 };
@@ -445,6 +472,7 @@ fn limits(rt: HostRuntime) -> Result<(), Fail> {
     assert_eq!(rt; length_of(alloc, "groupset", "", "$_$_")?, 1_048_576);
     assert_eq!(rt; length_of(alloc, "regex g", "a", "bb")?, 1_048_576);
     assert_eq!(rt; length_of(alloc, "text sg", "aa", "b")?, 300_000);
+    assert_eq!(rt; left_without(alloc, "*0")?, 900);
     let bad = refusal_of(alloc, "a(")?;
     assert!(rt; bad == (Some(BuildRefusal::BadPattern(LINE)), 0));
     let large = refusal_of(alloc, "(\\w{1000}){100}")?;
