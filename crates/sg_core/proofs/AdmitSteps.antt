@@ -1,240 +1,240 @@
--- An admit, on a state and on what a core keeps of it.
-use Rattle.std.proofs.Common.{◌≡◌, ◌≢◌, ℕ, ◌+◌, ◌<◌, ◌≤◌, List, [], ◌∷◌, ◌++◌, length, Some, Bool, true, false, ◌&&◌, refl, sym, ap, ◌∙◌, arith, suc, zero, map, slice_get, subst, count_by, if◌then◌else◌, inl, inr}
-use Rattle.std.specs.Prelude.{◌==◌}
+-- An admit is an event of the machine, from each state that the core may be at.
+use Rattle.std.proofs.Common.{◌≡◌, ◌≢◌, ℕ, ◌+◌, ◌-◌, ◌^◌, ◌<◌, ◌≤◌, List, [], ◌∷◌, ◌++◌, length, Option, Some, None, Bool, true, false, ◌&&◌, ◌||◌, not, refl, sym, ap, ◌∙◌, arith, suc, zero, map, slice_get, subst, if◌then◌else◌, inl, inr, ◌⊎◌}
+use Rattle.std.specs.Prelude.{◌==◌, nat_lt, nat_le, option_and_then}
 use Rattle.std.specs.Option.{option_map_or}
-use Rattle.std.proofs.lemmas.List.{length_push, append-nil}
-use Rattle.std.proofs.lemmas.Bool.{cases_eq}
-use Rattle.std.proofs.lemmas.List.Sums.{sum_by-append}
-use Rattle.sg_list.specs.Lists.{change}
-use Rattle.sg_list.proofs.ListLemmas.{length-change}
-use Rattle.sg_window.specs.Window.{window_of, after_begin, StandsFor}
-use Rattle.sg_window.specs.declared.tracker.Record.{Record}
-use Rattle.sg_window.proofs.WindowLemmas.{stands-begin}
-use Rattle.sg_msg.specs.declared.offer.Offer.{Offer}
-use Rattle.sg_machine.specs.declared.state.Inlet.{Inlet}
-use Rattle.sg_machine.specs.declared.state.Dest.{Dest}
-use Rattle.sg_machine.specs.declared.state.Entry.{Entry}
-use Rattle.sg_machine.specs.declared.state.Origin.{Origin}
-use Rattle.sg_machine.specs.declared.state.State.{State}
+use Rattle.std.specs.List.{list_all}
+use Rattle.std.proofs.lemmas.Bool.{cases_eq, cases_Bool, false_from_ne_true, or_parts}
+use Rattle.std.proofs.lemmas.List.{append-nil, length-append, length-map}
+use Rattle.sg_list.specs.Lists.{change, passes_at}
+use Rattle.sg_list.proofs.ListLemmas.{some-same, slice_get-some, slice_get-below, slice_get-map}
+use Rattle.sg_counter.specs.Bringing.{MayEnter, AllMayEnter}
+use Rattle.sg_machine.specs.declared.event.Act.TheVariants.{Admit}
+use Rattle.sg_machine.specs.declared.event.Admission.{Admission}
 use Rattle.sg_machine.specs.declared.event.Verdict.{Verdict}
-use Rattle.sg_machine.specs.declared.event.Verdict.TheVariants.{Queued, Spooled, Waits, DroppedFull, DroppedDisk}
-use Rattle.sg_machine.specs.Marks.{is_owed_to}
-use Rattle.sg_machine.specs.Verdicts.{take_offer, take_offers, entry_from}
-use Rattle.sg_machine.specs.Effects.{origin_of, admitted_one}
-use Rattle.sg_core.specs.Stores.{StoreState}
-use Rattle.sg_core.specs.Sources.{begun_at}
-use Rattle.sg_core.specs.Offers.{takes, take_all, owes_by, owing_count, AllWithin}
-use Rattle.sg_core.specs.Standing.{owed, records_from, sources_from, sink_of, waiting_at, waiting_from, ends_of, setups_of, IsStored, AreStored, IsSound}
-use Rattle.sg_core.proofs.ListSteps.{get-change, map-kept}
-use Rattle.sg_core.proofs.OwedLemmas.{one_if, records-same, records-length, sources-above}
+use Rattle.sg_machine.specs.declared.setup.BufferSetup.{BufferSetup}
+use Rattle.sg_machine.specs.declared.setup.DestSetup.{DestSetup}
+use Rattle.sg_machine.specs.declared.setup.SourceSetup.{SourceSetup}
+use Rattle.sg_machine.specs.declared.state.Dest.{Dest}
+use Rattle.sg_machine.specs.declared.state.Inlet.{Inlet}
+use Rattle.sg_machine.specs.declared.state.State.{State}
+use Rattle.sg_machine.specs.Effects.{next_of, ends_of, admitted, after_act}
+use Rattle.sg_machine.specs.Legal.{is_same_list, is_admissible, may_admit, is_legal_act, store_of}
+use Rattle.sg_machine.specs.Marks.{outstanding_of}
+use Rattle.sg_machine.specs.Running.{IsSound as IsReplayed, owed, ends_at}
+use Rattle.sg_machine.specs.Runs.{Kept}
+use Rattle.sg_machine.specs.Safe.{spooled_of, spooled_offers, would_spool, appends, tried_by}
+use Rattle.sg_machine.specs.Verdicts.{Claim, claims_of, is_listed, judged, take_claims}
+use Rattle.sg_machine.proofs.BatchLemmas.{working-appends}
+use Rattle.sg_machine.proofs.RecordLemmas.{Admits, admits, number-ends}
+use Rattle.sg_window.specs.declared.tracker.Record.{Record}
+use Rattle.sg_sinks.specs.Fitting.{space}
+use Rattle.sg_sinks.specs.Laws.{is_listed_in}
+use Rattle.sg_sinks.specs.Standing.{sink_of, lengths_of, IsSplit}
+use Rattle.sg_sinks.specs.States.{SinkState}
+use Rattle.sg_stores.specs.Appending.{IsAppended}
+use Rattle.sg_stores.specs.Stores.{StoreState, HasSize, HoldsEntries, length_of}
+use Rattle.sg_offers.specs.Answering.{fails_at, sinks_after, verdicts_from, failing_in, begun_of}
+use Rattle.sg_offers.specs.Batches.{sinks_at, WouldFail, buffer_in as buffer_of_dest}
+use Rattle.sg_offers.specs.Laws.{Judged, Tried, Begun}
+use Rattle.sg_offers.specs.Payloads.{buffers_of, buffer_at, trial_in, trial_at, payloads_of, taken_at, FitAll, AllKept, AreSpelled}
+use Rattle.sg_offers.specs.declared.batch.Payload.{Payload}
+use Rattle.sg_offers.proofs.BegunSteps.{begun-by}
+use Rattle.sg_offers.proofs.ClaimLemmas.{within-from}
+use Rattle.sg_offers.proofs.FailSteps.{judged-all}
+use Rattle.sg_offers.proofs.JudgeSteps.{listed-append}
+use Rattle.sg_offers.proofs.PayloadLemmas.{length-payloads}
+use Rattle.sg_offers.proofs.TrySteps.{tried-by as tried-hold}
+use Rattle.sg_standing.specs.Sources.{begun_all, credit_at}
+use Rattle.sg_standing.specs.States.{CoreState}
+use Rattle.sg_standing.specs.Standing.{IsAt, IsSound, AreApart, IsPlaced, HoldsPosition, IsStored, AreStored, IsBuffer, IsBacked, AreBacked, sinks_of, sources_from, setups_of, buffer_in}
+use Rattle.sg_standing.proofs.Calls.{apart-both, buffer_in-of}
+use Rattle.sg_standing.proofs.ListSteps.{get-change}
+use Rattle.sg_core.specs.Admits.{AreApartBuffers, blocks_for, Appended, AppendedAll}
+use Rattle.sg_core.specs.Steps.{AreNext}
+use Rattle.sg_core.proofs.AdmitDests.{Grows, Grown, grown, lengths-spooled, length-taken, are-next, untried}
+use Rattle.sg_core.proofs.AdmitSources.{sources-more}
 
--- one more entry that is left
-waiting-push : (n : ℕ) (left : List Entry) (e : Entry) → waiting_from n (left ++ e ∷ []) ≡ waiting_from n left ++ waiting_at (n + length (waiting_from n left)) e ∷ []
-waiting-push n [] e = ap (λ k. waiting_at k e ∷ []) (omega arith)
-waiting-push n (x ∷ left) e =
-    let len = length (waiting_from (n + 1) left) in
-    ap (λ qs. waiting_at n x ∷ qs) (waiting-push (n + 1) left e)
-    ∙ ap (λ k. waiting_at n x ∷ (waiting_from (n + 1) left ++ waiting_at k e ∷ [])) (let same : (n + 1) + len ≡ n + suc len = omega arith in same)
+-- all that an admit has done, where the next record of the inlet has this number
+pub record Admitting (old new : CoreState) (i next : ℕ) (records : List Admission) (vs : List Verdict) (fails : List Bool) (payloads : List Payload) : Type 0 where
+  pub some : 0 < length records
+  pub few : length records ≤ 1000
+  pub enter : AllMayEnter (length old.sinks) records
+  pub payloads_are : payloads ≡ payloads_of i old.sinks (claims_of records)
+  pub spelled : AreSpelled i (claims_of records) payloads
+  pub kept : AllKept i (buffers_of old.sinks) (claims_of records)
+  pub appended : AppendedAll old.stores new.stores (buffers_of old.sinks) payloads fails
+  pub sinks : new.sinks ≡ sinks_after fails i next old.sinks (claims_of records)
+  pub verdicts : vs ≡ verdicts_from fails i next old.sinks (claims_of records)
+  pub sources : new.sources ≡ change old.sources i (begun_all (begun_of records vs))
 
--- the sinks go along
-sink-keeps : (origin : Origin) (o : Offer) (d : Dest) (spooled : Bool)
-    → sink_of (record d { left = d.left ++ entry_from origin o spooled ∷ [] }) ≡ takes origin.inlet origin.number o Queued (sink_of d)
-sink-keeps origin o d spooled =
-    ap (λ qs. record { setup = d.setup; taken = length d.settled; entries = qs; dropped_full = d.dropped_full; dropped_disk = d.dropped_disk })
-    (waiting-push (length d.settled) d.left (entry_from origin o spooled))
+-- The disk-buffers of a state.
 
-sink-takes : (origin : Origin) (o : Offer) (v : Verdict) (d : Dest) → sink_of (take_offer origin o v d) ≡ takes origin.inlet origin.number o v (sink_of d)
-sink-takes origin o Queued d = sink-keeps origin o d false
-sink-takes origin o Spooled d = sink-keeps origin o d true
-sink-takes origin o Waits d = sink-keeps origin o d false
-sink-takes origin o DroppedFull d = refl
-sink-takes origin o DroppedDisk d = refl
+buffer-found : (failed : List ℕ) (dests : List Dest) (d : ℕ) (x : BufferSetup) → buffer_at (buffers_of (sinks_at failed dests)) d ≡ Some x → buffer_in dests d ≡ Some x.store
+buffer-found failed [] d x h = let wrong : None ≡ Some x = h in cc
+buffer-found failed (y ∷ dests) zero x h = rw h refl
+buffer-found failed (y ∷ dests) (suc d) x h = buffer-found failed dests d x h
 
-pub sinks-change : (origin : Origin) (o : Offer) (v : Verdict) (ds : List Dest) (k : ℕ) → map sink_of (change ds k (take_offer origin o v)) ≡ change (map sink_of ds) k (takes origin.inlet origin.number o v)
-sinks-change origin o v [] k = refl
-sinks-change origin o v (d ∷ ds) zero = ap (λ k. k ∷ map sink_of ds) (sink-takes origin o v d)
-sinks-change origin o v (d ∷ ds) (suc k) = ap (λ ks. sink_of d ∷ ks) (sinks-change origin o v ds k)
+pub buffer-at-dest : (failed : List ℕ) (dests : List Dest) (d : ℕ) (dest : Dest) (buffer : BufferSetup) → slice_get dests d ≡ Some dest → dest.setup.buffer ≡ Some buffer → buffer_at (buffers_of (sinks_at failed dests)) d ≡ Some buffer
+buffer-at-dest failed [] d dest buffer there has = let wrong : None ≡ Some dest = there in cc
+buffer-at-dest failed (y ∷ dests) zero dest buffer there has = ap (λ (x : Dest). x.setup.buffer) (some-same y dest there) ∙ has
+buffer-at-dest failed (y ∷ dests) (suc d) dest buffer there has = buffer-at-dest failed dests d dest buffer there has
 
-pub sinks-take : (origin : Origin) (ds : List Dest) (os : List Offer) (vs : List Verdict) → map sink_of (take_offers origin ds os vs) ≡ take_all origin.inlet origin.number (map sink_of ds) os vs
-sinks-take origin ds [] [] = refl
-sinks-take origin ds [] (v ∷ vs) = refl
-sinks-take origin ds (o ∷ os) [] = refl
-sinks-take origin ds (o ∷ os) (v ∷ vs) = sinks-take origin (change ds o.dest (take_offer origin o v)) os vs ∙ ap (λ ks. take_all origin.inlet origin.number ks os vs) (sinks-change origin o v ds o.dest)
+pub buffer-seen : (failed : List ℕ) (dests : List Dest) (d : ℕ) (dest : Dest) → slice_get dests d ≡ Some dest → buffer_at (buffers_of (sinks_at failed dests)) d ≡ dest.setup.buffer
+buffer-seen failed [] d dest there = let wrong : None ≡ Some dest = there in cc
+buffer-seen failed (y ∷ dests) zero dest there = ap (λ (x : Dest). x.setup.buffer) (some-same y dest there)
+buffer-seen failed (y ∷ dests) (suc d) dest there = buffer-seen failed dests d dest there
 
-abbrev is_at : Origin → ℕ → ℕ → Bool
-is_at origin i n = (origin.inlet == i) && (origin.number == n)
+-- a destination with a disk-buffer, or none there
+pub record BackedAt (dests : List Dest) (d : ℕ) : Type 0 where
+  pub dest : Dest
+  pub buffer : BufferSetup
+  pub there : slice_get dests d ≡ Some dest
+  pub has : dest.setup.buffer ≡ Some buffer
 
--- one more entry
-count-keep : (p : Entry → Bool) (es : List Entry) (e : Entry) → count_by p (es ++ e ∷ []) ≡ count_by p es + one_if (p e)
-count-keep p es e = sum_by-append (λ x. if p x then 1 else 0) es (e ∷ []) ∙ grind arith
+backed-by : (dests : List Dest) (x : Dest) (b : Option BufferSetup) → x.setup.buffer ≡ b → (b ≡ None) ⊎ BackedAt (x ∷ dests) 0
+backed-by dests x None e = inl refl
+backed-by dests x (Some buffer) e = inr (record { dest = x; buffer = buffer; there = refl; has = e })
 
-none_more : (b : Bool) (n : ℕ) → n ≡ n + one_if (b && false)
-none_more true n = omega arith
-none_more false n = omega arith
+pub backed-or : (failed : List ℕ) (dests : List Dest) (d : ℕ) → (buffer_at (buffers_of (sinks_at failed dests)) d ≡ None) ⊎ BackedAt dests d
+backed-or failed [] d = inl refl
+backed-or failed (x ∷ dests) zero = backed-by dests x x.setup.buffer refl
+backed-or failed (x ∷ dests) (suc d) = elim (backed-or failed dests d) [
+  | inl e ↦ inl e
+  | inr b ↦ inr (record { dest = b.dest; buffer = b.buffer; there = b.there; has = b.has })
+]
 
-owed-take-one : (origin : Origin) (o : Offer) (v : Verdict) (d : Dest) (i n : ℕ)
-    → count_by (is_owed_to i n) (take_offer origin o v d).left ≡ count_by (is_owed_to i n) d.left + one_if (is_at origin i n && owes_by o.flow v)
-owed-take-one origin o Queued d i n = count-keep (is_owed_to i n) d.left (entry_from origin o false) ∙ grind arith
-owed-take-one origin o Spooled d i n = count-keep (is_owed_to i n) d.left (entry_from origin o true) ∙ grind arith
-owed-take-one origin o Waits d i n = count-keep (is_owed_to i n) d.left (entry_from origin o false) ∙ grind arith
-owed-take-one origin o DroppedFull d i n = none_more (is_at origin i n) (count_by (is_owed_to i n) d.left)
-owed-take-one origin o DroppedDisk d i n = none_more (is_at origin i n) (count_by (is_owed_to i n) d.left)
+pub apart-buffers : (s : State) → AreApart s → AreApartBuffers (buffers_of (sinks_of s))
+apart-buffers s apart d e a b ha hb same = apart.dests d e a.store (buffer-found s.failed s.dests d a ha) (buffer-found s.failed s.dests e b hb ∙ ap Some (sym same))
 
--- what one offer adds to what is owed
-owed-take : (origin : Origin) (o : Offer) (v : Verdict) (ds : List Dest) (k i n : ℕ) → k < length ds
-    → owed (change ds k (take_offer origin o v)) i n ≡ owed ds i n + one_if (is_at origin i n && owes_by o.flow v)
-owed-take origin o v [] k i n h = absurd (omega arith)
-owed-take origin o v (d ∷ ds) zero i n h = let a = owed-take-one origin o v d i n in omega arith
-owed-take origin o v (d ∷ ds) (suc k) i n h = let a = owed-take origin o v ds k i n (omega arith) in omega arith
+-- one destination, with its store before and after
+pub record DestOf (old new : CoreState) (s : State) (fails : List Bool) (payloads : List Payload) (d : ℕ) (dest : Dest) (buffer : BufferSetup) : Type 0 where
+  pub was : StoreState
+  pub now : StoreState
+  pub was_there : slice_get old.stores buffer.store ≡ Some was
+  pub now_there : slice_get new.stores buffer.store ≡ Some now
+  pub is : IsBuffer was buffer dest (is_listed buffer.store s.failed)
+  pub appended : Appended was now (blocks_for (buffers_of old.sinks) buffer.store payloads) (fails_at fails d)
 
--- of other records
-pub owed-others : (origin : Origin) (ds : List Dest) (os : List Offer) (vs : List Verdict) (i n : ℕ) → AllWithin (length ds) os → is_at origin i n ≡ false
-    → owed (take_offers origin ds os vs) i n ≡ owed ds i n
-owed-others origin ds [] [] i n w h = refl
-owed-others origin ds [] (v ∷ vs) i n w h = refl
-owed-others origin ds (o ∷ os) [] i n w h = refl
-owed-others origin ds (o ∷ os) (v ∷ vs) i n w h =
-    let P : ℕ → Type 0 = λ len. AllWithin len os in
-    let a = owed-take origin o v ds o.dest i n w.0 in
-    let b : owed (change ds o.dest (take_offer origin o v)) i n ≡ owed ds i n + one_if (false && owes_by o.flow v) = rw h at a in
-    let rest = owed-others origin (change ds o.dest (take_offer origin o v)) os vs i n (subst P (sym (length-change ds o.dest (take_offer origin o v))) w.1) h in
-    omega arith
+found-by : (stores : List StoreState) (s : ℕ) (k : ℕ) → s < k → length stores ≡ k → (store : StoreState) × (slice_get stores s ≡ Some store)
+found-by stores s k l n = slice_get-some stores s (omega arith)
 
--- of the record itself
-pub owed-itself : (origin : Origin) (ds : List Dest) (os : List Offer) (vs : List Verdict) → AllWithin (length ds) os
-    → owed (take_offers origin ds os vs) origin.inlet origin.number ≡ owed ds origin.inlet origin.number + owing_count os vs
-owed-itself origin ds [] [] w = omega arith
-owed-itself origin ds [] (v ∷ vs) w = omega arith
-owed-itself origin ds (o ∷ os) [] w = omega arith
-owed-itself origin ds (o ∷ os) (v ∷ vs) w =
-    let P : ℕ → Type 0 = λ len. AllWithin len os in
-    let i = origin.inlet in
-    let n = origin.number in
-    let here : is_at origin i n ≡ true = grind arith in
-    let a = owed-take origin o v ds o.dest i n w.0 in
-    let b : owed (change ds o.dest (take_offer origin o v)) i n ≡ owed ds i n + one_if (true && owes_by o.flow v) = rw here at a in
-    let rest = owed-itself origin (change ds o.dest (take_offer origin o v)) os vs (subst P (sym (length-change ds o.dest (take_offer origin o v))) w.1) in
-    omega arith
+pub dest-of : (old new : CoreState) (s : State) (i next : ℕ) (records : List Admission) (vs : List Verdict) (fails : List Bool) (payloads : List Payload) (d : ℕ) (dest : Dest) (buffer : BufferSetup) → Admitting old new i next records vs fails payloads → IsAt old s
+    → slice_get s.dests d ≡ Some dest → dest.setup.buffer ≡ Some buffer → DestOf old new s fails payloads d dest buffer
+dest-of old new s i next records vs fails payloads d dest buffer adm at there has =
+    let b = at.buffers d dest buffer there has in
+    let below = slice_get-below old.stores buffer.store b.store b.there in
+    let count = (adm.appended).all_go.count in
+    let now = slice_get-some new.stores buffer.store (omega (arith, below, count)) in
+    let found : buffer_at (buffers_of old.sinks) d ≡ Some buffer = ap (λ (ks : List SinkState). buffer_at (buffers_of ks) d) at.sinks ∙ buffer-at-dest s.failed s.dests d dest buffer there has in
+    record { was = b.store; now = now.0; was_there = b.there; now_there = now.1; is = b.is; appended = (adm.appended).each d buffer b.store now.0 found b.there now.1 }
 
-records-push : (ds : List Dest) (i n : ℕ) (ends : List ℕ) (end m : ℕ) → n + length ends ≡ m → records_from ds i n (ends ++ end ∷ []) ≡ records_from ds i n ends ++ record { end = end; left = owed ds i m } ∷ []
-records-push ds i n [] end m h = let e : n ≡ m = omega arith in rw e refl
-records-push ds i n (x ∷ ends) end m h = ap (λ rs. record { end = x; left = owed ds i n } ∷ rs) (records-push ds i (n + 1) ends end m (omega arith))
+-- what it takes, where its store works
+pub record TakesOf (old new : CoreState) (s : State) (i : ℕ) (claims : List Claim) (payloads : List Payload) (d : ℕ) (dest : Dest) (buffer : BufferSetup) (was now : StoreState) (blocks : List (Option (List ℕ))) : Type 0 where
+  pub count : length (would_spool d i (next_of s i) buffer dest claims) ≡ length blocks
+  pub next : AreNext was [] blocks (would_spool d i (next_of s i) buffer dest claims)
 
-records-below : (ds fs : List Dest) (i n : ℕ) (ends : List ℕ) → ((j : ℕ) → j < n + length ends → owed fs i j ≡ owed ds i j) → records_from fs i n ends ≡ records_from ds i n ends
-records-below ds fs i n [] h = refl
-records-below ds fs i n (x ∷ ends) h =
-    let here : owed fs i n ≡ owed ds i n = h n (omega arith) in
-    let rest = records-below ds fs i (n + 1) ends (λ j l. h j (omega arith)) in
-    rw (here, rest) refl
+pub takes-of : (old new : CoreState) (s : State) (i : ℕ) (records : List Admission) (vs : List Verdict) (fails : List Bool) (payloads : List Payload) (d : ℕ) (dest : Dest) (buffer : BufferSetup) (adm : Admitting old new i (next_of s i) records vs fails payloads) (at : IsAt old s)
+    (there : slice_get s.dests d ≡ Some dest) (has : dest.setup.buffer ≡ Some buffer) → (x : DestOf old new s fails payloads d dest buffer) → x.was.failed ≡ false
+    → TakesOf old new s i (claims_of records) payloads d dest buffer x.was x.now (blocks_for (buffers_of old.sinks) buffer.store payloads)
+takes-of old new s i records vs fails payloads d dest buffer adm at there has x works =
+    let claims = claims_of records in
+    let sinks = sinks_of s in
+    let listed : is_listed buffer.store s.failed ≡ false = sym (x.is).failed_is ∙ works in
+    let tried = tried-hold i (next_of s i) s.dests s.failed claims d dest buffer there has listed (at.sound.split d dest there) in
+    let is : payloads ≡ payloads_of i sinks claims = adm.payloads_are ∙ ap (λ (ks : List SinkState). payloads_of i ks claims) at.sinks in
+    let taken : taken_at d i claims payloads ≡ would_spool d i (next_of s i) buffer dest claims = ap (taken_at d i claims) is ∙ tried.taken in
+    let found : buffer_at (buffers_of sinks) d ≡ Some buffer = buffer-at-dest s.failed s.dests d dest buffer there has in
+    let len : length claims ≡ length payloads = sym (ap length is ∙ length-payloads i (buffers_of sinks) (map trial_in sinks) claims) in
+    let apart = apart-buffers s at.sound.apart in
+    let same : blocks_for (buffers_of old.sinks) buffer.store payloads ≡ blocks_for (buffers_of sinks) buffer.store payloads = ap (λ (ks : List SinkState). blocks_for (buffers_of ks) buffer.store payloads) at.sinks in
+    let count = sym (ap length taken) ∙ length-taken (buffers_of sinks) d i buffer claims payloads apart found len ∙ ap length (sym same) in
+    let no_more : space (lengths_of dest.left) ≡ space (lengths_of dest.left ++ map length_of []) = ap space (sym (append-nil (lengths_of dest.left))) in
+    let fits = subst (λ (n : ℕ). FitAll buffer.capacity n (taken_at d i claims payloads)) no_more (subst (FitAll buffer.capacity (space (lengths_of dest.left))) (sym taken) tried.fits) in
+    let next = are-next (buffers_of sinks) d i buffer x.was [] buffer.capacity (lengths_of dest.left) claims payloads apart found ((x.is).sized works) len adm.spelled fits in
+    record {
+      count = count;
+      next = subst (λ (bs : List (Option (List ℕ))). AreNext x.was [] bs (would_spool d i (next_of s i) buffer dest claims)) (sym same) (subst (λ (ks : List Kept). AreNext x.was [] (blocks_for (buffers_of sinks) buffer.store payloads) ks) taken next);
+    }
 
--- the window of an inlet with one more record
-window-more : (ds fs : List Dest) (i limit from : ℕ) (ends : List ℕ) (end left : ℕ) → ((j : ℕ) → j < length ends → owed fs i j ≡ owed ds i j) → owed fs i (length ends) ≡ left
-    → window_of limit (length (ends ++ end ∷ [])) from (records_from fs i 0 (ends ++ end ∷ [])) ≡ after_begin (window_of limit (length ends) from (records_from ds i 0 ends)) end left
-window-more ds fs i limit from ends end left same new =
-    let rs = records_from ds i 0 ends in
-    let w = window_of limit (length ends) from rs in
-    let r : Record = record { end = end; left = left } in
-    let push = records-push fs i 0 ends end (length ends) (omega arith) in
-    let old = records-below ds fs i 0 ends (λ j l. same j (omega arith)) in
-    let stands : StandsFor w from rs = rw (records-length ds i 0 ends) refl in
-    let s = stands-begin w end left from rs stands in
-    let len1 = length_push rs r in
-    let len2 = length_push ends end in
-    rw (push, old, new) (sym (s ∙ ap (λ k. window_of limit k from (rs ++ r ∷ [])) (len1 ∙ ap (λ k. k + 1) (records-length ds i 0 ends) ∙ sym len2)))
+-- A store that is said to fail would spool.
 
-pub number-ends : (inlets : List Inlet) (i : ℕ) → option_map_or (λ (x : Inlet). length x.ends) (slice_get inlets i) 0 ≡ length (ends_of inlets i)
-number-ends [] i = refl
-number-ends (x ∷ inlets) zero = refl
-number-ends (x ∷ inlets) (suc i) = number-ends inlets i
+pub is-nil : {A : Type 0} (xs : List A) → (xs ≡ []) ⊎ (xs ≢ [])
+is-nil [] = inl refl
+is-nil (x ∷ xs) = inr (λ h. let wrong : x ∷ xs ≡ [] = h in cc)
 
-pub sources-more : (ds fs : List Dest) (i k m end left : ℕ) (inlets : List Inlet) → i + k ≡ m
-    → ((j n : ℕ) → j ≢ m → owed fs j n ≡ owed ds j n) → ((n : ℕ) → n < length (ends_of inlets k) → owed fs m n ≡ owed ds m n)
-    → owed fs m (length (ends_of inlets k)) ≡ left
-    → sources_from fs i (change inlets k (admitted_one end)) ≡ change (sources_from ds i inlets) k (begun_at end left)
-sources-more ds fs i k m end left [] at others same new = refl
-sources-more ds fs i zero m end left (x ∷ inlets) at others same new =
-    let e : i ≡ m = omega arith in
-    let w = window-more ds fs i x.setup.window 0 x.ends end left (λ j l. rw e (same j l)) (rw e new) in
-    let rest = sources-above ds fs (i + 1) inlets (λ j n l. others j n (omega arith)) in
-    rw (w, rest) refl
-sources-more ds fs i (suc k) m end left (x ∷ inlets) at others same new =
-    let ne : i ≢ m = omega arith in
-    let here = records-same ds fs i 0 x.ends (λ j l. others i j ne) in
-    let rest = sources-more ds fs (i + 1) k m end left inlets (omega arith) others same new in
-    rw (here, rest) refl
+long-of : {A : Type 0} (xs : List A) → xs ≢ [] → 0 < length xs
+long-of [] h = absurd (h refl)
+long-of (x ∷ xs) h = omega arith
 
-ends-admit : (inlets : List Inlet) (i end j : ℕ) → length (ends_of inlets j) ≤ length (ends_of (change inlets i (admitted_one end)) j)
-ends-admit [] i end j = omega arith
-ends-admit (x ∷ inlets) zero end zero = let l = length_push x.ends end in omega arith
-ends-admit (x ∷ inlets) zero end (suc j) = omega arith
-ends-admit (x ∷ inlets) (suc i) end zero = omega arith
-ends-admit (x ∷ inlets) (suc i) end (suc j) = ends-admit inlets i end j
+pub none-long : {A : Type 0} (xs : List A) → length xs ≡ 0 → xs ≡ []
+none-long [] h = refl
+none-long (x ∷ xs) h = absurd (omega arith)
 
-ends-admit-itself : (inlets : List Inlet) (i end : ℕ) → i < length inlets → length (ends_of (change inlets i (admitted_one end)) i) ≡ length (ends_of inlets i) + 1
-ends-admit-itself [] i end h = absurd (omega arith)
-ends-admit-itself (x ∷ inlets) zero end h = length_push x.ends end
-ends-admit-itself (x ∷ inlets) (suc i) end h = ends-admit-itself inlets i end (omega arith)
+-- a store that has failed before takes nothing
+pub broken-takes : (s : State) (i : ℕ) (claims : List Claim) (d : ℕ) (dest : Dest) (buffer : BufferSetup) → slice_get s.dests d ≡ Some dest → dest.setup.buffer ≡ Some buffer → is_listed buffer.store s.failed ≡ true
+    → taken_at d i claims (payloads_of i (sinks_of s) claims) ≡ []
+broken-takes s i claims d dest buffer there has l =
+    let sinks = sinks_of s in
+    let sink = slice_get-map (λ (x : Dest). sink_of (is_listed_in x.setup.buffer s.failed) x) s.dests d dest there in
+    let trial = slice_get-map trial_in sinks d (sink_of (is_listed_in dest.setup.buffer s.failed) dest) sink in
+    let none : trial_at (map trial_in sinks) d ≡ None = rw trial (rw has (rw l refl)) in
+    untried d i (buffers_of sinks) (map trial_in sinks) claims none
 
-pub apart_inlet : (origin : Origin) (i n : ℕ) → i ≢ origin.inlet → is_at origin i n ≡ false
-apart_inlet origin i n h = grind arith
+-- as many blocks are staged as entries are taken
+pub staged-count : (old new : CoreState) (s : State) (i next : ℕ) (records : List Admission) (vs : List Verdict) (fails : List Bool) (payloads : List Payload) (d : ℕ) (dest : Dest) (buffer : BufferSetup) → Admitting old new i next records vs fails payloads → IsAt old s
+    → slice_get s.dests d ≡ Some dest → dest.setup.buffer ≡ Some buffer → length (taken_at d i (claims_of records) (payloads_of i (sinks_of s) (claims_of records))) ≡ length (blocks_for (buffers_of old.sinks) buffer.store payloads)
+staged-count old new s i next records vs fails payloads d dest buffer adm at there has =
+    let claims = claims_of records in
+    let sinks = sinks_of s in
+    let is : payloads ≡ payloads_of i sinks claims = adm.payloads_are ∙ ap (λ (ks : List SinkState). payloads_of i ks claims) at.sinks in
+    let len : length claims ≡ length payloads = sym (ap length is ∙ length-payloads i (buffers_of sinks) (map trial_in sinks) claims) in
+    let found = buffer-at-dest s.failed s.dests d dest buffer there has in
+    ap (λ (ps : List Payload). length (taken_at d i claims ps)) (sym is) ∙ length-taken (buffers_of sinks) d i buffer claims payloads (apart-buffers s at.sound.apart) found len
+    ∙ ap (λ (ks : List SinkState). length (blocks_for (buffers_of ks) buffer.store payloads)) (sym at.sinks)
 
-pub apart_number : (origin : Origin) (i n : ℕ) → n ≢ origin.number → is_at origin i n ≡ false
-apart_number origin i n h = grind arith
+-- where a store is said to fail it worked, and something was staged
+pub record Failing (s : State) (i : ℕ) (claims : List Claim) (d : ℕ) (buffer : BufferSetup) (blocks : List (Option (List ℕ))) : Type 0 where
+  pub worked : is_listed buffer.store s.failed ≡ false
+  pub staged : blocks ≢ []
 
-pub admitted-admit : (s : State) (i end : ℕ) (os : List Offer) (vs : List Verdict) → IsSound s → i < length s.inlets → AllWithin (length s.dests) os
-    → (j n : ℕ) → length (ends_of (change s.inlets i (admitted_one end)) j) ≤ n → owed (take_offers (origin_of s i end) s.dests os vs) j n ≡ 0
-admitted-admit s i end os vs sound l w j n m =
-    let origin = origin_of s i end in
-    let num : origin.number ≡ length (ends_of s.inlets i) = number-ends s.inlets i in
-    let longer = ends-admit s.inlets i end j in
-    let old : owed s.dests j n ≡ 0 = sound.admitted j n (omega arith) in
-    elim (cases_eq j i) [
-      | inl e ↦ (
-          let one_more = ends-admit-itself s.inlets i end l in
-          let here : length (ends_of (change s.inlets i (admitted_one end)) i) ≤ n = rw e at m in
-          let ne : n ≢ origin.number = omega arith in
-          owed-others origin s.dests os vs j n w (apart_number origin j n ne) ∙ old)
-      | inr ne ↦ owed-others origin s.dests os vs j n w (apart_inlet origin j n ne) ∙ old
+pub failing-of : (old new : CoreState) (s : State) (i next : ℕ) (records : List Admission) (vs : List Verdict) (fails : List Bool) (payloads : List Payload) (d : ℕ) (dest : Dest) (buffer : BufferSetup) → Admitting old new i next records vs fails payloads → IsAt old s
+    → slice_get s.dests d ≡ Some dest → dest.setup.buffer ≡ Some buffer → DestOf old new s fails payloads d dest buffer → fails_at fails d ≡ true → Failing s i (claims_of records) d buffer (blocks_for (buffers_of old.sinks) buffer.store payloads)
+failing-of old new s i next records vs fails payloads d dest buffer adm at there has x f =
+    let blocks = blocks_for (buffers_of old.sinks) buffer.store payloads in
+    let staged : blocks ≢ [] = λ e. (let wrong : true ≡ false = sym f ∙ (x.appended).quiet e in cc) in
+    record {
+      staged = staged;
+      worked = false_from_ne_true (is_listed buffer.store s.failed) (λ l.
+          let none = ap length (broken-takes s i (claims_of records) d dest buffer there has l) in
+          let count = staged-count old new s i next records vs fails payloads d dest buffer adm at there has in
+          staged (none-long blocks (omega arith)));
+    }
+
+would-fail-at : (old new : CoreState) (s : State) (i : ℕ) (records : List Admission) (vs : List Verdict) (fails : List Bool) (payloads : List Payload) → Admitting old new i (next_of s i) records vs fails payloads → IsAt old s
+    → (d : ℕ) → fails_at fails d ≡ true → (dest : Dest) (buffer : BufferSetup) → slice_get s.dests d ≡ Some dest → dest.setup.buffer ≡ Some buffer → DestOf old new s fails payloads d dest buffer → WouldFail i (sinks_of s) (claims_of records) d
+would-fail-at old new s i records vs fails payloads adm at d f dest buffer there has x =
+    let sink = slice_get-map (λ (y : Dest). sink_of (is_listed_in y.setup.buffer s.failed) y) s.dests d dest there in
+    let failing = failing-of old new s i (next_of s i) records vs fails payloads d dest buffer adm at there has x f in
+    let count = staged-count old new s i (next_of s i) records vs fails payloads d dest buffer adm at there has in
+    let long = long-of (blocks_for (buffers_of old.sinks) buffer.store payloads) failing.staged in
+    record {
+      sink = sink_of (is_listed_in dest.setup.buffer s.failed) dest;
+      buffer = buffer;
+      there = sink;
+      has = has;
+      works = ap (λ (b : Option BufferSetup). is_listed_in b s.failed) has ∙ failing.worked;
+      some = omega arith;
+    }
+
+pub would-fail : (old new : CoreState) (s : State) (i : ℕ) (records : List Admission) (vs : List Verdict) (fails : List Bool) (payloads : List Payload) → Admitting old new i (next_of s i) records vs fails payloads → IsAt old s
+    → (d : ℕ) → fails_at fails d ≡ true → WouldFail i (sinks_of s) (claims_of records) d
+would-fail old new s i records vs fails payloads adm at d f =
+    let sinks = sinks_of s in
+    let claims = claims_of records in
+    let same = ap (λ (ks : List SinkState). buffer_at (buffers_of ks) d) at.sinks in
+    elim (backed-or s.failed s.dests d) [
+      | inl none ↦ absurd (let wrong : true ≡ false = sym f ∙ (adm.appended).unbacked d (same ∙ none) in cc)
+      | inr some ↦ (
+          let x = dest-of old new s i (next_of s i) records vs fails payloads d some.dest some.buffer adm at some.there some.has in
+          would-fail-at old new s i records vs fails payloads adm at d f some.dest some.buffer some.there some.has x)
     ]
-
--- the sources after an admit
-pub sources-admit : (s : State) (i end : ℕ) (os : List Offer) (vs : List Verdict) → IsSound s → i < length s.inlets → AllWithin (length s.dests) os
-    → sources_from (take_offers (origin_of s i end) s.dests os vs) 0 (change s.inlets i (admitted_one end)) ≡ change (sources_from s.dests 0 s.inlets) i (begun_at end (owing_count os vs))
-sources-admit s i end os vs sound l w =
-    let origin = origin_of s i end in
-    let num : origin.number ≡ length (ends_of s.inlets i) = number-ends s.inlets i in
-    let fs = take_offers origin s.dests os vs in
-    let none : owed s.dests i origin.number ≡ 0 = sound.admitted i origin.number (omega arith) in
-    let itself : owed fs i origin.number ≡ owed s.dests i origin.number + owing_count os vs = owed-itself origin s.dests os vs w in
-    let filled : owed fs i origin.number ≡ owing_count os vs = omega arith in
-    let new : owed fs i (length (ends_of s.inlets i)) ≡ owing_count os vs = rw (← num) filled in
-    sources-more s.dests fs 0 i i end (owing_count os vs) s.inlets (omega arith)
-    (λ j n ne. owed-others origin s.dests os vs j n w (apart_inlet origin j n ne))
-    (λ n m. owed-others origin s.dests os vs i n w (apart_number origin i n (let ne : n ≢ origin.number = omega arith in ne)))
-    new
-
-push-not-nil : (xs : List ℕ) (x : ℕ) → xs ++ x ∷ [] ≡ [] → ⊥
-push-not-nil [] x h = cc
-push-not-nil (y ∷ xs) x h = cc
-
-pub unmoved-admit : (s : State) (i end : ℕ) → IsSound s → (j : ℕ) (y : Inlet) → slice_get (change s.inlets i (admitted_one end)) j ≡ Some y → y.ends ≡ [] → y.stored ≡ y.opening
-unmoved-admit s i end sound j y h none =
-    let g = get-change s.inlets i j (admitted_one end) y h in
-    elim g.2 [
-      | inl p ↦ absurd (push-not-nil (g.0).ends end (ap (λ (x : Inlet). x.ends) (sym p.1) ∙ none))
-      | inr p ↦ (
-          let E : Inlet → Type 0 = λ x. x.ends ≡ [] in
-          let S : Inlet → Type 0 = λ x. x.stored ≡ x.opening in
-          subst S (sym p.1) (sound.unmoved j g.0 g.1 (subst E p.1 none)))
-    ]
-
-pub stores-admit : (stores : List StoreState) (s : State) (i end : ℕ) → AreStored stores s.failed s.inlets → AreStored stores (s.failed ++ []) (change s.inlets i (admitted_one end))
-stores-admit stores s i end h j y g =
-    let r = get-change s.inlets i j (admitted_one end) y g in
-    let F : List ℕ → Type 0 = λ xs. IsStored stores xs y.setup.store y.stored in
-    let Y : Inlet → Type 0 = λ x. IsStored stores s.failed x.setup.store x.stored in
-    let before = h j r.0 r.1 in
-    subst F (sym (append-nil s.failed)) (elim r.2 [ inl p ↦ subst Y (sym p.1) before | inr p ↦ subst Y (sym p.1) before ])
-
-pub setups-admit : (s : State) (i end : ℕ) → setups_of (change s.inlets i (admitted_one end)) ≡ setups_of s.inlets
-setups-admit s i end = map-kept (λ (x : Inlet). x.setup) (admitted_one end) s.inlets i (λ x. refl)

@@ -1,21 +1,21 @@
 -- The calls of a core through those that lend them.
 use Rattle.std.proofs.Common.{◌≡◌, ℕ, ◌+◌, ◌<◌, ◌≤◌, List, [], ◌∷◌, ◌++◌, length, Some, None, Option, Ok, Err, IsSome, refl, sym, ap, ◌∙◌, suc, zero, slice_get, subst, map}
 use Rattle.std.proofs.lemmas.List.{append-nil, append_assoc, map-append, length-map}
-use Rattle.sg_msg.specs.declared.offer.Offer.{Offer}
 use Rattle.sg_machine.specs.declared.event.Act.{Act}
 use Rattle.sg_machine.specs.declared.event.Event.{Event}
 use Rattle.sg_machine.specs.declared.state.State.{State}
 use Rattle.sg_machine.specs.declared.setup.SourceSetup.{SourceSetup}
-use Rattle.sg_core.specs.States.{CoreState}
-use Rattle.sg_core.specs.Sources.{store_at}
-use Rattle.sg_core.specs.Offers.{AllWithin}
-use Rattle.sg_core.specs.Standing.{Does, StandsFor, store_in}
-use Rattle.sg_core.specs.Calls.{Serves, Makes, Exchange, acts_in, acts_of}
-use Rattle.sg_core.specs.declared.source.Source.{Source}
-use Rattle.sg_core.specs.declared.calls.CoreCall.{CoreCall}
-use Rattle.sg_core.specs.declared.calls.CoreCall.TheVariants.{Credit, Admit, Front, Settle, Refill, Store}
-use Rattle.sg_core.specs.declared.calls.CoreReply.{CoreReply}
-use Rattle.sg_core.specs.declared.calls.CoreReply.TheVariants.{Credit as CreditReply, Admitted, Front as FrontReply, Settled, Refilled, Stored}
+use Rattle.sg_standing.specs.States.{CoreState}
+use Rattle.sg_standing.specs.Sources.{store_at}
+use Rattle.sg_counter.specs.Bringing.{store_in}
+use Rattle.sg_counter.specs.Exchanges.{Makes, Exchange}
+use Rattle.sg_standing.specs.Standing.{Does, StandsFor}
+use Rattle.sg_core.specs.Calls.{Serves, acts_in, acts_of}
+use Rattle.sg_standing.specs.declared.source.Source.{Source}
+use Rattle.sg_counter.specs.declared.calls.CoreCall.{CoreCall}
+use Rattle.sg_counter.specs.declared.calls.CoreCall.TheVariants.{Credit, Admit, Front, Settle, Refill, Store}
+use Rattle.sg_counter.specs.declared.calls.CoreReply.{CoreReply}
+use Rattle.sg_counter.specs.declared.calls.CoreReply.TheVariants.{Credit as CreditReply, Admitted, Front as FrontReply, Settled, Refilled, Stored}
 
 pub store_in-setups : (xs : List Source) (i : ℕ) → store_in (map (λ (x : Source). x.setup) xs) i ≡ store_at xs i
 store_in-setups [] i = refl
@@ -46,10 +46,10 @@ happens-more new before after start events more acts h = (
 -- a call is the event of its act, or none
 happens-call : (old new : CoreState) (call : CoreCall) (reply : CoreReply) (start : State) (events : List Event) → Serves old call reply new → StandsFor old start events → Happens new (acts_in call reply) start events
 happens-call old new (Credit i) (CreditReply n) start events s stands = happens-none old new start events s.same stands
-happens-call old new (Admit i end offers) (Admitted (Ok verdicts)) start events s stands = happens-one old new _ start events s.does stands
-happens-call old new (Admit i end offers) (Admitted (Err refused)) start events s stands = happens-one old new _ start events s.does stands
-happens-call old new (Front d) (FrontReply result) start events s stands = happens-one old new _ start events s.does stands
-happens-call old new (Settle d place) (Settled result) start events s stands = happens-one old new _ start events s.does stands
+happens-call old new (Admit i records) (Admitted (Ok verdicts)) start events s stands = happens-one old new _ start events s.does stands
+happens-call old new (Admit i records) (Admitted (Err refused)) start events s stands = happens-one old new _ start events s.does stands
+happens-call old new (Front d most) (FrontReply result) start events s stands = happens-one old new _ start events s.does stands
+happens-call old new (Settle d place n) (Settled result) start events s stands = happens-one old new _ start events s.does stands
 happens-call old new (Refill d) (Refilled result) start events s stands = happens-one old new _ start events s.does stands
 happens-call old new (Store i) (Stored result) start events s stands = happens-one old new _ start events s.does stands
 happens-call old new call reply start events s stands = absurd s

@@ -1,12 +1,8 @@
-pub mod States
-pub mod Sources
-pub mod Sinks
-pub mod Stores
-pub mod Standing
+pub mod Admits
 pub mod Answers
 pub mod Calls
-pub mod Offers
 pub mod Opening
-pub mod Whole
 pub mod Parts
-pub mod Images
+pub mod Steps
+pub mod Tallying
+pub mod Whole

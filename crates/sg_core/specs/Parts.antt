@@ -1,47 +1,56 @@
--- The parts of a core at its opening, and their tallies.
-use Rattle.std.specs.Prelude.{◌≡◌, ◌<◌, ℕ, Option, Some, None, List, [], ◌∷◌, length, option_map}
-use Rattle.sg_window.specs.Window.{window_of}
-use Rattle.sg_machine.specs.declared.setup.SourceSetup.{SourceSetup}
-use Rattle.sg_machine.specs.declared.setup.DestSetup.{DestSetup}
-use Rattle.sg_machine.specs.declared.tally.SourceTally.{SourceTally}
-use Rattle.sg_machine.specs.declared.tally.DestTally.{DestTally}
-use Rattle.sg_core.specs.Stores.{StoreState, stored_in}
-use Rattle.sg_core.specs.States.{SinkState}
-use Rattle.sg_core.specs.Sources.{mark_at}
-use Rattle.sg_core.specs.declared.source.Source.{Source}
+-- What calls make of the destinations and sources of a core, one entry after another.
+use Rattle.std.specs.Prelude.{◌≡◌, ◌≤◌, ℕ, ◌+◌, ◌-◌, true, Option, Some, None, List, [], ◌∷◌, ◌++◌, length, map, take, drop, slice_get, zero, suc}
+use Rattle.std.specs.Option.{option_map_or}
+use Rattle.sg_msg.specs.Length.{encoded_len}
+use Rattle.sg_queue.specs.declared.entry.Entry.{Entry}
+use Rattle.sg_machine.specs.declared.setup.BufferSetup.{BufferSetup}
+use Rattle.sg_sinks.specs.Fitting.{space, has_space}
+use Rattle.sg_sinks.specs.States.{SinkState}
+use Rattle.sg_standing.specs.Sources.{CanAck, acks}
+use Rattle.sg_standing.specs.declared.source.Source.{Source}
 
--- a source of no records, which begins at the position in its store
-abbrev pub opened_source : List StoreState → SourceSetup → Source
-opened_source stores setup = record { setup = setup; opening = stored_in stores setup.store; tracker = window_of setup.window 0 0 [] }
+-- the first entries that wait at a destination
+abbrev pub entries_at : List SinkState → ℕ → ℕ → List Entry
+entries_at sinks d n = option_map_or (λ (sink : SinkState). take n sink.entries) (slice_get sinks d) []
 
--- a destination of no entries
-abbrev pub fresh_sink : DestSetup → SinkState
-fresh_sink setup = record { setup = setup; taken = 0; entries = []; dropped_full = 0; dropped_disk = 0 }
+-- so many wait there
+abbrev pub HasWaiting : Option SinkState → ℕ → Type 0
+HasWaiting None n = ⊥
+HasWaiting (Some sink) n = n ≤ length sink.entries
 
--- the store is there, where there is to be one
-abbrev pub IsThere : List StoreState → Option ℕ → Type 0
-IsThere stores None = Unit {0}
-IsThere stores (Some s) = s < length stores
+-- the lengths of those on its disk
+abbrev pub lengths_at : List SinkState → ℕ → List ℕ
+lengths_at sinks d = option_map_or (λ (sink : SinkState). sink.lengths) (slice_get sinks d) []
 
-abbrev pub AreThere : List StoreState → List SourceSetup → Type 0
-AreThere stores [] = Unit {0}
-AreThere stores (setup ∷ setups) = IsThere stores setup.store × AreThere stores setups
+-- so many are left there, on the disk or not
+abbrev pub HasLeft : Option SinkState → ℕ → Type 0
+HasLeft None n = ⊥
+HasLeft (Some sink) n = n ≤ length sink.lengths + length sink.entries
 
--- the window has the number of records that the setup says, and the store is there
-pub record IsFit (stores : List StoreState) (source : Source) : Type 0 where
-  pub limit : source.tracker.limit ≡ source.setup.window
-  pub store : IsThere stores source.setup.store
+-- of the first n that are left those that wait
+abbrev pub settling_at : List SinkState → ℕ → ℕ → List Entry
+settling_at sinks d n = option_map_or (λ (sink : SinkState). take (n - length sink.lengths) sink.entries) (slice_get sinks d) []
 
-abbrev pub AreFit : List StoreState → List Source → Type 0
-AreFit stores [] = Unit {0}
-AreFit stores (source ∷ sources) = IsFit stores source × AreFit stores sources
+-- each can be acknowledged, one after another
+abbrev pub CanAckAll : List Source → List Entry → Type 0
+CanAckAll sources [] = Unit {0}
+CanAckAll sources (e ∷ es) = (e.flow ≡ true → CanAck (slice_get sources e.inlet) e.number) × CanAckAll (acks sources e) es
 
-abbrev pub source_tally_of : List StoreState → Source → SourceTally
-source_tally_of stores source = record {
-  records = source.tracker.begun;
-  mark = mark_at source;
-  stored = option_map (λ _. stored_in stores source.setup.store) source.setup.store;
-}
+-- the first n that wait are settled
+abbrev pub settled_waiting_some : ℕ → SinkState → SinkState
+settled_waiting_some n sink = record sink { taken = sink.taken + n; entries = drop n sink.entries; blocks = drop n sink.blocks }
 
-abbrev pub sink_tally_of : SinkState → DestTally
-sink_tally_of sink = record { taken = sink.taken; dropped_full = sink.dropped_full; dropped_disk = sink.dropped_disk; left = length sink.entries }
+-- or stand on the disk
+abbrev pub moved_some : ℕ → SinkState → SinkState
+moved_some n sink =
+    record sink { lengths = sink.lengths ++ map (λ (e : Entry). encoded_len e.message) (take n sink.entries); entries = drop n sink.entries; blocks = drop n sink.blocks }
+
+-- the first n of these fit, each behind the ones before, where so much is taken
+abbrev pub FitSome : ℕ → ℕ → ℕ → List Entry → Type 0
+FitSome zero capacity used es = Unit {0}
+FitSome (suc n) capacity used [] = ⊥
+FitSome (suc n) capacity used (e ∷ es) = (has_space capacity used (encoded_len e.message) ≡ true) × FitSome n capacity (used + (5 + encoded_len e.message)) es
+
+abbrev pub CanMove : BufferSetup → Option SinkState → ℕ → Type 0
+CanMove buffer None n = ⊥
+CanMove buffer (Some sink) n = (sink.setup.buffer ≡ Some buffer) × FitSome n buffer.capacity (space sink.lengths) sink.entries

@@ -1,19 +1,11 @@
 -- What holds of every core.
-use Rattle.std.specs.Prelude.{◌≤◌, ℕ, ◌*◌, List, [], ◌∷◌}
 use Rattle.sg_machine.specs.declared.state.State.{State}
-use Rattle.sg_core.specs.States.{CoreState}
-use Rattle.sg_core.specs.Standing.{IsAt}
-use Rattle.sg_core.specs.Offers.{AreGiven}
-use Rattle.sg_core.specs.declared.source.Source.{Source}
+use Rattle.sg_offers.specs.Payloads.{buffers_of, AreSmall}
+use Rattle.sg_standing.specs.States.{CoreState}
+use Rattle.sg_standing.specs.Standing.{IsAt}
 
--- no source has begun more records
-abbrev pub AreBegun : ℕ → List Source → Type 0
-AreBegun n [] = Unit {0}
-AreBegun n (source ∷ sources) = (source.tracker.begun ≤ n) × AreBegun n sources
-
--- it is at some state, and each call has brought one record at most, with 1024 offers at most
+-- it is at some state, and no capacity is above 2^30
 pub record IsWhole (core : CoreState) : Type 0 where
   pub state : State
   pub at : IsAt core state
-  pub begun : AreBegun core.calls core.sources
-  pub given : AreGiven (1024 * core.calls) core.sinks
+  pub small : AreSmall (buffers_of core.sinks)

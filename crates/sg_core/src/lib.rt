@@ -1,21 +1,24 @@
-//! The flow core: it takes records in, keeps their messages for the destinations and moves the stored
-//! positions. Each call is one event of the machine.
+//! The flow core: it takes records in, keeps their messages for the destinations, in memory and in
+//! disk-buffers, and moves the stored positions. Each call is one event of the machine.
 #![tactic(auto)]
 
 mod admits;
-mod answers;
-mod calls;
+mod appends;
 mod counter;
 mod flow;
-mod laws;
+mod fronts;
 mod opening;
-mod sink;
-mod source;
-mod stores;
+mod parts;
+mod positions;
+mod refills;
+mod settles;
 mod tallies;
 
-pub use answers::{CoreFront, CoreRefusal, Refill, Refused, Settled, Stored};
-pub use calls::{CoreCall, CoreReply};
-pub use counter::{Counter, calls_are_events};
+pub use counter::calls_are_events;
 pub use flow::Core;
-pub use laws::{images_are_safe, images_open_again, images_within_are_safe};
+pub use sg_counter::{CoreCall, CoreFront, CoreReply, Counter, Refill, Refused, Settled, Stored};
+pub use sg_standing::{
+    images_are_safe, images_between_are_safe, images_open_again, images_within_are_safe,
+    more_stands,
+};
+pub use sg_stores::CoreRefusal;

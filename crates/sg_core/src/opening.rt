@@ -1,43 +1,46 @@
-// Opens the parts of a core.
-ghost use Rattle.std.specs.Prelude.{◌≡◌, ◌≤◌, ◌<◌, ◌+◌, ◌^◌, [], ◌∷◌, ◌++◌, IfOk, IfErr, map, length, vec_capacity};
-ghost use Rattle.sg_core.specs.States.{seen};
-ghost use Rattle.sg_core.specs.Opening.{HaveWindows, AreOpened, IsRefused, refusal_of};
-ghost use Rattle.sg_core.specs.Parts.{fresh_sink, opened_source, IsThere, AreThere};
+// Opens a core.
+ghost use Rattle.std.specs.Prelude.{◌≡◌, ◌≤◌, ◌<◌, ◌+◌, ◌^◌, ℕ, IfOk, IfErr, OnOk, map, length, slice_get, option_map};
+ghost use Rattle.sg_offers.specs.Rooms.{seen_in};
+ghost use Rattle.sg_sinks.specs.Fitting.{space};
+ghost use Rattle.sg_stores.specs.Positions.{IsThere};
+ghost use Rattle.sg_core.specs.Opening.{NumberStores, HaveWindows, HaveCapacities, HaveStores, AreKinds, kind_by, AreThere, opened_source, opened_sink, recovers, lengths_in, CanRecover, AreRecoverable, IsOpen, IsUnopened};
 
-use crate::answers::CoreRefusal;
-use crate::sink::Sink;
-use crate::source::Source;
-use crate::stores::{Store, Stores, put_stores};
+use crate::flow::Core;
+use sg_buffer::{Found, Head};
 use sg_device::Disk;
 use sg_list::Seq;
-use sg_machine::{DestSetup, SourceSetup};
-use sg_queue::Queue;
-use sg_stable::StoreRefusal;
+use sg_machine::{BufferSetup, DestSetup, Setup, SourceSetup};
+use sg_sinks::Sink;
+use sg_standing::Source;
+use sg_stores::{CoreRefusal, Opened, StoreKind, Stores};
 use sg_window::Tracker;
 use std::alloc::{AllocError, Global};
-use std::collections::VecDeque;
 
-fn empty_sink(alloc: Global, setup: DestSetup) -> Sink
-    ensures { seen result ≡ fresh_sink setup }
+// The store of a disk-buffer keeps its entries.
+fn set_kind(kinds: &mut [StoreKind], buffer: BufferSetup)
+    requires { buffer.store < length kinds.old }
+    ensures count { length kinds.new ≡ length kinds.old }
+    ensures kinds { (s : ℕ) → slice_get kinds.new s ≡ option_map (kind_by (Some buffer) s) (slice_get kinds.old s) }
 {
-    Sink {
-        setup,
-        taken: 0,
-        queue: Queue::new(alloc),
-        dropped_full: 0,
-        dropped_disk: 0,
-    }
+    kinds[buffer.store as usize] = StoreKind::Buffer {
+        capacity: buffer.capacity,
+    };
 }
 
-/// The destinations, of no entries yet.
-pub fn empty_sinks(alloc: Global, setups: &[DestSetup]) -> Result<Seq<Sink>, AllocError>
-    ensures { IfOk result (λ sinks. map seen sinks ≡ map fresh_sink setups.now) }
+// What each store keeps: the entries of a disk-buffer, or else a position.
+fn kinds_of(alloc: Global, dests: &[DestSetup], count: usize) -> Result<Vec<StoreKind>, AllocError>
+    requires { HaveStores dests.now count }
+    ensures { IfOk result (λ kinds. AreKinds dests.now count kinds.items) }
 {
-    let mut sinks = Vec::with_capacity(alloc, setups.len())?;
-    for setup in setups {
-        sinks.push(empty_sink(alloc, *setup))?;
+    let mut kinds = vec![in alloc; StoreKind::Position; count]?;
+    let mut d = dests.len();
+    while d > 0 {
+        d -= 1;
+        if let Some(buffer) = dests[d].buffer {
+            set_kind(&mut kinds, buffer);
+        }
     }
-    Ok(Seq::new(sinks))
+    Ok(kinds)
 }
 
 // A source, which begins at the position in its store.
@@ -58,8 +61,7 @@ fn source_at<D: Disk>(
     })
 }
 
-/// The sources, of no records yet. Each begins at the position in its store, at 0 where it has none.
-pub fn sources_at<D: Disk>(
+fn sources_at<D: Disk>(
     alloc: Global,
     setups: &[SourceSetup],
     stores: &Stores<D>,
@@ -75,72 +77,82 @@ pub fn sources_at<D: Disk>(
     Ok(Seq::new(sources))
 }
 
-// What a refused store makes of its number.
-fn refusal_at(s: u32, refusal: StoreRefusal) -> CoreRefusal
-    ensures { result ≡ refusal_of s refusal }
+// Adds the entries that were found to a destination.
+fn recover_all(sink: &mut Sink, heads: &[Head]) -> Result<(), AllocError>
+    requires room { sink.old.room ≡ 0 }
+    requires sum { space sink.old.seen.lengths + space (lengths_in heads.now) < 2 ^ 64 }
+    ensures { OnOk result (sink.new.seen ≡ recovers sink.old.seen heads.now) }
 {
-    match refusal {
-        StoreRefusal::Damage(at) => CoreRefusal::Damage(s, at),
-        StoreRefusal::DiskFault => CoreRefusal::DiskFault(s),
-        StoreRefusal::NoMemory => CoreRefusal::NoMemory,
+    for head in heads {
+        sink.recover(head.length)?;
     }
+    Ok(())
 }
 
-// Puts these disks behind others, where there is room for them.
-fn put_rest<D: Disk>(rest: VecDeque<D>, disks: &mut Vec<D>)
-    requires { length disks.old.items + length rest.items ≤ vec_capacity disks.old }
-    ensures { disks.new.items ≡ disks.old.items ++ rest.items }
+// A destination with the entries of its disk-buffer.
+fn sink_at(alloc: Global, setup: DestSetup, found: &Seq<Found>) -> Result<Sink, AllocError>
+    requires { CanRecover found.now setup.buffer }
+    ensures { IfOk result (λ sink. sink.seen ≡ opened_sink found.now setup) }
 {
-    let mut rest = rest;
-    while let Some(disk) = rest.pop_front() {
-        disks.push_reserved(disk);
+    let mut sink = Sink::new(alloc, setup);
+    if let Some(buffer) = setup.buffer {
+        recover_all(&mut sink, &found.at(buffer.store as usize).heads)?;
     }
-    rest.destroy_empty();
+    Ok(sink)
 }
 
-// The disks of the stores that were opened, the one that was refused, and those behind it.
-fn give_back<D: Disk>(held: Vec<Store<D>>, refused: D, rest: VecDeque<D>, room: Vec<D>) -> Vec<D>
-    requires empty { room.items ≡ [] }
-    requires fits { length held.items + length rest.items < vec_capacity room }
-    ensures { map D.state result.items ≡ map (λ store. store.disk) held.items ++ D.state refused ∷ map D.state rest.items }
-{
-    let mut disks = room;
-    put_stores(held, &mut disks);
-    disks.push_reserved(refused);
-    put_rest(rest, &mut disks);
-    disks
-}
-
-/// Opens the stores, the lowest first. A refusal gives the disks back, in order.
-pub fn open_stores<D: Disk>(
+fn sinks_at(
     alloc: Global,
-    disks: Vec<D>,
-) -> Result<Stores<D>, (Vec<D>, CoreRefusal)>
-    requires { length disks.items < 2 ^ 32 }
-    ensures opened { IfOk result (AreOpened (map D.state disks.items)) }
-    ensures refused { IfErr result (λ e. IsRefused (map D.state disks.items) (map D.state e.0.items) e.1) }
+    setups: &[DestSetup],
+    found: &Seq<Found>,
+) -> Result<Seq<Sink>, AllocError>
+    requires { AreRecoverable found.now setups.now }
+    ensures { IfOk result (λ sinks. seen_in sinks ≡ map (opened_sink found.now) setups.now) }
 {
-    let mut held = match Vec::with_capacity(alloc, disks.len()) {
-        Ok(held) => held,
-        Err(_) => return Err((disks, CoreRefusal::NoMemory)),
-    };
-    let room = match Vec::with_capacity(alloc, disks.len()) {
-        Ok(room) => room,
-        Err(_) => {
-            held.destroy_empty();
-            return Err((disks, CoreRefusal::NoMemory));
-        }
-    };
-    let mut rest = VecDeque::from(disks);
-    while let Some(disk) = rest.pop_front() {
-        match Store::open(disk) {
-            Ok(store) => held.push_reserved(store),
-            Err((disk, refusal)) => {
-                let s = held.len() as u32;
-                return Err((give_back(held, disk, rest, room), refusal_at(s, refusal)));
-            }
-        }
+    let mut sinks = Vec::with_capacity(alloc, setups.len())?;
+    for setup in setups {
+        sinks.push(sink_at(alloc, *setup, found)?)?;
     }
-    rest.destroy_empty();
-    Ok(Stores::new(held, room))
+    Ok(Seq::new(sinks))
+}
+
+impl<D: Disk> Core<D> {
+    /// Opens a core over these stores, which the setup names by their places. Each source begins at the
+    /// position in its store, at 0 where it has none, and each destination with the entries of its
+    /// disk-buffer; those of an older format are spelled anew. A refusal gives the stores back, with what
+    /// they held.
+    pub fn open(
+        alloc: Global,
+        setup: Setup,
+        stores: Vec<D>,
+    ) -> Result<Core<D>, (Vec<D>, CoreRefusal)>
+        requires numbers { NumberStores setup (length stores.items) }
+        requires windows { HaveWindows setup.sources }
+        requires capacities { HaveCapacities setup.dests }
+        requires sources { length setup.sources ≤ 128 }
+        requires dests { length setup.dests ≤ 64 }
+        requires stores { length stores.items ≤ 192 }
+        ensures opened { IfOk result (IsOpen setup (map D.state stores.items)) }
+        ensures refused { IfErr result (λ e. IsUnopened setup (map D.state stores.items) (map D.state e.0.items) e.1) }
+    {
+        let kinds = match kinds_of(alloc, setup.dests.as_slice(), stores.len()) {
+            Ok(kinds) => kinds,
+            Err(_) => return Err((stores, CoreRefusal::NoMemory)),
+        };
+        let Opened { stores, found } = Stores::open(alloc, stores, &kinds)?;
+        let sinks = match sinks_at(alloc, setup.dests.as_slice(), &found) {
+            Ok(sinks) => sinks,
+            Err(_) => return Err((stores.into_disks(), CoreRefusal::NoMemory)),
+        };
+        let sources = match sources_at(alloc, setup.sources.as_slice(), &stores) {
+            Ok(sources) => sources,
+            Err(_) => return Err((stores.into_disks(), CoreRefusal::NoMemory)),
+        };
+        Ok(Core {
+            sources,
+            sinks,
+            stores,
+            calls: 0,
+        })
+    }
 }

@@ -1,28 +1,29 @@
 // The tally of a core.
 ghost use Rattle.std.specs.Prelude.{◌≡◌, IfOk, map};
-ghost use Rattle.sg_core.specs.States.{seen};
-ghost use Rattle.sg_core.specs.Parts.{source_tally_of, sink_tally_of, IsFit, AreFit};
+ghost use Rattle.sg_offers.specs.Rooms.{seen_in};
+ghost use Rattle.sg_core.specs.Tallying.{source_tally_of, sink_tally_of, IsFit, AreFit};
 
-use crate::sink::Sink;
-use crate::source::Source;
-use crate::stores::Stores;
 use sg_device::Disk;
 use sg_machine::{DestTally, SourceTally};
+use sg_sinks::Sink;
+use sg_standing::Source;
+use sg_stores::Stores;
 use std::alloc::{AllocError, Global};
 
 fn tally_sink(sink: &Sink) -> DestTally
-    ensures { result ≡ sink_tally_of (seen sink.now) }
+    ensures { result ≡ sink_tally_of sink.now.seen }
 {
+    let (dropped_full, dropped_disk) = sink.dropped();
     DestTally {
-        taken: sink.taken,
-        dropped_full: sink.dropped_full,
-        dropped_disk: sink.dropped_disk,
-        left: sink.queue.len() as u64,
+        taken: sink.taken(),
+        dropped_full,
+        dropped_disk,
+        left: sink.left(),
     }
 }
 
 pub fn tally_sinks(alloc: Global, sinks: &[Sink]) -> Result<Vec<DestTally>, AllocError>
-    ensures { IfOk result (λ tallies. tallies.items ≡ map sink_tally_of (map seen sinks.now)) }
+    ensures { IfOk result (λ tallies. tallies.items ≡ map sink_tally_of (seen_in sinks.now)) }
 {
     let mut tallies = Vec::with_capacity(alloc, sinks.len())?;
     for sink in sinks {

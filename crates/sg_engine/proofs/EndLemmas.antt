@@ -1,6 +1,7 @@
 -- How a run ends.
 use Rattle.std.proofs.Common.{◌≡◌, ◌≢◌, ℕ, ◌+◌, ◌*◌, ◌-◌, ◌<◌, ◌≤◌, List, [], ◌∷◌, ◌++◌, length, Some, None, Option, Bool, true, false, refl, sym, ap, ◌∙◌, arith, map, slice_get, subst, inl, inr, ◌⊎◌, append_assoc, length-append, if◌then◌else◌}
 use Rattle.std.specs.Prelude.{◌==◌, Result, Ok, Err}
+use Rattle.std.specs.Option.{option_map}
 use Rattle.std.proofs.lemmas.List.{append-nil, length-map}
 use Rattle.sg_device.specs.Inlet.{Part, InletState, IsFresh, Advances}
 use Rattle.sg_device.proofs.Inlets.{advances_trans}
@@ -16,15 +17,15 @@ use Rattle.sg_machine.specs.declared.state.Entry.{Entry}
 use Rattle.sg_machine.specs.declared.state.Dest.{Dest}
 use Rattle.sg_machine.specs.declared.state.State.{State}
 use Rattle.sg_machine.specs.Runs.{after_all}
-use Rattle.sg_core.specs.Stores.{StoreState}
-use Rattle.sg_core.specs.States.{CoreState}
-use Rattle.sg_core.specs.Sources.{credit_at}
-use Rattle.sg_core.specs.Sinks.{first_at}
-use Rattle.sg_core.specs.Standing.{owed, records_from, waiting_at, waiting_from}
-use Rattle.sg_core.proofs.StoreSteps.{mark-same}
+use Rattle.sg_machine.specs.Running.{owed, records_from}
+use Rattle.sg_machine.proofs.StepLemmas.{mark-same}
+use Rattle.sg_sinks.specs.Standing.{waiting_at, waiting_from, lengths_of, are_waiting}
+use Rattle.sg_stores.specs.Stores.{StoreState}
+use Rattle.sg_standing.specs.States.{CoreState}
+use Rattle.sg_standing.specs.Sources.{credit_at}
 use Rattle.sg_engine.specs.Path.{frames}
 use Rattle.sg_engine.specs.Delivery.{line_records, AreFirst, AreAll, TookFirst, TookAll, AreOf, last_end}
-use Rattle.sg_engine.specs.History.{admitted, offer_count, admit_of, end_of, entry_frames, IsTaken, Stands, opening_in, mark_now, stored_now, begun_now, settled_now}
+use Rattle.sg_engine.specs.History.{admitted, offer_count, admit_of, end_of, entry_frames, IsTaken, Stands, first_at, opening_in, mark_now, stored_now, begun_now, settled_now}
 use Rattle.sg_engine.specs.Reading.{IsReady}
 use Rattle.sg_engine.specs.Serving.{GoesOn, HasWorked, IsQuiet, WereRun, AreFew, Concludes, ServesWith, Serves, Blames, HasFailed}
 use Rattle.sg_engine.specs.Turns.{Run, run, one_if, inlet_progress, core_progress, progress, Runs, Stopped, Steps, Stops, HasNothing, Rests, BlamesStore, ended_of, RunsOn, RoundRests, PullsOnce}
@@ -37,7 +38,7 @@ use Rattle.sg_engine.proofs.PathLemmas.{frames-append, entry_frames-append, offe
 use Rattle.sg_engine.proofs.GivenLemmas.{given-fresh}
 use Rattle.sg_engine.proofs.ReadingLemmas.{reads-first, reads-all, reads-few, reads-fresh}
 use Rattle.sg_engine.proofs.StateLemmas.{goes-same, at-begun, at-settled, at-opening, at-mark, at-credit, at-first, at-store}
-use Rattle.sg_engine.proofs.StepLemmas.{Opened, opened, admitted-append, rose-later}
+use Rattle.sg_engine.proofs.StepLemmas.{Opened, opened, waiting-first, admitted-append, rose-later}
 
 -- Frames.
 
@@ -66,9 +67,10 @@ stands-first start events done core taken from told h first =
 
 -- Nothing is left.
 
-none-left : (n : ℕ) (left : List Entry) → slice_get (waiting_from n left) 0 ≡ None → left ≡ []
-none-left n [] h = refl
-none-left n (e ∷ es) h = absurd (let g : Some (waiting_at n e) ≡ None = h in cc)
+none-left : (n : ℕ) (left : List Entry) → are_waiting left ≡ true → slice_get (waiting_from n left) 0 ≡ None → left ≡ []
+none-left n [] waits h = refl
+none-left n (e ∷ es) waits h =
+    absurd (let g : Some e.message ≡ None = sym (waiting-first n e es waits) ∙ ap (λ o. option_map (λ (q : Waiting). q.message) o) h in cc)
 
 owed-none : (dest : Dest) (left : List Entry) (i n : ℕ) → dest.left ≡ left → left ≡ [] → owed (dest ∷ []) i n ≡ 0
 owed-none dest left i n is none = rw (is, none) refl
@@ -93,7 +95,7 @@ pub emptied : (start : State) (events : List Event) (done : List Record) (core :
     → first_at core.sinks 0 ≡ None → Empty core done taken
 emptied start events done core taken h none =
     let o = opened start events done core taken h in
-    let left : o.dest.left ≡ [] = none-left (length o.dest.settled) o.dest.left (sym (at-first core o.inlet o.dest o.failed o.at) ∙ none) in
+    let left : o.dest.left ≡ [] = none-left (length o.dest.settled + length (lengths_of o.dest.left)) o.dest.left o.waits (sym (at-first core o.inlet o.dest o.failed o.at) ∙ none) in
     let owed' : (m : ℕ) → owed (o.dest ∷ []) 0 m ≡ 0 = λ m. owed-none o.dest o.dest.left 0 m refl left in
     let waits : length (outstanding (records_from (o.dest ∷ []) 0 0 o.inlet.ends)) ≡ 0 = ap length (outstanding-none (o.dest ∷ []) 0 0 o.inlet.ends owed') in
     let credit : credit_at core.sources 0 ≡ o.inlet.setup.window - length (outstanding (records_from (o.dest ∷ []) 0 0 o.inlet.ends)) = at-credit core o.inlet o.dest o.failed o.at in

@@ -10,6 +10,7 @@ use Rattle.sg_frame.specs.Framing.{Gives, items_left}
 use Rattle.sg_frame.specs.Records.{Record, record_of}
 use Rattle.sg_msg.specs.Message.{Content}
 use Rattle.sg_msg.specs.declared.offer.Offer.{Offer}
+use Rattle.sg_machine.specs.declared.event.Admission.{Admission}
 use Rattle.sg_queue.specs.declared.entry.Entry.{Entry as Waiting}
 use Rattle.sg_machine.specs.declared.event.Act.{Act}
 use Rattle.sg_machine.specs.declared.event.Act.TheVariants.{Admit, Settle, Store, Look}
@@ -17,13 +18,12 @@ use Rattle.sg_machine.specs.declared.event.Event.{Event}
 use Rattle.sg_machine.specs.declared.event.Verdict.{Verdict}
 use Rattle.sg_machine.specs.declared.state.State.{State}
 use Rattle.sg_machine.specs.Runs.{after_all}
-use Rattle.sg_core.specs.Stores.{StoreState}
-use Rattle.sg_core.specs.States.{CoreState}
-use Rattle.sg_core.specs.Sinks.{first_at}
-use Rattle.sg_core.specs.Standing.{Does, IsAt, setup_of}
+use Rattle.sg_stores.specs.Stores.{StoreState}
+use Rattle.sg_standing.specs.States.{CoreState, setup_of}
+use Rattle.sg_standing.specs.Standing.{Does, IsAt}
 use Rattle.sg_engine.specs.Path.{path_setup, offers_of, frame_of}
 use Rattle.sg_engine.specs.Delivery.{AreFirst}
-use Rattle.sg_engine.specs.History.{Stands, opening_in, mark_now, stored_now}
+use Rattle.sg_engine.specs.History.{Stands, admit_of, first_at, opening_in, mark_now, stored_now}
 use Rattle.sg_engine.specs.Reading.{Reads, IsReady}
 use Rattle.sg_engine.specs.Serving.{GoesOn, HasWorked, StoreRose}
 use Rattle.sg_engine.specs.Turns.{Run, run, inlet_progress, core_progress, progress, Runs, Stopped, BlamesStore, BlamesInlet, Steps, Stops, RunsOn, ReadsOn, IsMemory, Admits}
@@ -189,11 +189,11 @@ steps-read more core feed feed' reader reader' taken h = λ begin least start ev
 
 -- a record that is admitted
 pub steps-admit : (core core' : CoreState) (feed : InletState) (reader reader' : Reader) (taken : Option (List (List ℕ))) (item : Item) (verdicts : List Verdict)
-    → Does core core' (Admit 0 (record_of feed.from feed.peer item).item.end (offers_of (record_of feed.from feed.peer item)) verdicts)
+    → Does core core' (Admit 0 (admit_of (record_of feed.from feed.peer item) ∷ []) verdicts)
     → Gives reader.framer reader'.framer item → reader'.ended ≡ reader.ended → Steps 1 (run core feed reader taken) (run core' feed reader' taken)
 steps-admit core core' feed reader reader' taken item verdicts does gives ended = λ begin least start events done r.
     let x : Record = record_of feed.from feed.peer item in
-    let act : Act = Admit 0 x.item.end (offers_of x) verdicts in
+    let act : Act = Admit 0 (admit_of x ∷ []) verdicts in
     let m = admit-moves start events done core core' taken x verdicts does r.stands in
     let w = store-goes (slice_get begin.stores 0) core core' act (after_all start events) does r.stands.setup r.stands.stands.at r.goes r.works in
     let before : least ≤ inlet_progress feed reader.ended + core_progress core = r.progress in
@@ -223,11 +223,11 @@ pub steps-look : (core core' : CoreState) (feed : InletState) (reader : Reader) 
 steps-look core core' feed reader taken does =
     steps-core 0 core core' feed reader taken taken Look does (λ start events done h. look-moves start events done core core' taken does h)
 
-pub steps-settle : (core core' : CoreState) (feed : InletState) (reader : Reader) (taken taken' : Option (List (List ℕ))) (message : Content) → Does core core' (Settle 0)
-    → option_map (λ (q : Waiting). q.message) (first_at core.sinks 0) ≡ Some message → taken' ≡ option_map (λ fs. fs ++ frame_of message ∷ []) taken
+pub steps-settle : (core core' : CoreState) (feed : InletState) (reader : Reader) (taken taken' : Option (List (List ℕ))) (message : Content) → Does core core' (Settle 0 1)
+    → ((state : State) → IsAt core state → option_map (λ (q : Waiting). q.message) (first_at core.sinks 0) ≡ Some message) → taken' ≡ option_map (λ fs. fs ++ frame_of message ∷ []) taken
     → Steps 1 (run core feed reader taken) (run core' feed reader taken')
 steps-settle core core' feed reader taken taken' message does front more =
-    steps-core 1 core core' feed reader taken taken' (Settle 0) does (λ start events done h. settle-moves start events done core core' taken taken' message does h front more)
+    steps-core 1 core core' feed reader taken taken' (Settle 0 1) does (λ start events done h. settle-moves start events done core core' taken taken' message does h (front (after_all start events) h.stands.at) more)
 
 -- the store has failed
 rose-failed : (first now : Option StoreState) → Works first now → option_map (λ (s : StoreState). s.failed) now ≡ Some true → StoreRose first now
@@ -258,7 +258,7 @@ stops-sent stop core core' feed reader taken does ready other =
 
 -- the item of the framer is admitted with its offers
 pub steps-taken : (core core' : CoreState) (feed : InletState) (reader reader' : Reader) (taken : Option (List (List ℕ))) (item : Item) (end : ℕ) (offers : List Offer) (peer : List ℕ)
-    → Admits core core' end offers (Ok tt) → end ≡ reader.from + item.end → IsReady feed reader
+    → Admits core core' (record { end = end; offers = offers } ∷ []) (Ok tt) → end ≡ reader.from + item.end → IsReady feed reader
     → offers ≡ offers_of (record { peer = peer; item = record { text = item.text; at = item.at; end = 0 } }) → peer ≡ feed.peer
     → Gives reader.framer reader'.framer item → reader'.ended ≡ reader.ended → Steps 1 (run core feed reader taken) (run core' feed reader' taken)
 steps-taken core core' feed reader reader' taken item end offers peer (verdicts, does) end-is ready offers-is peer-is gives ended =
@@ -266,4 +266,4 @@ steps-taken core core' feed reader reader' taken item end offers peer (verdicts,
     let e : end ≡ feed.from + item.end = end-is ∙ ap (λ n. n + item.end) ready.from in
     let o : offers ≡ offers_of x = offers-is ∙ ap (λ p. offers_of (record { peer = p; item = item })) peer-is in
     steps-admit core core' feed reader reader' taken item verdicts
-    (subst (λ n. Does core core' (Admit 0 n (offers_of x) verdicts)) e (subst (λ os. Does core core' (Admit 0 end os verdicts)) o does)) gives ended
+    (subst (λ n. Does core core' (Admit 0 (record { end = n; offers = offers_of x } ∷ []) verdicts)) e (subst (λ os. Does core core' (Admit 0 (record { end = end; offers = os } ∷ []) verdicts)) o does)) gives ended

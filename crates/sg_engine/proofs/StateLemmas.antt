@@ -3,6 +3,7 @@ use Rattle.std.proofs.Common.{◌≡◌, ◌≢◌, ℕ, ◌+◌, ◌-◌, ◌<�
 use Rattle.std.specs.Prelude.{◌==◌, IsSome}
 use Rattle.sg_list.specs.Lists.{change}
 use Rattle.sg_machine.specs.declared.setup.SourceSetup.{SourceSetup}
+use Rattle.sg_machine.specs.declared.setup.BufferSetup.{BufferSetup}
 use Rattle.sg_machine.specs.declared.setup.DestSetup.{DestSetup}
 use Rattle.sg_machine.specs.declared.state.Inlet.{Inlet}
 use Rattle.sg_machine.specs.declared.state.Dest.{Dest}
@@ -11,17 +12,22 @@ use Rattle.sg_machine.specs.Verdicts.{is_listed}
 use Rattle.sg_machine.specs.Marks.{mark_of}
 use Rattle.sg_device.specs.Disk.{DiskState, Moves}
 use Rattle.sg_machine.specs.declared.event.Act.{Act}
-use Rattle.sg_core.specs.Stores.{StoreState, Goes, position_of, stored_in}
-use Rattle.sg_core.specs.States.{CoreState, SinkState}
-use Rattle.sg_core.specs.Sources.{mark_in, begun_in, credit_at, store_at}
-use Rattle.sg_core.specs.Sinks.{taken_at, first_at}
-use Rattle.sg_core.specs.Standing.{records_from, waiting_from, source_of, sources_from, sink_of, HoldsPosition, IsStored, AllGo, Does, IsAt, setup_of}
-use Rattle.sg_core.specs.declared.source.Source.{Source}
-use Rattle.sg_core.proofs.StoreSteps.{mark-at}
+use Rattle.sg_machine.specs.Running.{records_from}
+use Rattle.sg_sinks.specs.States.{SinkState}
+use Rattle.sg_sinks.specs.Laws.{is_listed_in}
+use Rattle.sg_sinks.specs.Standing.{lengths_of, waiting_from, sink_of, are_waiting, is_split_by}
+use Rattle.sg_stores.specs.Stores.{StoreState, Goes, AllGo}
+use Rattle.sg_stores.specs.Positions.{position_of, stored_in}
+use Rattle.sg_core.specs.Answers.{buffer_at}
+use Rattle.sg_standing.specs.States.{CoreState, setup_of}
+use Rattle.sg_standing.specs.Sources.{mark_in, begun_in, credit_at, store_at}
+use Rattle.sg_standing.specs.Standing.{source_of, sources_from, is_broken, HoldsPosition, IsStored, Does, IsAt}
+use Rattle.sg_standing.specs.declared.source.Source.{Source}
+use Rattle.sg_core.proofs.PositionSteps.{mark-at}
 use Rattle.sg_window.specs.Window.{outstanding}
 use Rattle.sg_engine.specs.Path.{path_setup}
 use Rattle.sg_engine.specs.Turns.{Calls}
-use Rattle.sg_engine.specs.History.{opening_in, opening_at, mark_now, stored_now, begun_now, settled_now}
+use Rattle.sg_engine.specs.History.{taken_at, first_at, opening_in, opening_at, mark_now, stored_now, begun_now, settled_now}
 
 -- a state of one inlet and one destination
 abbrev pub made : Inlet → Dest → List ℕ → State
@@ -36,6 +42,7 @@ pub record Shape (core : CoreState) (state : State) : Type 0 where
   pub window : inlet.setup.window ≡ 100
   pub store : inlet.setup.store ≡ Some 0
   pub buffer : dest.setup.buffer ≡ None
+  pub waits : are_waiting dest.left ≡ true
 
 record OneInlet (inlets : List Inlet) (setup : SourceSetup) : Type 0 where
   pub inlet : Inlet
@@ -49,23 +56,34 @@ one-inlet dests i (x ∷ []) s h = let e : x.setup ∷ [] ≡ s ∷ [] = h in re
 one-inlet dests i (x ∷ y ∷ inlets) s h =
     let e : x.setup ∷ y.setup ∷ map (λ (source : Source). source.setup) (sources_from dests (i + 1 + 1) inlets) ≡ s ∷ [] = h in absurd cc
 
+-- what the core keeps of the destinations
+abbrev pub sinks_at : List ℕ → List Dest → List SinkState
+sinks_at failed dests = map (λ dest. sink_of (is_broken failed dest) dest) dests
+
 record OneDest (dests : List Dest) (setup : DestSetup) : Type 0 where
   pub dest : Dest
   pub only : dests ≡ dest ∷ []
   pub setup_is : dest.setup ≡ setup
 
-one-dest : (dests : List Dest) (s : DestSetup) → map (λ (sink : SinkState). sink.setup) (map sink_of dests) ≡ s ∷ [] → OneDest dests s
-one-dest [] s h = let e : [] ≡ s ∷ [] = h in absurd cc
-one-dest (x ∷ []) s h = let e : x.setup ∷ [] ≡ s ∷ [] = h in record { dest = x; only = refl; setup_is = cc }
-one-dest (x ∷ y ∷ dests) s h =
-    let e : x.setup ∷ y.setup ∷ map (λ (sink : SinkState). sink.setup) (map sink_of dests) ≡ s ∷ [] = h in absurd cc
+one-dest : (failed : List ℕ) (dests : List Dest) (s : DestSetup) → map (λ (sink : SinkState). sink.setup) (sinks_at failed dests) ≡ s ∷ [] → OneDest dests s
+one-dest failed [] s h = let e : [] ≡ s ∷ [] = h in absurd cc
+one-dest failed (x ∷ []) s h = let e : x.setup ∷ [] ≡ s ∷ [] = h in record { dest = x; only = refl; setup_is = cc }
+one-dest failed (x ∷ y ∷ dests) s h =
+    let e : x.setup ∷ y.setup ∷ map (λ (sink : SinkState). sink.setup) (sinks_at failed dests) ≡ s ∷ [] = h in absurd cc
+
+-- a queue in memory has no store that fails
+pub broken-none : (failed : List ℕ) (dest : Dest) → dest.setup.buffer ≡ None → is_broken failed dest ≡ false
+broken-none failed dest none = ap (λ b. is_listed_in b failed) none
+
+pub sinks-still : (f g : List ℕ) (dest : Dest) → dest.setup.buffer ≡ None → sinks_at f (dest ∷ []) ≡ sinks_at g (dest ∷ [])
+sinks-still f g dest none = ap (λ b. sink_of b dest ∷ []) (broken-none f dest none ∙ sym (broken-none g dest none))
 
 pub shape : (core : CoreState) (state : State) → IsAt core state → setup_of core ≡ path_setup → Shape core state
 shape core state at setup =
     let sources = ap (λ s. s.sources) setup in
     let dests = ap (λ s. s.dests) setup in
     let one = one-inlet state.dests 0 state.inlets _ (ap (λ xs. map (λ (source : Source). source.setup) xs) (sym at.sources) ∙ sources) in
-    let two = one-dest state.dests _ (ap (λ xs. map (λ (sink : SinkState). sink.setup) xs) (sym at.sinks) ∙ dests) in
+    let two = one-dest state.failed state.dests _ (ap (λ xs. map (λ (sink : SinkState). sink.setup) xs) (sym at.sinks) ∙ dests) in
     let is : state ≡ made one.inlet two.dest state.failed = ap (λ xs. record { inlets = xs; dests = state.dests; failed = state.failed }) one.only ∙ ap (λ xs. record { inlets = one.inlet ∷ []; dests = xs; failed = state.failed }) two.only in
     record {
       inlet = one.inlet;
@@ -76,6 +94,9 @@ shape core state at setup =
       window = ap (λ s. s.window) one.setup_is;
       store = ap (λ s. s.store) one.setup_is;
       buffer = ap (λ s. s.buffer) two.setup_is;
+      waits = (let P : Option BufferSetup → Type 0 = λ b. is_split_by b two.dest.left ≡ true in
+          let none : two.dest.setup.buffer ≡ None = ap (λ s. s.buffer) two.setup_is in
+          subst P none (at.sound.split 0 two.dest (ap (λ ds. slice_get ds 0) two.only)));
     }
 
 -- What the core has, by its state.
@@ -97,7 +118,7 @@ pub at-credit : (core : CoreState) (inlet : Inlet) (dest : Dest) (failed : List 
 at-credit core inlet dest failed at = ap (λ xs. credit_at xs 0) at.sources
 
 pub at-first : (core : CoreState) (inlet : Inlet) (dest : Dest) (failed : List ℕ) → IsAt core (made inlet dest failed)
-    → first_at core.sinks 0 ≡ slice_get (waiting_from (length dest.settled) dest.left) 0
+    → first_at core.sinks 0 ≡ slice_get (waiting_from (length dest.settled + length (lengths_of dest.left)) dest.left) 0
 at-first core inlet dest failed at = ap (λ xs. first_at xs 0) at.sinks
 
 -- the store is there, with the stored position, and has failed where it is listed
@@ -110,7 +131,7 @@ pub record Held (core : CoreState) (inlet : Inlet) (failed : List ℕ) : Type 0 
 held-some : (stores : List StoreState) (o : Option StoreState) (position : ℕ) (failed : Bool) → HoldsPosition o position failed
     → (store : StoreState) × ((o ≡ Some store) × ((store.position ≡ position) × (store.failed ≡ failed)))
 held-some stores None position failed h = absurd h
-held-some stores (Some store) position failed h = (store, (refl, (h.0, h.1)))
+held-some stores (Some store) position failed h = (store, (refl, (h.position_is, h.failed_is)))
 
 pub at-store : (core : CoreState) (inlet : Inlet) (dest : Dest) (failed : List ℕ) → IsAt core (made inlet dest failed) → inlet.setup.store ≡ Some 0 → Held core inlet failed
 at-store core inlet dest failed at store =
@@ -130,7 +151,7 @@ one-source [] s h = let e : [] ≡ s ∷ [] = h in absurd cc
 one-source (x ∷ []) s h = refl
 one-source (x ∷ y ∷ xs) s h = let e : x.setup ∷ y.setup ∷ map (λ (source : Source). source.setup) xs ≡ s ∷ [] = h in absurd cc
 
-one-sink : (xs : List SinkState) (s : DestSetup) → map (λ (sink : SinkState). sink.setup) xs ≡ s ∷ [] → length xs ≡ 1
+pub one-sink : (xs : List SinkState) (s : DestSetup) → map (λ (sink : SinkState). sink.setup) xs ≡ s ∷ [] → length xs ≡ 1
 one-sink [] s h = let e : [] ≡ s ∷ [] = h in absurd cc
 one-sink (x ∷ []) s h = refl
 one-sink (x ∷ y ∷ xs) s h = let e : x.setup ∷ y.setup ∷ map (λ (sink : SinkState). sink.setup) xs ≡ s ∷ [] = h in absurd cc
@@ -140,6 +161,13 @@ sources-count core setup = one-source core.sources _ (ap (λ s. s.sources) setup
 
 pub sinks-count : (core : CoreState) → setup_of core ≡ path_setup → length core.sinks ≡ 1
 sinks-count core setup = one-sink core.sinks _ (ap (λ s. s.dests) setup)
+
+sink-buffer : (xs : List SinkState) (s : DestSetup) → map (λ (sink : SinkState). sink.setup) xs ≡ s ∷ [] → s.buffer ≡ None → buffer_at xs 0 ≡ None
+sink-buffer [] s h is = let e : [] ≡ s ∷ [] = h in absurd cc
+sink-buffer (x ∷ xs) s h is = let e : x.setup ∷ map (λ (sink : SinkState). sink.setup) xs ≡ s ∷ [] = h in let g : x.setup ≡ s = cc in ap (λ t. t.buffer) g ∙ is
+
+pub no-buffer : (core : CoreState) → setup_of core ≡ path_setup → buffer_at core.sinks 0 ≡ None
+no-buffer core setup = sink-buffer core.sinks _ (ap (λ s. s.dests) setup) refl
 
 source-store : (xs : List Source) (s : SourceSetup) (n : ℕ) → map (λ (source : Source). source.setup) xs ≡ s ∷ [] → s.store ≡ Some n → store_at xs 0 ≡ Some n
 source-store [] s n h is = let e : [] ≡ s ∷ [] = h in absurd cc
@@ -186,6 +214,9 @@ all-go-then a b c h k = record {
 
 pub calls-same : (a : CoreState) (n : ℕ) → setup_of a ≡ path_setup → Calls a a n
 calls-same a n setup = record { setup = setup; calls = omega arith; later = omega arith; stores = all-go-same a.stores }
+
+pub calls-does : (a b : CoreState) (act : Act) → Does a b act → setup_of a ≡ path_setup → Calls a b 1
+calls-does a b act does setup = record { setup = does.setup ∙ setup; calls = omega (arith, does.calls); later = omega (arith, does.calls); stores = does.goes }
 
 pub calls-then : (a b c : CoreState) (n m k : ℕ) → n + m ≤ k → Calls a b n → Calls b c m → Calls a c k
 calls-then a b c n m k le h g = record { setup = g.setup; calls = omega (arith, h.calls, g.calls); later = omega (arith, h.later, g.later); stores = all-go-then a.stores b.stores c.stores h.stores g.stores }

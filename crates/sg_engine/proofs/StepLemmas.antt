@@ -1,6 +1,6 @@
 -- What one event of the core does to a run over the log path.
-use Rattle.std.proofs.Common.{◌≡◌, ◌≢◌, ℕ, ◌+◌, ◌*◌, ◌-◌, ◌<◌, ◌≤◌, List, [], ◌∷◌, ◌++◌, length, Some, None, Option, Bool, true, false, not, ◌&&◌, ◌||◌, refl, sym, ap, ◌∙◌, arith, suc, zero, map, slice_get, subst, inl, inr, ◌⊎◌, if◌then◌else◌, append_assoc, length-append, min, ◌^◌}
-use Rattle.std.specs.Prelude.{◌==◌, option_and_then}
+use Rattle.std.proofs.Common.{◌≡◌, ◌≢◌, ℕ, ◌+◌, ◌*◌, ◌-◌, ◌<◌, ◌≤◌, List, [], ◌∷◌, ◌++◌, length, Some, None, Option, Bool, true, false, not, ◌&&◌, ◌||◌, refl, sym, ap, ◌∙◌, arith, suc, zero, map, slice_get, subst, inl, inr, ◌⊎◌, if◌then◌else◌, append_assoc, length-append, min, ◌^◌, take, drop}
+use Rattle.std.specs.Prelude.{◌==◌, nat_le, is_some, option_and_then}
 use Rattle.std.specs.Option.{option_map, option_map_or}
 use Rattle.std.proofs.lemmas.List.{append-nil, map-append}
 use Rattle.std.proofs.lemmas.Bool.{cases_eq}
@@ -11,32 +11,33 @@ use Rattle.sg_msg.specs.Message.{Content}
 use Rattle.sg_msg.specs.declared.offer.Offer.{Offer}
 use Rattle.sg_queue.specs.declared.entry.Entry.{Entry as Waiting}
 use Rattle.sg_machine.specs.declared.event.Act.{Act}
+use Rattle.sg_machine.specs.declared.event.Admission.{Admission}
 use Rattle.sg_machine.specs.declared.event.Act.TheVariants.{Admit, Settle, Store, Look}
 use Rattle.sg_machine.specs.declared.event.Event.{Event}
 use Rattle.sg_machine.specs.declared.event.Verdict.{Verdict}
 use Rattle.sg_machine.specs.declared.event.Verdict.TheVariants.{Queued, Spooled, Waits, DroppedFull, DroppedDisk}
 use Rattle.sg_machine.specs.declared.setup.BufferSetup.{BufferSetup}
-use Rattle.sg_machine.specs.declared.state.Origin.{Origin}
 use Rattle.sg_machine.specs.declared.state.Entry.{Entry}
 use Rattle.sg_machine.specs.declared.state.Inlet.{Inlet}
 use Rattle.sg_machine.specs.declared.state.Dest.{Dest}
 use Rattle.sg_machine.specs.declared.state.State.{State}
-use Rattle.sg_machine.specs.Verdicts.{is_listed, judged, judged_by, take_offers, take_offer, keep}
+use Rattle.sg_machine.specs.Verdicts.{Claim, claims_of, origin_of, is_listed, judged, judged_by, take_claims, take_offer, keep}
 use Rattle.sg_machine.specs.Marks.{mark_of}
 use Rattle.sg_machine.specs.Legal.{is_nil, is_same_list, is_legal_act, may_admit, may_settle, at_most_this, store_of}
-use Rattle.sg_machine.specs.Effects.{origin_of, admitted_one, settle_first, settled_one, stored_at, after_act, after}
+use Rattle.sg_machine.specs.Effects.{admitted as admitted_in, settled_some, stored_at, after_act, after}
+use Rattle.sg_machine.specs.Running.{ends_at}
 use Rattle.sg_machine.specs.Runs.{after_all}
 use Rattle.sg_machine.proofs.RunLemmas.{after_all-append, both-true}
-use Rattle.sg_core.specs.Stores.{StoreState, Goes}
-use Rattle.sg_core.specs.States.{CoreState}
-use Rattle.sg_core.specs.Sinks.{first_at}
-use Rattle.sg_core.specs.Standing.{waiting_at, waiting_from, ends_of, StandsFor, Does, IsAt, setup_of}
+use Rattle.sg_sinks.specs.Standing.{waiting_at, waiting_from, lengths_of, are_waiting}
+use Rattle.sg_stores.specs.Stores.{StoreState, Goes}
+use Rattle.sg_standing.specs.States.{CoreState, setup_of}
+use Rattle.sg_standing.specs.Standing.{StandsFor, Does, IsAt}
 use Rattle.sg_engine.specs.Path.{path_setup, message_of, offers_by, offers_of, frame_of, frames_by, frames}
-use Rattle.sg_engine.specs.History.{Admitted, admitted_by, admitted, admit_of, end_of, settled_in, left_in, entry_frames, settled_frames, kept_frames, IsTaken, Stands, opening_in, mark_now, stored_now, begun_now, settled_now}
+use Rattle.sg_engine.specs.History.{first_at, admitted_by, admitted, admit_of, end_of, settled_in, left_in, entry_frames, settled_frames, kept_frames, IsTaken, Stands, opening_in, mark_now, stored_now, begun_now, settled_now}
 use Rattle.sg_engine.specs.Serving.{GoesOn, HasWorked}
 use Rattle.sg_engine.specs.Turns.{one_if, core_progress}
 use Rattle.sg_engine.proofs.PathLemmas.{frame-of, frames-push, entry_frames-append}
-use Rattle.sg_engine.proofs.StateLemmas.{goes-then, made, Shape, shape, Held, at-begun, at-settled, at-opening, at-mark, at-first, at-store, at-stored}
+use Rattle.sg_engine.proofs.StateLemmas.{goes-then, sinks-still, made, Shape, shape, Held, at-begun, at-settled, at-opening, at-mark, at-first, at-store, at-stored}
 
 -- A run's events.
 
@@ -57,6 +58,7 @@ pub record Opened (start : State) (events : List Event) (done : List Record) (co
   pub window : inlet.setup.window ≡ 100
   pub store : inlet.setup.store ≡ Some 0
   pub buffer : dest.setup.buffer ≡ None
+  pub waits : are_waiting dest.left ≡ true
   pub ends : inlet.ends ≡ map end_of done
   pub kept : entry_frames (dest.settled ++ dest.left) ≡ frames done
   pub sent : IsTaken taken (entry_frames dest.settled)
@@ -75,7 +77,8 @@ opened start events done core taken h =
       window = s.window;
       store = s.store;
       buffer = s.buffer;
-      ends = ap (λ t. ends_of t.inlets 0) (sym s.is) ∙ h.ends;
+      waits = s.waits;
+      ends = ap (λ t. ends_at t.inlets 0) (sym s.is) ∙ h.ends;
       kept = ap kept_frames (sym s.is) ∙ h.kept;
       sent = subst P (ap settled_frames s.is) h.sent;
     }
@@ -99,7 +102,7 @@ closed start events e done core taken state inlet dest failed stands setup one c
       one = one;
       counted = counted;
       admitted = admits;
-      ends = ap (λ t. ends_of t.inlets 0) now ∙ ends;
+      ends = ap (λ t. ends_at t.inlets 0) now ∙ ends;
       kept = ap kept_frames now ∙ kept;
       sent = subst P (sym (ap settled_frames now)) sent;
     }
@@ -148,7 +151,7 @@ look-same old new state does setup at =
     let s = shape old state at setup in
     let now = (does.step (made s.inlet s.dest s.failed) s.at).1 in (
       now.sources ∙ sym s.at.sources,
-      now.sinks ∙ sym s.at.sinks,
+      now.sinks ∙ sinks-still (s.failed ++ does.failed) s.failed s.dest s.buffer ∙ sym s.at.sinks,
       at-stored new s.inlet s.dest (s.failed ++ does.failed) now s.store ∙ sym (at-stored old s.inlet s.dest s.failed s.at s.store),
     )
 
@@ -184,15 +187,26 @@ store-moves start events done old new taken w does h is differs =
 
 -- Settled entries.
 
+first-case : (n : ℕ) (e : Entry) (es : List Entry) (spooled : Bool) → e.spooled ≡ spooled → not spooled ≡ true
+    → option_map (λ (q : Waiting). q.message) (slice_get (waiting_from n (e ∷ es)) 0) ≡ Some e.message
+first-case n e es true is waits = absurd (let h : false ≡ true = waits in cc)
+first-case n e es false is waits = rw is refl
+
+-- none is spooled, so the first that waits is the first
+pub waiting-first : (n : ℕ) (e : Entry) (es : List Entry) → are_waiting (e ∷ es) ≡ true → option_map (λ (q : Waiting). q.message) (slice_get (waiting_from n (e ∷ es)) 0) ≡ Some e.message
+waiting-first n e es h =
+    let here = both-true (not e.spooled && is_some e.number) (are_waiting es) h in
+    first-case n e es e.spooled refl (both-true (not e.spooled) (is_some e.number) here.0).0
+
 record First (dest : Dest) : Type 0 where
   entry : Entry
   rest : List Entry
   left : dest.left ≡ entry ∷ rest
-  after : settled_one dest ≡ record dest { settled = dest.settled ++ entry ∷ []; left = rest }
+  after : settled_some 1 dest ≡ record dest { settled = dest.settled ++ entry ∷ []; left = rest }
 
-first-entry : (dest : Dest) (left : List Entry) → dest.left ≡ left → not (is_nil left) ≡ true → First dest
+first-entry : (dest : Dest) (left : List Entry) → dest.left ≡ left → nat_le 1 (length left) ≡ true → First dest
 first-entry dest [] is some = absurd (let e : false ≡ true = some in cc)
-first-entry dest (x ∷ rest) is some = record { entry = x; rest = rest; left = is; after = ap (λ l. settle_first l dest) is }
+first-entry dest (x ∷ rest) is some = record { entry = x; rest = rest; left = is; after = ap (λ l. record dest { settled = dest.settled ++ take 1 l; left = drop 1 l }) is }
 
 settled-frames : (settled rest : List Entry) (e : Entry) (frames' : List (List ℕ)) (message : Content) → e.message ≡ message → frames' ≡ entry_frames settled
     → frames' ++ frame_of message ∷ [] ≡ entry_frames (settled ++ e ∷ [])
@@ -203,22 +217,23 @@ taken-more : (taken taken' : Option (List (List ℕ))) (settled rest : List Entr
 taken-more None taken' settled rest e message is sent more = rw more tt
 taken-more (Some frames') taken' settled rest e message is sent more = rw more (settled-frames settled rest e frames' message is sent)
 
-pub settle-moves : (start : State) (events : List Event) (done : List Record) (old new : CoreState) (taken taken' : Option (List (List ℕ))) (message : Content) (does : Does old new (Settle 0))
+pub settle-moves : (start : State) (events : List Event) (done : List Record) (old new : CoreState) (taken taken' : Option (List (List ℕ))) (message : Content) (does : Does old new (Settle 0 1))
     → Stands start events done old taken → option_map (λ (q : Waiting). q.message) (first_at old.sinks 0) ≡ Some message
     → taken' ≡ option_map (λ fs. fs ++ frame_of message ∷ []) taken
-    → Moved start (events ++ record { act = Settle 0; failed = does.failed } ∷ []) done old new taken' 1
+    → Moved start (events ++ record { act = Settle 0 1; failed = does.failed } ∷ []) done old new taken' 1
 settle-moves start events done old new taken taken' message does h front more =
-    let e : Event = record { act = Settle 0; failed = does.failed } in
+    let e : Event = record { act = Settle 0 1; failed = does.failed } in
     let o = opened start events done old taken h in
     let step = does.step (made o.inlet o.dest o.failed) o.at in
     let failed = o.failed ++ does.failed in
-    let legal = both-true (may_settle o.dest) (at_most_this o.failed (store_of o.dest) does.failed) step.0 in
+    let legal = both-true (may_settle 1 o.dest) (at_most_this o.failed (store_of o.dest) does.failed) step.0 in
     let f = first-entry o.dest o.dest.left refl legal.0 in
+    let waits = waiting-first (length o.dest.settled + length (lengths_of o.dest.left)) f.entry f.rest (ap are_waiting (sym f.left) ∙ o.waits) in
     let dest : Dest = record o.dest { settled = o.dest.settled ++ f.entry ∷ []; left = f.rest } in
-    let now : after_act (made o.inlet o.dest o.failed) (Settle 0) does.failed ≡ made o.inlet dest failed = ap (λ d. made o.inlet d failed) f.after in
+    let now : after_act (made o.inlet o.dest o.failed) (Settle 0 1) does.failed ≡ made o.inlet dest failed = ap (λ d. made o.inlet d failed) f.after in
     let at = subst (λ s. IsAt new s) now step.1 in
     let first : Some f.entry.message ≡ Some message =
-    ap (λ l. option_map (λ (q : Waiting). q.message) (slice_get (waiting_from (length o.dest.settled) l) 0)) (sym f.left)
+    sym waits ∙ ap (λ l. option_map (λ (q : Waiting). q.message) (slice_get (waiting_from (length o.dest.settled + length (lengths_of o.dest.left)) l) 0)) (sym f.left)
     ∙ ap (λ q. option_map (λ (q : Waiting). q.message) q) (sym (at-first old o.inlet o.dest o.failed o.at)) ∙ front in
     let same : f.entry.message ≡ message = cc in
     record {
@@ -234,47 +249,51 @@ settle-moves start events done old new taken taken' message does h front more =
 
 -- Admitted records.
 
-record Takes (origin : Origin) (dest : Dest) (text : List ℕ) (message : Content) (verdicts : List Verdict) : Type 0 where
+-- a record with this end, and the offers of this text
+abbrev batch : ℕ → List ℕ → Content → List Admission
+batch end text message = record { end = end; offers = offers_by text message } ∷ []
+
+record Takes (next end : ℕ) (dest : Dest) (text : List ℕ) (message : Content) (verdicts : List Verdict) : Type 0 where
   dest' : Dest
-  after : take_offers origin (dest ∷ []) (offers_by text message) verdicts ≡ dest' ∷ []
+  after : take_claims 0 next (dest ∷ []) (claims_of (batch end text message)) verdicts ≡ dest' ∷ []
   settled : dest'.settled ≡ dest.settled
   left : entry_frames dest'.left ≡ entry_frames dest.left ++ map frame_of (map (λ (o : Offer). o.message) (offers_by text message))
 
 no-verdict : (h : false ≡ true) → ⊥
 no-verdict h = cc
 
-takes : (origin : Origin) (dest : Dest) (failed out : List ℕ) (text : List ℕ) (message : Content) (verdicts : List Verdict) → dest.setup.buffer ≡ None
-    → option_map_or (is_same_list out) (judged origin (dest ∷ []) failed (offers_by text message) verdicts) false ≡ true → Takes origin dest text message verdicts
-takes origin dest failed out [] message [] buffer h = record { dest' = dest; after = refl; settled = refl; left = sym (append-nil (entry_frames dest.left)) }
-takes origin dest failed out [] message (v ∷ vs) buffer h = absurd (no-verdict h)
-takes origin dest failed out (b ∷ text) message [] buffer h = absurd (no-verdict h)
-takes origin dest failed out (b ∷ text) message (Queued ∷ vs) buffer h =
+takes : (next end : ℕ) (dest : Dest) (failing failed out : List ℕ) (text : List ℕ) (message : Content) (verdicts : List Verdict) → dest.setup.buffer ≡ None
+    → option_map_or (is_same_list out) (judged 0 next failing (dest ∷ []) failed (claims_of (batch end text message)) verdicts) false ≡ true → Takes next end dest text message verdicts
+takes next end dest failing failed out [] message [] buffer h = record { dest' = dest; after = refl; settled = refl; left = sym (append-nil (entry_frames dest.left)) }
+takes next end dest failing failed out [] message (v ∷ vs) buffer h = absurd (no-verdict h)
+takes next end dest failing failed out (b ∷ text) message [] buffer h = absurd (no-verdict h)
+takes next end dest failing failed out (b ∷ text) message (Queued ∷ vs) buffer h =
     let o : Offer = record { dest = 0; message = message; flow = true } in
-    let d = take_offer origin o Queued dest in
+    let d = take_offer (origin_of 0 next (record { place = 0; end = end; offer = o })) o Queued dest in
     record { dest' = d; after = refl; settled = refl; left = map-append (λ (e : Entry). frame_of e.message) dest.left _ }
-takes origin dest failed out (b ∷ text) message (Spooled ∷ vs) buffer h = absurd (no-verdict (rw buffer at h))
-takes origin dest failed out (b ∷ text) message (Waits ∷ vs) buffer h = absurd (no-verdict (rw buffer at h))
-takes origin dest failed out (b ∷ text) message (DroppedFull ∷ vs) buffer h = absurd (no-verdict (rw buffer at h))
-takes origin dest failed out (b ∷ text) message (DroppedDisk ∷ vs) buffer h = absurd (no-verdict (rw buffer at h))
+takes next end dest failing failed out (b ∷ text) message (Spooled ∷ vs) buffer h = absurd (no-verdict (rw buffer at h))
+takes next end dest failing failed out (b ∷ text) message (Waits ∷ vs) buffer h = absurd (no-verdict (rw buffer at h))
+takes next end dest failing failed out (b ∷ text) message (DroppedFull ∷ vs) buffer h = absurd (no-verdict (rw buffer at h))
+takes next end dest failing failed out (b ∷ text) message (DroppedDisk ∷ vs) buffer h = absurd (no-verdict (rw buffer at h))
 
 offer-frames : (r : Record) (text : List ℕ) → r.item.text ≡ text → map frame_of (map (λ (o : Offer). o.message) (offers_by text (message_of r))) ≡ frames_by text
 offer-frames r [] is = refl
 offer-frames r (b ∷ text) is = ap (λ f. f ∷ []) (frame-of r ∙ ap (λ t. t ++ 10 ∷ []) is)
 
 pub admit-moves : (start : State) (events : List Event) (done : List Record) (old new : CoreState) (taken : Option (List (List ℕ))) (r : Record) (verdicts : List Verdict)
-    (does : Does old new (Admit 0 r.item.end (offers_of r) verdicts)) → Stands start events done old taken
-    → Moved start (events ++ record { act = Admit 0 r.item.end (offers_of r) verdicts; failed = does.failed } ∷ []) (done ++ r ∷ []) old new taken 1
+    (does : Does old new (Admit 0 (admit_of r ∷ []) verdicts)) → Stands start events done old taken
+    → Moved start (events ++ record { act = Admit 0 (admit_of r ∷ []) verdicts; failed = does.failed } ∷ []) (done ++ r ∷ []) old new taken 1
 admit-moves start events done old new taken r verdicts does h =
-    let act : Act = Admit 0 r.item.end (offers_of r) verdicts in
+    let act : Act = Admit 0 (admit_of r ∷ []) verdicts in
     let e : Event = record { act = act; failed = does.failed } in
     let o = opened start events done old taken h in
     let state = made o.inlet o.dest o.failed in
     let step = does.step state o.at in
     let failed = o.failed ++ does.failed in
-    let origin = origin_of state 0 r.item.end in
-    let legal = both-true (may_admit state 0 r.item.end (offers_of r) o.inlet) (option_map_or (is_same_list failed) (judged origin (o.dest ∷ []) o.failed (offers_of r) verdicts) false) step.0 in
-    let t = takes origin o.dest o.failed failed r.item.text (message_of r) verdicts o.buffer legal.1 in
-    let inlet = admitted_one r.item.end o.inlet in
+    let next = length o.inlet.ends in
+    let legal = both-true (may_admit state 0 (admit_of r ∷ []) o.inlet) (option_map_or (is_same_list failed) (judged 0 next does.failed (o.dest ∷ []) o.failed (claims_of (admit_of r ∷ [])) verdicts) false) step.0 in
+    let t = takes next r.item.end o.dest does.failed o.failed failed r.item.text (message_of r) verdicts o.buffer legal.1 in
+    let inlet = admitted_in (admit_of r ∷ []) o.inlet in
     let now : after_act state act does.failed ≡ made inlet t.dest' failed = ap (λ ds. record { inlets = inlet ∷ []; dests = ds; failed = failed }) t.after in
     let at = subst (λ s. IsAt new s) now step.1 in
     record {

@@ -1,6 +1,6 @@
 -- What the turns of a round leave.
-use Rattle.std.proofs.Common.{◌≡◌, ◌≢◌, ℕ, zero, suc, ◌+◌, ◌<◌, ◌≤◌, List, [], ◌∷◌, ◌++◌, length, Some, None, Option, Bool, true, false, ◌||◌, refl, sym, ap, ◌∙◌, arith, subst, inl, inr, ◌⊎◌}
-use Rattle.std.specs.Prelude.{Result, Ok, Err, nat_lt, ◌==◌}
+use Rattle.std.proofs.Common.{◌≡◌, ◌≢◌, ℕ, zero, suc, ◌+◌, ◌<◌, ◌≤◌, List, [], ◌∷◌, ◌++◌, length, Some, None, Option, Bool, true, false, ◌||◌, refl, sym, ap, ◌∙◌, arith, subst, inl, inr, ◌⊎◌, map, slice_get, take, not, ◌&&◌}
+use Rattle.std.specs.Prelude.{Result, Ok, Err, nat_lt, ◌==◌, is_some, option_and_then}
 use Rattle.std.specs.Option.{option_map, option_map_or}
 use Rattle.std.proofs.lemmas.List.{append-nil}
 use Rattle.sg_device.specs.Inlet.{InletState}
@@ -9,17 +9,24 @@ use Rattle.sg_frame.specs.Framing.{items_left}
 use Rattle.sg_msg.specs.Message.{Content}
 use Rattle.sg_queue.specs.declared.entry.Entry.{Entry as Waiting}
 use Rattle.sg_machine.specs.declared.event.Act.TheVariants.{Settle, Look}
+use Rattle.sg_machine.specs.declared.state.Entry.{Entry}
 use Rattle.sg_machine.specs.declared.state.State.{State}
-use Rattle.sg_core.specs.States.{CoreState}
-use Rattle.sg_core.specs.Sources.{credit_at}
-use Rattle.sg_core.specs.Sinks.{first_at}
-use Rattle.sg_core.specs.Standing.{Does, IsAt}
-use Rattle.sg_engine.specs.Path.{frame_of}
+use Rattle.sg_machine.proofs.RunLemmas.{both-true}
+use Rattle.sg_counter.specs.declared.answers.CoreFront.TheVariants.{Entries, Empty}
+use Rattle.sg_sinks.specs.States.{SinkState}
+use Rattle.sg_sinks.specs.Standing.{sink_of, lengths_of, are_waiting}
+use Rattle.sg_core.specs.Answers.{AnswersFrontAt}
+use Rattle.sg_standing.specs.States.{CoreState, counted, setup_of}
+use Rattle.sg_standing.specs.Sources.{credit_at}
+use Rattle.sg_standing.specs.Standing.{is_broken, Does, IsAt}
+use Rattle.sg_engine.specs.History.{first_at}
+use Rattle.sg_engine.specs.Path.{path_setup, frame_of}
 use Rattle.sg_engine.specs.Reading.{IsReady}
 use Rattle.sg_device.specs.Outlet.{Sends, TakesFirst}
 use Rattle.sg_device.specs.declared.fault.SendRefusal.{SendRefusal}
 use Rattle.sg_device.specs.declared.fault.SendRefusal.TheVariants.{Fault, NoMemory as SendNoMemory}
 use Rattle.sg_engine.specs.Turns.{Run, run, Steps, Stops, RunsOn, stop_of, TakesNone, PullsOn, HasNothing, ReadsNone, StoresMark, Rests, BlamesSource, SourceRests, SendsFrame, SendsNone, RoundRests, BlamesInlet, IsMemory}
+use Rattle.sg_engine.proofs.StateLemmas.{Shape, shape}
 use Rattle.sg_engine.proofs.StepLemmas.{rose-later}
 use Rattle.sg_engine.proofs.RunLemmas.{steps-less, steps-then, steps-look, steps-settle, stops-sent}
 use Rattle.sg_engine.specs.declared.reader.Reader.{Reader}
@@ -149,11 +156,56 @@ stops-frame stop core core' feed reader old new frame does ready h =
     subst (λ t. Stops stop (run core feed reader old.taken) (run core' feed reader t)) (sym (frame-taken old new frame stop h))
     (stops-sent stop core core' feed reader old.taken does ready (frame-other old new frame stop h))
 
+-- the message shown is that of the first entry that waits
+first-message : (entries : List Waiting) (messages : List Content) (message : Content) → 0 < length messages → messages ≡ map (λ (q : Waiting). q.message) (take 1 entries) → slice_get messages 0 ≡ Some message
+    → option_map (λ (q : Waiting). q.message) (slice_get entries 0) ≡ Some message
+first-message [] messages message some is get = absurd (let n : length messages ≡ 0 = ap length is in omega (arith, some, n))
+first-message (e ∷ es) messages message some is get = ap (λ ms. slice_get ms 0) (sym is) ∙ get
+
+shown-first : (old new : Option SinkState) (place : ℕ) (messages : List Content) (message : Content) → ((sink : SinkState) → old ≡ Some sink → sink.lengths ≡ [])
+    → AnswersFrontAt old new 1 (Entries place messages) → slice_get messages 0 ≡ Some message
+    → option_map (λ (q : Waiting). q.message) (option_and_then (λ (sink : SinkState). slice_get sink.entries 0) old) ≡ Some message
+shown-first None new place messages message none shows get = absurd shows
+shown-first (Some old) None place messages message none shows get = absurd shows
+shown-first (Some old) (Some new) place messages message none shows get = first-message old.entries messages message shows.4 (shows.5 (none old refl)) get
+
+lengths-case : (e : Entry) (es : List Entry) (spooled : Bool) → e.spooled ≡ spooled → not spooled ≡ true → lengths_of es ≡ [] → lengths_of (e ∷ es) ≡ []
+lengths-case e es true is waits rest = absurd (let h : false ≡ true = waits in cc)
+lengths-case e es false is waits rest = rw is rest
+
+lengths-none : (left : List Entry) → are_waiting left ≡ true → lengths_of left ≡ []
+lengths-none [] h = refl
+lengths-none (e ∷ es) h =
+    let here = both-true (not e.spooled && is_some e.number) (are_waiting es) h in
+    lengths-case e es e.spooled refl (both-true (not e.spooled) (is_some e.number) here.0).0 (lengths-none es here.1)
+
+pub front-first : (core core' : CoreState) (place : ℕ) (messages : List Content) (message : Content) → setup_of core ≡ path_setup
+    → AnswersFrontAt (slice_get core.sinks 0) (slice_get core'.sinks 0) 1 (Entries place messages) → slice_get messages 0 ≡ Some message
+    → (state : State) → IsAt core state → option_map (λ (q : Waiting). q.message) (first_at core.sinks 0) ≡ Some message
+front-first core core' place messages message setup shows get state at =
+    let s = shape core state at setup in
+    let there : slice_get core.sinks 0 ≡ Some (sink_of (is_broken s.failed s.dest) s.dest) = ap (λ xs. slice_get xs 0) s.at.sinks in
+    shown-first (slice_get core.sinks 0) (slice_get core'.sinks 0) place messages message
+    (λ sink is. (let same : Some (sink_of (is_broken s.failed s.dest) s.dest) ≡ Some sink = sym there ∙ is in
+    let one : sink_of (is_broken s.failed s.dest) s.dest ≡ sink = cc in
+    sym (ap (λ (x : SinkState). x.lengths) one) ∙ lengths-none s.dest.left s.waits)) shows get
+
+-- none is left that waits
+pub shown-none : (old new : Option SinkState) → AnswersFrontAt old new 1 Empty → option_and_then (λ (sink : SinkState). slice_get sink.entries 0) old ≡ None
+shown-none None new shows = absurd shows
+shown-none (Some old) None shows = absurd shows
+shown-none (Some old) (Some new) shows = ap (λ es. slice_get es 0) shows.3
+
+-- the number of calls is no part of where a core is
+counted-at : (core : CoreState) (state : State) → IsAt (counted core) state → IsAt core state
+counted-at core state at = record { sound = at.sound; sources = at.sources; sinks = at.sinks; stores = at.stores; buffers = at.buffers }
+
 -- the first entry was sent and settled
 pub steps-sent : (core core1 core2 : CoreState) (feed : InletState) (reader : Reader) (old new : OutletState) (message : Content) → Does core core1 Look
-    → core1 ≡ record core { calls = core.calls + 1 } → option_map (λ (e : Waiting). e.message) (first_at core.sinks 0) ≡ Some message
-    → new.taken ≡ option_map (λ fs. fs ++ frame_of message ∷ []) old.taken → Does core1 core2 (Settle 0) → Steps 1 (run core feed reader old.taken) (run core2 feed reader new.taken)
+    → core1 ≡ counted core → ((state : State) → IsAt core state → option_map (λ (e : Waiting). e.message) (first_at core.sinks 0) ≡ Some message)
+    → new.taken ≡ option_map (λ fs. fs ++ frame_of message ∷ []) old.taken → Does core1 core2 (Settle 0 1) → Steps 1 (run core feed reader old.taken) (run core2 feed reader new.taken)
 steps-sent core core1 core2 feed reader old new message looks same front taken settles =
-    let first : option_map (λ (e : Waiting). e.message) (first_at core1.sinks 0) ≡ Some message = ap (λ k. option_map (λ (e : Waiting). e.message) (first_at k.sinks 0)) same ∙ front in
+    let first : (state : State) → IsAt core1 state → option_map (λ (e : Waiting). e.message) (first_at core1.sinks 0) ≡ Some message = λ state at.
+    ap (λ k. option_map (λ (e : Waiting). e.message) (first_at k.sinks 0)) same ∙ front state (counted-at core state (subst (λ k. IsAt k state) same at)) in
     steps-then 0 1 (run core feed reader old.taken) (run core1 feed reader old.taken) (run core2 feed reader new.taken)
     (steps-look core core1 feed reader old.taken looks) (steps-settle core1 core2 feed reader old.taken new.taken message settles first taken)

@@ -1,44 +1,41 @@
 -- What the events of a core say of the records of its only source and of the frames of its only destination.
-use Rattle.std.specs.Prelude.{◌≡◌, ℕ, ◌+◌, zero, suc, Option, Some, None, List, [], ◌∷◌, ◌++◌, length, map, slice_get}
+use Rattle.std.specs.Prelude.{◌≡◌, ℕ, ◌+◌, zero, suc, Option, Some, None, List, [], ◌∷◌, ◌++◌, length, map, slice_get, option_and_then}
 use Rattle.std.specs.Option.{option_map_or}
-use Rattle.sg_msg.specs.declared.offer.Offer.{Offer}
+use Rattle.sg_queue.specs.declared.entry.Entry.{Entry as Waiting}
 use Rattle.sg_frame.specs.Records.{Record}
 use Rattle.sg_machine.specs.declared.event.Act.{Act}
+use Rattle.sg_machine.specs.declared.event.Admission.{Admission}
 use Rattle.sg_machine.specs.declared.event.Act.TheVariants.{Admit}
 use Rattle.sg_machine.specs.declared.event.Event.{Event}
 use Rattle.sg_machine.specs.declared.state.Entry.{Entry}
 use Rattle.sg_machine.specs.declared.state.Dest.{Dest}
 use Rattle.sg_machine.specs.declared.state.State.{State}
+use Rattle.sg_machine.specs.Running.{ends_at}
 use Rattle.sg_machine.specs.Runs.{after_all}
-use Rattle.sg_core.specs.States.{CoreState}
-use Rattle.sg_core.specs.Stores.{stored_in}
-use Rattle.sg_core.specs.Sources.{mark_in, begun_in}
-use Rattle.sg_core.specs.Sinks.{taken_at}
-use Rattle.sg_core.specs.Standing.{StandsFor, setup_of, ends_of}
-use Rattle.sg_core.specs.declared.source.Source.{Source}
+use Rattle.sg_sinks.specs.States.{SinkState}
+use Rattle.sg_stores.specs.Positions.{stored_in}
+use Rattle.sg_standing.specs.States.{CoreState, setup_of}
+use Rattle.sg_standing.specs.Sources.{mark_in, begun_in}
+use Rattle.sg_standing.specs.Standing.{StandsFor}
+use Rattle.sg_standing.specs.declared.source.Source.{Source}
 use Rattle.sg_engine.specs.Path.{path_setup, offers_of, frame_of, frames}
 
--- a record that was admitted: its end and its offers
-pub record Admitted : Type 0 where
-  pub end : ℕ
-  pub offers : List Offer
-
 -- the records of source 0 that were admitted, in order
-abbrev pub admitted_by : Act → List Admitted
-admitted_by (Admit zero end offers verdicts) = (record { end = end; offers = offers }) ∷ []
+abbrev pub admitted_by : Act → List Admission
+admitted_by (Admit zero records verdicts) = records
 admitted_by _ = []
 
-abbrev pub admitted : List Event → List Admitted
+abbrev pub admitted : List Event → List Admission
 admitted [] = []
 admitted (e ∷ es) = admitted_by e.act ++ admitted es
 
 -- the number of their offers
-abbrev pub offer_count : List Admitted → ℕ
+abbrev pub offer_count : List Admission → ℕ
 offer_count [] = 0
 offer_count (a ∷ as') = length a.offers + offer_count as'
 
 -- as what a record is admitted
-abbrev pub admit_of : Record → Admitted
+abbrev pub admit_of : Record → Admission
 admit_of r = record { end = r.item.end; offers = offers_of r }
 
 abbrev pub end_of : Record → ℕ
@@ -79,7 +76,7 @@ pub record Stands (start : State) (events : List Event) (done : List Record) (co
   pub counted : core.calls ≡ length events
   pub admitted : admitted events ≡ map admit_of done
   -- they are all records that the source ever began
-  pub ends : ends_of (after_all start events).inlets 0 ≡ map end_of done
+  pub ends : ends_at (after_all start events).inlets 0 ≡ map end_of done
   -- each text that isn't empty was kept, and nothing else
   pub kept : kept_frames (after_all start events) ≡ frames done
   pub sent : IsTaken taken (settled_frames (after_all start events))
@@ -96,6 +93,13 @@ mark_now core = mark_in core.sources 0
 
 abbrev pub stored_now : CoreState → ℕ
 stored_now core = stored_in core.stores (Some 0)
+
+-- the entries that a destination has taken, and the first that waits
+abbrev pub taken_at : List SinkState → ℕ → ℕ
+taken_at sinks d = option_map_or (λ sink. sink.taken) (slice_get sinks d) 0
+
+abbrev pub first_at : List SinkState → ℕ → Option Waiting
+first_at sinks d = option_and_then (λ sink. slice_get sink.entries 0) (slice_get sinks d)
 
 -- the records that came in, and the entries settled
 abbrev pub begun_now : CoreState → ℕ

@@ -6,8 +6,8 @@ use Rattle.sg_device.specs.Outlet.{OutletState}
 use Rattle.sg_frame.specs.Records.{Record}
 use Rattle.sg_machine.specs.declared.event.Event.{Event}
 use Rattle.sg_machine.specs.declared.state.State.{State}
-use Rattle.sg_core.specs.States.{CoreState}
-use Rattle.sg_core.specs.Stores.{StoreState, Goes}
+use Rattle.sg_stores.specs.Stores.{StoreState, Goes}
+use Rattle.sg_standing.specs.States.{CoreState}
 use Rattle.sg_engine.specs.Delivery.{AreFirst, AreAll, TookFirst, TookAll, AreOf, IsDrained, last_end}
 use Rattle.sg_engine.specs.History.{admitted, offer_count, Stands, opening_in, mark_now, stored_now}
 use Rattle.sg_engine.specs.declared.rounds.Ended.{Ended}

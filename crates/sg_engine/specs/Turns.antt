@@ -8,19 +8,18 @@ use Rattle.sg_device.specs.declared.fault.SendRefusal.{SendRefusal}
 use Rattle.sg_device.specs.declared.fault.SendRefusal.TheVariants.{Fault, NoMemory as SendNoMemory}
 use Rattle.sg_frame.specs.Framing.{items_left}
 use Rattle.sg_frame.specs.Records.{Record}
-use Rattle.sg_msg.specs.declared.offer.Offer.{Offer}
 use Rattle.sg_machine.specs.declared.event.Act.TheVariants.{Admit, Look}
+use Rattle.sg_machine.specs.declared.event.Admission.{Admission}
 use Rattle.sg_machine.specs.declared.event.Event.{Event}
 use Rattle.sg_machine.specs.declared.event.Verdict.{Verdict}
 use Rattle.sg_machine.specs.declared.state.State.{State}
-use Rattle.sg_core.specs.States.{CoreState}
-use Rattle.sg_core.specs.Stores.{StoreState}
-use Rattle.sg_core.specs.Sources.{credit_at}
-use Rattle.sg_core.specs.Sinks.{first_at}
-use Rattle.sg_core.specs.Standing.{AllGo, Does, IsAt, setup_of}
+use Rattle.sg_stores.specs.Stores.{AllGo}
+use Rattle.sg_standing.specs.States.{CoreState, counted, setup_of}
+use Rattle.sg_standing.specs.Sources.{credit_at}
+use Rattle.sg_standing.specs.Standing.{Does, IsAt}
 use Rattle.sg_engine.specs.Path.{path_setup}
 use Rattle.sg_engine.specs.Delivery.{AreFirst, AreOf}
-use Rattle.sg_engine.specs.History.{Stands, opening_in, mark_now, stored_now, begun_now, settled_now}
+use Rattle.sg_engine.specs.History.{Stands, first_at, opening_in, mark_now, stored_now, begun_now, settled_now}
 use Rattle.sg_engine.specs.Reading.{Reads, IsReady}
 use Rattle.sg_engine.specs.Serving.{GoesOn, HasWorked, StoreRose}
 use Rattle.sg_engine.specs.declared.reader.Reader.{Reader}
@@ -123,10 +122,10 @@ IsMemory OutletFailed = ⊥
 IsMemory StoreFailed = ⊥
 IsMemory NoMemory = Unit {0}
 
--- the record is admitted
-abbrev pub Admits : CoreState → CoreState → ℕ → List Offer → Result Unit Stop → Type 0
-Admits old new end offers (Ok done) = (verdicts : List Verdict) × Does old new (Admit 0 end offers verdicts)
-Admits old new end offers (Err stop) = Does old new Look × IsMemory stop
+-- the records are admitted
+abbrev pub Admits : CoreState → CoreState → List Admission → Result Unit Stop → Type 0
+Admits old new records (Ok done) = (verdicts : List Verdict) × Does old new (Admit 0 records verdicts)
+Admits old new records (Err stop) = Does old new Look × IsMemory stop
 
 -- there was no whole record, and nothing changed
 abbrev pub FindsNone : CoreState → CoreState → Reader → Reader → Result Bool Stop → Type 0
@@ -204,7 +203,7 @@ SourceRests core core' feed feed' reader reader' (Err stop) = BlamesSource feed 
 -- no entry was left
 abbrev pub SendsNone : CoreState → CoreState → OutletState → OutletState → Result Bool Stop → Type 0
 SendsNone core core' drain drain' (Ok true) = drain.faults ≤ drain'.faults
-SendsNone core core' drain drain' (Ok false) = (core' ≡ record core { calls = core.calls + 1 }) × (drain' ≡ drain) × (first_at core.sinks 0 ≡ None)
+SendsNone core core' drain drain' (Ok false) = (core' ≡ counted core) × (drain' ≡ drain) × (first_at core.sinks 0 ≡ None)
 SendsNone core core' drain drain' (Err InletFailed) = ⊥
 SendsNone core core' drain drain' (Err OutletFailed) = (drain.faults ≤ drain'.faults) × Rose drain.faults drain'.faults
 SendsNone core core' drain drain' (Err StoreFailed) = ⊥

@@ -1,7 +1,7 @@
 // A turn of the destination: entries from the core to the outlet.
 ghost use Rattle.std.specs.Prelude.{◌≡◌, ◌≤◌, ◌<◌, ◌+◌, ◌^◌, OnOk};
 ghost use Rattle.sg_device.specs.Inlet.{InletState};
-ghost use Rattle.sg_core.specs.Standing.{setup_of};
+ghost use Rattle.sg_standing.specs.States.{setup_of};
 ghost use Rattle.sg_engine.specs.Path.{path_setup, frame_of};
 ghost use Rattle.sg_engine.specs.Reading.{IsReady};
 ghost use Rattle.sg_engine.specs.Turns.{run, RunsOn, Calls, SendsFrame, SendsNone};
@@ -10,9 +10,11 @@ ghost use Rattle.sg_engine.specs.declared.reader.Reader.{Reader as AReader};
 use crate::format::Format;
 use crate::outgoing::Outgoing;
 use crate::rounds::Stop;
-use sg_core::{Core, CoreFront, Settled};
+use sg_core::Core;
+use sg_counter::{CoreFront, Settled};
 use sg_device::{Disk, NoMemory, Outlet};
 use sg_msg::Message;
+use std::alloc::Global;
 
 /// How many entries a turn sends at most.
 const SENDS: u64 = 100;
@@ -33,6 +35,7 @@ fn send_frame<O: Outlet>(
 
 /// Sends the first entry that is left and settles it, and tells whether there was one.
 fn send_first<D: Disk, O: Outlet>(
+    alloc: Global,
     core: &mut Core<D>,
     format: &Format,
     outgoing: &mut Outgoing,
@@ -45,10 +48,10 @@ fn send_first<D: Disk, O: Outlet>(
     ensures calls { Calls core.old core.new 2 }
     ensures asks { OnOk result (core.old.calls + 1 ≤ core.new.calls) }
 {
-    match core.front(0)? {
-        CoreFront::Entry { place, message } => {
-            send_frame(&message, format, outgoing, drain)?;
-            match core.settle(0, place) {
+    match core.front(alloc, 0, 1)? {
+        CoreFront::Entries { place, messages } => {
+            send_frame(messages.at(0), format, outgoing, drain)?;
+            match core.settle(0, place, 1) {
                 Settled::Done => Ok(true),
                 Settled::NotFront => unreachable!(),
                 Settled::DiskFailed => unreachable!(),
@@ -61,6 +64,7 @@ fn send_first<D: Disk, O: Outlet>(
 
 /// A turn of the destination. Tells whether it sent anything.
 pub(crate) fn take_destination_turn<D: Disk, O: Outlet>(
+    alloc: Global,
     core: &mut Core<D>,
     format: &Format,
     outgoing: &mut Outgoing,
@@ -74,7 +78,7 @@ pub(crate) fn take_destination_turn<D: Disk, O: Outlet>(
     ensures asks { OnOk result (core.old.calls + 1 ≤ core.new.calls) }
 {
     for count in 0..SENDS {
-        if !send_first(core, format, outgoing, drain)? {
+        if !send_first(alloc, core, format, outgoing, drain)? {
             return Ok(count > 0);
         }
     }

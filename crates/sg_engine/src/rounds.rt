@@ -4,7 +4,8 @@ ghost use Rattle.sg_device.specs.Inlet.{IsFresh};
 ghost use Rattle.sg_device.specs.Outlet.{IsNew};
 ghost use Rattle.sg_machine.specs.declared.event.Event.{Event};
 ghost use Rattle.sg_machine.specs.declared.state.State.{State};
-ghost use Rattle.sg_core.specs.Standing.{AllGo, setup_of};
+ghost use Rattle.sg_stores.specs.Stores.{AllGo};
+ghost use Rattle.sg_standing.specs.States.{setup_of};
 ghost use Rattle.sg_engine.specs.Path.{path_setup};
 ghost use Rattle.sg_engine.specs.History.{Stands};
 ghost use Rattle.sg_engine.specs.Serving.{Blames, Serves};
@@ -99,7 +100,7 @@ fn run_round<D: Disk, I: Inlet, O: Outlet>(
     ensures asks { OnOk result (core.old.calls + 2 ≤ core.new.calls) }
 {
     let read = take_source_turn(alloc, core, feed, reader, buffer)?;
-    let sent = take_destination_turn(core, format, outgoing, drain)?;
+    let sent = take_destination_turn(alloc, core, format, outgoing, drain)?;
     if read {
         return Ok(true);
     }

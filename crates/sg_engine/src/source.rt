@@ -1,10 +1,10 @@
 // A turn of the source: records from the inlet into the core, and the source's position into its store.
-ghost use Rattle.std.specs.Prelude.{◌≡◌, ◌<◌, ◌≤◌, ◌+◌, ◌^◌, ℕ, Option, List, [], false, length, OnOk};
+ghost use Rattle.std.specs.Prelude.{◌≡◌, ◌<◌, ◌≤◌, ◌+◌, ◌^◌, ℕ, Option, List, [], ◌∷◌, false, length, IfOk, OnOk};
 ghost use Rattle.sg_device.specs.Inlet.{InletState};
 ghost use Rattle.sg_frame.specs.Framing.{items_left};
-ghost use Rattle.sg_core.specs.Sources.{credit_at};
-ghost use Rattle.sg_core.specs.Standing.{setup_of};
-ghost use Rattle.sg_core.specs.Offers.{AllWithin};
+ghost use Rattle.sg_counter.specs.Bringing.{IsBatch};
+ghost use Rattle.sg_standing.specs.Sources.{credit_at};
+ghost use Rattle.sg_standing.specs.States.{setup_of};
 ghost use Rattle.sg_engine.specs.Path.{path_setup};
 ghost use Rattle.sg_engine.specs.Reading.{IsReady};
 ghost use Rattle.sg_engine.specs.Turns.{run, RunsOn, Calls, Admits, FindsNone, TakesNone, PullsOnce, PullsOn, ReadsNone, StoresMark, SourceRests};
@@ -13,30 +13,39 @@ ghost use Rattle.sg_engine.specs.declared.reader.Reader.{Reader as AReader};
 use crate::path::route;
 use crate::reader::{Reader, pull_once};
 use crate::rounds::Stop;
-use sg_core::{Core, Refused, Stored};
-use sg_device::{Disk, Inlet};
+use sg_core::Core;
+use sg_counter::{Refused, Stored};
+use sg_device::{Disk, Inlet, NoMemory};
 use sg_frame::Framed;
+use sg_list::Seq;
+use sg_machine::Admission;
 use sg_msg::Offer;
 use std::alloc::Global;
 
 /// How many records a turn takes at most: log-fetch-limit(), by default.
 const FETCH: u64 = 100;
 
-fn admit<D: Disk>(
-    alloc: Global,
-    core: &mut Core<D>,
-    end: u64,
-    offers: Vec<Offer>,
-) -> Result<(), Stop>
+// The record with this end and these offers, as a batch of one.
+fn batch_of(alloc: Global, end: u64, offers: Vec<Offer>) -> Result<Vec<Admission>, NoMemory>
+    ensures { IfOk result (λ records. records.items ≡ record { end = end; offers = offers.items } ∷ []) }
+{
+    let mut records = Vec::new(alloc);
+    records.push(Admission {
+        end,
+        offers: Seq::new(offers),
+    })?;
+    Ok(records)
+}
+
+fn admit<D: Disk>(alloc: Global, core: &mut Core<D>, records: Vec<Admission>) -> Result<(), Stop>
     requires setup { setup_of core.old ≡ path_setup }
     requires credit { 0 < credit_at core.old.sources 0 }
-    requires end { end < 2 ^ 63 }
-    requires count { length offers.items ≤ 1 }
-    requires dests { AllWithin (length core.old.sinks) offers.items }
+    requires one { length records.items ≡ 1 }
+    requires batch { IsBatch path_setup records.items }
     requires few { core.old.calls + 1 < 2 ^ 54 }
-    ensures admits { Admits core.old core.new end offers.items result }
+    ensures admits { Admits core.old core.new records.items result }
 {
-    match core.admit(alloc, 0, end, offers) {
+    match core.admit(alloc, 0, records) {
         Ok(_) => Ok(()),
         Err(Refused::NoMemory(_)) => Err(Stop::NoMemory),
         Err(Refused::NoCredit(_)) => unreachable!(),
@@ -62,7 +71,8 @@ fn take_record<D: Disk, I: Inlet>(
     match reader.framer.next()? {
         Framed::Item { bytes, end, at } => {
             let offers = route(alloc, bytes, at, feed.peer())?;
-            admit(alloc, core, reader.from + end, offers)?;
+            let records = batch_of(alloc, reader.from + end, offers)?;
+            admit(alloc, core, records)?;
             Ok(true)
         }
         Framed::More => Ok(false),

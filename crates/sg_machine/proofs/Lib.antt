@@ -1,7 +1,8 @@
-pub mod LengthLemmas
-pub mod MarkLemmas
+pub mod FailLemmas
+pub mod TurnLemmas
+pub mod DropLemmas
+pub mod TrimLemmas
 pub mod OfferLemmas
-pub mod SpoolLemmas
 pub mod RunLemmas
 pub mod CountLemmas
 pub mod InletLemmas
@@ -10,3 +11,12 @@ pub mod WindowLaws
 pub mod PositionLemmas
 pub mod HeldLemmas
 pub mod SafeLemmas
+pub mod BatchLemmas
+pub mod OwedLemmas
+pub mod SplitLemmas
+pub mod MoveLemmas
+pub mod TakeLemmas
+pub mod RecordLemmas
+pub mod StepLemmas
+pub mod ReplayLemmas
+pub mod AckLemmas

@@ -1,22 +1,20 @@
 -- What the stores may hold where a run is cut off, after the events and within the one that follows.
 use Rattle.std.specs.Prelude.{◌≡◌, ◌≤◌, ℕ, ◌==◌, nat_lt, nat_le, Bool, true, false, ◌&&◌, not, if◌then◌else◌, Option, Some, None, is_some, option_to_list, option_and_then, List, [], ◌∷◌, ◌++◌, length, map, filter, take, drop, slice_get, Contains}
 use Rattle.std.specs.Option.{option_map_or}
-use Rattle.sg_msg.specs.declared.offer.Offer.{Offer}
-use Rattle.sg_list.specs.Lists.{change}
 use Rattle.sg_machine.specs.declared.event.Verdict.{Verdict}
 use Rattle.sg_machine.specs.declared.event.Verdict.TheVariants.{Spooled}
 use Rattle.sg_machine.specs.declared.event.Act.{Act}
 use Rattle.sg_machine.specs.declared.event.Act.TheVariants.{Admit, Settle, Refill, Store, Rewind, Look}
 use Rattle.sg_machine.specs.declared.event.Event.{Event}
-use Rattle.sg_machine.specs.declared.state.Origin.{Origin}
+use Rattle.sg_machine.specs.declared.setup.BufferSetup.{BufferSetup}
 use Rattle.sg_machine.specs.declared.state.Entry.{Entry}
 use Rattle.sg_machine.specs.declared.state.Inlet.{Inlet}
 use Rattle.sg_machine.specs.declared.state.Dest.{Dest}
 use Rattle.sg_machine.specs.declared.state.State.{State}
-use Rattle.sg_machine.specs.Verdicts.{is_listed, same_verdict, judged_at, take_offer}
+use Rattle.sg_machine.specs.Verdicts.{Claim, claims_of, origin_of, is_listed, disk_verdict, same_verdict, take_offer}
 use Rattle.sg_machine.specs.Marks.{mark_of}
 use Rattle.sg_machine.specs.Legal.{store_of, is_nil}
-use Rattle.sg_machine.specs.Effects.{after, origin_of}
+use Rattle.sg_machine.specs.Effects.{next_of, after}
 use Rattle.sg_machine.specs.Runs.{Kept, after_all}
 use Rattle.sg_machine.specs.Counts.{as_kept, is_spooled}
 
@@ -61,76 +59,77 @@ running_position _ i = None
 abbrev pub spooled_of : List Entry → List Kept
 spooled_of entries = map as_kept (filter is_spooled entries)
 
--- the offers to d that an Admit spools, in order
-abbrev pub spooled_offers : ℕ → ℕ → ℕ → List Offer → List Verdict → List Kept
-spooled_offers d i end [] vs = []
-spooled_offers d i end (o ∷ os) [] = []
-spooled_offers d i end (o ∷ os) (v ∷ vs) =
-    if o.dest == d && same_verdict Spooled v
-    then record { inlet = i; end = end; flow = o.flow; message = o.message } ∷ spooled_offers d i end os vs
-    else spooled_offers d i end os vs
+abbrev pub kept_from : ℕ → Claim → Kept
+kept_from i c = record { inlet = i; end = c.end; flow = c.offer.flow; message = c.offer.message }
 
--- the first entry that waits
-abbrev pub first_waiting : List Entry → Option Kept
-first_waiting [] = None
-first_waiting (e ∷ es) = if e.spooled then first_waiting es else Some (as_kept e)
+-- the offers to d that an Admit spools, in order
+abbrev pub spooled_offers : ℕ → ℕ → List Claim → List Verdict → List Kept
+spooled_offers d i [] vs = []
+spooled_offers d i (c ∷ cs) [] = []
+spooled_offers d i (c ∷ cs) (v ∷ vs) =
+    if c.offer.dest == d && same_verdict Spooled v then kept_from i c ∷ spooled_offers d i cs vs else spooled_offers d i cs vs
+
+-- the entries that wait, in order
+abbrev pub waiting : List Entry → List Kept
+waiting left = map as_kept (filter (λ e. not e.spooled) left)
 
 -- what an act appends at d
 abbrev pub appends : Act → ℕ → Dest → List Kept
-appends (Admit i end offers verdicts) d dest = spooled_offers d i end offers verdicts
-appends (Refill e) d dest = if e == d then option_to_list (first_waiting dest.left) else []
+appends (Admit i records verdicts) d dest = spooled_offers d i (claims_of records) verdicts
+appends (Refill e n) d dest = if e == d then take n (waiting dest.left) else []
 appends _ d dest = []
 
--- the first offer with which this store fails, each judged after the ones before
-abbrev pub failing_offer : ℕ → Origin → List Dest → List ℕ → List Offer → List Verdict → Option Kept
-failing_offer s origin dests failed [] vs = None
-failing_offer s origin dests failed (o ∷ os) [] = None
-failing_offer s origin dests failed (o ∷ os) (v ∷ vs) =
-    option_and_then
-    (λ failed_then.
-    if is_listed s failed_then && not (is_listed s failed)
-    then Some (record { inlet = origin.inlet; end = origin.end; flow = o.flow; message = o.message })
-    else failing_offer s origin (change dests o.dest (take_offer origin o v)) failed_then os vs)
-    (judged_at (slice_get dests o.dest) failed o v)
+-- The offers to d, which is this, that would be spooled if its store worked, in order: each is judged
+-- after the ones before, as they would then have been.
+abbrev pub would_spool : ℕ → ℕ → ℕ → BufferSetup → Dest → List Claim → List Kept
+would_spool d i next buffer dest [] = []
+would_spool d i next buffer dest (c ∷ cs) =
+    if c.offer.dest == d
+    then (let v = disk_verdict buffer dest.left false c.offer in
+    let rest = would_spool d i next buffer (take_offer (origin_of i next c) c.offer v dest) cs in
+    if same_verdict Spooled v then kept_from i c ∷ rest else rest)
+    else would_spool d i next buffer dest cs
 
--- the entry that an act in which this store fails may have appended: the offer at which it fails, or
--- at a Look the first entry that waited
-abbrev pub failing_append : State → Act → ℕ → Dest → Option Kept
-failing_append state (Admit i end offers verdicts) s dest = failing_offer s (origin_of state i end) state.dests state.failed offers verdicts
-failing_append state Look s dest = first_waiting dest.left
-failing_append state _ s dest = None
+-- the entries that an act in which the store of d fails tried to append: an Admit's offers that would
+-- be spooled if it worked, and at a Look all that waited
+abbrev pub tried_by : State → Act → ℕ → Dest → List Kept
+tried_by state (Admit i records verdicts) d dest = option_map_or (λ buffer. would_spool d i (next_of state i) buffer dest (claims_of records)) dest.setup.buffer []
+tried_by state Look d dest = waiting dest.left
+tried_by state _ d dest = []
 
-abbrev pub failing_entry : State → Event → Dest → Option Kept
-failing_entry state event dest =
-    option_and_then (λ s. if is_listed s event.failed then failing_append state event.act s dest else None) (store_of dest)
+abbrev pub failing_entries : State → Event → ℕ → Dest → Option (List Kept)
+failing_entries state event d dest = if has_failed event.failed (store_of dest) then Some (tried_by state event.act d dest) else None
 
 -- the same of the first event in which the store of d fails
-abbrev pub failed_entry : State → List Event → ℕ → Option Kept
-failed_entry state [] d = None
-failed_entry state (e ∷ es) d =
-    first_of (option_and_then (failing_entry state e) (slice_get state.dests d)) (failed_entry (after state e) es d)
+abbrev pub failed_append : State → List Event → ℕ → Option (List Kept)
+failed_append state [] d = None
+failed_append state (e ∷ es) d =
+    first_of (option_and_then (failing_entries state e d) (slice_get state.dests d)) (failed_append (after state e) es d)
 
--- the settled entries, that of a Settle(d) included
+abbrev pub failed_entries : State → List Event → ℕ → List Kept
+failed_entries state events d = option_map_or (λ ks. ks) (failed_append state events d) []
+
+-- the settled entries, those of a Settle(d, n) included
 abbrev pub settled_by : Act → ℕ → Dest → List Entry
-settled_by (Settle e) d dest = if e == d then dest.settled ++ take 1 dest.left else dest.settled
+settled_by (Settle e n) d dest = if e == d then dest.settled ++ take n dest.left else dest.settled
 settled_by _ d dest = dest.settled
 
 -- the entries that are left then
 abbrev pub left_by : Act → ℕ → Dest → List Entry
-left_by (Settle e) d dest = if e == d then drop 1 dest.left else dest.left
+left_by (Settle e n) d dest = if e == d then drop n dest.left else dest.left
 left_by _ d dest = dest.left
 
 abbrev pub is_settle : Act → ℕ → Bool
-is_settle (Settle e) d = e == d
+is_settle (Settle e n) d = e == d
 is_settle _ d = false
 
--- The list is Spooled(d) less its first entries, and behind them at first some of what the act
--- appends and then the entry of an append that failed. Those taken away are settled, and they are all
--- the settled ones where the store works and no Settle(d) is on.
-pub record IsSafeList (dest : Dest) (d : ℕ) (act : Act) (failed : List ℕ) (tried : Option Kept) (list : List Kept) : Type 0 where
+-- The list is Spooled(d) less its first entries, and behind them the first of what the act appends, or
+-- of what the append that failed tried to. Those taken away are settled, and they are all the settled
+-- ones where the store works and no Settle(d, n) is on.
+pub record IsSafeList (dest : Dest) (d : ℕ) (act : Act) (failed : List ℕ) (tried : List Kept) (list : List Kept) : Type 0 where
   pub gone : ℕ
   pub added : ℕ
-  pub parts : list ≡ drop gone (spooled_of (dest.settled ++ dest.left)) ++ take added (appends act d dest ++ option_to_list tried)
+  pub parts : list ≡ drop gone (spooled_of (dest.settled ++ dest.left)) ++ take added (if has_failed failed (store_of dest) then tried else appends act d dest)
   pub settled : gone ≤ length (spooled_of (settled_by act d dest))
   pub all_settled : has_failed failed (store_of dest) ≡ false → is_settle act d ≡ false → gone ≡ length (spooled_of dest.settled)
 
@@ -156,7 +155,7 @@ held_in list dest = if is_some dest.setup.buffer then list else []
 
 -- The images are of these stores: an inlet's has its stored position, the one that the act is
 -- writing or one that failed, and a disk-buffer's is a safe list.
-pub record AreImages (state : State) (event : Event) (tried_positions : ℕ → Option ℕ) (tried_entries : ℕ → Option Kept) (images : Images) : Type 0 where
+pub record AreImages (state : State) (event : Event) (tried_positions : ℕ → Option ℕ) (tried_entries : ℕ → List Kept) (images : Images) : Type 0 where
   pub every_position : length images.positions ≡ length state.inlets
   pub every_list : length images.lists ≡ length state.dests
   pub stored : (i : ℕ) (inlet : Inlet) (position : ℕ) → slice_get state.inlets i ≡ Some inlet → is_some inlet.setup.store ≡ true → slice_get images.positions i ≡ Some position
@@ -174,7 +173,7 @@ CoversRecords state event images =
 -- the images after these events, with the one that follows on
 abbrev pub ImagesAt : State → List Event → Event → Images → Type 0
 ImagesAt start events event images =
-    AreImages (after_all start events) event (failed_position start (events ++ event ∷ [])) (failed_entry start (events ++ event ∷ [])) images
+    AreImages (after_all start events) event (failed_position start (events ++ event ∷ [])) (failed_entries start (events ++ event ∷ [])) images
 
 -- they are safe
 pub record Safe (start : State) (events : List Event) (event : Event) (images : Images) : Type 0 where

@@ -1,18 +1,15 @@
-// Whether an act is legal.
-ghost use Rattle.std.specs.Prelude.{◌≡◌, ◌&&◌, length};
-ghost use Rattle.std.specs.List.{list_any};
-ghost use Rattle.sg_list.specs.Lists.{passes_at};
-ghost use Rattle.sg_machine.specs.declared.event.Act.{Act};
-ghost use Rattle.sg_machine.specs.Legal.{store_of, is_this, works, is_store_of, at_most_this, at_most_one, first_fits, may_admit, may_settle, may_refill, may_store, may_rewind, is_legal_act};
+// What acts need.
+ghost use Rattle.std.specs.Prelude.{◌≡◌, ◌+◌, nat_le};
+ghost use Rattle.std.specs.List.{list_all, list_any};
+ghost use Rattle.sg_machine.specs.Legal.{is_this, works, at_most_this, is_admissible};
+ghost use Rattle.sg_machine.specs.Needs.{store_number, is_runs_store, fails_one_run, may_admit_run, may_settle_run, may_store_run, may_rewind_run};
 
-use crate::lengths::has_room;
-use crate::marks::{mark_at, outstanding_at};
+use crate::Admission;
+use crate::running::{DestRun, Run, SourceRun};
 use crate::verdicts::lists;
-use crate::{Dest, Entry, Inlet, State};
-use sg_msg::Offer;
 
-fn store_number(dest: &Dest) -> Option<u32>
-    ensures { result ≡ store_of dest.now }
+pub(crate) fn store_of(dest: &DestRun) -> Option<u32>
+    ensures { result ≡ store_number dest.now }
 {
     match dest.setup.buffer {
         Some(buffer) => Some(buffer.store),
@@ -29,7 +26,7 @@ fn has_number(s: u32, store: Option<u32>) -> bool
     }
 }
 
-fn store_works(failed: &[u32], store: Option<u32>) -> bool
+pub(crate) fn store_works(failed: &[u32], store: Option<u32>) -> bool
     ensures { result ≡ works failed.now store }
 {
     match store {
@@ -38,25 +35,27 @@ fn store_works(failed: &[u32], store: Option<u32>) -> bool
     }
 }
 
-fn is_inlets_store(inlets: &[Inlet], s: u32) -> bool
-    ensures { result ≡ list_any (λ inlet. is_this s inlet.setup.store) inlets.now }
+fn is_inlets_store(sources: &[SourceRun], s: u32) -> bool
+    ensures { result ≡ list_any (λ source. is_this s source.setup.store) sources.now }
 {
-    inlets.iter().any(|inlet| has_number(s, inlet.setup.store))
+    sources
+        .iter()
+        .any(|source| has_number(s, source.setup.store))
 }
 
-fn is_dests_store(dests: &[Dest], s: u32) -> bool
-    ensures { result ≡ list_any (λ dest. is_this s (store_of dest)) dests.now }
+fn is_dests_store(dests: &[DestRun], s: u32) -> bool
+    ensures { result ≡ list_any (λ dest. is_this s (store_number dest)) dests.now }
 {
-    dests.iter().any(|dest| has_number(s, store_number(dest)))
+    dests.iter().any(|dest| has_number(s, store_of(dest)))
 }
 
-fn is_store(state: &State, s: u32) -> bool
-    ensures { result ≡ is_store_of state.now s }
+fn is_store(run: &Run, s: u32) -> bool
+    ensures { result ≡ is_runs_store run.now s }
 {
-    is_inlets_store(state.inlets.as_slice(), s) || is_dests_store(state.dests.as_slice(), s)
+    is_inlets_store(run.sources.as_slice(), s) || is_dests_store(run.dests.as_slice(), s)
 }
 
-fn fails_only(failed: &[u32], store: Option<u32>, new: &[u32]) -> bool
+pub(crate) fn fails_only(failed: &[u32], store: Option<u32>, new: &[u32]) -> bool
     ensures { result ≡ at_most_this failed.now store new.now }
 {
     match new {
@@ -66,117 +65,63 @@ fn fails_only(failed: &[u32], store: Option<u32>, new: &[u32]) -> bool
     }
 }
 
-fn fails_one(state: &State, new: &[u32]) -> bool
-    ensures { result ≡ at_most_one state.now new.now }
+pub(crate) fn fails_one(run: &Run, new: &[u32]) -> bool
+    ensures { result ≡ fails_one_run run.now new.now }
 {
     match new {
         [] => true,
-        [s] => is_store(state, *s) && !lists(state.failed.as_slice(), *s),
+        [s] => is_store(run, *s) && !lists(run.failed.as_slice(), *s),
         _ => false,
     }
 }
 
-fn next_fits(capacity: u64, left: &[Entry]) -> bool
-    ensures { result ≡ first_fits capacity left.now left.now }
+fn is_open(admission: &Admission) -> bool
+    ensures { result ≡ is_admissible admission.now }
 {
-    for entry in left {
-        if !entry.spooled {
-            return has_room(capacity, left, &entry.message);
-        }
-    }
-    false
+    admission.end < 1 << 63 && admission.offers.len() <= 1024
 }
 
-fn refills(failed: &[u32], dest: &Dest) -> bool
-    ensures { result ≡ may_refill failed.now dest.now }
+fn are_open(records: &[Admission]) -> bool
+    ensures { result ≡ list_all is_admissible records.now }
 {
-    if !store_works(failed, store_number(dest)) {
-        return false;
-    }
-    match dest.setup.buffer {
-        Some(buffer) => next_fits(buffer.capacity, dest.left.as_slice()),
-        None => false,
-    }
+    records.iter().all(|admission| is_open(admission))
 }
 
-fn settles(dest: &Dest) -> bool
-    ensures { result ≡ may_settle dest.now }
+fn has_credit(outstanding: usize, count: usize, window: usize) -> bool
+    ensures { result ≡ nat_le (outstanding + count) window }
 {
-    !dest.left.is_empty()
+    count <= window && outstanding <= window - count
 }
 
-fn stores(state: &State, i: u32, w: u64, inlet: &Inlet) -> bool
-    ensures { result ≡ may_store state.now i w inlet.now }
+/// 1 to 1000 records, for which the window has room.
+pub(crate) fn may_admit(source: &SourceRun, records: &[Admission]) -> bool
+    ensures { result ≡ may_admit_run records.now source.now }
 {
-    store_works(state.failed.as_slice(), inlet.setup.store)
-        && w == mark_at(state.dests.as_slice(), i as usize, inlet)
-        && w != inlet.stored
+    let count = records.len();
+    let outstanding = source.records.len().saturating_sub(source.acked);
+    0 < count
+        && count <= 1000
+        && has_credit(outstanding, count, source.setup.window as usize)
+        && are_open(records)
 }
 
-fn rewinds(failed: &[u32], inlet: &Inlet) -> bool
-    ensures { result ≡ may_rewind failed.now inlet.now }
+/// So many entries are left.
+pub(crate) fn may_settle(n: u32, dest: &DestRun) -> bool
+    ensures { result ≡ may_settle_run n dest.now }
 {
-    store_works(failed, inlet.setup.store) && inlet.ends.is_empty() && inlet.stored != 0
+    0 < n && n as usize <= dest.kept.len().saturating_sub(dest.taken)
 }
 
-fn admits(state: &State, i: u32, end: u64, offers: &[Offer], inlet: &Inlet) -> bool
-    ensures { result ≡ may_admit state.now i end offers.now inlet.now }
+/// The store works, and the position is the mark and not the stored one.
+pub(crate) fn may_store(failed: &[u32], w: u64, source: &SourceRun) -> bool
+    ensures { result ≡ may_store_run failed.now w source.now }
 {
-    outstanding_at(state.dests.as_slice(), i as usize, inlet) < inlet.setup.window as usize
-        && end < 1 << 63
-        && offers.len() <= 1024
+    store_works(failed, source.setup.store) && w == source.mark && w != source.stored
 }
 
-/// What an Admit needs, but for its verdicts.
-pub(crate) fn is_admit_open(state: &State, i: u32, end: u64, offers: &[Offer]) -> bool
-    ensures { result ≡ passes_at state.now.inlets i (may_admit state.now i end offers.now) }
+/// The store works, no record was admitted, and the stored position isn't 0.
+pub(crate) fn may_rewind(failed: &[u32], source: &SourceRun) -> bool
+    ensures { result ≡ may_rewind_run failed.now source.now }
 {
-    match state.inlets.get(i as usize) {
-        Some(inlet) => admits(state, i, end, offers, inlet),
-        None => false,
-    }
-}
-
-pub(crate) fn is_settle_legal(state: &State, d: u32, new: &[u32]) -> bool
-    ensures { result ≡ is_legal_act state.now (Act.Settle d) new.now }
-{
-    match state.dests.get(d as usize) {
-        Some(dest) => {
-            settles(dest) && fails_only(state.failed.as_slice(), store_number(dest), new)
-        }
-        None => false,
-    }
-}
-
-pub(crate) fn is_refill_legal(state: &State, d: u32, new: &[u32]) -> bool
-    ensures { result ≡ is_legal_act state.now (Act.Refill d) new.now }
-{
-    match state.dests.get(d as usize) {
-        Some(dest) => refills(state.failed.as_slice(), dest) && new.is_empty(),
-        None => false,
-    }
-}
-
-pub(crate) fn is_store_legal(state: &State, i: u32, w: u64, new: &[u32]) -> bool
-    ensures { result ≡ is_legal_act state.now (Act.Store i w) new.now }
-{
-    match state.inlets.get(i as usize) {
-        Some(inlet) => stores(state, i, w, inlet) && new.is_empty(),
-        None => false,
-    }
-}
-
-pub(crate) fn is_rewind_legal(state: &State, i: u32, new: &[u32]) -> bool
-    ensures { result ≡ is_legal_act state.now (Act.Rewind i) new.now }
-{
-    match state.inlets.get(i as usize) {
-        Some(inlet) => rewinds(state.failed.as_slice(), inlet) && new.is_empty(),
-        None => false,
-    }
-}
-
-pub(crate) fn is_look_legal(state: &State, new: &[u32]) -> bool
-    ensures { result ≡ is_legal_act state.now Act.Look new.now }
-{
-    fails_one(state, new)
+    store_works(failed, source.setup.store) && source.records.is_empty() && source.stored != 0
 }

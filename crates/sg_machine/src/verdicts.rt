@@ -1,33 +1,16 @@
 // What becomes of offers.
 ghost use Rattle.std.specs.Prelude.{◌≡◌, ◌≤◌, ◌<◌, ◌+◌, ◌^◌, Some, None, Ok, true, length, slice_get, if◌then◌else◌, IfOk, OnOk};
 ghost use Rattle.sg_list.specs.Lists.{change};
-ghost use Rattle.sg_machine.specs.Entries.{any_waits, unflowed};
-ghost use Rattle.sg_machine.specs.Verdicts.{is_listed, same_verdict, queue_verdict, disk_verdict, judged_by, judged_at, judged, keep, take_offer, take_offers};
-ghost use Rattle.sg_machine.specs.Drops.{most_dropped};
+ghost use Rattle.sg_machine.specs.Verdicts.{is_listed, same_verdict};
+ghost use Rattle.sg_machine.specs.declared.event.Verdict.TheVariants.{Spooled};
+ghost use Rattle.sg_machine.specs.Turns.{has_space, queue_turn, disk_turn, fails_turn, judged_turn, judged_run, kept_run, spooled_run, offered_run, offered_runs, judged_runs, owes_by, owing, most_run, IsSpooledRight};
 
-use crate::lengths::has_room;
-use crate::{BufferSetup, Dest, Entry, Origin, Verdict};
+use crate::moves::used_with;
+use crate::running::{DestRun, Slip};
+use crate::{BufferSetup, Verdict};
 use sg_list::Seq;
-use sg_msg::Offer;
+use sg_msg::{Message, Offer};
 use std::alloc::AllocError;
-
-fn has_waiting(left: &[Entry]) -> bool
-    ensures { result ≡ any_waits left.now }
-{
-    left.iter().any(|e| !e.spooled)
-}
-
-fn unflowed_count(left: &[Entry]) -> usize
-    ensures { result ≡ unflowed left.now }
-{
-    let mut count = 0;
-    for entry in left {
-        if !entry.flow {
-            count += 1;
-        }
-    }
-    count
-}
 
 pub(crate) fn lists(numbers: &[u32], n: u32) -> bool
     ensures { result ≡ is_listed n numbers.now }
@@ -35,18 +18,24 @@ pub(crate) fn lists(numbers: &[u32], n: u32) -> bool
     numbers.iter().any(|m| *m == n)
 }
 
-fn by_queue(fifo: u32, left: &[Entry], offer: &Offer) -> Verdict
-    ensures { result ≡ queue_verdict fifo left.now offer.now }
+fn fits(capacity: u64, dest: &DestRun, message: &Message) -> bool
+    ensures { result ≡ has_space capacity dest.now message.now }
 {
-    if offer.flow || unflowed_count(left) < fifo as usize {
+    used_with(capacity, dest.used, message).is_some()
+}
+
+fn by_queue(dest: &DestRun, offer: &Offer) -> Verdict
+    ensures { result ≡ queue_turn dest.now offer.now }
+{
+    if offer.flow || dest.unflowed < dest.setup.fifo as usize {
         Verdict::Queued
     } else {
         Verdict::DroppedFull
     }
 }
 
-fn by_disk(buffer: &BufferSetup, left: &[Entry], broken: bool, offer: &Offer) -> Verdict
-    ensures { result ≡ disk_verdict buffer.now left.now broken offer.now }
+fn by_disk(buffer: &BufferSetup, dest: &DestRun, broken: bool, offer: &Offer) -> Verdict
+    ensures { result ≡ disk_turn buffer.now dest.now broken offer.now }
 {
     if broken {
         if offer.flow {
@@ -54,7 +43,7 @@ fn by_disk(buffer: &BufferSetup, left: &[Entry], broken: bool, offer: &Offer) ->
         } else {
             Verdict::DroppedDisk
         }
-    } else if has_waiting(left) || !has_room(buffer.capacity, left, &offer.message) {
+    } else if dest.moved < dest.kept.len() || !fits(buffer.capacity, dest, &offer.message) {
         if offer.flow {
             Verdict::Waits
         } else {
@@ -78,118 +67,210 @@ fn are_same(a: Verdict, b: Verdict) -> bool
     }
 }
 
+// The store fails at the offer.
+fn breaks(
+    buffer: &BufferSetup,
+    dest: &DestRun,
+    failing: &[u32],
+    failed: &[u32],
+    offer: &Offer,
+) -> bool
+    ensures { result ≡ fails_turn buffer.now dest.now failing.now failed.now offer.now }
+{
+    lists(failing, buffer.store)
+        && are_same(
+            Verdict::Spooled,
+            by_disk(buffer, dest, lists(failed, buffer.store), offer),
+        )
+}
+
 // Whether the verdict is right, with the stores that have failed then.
 fn judge(
-    dest: &Dest,
+    dest: &DestRun,
+    failing: &[u32],
     failed: &mut Seq<u32>,
     offer: &Offer,
     verdict: Verdict,
 ) -> Result<bool, AllocError>
-    ensures { IfOk result (λ ok. judged_by dest.now.setup.buffer dest.now.setup.fifo dest.now.left failed.old offer.now verdict ≡ (if ok then Some failed.new else None)) }
+    ensures { IfOk result (λ ok. judged_turn dest.now.setup.buffer dest.now failing.now failed.old offer.now verdict ≡ (if ok then Some failed.new else None)) }
 {
-    let left = dest.left.as_slice();
     match dest.setup.buffer {
-        None => Ok(are_same(verdict, by_queue(dest.setup.fifo, left, offer))),
+        None => Ok(are_same(verdict, by_queue(dest, offer))),
         Some(buffer) => {
-            let usual = by_disk(&buffer, left, lists(failed.as_slice(), buffer.store), offer);
-            if are_same(verdict, usual) {
-                return Ok(true);
-            }
-            if are_same(Verdict::Spooled, usual)
-                && are_same(verdict, by_disk(&buffer, left, true, offer))
-            {
+            if breaks(&buffer, dest, failing, failed.as_slice(), offer) {
+                if !are_same(verdict, by_disk(&buffer, dest, true, offer)) {
+                    return Ok(false);
+                }
                 failed.push(buffer.store)?;
                 return Ok(true);
             }
-            Ok(false)
+            let broken = lists(failed.as_slice(), buffer.store);
+            Ok(are_same(verdict, by_disk(&buffer, dest, broken, offer)))
         }
     }
 }
 
-fn keep_entry(
-    dest: &mut Dest,
-    origin: Origin,
-    offer: &Offer,
-    spooled: bool,
-) -> Result<(), AllocError>
-    ensures { OnOk result (dest.new ≡ keep origin offer.now spooled dest.old) }
+// A count of entries that would pass the end of a number is want of memory.
+fn one_more(count: usize) -> Result<usize, AllocError>
+    ensures { IfOk result (λ n. n ≡ count + 1) }
 {
-    dest.left.push(Entry {
-        inlet: origin.inlet,
-        number: Some(origin.number),
-        end: origin.end,
-        flow: offer.flow,
-        message: offer.message.share()?,
-        spooled,
-    })
+    match count.checked_add(1) {
+        Some(more) => Ok(more),
+        None => Err(AllocError),
+    }
 }
 
+fn more_unflowed(unflowed: usize, flow: bool) -> Result<usize, AllocError>
+    ensures { IfOk result (λ n. n ≡ (if flow then unflowed else unflowed + 1)) }
+{
+    if flow {
+        return Ok(unflowed);
+    }
+    one_more(unflowed)
+}
+
+fn keep_slip(dest: &mut DestRun, inlet: u32, number: u64, offer: &Offer) -> Result<(), AllocError>
+    ensures { OnOk result (dest.new ≡ kept_run inlet number offer.now dest.old) }
+{
+    let unflowed = more_unflowed(dest.unflowed, offer.flow)?;
+    dest.kept.push(Slip {
+        inlet,
+        number: Some(number),
+        flow: offer.flow,
+        message: offer.message.share()?,
+    })?;
+    dest.unflowed = unflowed;
+    Ok(())
+}
+
+fn spool_slip(
+    dest: &mut DestRun,
+    inlet: u32,
+    number: u64,
+    offer: &Offer,
+    capacity: u64,
+) -> Result<(), AllocError>
+    requires { has_space capacity dest.old offer.now.message ≡ true }
+    ensures { OnOk result (dest.new ≡ spooled_run inlet number offer.now dest.old) }
+{
+    let used = match used_with(capacity, dest.used, &offer.message) {
+        Some(used) => used,
+        None => unreachable!(),
+    };
+    let moved = one_more(dest.moved)?;
+    keep_slip(dest, inlet, number, offer)?;
+    dest.moved = moved;
+    dest.used = used;
+    Ok(())
+}
+
+// Keeps the message of an offer whose verdict is right, or counts it as dropped.
 fn take_one(
-    dest: &mut Dest,
-    origin: Origin,
+    dest: &mut DestRun,
+    inlet: u32,
+    number: u64,
     offer: &Offer,
     verdict: Verdict,
 ) -> Result<(), AllocError>
     requires full { dest.old.dropped_full + 1 < 2 ^ 64 }
     requires disk { dest.old.dropped_disk + 1 < 2 ^ 64 }
-    ensures { OnOk result (dest.new ≡ take_offer origin offer.now verdict dest.old) }
+    requires space { IsSpooledRight dest.old offer.now verdict }
+    ensures { OnOk result (dest.new ≡ offered_run inlet number offer.now verdict dest.old) }
 {
     match verdict {
-        Verdict::Queued => keep_entry(dest, origin, offer, false),
-        Verdict::Spooled => keep_entry(dest, origin, offer, true),
-        Verdict::Waits => keep_entry(dest, origin, offer, false),
-        Verdict::DroppedFull => {
-            dest.dropped_full += 1;
-            Ok(())
+        Verdict::Queued => keep_slip(dest, inlet, number, offer)?,
+        Verdict::Spooled => {
+            let capacity = match dest.setup.buffer {
+                Some(buffer) => buffer.capacity,
+                None => unreachable!(),
+            };
+            spool_slip(dest, inlet, number, offer, capacity)?;
         }
-        Verdict::DroppedDisk => {
-            dest.dropped_disk += 1;
-            Ok(())
-        }
+        Verdict::Waits => keep_slip(dest, inlet, number, offer)?,
+        Verdict::DroppedFull => dest.dropped_full += 1,
+        Verdict::DroppedDisk => dest.dropped_disk += 1,
     }
+    Ok(())
 }
 
 // Judges one offer and keeps what it leaves; false where its verdict is wrong.
 fn admit_one(
-    dests: &mut Seq<Dest>,
+    dests: &mut Seq<DestRun>,
+    failing: &[u32],
     failed: &mut Seq<u32>,
-    origin: Origin,
+    inlet: u32,
+    number: u64,
     offer: &Offer,
     verdict: Verdict,
 ) -> Result<bool, AllocError>
-    requires { most_dropped dests.old + 1 < 2 ^ 64 }
-    ensures judged { IfOk result (λ ok. judged_at (slice_get dests.old offer.now.dest) failed.old offer.now verdict ≡ (if ok then Some failed.new else None)) }
-    ensures kept { result ≡ Ok true → dests.new ≡ change dests.old offer.now.dest (take_offer origin offer.now verdict) }
-    ensures dropped { result ≡ Ok true → most_dropped dests.new ≤ most_dropped dests.old + 1 }
+    requires { most_run dests.old + 1 < 2 ^ 64 }
+    ensures judged { IfOk result (λ ok. judged_run (slice_get dests.old offer.now.dest) failing.now failed.old offer.now verdict ≡ (if ok then Some failed.new else None)) }
+    ensures kept { result ≡ Ok true → dests.new ≡ change dests.old offer.now.dest (offered_run inlet number offer.now verdict) }
+    ensures dropped { result ≡ Ok true → most_run dests.new ≤ most_run dests.old + 1 }
 {
     let place = offer.dest as usize;
-    if place >= dests.len() || !judge(dests.at(place), failed, offer, verdict)? {
+    if place >= dests.len() || !judge(dests.at(place), failing, failed, offer, verdict)? {
         return Ok(false);
     }
-    take_one(dests.at_mut(place), origin, offer, verdict)?;
+    take_one(dests.at_mut(place), inlet, number, offer, verdict)?;
     Ok(true)
 }
 
-/// Judges offers in order and keeps what they leave; false where a verdict is wrong.
+/// Judges the offers of a record in order and keeps what they leave; false where a verdict is wrong,
+/// or there are more or fewer than offers.
 pub(crate) fn admit_offers(
-    dests: &mut Seq<Dest>,
+    dests: &mut Seq<DestRun>,
+    failing: &[u32],
     failed: &mut Seq<u32>,
-    origin: Origin,
+    inlet: u32,
+    number: u64,
     offers: &[Offer],
     verdicts: &[Verdict],
 ) -> Result<bool, AllocError>
-    requires { most_dropped dests.old + length offers.now < 2 ^ 64 }
-    ensures judged { IfOk result (λ ok. judged origin dests.old failed.old offers.now verdicts.now ≡ (if ok then Some failed.new else None)) }
-    ensures kept { result ≡ Ok true → dests.new ≡ take_offers origin dests.old offers.now verdicts.now }
-    ensures dropped { result ≡ Ok true → most_dropped dests.new ≤ most_dropped dests.old + length offers.now }
+    requires { most_run dests.old + length offers.now < 2 ^ 64 }
+    ensures judged { IfOk result (λ ok. judged_runs inlet number failing.now dests.old failed.old offers.now verdicts.now ≡ (if ok then Some failed.new else None)) }
+    ensures kept { result ≡ Ok true → dests.new ≡ offered_runs inlet number dests.old offers.now verdicts.now }
+    ensures dropped { result ≡ Ok true → most_run dests.new ≤ most_run dests.old + length offers.now }
 {
     if offers.len() != verdicts.len() {
         return Ok(false);
     }
     for k in 0..offers.len() {
-        if !admit_one(dests, failed, origin, &offers[k], verdicts[k])? {
+        if !admit_one(
+            dests,
+            failing,
+            failed,
+            inlet,
+            number,
+            &offers[k],
+            verdicts[k],
+        )? {
             return Ok(false);
         }
     }
     Ok(true)
+}
+
+fn owes(flow: bool, verdict: Verdict) -> bool
+    ensures { result ≡ owes_by flow verdict }
+{
+    match verdict {
+        Verdict::Queued | Verdict::Waits => flow,
+        Verdict::Spooled | Verdict::DroppedFull | Verdict::DroppedDisk => false,
+    }
+}
+
+/// How many acknowledgements a record with these offers and verdicts needs.
+pub(crate) fn owed_by(offers: &[Offer], verdicts: &[Verdict]) -> u32
+    requires same { length offers.now ≡ length verdicts.now }
+    requires few { length offers.now ≤ 1024 }
+    ensures { result ≡ owing offers.now verdicts.now }
+{
+    let mut count = 0;
+    for k in 0..offers.len() {
+        if owes(offers[k].flow, verdicts[k]) {
+            count += 1;
+        }
+    }
+    count
 }

@@ -9,6 +9,8 @@ use Rattle.sg_stable.specs.Position.{IsPosition}
 use Rattle.sg_machine.specs.declared.event.Event.{Event}
 use Rattle.sg_machine.specs.declared.setup.SourceSetup.{SourceSetup}
 use Rattle.sg_machine.specs.declared.setup.Setup.{Setup}
+use Rattle.sg_machine.specs.declared.setup.DestSetup.{DestSetup}
+use Rattle.sg_machine.specs.declared.setup.BufferSetup.{BufferSetup}
 use Rattle.sg_machine.specs.declared.state.Inlet.{Inlet}
 use Rattle.sg_machine.specs.declared.state.Dest.{Dest}
 use Rattle.sg_machine.specs.declared.state.State.{State}
@@ -18,12 +20,14 @@ use Rattle.sg_machine.specs.Safe.{Safe, nothing}
 use Rattle.sg_machine.specs.Verdicts.{is_listed}
 use Rattle.sg_machine.proofs.RunLemmas.{are_legal-parts}
 use Rattle.sg_machine.proofs.WindowLaws.{within-opened, within-after_all}
-use Rattle.sg_core.specs.States.{CoreState, SinkState}
-use Rattle.sg_core.specs.Stores.{StoreState, position_of}
-use Rattle.sg_core.specs.Standing.{IsAt, StandsFor, HoldsPosition, IsStored, source_of, sources_from, setup_of}
-use Rattle.sg_core.specs.Images.{AreImages, position_in, positions_in}
-use Rattle.sg_core.specs.declared.source.Source.{Source}
-use Rattle.sg_core.proofs.ImageLaws.{safe-now}
+use Rattle.sg_sinks.specs.States.{SinkState}
+use Rattle.sg_stores.specs.Stores.{StoreState}
+use Rattle.sg_stores.specs.Positions.{position_of}
+use Rattle.sg_standing.specs.States.{CoreState, setup_of}
+use Rattle.sg_standing.specs.Standing.{IsAt, StandsFor, HoldsPosition, IsStored, source_of, sources_from}
+use Rattle.sg_standing.specs.Images.{AreImages, position_in, positions_in}
+use Rattle.sg_standing.specs.declared.source.Source.{Source}
+use Rattle.sg_standing.proofs.Now.{AreQueues, safe-now, stores-now}
 use Rattle.sg_engine.specs.Path.{path_setup}
 use Rattle.sg_engine.specs.History.{stored_now, opening_in, opening_at}
 use Rattle.sg_machine.specs.declared.tally.Tally.{Tally}
@@ -59,7 +63,7 @@ only-inlet core state setup at =
 
 holds-store : (o : Option StoreState) (p : ℕ) (failed : Bool) → HoldsPosition o p failed → (store : StoreState) × ((o ≡ Some store) × (store.position ≡ p) × (store.failed ≡ failed))
 holds-store None p failed h = absurd h
-holds-store (Some store) p failed h = (store, (refl, h.0, h.1))
+holds-store (Some store) p failed h = (store, (refl, h.position_is, h.failed_is))
 
 -- the store of its only inlet
 pub only-store : (core : CoreState) (state : State) → setup_of core ≡ path_setup → IsAt core state
@@ -103,13 +107,30 @@ one-position core state bytes setup at =
     let only = only-inlet core state setup at in
     ap (λ xs. positions_in xs (bytes ∷ [])) only.sources ∙ ap (λ o. position_in (bytes ∷ []) o ∷ []) only.store
 
+-- no destination has a disk-buffer
+no-buffer : (sinks : List SinkState) (s : DestSetup) → map (λ (k : SinkState). k.setup) sinks ≡ s ∷ [] → s.buffer ≡ None → (d : ℕ) (sink : SinkState) (buffer : BufferSetup) → slice_get sinks d ≡ Some sink → sink.setup.buffer ≡ Some buffer → ⊥
+no-buffer [] s h none d sink buffer there has = let wrong : [] ≡ s ∷ [] = h in cc
+no-buffer (x ∷ []) s h none zero sink buffer there has =
+    let e : x.setup ∷ [] ≡ s ∷ [] = h in
+    let one : x.setup ≡ s = cc in
+    let same : Some x ≡ Some sink = there in
+    let is : x ≡ sink = cc in
+    let wrong : None ≡ Some buffer = sym none ∙ ap (λ (t : DestSetup). t.buffer) (sym one) ∙ ap (λ (k : SinkState). k.setup.buffer) is ∙ has in
+    cc
+no-buffer (x ∷ []) s h none (suc d) sink buffer there has = let wrong : None ≡ Some sink = there in cc
+no-buffer (x ∷ y ∷ sinks) s h none d sink buffer there has =
+    let wrong : x.setup ∷ y.setup ∷ map (λ (k : SinkState). k.setup) sinks ≡ s ∷ [] = h in cc
+
+no-buffers : (core : CoreState) → setup_of core ≡ path_setup → AreQueues core.sinks
+no-buffers core setup = no-buffer core.sinks _ (ap (λ (x : Setup). x.dests) setup) refl
+
 safe-image : (core : CoreState) (position : ℕ) (events : List Event) (store : StoreState) (bytes : List ℕ) → setup_of core ≡ path_setup → StandsFor core (start_at position) events
     → core.stores ≡ store ∷ [] → IsImage store.disk bytes → Safe (start_at position) events nothing (images_of bytes)
 safe-image core position events store bytes setup stands stores image =
     let opening : Opening = record { places = position ∷ []; entries = [] } in
     let lists : List (List Kept) = [] ∷ [] in
     let are : AreImages core.stores (bytes ∷ []) = subst (λ xs. AreImages xs (bytes ∷ [])) (sym stores) (one-image store bytes image) in
-    let safe = safe-now path_setup opening events core (bytes ∷ []) lists stands are (sym (one-sink core setup)) in
+    let safe = safe-now path_setup opening events core (bytes ∷ []) lists stands are (no-buffers core setup) (sym (one-sink core setup)) in
     let P : List ℕ → Type 0 = λ ps. Safe (start_at position) events nothing (record { positions = ps; lists = lists }) in
     subst P (one-position core (after_all (start_at position) events) bytes setup stands.at) safe
 
@@ -118,8 +139,9 @@ position-image : (core : CoreState) (position : ℕ) (events : List Event) (stor
     → core.stores ≡ store ∷ [] → IsImage store.disk bytes → IsPosition (cell_value bytes) bytes
 position-image core position events store bytes setup stands stores image =
     let only = only-inlet core (after_all (start_at position) events) setup stands.at in
-    let one = stands.images 0 only.inlet 0 store (ap (λ xs. slice_get xs 0) only.inlets) only.store (ap (λ xs. slice_get xs 0) stores) bytes image in
-    record { shape = one.is_position.shape; holds = refl }
+    let are : AreImages core.stores (bytes ∷ []) = subst (λ xs. AreImages xs (bytes ∷ [])) (sym stores) (one-image store bytes image) in
+    let one = (stores-now core (start_at position) events (bytes ∷ []) stands are).positions 0 (source_of _ 0 only.inlet) 0 bytes (ap (λ xs. slice_get xs 0) only.sources) only.store refl in
+    record { shape = one.1.shape; holds = refl }
 
 windows : (h : History) → are_legal (start_of h) h.events ≡ true → (before later : List Event) → h.events ≡ before ++ later → WithinWindows (after_all (start_of h) before)
 windows h legal before later e =

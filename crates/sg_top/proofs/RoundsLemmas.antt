@@ -10,9 +10,10 @@ use Rattle.sg_frame.specs.Records.{Record}
 use Rattle.sg_machine.specs.declared.event.Event.{Event}
 use Rattle.sg_machine.specs.Runs.{after_all}
 use Rattle.sg_machine.specs.Verdicts.{is_listed}
-use Rattle.sg_core.specs.States.{CoreState}
-use Rattle.sg_core.specs.Stores.{StoreState}
-use Rattle.sg_core.specs.Standing.{IsAt, ends_of}
+use Rattle.sg_machine.specs.Running.{ends_at}
+use Rattle.sg_stores.specs.Stores.{StoreState}
+use Rattle.sg_standing.specs.States.{CoreState}
+use Rattle.sg_standing.specs.Standing.{IsAt}
 use Rattle.sg_engine.specs.Delivery.{last_end}
 use Rattle.sg_engine.specs.History.{Stands, IsTaken, admitted, offer_count, kept_frames, settled_frames, stored_now}
 use Rattle.sg_engine.specs.Serving.{Blames, GoesOn, HasWorked, StoreRose, WereRun, ServesWith}
@@ -36,7 +37,7 @@ no-admitted zero place = refl
 no-admitted (suc position) (suc place) = refl
 no-admitted (suc position) zero = refl
 
-no-ends : (position place : ℕ) → ends_of (after_all (start_at position) (rewinds position place)).inlets 0 ≡ []
+no-ends : (position place : ℕ) → ends_at (after_all (start_at position) (rewinds position place)).inlets 0 ≡ []
 no-ends zero place = refl
 no-ends (suc position) (suc place) = refl
 no-ends (suc position) zero = refl

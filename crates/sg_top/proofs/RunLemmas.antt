@@ -1,10 +1,9 @@
 -- Lemmas on the causes of statuses.
-use Rattle.std.proofs.Common.{◌≡◌, ◌≤◌, ℕ, List, Some, arith}
+use Rattle.std.proofs.Common.{◌≡◌, ◌≤◌, ℕ, List, Some, arith, inl, inr}
 use Rattle.sg_device.specs.Faults.{Rose}
 use Rattle.sg_outside.specs.World.{WorldState, Files}
 use Rattle.sg_device.specs.Disk.{content as store_content}
-use Rattle.sg_stable.specs.Position.{IsDamagedAt}
-use Rattle.sg_core.proofs.ImageLaws.{not-damaged}
+use Rattle.sg_stable.specs.Position.{IsPosition, IsDamagedAt}
 use Rattle.sg_top.specs.Devices.{Shelf, Feed, Drain, Reached, Nothing, AtStore, AtCore, AtInlet, AtRounds, IfServed, ServedAnd, IsUsedAnd, store_of}
 use Rattle.sg_top.specs.History.{History}
 use Rattle.sg_top.specs.Run.{HasStatus, SpentPulls, IsSpent, IsUntroubled, Works, WorksStore, WorksDevices, IsComplete}
@@ -73,6 +72,14 @@ cause-spent old new (AtStore s) status cause = tt
 cause-spent old new (AtCore s h) status cause = tt
 cause-spent old new (AtInlet s h f) status cause = tt
 cause-spent old new (AtRounds s h f d) status cause = served-spent old new s h f d status cause
+
+-- a position store isn't damaged
+not-damaged : (at position : ℕ) (bytes : List ℕ) → IsPosition position bytes → IsDamagedAt at bytes → ⊥
+not-damaged at position bytes is damaged =
+    elim damaged [
+      | inl d ↦ d.nonzero (is.shape.zeros at d.inside d.outside)
+      | inr d ↦ d.1 is.shape.size
+    ]
 
 -- a store that is none is damaged, and a failed one has a count that rose
 no-damage : (s : Shelf) (at : ℕ) → WorksStore s → ((bytes : List ℕ) → store_content s.opened ≡ Some bytes → IsDamagedAt at bytes) → ⊥

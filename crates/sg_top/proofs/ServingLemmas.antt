@@ -12,11 +12,11 @@ use Rattle.sg_stable.specs.Position.{IsPosition}
 use Rattle.sg_machine.specs.declared.event.Event.{Event}
 use Rattle.sg_machine.specs.Runs.{after_all}
 use Rattle.sg_machine.specs.Verdicts.{is_listed}
-use Rattle.sg_core.specs.States.{CoreState}
-use Rattle.sg_core.specs.Stores.{stored_in}
-use Rattle.sg_core.specs.Standing.{StandsFor, setup_of}
-use Rattle.sg_core.specs.declared.answers.CoreRefusal.{CoreRefusal}
-use Rattle.sg_core.specs.declared.answers.CoreRefusal.TheVariants.{Damage, DiskFault as CoreFault, NoMemory}
+use Rattle.sg_stores.specs.Positions.{stored_in}
+use Rattle.sg_stores.specs.declared.answers.CoreRefusal.{CoreRefusal}
+use Rattle.sg_stores.specs.declared.answers.CoreRefusal.TheVariants.{Damage, DiskFault as CoreFault, NoMemory}
+use Rattle.sg_standing.specs.States.{CoreState, setup_of}
+use Rattle.sg_standing.specs.Standing.{StandsFor}
 use Rattle.sg_engine.specs.Path.{path_setup}
 use Rattle.sg_engine.specs.History.{stored_now}
 use Rattle.sg_engine.specs.declared.rounds.Ended.{Ended}

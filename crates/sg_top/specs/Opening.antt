@@ -4,11 +4,12 @@ use Rattle.sg_device.specs.Disk.{DiskState, content, WhereTold, Rests}
 use Rattle.sg_device.specs.Faults.{Rose}
 use Rattle.sg_stable.specs.Position.{IsDamagedAt}
 use Rattle.sg_machine.specs.declared.event.Event.{Event}
-use Rattle.sg_core.specs.States.{CoreState}
-use Rattle.sg_core.specs.Stores.{StoreState, IsOpened}
-use Rattle.sg_core.specs.Standing.{StandsFor, setup_of}
-use Rattle.sg_core.specs.declared.answers.CoreRefusal.{CoreRefusal}
-use Rattle.sg_core.specs.declared.answers.CoreRefusal.TheVariants.{Damage, DiskFault, NoMemory}
+use Rattle.sg_stores.specs.Stores.{StoreState}
+use Rattle.sg_stores.specs.Opening.{IsOpened}
+use Rattle.sg_stores.specs.declared.answers.CoreRefusal.{CoreRefusal}
+use Rattle.sg_stores.specs.declared.answers.CoreRefusal.TheVariants.{Damage, DiskFault, NoMemory}
+use Rattle.sg_standing.specs.States.{CoreState, setup_of}
+use Rattle.sg_standing.specs.Standing.{StandsFor}
 use Rattle.sg_engine.specs.Path.{path_setup}
 use Rattle.sg_engine.specs.History.{stored_now}
 use Rattle.sg_top.specs.History.{start_at, rewinds, broken_rewind}

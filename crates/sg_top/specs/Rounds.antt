@@ -6,8 +6,8 @@ use Rattle.sg_device.specs.Outlet.{OutletState}
 use Rattle.sg_machine.specs.declared.event.Event.{Event}
 use Rattle.sg_machine.specs.declared.state.State.{State}
 use Rattle.sg_machine.specs.Tallies.{tally_of}
-use Rattle.sg_core.specs.States.{CoreState}
-use Rattle.sg_core.specs.Standing.{IsAt, setup_of}
+use Rattle.sg_standing.specs.States.{CoreState, setup_of}
+use Rattle.sg_standing.specs.Standing.{IsAt}
 use Rattle.sg_engine.specs.Path.{path_setup}
 use Rattle.sg_engine.specs.History.{Stands}
 use Rattle.sg_engine.specs.Serving.{Blames, Serves}

@@ -3,9 +3,10 @@ ghost use Rattle.std.specs.Prelude.{◌≡◌, ◌∷◌, [], length, MatchResul
 ghost use Rattle.sg_top.specs.Opening.{IsReady, IsOver, disk_of, status_refused, RefusesCore};
 
 use crate::status::Status;
-use sg_core::{Core, CoreRefusal};
+use sg_core::Core;
 use sg_device::Disk;
 use sg_engine::path_setup;
+use sg_stores::CoreRefusal;
 use std::alloc::Global;
 
 /// The one store of a list.

@@ -1,10 +1,6 @@
 // The machine that the program runs on: real files, sockets and standard output.
-ghost use Rattle.std.specs.Prelude.{None};
-ghost use Rattle.sg_outside.specs.World.{WorldState};
-ghost use Rattle.sg_host.specs.Inlets.{inlets_of};
-ghost use Rattle.sg_host.specs.Outlets.{outlets_of};
-ghost use Rattle.sg_host.specs.Paths.{paths_of};
-ghost use Rattle.sg_host.specs.Stores.{stores_of};
+ghost use Rattle.std.specs.Prelude.{◌≡◌, IfOk};
+ghost use Rattle.sg_world.specs.Host.{host_state, unused};
 
 use crate::World;
 use crate::world::LONGEST;
@@ -35,7 +31,9 @@ pub struct HostMachine {
 
 impl HostMachine {
     /// The machine, of which nothing was asked yet.
-    pub fn new(rt: HostRuntime) -> Result<HostMachine, NoMemory> {
+    pub fn new(rt: HostRuntime) -> Result<HostMachine, NoMemory>
+        ensures { IfOk result (λ machine. host_state machine ≡ unused) }
+    {
         let alloc = rt.alloc();
         let rest = Rest::new(alloc, rt)?;
         Ok(HostMachine {
@@ -53,23 +51,7 @@ impl HostMachine {
 }
 
 impl Machine for HostMachine {
-    ghost state = { λ m. record {
-      files = None;
-      unread = m.unread;
-      inlets = inlets_of m.inlets;
-      outlets = outlets_of m.outlets;
-      stores = stores_of m.stores;
-      paths = paths_of m.paths;
-      shelf = None;
-      said = None;
-      read_faults = m.read_faults;
-      inlet_faults = m.inlets.faults;
-      outlet_faults = m.outlets.faults;
-      store_faults = m.stores.faults;
-      paths_faults = m.paths.faults;
-      say_faults = m.say_faults;
-      build_faults = m.build_faults;
-    } };
+    ghost state = { host_state };
 }
 
 impl Files for HostMachine {

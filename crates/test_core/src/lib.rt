@@ -1,13 +1,15 @@
-//! Tests of lists, windows, the machine, the flow core and the rounds over devices in memory.
+//! Tests of lists, windows, the flow core and the rounds over devices in memory.
 #![tactic(auto)]
 
 #[cfg(test)]
-mod engine;
+mod calls;
 #[cfg(test)]
-mod flow;
+mod cores;
+#[cfg(test)]
+mod engine;
 #[cfg(test)]
 mod list;
 #[cfg(test)]
-mod machine;
+mod runs;
 #[cfg(test)]
 mod window;

@@ -1,4 +1,4 @@
-use Rattle.sg_core.proofs.OpenSteps.{window-at, store-at}
+use Rattle.sg_core.proofs.OpenParts.{window-at, store-at}
 use Rattle.sg_core.proofs.opening.sources_at.Goals as goal
 
 pub source_at-requires-clause-window : goal.source_at-requires-clause-window

@@ -1,5 +1,5 @@
 use Rattle.std.proofs.Common.{◌≡◌, take, map}
-use Rattle.sg_core.specs.Parts.{opened_source}
+use Rattle.sg_core.specs.Opening.{opened_source}
 use Rattle.sg_core.proofs.opening.sources_at.Given as goal
 
 abbrev pub invariant-loop-setup : goal.invariant-loop-setup

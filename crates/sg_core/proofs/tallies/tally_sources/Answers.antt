@@ -1,4 +1,4 @@
-use Rattle.sg_core.proofs.FitLemmas.{fit-item}
+use Rattle.sg_core.proofs.Fits.{fit-item}
 use Rattle.sg_core.proofs.tallies.tally_sources.Goals as goal
 
 pub tally_source-requires : goal.tally_source-requires

@@ -1,5 +1,5 @@
 use Rattle.std.proofs.Common.{◌≡◌, take, map}
-use Rattle.sg_core.specs.Parts.{source_tally_of}
+use Rattle.sg_core.specs.Tallying.{source_tally_of}
 use Rattle.sg_core.proofs.tallies.tally_sources.Given as goal
 
 abbrev pub invariant-loop-source : goal.invariant-loop-source

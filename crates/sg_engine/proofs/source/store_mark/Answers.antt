@@ -1,5 +1,5 @@
 use Rattle.std.proofs.Common.{ap, sym, ◌∙◌}
-use Rattle.sg_core.specs.Sources.{mark_in}
+use Rattle.sg_standing.specs.Sources.{mark_in}
 use Rattle.sg_engine.proofs.StateLemmas.{store-number, store-some}
 use Rattle.sg_engine.proofs.StepLemmas.{look-same}
 use Rattle.sg_engine.proofs.RunLemmas.{steps-store, steps-look, stops-store}

@@ -1,7 +1,7 @@
-use Rattle.std.proofs.Common.{refl, ◌≡◌, arith, w64}
+use Rattle.std.proofs.Common.{refl, ◌≡◌, arith, w64, Ok, subst}
 use Rattle.std.proofs.lemmas.Int.{to_z-of_z, ints}
 use Rattle.std.specs.Prelude.{FitsSigned as SFits}
-use Rattle.sg_engine.specs.Turns.{run}
+use Rattle.sg_engine.specs.Turns.{run, Admits}
 use Rattle.sg_engine.specs.declared.rounds.Stop.TheVariants.{NoMemory}
 use Rattle.sg_engine.proofs.PullLemmas.{err-memory, err-is}
 use Rattle.sg_engine.proofs.ReadingLemmas.{gives-timely, ready-taken}
@@ -24,6 +24,10 @@ pub returns-in_err-offers-in-Item-clause-runs : goal.returns-in_err-offers-in-It
 returns-in_err-offers-in-Item-clause-runs g c = λ taken.
     rw (err-memory _ c.from_residual-in_err-offers-in-Item.ensures.1) (stops-memory NoMemory c.args.core.now (g.I.Inlet.state c.args.feed.now) c.args.reader.now _ taken tt c.requires.ready)
 
+pub returns-in_err-records-in-Item-clause-runs : goal.returns-in_err-records-in-Item-clause-runs
+returns-in_err-records-in-Item-clause-runs g c = λ taken.
+    rw (err-memory _ c.from_residual-in_err-records-in-Item.ensures.1) (stops-memory NoMemory c.args.core.now (g.I.Inlet.state c.args.feed.now) c.args.reader.now _ taken tt c.requires.ready)
+
 pub returns-in_err-admit-in-Item-clause-runs : goal.returns-in_err-admit-in-Item-clause-runs
 returns-in_err-admit-in-Item-clause-runs g c = λ taken.
     let stop = c.in_err-admit-in-Item.field-0.0 in
@@ -38,7 +42,7 @@ returns-in_ok-admit-in-Item-clause-runs g c = λ taken.
     let in_range : SFits w64 c.in-Item.at = omega (arith, ints, timely.0, timely.1) in
     let offers = rw (to_z-of_z w64 c.in-Item.at in_range) at c.in_ok-offers-in-Item.ensures in
     steps-taken c.args.core.now c.admit.new.core (g.I.Inlet.state c.args.feed.now) c.args.reader.now _ taken (record { text = c.in-Item.bytes; at = c.in-Item.at; end = c.in-Item.end }) _ _ _
-    c.in_ok-admit-in-Item.ensures.admits refl c.requires.ready offers c.peer.ensures gives refl
+    (subst (λ rs. Admits c.args.core.now c.admit.new.core rs (Ok tt)) c.in_ok-records-in-Item.ensures c.in_ok-admit-in-Item.ensures.admits) refl c.requires.ready offers c.peer.ensures gives refl
 
 pub returns-in_ok-admit-in-Item-clause-ready : goal.returns-in_ok-admit-in-Item-clause-ready
 returns-in_ok-admit-in-Item-clause-ready g c =

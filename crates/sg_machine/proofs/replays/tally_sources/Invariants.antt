@@ -1,6 +1,6 @@
-use Rattle.std.proofs.Common.{◌≡◌, ◌++◌, drop}
-use Rattle.sg_machine.specs.Tallies.{source_tallies}
+use Rattle.std.proofs.Common.{◌≡◌, take, map}
+use Rattle.sg_machine.specs.Fresh.{source_sum}
 use Rattle.sg_machine.proofs.replays.tally_sources.Given as goal
 
-abbrev pub invariant-loop-k : goal.invariant-loop-k
-invariant-loop-k l = l.tallies.items ++ source_tallies l.dests l.k (drop l.k l.inlets) ≡ source_tallies l.dests 0 l.inlets
+abbrev pub invariant-loop-source : goal.invariant-loop-source
+invariant-loop-source l = l.tallies.items ≡ map source_sum (take l.source-index l.sources)

@@ -1,6 +1,6 @@
 use Rattle.std.proofs.Common.{◌≡◌, ◌<◌, ap, ◌∙◌, arith, subst}
 use Rattle.sg_engine.specs.History.{stored_now}
-use Rattle.sg_core.specs.Stores.{stored_in}
+use Rattle.sg_stores.specs.Positions.{stored_in}
 use Rattle.sg_top.specs.History.{rewinds}
 use Rattle.sg_top.specs.Opening.{BegunBy}
 use Rattle.sg_top.proofs.OpeningLemmas.{store-is, begun-anew, begun-broken}

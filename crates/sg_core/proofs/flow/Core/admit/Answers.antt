@@ -1,58 +1,89 @@
-use Rattle.std.proofs.Common.{◌≡◌, ◌∙◌, ◌<◌, ◌*◌, ℕ, List, [], ap, arith, length, map, refl, subst, sym}
-use Rattle.std.proofs.lemmas.List.{append-nil}
-use Rattle.sg_machine.specs.declared.event.Act.TheVariants.{Admit, Look}
-use Rattle.sg_core.specs.States.{SinkState, seen}
-use Rattle.sg_core.specs.Offers.{IsAdmitting}
-use Rattle.sg_core.proofs.CoreCalls.{admit-does}
-use Rattle.sg_core.proofs.OfferLemmas.{given-all, given-more}
-use Rattle.sg_core.proofs.StoreCalls.{quiet-look}
-use Rattle.sg_core.proofs.WholeSteps.{whole-more, whole-still, begun-begin, begun-get}
+use Rattle.std.proofs.Common.{◌≡◌, ◌∙◌, ◌++◌, refl, sym, ap, arith, length, map, take, drop, false}
+use Rattle.sg_machine.specs.Verdicts.{claims_of}
+use Rattle.sg_offers.specs.Payloads.{payloads_of}
+use Rattle.sg_offers.specs.Rooms.{seen_in}
+use Rattle.sg_offers.proofs.ItemLemmas.{take-whole}
+use Rattle.sg_machine.specs.declared.event.Act.TheVariants.{Admit}
+use Rattle.sg_core.proofs.AtSteps.{quiet-look}
+use Rattle.sg_core.proofs.Whole.{whole-still}
+use Rattle.sg_core.proofs.AdmitTurn.{unset-at, all-to, stores-there, stores-apart, credit-for, enter-of, length-seen, length-begun, AdmitTurn, turn-does}
 use Rattle.sg_core.proofs.flow.Core.admit.Goals as goal
 
-pub invariant_of-self : goal.invariant_of-self
-invariant_of-self g c = whole-still _ _ Look c.self.invariant (quiet-look _ _ refl refl refl refl) c.self.invariant.begun c.self.invariant.given
+pub returns-then-credit-len-clause-does : goal.returns-then-credit-len-clause-does
+returns-then-credit-len-clause-does g c = rw (← c.self.view_is) (quiet-look _ _ refl refl refl refl)
 
-pub returns-then-not-has_credit-clause-does : goal.returns-then-not-has_credit-clause-does
-returns-then-not-has_credit-clause-does g c = rw (← c.self.view_is) (quiet-look _ _ refl refl refl refl)
-
-pub invariant_of-self-in-Err : goal.invariant_of-self-in-Err
-invariant_of-self-in-Err g c =
-    whole-still _ _ Look c.self.invariant (quiet-look _ _ refl c.room_for.ensures.same refl refl) c.self.invariant.begun (rw c.room_for.ensures.same c.self.invariant.given)
+pub returns-then-next-len-clause-does : goal.returns-then-next-len-clause-does
+returns-then-next-len-clause-does g c = rw (← c.self.view_is) (quiet-look _ _ refl refl refl refl)
 
 pub returns-in-Err-clause-does : goal.returns-in-Err-clause-does
-returns-in-Err-clause-does g c = rw (← c.self.view_is) (quiet-look _ _ refl c.room_for.ensures.same refl refl)
+returns-in-Err-clause-does g c = rw (← c.self.view_is) (quiet-look _ _ refl c.prepare.ensures.same refl refl)
 
-pub offer_all-left-requires-clause-few : goal.offer_all-left-requires-clause-few
-offer_all-left-requires-clause-few g c =
-    let few = rw (← c.self.view_is) at c.requires.few in
-    let count = c.requires.count in
-    rw c.room_for.ensures.same (given-more (1024 * c.self.inside.calls) _ (map seen c.self.inside.sinks) (omega (arith, few, count)) c.self.invariant.given)
+pub append_all-requires-clause-to : goal.append_all-requires-clause-to
+append_all-requires-clause-to g c =
+    let enter = rw (← c.self.view_is) at c.requires.batch.each in
+    let count = sym (length-seen c.prepare.new.sinks) ∙ ap length c.prepare.ensures.same in
+    let few = enter-of (seen_in c.self.inside.sinks) (length c.prepare.new.sinks) c.args.records.items enter (sym count) in
+    all-to (length c.prepare.new.sinks) c.args.i (seen_in c.self.inside.sinks) c.args.records.items c.deref-2.result.now few (c.deref-2.ensures.value ∙ c.in-Ok.ensures.payloads ∙ ap (λ rs. payloads_of c.args.i (seen_in c.self.inside.sinks) (claims_of rs)) c.deref.ensures.value)
 
-pub begin_at-requires-clause-credit : goal.begin_at-requires-clause-credit
-begin_at-requires-clause-credit g c =
-    let few = rw (← c.self.view_is) at c.requires.few in
-    let begun = begun-get _ _ c.args.i c.at-source.result.now c.self.invariant.begun c.at-source.ensures in
-    let more = c.has_credit.ensures.0 c.if-not-has_credit.false in
-    rw c.at-source.ensures (omega (arith, more), omega (arith, few, begun))
+pub append_all-requires-clause-unset : goal.append_all-requires-clause-unset
+append_all-requires-clause-unset g c = λ d. rw (c.deref_mut.ensures.value, c.in-Ok.ensures.fails) (unset-at c.self.inside.sinks d)
+
+pub append_all-requires-clause-stores : goal.append_all-requires-clause-stores
+append_all-requires-clause-stores g c = rw c.prepare.ensures.same (stores-there _ c.self.invariant.state c.self.invariant.at)
+
+pub append_all-requires-clause-apart : goal.append_all-requires-clause-apart
+append_all-requires-clause-apart g c = rw c.prepare.ensures.same (stores-apart _ c.self.invariant.state c.self.invariant.at)
+
+pub begin_all-requires-clause-credit : goal.begin_all-requires-clause-credit
+begin_all-requires-clause-credit g c =
+    let len = ap length (c.deref-3.ensures.value ∙ c.offer_all-answers.ensures.begun) ∙ length-begun c.args.records.items _ in
+    let batch = c.requires.batch.some in
+    let n = c.len.ensures in
+    let k = c.credit.ensures in
+    let m = c.len-2.ensures in
+    let b = c.begun-next.ensures in
+    rw len (credit-for c.self.inside.sources c.args.i (length c.args.records.items) c.at-source.result.now c.at-source.ensures batch (omega arith) (omega arith))
 
 pub invariant_of-self-2 : goal.invariant_of-self-2
 invariant_of-self-2 g c =
-    let A : ℕ → List SinkState → Type 0 = λ n ks. IsAdmitting c.args.i n ks c.args.offers.items [] c.offer_all-left.new.verdicts.items (map seen c.offer_all-left.new.sinks) c.offer_all-left.result in
-    let a = subst (λ (n : ℕ). A n (map seen c.self.inside.sinks)) c.begun-number.ensures (subst (λ (ks : List SinkState). A c.begun-number.result ks) c.room_for.ensures.same c.offer_all-left.ensures.done) in
-    let credit : length c.at-source.result.now.tracker.waiting < c.at-source.result.now.tracker.limit = (let more = c.has_credit.ensures.0 c.if-not-has_credit.false in omega (arith, more)) in
-    let within = rw (← c.self.view_is) at c.requires.dests in
-    let len : length a.done ≡ length c.args.offers.items = ap length (sym (append-nil a.done) ∙ a.split) in
-    let count = c.requires.count in
-    whole-more _ _ (Admit c.args.i c.args.end c.args.offers.items c.offer_all-left.new.verdicts.items) c.self.invariant
-    (admit-does _ _ c.args.i c.args.end c.args.offers.items c.offer_all-left.new.verdicts.items c.at-source.result.now c.offer_all-left.result c.at-source.ensures credit c.requires.end c.requires.count within a c.begin_at.ensures refl refl)
-    (rw c.begin_at.ensures (begun-begin _ c.args.end c.offer_all-left.result _ c.args.i c.self.invariant.begun))
-    (rw a.after (given-all c.args.i c.at-source.result.now.tracker.begun (1024 * c.self.inside.calls) _ (map seen c.self.inside.sinks) a.done _ (omega (arith, len, count)) c.self.invariant.given))
+    whole-still _ _ (Admit c.args.i c.args.records.items c.offer_all-answers.result.verdicts.items) c.self.invariant
+    (turn-does _ _ c.args.i c.begun-next.result c.at-source.result.now c.args.records.items c.offer_all-answers.result.verdicts.items c.deref-3.result.now (seen_in c.prepare.new.sinks) c.in-Ok.batch.payloads.items c.deref-2.result.now c.append_all.new.fails (take c.in-Ok.batch.fails.len (c.append_all.new.fails ++ drop (length c.append_all.new.fails) c.in-Ok.batch.fails.items)) c.self.invariant (record {
+      there = c.at-source.ensures;
+      next_is = c.begun-next.ensures;
+      room = (let n = c.len.ensures in let k = c.credit.ensures in omega arith);
+      batch = rw (← c.self.view_is) at c.requires.batch;
+      same = c.prepare.ensures.same;
+      payloads_are = rw c.deref.ensures.value at c.in-Ok.ensures.payloads;
+      spelled = λ small. rw c.deref.ensures.value at (c.in-Ok.ensures.spelled small);
+      kept = rw c.deref.ensures.value at c.in-Ok.ensures.kept;
+      read_is = c.deref-2.ensures.value;
+      appended = c.append_all.ensures;
+      used_is = (let len : length c.append_all.new.fails ≡ c.in-Ok.batch.fails.len = (let a = c.append_all.auto.fails in let b = c.deref_mut.ensures.len in omega arith) in take-whole c.append_all.new.fails (drop (length c.append_all.new.fails) c.in-Ok.batch.fails.items) c.in-Ok.batch.fails.len len);
+      sinks = c.offer_all-answers.ensures.sinks;
+      verdicts = c.offer_all-answers.ensures.verdicts;
+      begun_are = c.deref-3.ensures.value ∙ c.offer_all-answers.ensures.begun;
+      sources = c.begin_all.ensures;
+      calls = refl;
+    }))
 
 pub returns-clause-does : goal.returns-clause-does
 returns-clause-does g c =
-    let A : ℕ → List SinkState → Type 0 = λ n ks. IsAdmitting c.args.i n ks c.args.offers.items [] c.offer_all-left.new.verdicts.items (map seen c.offer_all-left.new.sinks) c.offer_all-left.result in
-    let a = subst (λ (n : ℕ). A n (map seen c.self.inside.sinks)) c.begun-number.ensures (subst (λ (ks : List SinkState). A c.begun-number.result ks) c.room_for.ensures.same c.offer_all-left.ensures.done) in
-    let credit : length c.at-source.result.now.tracker.waiting < c.at-source.result.now.tracker.limit = (let more = c.has_credit.ensures.0 c.if-not-has_credit.false in omega (arith, more)) in
-    let within = rw (← c.self.view_is) at c.requires.dests in
     rw (← c.self.view_is)
-    (admit-does _ _ c.args.i c.args.end c.args.offers.items c.offer_all-left.new.verdicts.items c.at-source.result.now c.offer_all-left.result c.at-source.ensures credit c.requires.end c.requires.count within a c.begin_at.ensures refl refl)
+    (turn-does _ _ c.args.i c.begun-next.result c.at-source.result.now c.args.records.items c.offer_all-answers.result.verdicts.items c.deref-3.result.now (seen_in c.prepare.new.sinks) c.in-Ok.batch.payloads.items c.deref-2.result.now c.append_all.new.fails (take c.in-Ok.batch.fails.len (c.append_all.new.fails ++ drop (length c.append_all.new.fails) c.in-Ok.batch.fails.items)) c.self.invariant (record {
+      there = c.at-source.ensures;
+      next_is = c.begun-next.ensures;
+      room = (let n = c.len.ensures in let k = c.credit.ensures in omega arith);
+      batch = rw (← c.self.view_is) at c.requires.batch;
+      same = c.prepare.ensures.same;
+      payloads_are = rw c.deref.ensures.value at c.in-Ok.ensures.payloads;
+      spelled = λ small. rw c.deref.ensures.value at (c.in-Ok.ensures.spelled small);
+      kept = rw c.deref.ensures.value at c.in-Ok.ensures.kept;
+      read_is = c.deref-2.ensures.value;
+      appended = c.append_all.ensures;
+      used_is = (let len : length c.append_all.new.fails ≡ c.in-Ok.batch.fails.len = (let a = c.append_all.auto.fails in let b = c.deref_mut.ensures.len in omega arith) in take-whole c.append_all.new.fails (drop (length c.append_all.new.fails) c.in-Ok.batch.fails.items) c.in-Ok.batch.fails.len len);
+      sinks = c.offer_all-answers.ensures.sinks;
+      verdicts = c.offer_all-answers.ensures.verdicts;
+      begun_are = c.deref-3.ensures.value ∙ c.offer_all-answers.ensures.begun;
+      sources = c.begin_all.ensures;
+      calls = refl;
+    }))

@@ -1,5 +1,5 @@
 use Rattle.std.proofs.Common.{◌∙◌}
-use Rattle.sg_core.proofs.FitLemmas.{fit-at, stored-of}
+use Rattle.sg_core.proofs.Fits.{fit-at, stored-of}
 use Rattle.sg_core.proofs.flow.Core.position.Goals as goal
 
 pub stored-requires : goal.stored-requires

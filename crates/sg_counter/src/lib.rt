@@ -1,0 +1,11 @@
+//! The calls of the flow core and its answers, and the trait through which they are lent.
+#![tactic(auto)]
+
+mod answers;
+mod calls;
+mod counter;
+mod threads;
+
+pub use answers::{CoreFront, Refill, Refused, Settled, Stored};
+pub use calls::{CoreCall, CoreReply};
+pub use counter::Counter;

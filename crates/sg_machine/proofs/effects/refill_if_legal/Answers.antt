@@ -1,8 +1,0 @@
-use Rattle.std.proofs.Common.{◌∙◌, ap}
-use Rattle.sg_machine.specs.declared.state.State.{State}
-use Rattle.sg_machine.specs.Drops.{most_dropped}
-use Rattle.sg_machine.proofs.OfferLemmas.{most_dropped-refill}
-use Rattle.sg_machine.proofs.effects.refill_if_legal.Goals as goal
-
-pub returns-clause-dropped : goal.returns-clause-dropped
-returns-clause-dropped c = λ _. ap (λ (s : State). most_dropped s.dests) c.in_ok-refill.ensures ∙ most_dropped-refill c.args.state.now.dests c.args.d

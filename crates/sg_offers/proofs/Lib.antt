@@ -1,0 +1,10 @@
+pub mod ListSteps
+pub mod ClaimLemmas
+pub mod SinkLemmas
+pub mod PayloadLemmas
+pub mod BatchSteps
+pub mod ItemLemmas
+pub mod JudgeSteps
+pub mod TrySteps
+pub mod FailSteps
+pub mod BegunSteps

@@ -1,0 +1,11 @@
+pub mod Blocks
+pub mod Fitting
+pub mod Laws
+pub mod Moving
+pub mod Offers
+pub mod Roomy
+pub mod Runs
+pub mod Settling
+pub mod Standing
+pub mod States
+pub mod Trials

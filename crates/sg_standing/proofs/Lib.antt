@@ -1,0 +1,10 @@
+pub mod ListSteps
+pub mod Safes
+pub mod Frozen
+pub mod Moments
+pub mod More
+pub mod Still
+pub mod ImageLaws
+pub mod Now
+pub mod Calls
+pub mod Unfailed

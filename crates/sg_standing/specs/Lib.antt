@@ -1,0 +1,4 @@
+pub mod States
+pub mod Sources
+pub mod Standing
+pub mod Images

@@ -1,0 +1,18 @@
+//! The stores of a core by number: position stores and disk-buffers, and what each call on one leaves.
+#![tactic(auto)]
+
+mod answers;
+mod buffer;
+mod disks;
+mod kind;
+mod laws;
+mod opening;
+mod position;
+mod store;
+mod stores;
+
+pub use answers::CoreRefusal;
+pub use kind::StoreKind;
+pub use laws::appending_begins;
+pub use opening::Opened;
+pub use stores::Stores;
