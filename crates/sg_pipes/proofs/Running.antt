@@ -1,0 +1,65 @@
+-- Frames that wait, one after another.
+use Rattle.std.proofs.Common.{◌≡◌, List, [], ◌∷◌, ◌++◌, refl, sym, ap, ap₂, ◌∙◌, subst}
+use Rattle.std.specs.Prelude.{reverse}
+use Rattle.std.proofs.lemmas.List.{append_assoc, append-nil, reverse-append}
+use Rattle.sg_tree.specs.Walk.{Walked}
+use Rattle.sg_table.specs.declared.pipe.Branch.{Branch}
+use Rattle.sg_table.specs.declared.pipe.Pipe.{Pipe}
+use Rattle.sg_pipes.specs.declared.frame.Frame.{Frame}
+use Rattle.sg_pipes.specs.declared.work.Work.{Work}
+use Rattle.sg_pipes.specs.Frames.{run, does}
+use Rattle.sg_pipes.specs.Turns.{Comes, Turns, now}
+
+pub run-append : (pipes : List Pipe) (offered : List Branch) (xs ys : List Frame) (w : Walked) → run pipes offered (xs ++ ys) w ≡ run pipes offered ys (run pipes offered xs w)
+run-append pipes offered [] ys w = refl
+run-append pipes offered (x ∷ xs) ys w = run-append pipes offered xs ys (does pipes offered x w)
+
+-- nothing is pushed
+pub comes-now : (pipes : List Pipe) (old new : Work) → new.offered ≡ old.offered → new.frames ≡ old.frames → Comes pipes (now new) old new
+comes-now pipes old new eo ef = record { offered = eo; more = []; frames = ap (λ v. v.items) ef ∙ sym (append-nil old.frames.items); comes = refl }
+
+-- one frame is pushed
+pub comes-pushed : (pipes : List Pipe) (old new : Work) (frame : Frame) → new.offered ≡ old.offered → new.frames.items ≡ old.frames.items ++ frame ∷ []
+    → Comes pipes (does pipes old.offered.items frame (now new)) old new
+comes-pushed pipes old new frame eo ef = record { offered = eo; more = frame ∷ []; frames = ef; comes = refl }
+
+-- it comes from the same
+pub comes-as : (pipes : List Pipe) (made made' : Walked) (old new : Work) → made ≡ made' → Comes pipes made old new → Comes pipes made' old new
+comes-as pipes made made' old new e c = subst (λ (w : Walked). Comes pipes w old new) e c
+
+-- a frame was pushed before
+pub comes-behind : (pipes : List Pipe) (made : Walked) (old mid new : Work) (frame : Frame) → mid.offered ≡ old.offered → mid.frames.items ≡ old.frames.items ++ frame ∷ []
+    → Comes pipes made mid new → Comes pipes (does pipes old.offered.items frame made) old new
+comes-behind pipes made old mid new frame eo ef c = record {
+  offered = c.offered ∙ eo;
+  more = frame ∷ c.more;
+  frames = c.frames ∙ ap (λ (x : List Frame). x ++ c.more) ef ∙ append_assoc old.frames.items (frame ∷ []) c.more;
+  comes = ap (λ (x : List Frame). run pipes old.offered.items x (now new)) (reverse-append (frame ∷ []) c.more)
+      ∙ run-append pipes old.offered.items (reverse c.more) (frame ∷ []) (now new)
+      ∙ ap (does pipes old.offered.items frame) (ap (λ v. run pipes v.items (reverse c.more) (now new)) (sym eo) ∙ c.comes);
+}
+
+-- a turn, and what is done after it
+pub works-on : (pipes : List Pipe) (old popped mid new : Work) (frame : Frame) → popped.offered ≡ old.offered → now popped ≡ now old → old.frames.items ≡ popped.frames.items ++ frame ∷ []
+    → Turns pipes frame popped mid
+    → run pipes old.offered.items (reverse old.frames.items) (now old) ≡ run pipes mid.offered.items (reverse mid.frames.items) (now mid)
+works-on pipes old popped mid new frame eo en ef t =
+    let offered = old.offered.items in
+    let below = reverse popped.frames.items in
+    let same : popped.offered.items ≡ offered = ap (λ v. v.items) eo in
+    let made : run pipes offered (reverse t.more) (now mid) ≡ does pipes offered frame (now old) =
+    ap (λ x. run pipes x (reverse t.more) (now mid)) (sym same) ∙ t.comes ∙ ap₂ (λ x w. does pipes x frame w) same en in
+    ap (λ (x : List Frame). run pipes offered x (now old)) (ap reverse ef ∙ reverse-append popped.frames.items (frame ∷ []))
+    ∙ ap (run pipes offered below) (sym made)
+    ∙ sym (run-append pipes offered (reverse t.more) below (now mid))
+    ∙ ap (λ (x : List Frame). run pipes offered x (now mid)) (sym (ap reverse t.frames ∙ reverse-append popped.frames.items t.more))
+    ∙ ap (λ x. run pipes x (reverse mid.frames.items) (now mid)) (sym (ap (λ v. v.items) t.offered ∙ same))
+
+-- from work with the same frames
+pub comes-from : (pipes : List Pipe) (made : Walked) (old mid new : Work) → mid.offered ≡ old.offered → mid.frames ≡ old.frames → Comes pipes made mid new → Comes pipes made old new
+comes-from pipes made old mid new eo ef c = record {
+  offered = c.offered ∙ eo;
+  more = c.more;
+  frames = c.frames ∙ ap (λ v. v.items ++ c.more) ef;
+  comes = ap (λ v. run pipes v.items (reverse c.more) (now new)) (sym eo) ∙ c.comes;
+}

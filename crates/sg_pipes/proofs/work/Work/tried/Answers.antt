@@ -1,0 +1,55 @@
+use Rattle.std.proofs.Common.{◌≡◌, Bool, true, false, [], ◌∷◌, ◌++◌, Vec, sym, ap, ◌∙◌}
+use Rattle.std.specs.Prelude.{◌&&◌, ◌||◌, cond}
+use Rattle.std.specs.declared.alloc.Global.{Global}
+use Rattle.sg_pipes.specs.declared.gone.Gone.{Gone}
+use Rattle.sg_msg.specs.declared.offer.Offer.{Offer}
+use Rattle.sg_tree.specs.Walk.{Walked}
+use Rattle.sg_pipes.specs.declared.frame.Frame.{Frame}
+use Rattle.sg_pipes.specs.declared.frame.Frame.TheVariants.{Try}
+use Rattle.sg_pipes.specs.Frames.{with_left, tries}
+use Rattle.sg_pipes.specs.Messages.{messages_of}
+use Rattle.sg_pipes.specs.Turns.{now}
+use Rattle.sg_pipes.proofs.Running.{comes-now, comes-pushed, comes-as}
+use Rattle.sg_pipes.proofs.Steps.{joined-now, joined-left}
+use Rattle.sg_pipes.proofs.work.Work.tried.Goals as goal
+
+pub returns-then-ends : goal.returns-then-ends
+returns-then-ends c = λ pipes.
+    let old = c.args.self.now in
+    let w = now old in
+    let left = c.args.trial.left in
+    let dropped = c.args.drop_unmatched in
+    let m : Walked = record { deliveries = w.deliveries; out = w.out; processed = w.processed || dropped } in
+    let tb = c.take_back-mine in
+    let taken = tb.ensures.taken in
+    let d = tb.new.self.offers.items in
+    let ed : d ≡ w.deliveries = ap (λ (v : Vec Offer Global). v.items) tb.ensures.rest.0 in
+    let eo = c.in_ok-join.ensures.0 ∙ ap (λ (g : Gone). messages_of left.out ++ messages_of g.out) taken in
+    let ep = c.in_ok-join.ensures.1 ∙ ap (λ (g : Gone). left.processed || (g.processed || dropped)) taken in
+    let last : (m.processed && c.args.is_final) ≡ true = ap (λ (g : Gone). (g.processed || dropped) && c.args.is_final) (sym taken) ∙ c.if-ends.true in
+    let made : Walked = with_left left m in
+    comes-as pipes _ _ _ _
+    (joined-now c.join.new.self left d m ed eo ep ∙ sym (ap (λ (x : Bool). cond x made (tries pipes old.offered.items c.args.trial made)) last))
+    (comes-now pipes _ _ tb.ensures.rest.2 tb.ensures.rest.1)
+
+pub returns : goal.returns
+returns c = λ pipes.
+    let old = c.args.self.now in
+    let w = now old in
+    let trial = c.args.trial in
+    let left = trial.left in
+    let dropped = c.args.drop_unmatched in
+    let m : Walked = record { deliveries = w.deliveries; out = w.out; processed = w.processed || dropped } in
+    let tb = c.take_back-mine in
+    let taken = tb.ensures.taken in
+    let d = tb.new.self.offers.items in
+    let ed : d ≡ w.deliveries = ap (λ (v : Vec Offer Global). v.items) tb.ensures.rest.0 in
+    let eo = c.in_ok-join.ensures.0 ∙ ap (λ (g : Gone). messages_of left.out ++ messages_of g.out) taken in
+    let ep = c.in_ok-join.ensures.1 ∙ ap (λ (g : Gone). left.processed || (g.processed || dropped)) taken in
+    let last : (m.processed && c.args.is_final) ≡ false = ap (λ (g : Gone). (g.processed || dropped) && c.args.is_final) (sym taken) ∙ c.if-ends.false in
+    let made : Walked = with_left left m in
+    comes-as pipes _ _ _ _
+    (ap (λ (s : Walked). tries pipes old.offered.items trial s) (joined-left c.join.new.self left d m ed eo ep)
+    ∙ sym (ap (λ (x : Bool). cond x made (tries pipes old.offered.items trial made)) last))
+    (comes-pushed pipes old _ (Try (record trial { left = c.join.new.self })) tb.ensures.rest.2
+    (c.in_ok-push.ensures.items ∙ ap (λ (v : Vec Frame Global). v.items ++ Try (record trial { left = c.join.new.self }) ∷ []) tb.ensures.rest.1))

@@ -1,0 +1,69 @@
+-- What the frames that wait come to.
+use Rattle.std.specs.Prelude.{ℕ, Bool, true, false, ◌&&◌, ◌||◌, List, [], ◌∷◌, ◌++◌, drop, reverse, Option, Some, slice_get, if◌then◌else◌}
+use Rattle.sg_msg.specs.Message.{Content}
+use Rattle.sg_pipes.specs.declared.gone.Gone.{Gone}
+use Rattle.sg_pipes.specs.Messages.{messages_of}
+use Rattle.sg_tree.specs.Walk.{Walked, Siblings, walk, round, each, then_each, both, two_rounds, after_deliveries}
+use Rattle.sg_table.specs.declared.pipe.Branch.{Branch}
+use Rattle.sg_table.specs.declared.pipe.Pipe.{Pipe}
+use Rattle.sg_table.specs.declared.pipe.Pipe.TheVariants as pipe
+use Rattle.sg_table.specs.Table.{siblings_of, branches_at, steps_at}
+use Rattle.sg_pipes.specs.declared.frame.Group.{Group}
+use Rattle.sg_pipes.specs.declared.frame.Group.TheVariants.{Offered, At}
+use Rattle.sg_pipes.specs.declared.frame.Trial.{Trial}
+use Rattle.sg_pipes.specs.declared.frame.Wait.{Wait}
+use Rattle.sg_pipes.specs.declared.frame.Frame.{Frame}
+use Rattle.sg_pipes.specs.declared.frame.Frame.TheVariants as frame
+
+abbrev pub branches_of : Option Pipe → List Branch
+branches_of (Some (pipe.Junction channels next)) = channels.items
+branches_of (Some (pipe.Embedded logs)) = logs.items
+branches_of _ = []
+
+abbrev pub group_of : List Branch → List Pipe → Group → List Branch
+group_of offered pipes Offered = offered
+group_of offered pipes (At place) = branches_of (slice_get pipes place)
+
+-- what was left before, and what is left now; the deliveries so far are those of now
+abbrev pub with_left : Gone → Walked → Walked
+with_left gone now = record { deliveries = now.deliveries; out = messages_of gone.out ++ now.out; processed = gone.processed || now.processed }
+
+-- the deliveries so far, and nothing else
+abbrev pub only_deliveries : Walked → Walked
+only_deliveries now = record { deliveries = now.deliveries; out = []; processed = false }
+
+-- from these siblings of a round on
+abbrev pub trying : Bool → Walked → Siblings → Siblings → Content → Bool → Walked
+trying true so_far rest all m f = both so_far (round rest true m f)
+trying false so_far rest all m f = two_rounds (both so_far (round rest false m f)) (round all true m f)
+
+module _ (pipes : List Pipe) (offered : List Branch) where
+  abbrev pub from : Group → ℕ → Siblings
+  from group index = siblings_of (branches_at (steps_at pipes) (drop index (group_of offered pipes group)))
+
+  abbrev pub tries : Trial → Walked → Walked
+  tries trial so_far = trying trial.late so_far (from trial.group trial.index) (from trial.group 0) trial.message trial.flow
+
+  abbrev pub tried : Trial → Bool → Walked → Walked
+  tried trial is_final mine =
+      if mine.processed && is_final then with_left trial.left mine else tries trial (with_left trial.left mine)
+
+  abbrev pub waits : Wait → Walked → Walked
+  waits wait now =
+      let later = each (λ n. walk (steps_at pipes wait.next) n wait.flow) (reverse (messages_of wait.waiting)) in
+      let so_far = with_left wait.left now in
+      record { deliveries = now.deliveries ++ later.deliveries; out = so_far.out ++ later.out; processed = wait.counts && (so_far.processed || later.processed) }
+
+  -- what a frame makes of what was left last
+  abbrev pub does : Frame → Walked → Walked
+  does (frame.Walk at m f) now = after_deliveries now.deliveries (walk (steps_at pipes at) m f)
+  does (frame.Try trial) now = tries trial (with_left trial.left (only_deliveries now))
+  does (frame.Tried trial is_final drop_unmatched) now = tried trial is_final (record now { processed = now.processed || drop_unmatched })
+  does (frame.Rest next f) now = then_each now (λ n. walk (steps_at pipes next) n f)
+  does (frame.Each wait) now = waits wait now
+  does (frame.Out m) now = record { deliveries = now.deliveries; out = m ∷ []; processed = true }
+
+  -- the frames that wait, the first to be done first
+  abbrev pub run : List Frame → Walked → Walked
+  run [] now = now
+  run (one ∷ more) now = run more (does one now)

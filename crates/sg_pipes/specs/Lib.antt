@@ -1,0 +1,7 @@
+pub mod Messages
+pub mod Pipes
+pub mod Frames
+pub mod Turns
+pub mod Chosen
+pub mod Within
+pub mod Named

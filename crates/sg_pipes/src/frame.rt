@@ -1,0 +1,65 @@
+// What waits while a record's message is on its way.
+
+use crate::gone::Gone;
+use crate::messages::Messages;
+use sg_msg::Message;
+
+/// The siblings that are tried: the statements that are offered the message, or those of a pipe.
+#[derive(Clone, Copy)]
+pub(crate) enum Group {
+    Offered,
+    At(u32),
+}
+
+#[derive(Drop)]
+pub(crate) struct Trial {
+    pub(crate) group: Group,
+    /// The sibling that is next.
+    pub(crate) index: usize,
+    /// Whether those with `fallback` are tried, in the second round.
+    pub(crate) late: bool,
+    pub(crate) message: Message,
+    pub(crate) flow: bool,
+    /// What the siblings so far left.
+    pub(crate) left: Gone,
+}
+
+/// A list of elements that waits for the messages before it.
+#[derive(Drop)]
+pub(crate) struct Wait {
+    pub(crate) next: u32,
+    pub(crate) flow: bool,
+    /// Whether what stands before the elements processed the message.
+    pub(crate) counts: bool,
+    /// The messages that haven't gone on yet, the first last.
+    pub(crate) waiting: Messages,
+    /// What the elements left so far.
+    pub(crate) left: Gone,
+}
+
+#[derive(Drop)]
+pub(crate) enum Frame {
+    /// Walks the pipes from there on.
+    Walk {
+        at: u32,
+        message: Message,
+        flow: bool,
+    },
+    /// Tries the next sibling.
+    Try(Trial),
+    /// Takes what a sibling left.
+    Tried {
+        trial: Trial,
+        is_final: bool,
+        drop_unmatched: bool,
+    },
+    /// Takes what came out, for the elements behind it.
+    Rest {
+        next: u32,
+        flow: bool,
+    },
+    /// Takes what the elements left of one message.
+    Each(Wait),
+    /// The message that stood before embedded statements comes out.
+    Out(Message),
+}

@@ -1,0 +1,13 @@
+//! The offers of records by a compiled table of log paths.
+#![tactic(auto)]
+
+mod frame;
+mod gone;
+mod messages;
+mod pipe;
+mod pipes;
+mod within;
+mod work;
+
+pub use pipes::Pipes;
+pub use within::names_within;

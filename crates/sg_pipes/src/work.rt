@@ -1,0 +1,319 @@
+// The work that waits, and its turns.
+ghost use Rattle.std.specs.Prelude.{◌≡◌, true, false, [], ◌∷◌, ◌++◌, OnOk, List};
+ghost use Rattle.sg_tree.specs.Walk.{after_deliveries, branches, stopped, walk};
+ghost use Rattle.sg_table.specs.Table.{IsTable, steps_at};
+ghost use Rattle.sg_table.specs.declared.pipe.Pipe.{Pipe as APipe};
+ghost use Rattle.sg_pipes.specs.Chosen.{branches_for, is_for};
+ghost use Rattle.sg_pipes.specs.declared.frame.Frame.TheVariants as frame;
+ghost use Rattle.sg_pipes.specs.Frames.{from};
+ghost use Rattle.sg_pipes.specs.Messages.{messages_of};
+ghost use Rattle.sg_pipes.specs.Turns.{Comes, Turns, Works, now};
+
+use crate::frame::{Frame, Group, Trial, Wait};
+use crate::gone::Gone;
+use crate::messages::{Messages, reversed, take_last};
+use crate::pipe::{branch_at, choose, passes, rewrite};
+use sg_msg::{Message, Offer};
+use sg_table::{Branch, Pipe, Top};
+use sg_tree::deliver;
+use std::alloc::{AllocError, Global};
+
+/// What is to be done for a message, and what was done.
+#[derive(Drop)]
+pub(crate) struct Work {
+    pub(crate) alloc: Global,
+    /// The statements that are offered the message.
+    pub(crate) offered: Vec<Branch>,
+    /// What is to be done, the first last.
+    pub(crate) frames: Vec<Frame>,
+    /// What was left last.
+    pub(crate) back: Gone,
+    pub(crate) offers: Vec<Offer>,
+}
+
+fn is_for(top: &Top, inlet: u32) -> bool
+    ensures { result ≡ is_for inlet top.now }
+{
+    top.catchall | top.sources.contains(&inlet)
+}
+
+// The statements that an inlet's messages are offered to.
+fn put_offered(offered: &mut Vec<Branch>, tops: &[Top], inlet: u32) -> Result<(), AllocError>
+    ensures { OnOk result (offered.new.items ≡ offered.old.items ++ branches_for inlet tops.now) }
+{
+    for top in tops {
+        if is_for(top, inlet) {
+            offered.push(top.branch)?;
+        }
+    }
+    Ok(())
+}
+
+impl Work {
+    /// Nothing is to be done.
+    pub(crate) fn new(alloc: Global) -> Work
+        ensures { result.frames.items ≡ [] }
+    {
+        Work {
+            alloc,
+            offered: Vec::new(alloc),
+            frames: Vec::new(alloc),
+            back: Gone::nothing(),
+            offers: Vec::new(alloc),
+        }
+    }
+
+    /// Forgets what was done, for a message that these statements are offered from an inlet.
+    pub(crate) fn clear(&mut self, tops: &[Top], inlet: u32) -> Result<(), AllocError>
+        ensures { OnOk result ((self.new.offered.items ≡ branches_for inlet tops.now) × (self.new.frames.items ≡ []) × (self.new.offers.items ≡ [])) }
+    {
+        self.frames.clear();
+        self.offers.clear();
+        self.offered.clear();
+        put_offered(&mut self.offered, tops, inlet)?;
+        Ok(())
+    }
+
+    /// The message comes out.
+    fn leave(&mut self, message: Message)
+        ensures { (pipes : List APipe) → Comes pipes (after_deliveries (now self.old).deliveries (record { deliveries = []; out = message ∷ []; processed = true })) self.old self.new }
+    {
+        self.back = Gone {
+            out: Messages::One(message),
+            processed: true,
+        };
+    }
+
+    /// Nothing comes out.
+    fn stop(&mut self)
+        ensures { (pipes : List APipe) → Comes pipes (after_deliveries (now self.old).deliveries stopped) self.old self.new }
+    {
+        self.back = Gone::nothing();
+    }
+
+    fn go(&mut self, at: u32, message: Message, flow: bool) -> Result<(), AllocError>
+        ensures { OnOk result ((pipes : List APipe) → Comes pipes (after_deliveries (now self.old).deliveries (walk (steps_at pipes at) message flow)) self.old self.new) }
+    {
+        self.frames.push(Frame::Walk { at, message, flow })?;
+        Ok(())
+    }
+
+    /// Tries siblings from the first on.
+    pub(crate) fn begin(
+        &mut self,
+        group: Group,
+        message: Message,
+        flow: bool,
+    ) -> Result<(), AllocError>
+        ensures { OnOk result ((pipes : List APipe) → Comes pipes (after_deliveries (now self.old).deliveries (branches (from pipes self.old.offered.items group 0) message flow)) self.old self.new) }
+    {
+        self.frames.push(Frame::Try(Trial {
+            group,
+            index: 0,
+            late: false,
+            message,
+            flow,
+            left: Gone::nothing(),
+        }))?;
+        Ok(())
+    }
+
+    fn try_next(&mut self, pipes: &[Pipe], trial: Trial) -> Result<(), AllocError>
+        ensures { OnOk result (Turns pipes.now (frame.Try trial) self.old self.new) }
+    {
+        let mut trial = trial;
+        match branch_at(&self.offered, pipes, trial.group, trial.index) {
+            None => {
+                if trial.late | trial.left.processed {
+                    self.back = trial.left;
+                    return Ok(());
+                }
+                trial.late = true;
+                trial.index = 0;
+                self.frames.push(Frame::Try(trial))?;
+                Ok(())
+            }
+            Some(branch) => {
+                trial.index += 1;
+                if branch.fallback == trial.late {
+                    let message = trial.message.share()?;
+                    let flow = trial.flow | branch.flow;
+                    self.frames.push(Frame::Tried {
+                        trial,
+                        is_final: branch.is_final,
+                        drop_unmatched: branch.drop_unmatched,
+                    })?;
+                    self.go(branch.start, message, flow)
+                } else {
+                    self.frames.push(Frame::Try(trial))?;
+                    Ok(())
+                }
+            }
+        }
+    }
+
+    fn take_back(&mut self) -> Gone
+        ensures taken { result ≡ self.old.back }
+        ensures rest { (self.new.offers ≡ self.old.offers) × (self.new.frames ≡ self.old.frames) × (self.new.offered ≡ self.old.offered) × (messages_of self.new.back.out ≡ []) × (self.new.back.processed ≡ false) }
+    {
+        std::mem::replace(&mut self.back, Gone::nothing())
+    }
+
+    fn tried(
+        &mut self,
+        trial: Trial,
+        is_final: bool,
+        drop_unmatched: bool,
+    ) -> Result<(), AllocError>
+        ensures { OnOk result ((pipes : List APipe) → Turns pipes (frame.Tried trial is_final drop_unmatched) self.old self.new) }
+    {
+        let mut trial = trial;
+        let mut mine = self.take_back();
+        mine.processed |= drop_unmatched;
+        let ends = mine.processed & is_final;
+        trial.left.join(self.alloc, mine)?;
+        if ends {
+            self.back = trial.left;
+            return Ok(());
+        }
+        self.frames.push(Frame::Try(trial))?;
+        Ok(())
+    }
+
+    fn rest(&mut self, next: u32, flow: bool) -> Result<(), AllocError>
+        ensures { OnOk result ((pipes : List APipe) → Turns pipes (frame.Rest next flow) self.old self.new) }
+    {
+        let first = self.take_back();
+        self.frames.push(Frame::Each(Wait {
+            next,
+            flow,
+            counts: first.processed,
+            waiting: reversed(first.out),
+            left: Gone::nothing(),
+        }))?;
+        Ok(())
+    }
+
+    fn each(&mut self, wait: Wait) -> Result<(), AllocError>
+        ensures { OnOk result ((pipes : List APipe) → Turns pipes (frame.Each wait) self.old self.new) }
+    {
+        let mut wait = wait;
+        let last = self.take_back();
+        wait.left.join(self.alloc, last)?;
+        match take_last(&mut wait.waiting) {
+            None => {
+                wait.left.processed &= wait.counts;
+                self.back = wait.left;
+                Ok(())
+            }
+            Some(message) => {
+                let next = wait.next;
+                let flow = wait.flow;
+                self.frames.push(Frame::Each(wait))?;
+                self.go(next, message, flow)
+            }
+        }
+    }
+
+    fn walk(
+        &mut self,
+        pipes: &mut Vec<Pipe>,
+        at: u32,
+        message: Message,
+        flow: bool,
+    ) -> Result<(), AllocError>
+        requires { IsTable pipes.old.items }
+        ensures turns { OnOk result (Turns pipes.old.items (frame.Walk at message flow) self.old self.new) }
+        ensures stays { pipes.new.items ≡ pipes.old.items }
+    {
+        let place = at as usize;
+        if place >= pipes.len() {
+            self.leave(message);
+            return Ok(());
+        }
+        match &pipes[place] {
+            Pipe::End => {
+                self.leave(message);
+                Ok(())
+            }
+            Pipe::Filter { next, .. } => {
+                let next = *next;
+                if passes(&mut pipes[place], &message)? {
+                    self.go(next, message, flow)
+                } else {
+                    self.stop();
+                    Ok(())
+                }
+            }
+            Pipe::Rewrite { next, .. } => {
+                let next = *next;
+                let mut message = message;
+                rewrite(self.alloc, &mut pipes[place], &mut message)?;
+                self.go(next, message, flow)
+            }
+            Pipe::Deliver { drivers, next } => {
+                deliver(drivers, &message, flow, &mut self.offers)?;
+                self.go(*next, message, flow)
+            }
+            Pipe::Junction { next, .. } => {
+                self.frames.push(Frame::Rest { next: *next, flow })?;
+                self.begin(Group::At(at), message, flow)
+            }
+            Pipe::If { other, next, .. } => {
+                let next = *next;
+                let other = *other;
+                let start = choose(&mut pipes[place], other, &message)?;
+                self.frames.push(Frame::Rest { next, flow })?;
+                match start {
+                    Some(start) => self.go(start, message, flow),
+                    None => {
+                        self.leave(message);
+                        Ok(())
+                    }
+                }
+            }
+            Pipe::Embedded { .. } => {
+                let out = message.share()?;
+                self.frames.push(Frame::Out(out))?;
+                self.begin(Group::At(at), message, flow)
+            }
+        }
+    }
+
+    fn turn(&mut self, pipes: &mut Vec<Pipe>, frame: Frame) -> Result<(), AllocError>
+        requires { IsTable pipes.old.items }
+        ensures turns { OnOk result (Turns pipes.old.items frame self.old self.new) }
+        ensures stays { pipes.new.items ≡ pipes.old.items }
+    {
+        match frame {
+            Frame::Walk { at, message, flow } => self.walk(pipes, at, message, flow),
+            Frame::Try(trial) => self.try_next(pipes, trial),
+            Frame::Tried {
+                trial,
+                is_final,
+                drop_unmatched,
+            } => self.tried(trial, is_final, drop_unmatched),
+            Frame::Rest { next, flow } => self.rest(next, flow),
+            Frame::Each(wait) => self.each(wait),
+            Frame::Out(message) => {
+                self.leave(message);
+                Ok(())
+            }
+        }
+    }
+
+    /// Does what waits until nothing is left.
+    pub(crate) fn work(&mut self, pipes: &mut Vec<Pipe>) -> Result<(), AllocError>
+        requires { IsTable pipes.old.items }
+        ensures works { OnOk result (Works pipes.old.items self.old self.new) }
+        ensures stays { pipes.new.items ≡ pipes.old.items }
+    {
+        'turns: for _ in 0..u64::MAX {
+            match self.frames.pop() {
+                Some(frame) => self.turn(pipes, frame)?,
+                None => return Ok(()),
+            }
+        }
+        Err(AllocError)
+    }
+}

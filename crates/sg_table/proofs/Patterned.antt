@@ -1,0 +1,134 @@
+-- Patterns that are made one after another.
+use Rattle.std.proofs.Common.{◌≡◌, ℕ, zero, suc, ◌<◌, List, [], ◌∷◌, ◌++◌, map, length, get_or, Option, Some, None, Vec, Result, Ok, Err, refl, sym, ap, ◌∙◌, subst, arith, rules}
+use Rattle.std.proofs.lemmas.List.{append_assoc, append-nil}
+use Rattle.std.specs.declared.alloc.Global.{Global}
+use Rattle.sg_outside.specs.World.{WorldState, OnlyBuilds}
+use Rattle.sg_pattern.specs.declared.text.PatternText.{PatternText}
+use Rattle.sg_pattern.specs.declared.text.BuildRefusal.{BuildRefusal}
+use Rattle.sg_pattern.specs.declared.text.BuildRefusal.TheVariants as build
+use Rattle.sg_filter.specs.declared.expr.Expr.{Expr}
+use Rattle.sg_filter.specs.Patterns.{joined, patterns_of, AreValid, IsAmong, RefusesAny}
+use Rattle.sg_rewrite.specs.Changes.{HasPattern}
+use Rattle.sg_rewrite.specs.Ops.{RefusesOp, change_of}
+use Rattle.sg_rewrite.specs.declared.op.Op.{Op}
+use Rattle.sg_rewrite.specs.declared.op.Op.TheVariants.{Set, Unset, Subst, GroupSet, GroupUnset, SetTag, ClearTag}
+use Rattle.sg_tree.specs.Refusals.{path_refusal}
+use Rattle.sg_tree.specs.declared.refusal.PathRefusal.{PathRefusal}
+use Rattle.sg_tree.specs.declared.refusal.PathRefusal.TheVariants.{BadPattern, PatternTooLarge, TooManyOffers, NoMemory}
+use Rattle.sg_tree.specs.declared.sound.RewriteRule.{RewriteRule}
+use Rattle.sg_tree.specs.declared.tree.Element.{Element, Filter, Rewrite, Deliver, Junction, If, fold-roll-Element}
+use Rattle.sg_tree.specs.declared.tree.Element.TheVariants.{rolls-If}
+use Rattle.sg_tree.specs.declared.tree.Element.{the_lemmas}
+use Rattle.sg_tree.specs.declared.tree.Element.TheOpen.{Element-F}
+use Rattle.sg_tree.specs.declared.tree.Path.{Path, fold_out-Path}
+use Rattle.sg_table.specs.Patterns.{Patterns, Makes, Refuses, op_patterns, rule_patterns, element_patterns_step, path_patterns_step, element_patterns, path_patterns, list_patterns, siblings_patterns, choices_patterns, other_patterns, own_patterns}
+
+-- the patterns of one element or statement
+map-twice : {A B C : Type 0} (f : A → B) (g : B → C) (xs : List A) → map g (map f xs) ≡ map (λ x. g (f x)) xs
+map-twice f g [] = refl
+map-twice f g (x ∷ xs) = ap (λ ys. g (f x) ∷ ys) (map-twice f g xs)
+
+pub patterns-Filter : (named : List Expr) (expr : Expr) → element_patterns named (Filter expr) ≡ patterns_of named expr
+patterns-Filter named expr = search (rules, the_lemmas)
+
+pub patterns-Rewrite : (named : List Expr) (rule : RewriteRule) → element_patterns named (Rewrite rule) ≡ rule_patterns named rule
+patterns-Rewrite named rule = search (rules, the_lemmas)
+
+pub patterns-Deliver : (named : List Expr) (drivers : Vec ℕ Global) → element_patterns named (Deliver drivers) ≡ []
+patterns-Deliver named drivers = search (rules, the_lemmas)
+
+pub patterns-Junction : (named : List Expr) (channels : Vec Path Global) → element_patterns named (Junction channels) ≡ siblings_patterns named channels.items
+patterns-Junction named channels = search (rules, the_lemmas)
+
+pub patterns-If : (named : List Expr) (branches : Vec (Expr × Vec Element Global) Global) (other : Option (Vec Element Global))
+    → element_patterns named (If branches other) ≡ choices_patterns named branches.items ++ other_patterns named other
+patterns-If named branches None =
+    ap (element_patterns named) (sym (rolls-If branches None))
+    ∙ fold-roll-Element Patterns Patterns (element_patterns_step named) path_patterns_step (Element-F.If branches None)
+    ∙ ap (λ (ps : List Patterns). joined ps ++ []) (map-twice _ _ branches.items)
+patterns-If named branches (Some other) =
+    ap (element_patterns named) (sym (rolls-If branches (Some other)))
+    ∙ fold-roll-Element Patterns Patterns (element_patterns_step named) path_patterns_step (Element-F.If branches (Some other))
+    ∙ ap (λ (ps : List Patterns). joined ps ++ list_patterns named other.items) (map-twice _ _ branches.items)
+
+pub patterns-Path : (named : List Expr) (path : Path) → path_patterns named path ≡ own_patterns named path
+patterns-Path named path = fold_out-Path Patterns Patterns (element_patterns_step named) path_patterns_step path
+
+-- more patterns that are valid
+pub valid-append : (ps qs : Patterns) → AreValid ps → AreValid qs → AreValid (ps ++ qs)
+valid-append [] qs hp hq = hq
+valid-append (p ∷ ps) qs hp hq = (hp.0, valid-append ps qs hp.1 hq)
+
+joined-last : (xs : List Patterns) (x : Patterns) → joined (xs ++ x ∷ []) ≡ joined xs ++ x
+joined-last [] x = append-nil x
+joined-last (y ∷ xs) x = ap (λ (r : Patterns). y ++ r) (joined-last xs x) ∙ sym (append_assoc y (joined xs) x)
+
+pub valid-last : (ps : List Patterns) (p : Patterns) (qs : List Patterns) → AreValid (joined ps) → AreValid p → qs ≡ ps ++ p ∷ [] → AreValid (joined qs)
+valid-last ps p qs hs h e = subst (λ (x : Patterns). AreValid x) (sym (ap joined e ∙ joined-last ps p)) (valid-append (joined ps) p hs h)
+
+-- one among more
+pub before : (ps qs : Patterns) (p : PatternText) → IsAmong ps p → IsAmong (ps ++ qs) p
+before ps qs p a = record { before = a.before; after = a.after ++ qs; is = ap (λ (x : Patterns). x ++ qs) a.is ∙ append_assoc a.before (p ∷ a.after) qs }
+
+pub behind : (ps qs : Patterns) (p : PatternText) → IsAmong qs p → IsAmong (ps ++ qs) p
+behind ps qs p a = record { before = ps ++ a.before; after = a.after; is = ap (λ (x : Patterns). ps ++ x) a.is ∙ sym (append_assoc ps a.before (p ∷ a.after)) }
+
+pub within-joined : {X : Type 0} (f : X → Patterns) (xs : List X) (i : ℕ) (d : X) (p : PatternText) → i < length xs → IsAmong (f (get_or xs i d)) p → IsAmong (joined (map f xs)) p
+within-joined f [] i d p h a = absurd (omega arith)
+within-joined f (x ∷ xs) zero d p h a = before (f x) (joined (map f xs)) p a
+within-joined f (x ∷ xs) (suc i) d p h a = behind (f x) (joined (map f xs)) p (within-joined f xs i d p (omega arith) a)
+
+-- a refusal of some is one of more
+pub refused-within : (old mid new : WorldState) (ps qs : Patterns) (why : PathRefusal) → ((p : PatternText) → IsAmong ps p → IsAmong qs p)
+    → OnlyBuilds old mid → Refuses mid new ps why → Refuses old new qs why
+refused-within old mid new ps qs (BadPattern line) w o r = record { one = r.one; among = w r.one r.among; at = r.at; bad = r.bad }
+refused-within old mid new ps qs (PatternTooLarge line) w o r = record { one = r.one; among = w r.one r.among; at = r.at; is_regex = r.is_regex; rose = omega (arith, o.1, r.rose) }
+refused-within old mid new ps qs (TooManyOffers line) w o r = r
+refused-within old mid new ps qs NoMemory w o r = tt
+
+pub refused-at : (old new : WorldState) (ps qs : Patterns) (why : PathRefusal) → ps ≡ qs → Refuses old new ps why → Refuses old new qs why
+refused-at old new ps qs why e r = refused-within old old new ps qs why (λ p a. subst (λ (x : Patterns). IsAmong x p) e a) (refl, omega arith) r
+
+-- what was made after others
+pub makes-front : {A : Type 0} (old mid new : WorldState) (ps qs all : Patterns) (r : Result A PathRefusal) → all ≡ ps ++ qs → AreValid qs → OnlyBuilds old mid → Makes mid new ps r → Makes old new all r
+makes-front old mid new ps qs all (Ok made) e v o h = subst (λ (x : Patterns). AreValid x) (sym e) (valid-append ps qs h v)
+makes-front old mid new ps qs all (Err why) e v o h = refused-within old mid new ps all why (λ p a. subst (λ (x : Patterns). IsAmong x p) (sym e) (before ps qs p a)) o h
+
+pub refused-behind : (old mid new : WorldState) (ps qs all : Patterns) (why : PathRefusal) → all ≡ ps ++ qs → OnlyBuilds old mid → Refuses mid new qs why → Refuses old new all why
+refused-behind old mid new ps qs all why e o h = refused-within old mid new qs all why (λ p a. subst (λ (x : Patterns). IsAmong x p) (sym e) (behind ps qs p a)) o h
+
+pub refused-front : (old mid new : WorldState) (ps qs all : Patterns) (why : PathRefusal) → all ≡ ps ++ qs → OnlyBuilds old mid → Refuses mid new ps why → Refuses old new all why
+refused-front old mid new ps qs all why e o h = refused-within old mid new ps all why (λ p a. subst (λ (x : Patterns). IsAmong x p) (sym e) (before ps qs p a)) o h
+
+pub refused-item : {X : Type 0} (f : X → Patterns) (xs : List X) (i : ℕ) (x d : X) (old mid new : WorldState) (why : PathRefusal)
+    → i < length xs → x ≡ get_or xs i d → OnlyBuilds old mid → Refuses mid new (f x) why → Refuses old new (joined (map f xs)) why
+refused-item f xs i x d old mid new why h e o r = refused-within old mid new (f x) (joined (map f xs)) why (λ p a. within-joined f xs i d p h (subst (λ (y : _). IsAmong (f y) p) e a)) o r
+
+-- a filter's or a rewrite's refusal
+pub refused-expr : (old new : WorldState) (ps : Patterns) (why : BuildRefusal) (said : PathRefusal) → said ≡ path_refusal why → RefusesAny old new ps why → Refuses old new ps said
+refused-expr old new ps (build.BadPattern line) said e r = subst (λ (x : PathRefusal). Refuses old new ps x) (sym e) r
+refused-expr old new ps (build.TooLarge line) said e r = subst (λ (x : PathRefusal). Refuses old new ps x) (sym e) r
+refused-expr old new ps build.NoMemory said e r = subst (λ (x : PathRefusal). Refuses old new ps x) (sym e) tt
+
+op-refuses : (old new : WorldState) (op : Op) (why : BuildRefusal) → RefusesOp old new op why → RefusesAny old new (op_patterns op) why
+op-refuses old new (Set name text) why r = subst (λ (x : BuildRefusal). RefusesAny old new [] x) (sym r) tt
+op-refuses old new (Unset name) why r = subst (λ (x : BuildRefusal). RefusesAny old new [] x) (sym r) tt
+op-refuses old new (Subst name pattern text) (build.BadPattern line) r = record { one = pattern; among = record { before = []; after = []; is = refl }; at = sym r.0; bad = r.1 }
+op-refuses old new (Subst name pattern text) (build.TooLarge line) r = record { one = pattern; among = record { before = []; after = []; is = refl }; at = sym r.0; is_regex = r.1; rose = r.2 }
+op-refuses old new (Subst name pattern text) build.NoMemory r = tt
+op-refuses old new (GroupSet globs text) why r = subst (λ (x : BuildRefusal). RefusesAny old new [] x) (sym r) tt
+op-refuses old new (GroupUnset globs) why r = subst (λ (x : BuildRefusal). RefusesAny old new [] x) (sym r) tt
+op-refuses old new (SetTag tag) why r = subst (λ (x : BuildRefusal). RefusesAny old new [] x) (sym r) tt
+op-refuses old new (ClearTag tag) why r = subst (λ (x : BuildRefusal). RefusesAny old new [] x) (sym r) tt
+
+pub refused-op : (old new : WorldState) (op : Op) (why : BuildRefusal) (said : PathRefusal) → said ≡ path_refusal why → RefusesOp old new op why → Refuses old new (op_patterns op) said
+refused-op old new op why said e r = refused-expr old new (op_patterns op) why said e (op-refuses old new op why r)
+
+pub op-valid : (op : Op) → HasPattern (change_of op) → AreValid (op_patterns op)
+op-valid (Set name text) h = tt
+op-valid (Unset name) h = tt
+op-valid (Subst name pattern text) h = (h, tt)
+op-valid (GroupSet globs text) h = tt
+op-valid (GroupUnset globs) h = tt
+op-valid (SetTag tag) h = tt
+op-valid (ClearTag tag) h = tt

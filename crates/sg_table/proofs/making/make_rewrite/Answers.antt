@@ -1,0 +1,6 @@
+use Rattle.sg_table.proofs.Patterned.{refused-op}
+use Rattle.sg_table.proofs.making.make_rewrite.Goals as goal
+
+pub returns-in-Err-clause-makes : goal.returns-in-Err-clause-makes
+returns-in-Err-clause-makes g c =
+    refused-op (g.B.Machine.state c.args.builder.now) (g.B.Machine.state c.new.new.builder) c.args.op.now c.in-Err.refusal c.from.result c.from.ensures c.in-Err.ensures.refused

@@ -1,0 +1,16 @@
+//! The log paths of a configuration as a table of numbered pipes.
+#![tactic(auto)]
+
+mod bound;
+mod build;
+mod compiling;
+mod copying;
+mod fan;
+mod making;
+mod pipe;
+mod share;
+mod table;
+
+pub use compiling::compile;
+pub use pipe::{Branch, Pipe, Test, Top};
+pub use table::Table;

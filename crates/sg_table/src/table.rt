@@ -1,0 +1,17 @@
+// The table.
+ghost use Rattle.sg_table.specs.Table.{IsTable, IsTable-prop};
+
+use crate::{Pipe, Top};
+use sg_tree::{DestRule, InletRule};
+
+/// The log paths of a configuration as numbered pipes. It holds no tree.
+#[derive(Drop)]
+pub struct Table {
+    pub inlets: Vec<InletRule>,
+    pub dests: Vec<DestRule>,
+    /// The top-level statements, in the order of the text.
+    pub tops: Vec<Top>,
+    /// Each refers to those in front of it alone.
+    pub pipes: Vec<Pipe>,
+    pub ghost in_order: { IsTable pipes.items } by { IsTable-prop pipes.items },
+}

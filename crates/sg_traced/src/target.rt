@@ -1,0 +1,21 @@
+// How the file is read, and what destinations send.
+
+use sg_frame::FrameKind;
+use sg_outfmt::Shape;
+use sg_template::Env;
+
+/// How a file is read: as an inlet of that number would.
+#[derive(Clone, Copy, Debug, PartialEq, Eq, Drop)]
+pub struct Reader {
+    pub inlet: u32,
+    pub kind: FrameKind,
+    /// The bytes of the longest text of a record, above 0.
+    pub limit: u32,
+}
+
+/// What a destination sends.
+#[derive(Debug, Drop)]
+pub struct Target {
+    pub shape: Shape,
+    pub env: Env,
+}

@@ -1,0 +1,10 @@
+pub mod Refusals
+pub mod Sound
+pub mod Rules
+pub mod Walk
+pub mod Plain
+pub mod Gives
+pub mod Readings
+pub mod Offers
+pub mod Laws
+pub mod Bounds

@@ -1,0 +1,84 @@
+//! Says what log paths offer for records. A line of standard input has log paths, the number of an inlet, and
+//! records with `|` between them, each after `~`; an offer is said as its destination, `w` where it is
+//! flow-controlled, `=` and MESSAGE. They are those of the tree, and those of its table where these are others.
+//!
+//! Paths are said part after part, with `;` between them:
+//! - `has TEXT`, `is N`, `tagged TAG`: a filter; the message contains the text, meets what the filter of that
+//!   number asks (0: contains a, 1: contains z), or has the tag
+//! - `set TEXT`: a rewrite that makes MESSAGE the text; `when TEXT NEW`: one that makes it the new text where
+//!   it contains the text
+//! - `to D..`: destinations
+//! - `channel N FLAGS`: a channel of the last N elements
+//! - `log SOURCES N E FLAGS`: a statement of the last N elements, behind which the last E statements are
+//!   embedded; `-` names no source
+//! - `junction N`: of the last N channels
+//! - `if TEXT N`, `else TEXT N M`: the last N elements where the message contains the text, and else the last
+//!   M, which stand behind them; `first TEXT N`: the last N before the last `if` as its first branch, where the
+//!   message contains the text
+//!
+//! Flags are f for final, b for fallback, c for catchall, w for flow-control, d for drop-unmatched, and - for
+//! none. There are three destinations. Inlet 2 takes empty lines, and inlet 3 reads RFC 5424 and tags with t.
+#![tactic(auto)]
+
+mod forest;
+mod inlets;
+mod offers;
+mod rules;
+mod table;
+
+use sg_tree::{Forest, PathRefusal};
+use std::alloc::{AllocError, Global};
+use std::io;
+
+fn copied(alloc: Global, text: &[u8]) -> Result<Vec<u8>, AllocError> {
+    Vec::from_slice(alloc, text)
+}
+
+fn refused(alloc: Global, refusal: PathRefusal) -> Result<Vec<u8>, AllocError> {
+    match refusal {
+        PathRefusal::BadPattern(_) => copied(alloc, b"no pattern"),
+        PathRefusal::PatternTooLarge(_) => copied(alloc, b"too large"),
+        PathRefusal::TooManyOffers(_) => copied(alloc, b"too many offers"),
+        PathRefusal::NoMemory => Err(AllocError),
+    }
+}
+
+fn offered(
+    alloc: Global,
+    forest: &Forest,
+    inlet: u32,
+    records: &str,
+) -> Result<Vec<u8>, AllocError> {
+    if inlet as usize >= forest.inlets.len() {
+        return copied(alloc, b"no such inlet");
+    }
+    match table::pipes(alloc, forest, inlet) {
+        Ok(Some(mut pipes)) => offers::said(alloc, forest, &mut pipes, inlet, records),
+        Ok(None) => copied(alloc, b"no such destination"),
+        Err(refusal) => refused(alloc, refusal),
+    }
+}
+
+// What a line of standard input comes to.
+fn answer(alloc: Global, line: &str) -> Result<Vec<u8>, AllocError> {
+    let Some((parts, rest)) = line.split_once(" ~ ") else {
+        return copied(alloc, b"no paths");
+    };
+    let Some((inlet, records)) = rest.split_once(" ~ ") else {
+        return copied(alloc, b"no inlet");
+    };
+    let Some(forest) = forest::read(alloc, parts)? else {
+        return copied(alloc, b"not understood");
+    };
+    let inlet = inlet.parse::<u32>().unwrap_or(u32::MAX);
+    offered(alloc, &forest, inlet, records)
+}
+
+fn main(rt: HostRuntime) -> io::Result<()> {
+    let alloc = rt.alloc();
+    for line in rt.lines(alloc) {
+        let said = answer(alloc, line?.as_str())?;
+        println!(rt; "{}", said.escape_ascii())?;
+    }
+    Ok(())
+}

@@ -1,0 +1,104 @@
+// What is offered, as it is said.
+ghost use Rattle.std.specs.Prelude.{◌≡◌, ◌<◌, length};
+
+use bytes::Bytes;
+use sg_msg::Offer;
+use sg_pattern::Patterns;
+use sg_route::Router;
+use sg_tree::{Forest, PathRefusal, offers_plain};
+use std::alloc::{AllocError, Global};
+
+// `1w=text`
+fn put_offer(text: &mut Vec<u8>, offer: &Offer) -> Result<(), AllocError> {
+    text.push(b'0'.saturating_add((offer.dest % 10) as u8))?;
+    if offer.flow {
+        text.push(b'w')?;
+    }
+    text.push(b'=')?;
+    if let Some(value) = offer.message.get(b"MESSAGE") {
+        text.extend_from_slice(value)?;
+    }
+    Ok(())
+}
+
+fn written(alloc: Global, offers: &[Offer]) -> Result<Vec<u8>, AllocError> {
+    let mut text = Vec::new(alloc);
+    for (place, offer) in offers.iter().enumerate() {
+        if place > 0 {
+            text.push(b' ')?;
+        }
+        put_offer(&mut text, offer)?;
+    }
+    Ok(text)
+}
+
+// What the tree offers for a record.
+fn by_tree(alloc: Global, forest: &Forest, inlet: u32, record: &str) -> Result<Vec<u8>, AllocError>
+    requires { inlet < length forest.now.inlets.items }
+{
+    let mut patterns = Patterns { too_large: 0 };
+    let item = Bytes::copy_from_slice(alloc, record.as_bytes())?;
+    match offers_plain(alloc, forest, &mut patterns, inlet, item, 0, b"peer") {
+        Ok(offers) => written(alloc, &offers),
+        Err(PathRefusal::NoMemory) => Err(AllocError),
+        Err(_) => Vec::from_slice(alloc, b"refused"),
+    }
+}
+
+// What the table offers for it.
+fn by_table<R: Router>(
+    alloc: Global,
+    router: &mut R,
+    inlet: u32,
+    record: &str,
+) -> Result<Vec<u8>, AllocError>
+    requires { inlet < R.inlets router.old }
+    ensures { R.inlets router.new ≡ R.inlets router.old }
+{
+    let item = Bytes::copy_from_slice(alloc, record.as_bytes())?;
+    let offers = router.route(alloc, inlet, item, 0, b"peer")?;
+    written(alloc, &offers)
+}
+
+fn put_record<R: Router>(
+    alloc: Global,
+    text: &mut Vec<u8>,
+    forest: &Forest,
+    router: &mut R,
+    inlet: u32,
+    record: &str,
+) -> Result<(), AllocError>
+    requires { (inlet < length forest.now.inlets.items) × (inlet < R.inlets router.old) }
+    ensures { R.inlets router.new ≡ R.inlets router.old }
+{
+    let offers = by_tree(alloc, forest, inlet, record)?;
+    let routed = by_table(alloc, router, inlet, record)?;
+    text.extend_from_slice(&offers)?;
+    if routed.as_slice() != offers.as_slice() {
+        text.extend_from_slice(b" and by the table ")?;
+        text.extend_from_slice(&routed)?;
+    }
+    Ok(())
+}
+
+/// The offers of the records, with `|` between those of one and those of the next.
+pub(crate) fn said<R: Router>(
+    alloc: Global,
+    forest: &Forest,
+    router: &mut R,
+    inlet: u32,
+    records: &str,
+) -> Result<Vec<u8>, AllocError>
+    requires { (inlet < length forest.now.inlets.items) × (inlet < R.inlets router.old) }
+{
+    let mut text = Vec::new(alloc);
+    let mut first = true;
+    for record in records.split('|') {
+        if !first {
+            text.extend_from_slice(b" | ")?;
+        }
+        first = false;
+        put_record(alloc, &mut text, forest, router, inlet, record)?;
+    }
+    Ok(text)
+}

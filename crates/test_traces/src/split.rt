@@ -1,0 +1,62 @@
+// Offers that a message's text decides.
+ghost use Rattle.std.specs.Prelude.{◌≡◌, IfOk};
+
+use bytes::Bytes;
+use sg_msg::{Message, Offer};
+use sg_r3164::{ReadOpts, read};
+use sg_route::Router;
+use std::alloc::{AllocError, Global};
+
+const OPTS: ReadOpts = ReadOpts {
+    pri: 13,
+    zone: 0,
+    keep_hostname: true,
+    keep_timestamp: true,
+    parse: false,
+};
+
+#[derive(Clone, Copy, Drop)]
+pub(crate) struct Split {
+    pub(crate) count: u64,
+}
+
+fn offer(dest: u32, message: &Message, flow: bool) -> Result<Offer, AllocError>
+    ensures { IfOk result (λ offer. offer.dest ≡ dest) }
+{
+    Ok(Offer {
+        dest,
+        message: message.share()?,
+        flow,
+    })
+}
+
+impl Router for Split {
+    ghost inlets = { λ _. 1 };
+
+    ghost dests = { λ _. 2 };
+
+    ghost offers = { λ _ _ _ _. Unit {0} };
+
+    fn route(
+        &mut self,
+        alloc: Global,
+        _inlet: u32,
+        item: Bytes,
+        at: i64,
+        peer: &[u8],
+    ) -> Result<Vec<Offer>, AllocError> {
+        let mut offers = Vec::new(alloc);
+        if item.as_slice().contains(&b'x') {
+            return Ok(offers);
+        }
+        let both = item.as_slice().contains(&b'b');
+        let peer = Bytes::copy_from_slice(alloc, peer)?;
+        let message = read(alloc, item, at, &peer, &OPTS)?;
+        offers.push(offer(0, &message, false)?)?;
+        if !both {
+            return Ok(offers);
+        }
+        offers.push(offer(1, &message, true)?)?;
+        Ok(offers)
+    }
+}
