@@ -1,0 +1,4 @@
+pub mod Templates
+pub mod Buffers
+pub mod Destinations
+pub mod Outlets

@@ -1,0 +1,6 @@
+pub mod Values
+pub mod Ranges
+pub mod Patterns
+pub mod Filters
+pub mod Expressions
+pub mod Rewrites

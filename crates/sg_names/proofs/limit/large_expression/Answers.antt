@@ -1,0 +1,12 @@
+use Rattle.std.proofs.Common.{◌∙◌, ap}
+use Rattle.sg_fault.specs.Faults.{least}
+use Rattle.sg_names.specs.Limits.{part_limits}
+use Rattle.sg_names.proofs.Leasts.{least-more, least-all}
+use Rattle.sg_names.proofs.limit.large_expression.Goals as goal
+
+pub loop-part-preserved : goal.loop-part-preserved
+loop-part-preserved c =
+    least-more (part_limits c.args.sizes.now) c.args.parts.now _ _ c.loop-part.first _ _ c.loop-part-test.true c.loop-part.invariant (c.part_limit.ensures ∙ ap (λ y. least (part_limits c.args.sizes.now y)) c.part-item.is) c.earlier-first.ensures
+
+pub returns : goal.returns
+returns c = least-all (part_limits c.args.sizes.now) _ _ _ c.loop-part-test.false c.loop-part.invariant

@@ -1,0 +1,8 @@
+use Rattle.std.proofs.Common.{◌≡◌, take}
+use Rattle.std.specs.List.{flat_map}
+use Rattle.sg_fault.specs.Faults.{least}
+use Rattle.sg_names.specs.Unknown.{terms_faults}
+use Rattle.sg_names.proofs.unknown.conditions_fault.Given as goal
+
+abbrev pub invariant-loop-terms : goal.invariant-loop-terms
+invariant-loop-terms l = l.first ≡ least (flat_map terms_faults (take l.terms-index l.conditions))

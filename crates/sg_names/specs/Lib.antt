@@ -1,0 +1,10 @@
+pub mod Kinds
+pub mod Registers
+pub mod Terms
+pub mod Parts
+pub mod Paths
+pub mod Filters
+pub mod Unknown
+pub mod Sizes
+pub mod Limits
+pub mod Faults

@@ -1,0 +1,75 @@
+// The first name that stands for nothing.
+ghost use Rattle.std.specs.Prelude.{◌≡◌};
+ghost use Rattle.std.specs.List.{flat_map};
+ghost use Rattle.sg_fault.specs.Faults.{least};
+ghost use Rattle.sg_names.specs.Unknown.{reference_faults, term_faults, terms_faults, part_faults, unknown};
+
+use crate::part::Part;
+use crate::reference::{Reference, Term};
+use sg_fault::{Placed, earlier};
+use sg_lex::ConfigKind;
+use sqlite_items::Items;
+
+fn reference_fault(reference: &Reference) -> Option<Placed>
+    ensures { result ≡ least (reference_faults reference.now) }
+{
+    match reference.place {
+        Some(_) => None,
+        None => Some(Placed {
+            kind: ConfigKind::UnknownName,
+            line: reference.line,
+        }),
+    }
+}
+
+fn term_fault(term: &Term) -> Option<Placed>
+    ensures { result ≡ least (term_faults term.now) }
+{
+    match &term.filter {
+        Some(reference) => reference_fault(reference),
+        None => None,
+    }
+}
+
+fn terms_fault(terms: &[Term]) -> Option<Placed>
+    ensures { result ≡ least (terms_faults terms.now) }
+{
+    let mut first = None;
+    for term in terms {
+        first = earlier(first, term_fault(term));
+    }
+    first
+}
+
+fn conditions_fault(conditions: &[Items<Term>]) -> Option<Placed>
+    ensures { result ≡ least (flat_map terms_faults conditions.now) }
+{
+    let mut first = None;
+    for terms in conditions {
+        first = earlier(first, terms_fault(terms.as_slice()));
+    }
+    first
+}
+
+fn part_fault(part: &Part) -> Option<Placed>
+    ensures { result ≡ least (part_faults part.now) }
+{
+    match part {
+        Part::Expression(terms) => terms_fault(terms.as_slice()),
+        Part::Rewrite { conditions, .. } => conditions_fault(conditions.as_slice()),
+        Part::Filter(reference) => reference_fault(reference),
+        Part::Rewrites(reference) => reference_fault(reference),
+        Part::End(reference) => reference_fault(reference),
+    }
+}
+
+/// The first reference to a name that no statement of its kind has.
+pub fn unknown_fault(parts: &[Part]) -> Option<Placed>
+    ensures { result ≡ least (unknown parts.now) }
+{
+    let mut first = None;
+    for part in parts {
+        first = earlier(first, part_fault(part));
+    }
+    first
+}

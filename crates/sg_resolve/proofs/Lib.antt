@@ -1,0 +1,5 @@
+pub mod Leasts
+pub mod Counting
+pub mod OneDriver
+pub mod PlaceEquations
+pub mod EndEquations

@@ -1,0 +1,6 @@
+pub mod Places
+pub mod Templates
+pub mod Drivers
+pub mod Ends
+pub mod Globals
+pub mod First

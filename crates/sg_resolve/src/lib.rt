@@ -1,0 +1,14 @@
+//! What is wrong with a configuration once its statements are read: the first fault of its names, its values, its
+//! drivers and its log paths.
+#![tactic(auto)]
+
+mod driver;
+mod drivers;
+mod first;
+mod options;
+mod place;
+mod templates;
+
+pub use driver::{Count, DESTINATION_LIMIT, INLET_LIMIT};
+pub use first::first_fault;
+pub use templates::{TemplateTexts, templates_of};

@@ -1,0 +1,12 @@
+use Rattle.std.proofs.Common.{◌∙◌, ap}
+use Rattle.sg_fault.specs.Faults.{least}
+use Rattle.sg_values.specs.Settings.{long_faults}
+use Rattle.sg_values.proofs.Leasts.{least-more, least-all}
+use Rattle.sg_values.proofs.setting.longs_fault.Goals as goal
+
+pub loop-arg-preserved : goal.loop-arg-preserved
+loop-arg-preserved c =
+    least-more long_faults c.args.args.now _ _ c.loop-arg.first _ _ c.loop-arg-test.true c.loop-arg.invariant (c.long_fault.ensures ∙ ap (λ y. least (long_faults y)) c.arg-item.is) c.earlier-first.ensures
+
+pub returns : goal.returns
+returns c = least-all long_faults _ _ _ c.loop-arg-test.false c.loop-arg.invariant

@@ -1,0 +1,12 @@
+use Rattle.std.proofs.Common.{◌∙◌, ap}
+use Rattle.sg_fault.specs.Faults.{least}
+use Rattle.sg_values.specs.Conditions.{rewrite_faults}
+use Rattle.sg_values.proofs.Leasts.{least-more, least-all}
+use Rattle.sg_values.proofs.text.rewrites_fault.Goals as goal
+
+pub loop-call-preserved : goal.loop-call-preserved
+loop-call-preserved c =
+    least-more rewrite_faults c.args.calls.now _ _ c.loop-call.first _ _ c.loop-call-test.true c.loop-call.invariant (c.rewrite_fault.ensures ∙ ap (λ y. least (rewrite_faults y)) c.call-item.is) c.earlier-first.ensures
+
+pub returns : goal.returns
+returns c = least-all rewrite_faults _ _ _ c.loop-call-test.false c.loop-call.invariant

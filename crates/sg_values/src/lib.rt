@@ -1,0 +1,16 @@
+//! What is wrong with the values of filters and rewrites: names, patterns and numbers out of their ranges,
+//! options that are missing, macros that can't be set.
+#![tactic(auto)]
+
+mod expression;
+mod filter;
+mod pattern;
+mod range;
+mod rewrite;
+mod setting;
+mod text;
+
+pub use expression::expression_fault;
+pub use filter::filter_fault;
+pub use rewrite::rewrite_fault;
+pub use text::values_fault;
