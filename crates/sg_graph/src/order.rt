@@ -69,7 +69,7 @@ fn walk(
 
 /// The nodes in an order in which each stands behind those that it names, where none names itself through
 /// others (R. E. Tarjan, "Depth-first search and linear graph algorithms").
-pub fn finishing_order(alloc: Global, links: &[Items<u32>]) -> Result<Vec<u32>, AllocError>
+pub(crate) fn finishing_order(alloc: Global, links: &[Items<u32>]) -> Result<Vec<u32>, AllocError>
     requires { length links.now < 2 ^ 32 }
 {
     let mut seen = no_marks(alloc, links.len())?;

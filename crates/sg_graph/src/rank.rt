@@ -65,7 +65,7 @@ fn flood(
 }
 
 /// Ranks, the same for nodes on a common cycle (S. R. Kosaraju's algorithm for strongly connected components).
-pub fn ranks(alloc: Global, links: &[Items<u32>]) -> Result<Vec<u32>, AllocError>
+pub(crate) fn ranks(alloc: Global, links: &[Items<u32>]) -> Result<Vec<u32>, AllocError>
     requires { length links.now < 2 ^ 32 }
 {
     let order = finishing_order(alloc, links)?;
