@@ -396,6 +396,15 @@ impl MemoryWorld {
         fails
     }
 
+    /// Counts a pattern that was refused as too large.
+    pub fn refuse_build(&mut self)
+        ensures only { OnlyBuilds (world_of self.old) (world_of self.new) }
+        ensures rose { Rose self.old.build_faults self.new.build_faults }
+        ensures plans { self.new.plans ≡ self.old.plans }
+    {
+        self.build_faults = self.build_faults.saturating_add(1);
+    }
+
     /// Says the bytes. On a refusal nothing was said.
     pub fn say(&mut self, bytes: &[u8]) -> Result<(), SayRefusal>
         ensures says { Says (world_of self.old) (world_of self.new) bytes.now result }

@@ -4,6 +4,7 @@ ghost use Rattle.sg_world.specs.Host.{host_state, unused};
 
 use crate::World;
 use crate::world::LONGEST;
+use regex::bytes::Regex;
 use sg_device::{FileRefusal, Name, NoMemory, OpenRefusal, SayRefusal};
 use sg_expand::Files;
 use sg_host::{
@@ -11,6 +12,7 @@ use sg_host::{
     Rest, read_file, say, tell,
 };
 use sg_outside::{InletSpec, Machine, OutletSpec, StoreSpec};
+use sg_pattern::{BuildFault, Builder, Patterns};
 use std::alloc::Global;
 
 /// The machine. It tells nothing of the content of files and devices. When a device begins to fail,
@@ -62,6 +64,22 @@ impl Files for HostMachine {
             self.unread = Some(unread);
         }
         result
+    }
+}
+
+impl Builder for HostMachine {
+    fn build(&mut self, alloc: Global, text: &str, ignore_case: bool) -> Result<Regex, BuildFault> {
+        let mut patterns = Patterns {
+            too_large: self.build_faults,
+        };
+        let result = patterns.build(alloc, text, ignore_case);
+        self.build_faults = patterns.too_large;
+        match result {
+            Ok(regex) => Ok(regex),
+            Err(BuildFault::Syntax) => Err(BuildFault::Syntax),
+            Err(BuildFault::TooLarge) => Err(BuildFault::TooLarge),
+            Err(BuildFault::NoMemory) => Err(BuildFault::NoMemory),
+        }
     }
 }
 

@@ -3,11 +3,13 @@ ghost use Rattle.sg_memory.specs.World.{world_of};
 
 use crate::World;
 use crate::world::LONGEST;
+use regex::bytes::Regex;
 use sg_device::{FileRefusal, OpenRefusal, SayRefusal};
 use sg_expand::Files;
 use sg_memory::{MemoryDrain, MemoryFeed, MemoryOpener, MemoryWorld};
 use sg_memory_disk::MemoryStore;
 use sg_outside::{InletSpec, Machine, OutletSpec, StoreSpec};
+use sg_pattern::{BuildFault, Builder, Patterns};
 use std::alloc::Global;
 
 /// A machine in memory. It tells all that it holds.
@@ -23,6 +25,23 @@ impl Machine for MemoryMachine {
 impl Files for MemoryMachine {
     fn read(&mut self, alloc: Global, name: &[u8]) -> Result<Vec<u8>, FileRefusal> {
         self.world.read_file(alloc, name, LONGEST)
+    }
+}
+
+impl Builder for MemoryMachine {
+    fn build(&mut self, alloc: Global, text: &str, ignore_case: bool) -> Result<Regex, BuildFault> {
+        if self.world.fails_build() {
+            return Err(BuildFault::TooLarge);
+        }
+        match (Patterns { too_large: 0 }).build(alloc, text, ignore_case) {
+            Ok(regex) => Ok(regex),
+            Err(BuildFault::Syntax) => Err(BuildFault::Syntax),
+            Err(BuildFault::TooLarge) => {
+                self.world.refuse_build();
+                Err(BuildFault::TooLarge)
+            }
+            Err(BuildFault::NoMemory) => Err(BuildFault::NoMemory),
+        }
     }
 }
 

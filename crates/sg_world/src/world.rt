@@ -5,15 +5,16 @@ ghost use Rattle.sg_outside.specs.World.{InletOpens, InletRefused, OutletOpens, 
 use sg_device::{Disk, Inlet, OpenRefusal, Opener, Outlet, SayRefusal};
 use sg_expand::Files;
 use sg_outside::{InletSpec, OutletSpec, StoreSpec};
+use sg_pattern::Builder;
 use std::alloc::Global;
 
 /// The bytes of the longest file of a configuration.
 pub const LONGEST: u64 = 1_048_576;
 
-/// A machine: it reads files, opens and closes devices, and says text to the operator. What it holds
+/// A machine: it reads files, makes patterns, opens and closes devices, and says text to the operator. What it holds
 /// is its `state` as `Machine`: the files, the devices that were opened and closed, the bytes said,
 /// and the counts of faults.
-pub trait World: Files {
+pub trait World: Files + Builder {
     type Feed: Inlet;
 
     type Drain: Outlet;

@@ -1,0 +1,4 @@
+mod Lengths
+mod Ruling
+mod Faults
+mod Meanings

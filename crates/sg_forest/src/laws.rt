@@ -1,0 +1,8 @@
+// Laws.
+ghost use Rattle.sg_forest.specs.Kept.{RewritesAreKept};
+
+/// A rewrite with whose values nothing is wrong is in the log paths, where its name has a value, as it has where it
+/// was read.
+pub fn rewrites_are_kept()
+    ensures { RewritesAreKept }
+{}

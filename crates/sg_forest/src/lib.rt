@@ -1,0 +1,15 @@
+//! The log paths of a configuration's statements: filters and rewrites by their numbers, statements, channels
+//! and branches as a tree.
+#![tactic(auto)]
+
+mod element;
+mod flag;
+mod forest;
+mod laws;
+mod reference;
+mod rule;
+mod source;
+mod statement;
+
+pub use forest::forest_of;
+pub use laws::rewrites_are_kept;

@@ -1,0 +1,4 @@
+mod Sizes
+mod Loads
+mod Refusing
+mod Complete

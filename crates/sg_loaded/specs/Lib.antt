@@ -1,0 +1,4 @@
+pub mod Reading
+pub mod Compiling
+pub mod Loading
+pub mod Completeness

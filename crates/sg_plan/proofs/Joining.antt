@@ -1,0 +1,52 @@
+-- Drivers read one after another.
+use Rattle.std.proofs.Common.{◌≡◌, ◌∙◌, ℕ, ◌+◌, ◌<◌, ◌≤◌, List, [], ◌∷◌, ◌++◌, length, get_or, take, map, sym, ap, subst}
+use Rattle.std.specs.List.{flat_map}
+use Rattle.std.proofs.lemmas.List.{take_more, take_all, append-nil, append_assoc, map-append}
+use Rattle.sg_parse_expr.specs.declared.tree.Call.{Call}
+use Rattle.sg_parse_obj.specs.declared.driver.Side.{Side}
+use Rattle.sg_ends.specs.declared.owner.Owner.{Owner}
+use Rattle.sg_resolve.proofs.Leasts.{flat-push}
+use Rattle.sg_plan.specs.declared.globals.Globals.{Globals}
+use Rattle.sg_plan.specs.declared.driver.OwnedDriver.{OwnedDriver}
+use Rattle.sg_plan.specs.Owned.{Owned}
+use Rattle.sg_plan.specs.Reading.{AreRead, Reads}
+
+pub are-read-append : (globals : Globals) (ws vs : Owned) (ds es : List OwnedDriver) → AreRead globals ws ds → AreRead globals vs es → AreRead globals (ws ++ vs) (ds ++ es)
+are-read-append globals [] vs [] es a b = b
+are-read-append globals [] vs (d ∷ ds) es a b = absurd a
+are-read-append globals (w ∷ ws) vs [] es a b = absurd a
+are-read-append globals (w ∷ ws) vs (d ∷ ds) es a b = (a.0, a.1, are-read-append globals ws vs ds es a.2 b)
+
+pub reads-none : (globals : Globals) (xs : List OwnedDriver) → Reads globals [] xs xs
+reads-none globals xs = record { more = []; added = sym (append-nil xs); read = tt }
+
+-- two parts, one behind the other
+pub reads-join : (globals : Globals) (a b c : List OwnedDriver) (ws vs zs : Owned) → Reads globals ws a b → Reads globals vs b c → ws ++ vs ≡ zs → Reads globals zs a c
+reads-join globals a b c ws vs zs p q whole = record {
+  more = p.more ++ q.more;
+  added = q.added ∙ ap (λ xs. xs ++ q.more) p.added ∙ append_assoc a p.more q.more;
+  read = subst (λ os. AreRead globals os (p.more ++ q.more)) whole (are-read-append globals ws vs p.more q.more p.read q.read);
+}
+
+pub reads-same : (globals : Globals) (a b : List OwnedDriver) (ws zs : Owned) → Reads globals ws a b → ws ≡ zs → Reads globals zs a b
+reads-same globals a b ws zs p whole = subst (λ os. Reads globals os a b) whole p
+
+-- one more of several things that each have some
+pub reads-more : {X : Type 0} (globals : Globals) (parts : X → Owned) (a b c : List OwnedDriver) (xs : List X) (i : ℕ) (x : X) → i < length xs → x ≡ get_or xs i x
+    → Reads globals (flat_map parts (take i xs)) a b → Reads globals (parts x) b c → Reads globals (flat_map parts (take (i + 1) xs)) a c
+reads-more globals parts a b c xs i x within item before here =
+    reads-join globals a b c (flat_map parts (take i xs)) (parts x) (flat_map parts (take (i + 1) xs)) before here
+    (ap (λ y. flat_map parts (take i xs) ++ parts y) item ∙ sym (flat-push parts (take i xs) (get_or xs i x)) ∙ ap (flat_map parts) (sym (take_more xs i x within)))
+
+pub reads-all : {X : Type 0} (globals : Globals) (parts : X → Owned) (a b : List OwnedDriver) (xs : List X) (i : ℕ) → length xs ≤ i → Reads globals (flat_map parts (take i xs)) a b → Reads globals (flat_map parts xs) a b
+reads-all globals parts a b xs i past before = subst (λ ys. Reads globals (flat_map parts ys) a b) (take_all i xs past) before
+
+-- the same for things that each are one
+pub reads-one : {X : Type 0} (globals : Globals) (one : X → Owner × (Side × Call)) (a b c : List OwnedDriver) (xs : List X) (i : ℕ) (x : X) → i < length xs → x ≡ get_or xs i x
+    → Reads globals (map one (take i xs)) a b → Reads globals (one x ∷ []) b c → Reads globals (map one (take (i + 1) xs)) a c
+reads-one globals one a b c xs i x within item before here =
+    reads-join globals a b c (map one (take i xs)) (one x ∷ []) (map one (take (i + 1) xs)) before here
+    (ap (λ y. map one (take i xs) ++ one y ∷ []) item ∙ sym (map-append one (take i xs) (get_or xs i x ∷ [])) ∙ ap (map one) (sym (take_more xs i x within)))
+
+pub reads-ones : {X : Type 0} (globals : Globals) (one : X → Owner × (Side × Call)) (a b : List OwnedDriver) (xs : List X) (i : ℕ) → length xs ≤ i → Reads globals (map one (take i xs)) a b → Reads globals (map one xs) a b
+reads-ones globals one a b xs i past before = subst (λ ys. Reads globals (map one ys) a b) (take_all i xs past) before

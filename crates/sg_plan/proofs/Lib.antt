@@ -1,0 +1,16 @@
+pub mod Joining
+pub mod OwnedEquations
+pub mod Slots
+pub mod Alike
+pub mod Apart
+pub mod Elements
+pub mod StoreNumbers
+pub mod Ranges
+pub mod Fair
+pub mod Clean
+pub mod Written
+pub mod Sound
+pub mod Growing
+pub mod Joined
+pub mod Within
+pub mod Directs

@@ -1,0 +1,7 @@
+pub mod Globals
+pub mod Owned
+pub mod Reading
+pub mod Parts
+pub mod Plans
+pub mod Limits
+pub mod Direct
