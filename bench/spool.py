@@ -25,13 +25,13 @@ def program():
     return PROGRAM
 
 
-def syncs_per_second(folder, seconds):
+def syncs_per_second(folder, seconds, length=LENGTH):
     """Writes behind the end of a file and calls fdatasync, in turns."""
     with tempfile.NamedTemporaryFile(dir=folder) as out:
         count = 0
         start = time.monotonic()
         while time.monotonic() - start < seconds:
-            os.pwrite(out.fileno(), b"x" * LENGTH, count * LENGTH)
+            os.pwrite(out.fileno(), b"x" * length, count * length)
             os.fdatasync(out.fileno())
             count += 1
         return count / (time.monotonic() - start)

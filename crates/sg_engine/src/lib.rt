@@ -1,13 +1,7 @@
-//! The rounds of a run on one thread: records move from an inlet through the flow core to an outlet.
+//! A run over a flow core: in each round every source and every destination takes one turn.
 #![tactic(auto)]
 
-mod delivery;
-mod format;
-mod outgoing;
-mod path;
-mod reader;
-mod rounds;
-mod source;
+mod run;
 
-pub use path::path_setup;
-pub use rounds::{Ended, serve};
+pub use run::{Served, serve};
+pub use sg_turns::Ended;

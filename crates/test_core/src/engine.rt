@@ -7,7 +7,7 @@ ghost use Rattle.sg_memory.specs.Outlet.{outlet_of};
 
 use sg_core::Core;
 use sg_device::NoMemory;
-use sg_engine::{Ended, path_setup, serve};
+use sg_lines::{Ended, path_setup, serve};
 use sg_memory::{MemoryInlet, MemoryOutlet, OutletPlan, Pace};
 use sg_memory_disk::{DiskPlan, MemoryDisk, Plan};
 use std::alloc::Global;

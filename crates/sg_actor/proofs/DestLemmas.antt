@@ -1,0 +1,197 @@
+-- A turn of a destination.
+use Rattle.std.proofs.Common.{arith, ◌≡◌, ◌≤◌, ◌+◌, ℕ, Bool, true, false, List, [], ◌++◌, take, min, refl, ap, sym, ◌∙◌, subst, Option, Some, None}
+use Rattle.std.specs.Prelude.{Ok, Err, IsErr, Result, is_ok, is_some, ◌||◌, ◌&&◌}
+use Rattle.std.specs.Option.{option_map}
+use Rattle.std.specs.declared.alloc.AllocError.{AllocError}
+use Rattle.sg_device.specs.Faults.{Rose}
+use Rattle.sg_device.specs.Outlet.{OutletState}
+use Rattle.sg_counter.specs.Exchanges.{Exchange}
+use Rattle.sg_counter.specs.declared.calls.CoreCall.{CoreCall}
+use Rattle.sg_counter.specs.declared.calls.CoreReply.{CoreReply}
+use Rattle.sg_actor.specs.Rendering.{frames_by}
+use Rattle.sg_actor.specs.Outages.{HasFailures, Takes, Begins}
+use Rattle.sg_actor.specs.DestTurns.{shown_in, has_shown, Delivers, Tells, SendsWith, SendsBy, SendsTurn}
+use Rattle.sg_actor.specs.Delivering.{FrontGives}
+use Rattle.sg_actor.specs.declared.outage.Outage.{Outage}
+use Rattle.sg_actor.specs.declared.outage.Begun.TheVariants.{Open, Reopened, Later, Failed}
+use Rattle.sg_actor.specs.declared.rendering.DestSpec.{DestSpec}
+use Rattle.sg_actor.specs.declared.turned.GivenUp.{GivenUp}
+use Rattle.sg_actor.specs.declared.turned.Turned.{Turned}
+use Rattle.sg_actor.proofs.PullLemmas.{lt-yes, lt-no}
+use Rattle.sg_actor.proofs.SendLemmas.{kept-cause, refused-cause, told-none, not-ok}
+
+pub none-of : (cause : Option GivenUp) → is_some cause ≡ false → cause ≡ None
+none-of None h = refl
+none-of (Some c) h = absurd (let differ : true ≡ false = h in cc)
+
+by-none : {S : Type 0} (cause : Option GivenUp) (spec : DestSpec) (step : S → CoreCall → CoreReply → S → Type 0) (counter counter' : S) (old new : Outage) (drain drain' : OutletState) (result : Result Turned AllocError) (made : List Exchange) (taken : ℕ) (refused : Bool)
+    → cause ≡ None → SendsWith {E = AllocError} spec step counter counter' old new drain drain' result made taken refused → SendsBy {E = AllocError} cause spec step counter counter' old new drain drain' result
+by-none None spec step counter counter' old new drain drain' result made taken refused is h = (made, (taken, (refused, h)))
+by-none (Some c) spec step counter counter' old new drain drain' result made taken refused is h = absurd (let differ : Some c ≡ None = is in cc)
+
+or-same : (b : Bool) → b ≡ (b || false)
+or-same true = refl
+or-same false = refl
+
+or-true : (b : Bool) → true ≡ (b || true)
+or-true true = refl
+or-true false = refl
+
+-- it is too early
+pub send-later : {S : Type 0} (spec : DestSpec) (step : S → CoreCall → CoreReply → S → Type 0) (counter : S) (old new : Outage) (drain drain' : OutletState)
+    → old.given_up ≡ None → HasFailures old drain → Begins spec.gives_up old new drain drain' Later
+    → SendsTurn {E = AllocError} spec step counter counter old new drain drain' (Ok (record { did = false; idle = true }))
+send-later spec step counter old new drain drain' none failures begins =
+    let more : drain'.laters ≡ drain.laters + 1 = ap (λ d. d.laters) begins.2 in
+    let count : drain'.count ≡ drain.count = ap (λ d. d.count) begins.2 in
+    let faults : drain'.faults ≡ drain.faults = ap (λ d. d.faults) begins.2 in
+    by-none old.given_up spec step counter counter old new drain drain' (Ok (record { did = false; idle = true })) [] 0 false none (record {
+      makes = refl;
+      own = tt;
+      few = omega arith;
+      delivers = refl;
+      takes = record { told = ap (λ d. d.taken) begins.2 ∙ told-none drain.taken; rose = omega arith; faults = omega arith };
+      within = omega arith;
+      whole = (λ w r. refl);
+      laters = (omega arith, omega arith);
+      early = (λ l. begins.0);
+      rose = (λ e. absurd (let differ : false ≡ true = e in cc));
+      failures = ap (λ o. o.failures) begins.1 ∙ failures ∙ ap (λ d. min d.failing 3) (sym begins.2);
+      reopens = ap (λ o. o.reopens) begins.1 ∙ begins.0 ∙ sym (lt-yes drain.laters drain'.laters (omega arith));
+      cause = kept-cause spec.gives_up drain' new.given_up (ap (λ o. o.given_up) begins.1 ∙ none);
+      tells = record {
+        did = ap (λ b. b && false) (sym begins.0);
+        idle = sym (lt-yes drain.laters drain'.laters (omega arith));
+        empty = (λ d i. absurd (let differ : true ≡ false = i in cc));
+      };
+    })
+
+-- it fails again
+pub send-failed : {S : Type 0} (spec : DestSpec) (step : S → CoreCall → CoreReply → S → Type 0) (counter : S) (old new : Outage) (drain drain' : OutletState)
+    → old.given_up ≡ None → Begins spec.gives_up old new drain drain' Failed
+    → SendsTurn {E = AllocError} spec step counter counter old new drain drain' (Ok (record { did = true; idle = false }))
+send-failed spec step counter old new drain drain' none begins =
+    let same : drain'.laters ≡ drain.laters = begins.3 in
+    by-none old.given_up spec step counter counter old new drain drain' (Ok (record { did = true; idle = false })) [] 0 true none (record {
+      makes = refl;
+      own = tt;
+      few = omega arith;
+      delivers = refl;
+      takes = begins.2;
+      within = omega arith;
+      whole = (λ w r. refl);
+      laters = (omega arith, omega arith);
+      early = (λ l. begins.0);
+      rose = (λ e. begins.4);
+      failures = begins.5;
+      reopens = ap (λ o. o.reopens) begins.1;
+      cause = refused-cause spec.gives_up old new drain' none begins.1 begins.5;
+      tells = record {
+        did = ap (λ b. b && true) (sym begins.0);
+        idle = sym (lt-no drain.laters drain'.laters (omega arith));
+        empty = (λ d i. absurd (let differ : true ≡ false = d in cc));
+      };
+    })
+
+-- it is open again
+told-then : (xs : List (List ℕ)) (a b c : Option (List (List ℕ))) → b ≡ option_map (λ before. before ++ []) a → c ≡ option_map (λ before. before ++ xs) b → c ≡ option_map (λ before. before ++ xs) a
+told-then xs a b c first second = second ∙ ap (λ o. option_map (λ before. before ++ xs) o) (first ∙ sym (told-none a))
+
+takes-then : (k : ℕ) (frames : List (List ℕ)) (a b c : OutletState) → Takes 0 [] a b → Takes k frames b c → Takes k frames a c
+takes-then k frames a b c h m = record {
+  told = told-then (take k frames) a.taken b.taken c.taken h.told m.told;
+  rose = (let first : b.count ≡ a.count + 0 = h.rose in let second : c.count ≡ b.count + k = m.rose in omega arith);
+  faults = omega (arith, h.faults, m.faults);
+}
+
+rose-then : (a b c : ℕ) → a ≤ b → Rose b c → Rose a c
+rose-then a b c h rose = omega arith
+
+reopened-with : {S : Type 0} (spec : DestSpec) (step : S → CoreCall → CoreReply → S → Type 0) (counter counter' : S) (old mid new : Outage) (drain between drain' : OutletState) (found : Result Bool AllocError) (result : Result Turned AllocError)
+    → Begins spec.gives_up old mid drain between Reopened → (h : FrontGives {E = AllocError} spec step counter counter' new between drain' found) → is_ok found ≡ is_ok result
+    → ((made : List Exchange) → Tells old new made drain drain' result)
+    → SendsWith {E = AllocError} spec step counter counter' old new drain drain' result h.made h.taken h.refused
+reopened-with spec step counter counter' old mid new drain between drain' found result begins h ok tells =
+    let same : drain'.laters ≡ drain.laters = h.laters ∙ begins.3 in
+    record {
+      makes = h.makes;
+      own = h.own;
+      few = omega (arith, h.few);
+      delivers = subst (λ b. Delivers spec.dest h.taken b h.made) ok h.delivers;
+      takes = takes-then h.taken (frames_by spec (shown_in h.made)) drain between drain' begins.2 h.takes;
+      within = h.within;
+      whole = (λ w r. h.whole (ok ∙ w) r);
+      laters = (omega arith, omega arith);
+      early = (λ l. begins.0);
+      rose = (λ e. rose-then drain.faults between.faults drain'.faults begins.2.faults (h.rose e));
+      failures = h.failures;
+      reopens = h.reopens ∙ or-same h.refused ∙ ap (λ b. h.refused || b) (sym (lt-no drain.laters drain'.laters (omega arith)));
+      cause = h.cause;
+      tells = tells h.made;
+    }
+
+pub send-reopened : {S : Type 0} (spec : DestSpec) (step : S → CoreCall → CoreReply → S → Type 0) (counter counter' : S) (old mid new : Outage) (drain between drain' : OutletState) (found : Bool)
+    → old.given_up ≡ None → Begins spec.gives_up old mid drain between Reopened → FrontGives {E = AllocError} spec step counter counter' new between drain' (Ok found)
+    → SendsTurn {E = AllocError} spec step counter counter' old new drain drain' (Ok (record { did = true; idle = false }))
+send-reopened spec step counter counter' old mid new drain between drain' found none begins h =
+    let same : drain'.laters ≡ drain.laters = h.laters ∙ begins.3 in
+    by-none old.given_up spec step counter counter' old new drain drain' (Ok (record { did = true; idle = false })) h.made h.taken h.refused none
+    (reopened-with spec step counter counter' old mid new drain between drain' (Ok found) (Ok (record { did = true; idle = false })) begins h refl (λ made. record {
+      did = or-true (has_shown made) ∙ ap (λ b. has_shown made || (b && true)) (sym begins.0);
+      idle = sym (lt-no drain.laters drain'.laters (omega arith));
+      empty = (λ d i. absurd (let differ : true ≡ false = d in cc));
+    }))
+
+tells-err : (old new : Outage) (made : List Exchange) (drain drain' : OutletState) (result : Result Turned AllocError) → IsErr result → Tells old new made drain drain' result
+tells-err old new made drain drain' (Ok t) is = absurd (let differ : false ≡ true = is in cc)
+tells-err old new made drain drain' (Err e) is = tt
+
+pub send-starved : {S : Type 0} (spec : DestSpec) (step : S → CoreCall → CoreReply → S → Type 0) (counter counter' : S) (old mid new : Outage) (drain between drain' : OutletState) (e : AllocError) (result : Result Turned AllocError) → IsErr result
+    → old.given_up ≡ None → Begins spec.gives_up old mid drain between Reopened → FrontGives {E = AllocError} spec step counter counter' new between drain' (Err e)
+    → SendsTurn {E = AllocError} spec step counter counter' old new drain drain' result
+send-starved spec step counter counter' old mid new drain between drain' e result is none begins h =
+    by-none old.given_up spec step counter counter' old new drain drain' result h.made h.taken h.refused none
+    (reopened-with spec step counter counter' old mid new drain between drain' (Err e) result begins h (sym (not-ok result is)) (λ made. tells-err old new made drain drain' result is))
+
+-- it didn't fail
+open-with : {S : Type 0} (spec : DestSpec) (step : S → CoreCall → CoreReply → S → Type 0) (counter counter' : S) (old new : Outage) (drain between drain' : OutletState) (found : Result Bool AllocError) (result : Result Turned AllocError)
+    → between ≡ drain → (h : FrontGives {E = AllocError} spec step counter counter' new between drain' found) → is_ok found ≡ is_ok result
+    → Tells old new h.made drain drain' result
+    → SendsWith {E = AllocError} spec step counter counter' old new drain drain' result h.made h.taken h.refused
+open-with spec step counter counter' old new drain between drain' found result is h ok tells =
+    let same : drain'.laters ≡ drain.laters = h.laters ∙ ap (λ d. d.laters) is in
+    record {
+      makes = h.makes;
+      own = h.own;
+      few = omega (arith, h.few);
+      delivers = subst (λ b. Delivers spec.dest h.taken b h.made) ok h.delivers;
+      takes = subst (λ d. Takes h.taken (frames_by spec (shown_in h.made)) d drain') is h.takes;
+      within = h.within;
+      whole = (λ w r. h.whole (ok ∙ w) r);
+      laters = (omega arith, omega arith);
+      early = (λ l. absurd (omega arith));
+      rose = (λ e. subst (λ d. Rose d.faults drain'.faults) is (h.rose e));
+      failures = h.failures;
+      reopens = h.reopens ∙ or-same h.refused ∙ ap (λ b. h.refused || b) (sym (lt-no drain.laters drain'.laters (omega arith)));
+      cause = h.cause;
+      tells = tells;
+    }
+
+pub send-open : {S : Type 0} (spec : DestSpec) (step : S → CoreCall → CoreReply → S → Type 0) (counter counter' : S) (old mid new : Outage) (drain between drain' : OutletState) (found : Bool)
+    → old.given_up ≡ None → Begins spec.gives_up old mid drain between Open → FrontGives {E = AllocError} spec step counter counter' new between drain' (Ok found)
+    → SendsTurn {E = AllocError} spec step counter counter' old new drain drain' (Ok (record { did = found; idle = false }))
+send-open spec step counter counter' old mid new drain between drain' found none begins h =
+    let same : drain'.laters ≡ drain.laters = h.laters ∙ ap (λ d. d.laters) begins.2 in
+    by-none old.given_up spec step counter counter' old new drain drain' (Ok (record { did = found; idle = false })) h.made h.taken h.refused none
+    (open-with spec step counter counter' old new drain between drain' (Ok found) (Ok (record { did = found; idle = false })) begins.2 h refl (record {
+      did = sym h.shows.0 ∙ or-same (has_shown h.made) ∙ ap (λ b. has_shown h.made || (b && true)) (sym begins.0);
+      idle = sym (lt-no drain.laters drain'.laters (omega arith));
+      empty = λ d i. h.shows.1 d;
+    }))
+
+pub send-unopened : {S : Type 0} (spec : DestSpec) (step : S → CoreCall → CoreReply → S → Type 0) (counter counter' : S) (old mid new : Outage) (drain between drain' : OutletState) (e : AllocError) (result : Result Turned AllocError) → IsErr result
+    → old.given_up ≡ None → Begins spec.gives_up old mid drain between Open → FrontGives {E = AllocError} spec step counter counter' new between drain' (Err e)
+    → SendsTurn {E = AllocError} spec step counter counter' old new drain drain' result
+send-unopened spec step counter counter' old mid new drain between drain' e result is none begins h =
+    by-none old.given_up spec step counter counter' old new drain drain' result h.made h.taken h.refused none
+    (open-with spec step counter counter' old new drain between drain' (Err e) result begins.2 h (sym (not-ok result is)) (tells-err old new h.made drain drain' result is))

@@ -1,0 +1,12 @@
+use Rattle.std.proofs.Common.{◌≡◌}
+use Rattle.std.specs.Prelude.{length}
+use Rattle.sg_actor.specs.Steps.{KeepsAll, HasTaken, SameRouter}
+use Rattle.sg_actor.proofs.taking.take_items.Given as goal
+
+abbrev pub invariant-loop-count : goal.invariant-loop-count
+invariant-loop-count g l = record {
+  keeps : KeepsAll (g.R.Router.offers l.initial.router) (g.R.Router.dests l.initial.router) l.spec (g.I.Inlet.state l.inlet) l.initial.reader l.reader;
+  taken : HasTaken l.initial.reader l.reader;
+  router : SameRouter (g.R.Router.offers l.initial.router) (g.R.Router.offers l.router) (g.R.Router.inlets l.initial.router) (g.R.Router.inlets l.router) (g.R.Router.dests l.initial.router) (g.R.Router.dests l.router);
+  held : length l.reader.held ≡ l._count;
+}

@@ -1,0 +1,11 @@
+pub mod Reading
+pub mod Sources
+pub mod Steps
+pub mod Bringing
+pub mod Positions
+pub mod SourceTurns
+pub mod Rendering
+pub mod Outages
+pub mod DestTurns
+pub mod Delivering
+pub mod Laws

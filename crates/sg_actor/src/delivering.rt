@@ -1,0 +1,143 @@
+// Entries of the core that go to an outlet.
+ghost use Rattle.std.specs.Prelude.{◌≡◌, ◌≢◌, ◌≤◌, ◌<◌, ◌+◌, false, None, [], length, is_ok};
+ghost use Rattle.sg_actor.specs.Outages.{HasFailures};
+ghost use Rattle.sg_actor.specs.DestTurns.{HasDelivered};
+ghost use Rattle.sg_actor.specs.Delivering.{Settles, Refills, FrontGives};
+
+use crate::outage::{Outage, send};
+use crate::rendering::{DestSpec, render};
+use sg_counter::{CoreFront, Counter, Refill, Settled};
+use sg_device::{Frames, NoMemory, Outlet};
+use sg_msg::Message;
+use std::alloc::{AllocError, Global};
+use std::sync::Wait;
+
+/// How many entries a turn asks for.
+const ENTRIES: u32 = 100;
+
+/// Settles the entries whose frames were taken. Tells whether the destination may go on.
+fn settle<T: Wait, C: Counter>(
+    rt: &T,
+    counter: &mut C,
+    d: u32,
+    place: u64,
+    taken: u32,
+    outage: &mut Outage,
+) -> bool
+    requires left { 0 < C.left counter.old }
+    requires dest { d < length (C.setup counter.old).dests }
+    ensures settles { Settles C.step counter.old counter.new d place taken
+        outage.old outage.new result }
+    ensures setup { C.setup counter.new ≡ C.setup counter.old }
+    ensures left { C.left counter.old ≤ C.left counter.new + 1 }
+{
+    if taken == 0 {
+        return true;
+    }
+    match counter.settle(rt, d, place, taken) {
+        Settled::Done => true,
+        Settled::NotFront => false,
+        Settled::DiskFailed => {
+            outage.break_store();
+            false
+        }
+    }
+}
+
+/// Moves entries that wait into the disk-buffer.
+fn refill<T: Wait, C: Counter>(rt: &T, counter: &mut C, d: u32, outage: &mut Outage)
+    requires left { 0 < C.left counter.old }
+    requires dest { d < length (C.setup counter.old).dests }
+    ensures refills { Refills C.step counter.old counter.new d outage.old outage.new }
+    ensures setup { C.setup counter.new ≡ C.setup counter.old }
+    ensures left { C.left counter.old ≤ C.left counter.new + 1 }
+{
+    match counter.refill(rt, d) {
+        Refill::Broken => outage.break_store(),
+        Refill::Moved(_) => {}
+        Refill::NoneWaits => {}
+        Refill::NoRoom => {}
+    }
+}
+
+/// Sends the frames of the first entries, the first of which has that place, settles those that
+/// were taken, and refills.
+fn deliver<T: Wait, C: Counter, O: Outlet>(
+    rt: &T,
+    alloc: Global,
+    counter: &mut C,
+    spec: &DestSpec,
+    outlet: &mut O,
+    frames: &mut Frames,
+    outage: &mut Outage,
+    place: u64,
+    messages: &[Message],
+) -> Result<(), NoMemory>
+    requires left { 2 ≤ C.left counter.old }
+    requires dest { spec.now.dest < length (C.setup counter.old).dests }
+    requires some { messages.now ≢ [] }
+    requires ready { outage.old.reopens ≡ false }
+    requires kept { outage.old.given_up ≡ None }
+    requires failures { HasFailures outage.old (O.state outlet.old) }
+    ensures delivers { HasDelivered spec.now C.step counter.old counter.new place messages.now
+        outage.new (O.state outlet.old) (O.state outlet.new) (is_ok result) }
+    ensures setup { C.setup counter.new ≡ C.setup counter.old }
+    ensures left { C.left counter.old ≤ C.left counter.new + 2 }
+{
+    render(alloc, spec, messages, frames)?;
+    let sent = send(outlet, frames, outage, spec.gives_up);
+    let goes_on = settle(rt, counter, spec.dest, place, sent.taken, outage);
+    if sent.starved {
+        return Err(AllocError);
+    }
+    if goes_on {
+        refill(rt, counter, spec.dest, outage);
+    }
+    Ok(())
+}
+
+/// Takes the first entries of the destination to its outlet. Tells whether there were any.
+pub(crate) fn deliver_front<T: Wait, C: Counter, O: Outlet>(
+    rt: &T,
+    alloc: Global,
+    counter: &mut C,
+    spec: &DestSpec,
+    outlet: &mut O,
+    frames: &mut Frames,
+    outage: &mut Outage,
+) -> Result<bool, NoMemory>
+    requires left { 3 ≤ C.left counter.old }
+    requires dest { spec.now.dest < length (C.setup counter.old).dests }
+    requires ready { outage.old.reopens ≡ false }
+    requires kept { outage.old.given_up ≡ None }
+    requires failures { HasFailures outage.old (O.state outlet.old) }
+    ensures gives { FrontGives spec.now C.step counter.old counter.new outage.new
+        (O.state outlet.old) (O.state outlet.new) result }
+    ensures setup { C.setup counter.new ≡ C.setup counter.old }
+    ensures left { C.left counter.old ≤ C.left counter.new + 3 }
+{
+    match counter.front(rt, alloc, spec.dest, ENTRIES)? {
+        CoreFront::Entries { place, messages } => {
+            if messages.is_empty() {
+                return Ok(false);
+            }
+            deliver(
+                rt,
+                alloc,
+                counter,
+                spec,
+                outlet,
+                frames,
+                outage,
+                place,
+                messages.as_slice(),
+            )?;
+            Ok(true)
+        }
+        CoreFront::Empty => Ok(false),
+        CoreFront::Broken => {
+            outage.break_store();
+            Ok(false)
+        }
+    }
+}

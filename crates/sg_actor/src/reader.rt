@@ -1,0 +1,92 @@
+// What a source keeps of its inlet between two turns.
+ghost use Rattle.std.specs.Prelude.{◌≡◌, ◌<◌, ◌+◌, ◌^◌, [], length, IfOk};
+ghost use Rattle.sg_device.specs.declared.inlet.Pull.TheVariants.{Idle};
+ghost use Rattle.sg_frame.specs.Framing.{fed};
+ghost use Rattle.sg_frame.specs.declared.kind.FrameKind.{FrameKind as AKind};
+ghost use Rattle.sg_actor.specs.Reading.{bytes_pulled, IsUnfed};
+ghost use Rattle.sg_actor.specs.Steps.{IsBegun, Feeds, Looks};
+
+use sg_device::{NoMemory, Pull};
+use sg_frame::{FrameKind, Framed, Framer};
+use sg_list::Seq;
+use sg_machine::Admission;
+use std::alloc::Global;
+
+/// The bytes that a pull brings at most.
+const PIECE: usize = 65_536;
+
+/// What a source keeps of its inlet between two turns.
+#[derive(Drop)]
+pub struct Reader {
+    pub(crate) framer: Framer,
+    /// What was pulled and isn't fed to the framer yet: the first bytes of the buffer. `Idle` where
+    /// there is nothing.
+    pub(crate) pulled: Pull,
+    /// What the framer gave last: an item whose record isn't held yet, or a bad count. `More` where
+    /// that isn't known.
+    pub(crate) ahead: Framed,
+    /// The records before it that weren't admitted yet.
+    pub(crate) held: Seq<Admission>,
+    /// The end of the last record that was admitted, at first the place where reading began.
+    pub(crate) end: u64,
+    pub(crate) ended: bool,
+    pub(crate) failed: bool,
+    /// The present part is given up, for its bad count.
+    pub(crate) given_up: bool,
+}
+
+/// Room for what a pull brings. A function of its own: the list of 65,536 zeros is kept out of the
+/// other proofs.
+pub(crate) fn make_buffer(alloc: Global) -> Result<Vec<u8>, NoMemory>
+    ensures { IfOk result (λ buffer. 0 < length buffer.items) }
+{
+    vec![in alloc; 0u8; PIECE]
+}
+
+/// A reader of an inlet that gave nothing yet.
+pub(crate) fn make_reader(
+    alloc: Global,
+    kind: FrameKind,
+    limit: u32,
+    from: u64,
+) -> Result<Reader, NoMemory>
+    requires { 0 < limit }
+    ensures { IfOk result (IsBegun kind limit from) }
+{
+    Ok(Reader {
+        framer: Framer::new(alloc, kind, limit)?,
+        pulled: Pull::Idle,
+        ahead: Framed::More,
+        held: Seq::empty(alloc),
+        end: from,
+        ended: false,
+        failed: false,
+        given_up: false,
+    })
+}
+
+/// Feeds what was pulled to the framer. Without memory it is still to be fed.
+pub(crate) fn feed_pulled(reader: &mut Reader, buffer: &[u8]) -> Result<(), NoMemory>
+    requires unfed { IsUnfed (length buffer.now) reader.old.pulled }
+    requires range { fed reader.old.framer + length (bytes_pulled reader.old.pulled buffer.now)
+        < 2 ^ 63 }
+    ensures { Feeds buffer.now reader.old reader.new result }
+{
+    let Pull::Bytes { len, at } = reader.pulled else {
+        return Ok(());
+    };
+    reader.framer.feed(&buffer[..len], at)?;
+    reader.pulled = Pull::Idle;
+    Ok(())
+}
+
+/// Asks the framer for what stands at the front of its bytes, where that isn't known.
+pub(crate) fn look(reader: &mut Reader) -> Result<(), NoMemory>
+    ensures { Looks reader.old reader.new result }
+{
+    let Framed::More = &reader.ahead else {
+        return Ok(());
+    };
+    reader.ahead = reader.framer.next()?;
+    Ok(())
+}

@@ -1,0 +1,4 @@
+pub mod PreludeLemmas
+pub mod SourceLemmas
+pub mod DestLemmas
+pub mod HeadlineLemmas

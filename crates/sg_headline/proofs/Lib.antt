@@ -1,0 +1,10 @@
+pub mod TextLemmas
+pub mod EventLemmas
+pub mod OwnLemmas
+pub mod ViewLemmas
+pub mod ToldLemmas
+pub mod ServeLemmas
+pub mod RunLemmas
+pub mod HeadLemmas
+pub mod DueLemmas
+pub mod CreditLemmas

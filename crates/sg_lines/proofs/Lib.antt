@@ -1,0 +1,10 @@
+pub mod PathLemmas
+pub mod GivenLemmas
+pub mod ReadingLemmas
+pub mod PullLemmas
+pub mod StateLemmas
+pub mod StepLemmas
+pub mod RunLemmas
+pub mod EndLemmas
+pub mod TurnLemmas
+pub mod FormatLemmas

@@ -1,0 +1,385 @@
+-- Lemmas on the run of a plan: from its parts to the whole.
+use Rattle.std.proofs.Common.{◌≡◌, ◌≤◌, ◌<◌, ◌⊎◌, inl, inr, ℕ, ◌+◌, Bool, true, false, List, [], ◌∷◌, ◌++◌, length, map, Some, None, Option, Ok, Err, refl, sym, ap, ◌∙◌, arith, slice_get, subst}
+use Rattle.std.specs.Prelude.{option_map, option_to_list, is_some, Result, IfOk, IfSome}
+use Rattle.std.specs.Result.{result_ok}
+use Rattle.std.proofs.lemmas.List.{append-nil, length-map, length-append}
+use Rattle.sg_list.proofs.ListLemmas.{some-same, slice_get-some, slice_get-below, slice_get-map}
+use Rattle.sg_device.specs.Disk.{DiskState}
+use Rattle.sg_device.specs.Faults.{Rose}
+use Rattle.sg_device.specs.Inlet.{InletState}
+use Rattle.sg_device.specs.Outlet.{OutletState}
+use Rattle.sg_outside.specs.World.{WorldState, Files}
+use Rattle.sg_msg.specs.declared.offer.Offer.{Offer}
+use Rattle.sg_frame.specs.Records.{Record}
+use Rattle.sg_machine.specs.declared.event.Act.TheVariants.{Look}
+use Rattle.sg_machine.specs.declared.event.Event.{Event}
+use Rattle.sg_machine.specs.declared.setup.Setup.{Setup}
+use Rattle.sg_machine.specs.declared.setup.SourceSetup.{SourceSetup}
+use Rattle.sg_counter.specs.Bringing.{store_in}
+use Rattle.sg_counter.specs.Exchanges.{Makes, Exchange}
+use Rattle.sg_counter.specs.declared.calls.CoreCall.{CoreCall}
+use Rattle.sg_counter.specs.declared.calls.CoreCall.TheVariants.{Credit, Admit, Front, Settle, Refill, Store as CallStore}
+use Rattle.sg_counter.specs.declared.calls.CoreReply.{CoreReply}
+use Rattle.sg_counter.specs.declared.calls.CoreReply.TheVariants.{Credit as CreditReply, Admitted, Front as FrontReply, Settled, Refilled, Stored}
+use Rattle.sg_core.specs.Calls.{Serves as CoreServes}
+use Rattle.sg_standing.proofs.Calls.{all-go-same}
+use Rattle.sg_serve.proofs.RewindLemmas.{all-go-then}
+use Rattle.sg_actor.specs.SourceTurns.{actor}
+use Rattle.sg_actor.specs.declared.dest.DestActor.{DestActor}
+use Rattle.sg_actor.specs.declared.settings.SourceSpec.{SourceSpec}
+use Rattle.sg_actor.specs.declared.source.SourceActor.{SourceActor}
+use Rattle.sg_buffer.specs.declared.found.Found.{Found}
+use Rattle.sg_stores.specs.Stores.{StoreState, AllGo}
+use Rattle.sg_stores.specs.Opening.{IsOpenedAs}
+use Rattle.sg_stores.specs.declared.answers.CoreRefusal.{CoreRefusal}
+use Rattle.sg_stores.specs.declared.answers.CoreRefusal.TheVariants.{Damage as CoreDamage, DiskFault as CoreFault, NoMemory as CoreNoMemory}
+use Rattle.sg_stores.specs.declared.kind.StoreKind.{StoreKind}
+use Rattle.sg_stores.specs.declared.kind.StoreKind.TheVariants.{Position, Buffer}
+use Rattle.sg_standing.specs.States.{CoreState, setup_of}
+use Rattle.sg_core.specs.Opening.{IsOpen, IsUnopened}
+use Rattle.sg_turns.specs.Actors.{AreSources, AreDests}
+use Rattle.sg_turns.specs.declared.ended.Ended.{Ended}
+use Rattle.sg_source.specs.declared.inlet.InletPlan.{InletPlan}
+use Rattle.sg_destination.specs.declared.outlet.OutletPlan.{OutletPlan}
+use Rattle.sg_serve.specs.Actors.{source_view, dest_view, IsSourceFor, AreSourcesFor, AreDestsFor, AllBeginAt}
+use Rattle.sg_serve.specs.Devices.{with_all_closed, AreFetching, OpensStores, OpensInlets, OpensOutlets, ClosesStores, ClosesInlets, ClosesOutlets, inlets_asked, outlets_asked}
+use Rattle.sg_serve.specs.Early.{StoresFail, InletsFail, OutletsFail, SourcesFail}
+use Rattle.sg_serve.specs.Plan.{IsRunnable, AllKnow}
+use Rattle.sg_serve.specs.Rewinds.{position_at, places_of, rewinds_from, HasBegun, FailsBehind}
+use Rattle.sg_serve.specs.Run.{CoreRun, Reached, reached_by, ClosesAll, UsesDevices, FailsLast, HoldsCore, RunsRounds, StaysUnserved, IsServed, HoldsRun, HoldsNone, Holds, RestsWithout, RoseAt, HasCause, HasEnding, early_of, RunsWith, RunsPlan, RunsOver, RunsDests, DestsEnd}
+use Rattle.sg_serve.specs.declared.ending.Device.TheVariants.{Store, Inlet, Dest}
+use Rattle.sg_serve.specs.declared.ending.Early.{Early}
+use Rattle.sg_serve.specs.declared.ending.Early.TheVariants.{OpenFault, Damage, DiskFault, NoMemory}
+use Rattle.sg_serve.specs.declared.ending.Ending.{Ending}
+use Rattle.sg_serve.specs.declared.ending.Ending.TheVariants.{Before, Ran}
+use Rattle.sg_serve.specs.declared.plan.RunPlan.{RunPlan}
+use Rattle.sg_serve.proofs.ActorLemmas.{fetching-at}
+use Rattle.sg_serve.proofs.DeviceLemmas.{rose-wider, inlets-none, outlets-none}
+
+-- Closing.
+
+pub closes-all : (old w1 w2 new : WorldState) (disks : List DiskState) (feeds : List InletState) (drains : List OutletState) → ClosesStores old w1 disks → ClosesInlets w1 w2 feeds → ClosesOutlets w2 new drains → ClosesAll old new disks feeds drains
+closes-all old w1 w2 new disks feeds drains a b c =
+    c ∙ ap (λ (m : WorldState). record m { outlets = with_all_closed m.outlets drains }) b
+    ∙ ap (λ (m : WorldState). record m { inlets = with_all_closed m.inlets feeds; outlets = with_all_closed m.outlets drains }) a
+
+-- Calls.
+
+serves-go : (old new : CoreState) (call : CoreCall) (reply : CoreReply) → CoreServes old call reply new → AllGo old.stores new.stores
+serves-go old new (Credit i) (CreditReply n) s = all-go-same old.stores new.stores (ap (λ (c : CoreState). c.stores) s.same)
+serves-go old new (Admit i records) (Admitted (Ok verdicts)) s = (s.does).goes
+serves-go old new (Admit i records) (Admitted (Err refused)) s = (s.does).goes
+serves-go old new (Front d most) (FrontReply result) s = (s.does).goes
+serves-go old new (Settle d place n) (Settled result) s = (s.does).goes
+serves-go old new (Refill d) (Refilled result) s = (s.does).goes
+serves-go old new (CallStore i) (Stored result) s = (s.does).goes
+serves-go old new call reply s = absurd s
+
+-- time goes on for each store over any calls
+pub calls-go : (old new : CoreState) (made : List Exchange) → Makes CoreServes old made new → AllGo old.stores new.stores
+calls-go old new [] m = all-go-same old.stores new.stores (ap (λ (c : CoreState). c.stores) m)
+calls-go old new (x ∷ rest) m = all-go-then old.stores (m.0).stores new.stores (serves-go old m.0 x.call x.reply m.1) (calls-go m.0 new rest m.2)
+
+-- Actors.
+
+pub are-dests : {O : Type 0} (state : O → OutletState) (once : Bool) (plans : List OutletPlan) (setup : Setup) (actors : List (DestActor O)) → AreDestsFor once plans (map (λ (a : DestActor O). dest_view a.spec a.outage (state a.outlet)) actors)
+    → length actors ≡ length plans → length plans ≡ length setup.dests → AreDests state setup actors
+are-dests {O} state once plans setup actors are all count = record {
+  all = all ∙ count;
+  each = λ d a h.
+      let low = slice_get-below actors d a h in
+      let plan = slice_get-some plans d (omega (arith, low, all)) in
+      let view = slice_get-map (λ (b : DestActor O). dest_view b.spec b.outage (state b.outlet)) actors d a h in
+      let is = are d plan.0 (dest_view a.spec a.outage (state a.outlet)) plan.1 view in
+      record { number = ap (λ s. s.dest) (is.is).spec_is; failures = (is.is).failures };
+}
+
+pub are-sources : {R I : Type 0} (state : I → InletState) (inlets dests : R → ℕ) (plan : RunPlan) (routers : List R) (setup : Setup) (actors : List (SourceActor R I)) → setup ≡ plan.setup → IsRunnable plan → AllKnow inlets dests plan routers
+    → AreSourcesFor plan.inlets.items plan.setup.sources (map (λ (a : SourceActor R I). source_view a.spec (actor (state a.inlet) a.reader a.buffer.items a.position a.bad_frames) (dests a.router)) actors)
+    → map (λ (a : SourceActor R I). a.router) actors ≡ routers → length actors ≡ length plan.inlets.items → AreSources state inlets dests setup actors
+are-sources {R} {I} state inlets dests plan routers setup actors is runnable know are same all = subst (λ s. AreSources state inlets dests s actors) (sym is) (record {
+  all = all ∙ sym runnable.sources;
+  each = λ i a h.
+      let low = slice_get-below actors i a h in
+      let p = slice_get-some plan.inlets.items i (omega (arith, low, all)) in
+      let s = slice_get-some plan.setup.sources i (let n = runnable.sources in omega (arith, low, all, n)) in
+      let view = slice_get-map (λ (b : SourceActor R I). source_view b.spec (actor (state b.inlet) b.reader b.buffer.items b.position b.bad_frames) (dests b.router)) actors i a h in
+      let for = are i p.0 s.0 (source_view a.spec (actor (state a.inlet) a.reader a.buffer.items a.position a.bad_frames) (dests a.router)) p.1 s.1 view in
+      let router : slice_get routers i ≡ Some a.router = ap (λ rs. slice_get rs i) (sym same) ∙ slice_get-map (λ (b : SourceActor R I). b.router) actors i a h in
+      let knows = know.each i a.router router in
+      let fetch = fetching-at plan.inlets.items i p.0 runnable.fetches p.1 in
+      let number : a.spec.inlet ≡ i = ap (λ (t : SourceSpec). t.inlet) for.spec_is in
+      let fetches : a.spec.fetch ≡ (p.0).fetch = ap (λ (t : SourceSpec). t.fetch) for.spec_is in
+      let stored : a.spec.stored ≡ is_some (s.0).store = ap (λ (t : SourceSpec). t.stored) for.spec_is in
+      let has : store_in plan.setup.sources i ≡ (s.0).store = rw s.1 refl in
+      record {
+        number = number;
+        fits = record {
+          source = (let n = runnable.sources in omega (arith, low, all, n, number));
+          inlet = (let n = knows.0 in omega (arith, low, all, n, number));
+          same_dests = knows.1;
+          store = stored ∙ ap is_some (sym has ∙ ap (store_in plan.setup.sources) (sym number));
+          some = (let n = fetch.some in omega (arith, fetches, n));
+          most = (let n = fetch.most in omega (arith, fetches, n));
+        };
+        ready = (for.is).ready;
+      };
+})
+
+pub ok-some : {T E : Type 0} (r : Result T E) (P : T → Type 0) → IfOk r P → IfSome (result_ok r) P
+ok-some (Ok x) P h = h
+ok-some (Err e) P h = tt
+
+-- Without a core.
+
+pub refused-cause : (w : WorldState) (plan : RunPlan) (stores stores' : List DiskState) (refusal : CoreRefusal) → IsUnopened plan.setup stores stores' refusal → HasCause w w plan (reached_by stores stores' [] [] [] [] None) (early_of refusal)
+refused-cause w plan stores stores' (CoreDamage s at) h = (refl, record { kinds = h.kinds; kinds_are = h.kinds_are; damaged = (h.refused).reason })
+refused-cause w plan stores stores' (CoreFault s) h = let r = (h.refused).reason in (r.old, (r.new, (r.was, r.now, r.rose)))
+refused-cause w plan stores stores' CoreNoMemory h = tt
+
+pub over-none : {R I O : Type 0} (feed : I → InletState) (drain : O → OutletState) (offers : R → ℕ → Record → List Offer → Type 0) (inlets dests : R → ℕ) (w : WorldState) (plan : RunPlan) (routers : List R) (rounds : ℕ)
+    (stores stores' : List DiskState) (early : Early) → RestsWithout plan.setup (reached_by stores stores' [] [] [] [] None) → HasCause w w plan (reached_by stores stores' [] [] [] [] None) early
+    → RunsOver feed drain offers inlets dests w w plan routers rounds stores stores' [] [] (Before early)
+over-none feed drain offers inlets dests w plan routers rounds stores stores' early rests cause = record {
+  inlets_opened = [];
+  outlets_opened = [];
+  core = None;
+  between = w;
+  opens_inlets = inlets-none w (inlets_asked plan.once plan.inlets.items);
+  opens_outlets = outlets-none w (outlets_asked plan.once plan.outlets.items);
+  holds = record { rests = rests; no_inlets = (refl, refl); no_outlets = (refl, refl) };
+  ends = cause;
+}
+
+-- Inlets that couldn't be opened.
+
+opened-later : (kind : StoreKind) (disk : DiskState) (found : Found) (store : StoreState) → IsOpenedAs kind disk found store → disk.faults ≤ store.disk.faults
+opened-later Position disk found store h = h.0.later
+opened-later (Buffer capacity) disk found store h = h.later
+
+-- the store of that number failed behind the opening
+rose-behind : (setup : Setup) (stores : List DiskState) (first now : CoreState) (places : List ℕ) (s : ℕ) → IsOpen setup stores first → FailsBehind first now places s → s < length stores
+    → RoseAt stores (map (λ (store : StoreState). store.disk) now.stores) s
+rose-behind setup stores first now places s open' fails low =
+    let a = open'.stores in
+    let disk = slice_get-some stores s low in
+    let was = slice_get-some first.stores s (let n = a.count in omega (arith, low, n)) in
+    let found = slice_get-some open'.founds s (let m = a.looked in omega (arith, low, m)) in
+    let kind = slice_get-some open'.kinds s (let m = open'.kinds_are.many in omega (arith, low, m)) in
+    let is = slice_get-some now.stores s (let n = a.count in let k = (fails.begun).goes.count in omega (arith, low, n, k)) in
+    let later = opened-later kind.0 disk.0 found.0 was.0 (a.each s kind.0 disk.0 found.0 was.0 kind.1 disk.1 found.1 was.1) in
+    let rose = fails.rose was.0 is.0 was.1 is.1 in
+    (disk.0, ((is.0).disk, (disk.1, slice_get-map (λ (store : StoreState). store.disk) now.stores s is.0 is.1, rose-wider (disk.0).faults ((was.0).disk).faults ((is.0).disk).faults ((is.0).disk).faults later rose (omega arith))))
+
+-- what holds of a core whose rounds don't begin
+unserved : (files : Option Files) (plan : RunPlan) (stores : List DiskState) (first now : CoreState) (prelude : List Event) (feeds : List InletState) (drains : List OutletState) → IsOpen plan.setup stores first → HasBegun first now prelude
+    → (prelude ≡ rewinds_from (position_at first) 0 (places_of feeds)) ⊎ FailsLast first feeds prelude → length stores ≡ length plan.stores.items → AllBeginAt files (position_at first) (inlets_asked plan.once plan.inlets.items) feeds
+    → (length feeds ≡ length plan.inlets.items) ⊎ (drains ≡ []) → (stores' : List DiskState) → stores' ≡ map (λ (store : StoreState). store.disk) now.stores
+    → (let run : CoreRun = record { first = first; begun = now; last = now; prelude = prelude } in
+    let reached = reached_by stores stores' feeds feeds drains drains (Some run) in HoldsRun files plan reached run × StaysUnserved plan reached run)
+unserved files plan stores first now prelude feeds drains open' begun how all at order stores' closed = (
+  record { core = record { opens = open'; begins = begun; closed = closed }; all_stores = all; begin_at = at },
+  record { rewinds = how; core_stays = refl; inlets_stay = refl; outlets_stay = refl; order = order },
+)
+
+inlet-cause : (old new : WorldState) (plan : RunPlan) (stores stores' : List DiskState) (feeds : List InletState) (core : Option CoreRun) (early : Early) → InletsFail old new (length feeds) early
+    → HasCause old new plan (reached_by stores stores' feeds feeds [] [] core) early
+inlet-cause old new plan stores stores' feeds core (OpenFault (Store n)) h = absurd h
+inlet-cause old new plan stores stores' feeds core (OpenFault (Inlet n)) h = h
+inlet-cause old new plan stores stores' feeds core (OpenFault (Dest n)) h = absurd h
+inlet-cause old new plan stores stores' feeds core (Damage s at) h = absurd h
+inlet-cause old new plan stores stores' feeds core (DiskFault s) h = absurd h
+inlet-cause old new plan stores stores' feeds core NoMemory h = tt
+
+-- one inlet or none, behind others
+abbrev pub with_last : List InletState → Option InletState → List InletState
+with_last feeds last = feeds ++ option_to_list last
+
+pub over-sources : {R I O : Type 0} (feed : I → InletState) (drain : O → OutletState) (offers : R → ℕ → Record → List Offer → Type 0) (inlets dests : R → ℕ) (old new : WorldState) (plan : RunPlan) (routers : List R) (rounds : ℕ)
+    (stores stores' : List DiskState) (first now : CoreState) (feeds : List InletState) (last : Option InletState) (early : Early) → IsRunnable plan → length stores ≡ length plan.stores.items → IsOpen plan.setup stores first
+    → OpensInlets old new (inlets_asked plan.once plan.inlets.items) (with_last feeds last) → AllBeginAt old.files (position_at first) (inlets_asked plan.once plan.inlets.items) (with_last feeds last)
+    → SourcesFail old new first now plan.setup.sources feeds last early → stores' ≡ map (λ (store : StoreState). store.disk) now.stores
+    → RunsOver feed drain offers inlets dests old new plan routers rounds stores stores' (with_last feeds last) [] (Before early)
+over-sources feed drain offers inlets dests old new plan routers rounds stores stores' first now feeds None early runnable all open' opens at fails closed =
+    let none = append-nil feeds in
+    let prelude = rewinds_from (position_at first) 0 (places_of (feeds ++ [])) in
+    let begun = subst (λ fs. HasBegun first now (rewinds_from (position_at first) 0 (places_of fs))) (sym none) fails.0 in
+    let run : CoreRun = record { first = first; begun = now; last = now; prelude = prelude } in
+    record {
+      inlets_opened = feeds ++ [];
+      outlets_opened = [];
+      core = Some run;
+      between = new;
+      opens_inlets = opens;
+      opens_outlets = outlets-none new (outlets_asked plan.once plan.outlets.items);
+      holds = unserved old.files plan stores first now prelude (feeds ++ []) [] open' begun (inl refl) all at (inr refl) stores' closed;
+      ends = inlet-cause old new plan stores stores' (feeds ++ []) (Some run) early (subst (λ fs. InletsFail old new (length fs) early) (sym none) fails.1);
+    }
+over-sources feed drain offers inlets dests old new plan routers rounds stores stores' first now feeds (Some last) NoMemory runnable all open' opens at fails closed =
+    let prelude = rewinds_from (position_at first) 0 (places_of (feeds ++ last ∷ [])) in
+    record {
+      inlets_opened = feeds ++ last ∷ [];
+      outlets_opened = [];
+      core = Some (record { first = first; begun = now; last = now; prelude = prelude });
+      between = new;
+      opens_inlets = opens;
+      opens_outlets = outlets-none new (outlets_asked plan.once plan.outlets.items);
+      holds = unserved old.files plan stores first now prelude (feeds ++ last ∷ []) [] open' fails (inl refl) all at (inr refl) stores' closed;
+      ends = tt;
+    }
+over-sources feed drain offers inlets dests old new plan routers rounds stores stores' first now feeds (Some last) (DiskFault s) runnable all open' opens at fails closed =
+    let f = fails.0 in
+    let prelude = rewinds_from (position_at first) 0 (places_of feeds) ++ (record { act = Look; failed = f.failed }) ∷ [] in
+    let low = (runnable.numbers).positions (length feeds) s fails.1 in
+    record {
+      inlets_opened = feeds ++ last ∷ [];
+      outlets_opened = [];
+      core = Some (record { first = first; begun = now; last = now; prelude = prelude });
+      between = new;
+      opens_inlets = opens;
+      opens_outlets = outlets-none new (outlets_asked plan.once plan.outlets.items);
+      holds = unserved old.files plan stores first now prelude (feeds ++ last ∷ []) [] open' f.begun (inr (record { front = feeds; last = last; failed = f.failed; feeds_are = refl; prelude_is = refl })) all at (inr refl) stores' closed;
+      ends = subst (λ ds. RoseAt stores ds s) (sym closed) (rose-behind plan.setup stores first now (places_of feeds) s open' f (omega (arith, low, all)));
+    }
+over-sources feed drain offers inlets dests old new plan routers rounds stores stores' first now feeds (Some last) (OpenFault device) runnable all open' opens at fails closed = absurd fails
+over-sources feed drain offers inlets dests old new plan routers rounds stores stores' first now feeds (Some last) (Damage s at') runnable all open' opens at fails closed = absurd fails
+
+-- The outlets and the rounds.
+
+dest-cause : (old mid new : WorldState) (plan : RunPlan) (stores stores' : List DiskState) (feeds : List InletState) (drains : List OutletState) (core : Option CoreRun) (early : Early) → old.outlet_faults ≤ mid.outlet_faults
+    → OutletsFail mid new (length drains) early → HasCause old new plan (reached_by stores stores' feeds feeds drains drains core) early
+dest-cause old mid new plan stores stores' feeds drains core (OpenFault (Store n)) later h = absurd h
+dest-cause old mid new plan stores stores' feeds drains core (OpenFault (Inlet n)) later h = absurd h
+dest-cause old mid new plan stores stores' feeds drains core (OpenFault (Dest n)) later h = (h.0, rose-wider old.outlet_faults mid.outlet_faults new.outlet_faults new.outlet_faults later h.1 (omega arith))
+dest-cause old mid new plan stores stores' feeds drains core (Damage s at) later h = absurd h
+dest-cause old mid new plan stores stores' feeds drains core (DiskFault s) later h = absurd h
+dest-cause old mid new plan stores stores' feeds drains core NoMemory later h = tt
+
+pub over-dests : {R I O : Type 0} (feed : I → InletState) (drain : O → OutletState) (offers : R → ℕ → Record → List Offer → Type 0) (inlets dests : R → ℕ) (old mid new : WorldState) (plan : RunPlan) (routers : List R) (rounds : ℕ)
+    (stores stores' : List DiskState) (first begun : CoreState) (sources : List (SourceActor R I)) (feeds' : List InletState) (drains' : List OutletState) (ending : Ending) → length stores ≡ length plan.stores.items → IsOpen plan.setup stores first
+    → OpensInlets old mid (inlets_asked plan.once plan.inlets.items) (map (λ (a : SourceActor R I). feed a.inlet) sources) → length sources ≡ length plan.inlets.items
+    → AllBeginAt old.files (position_at first) (inlets_asked plan.once plan.inlets.items) (map (λ (a : SourceActor R I). feed a.inlet) sources)
+    → HasBegun first begun (rewinds_from (position_at first) 0 (places_of (map (λ (a : SourceActor R I). feed a.inlet) sources)))
+    → AreSourcesFor plan.inlets.items plan.setup.sources (map (λ (a : SourceActor R I). source_view a.spec (actor (feed a.inlet) a.reader a.buffer.items a.position a.bad_frames) (dests a.router)) sources)
+    → map (λ (a : SourceActor R I). a.router) sources ≡ routers
+    → RunsDests feed drain offers inlets dests mid new plan.once plan.outlets.items rounds begun sources stores' feeds' drains' ending
+    → RunsOver feed drain offers inlets dests old new plan routers rounds stores stores' feeds' drains' ending
+over-dests {R} {I} {O} feed drain offers inlets dests old mid new plan routers rounds stores stores' first begun sources feeds' drains' (Before early) all open' opens count at begins are same part =
+    let feeds = map (λ (a : SourceActor R I). feed a.inlet) sources in
+    let drains = part.outlets_opened in
+    let m = part.ends in
+    let prelude = rewinds_from (position_at first) 0 (places_of feeds) in
+    let run : CoreRun = record { first = first; begun = begun; last = begun; prelude = prelude } in
+    let closed : stores' ≡ map (λ (store : StoreState). store.disk) begun.stores = part.closes_stores ∙ ap (λ (c : CoreState). map (λ (store : StoreState). store.disk) c.stores) m.stays in
+    let many : length feeds ≡ length plan.inlets.items = length-map sources (λ (a : SourceActor R I). feed a.inlet) ∙ count in
+    let h = unserved old.files plan stores first begun prelude feeds drains open' begins (inl refl) all at (inl many) stores' closed in
+    let later : old.outlet_faults ≤ mid.outlet_faults = (let e = ap (λ (w : WorldState). w.outlet_faults) opens.state in omega (arith, e)) in
+    let P : List InletState → List OutletState → Type 0 = λ fs ds. RunsOver feed drain offers inlets dests old new plan routers rounds stores stores' fs ds (Before early) in
+    subst (λ fs. P fs drains') (sym m.closes_inlets) (subst (λ ds. P feeds ds) (sym m.closes_outlets) (record {
+      inlets_opened = feeds;
+      outlets_opened = drains;
+      core = Some run;
+      between = mid;
+      opens_inlets = opens;
+      opens_outlets = part.opens;
+      holds = h;
+      ends = dest-cause old mid new plan stores stores' feeds drains (Some run) early later m.cause;
+    }))
+over-dests {R} {I} {O} feed drain offers inlets dests old mid new plan routers rounds stores stores' first begun sources feeds' drains' (Ran ended counts) all open' opens count at begins are same part =
+    let feeds = map (λ (a : SourceActor R I). feed a.inlet) sources in
+    let m = part.ends in
+    let prelude = rewinds_from (position_at first) 0 (places_of feeds) in
+    let run : CoreRun = record { first = first; begun = begun; last = part.last; prelude = prelude } in
+    let many : length feeds ≡ length plan.inlets.items = length-map sources (λ (a : SourceActor R I). feed a.inlet) ∙ count in
+    record {
+      inlets_opened = feeds;
+      outlets_opened = part.outlets_opened;
+      core = Some run;
+      between = mid;
+      opens_inlets = opens;
+      opens_outlets = part.opens;
+      holds = (
+        record { core = record { opens = open'; begins = begins; closed = part.closes_stores }; all_stores = all; begin_at = at },
+        record {
+          rewinds = refl;
+          runs = record {
+            sources = sources;
+            sources_then = m.sources_then;
+            dests_first = m.dests_first;
+            dests_then = m.dests_then;
+            serves = m.serves;
+            counted = m.counted;
+            same_routers = same;
+            are_sources = are;
+            are_dests = m.are_dests;
+            inlets_opened = refl;
+            inlets_closed = m.closes_inlets;
+            outlets_opened = m.outlets_opened;
+            outlets_closed = m.outlets_closed;
+          };
+          all_inlets = many;
+          all_outlets = m.all;
+        },
+      );
+      ends = tt;
+    }
+
+-- The whole.
+
+-- more of the world around a part
+cause-wider : (old w1 w2 new : WorldState) (plan : RunPlan) (reached : Reached) (early : Early) → old.store_faults ≤ w1.store_faults → w2.store_faults ≤ new.store_faults → old.inlet_faults ≤ w1.inlet_faults → w2.inlet_faults ≤ new.inlet_faults
+    → old.outlet_faults ≤ w1.outlet_faults → w2.outlet_faults ≤ new.outlet_faults → HasCause w1 w2 plan reached early → HasCause old new plan reached early
+cause-wider old w1 w2 new plan reached (OpenFault (Store n)) a b c d e f h = (h.0, h.1, rose-wider old.store_faults w1.store_faults w2.store_faults new.store_faults a h.2 b)
+cause-wider old w1 w2 new plan reached (OpenFault (Inlet n)) a b c d e f h = (h.0, rose-wider old.inlet_faults w1.inlet_faults w2.inlet_faults new.inlet_faults c h.1 d)
+cause-wider old w1 w2 new plan reached (OpenFault (Dest n)) a b c d e f h = (h.0, rose-wider old.outlet_faults w1.outlet_faults w2.outlet_faults new.outlet_faults e h.1 f)
+cause-wider old w1 w2 new plan reached (Damage s at) a b c d e f h = h
+cause-wider old w1 w2 new plan reached (DiskFault s) a b c d e f h = h
+cause-wider old w1 w2 new plan reached NoMemory a b c d e f h = tt
+
+ending-wider : (old w1 w2 new : WorldState) (plan : RunPlan) (reached : Reached) (ending : Ending) → old.store_faults ≤ w1.store_faults → w2.store_faults ≤ new.store_faults → old.inlet_faults ≤ w1.inlet_faults → w2.inlet_faults ≤ new.inlet_faults
+    → old.outlet_faults ≤ w1.outlet_faults → w2.outlet_faults ≤ new.outlet_faults → HasEnding w1 w2 plan reached ending → HasEnding old new plan reached ending
+ending-wider old w1 w2 new plan reached (Before early) a b c d e f h = cause-wider old w1 w2 new plan reached early a b c d e f h
+ending-wider old w1 w2 new plan reached (Ran ended counts) a b c d e f h = tt
+
+pub runs-over : {R I O : Type 0} (feed : I → InletState) (drain : O → OutletState) (offers : R → ℕ → Record → List Offer → Type 0) (inlets dests : R → ℕ) (old w1 w2 new : WorldState) (plan : RunPlan) (routers : List R) (rounds : ℕ)
+    (stores stores' : List DiskState) (feeds' : List InletState) (drains' : List OutletState) (ending : Ending) → OpensStores old w1 plan.stores.items stores
+    → RunsOver feed drain offers inlets dests w1 w2 plan routers rounds stores stores' feeds' drains' ending → ClosesAll w2 new stores' feeds' drains' → RunsPlan feed drain offers inlets dests old new plan routers rounds ending
+runs-over feed drain offers inlets dests old w1 w2 new plan routers rounds stores stores' feeds' drains' ending opens part closes =
+    let reached = reached_by stores stores' part.inlets_opened feeds' part.outlets_opened drains' part.core in
+    let files : w1.files ≡ old.files = ap (λ (w : WorldState). w.files) opens.state in
+    let i1 = ap (λ (w : WorldState). w.inlet_faults) opens.state in
+    let o1 = ap (λ (w : WorldState). w.outlet_faults) opens.state in
+    let s2 = ap (λ (w : WorldState). w.store_faults) closes in
+    let i2 = ap (λ (w : WorldState). w.inlet_faults) closes in
+    let o2 = ap (λ (w : WorldState). w.outlet_faults) closes in (
+      reached,
+      record {
+        devices = record { with_stores = w1; with_inlets = part.between; with_outlets = w2; stores = opens; inlets = part.opens_inlets; outlets = part.opens_outlets; closes = closes };
+        holds = subst (λ fs. Holds feed drain offers inlets dests fs plan routers rounds reached part.core ending) files part.holds;
+        ends = ending-wider old w1 w2 new plan reached ending opens.faults (omega (arith, s2)) (omega (arith, i1)) (omega (arith, i2)) (omega (arith, o1)) (omega (arith, o2)) part.ends;
+      },
+    )
+
+stores-cause : (old new : WorldState) (plan : RunPlan) (stores : List DiskState) (early : Early) → StoresFail old new (length stores) early → HasCause old new plan (reached_by stores stores [] [] [] [] None) early
+stores-cause old new plan stores (OpenFault (Store n)) h = (h.0, refl, h.1)
+stores-cause old new plan stores (OpenFault (Inlet n)) h = absurd h
+stores-cause old new plan stores (OpenFault (Dest n)) h = absurd h
+stores-cause old new plan stores (Damage s at) h = absurd h
+stores-cause old new plan stores (DiskFault s) h = absurd h
+stores-cause old new plan stores NoMemory h = tt
+
+pub runs-none : {R I O : Type 0} (feed : I → InletState) (drain : O → OutletState) (offers : R → ℕ → Record → List Offer → Type 0) (inlets dests : R → ℕ) (old w1 new : WorldState) (plan : RunPlan) (routers : List R) (rounds : ℕ)
+    (stores : List DiskState) (early : Early) → OpensStores old w1 plan.stores.items stores → StoresFail old w1 (length stores) early → ClosesAll w1 new stores [] []
+    → RunsPlan feed drain offers inlets dests old new plan routers rounds (Before early)
+runs-none feed drain offers inlets dests old w1 new plan routers rounds stores early opens fails closes =
+    let reached = reached_by stores stores [] [] [] [] None in
+    let s2 = ap (λ (w : WorldState). w.store_faults) closes in
+    let i2 = ap (λ (w : WorldState). w.inlet_faults) closes in
+    let o2 = ap (λ (w : WorldState). w.outlet_faults) closes in (
+      reached,
+      record {
+        devices = record { with_stores = w1; with_inlets = w1; with_outlets = w1; stores = opens; inlets = inlets-none w1 (inlets_asked plan.once plan.inlets.items); outlets = outlets-none w1 (outlets_asked plan.once plan.outlets.items); closes = closes };
+        holds = record { rests = inl refl; no_inlets = (refl, refl); no_outlets = (refl, refl) };
+        ends = cause-wider old old w1 new plan reached early (omega arith) (omega (arith, s2)) (omega arith) (omega (arith, i2)) (omega arith) (omega (arith, o2)) (stores-cause old w1 plan stores early fails);
+      },
+    )

@@ -1,0 +1,70 @@
+use Rattle.std.proofs.Common.{◌≡◌, ◌≤◌, ◌<◌, ◌^◌, ◌∙◌, ◌++◌, [], List, ap, map, length, refl, sym, arith, subst}
+use Rattle.std.specs.Prelude.{IfOk, IfSome}
+use Rattle.std.proofs.lemmas.List.{append-nil, length-map}
+use Rattle.sg_actor.specs.declared.dest.DestActor.{DestActor}
+use Rattle.sg_actor.specs.declared.source.SourceActor.{SourceActor}
+use Rattle.sg_standing.specs.States.{setup_of}
+use Rattle.sg_serve.specs.Counts.{IsCounted}
+use Rattle.sg_serve.proofs.RunLemmas.{are-dests, calls-go, ok-some}
+use Rattle.sg_serve.proofs.run.run_dests.Goals as goal
+
+pub serve-ended-requires-clause-dests : goal.serve-ended-requires-clause-dests
+serve-ended-requires-clause-dests g c = are-dests g.W.Drain.Outlet.state c.args.once c.args.outlets.items (setup_of c.args.core) c.in-Ok.dests.items c.in-Ok.ensures.new c.in-Ok.ensures.all c.requires.count
+
+pub count_all-requires-clause-stores : goal.count_all-requires-clause-stores
+count_all-requires-clause-stores g c =
+    let s = c.serve-ended.ensures.serves in
+    let go = calls-go c.args.core c.serve-ended.result.core s.0 s.1.1.1.took.makes in
+    c.requires.stores ∙ sym go.count
+
+pub count_all-requires-clause-few_sources : goal.count_all-requires-clause-few_sources
+count_all-requires-clause-few_sources g c =
+    let all = c.serve-ended.ensures.serves.1.1.1.took.all_sources in
+    let n = ap length c.deref.ensures.value in
+    omega (arith, all, n, c.requires.few_sources)
+
+pub count_all-requires-clause-few_dests : goal.count_all-requires-clause-few_dests
+count_all-requires-clause-few_dests g c =
+    let all = c.serve-ended.ensures.serves.1.1.1.took.all_dests in
+    let n = ap length c.deref-2.ensures.value in
+    let m = c.in-Ok.ensures.all in
+    omega (arith, all, n, m, c.requires.few_dests)
+
+pub returns-in-Err : goal.returns-in-Err
+returns-in-Err g c =
+    let f = g.W.Feed.Inlet.state in
+    record {
+      outlets_opened = _;
+      opens = c.in-Err.ensures.refused;
+      last = c.args.core;
+      closes_stores = c.into_stores.ensures;
+      ends = record { stays = refl; closes_inlets = append-nil (map (λ a. f a.inlet) c.args.sources.items); closes_outlets = refl; cause = c.in-Err.ensures.cause };
+    }
+
+pub returns : goal.returns
+returns g c =
+    let f = g.W.Feed.Inlet.state in
+    let d = g.W.Drain.Outlet.state in
+    let core = c.serve-ended.result.core in
+    let sources = c.serve-ended.result.sources.items in
+    let dests = c.serve-ended.result.dests.items in
+    let told : IfOk c.count_all.result (IsCounted core sources dests) =
+    subst (λ xs. IfOk c.count_all.result (IsCounted core xs dests)) c.deref.ensures.value (subst (λ ys. IfOk c.count_all.result (IsCounted core c.deref.result.now ys)) c.deref-2.ensures.value c.count_all.ensures) in
+    record {
+      outlets_opened = map (λ a. d a.outlet) c.in-Ok.dests.items;
+      opens = c.in-Ok.ensures.opened;
+      last = core;
+      closes_stores = c.into_stores-2.ensures;
+      ends = record {
+        sources_then = sources;
+        dests_first = c.in-Ok.dests.items;
+        dests_then = dests;
+        serves = c.serve-ended.ensures.serves;
+        counted = subst (λ o. IfSome o (IsCounted core sources dests)) (sym c.ok-counts.ensures.value) (ok-some c.count_all.result (IsCounted core sources dests) told);
+        are_dests = c.in-Ok.ensures.new;
+        all = length-map c.in-Ok.dests.items (λ a. d a.outlet) ∙ c.in-Ok.ensures.all;
+        closes_inlets = sym (append-nil (map (λ a. f a.inlet) sources));
+        outlets_opened = refl;
+        outlets_closed = sym (append-nil (map (λ a. d a.outlet) dests));
+      };
+    }

@@ -1,0 +1,109 @@
+-- The devices of a plan: what is asked for, and how they are opened and closed.
+use Rattle.std.specs.Prelude.{◌≡◌, ◌≤◌, ◌<◌, ℕ, Bool, true, false, Option, List, [], ◌∷◌, ◌++◌, length, map}
+use Rattle.sg_device.specs.Disk.{DiskState}
+use Rattle.sg_device.specs.Inlet.{InletState}
+use Rattle.sg_device.specs.Outlet.{OutletState, IsNew}
+use Rattle.sg_outside.specs.World.{WorldState, Opened, Ledger, StandsShelved, IsByPath}
+use Rattle.sg_outside.specs.declared.request.InletSpec.{InletSpec}
+use Rattle.sg_outside.specs.declared.request.InletSpec.TheVariants.{File as FileFrom, Slot}
+use Rattle.sg_outside.specs.declared.request.OutletSpec.{OutletSpec}
+use Rattle.sg_outside.specs.declared.request.OutletSpec.TheVariants.{File as FileTo, Tcp, ByPath}
+use Rattle.sg_outside.specs.declared.request.StoreSpec.{StoreSpec}
+use Rattle.sg_source.specs.declared.inlet.InletPlan.{InletPlan}
+use Rattle.sg_destination.specs.declared.outlet.OutletPlan.{OutletPlan}
+
+-- What is asked for.
+
+-- With `--once` a file ends at its end, and a slot after its first connection; without it neither does.
+abbrev pub inlet_asked : Bool → InletSpec → InletSpec
+inlet_asked once (FileFrom path end limit) = FileFrom path once limit
+inlet_asked once (Slot ip port slot end) = Slot ip port slot once
+
+abbrev pub reopen_asked : Bool → ℕ → ℕ
+reopen_asked true reopen = 0
+reopen_asked false reopen = reopen
+
+-- With `--once` an outlet is tried again at once.
+abbrev pub outlet_asked : Bool → OutletSpec → OutletSpec
+outlet_asked once (FileTo path fsync mode reopen) = FileTo path fsync mode (reopen_asked once reopen)
+outlet_asked once (Tcp host port reopen) = Tcp host port (reopen_asked once reopen)
+outlet_asked once (ByPath fsync mode reopen) = ByPath fsync mode (reopen_asked once reopen)
+
+abbrev pub inlets_asked : Bool → List InletPlan → List InletSpec
+inlets_asked once plans = map (λ (plan : InletPlan). inlet_asked once plan.spec) plans
+
+abbrev pub outlets_asked : Bool → List OutletPlan → List OutletSpec
+outlets_asked once plans = map (λ (plan : OutletPlan). outlet_asked once plan.spec) plans
+
+-- the paths of none come with its texts
+abbrev pub AreNotByPath : List OutletPlan → Type 0
+AreNotByPath [] = Unit {0}
+AreNotByPath (plan ∷ plans) = (IsByPath plan.spec → ⊥) × AreNotByPath plans
+
+-- a turn takes 1 to 1,000 records, whose texts may have a byte at least
+pub record IsFetching (plan : InletPlan) : Type 0 where
+  pub limit : 0 < plan.limit
+  pub some : 0 < plan.fetch
+  pub most : plan.fetch ≤ 1000
+
+abbrev pub AreFetching : List InletPlan → Type 0
+AreFetching [] = Unit {0}
+AreFetching (plan ∷ plans) = IsFetching plan × AreFetching plans
+
+-- What a ledger has of it.
+
+-- the first of these requests, each with the state of its device as it was opened
+abbrev pub opened_for : {P S : Type 0} → List P → List S → List (Opened P S)
+opened_for specs [] = []
+opened_for [] (state ∷ states) = []
+opened_for (spec ∷ specs) (state ∷ states) = (record { spec = spec; state = state }) ∷ opened_for specs states
+
+-- the ledger with more devices opened, or closed, in this order
+abbrev pub with_all_opened : {P S : Type 0} → Ledger P S → List (Opened P S) → Ledger P S
+with_all_opened ledger more = record ledger { opened = ledger.opened ++ more }
+
+abbrev pub with_all_closed : {P S : Type 0} → Ledger P S → List S → Ledger P S
+with_all_closed ledger states = record ledger { closed = ledger.closed ++ states }
+
+-- Stores.
+
+-- each store was there, or it was made, one after another
+abbrev pub AreShelved : Option (List (List ℕ)) → List (Opened StoreSpec DiskState) → Option (List (List ℕ)) → Type 0
+AreShelved before [] after = after ≡ before
+AreShelved before (o ∷ os) after = (between : Option (List (List ℕ))) × StandsShelved before o.spec o.state between × AreShelved between os after
+
+-- these were opened on the first of the requests, in order, and nothing else changed but the count of faults
+pub record OpensStores (old new : WorldState) (specs : List StoreSpec) (disks : List DiskState) : Type 0 where
+  pub count : length disks ≤ length specs
+  pub state : new ≡ record old { store_faults = new.store_faults; shelf = new.shelf; stores = with_all_opened old.stores (opened_for specs disks) }
+  pub faults : old.store_faults ≤ new.store_faults
+  pub shelved : AreShelved old.shelf (opened_for specs disks) new.shelf
+
+abbrev pub ClosesStores : WorldState → WorldState → List DiskState → Type 0
+ClosesStores old new disks = new ≡ record old { stores = with_all_closed old.stores disks }
+
+-- Inlets.
+
+pub record OpensInlets (old new : WorldState) (specs : List InletSpec) (feeds : List InletState) : Type 0 where
+  pub count : length feeds ≤ length specs
+  pub state : new ≡ record old { inlet_faults = new.inlet_faults; inlets = with_all_opened old.inlets (opened_for specs feeds) }
+  pub faults : old.inlet_faults ≤ new.inlet_faults
+
+abbrev pub ClosesInlets : WorldState → WorldState → List InletState → Type 0
+ClosesInlets old new feeds = new ≡ record old { inlets = with_all_closed old.inlets feeds }
+
+-- Outlets.
+
+-- nothing was taken yet
+abbrev pub AllAreNew : List OutletState → Type 0
+AllAreNew [] = Unit {0}
+AllAreNew (drain ∷ drains) = IsNew drain × AllAreNew drains
+
+pub record OpensOutlets (old new : WorldState) (specs : List OutletSpec) (drains : List OutletState) : Type 0 where
+  pub count : length drains ≤ length specs
+  pub are_new : AllAreNew drains
+  pub state : new ≡ record old { outlet_faults = new.outlet_faults; outlets = with_all_opened old.outlets (opened_for specs drains) }
+  pub faults : old.outlet_faults ≤ new.outlet_faults
+
+abbrev pub ClosesOutlets : WorldState → WorldState → List OutletState → Type 0
+ClosesOutlets old new drains = new ≡ record old { outlets = with_all_closed old.outlets drains }

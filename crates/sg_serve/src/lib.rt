@@ -1,0 +1,18 @@
+//! A plan's devices opened in order, the rounds run over them, the devices closed, and how it ended.
+#![tactic(auto)]
+
+mod counts;
+mod ending;
+mod held;
+mod outlets;
+mod plan;
+mod rewinds;
+mod run;
+mod sources;
+mod stores;
+
+pub use counts::{Counts, Fault};
+pub use ending::{Device, Early, Ending};
+pub use plan::RunPlan;
+pub use run::run_plan;
+pub use sg_engine::Ended;

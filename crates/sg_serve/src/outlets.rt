@@ -1,0 +1,135 @@
+// The outlets of a plan, each with the turns of its destination.
+ghost use Rattle.std.specs.Prelude.{◌≡◌, ◌<◌, ◌+◌, ◌^◌, ◌++◌, ◌∷◌, [], map, length, option_map, option_to_list, IfOk, IfErr};
+ghost use Rattle.sg_outside.specs.World.{IsByPath};
+ghost use Rattle.sg_serve.specs.Devices.{outlet_asked, outlets_asked, reopen_asked, AreNotByPath, OpensOutlets, ClosesOutlets};
+ghost use Rattle.sg_serve.specs.Early.{outlet_refusal, OutletsFail};
+ghost use Rattle.sg_serve.specs.Actors.{dest_view, IsDestFor, AreDestsFor};
+
+use crate::{Device, Early};
+use sg_actor::DestActor;
+use sg_destination::OutletPlan;
+use sg_device::OpenRefusal;
+use sg_outside::OutletSpec;
+use sg_world::World;
+use std::alloc::Global;
+use std::collections::VecDeque;
+
+fn reopen_or_now(reopen: u32, once: bool) -> u32
+    ensures { result ≡ reopen_asked once reopen }
+{
+    if once { 0 } else { reopen }
+}
+
+// What is asked for: with `--once` an outlet that fails is tried again at once.
+fn asked(spec: OutletSpec, once: bool) -> OutletSpec
+    ensures { result ≡ outlet_asked once spec }
+{
+    match spec {
+        OutletSpec::File {
+            path,
+            fsync,
+            mode,
+            reopen,
+        } => OutletSpec::File {
+            path,
+            fsync,
+            mode,
+            reopen: reopen_or_now(reopen, once),
+        },
+        OutletSpec::Tcp { host, port, reopen } => OutletSpec::Tcp {
+            host,
+            port,
+            reopen: reopen_or_now(reopen, once),
+        },
+        OutletSpec::ByPath {
+            fsync,
+            mode,
+            reopen,
+        } => OutletSpec::ByPath {
+            fsync,
+            mode,
+            reopen: reopen_or_now(reopen, once),
+        },
+    }
+}
+
+// Why an outlet isn't opened.
+fn refused(d: u32, refusal: OpenRefusal) -> Early
+    ensures { result ≡ outlet_refusal d refusal }
+{
+    match refusal {
+        OpenRefusal::Failed => Early::OpenFault(Device::Dest(d)),
+        OpenRefusal::NoMemory => Early::NoMemory,
+    }
+}
+
+// Opens the outlet of a destination, and makes what takes its turns. A refusal gives back the outlet
+// that was opened.
+fn open_dest<W: World>(
+    alloc: Global,
+    plan: OutletPlan,
+    once: bool,
+    d: u32,
+    world: &mut W,
+) -> Result<DestActor<W::Drain>, (Option<W::Drain>, Early)>
+    requires path { IsByPath plan.spec → ⊥ }
+    ensures opened { IfOk result (λ made. OpensOutlets (W.state world.old) (W.state world.new) (outlet_asked once plan.spec ∷ []) (W.Drain.state made.outlet ∷ [])) }
+    ensures new { IfOk result (λ made. IsDestFor once d plan (dest_view made.spec made.outage (W.Drain.state made.outlet))) }
+    ensures refused { IfErr result (λ e. OpensOutlets (W.state world.old) (W.state world.new) (outlet_asked once plan.spec ∷ []) (option_to_list (option_map W.Drain.state e.0))) }
+    ensures cause { IfErr result (λ e. OutletsFail (W.state world.old) (W.state world.new) (d + length (option_to_list (option_map W.Drain.state e.0))) e.1) }
+{
+    let OutletPlan { spec, shape, env } = plan;
+    let spec = asked(spec, once);
+    let drain = match world.open_outlet(alloc, &spec) {
+        Ok(drain) => drain,
+        Err(refusal) => return Err((None, refused(d, refusal))),
+    };
+    match DestActor::new(alloc, drain, shape, env, d, once) {
+        Ok(made) => Ok(made),
+        Err((drain, _)) => Err((Some(drain), Early::NoMemory)),
+    }
+}
+
+/// Opens the outlets, in order, each with what takes its turns. A refusal gives back those that were
+/// opened, the last one perhaps without.
+pub fn open_dests<W: World>(
+    alloc: Global,
+    plans: Vec<OutletPlan>,
+    once: bool,
+    world: &mut W,
+) -> Result<Vec<DestActor<W::Drain>>, (Vec<DestActor<W::Drain>>, Option<W::Drain>, Early)>
+    requires few { length plans.items < 2 ^ 32 }
+    requires paths { AreNotByPath plans.items }
+    ensures opened { IfOk result (λ dests. OpensOutlets (W.state world.old) (W.state world.new) (outlets_asked once plans.items) (map (λ a. W.Drain.state a.outlet) dests.items)) }
+    ensures all { IfOk result (λ dests. length dests.items ≡ length plans.items) }
+    ensures new { IfOk result (λ dests. AreDestsFor once plans.items (map (λ a. dest_view a.spec a.outage (W.Drain.state a.outlet)) dests.items)) }
+    ensures refused { IfErr result (λ e. OpensOutlets (W.state world.old) (W.state world.new) (outlets_asked once plans.items) (map (λ a. W.Drain.state a.outlet) e.0.items ++ option_to_list (option_map W.Drain.state e.1))) }
+    ensures cause { IfErr result (λ e. OutletsFail (W.state world.old) (W.state world.new) (length (map (λ a. W.Drain.state a.outlet) e.0.items ++ option_to_list (option_map W.Drain.state e.1))) e.2) }
+{
+    let mut dests = match Vec::with_capacity(alloc, plans.len()) {
+        Ok(dests) => dests,
+        Err(_) => return Err((Vec::new(alloc), None, Early::NoMemory)),
+    };
+    let mut rest = VecDeque::from(plans);
+    while let Some(plan) = rest.pop_front() {
+        match open_dest(alloc, plan, once, dests.len() as u32, world) {
+            Ok(dest) => dests.push_reserved(dest),
+            Err((last, early)) => return Err((dests, last, early)),
+        }
+    }
+    Ok(dests)
+}
+
+/// Closes the outlets of these destinations, in order, and then the last one.
+pub fn close_dests<W: World>(dests: Vec<DestActor<W::Drain>>, last: Option<W::Drain>, world: &mut W)
+    ensures { ClosesOutlets (W.state world.old) (W.state world.new) (map (λ a. W.Drain.state a.outlet) dests.items ++ option_to_list (option_map W.Drain.state last)) }
+{
+    let mut rest = VecDeque::from(dests);
+    while let Some(dest) = rest.pop_front() {
+        world.close_outlet(dest.into_outlet());
+    }
+    rest.destroy_empty();
+    if let Some(drain) = last {
+        world.close_outlet(drain);
+    }
+}

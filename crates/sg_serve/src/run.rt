@@ -1,0 +1,186 @@
+// The run of a plan.
+ghost use Rattle.std.specs.Prelude.{◌≡◌, ◌≤◌, ◌<◌, ◌^◌, ◌++◌, map, length, option_map, option_to_list};
+ghost use Rattle.sg_outside.specs.World.{WorldState};
+ghost use Rattle.sg_standing.specs.States.{setup_of};
+ghost use Rattle.sg_turns.specs.Actors.{AreSources};
+ghost use Rattle.sg_serve.specs.Devices.{AreNotByPath};
+ghost use Rattle.sg_serve.specs.Plan.{IsRunnable, AllKnow};
+ghost use Rattle.sg_serve.specs.Run.{early_of, ClosesAll, RunsPlan, RunsOver, RunsDests};
+
+use crate::counts::count_all;
+use crate::held::{Held, close_all, hold_stores};
+use crate::outlets::open_dests;
+use crate::plan::RunPlan;
+use crate::sources::open_sources;
+use crate::stores::open_stores;
+use crate::{Early, Ending};
+use sg_actor::SourceActor;
+use sg_core::{Core, CoreRefusal};
+use sg_destination::OutletPlan;
+use sg_engine::{Served, serve};
+use sg_route::Router;
+use sg_world::World;
+use std::alloc::Global;
+use std::sync::Wait;
+
+// What a refused opening of the core is to the run.
+fn refused(refusal: CoreRefusal) -> Early
+    ensures { result ≡ early_of refusal }
+{
+    match refusal {
+        CoreRefusal::Damage(store, at) => Early::Damage { store, at },
+        CoreRefusal::DiskFault(store) => Early::DiskFault(store),
+        CoreRefusal::NoMemory => Early::NoMemory,
+    }
+}
+
+// With the core and the inlets open: opens the outlets, and runs the rounds.
+fn run_dests<T: Wait, W: World, R: Router + Drop>(
+    rt: &T,
+    alloc: Global,
+    core: Core<W::Store>,
+    stores: u32,
+    sources: Vec<SourceActor<R, W::Feed>>,
+    outlets: Vec<OutletPlan>,
+    once: bool,
+    rounds: u64,
+    world: &mut W,
+) -> (Held<W::Store, R, W::Feed, W::Drain>, Ending)
+    requires some { 0 < rounds }
+    requires rounds { rounds ≤ 2 ^ 36 }
+    requires calls { core.calls ≤ 2 ^ 50 }
+    requires stores { stores ≡ length core.stores }
+    requires few_sources { length sources.items ≤ 128 }
+    requires few_dests { length outlets.items ≤ 64 }
+    requires count { length outlets.items ≡ length (setup_of core).dests }
+    requires paths { AreNotByPath outlets.items }
+    requires sources { AreSources W.Feed.state R.inlets R.dests (setup_of core) sources.items }
+    ensures { RunsDests W.Feed.state W.Drain.state R.offers R.inlets R.dests (W.state world.old) (W.state world.new) once outlets.items rounds core sources.items (map W.Store.state result.0.stores.items)
+        (map (λ a. W.Feed.state a.inlet) result.0.sources.items ++ option_to_list (option_map W.Feed.state result.0.feed)) (map (λ a. W.Drain.state a.outlet) result.0.dests.items ++ option_to_list (option_map W.Drain.state result.0.drain)) result.1 }
+{
+    let dests = match open_dests(alloc, outlets, once, world) {
+        Ok(dests) => dests,
+        Err((dests, drain, early)) => {
+            let held = Held {
+                stores: core.into_stores(),
+                sources,
+                feed: None,
+                dests,
+                drain,
+            };
+            return (held, Ending::Before(early));
+        }
+    };
+    let Served {
+        ended,
+        core,
+        sources,
+        dests,
+    } = serve(rt, alloc, core, sources, dests, rounds);
+    let counts = count_all(alloc, &core, stores, &sources, &dests).ok();
+    let held = Held {
+        stores: core.into_stores(),
+        sources,
+        feed: None,
+        dests,
+        drain: None,
+    };
+    (held, Ending::Ran(ended, counts))
+}
+
+// With the stores open: opens the core over them, and then the inlets.
+fn run_core<T: Wait, W: World, R: Router + Drop>(
+    rt: &T,
+    alloc: Global,
+    plan: RunPlan,
+    stores: Vec<W::Store>,
+    routers: Vec<R>,
+    rounds: u64,
+    world: &mut W,
+) -> (Held<W::Store, R, W::Feed, W::Drain>, Ending)
+    requires some { 0 < rounds }
+    requires rounds { rounds ≤ 2 ^ 36 }
+    requires plan { IsRunnable plan }
+    requires stores { length stores.items ≡ length plan.stores.items }
+    requires routers { AllKnow R.inlets R.dests plan routers.items }
+    ensures { RunsOver W.Feed.state W.Drain.state R.offers R.inlets R.dests (W.state world.old) (W.state world.new) plan routers.items rounds (map W.Store.state stores.items) (map W.Store.state result.0.stores.items)
+        (map (λ a. W.Feed.state a.inlet) result.0.sources.items ++ option_to_list (option_map W.Feed.state result.0.feed)) (map (λ a. W.Drain.state a.outlet) result.0.dests.items ++ option_to_list (option_map W.Drain.state result.0.drain)) result.1 }
+{
+    let RunPlan {
+        setup,
+        inlets,
+        outlets,
+        stores: _,
+        once,
+    } = plan;
+    let Ok(setups) = setup.sources.copy() else {
+        return (hold_stores(alloc, stores), Ending::Before(Early::NoMemory));
+    };
+    let count = stores.len() as u32;
+    let mut core = match Core::open(alloc, setup, stores) {
+        Ok(core) => core,
+        Err((stores, refusal)) => {
+            return (hold_stores(alloc, stores), Ending::Before(refused(refusal)));
+        }
+    };
+    let setups = setups.as_slice();
+    match open_sources(alloc, &inlets, setups, once, routers, &mut core, world) {
+        Ok(sources) => run_dests(
+            rt, alloc, core, count, sources, outlets, once, rounds, world,
+        ),
+        Err((sources, feed, early)) => {
+            let held = Held {
+                stores: core.into_stores(),
+                sources,
+                feed,
+                dests: Vec::new(alloc),
+                drain: None,
+            };
+            (held, Ending::Before(early))
+        }
+    }
+}
+
+// Opens the stores, and runs what stands over them. What is left open comes back.
+fn run_stores<T: Wait, W: World, R: Router + Drop>(
+    rt: &T,
+    alloc: Global,
+    plan: RunPlan,
+    routers: Vec<R>,
+    rounds: u64,
+    world: &mut W,
+) -> (Held<W::Store, R, W::Feed, W::Drain>, Ending)
+    requires some { 0 < rounds }
+    requires rounds { rounds ≤ 2 ^ 36 }
+    requires plan { IsRunnable plan }
+    requires routers { AllKnow R.inlets R.dests plan routers.items }
+    ensures { (closed : WorldState) → ClosesAll (W.state world.new) closed (map W.Store.state result.0.stores.items) (map (λ a. W.Feed.state a.inlet) result.0.sources.items ++ option_to_list (option_map W.Feed.state result.0.feed))
+        (map (λ a. W.Drain.state a.outlet) result.0.dests.items ++ option_to_list (option_map W.Drain.state result.0.drain)) → RunsPlan W.Feed.state W.Drain.state R.offers R.inlets R.dests (W.state world.old) closed plan routers.items rounds result.1 }
+{
+    match open_stores(alloc, &plan.stores, world) {
+        Ok(stores) => run_core(rt, alloc, plan, stores, routers, rounds, world),
+        Err((stores, early)) => (hold_stores(alloc, stores), Ending::Before(early)),
+    }
+}
+
+/// Opens the devices of a plan, stores, inlets and outlets, each in its order, and the flow core over
+/// its stores; runs the rounds, so many at most, 1 to 2^36; and closes the devices, each kind in the order
+/// in which it was opened. There is a router for each inlet.
+pub fn run_plan<T: Wait, W: World, R: Router + Drop>(
+    rt: &T,
+    alloc: Global,
+    plan: RunPlan,
+    routers: Vec<R>,
+    rounds: u64,
+    world: &mut W,
+) -> Ending
+    requires some { 0 < rounds }
+    requires rounds { rounds ≤ 2 ^ 36 }
+    requires plan { IsRunnable plan }
+    requires routers { AllKnow R.inlets R.dests plan routers.items }
+    ensures { RunsPlan W.Feed.state W.Drain.state R.offers R.inlets R.dests (W.state world.old) (W.state world.new) plan routers.items rounds result }
+{
+    let (held, ending) = run_stores(rt, alloc, plan, routers, rounds, world);
+    close_all(held, world);
+    ending
+}

@@ -1,0 +1,7 @@
+pub mod TurnLemmas
+pub mod PartLemmas
+pub mod RoundLemmas
+pub mod ActorLemmas
+pub mod LawLemmas
+pub mod FailingLemmas
+pub mod BoundLemmas

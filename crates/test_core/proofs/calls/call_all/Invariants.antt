@@ -1,8 +1,0 @@
-use Rattle.std.proofs.Common.{◌≡◌, ◌≤◌}
-use Rattle.test_core.proofs.calls.call_all.Given as goal
-
-abbrev pub invariant-loop-part : goal.invariant-loop-part
-invariant-loop-part g l = record {
-  setup : g.C.Counter.setup l.counter ≡ g.C.Counter.setup l.initial.counter;
-  left : l.spare ≤ g.C.Counter.left l.counter;
-}

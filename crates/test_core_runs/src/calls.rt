@@ -1,0 +1,327 @@
+// Calls of a core, and what they answer.
+ghost use Rattle.std.specs.Prelude.{◌≡◌, ◌≤◌, ◌<◌, ◌+◌, ◌^◌, ℕ, IfOk, OnOk, IsSome, length};
+ghost use Rattle.sg_counter.specs.Bringing.{AllWithin, AllMayEnter, store_in};
+
+use crate::cores::{SECOND, add_offer, add_record, disks, open};
+use sg_counter::{CoreFront, Counter, Refill, Refused, Settled, Stored};
+use sg_machine::{Admission, Verdict};
+use sg_memory_disk::{DiskChange, MemoryDisk};
+use sg_msg::Offer;
+use std::alloc::{AllocError, Global};
+use std::sync::Wait;
+
+// A row has what is shown; the windows; how many entries without flow-control the queue takes; the capacity of
+// the disk-buffer of destination 0; and the calls. Its answers stand in their order, and behind them how many
+// syncs each store has made.
+//
+// Sources 0 to 2 have the position stores 0 to 2. Destination 0 has a disk-buffer in store 3, destination 2
+// one of 400 bytes in store 4, destination 1 is a queue in memory. Each call begins with a word: a0 an
+// admit of source 0, behind which stand r9, a record that ends at 9, and d1f100, its offer to destination
+// 1 with flow-control (n without) of 100 encoded bytes. It answers the verdicts Q, S, W, F and D, or
+// for want of credit - and how many records came back. f0,5 is the front of destination 0, at most 5 entries: the first's place and their number, or
+// e where none is left. s0,1,2 settles 2 from place 1 on: k, or - where that isn't the front. m0 is a
+// refill: how many moved, - where none waits, o where the first doesn't fit. p0 stores the position of
+// source 0, c0 tells its credit. A store that has failed answers x.
+
+fn letter(verdict: Verdict) -> char {
+    match verdict {
+        Verdict::Queued => 'Q',
+        Verdict::Spooled => 'S',
+        Verdict::Waits => 'W',
+        Verdict::DroppedFull => 'F',
+        Verdict::DroppedDisk => 'D',
+    }
+}
+
+fn number(word: Option<&str>) -> u32 {
+    match word {
+        Some(word) => word.parse().unwrap_or(u32::MAX),
+        None => u32::MAX,
+    }
+}
+
+fn say(out: &mut String, word: &str) -> Result<(), AllocError> {
+    if !out.is_empty() {
+        out.push(' ')?;
+    }
+    out.push_str(word)?;
+    Ok(())
+}
+
+fn say_number(alloc: Global, out: &mut String, number: u64) -> Result<(), AllocError> {
+    let word = format!(in alloc; "{number}")?;
+    say(out, word.as_str())
+}
+
+// The offer of a word as d1f100, behind its d.
+fn offer_word(alloc: Global, offers: &mut Vec<Offer>, word: &str) -> Result<(), AllocError>
+    requires few { length offers.old.items < 1024 }
+    requires within { AllWithin 3 offers.old.items }
+    ensures within { OnOk result (AllWithin 3 offers.new.items) }
+    ensures count { OnOk result (length offers.new.items ≤ length offers.old.items + 1) }
+{
+    let flow = word.contains('f');
+    let (dest, size) = word
+        .split_once(if flow { 'f' } else { 'n' })
+        .unwrap_or(("", ""));
+    let dest = number(Some(dest));
+    if dest >= 3 {
+        return Ok(());
+    }
+    let size = number(Some(size)) as usize;
+    if size > 1 << 30 {
+        return Ok(());
+    }
+    add_offer(alloc, offers, dest, 0, size, flow)
+}
+
+// The offers of a record, the words behind its end.
+fn offers(alloc: Global, text: &str) -> Result<Vec<Offer>, AllocError>
+    ensures within { IfOk result (λ offers. AllWithin 3 offers.items) }
+    ensures few { IfOk result (λ offers. length offers.items ≤ 1024) }
+{
+    let mut offers = Vec::new(alloc);
+    for word in text.split_whitespace() {
+        if let Some(word) = word.strip_prefix('d') {
+            if offers.len() < 1024 {
+                offer_word(alloc, &mut offers, word)?;
+            }
+        }
+    }
+    Ok(offers)
+}
+
+// The records of an admit: each begins with an r and its end.
+fn records(alloc: Global, text: &str) -> Result<Vec<Admission>, AllocError>
+    ensures { IfOk result (λ records. AllMayEnter 3 records.items) }
+{
+    let mut records = Vec::new(alloc);
+    for part in text.split('r').skip(1) {
+        let (end, rest) = part.split_once(' ').unwrap_or((part, ""));
+        let offers = offers(alloc, rest)?;
+        add_record(&mut records, u64::from(number(Some(end))), offers)?;
+    }
+    Ok(records)
+}
+
+#[tactic(auto, using(crate::proofs::TestLemmas::batch_of))]
+fn admit<C: Counter, T: Wait>(
+    rt: &T,
+    alloc: Global,
+    counter: &mut C,
+    i: u32,
+    text: &str,
+    out: &mut String,
+) -> Result<(), AllocError>
+    requires left { 0 < C.left counter.old }
+    requires inlet { i < 3 }
+    requires sources { length (C.setup counter.old).sources ≡ 3 }
+    requires dests { length (C.setup counter.old).dests ≡ 3 }
+    ensures setup { C.setup counter.new ≡ C.setup counter.old }
+    ensures left { C.left counter.old ≤ C.left counter.new + 1 }
+{
+    let records = records(alloc, text)?;
+    if records.is_empty() {
+        return Ok(());
+    }
+    if records.len() > 1000 {
+        return Ok(());
+    }
+    match counter.admit(rt, alloc, i, records) {
+        Ok(verdicts) => {
+            say(out, if verdicts.is_empty() { "." } else { "" })?;
+            for verdict in &verdicts {
+                out.push(letter(*verdict))?;
+            }
+            Ok(())
+        }
+        Err(Refused::NoCredit(records)) => {
+            let word = format!(in alloc; "-{}", records.len())?;
+            say(out, word.as_str())
+        }
+        Err(Refused::NoMemory(_)) => say(out, "memory"),
+    }
+}
+
+fn front<C: Counter, T: Wait>(
+    rt: &T,
+    alloc: Global,
+    counter: &mut C,
+    d: u32,
+    most: u32,
+    out: &mut String,
+) -> Result<(), AllocError>
+    requires left { 0 < C.left counter.old }
+    requires dest { d < 3 }
+    requires some { 0 < most }
+    requires few { most ≤ 1000 }
+    requires dests { length (C.setup counter.old).dests ≡ 3 }
+    ensures setup { C.setup counter.new ≡ C.setup counter.old }
+    ensures left { C.left counter.old ≤ C.left counter.new + 1 }
+{
+    match counter.front(rt, alloc, d, most)? {
+        CoreFront::Entries { place, messages } => {
+            let count = messages.len();
+            let word = format!(in alloc; "{place}+{count}")?;
+            say(out, word.as_str())
+        }
+        CoreFront::Empty => say(out, "e"),
+        CoreFront::Broken => say(out, "x"),
+    }
+}
+
+fn settle<C: Counter, T: Wait>(
+    rt: &T,
+    counter: &mut C,
+    d: u32,
+    place: u64,
+    n: u32,
+    out: &mut String,
+) -> Result<(), AllocError>
+    requires left { 0 < C.left counter.old }
+    requires dest { d < 3 }
+    requires some { 0 < n }
+    requires dests { length (C.setup counter.old).dests ≡ 3 }
+    ensures setup { C.setup counter.new ≡ C.setup counter.old }
+    ensures left { C.left counter.old ≤ C.left counter.new + 1 }
+{
+    say(
+        out,
+        match counter.settle(rt, d, place, n) {
+            Settled::Done => "k",
+            Settled::NotFront => "-",
+            Settled::DiskFailed => "x",
+        },
+    )
+}
+
+fn refill<C: Counter, T: Wait>(
+    rt: &T,
+    alloc: Global,
+    counter: &mut C,
+    d: u32,
+    out: &mut String,
+) -> Result<(), AllocError>
+    requires left { 0 < C.left counter.old }
+    requires dest { d < 3 }
+    requires dests { length (C.setup counter.old).dests ≡ 3 }
+    ensures setup { C.setup counter.new ≡ C.setup counter.old }
+    ensures left { C.left counter.old ≤ C.left counter.new + 1 }
+{
+    match counter.refill(rt, d) {
+        Refill::Moved(n) => say_number(alloc, out, u64::from(n)),
+        Refill::NoneWaits => say(out, "-"),
+        Refill::NoRoom => say(out, "o"),
+        Refill::Broken => say(out, "x"),
+    }
+}
+
+fn store<C: Counter, T: Wait>(
+    rt: &T,
+    alloc: Global,
+    counter: &mut C,
+    i: u32,
+    out: &mut String,
+) -> Result<(), AllocError>
+    requires left { 0 < C.left counter.old }
+    requires inlet { i < 3 }
+    requires sources { length (C.setup counter.old).sources ≡ 3 }
+    requires stores { (i : ℕ) → i < 3 → IsSome (store_in (C.setup counter.old).sources i) }
+    ensures setup { C.setup counter.new ≡ C.setup counter.old }
+    ensures left { C.left counter.old ≤ C.left counter.new + 1 }
+{
+    match counter.store(rt, i) {
+        Stored::Wrote(position) => say_number(alloc, out, position),
+        Stored::Unchanged => say(out, "="),
+        Stored::Broken => say(out, "x"),
+    }
+}
+
+// A call by its first word, which has a letter and numbers.
+fn call<C: Counter, T: Wait>(
+    rt: &T,
+    alloc: Global,
+    counter: &mut C,
+    text: &str,
+    out: &mut String,
+) -> Result<(), AllocError>
+    requires left { 0 < C.left counter.old }
+    requires sources { length (C.setup counter.old).sources ≡ 3 }
+    requires dests { length (C.setup counter.old).dests ≡ 3 }
+    requires stores { (i : ℕ) → i < 3 → IsSome (store_in (C.setup counter.old).sources i) }
+    ensures setup { C.setup counter.new ≡ C.setup counter.old }
+    ensures left { C.left counter.old ≤ C.left counter.new + 1 }
+{
+    let (first, rest) = text.split_once(' ').unwrap_or((text, ""));
+    let mut words = first.get(1..).unwrap_or("").split(',');
+    let which = number(words.next());
+    let place = number(words.next());
+    let n = number(words.next());
+    if which >= 3 {
+        return say(out, "?");
+    }
+    match first.chars().next() {
+        Some('a') => admit(rt, alloc, counter, which, rest, out),
+        Some('f') if place > 0 && place <= 1000 => front(rt, alloc, counter, which, place, out),
+        Some('s') if n > 0 => settle(rt, counter, which, u64::from(place), n, out),
+        Some('m') => refill(rt, alloc, counter, which, out),
+        Some('p') => store(rt, alloc, counter, which, out),
+        Some('c') => say_number(alloc, out, counter.credit(rt, which)),
+        _ => say(out, "?"),
+    }
+}
+
+fn call_all<C: Counter, T: Wait>(
+    rt: &T,
+    alloc: Global,
+    counter: &mut C,
+    text: &str,
+) -> Result<String, AllocError>
+    requires left { 1000 < C.left counter.old }
+    requires sources { length (C.setup counter.old).sources ≡ 3 }
+    requires dests { length (C.setup counter.old).dests ≡ 3 }
+    requires stores { (i : ℕ) → i < 3 → IsSome (store_in (C.setup counter.old).sources i) }
+{
+    let mut out = String::new(alloc);
+    let mut spare = 1000u32;
+    for part in text.split('/') {
+        if spare == 0 {
+            return Ok(out);
+        }
+        spare -= 1;
+        call(rt, alloc, counter, part.trim(), &mut out)?;
+    }
+    Ok(out)
+}
+
+// How many syncs each store has made.
+fn say_syncs(alloc: Global, disks: &[MemoryDisk], out: &mut String) -> Result<(), AllocError> {
+    say(out, "syncs")?;
+    for disk in disks {
+        let changes = disk.changes().iter();
+        let syncs = changes
+            .filter(|change| matches!(change, DiskChange::Synced))
+            .count();
+        say_number(alloc, out, syncs as u64)?;
+    }
+    Ok(())
+}
+
+/// What the calls of a row answer.
+pub(crate) fn said<T: Wait>(rt: &T, alloc: Global, row: &str) -> Result<String, AllocError> {
+    let mut parts = row.split('|').skip(1);
+    let window = number(Some(parts.next().unwrap_or("").trim()));
+    let fifo = number(Some(parts.next().unwrap_or("").trim()));
+    let capacity = u64::from(number(Some(parts.next().unwrap_or("").trim())));
+    if window == 0 || capacity > 1 << 30 {
+        return format!(in alloc; "no such setup");
+    }
+    let Ok(mut core) = open(alloc, window, fifo, capacity, SECOND, disks(alloc)?) else {
+        return format!(in alloc; "not opened");
+    };
+    let said = call_all(rt, alloc, &mut core, parts.next().unwrap_or(""));
+    let disks = core.into_stores();
+    let mut said = said?;
+    say_syncs(alloc, &disks, &mut said)?;
+    Ok(said)
+}

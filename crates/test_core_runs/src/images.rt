@@ -1,0 +1,178 @@
+// What a crash leaves of the stores of a core, and what a core finds there.
+ghost use Rattle.std.specs.Prelude.{◌≡◌, ◌≤◌, ◌<◌, ◌+◌, ◌^◌, IfOk, length};
+ghost use Rattle.test_core_runs.specs.Cores.{IsTried};
+
+use crate::cores::{FIFO, FIRST, SECOND, WINDOW, open};
+use crate::entries::{Made, numbers_of, short};
+use crate::runs::{Ended, Positions};
+use sg_core::{Core, CoreRefusal};
+use sg_counter::CoreFront;
+use sg_memory_disk::{MemoryDisk, Pick};
+use std::alloc::{AllocError, Global};
+
+// What stands where the writes since the last sync went, one letter a write and the last for those behind it: `o`
+// what was there before, `n` what was written, `1` bytes FF, `0` bytes 0.
+const PICKS: [&str; 10] = ["o", "n", "1", "0", "on", "no", "1o", "0n", "n0", "o1n"];
+
+/// What images told.
+#[derive(Clone, Copy, Drop)]
+pub(crate) struct Told {
+    pub(crate) openings: u64,
+    pub(crate) entries: u64,
+    pub(crate) right: bool,
+}
+
+/// The picks of these letters; none for any other.
+pub(crate) fn picks(alloc: Global, letters: &str) -> Result<Vec<Pick>, AllocError> {
+    let mut picks = Vec::new(alloc);
+    for letter in letters.as_bytes() {
+        match *letter {
+            b'o' => picks.push(Pick::Old)?,
+            b'n' => picks.push(Pick::New)?,
+            b'1' => picks.push(Pick::Ones)?,
+            b'0' => picks.push(Pick::Zeros)?,
+            _ => {}
+        }
+    }
+    Ok(picks)
+}
+
+/// What a crash leaves of these disks, by these picks for the writes of each.
+pub(crate) fn images(
+    alloc: Global,
+    disks: &[MemoryDisk],
+    picks: &[Pick],
+) -> Result<Vec<MemoryDisk>, AllocError>
+    ensures { IfOk result (λ images. length images.items ≡ length disks.now) }
+{
+    let mut images = Vec::new(alloc);
+    for disk in disks {
+        let bytes = disk.image(picks)?;
+        images.push(MemoryDisk::new(alloc, bytes)?)?;
+    }
+    Ok(images)
+}
+
+// The numbers of the entries that a destination is left with, from its first one on.
+fn found(
+    alloc: Global,
+    core: &mut Core<MemoryDisk>,
+    d: u32,
+    made: &[Made],
+) -> Result<Option<Vec<u32>>, AllocError>
+    requires tried { IsTried core.old }
+    requires dest { d < 3 }
+    requires calls { core.old.calls + 1 < 2 ^ 54 }
+    ensures tried { IsTried core.new }
+    ensures calls { core.new.calls ≤ core.old.calls + 1 }
+{
+    match core.front(alloc, d, 1000)? {
+        CoreFront::Entries { place, messages } => {
+            if place != 0 {
+                return Ok(None);
+            }
+            Ok(Some(numbers_of(alloc, made, messages.as_slice())?))
+        }
+        CoreFront::Empty => Ok(Some(Vec::new(alloc))),
+        CoreFront::Broken => Ok(None),
+    }
+}
+
+// Whether each offer with flow-control to this destination of a record at or below its source's position is
+// settled, or in the list.
+fn covers(made: &[Made], d: u32, list: &[u32], positions: &[u64; 3]) -> bool {
+    for number in 0..made.len() {
+        let offer = made[number];
+        if offer.dest == d && offer.flow && !offer.settled && offer.source < 3 {
+            let below = offer.end <= positions[offer.source as usize];
+            if below && !list.contains(&short(number)) {
+                return false;
+            }
+        }
+    }
+    true
+}
+
+fn may_be(positions: Positions, found: u64) -> bool {
+    found == positions.stored || Some(found) == positions.tried
+}
+
+// Whether the core found what it may find there.
+fn is_found(
+    alloc: Global,
+    core: &mut Core<MemoryDisk>,
+    ended: &Ended,
+    told: &mut Told,
+) -> Result<bool, AllocError>
+    requires tried { IsTried core.old }
+    requires calls { core.old.calls ≡ 0 }
+{
+    let mut right = true;
+    let mut positions = [0u64; 3];
+    for i in 0..3u32 {
+        let found = core.position(i);
+        positions[i as usize] = found;
+        right = right & may_be(ended.positions[i as usize], found);
+    }
+    for d in 0..3u32 {
+        match found(alloc, core, d, &ended.run.made)? {
+            Some(list) => {
+                told.entries = told.entries.saturating_add(list.len() as u64);
+                right = right
+                    & ended.run.lines[d as usize].may_find(&list)
+                    & covers(&ended.run.made, d, &list, &positions);
+            }
+            None => right = false,
+        }
+    }
+    Ok(right)
+}
+
+// A core isn't opened over these disks, which fail for want of memory alone.
+fn not_opened(disks: &[MemoryDisk]) -> Result<bool, AllocError> {
+    if disks.iter().any(|disk| disk.starved()) {
+        return Err(AllocError);
+    }
+    Ok(false)
+}
+
+// Whether a core opens over what a crash leaves by these picks, and finds what it may find.
+fn opens_again(
+    alloc: Global,
+    disks: &[MemoryDisk],
+    letters: &str,
+    ended: &Ended,
+    told: &mut Told,
+) -> Result<bool, AllocError>
+    requires { length disks.now ≡ 5 }
+{
+    let picks = picks(alloc, letters)?;
+    let images = images(alloc, disks, &picks)?;
+    let mut core = match open(alloc, WINDOW, FIFO, FIRST, SECOND, images) {
+        Ok(core) => core,
+        Err((_, CoreRefusal::NoMemory)) => return Err(AllocError),
+        Err((disks, _)) => return not_opened(&disks),
+    };
+    told.openings = told.openings.saturating_add(1);
+    let right = is_found(alloc, &mut core, ended, told);
+    let _disks = core.into_stores();
+    right
+}
+
+/// Opens over several images that a crash leaves of these disks at the end of a run.
+pub(crate) fn look_into(
+    alloc: Global,
+    disks: &[MemoryDisk],
+    ended: &Ended,
+    told: &mut Told,
+) -> Result<(), AllocError> {
+    if disks.len() != 5 {
+        told.right = false;
+        return Ok(());
+    }
+    for letters in PICKS {
+        let right = opens_again(alloc, disks, letters, ended, told)?;
+        told.right = told.right & right;
+    }
+    Ok(())
+}

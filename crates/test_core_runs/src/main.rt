@@ -1,0 +1,62 @@
+//! Says what cores come to, one row of standard input after the other. The first word of a row tells its kind:
+//!
+//! - `calls NAME | ..` makes calls and says their answers: the module `calls` says how they are written.
+//! - `runs SEED COUNT STEPS` makes so many runs of calls drawn at random, each from a seed of its own.
+//! - `moments SEED STEPS` opens again over what a crash leaves after each step of a run.
+//! - `stops SEED STORE CALLS STEPS TEAR` makes a run for each number of calls up to that one, from which on the store
+//!   fails; `fails ..` the same with that call alone. TEAR is what a write or a sync that fails leaves: `-` nothing,
+//!   or letters of `picks` in the module `images`.
+//! - `migrates PARTS` opens over a disk-buffer of these bytes: the module `migration` says how they are written.
+//!
+//! After each step of a run the tally of the core must be that of its events, and each front must show the entries
+//! that are left. At its end a crash leaves several images of the stores, and over each the core must open again
+//! with the positions and the entries that it may find. A row says how much was compared, and `DIFFERS` where
+//! something isn't as it must be.
+#![tactic(auto)]
+
+mod calls;
+mod cores;
+mod draws;
+mod entries;
+mod images;
+mod lines;
+mod migration;
+mod rows;
+mod runs;
+mod steps;
+
+use std::alloc::{AllocError, Global};
+use std::io;
+use std::sync::Wait;
+
+fn copied(alloc: Global, text: &str) -> Result<String, AllocError> {
+    let mut copy = String::new(alloc);
+    copy.push_str(text)?;
+    Ok(copy)
+}
+
+// What a row of standard input comes to.
+fn answer<T: Wait>(rt: &T, alloc: Global, row: &str) -> Result<String, AllocError> {
+    let (kind, rest) = row.split_once(' ').unwrap_or((row, ""));
+    match kind {
+        "calls" => calls::said(rt, alloc, rest),
+        "runs" => rows::runs(alloc, rest),
+        "moments" => rows::moments(alloc, rest),
+        "stops" => rows::failures(alloc, rest, true),
+        "fails" => rows::failures(alloc, rest, false),
+        "migrates" => migration::said(alloc, rest),
+        _ => copied(alloc, "no such row"),
+    }
+}
+
+fn main(rt: HostRuntime) -> io::Result<()> {
+    let alloc = rt.alloc();
+    for line in rt.lines(alloc) {
+        let line = line?;
+        match answer(&rt, alloc, line.as_str()) {
+            Ok(said) => println!(rt; "{said}")?,
+            Err(_) => println!(rt; "no memory")?,
+        }
+    }
+    Ok(())
+}

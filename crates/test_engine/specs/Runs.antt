@@ -1,0 +1,14 @@
+-- The runs that are tried.
+use Rattle.std.specs.Prelude.{ℕ, Some, None, [], ◌∷◌}
+use Rattle.sg_machine.specs.declared.setup.Setup.{Setup}
+use Rattle.test_engine.specs.declared.router.ByDigit.{ByDigit}
+
+-- two sources with stores of their own, and two destinations with queues in memory
+abbrev pub tried : Setup
+tried = record {
+  sources = record { window = 100; store = Some 0 } ∷ record { window = 100; store = Some 1 } ∷ [];
+  dests = record { fifo = 100; buffer = None } ∷ record { fifo = 100; buffer = None } ∷ [];
+}
+
+abbrev pub two : ByDigit → ℕ
+two router = 2

@@ -1,0 +1,7 @@
+//! Tests of runs of sources and destinations over a flow core, with devices in memory.
+#![tactic(auto)]
+
+#[cfg(test)]
+mod router;
+#[cfg(test)]
+mod runs;

@@ -1,0 +1,7 @@
+//! Tests of the runs of plans, over a machine in memory.
+#![tactic(auto)]
+
+#[cfg(test)]
+mod plans;
+#[cfg(test)]
+mod router;

@@ -1,0 +1,267 @@
+// Runs of a plan of two files and two files to write.
+ghost use Rattle.std.specs.Prelude.{◌≡◌, IfOk, length};
+ghost use Rattle.sg_outside.specs.World.{IsByPath};
+ghost use Rattle.sg_serve.specs.Devices.{IsFetching, AreFetching, AreNotByPath};
+ghost use Rattle.sg_serve.specs.Plan.{IsRunnable};
+ghost use Rattle.test_serve.specs.Plans.{tried};
+
+use crate::router::ByDigit;
+use sg_destination::OutletPlan;
+use sg_device::{Name, NoMemory};
+use sg_frame::FrameKind;
+use sg_list::Seq;
+use sg_machine::{DestSetup, Setup, SourceSetup};
+use sg_memory::{MemoryFile, MemoryWorld, OutletPlan as Sends, Pace};
+use sg_memory_disk::Plan;
+use sg_outfmt::Shape;
+use sg_outside::{InletSpec, OutletSpec, StoreSpec};
+use sg_serve::{Device, Early, Ended, Ending, Fault, RunPlan, run_plan};
+use sg_source::InletPlan;
+use sg_template::{Env, Template};
+use sg_world::MemoryMachine;
+use std::alloc::{AllocError, Global};
+use std::sync::Wait;
+
+// The call that fails, how the run ends, what failed first, and the frames of the last outlet.
+const ROWS: &str = r#"none;quiet;none;1b~1d~
+store 0;store 0;none;
+store 1;store 1;none;
+inlet 1;inlet 1;none;
+outlet 1;dest 1;none;
+pull 0;quiet;inlet 0;1d~
+sends;quiet;sink 1;
+"#;
+
+fn inlet(alloc: Global, path: &[u8]) -> Result<InletPlan, NoMemory>
+    ensures { IfOk result IsFetching }
+{
+    Ok(InletPlan {
+        spec: InletSpec::File {
+            path: Name::new(alloc, path)?,
+            once: false,
+            limit: 100,
+        },
+        source: None,
+        driver: 0,
+        kind: FrameKind::Lines,
+        limit: 100,
+        fetch: 10,
+    })
+}
+
+fn shape(alloc: Global) -> Result<Shape, NoMemory> {
+    match Template::read(alloc, b"$MSG\n") {
+        Ok(template) => Ok(Shape::Text(template)),
+        Err(_) => Err(AllocError),
+    }
+}
+
+fn outlet(alloc: Global, path: &[u8]) -> Result<OutletPlan, NoMemory>
+    ensures { IfOk result (λ plan. IsByPath plan.spec → ⊥) }
+{
+    Ok(OutletPlan {
+        spec: OutletSpec::File {
+            path: Name::new(alloc, path)?,
+            fsync: false,
+            mode: 0o600,
+            reopen: 60,
+        },
+        shape: shape(alloc)?,
+        env: Env {
+            zone: None,
+            digits: 0,
+            iso: false,
+            old: None,
+        },
+    })
+}
+
+fn store(alloc: Global, name: &[u8]) -> Result<StoreSpec, NoMemory> {
+    Ok(StoreSpec {
+        name: Name::new(alloc, name)?,
+        create: true,
+    })
+}
+
+fn setup(alloc: Global) -> Result<Setup, NoMemory>
+    ensures { IfOk result (λ setup. setup ≡ tried) }
+{
+    let mut sources = Seq::empty(alloc);
+    sources.push(SourceSetup {
+        window: 10,
+        store: Some(0),
+    })?;
+    sources.push(SourceSetup {
+        window: 10,
+        store: Some(1),
+    })?;
+    let mut dests = Seq::empty(alloc);
+    dests.push(DestSetup {
+        fifo: 10,
+        buffer: None,
+    })?;
+    dests.push(DestSetup {
+        fifo: 10,
+        buffer: None,
+    })?;
+    Ok(Setup { sources, dests })
+}
+
+fn inlets(alloc: Global) -> Result<Vec<InletPlan>, NoMemory>
+    ensures two { IfOk result (λ plans. length plans.items ≡ 2) }
+    ensures fetches { IfOk result (λ plans. AreFetching plans.items) }
+{
+    let mut inlets = Vec::new(alloc);
+    inlets.push(inlet(alloc, b"a")?)?;
+    inlets.push(inlet(alloc, b"b")?)?;
+    Ok(inlets)
+}
+
+fn outlets(alloc: Global) -> Result<Vec<OutletPlan>, NoMemory>
+    ensures two { IfOk result (λ plans. length plans.items ≡ 2) }
+    ensures paths { IfOk result (λ plans. AreNotByPath plans.items) }
+{
+    let mut outlets = Vec::new(alloc);
+    outlets.push(outlet(alloc, b"c")?)?;
+    outlets.push(outlet(alloc, b"d")?)?;
+    Ok(outlets)
+}
+
+fn stores(alloc: Global) -> Result<Vec<StoreSpec>, NoMemory>
+    ensures { IfOk result (λ specs. length specs.items ≡ 2) }
+{
+    let mut stores = Vec::new(alloc);
+    stores.push(store(alloc, b"pos-a")?)?;
+    stores.push(store(alloc, b"pos-b")?)?;
+    Ok(stores)
+}
+
+fn plan(alloc: Global) -> Result<RunPlan, NoMemory>
+    ensures runs { IfOk result IsRunnable }
+    ensures inlets { IfOk result (λ plan. length plan.inlets.items ≡ 2) }
+    ensures setup { IfOk result (λ plan. plan.setup ≡ tried) }
+{
+    let setup = setup(alloc)?;
+    let inlets = inlets(alloc)?;
+    let outlets = outlets(alloc)?;
+    let stores = stores(alloc)?;
+    Ok(RunPlan {
+        setup,
+        inlets,
+        outlets,
+        stores,
+        once: true,
+    })
+}
+
+fn routers(alloc: Global) -> Result<Vec<ByDigit>, NoMemory>
+    ensures { IfOk result (λ routers. length routers.items ≡ 2) }
+{
+    let mut routers = Vec::new(alloc);
+    routers.push(ByDigit { routed: 0 })?;
+    routers.push(ByDigit { routed: 0 })?;
+    Ok(routers)
+}
+
+fn machine(alloc: Global) -> Result<MemoryMachine, NoMemory> {
+    let mut files = Vec::new(alloc);
+    files.push(MemoryFile::new(alloc, b"a", b"0a\n1b\n")?)?;
+    files.push(MemoryFile::new(alloc, b"b", b"0c\n1d\n")?)?;
+    let pace = Pace { piece: 4, at: 1 };
+    Ok(MemoryMachine {
+        world: MemoryWorld::new(alloc, files, pace),
+    })
+}
+
+fn call(alloc: Global, number: u64) -> Result<Plan, NoMemory> {
+    Ok(Plan::new(vec![in alloc; number]?))
+}
+
+// Lets the call fail that a row names.
+fn fail(alloc: Global, fails: &str, world: &mut MemoryWorld) -> Result<bool, NoMemory> {
+    let Some((kind, number)) = fails.split_once(' ') else {
+        if fails == "sends" {
+            world.plans.outlets.push_back(Sends::never(alloc))?;
+            let all = Plan::new(vec![in alloc; 0, 1, 2, 3, 4, 5, 6, 7]?);
+            world.plans.outlets.push_back(Sends::failing(alloc, all))?;
+            return Ok(true);
+        }
+        return Ok(fails == "none");
+    };
+    let plan = call(alloc, number.parse().unwrap_or(0))?;
+    match kind {
+        "store" => world.stores.opens = plan,
+        "inlet" => world.plans.inlet_opens = plan,
+        "outlet" => world.plans.outlet_opens = plan,
+        "pull" => world.plans.inlets.push_back(plan)?,
+        _ => return Ok(false),
+    }
+    Ok(true)
+}
+
+fn ended(ending: &Ending, how: &str) -> bool {
+    match ending {
+        Ending::Ran(Ended::Quiet, _) => how == "quiet",
+        Ending::Before(Early::OpenFault(Device::Store(0))) => how == "store 0",
+        Ending::Before(Early::OpenFault(Device::Store(1))) => how == "store 1",
+        Ending::Before(Early::OpenFault(Device::Inlet(1))) => how == "inlet 1",
+        Ending::Before(Early::OpenFault(Device::Dest(1))) => how == "dest 1",
+        _ => false,
+    }
+}
+
+fn failed(ending: &Ending, what: &str) -> bool {
+    let fault = match ending {
+        Ending::Ran(_, Some(counts)) => counts.fault(),
+        _ => None,
+    };
+    match fault {
+        Some(Fault::Sink(1)) => what == "sink 1",
+        Some(Fault::Inlet(0)) => what == "inlet 0",
+        Some(_) => false,
+        None => what == "none",
+    }
+}
+
+// The frames that the last outlet took, one behind the other, with `~` for LF.
+fn has_taken(world: &MemoryWorld, frames: &str) -> bool {
+    let mut taken: &[u8] = &[];
+    if let Some(cell) = world.closed_outlets()
+        && let Some(outlet) = &cell.closed
+    {
+        taken = outlet.frames().bytes();
+    }
+    let frames = frames.as_bytes();
+    if taken.len() != frames.len() {
+        return false;
+    }
+    for k in 0..taken.len() {
+        if taken[k] != frames[k] && !(taken[k] == b'\n' && frames[k] == b'~') {
+            return false;
+        }
+    }
+    true
+}
+
+fn shows<T: Wait>(rt: &T, alloc: Global, row: &str) -> Result<bool, NoMemory> {
+    let (fails, rest) = row.split_once(';').unwrap_or((row, ""));
+    let (how, rest) = rest.split_once(';').unwrap_or((rest, ""));
+    let (what, frames) = rest.split_once(';').unwrap_or((rest, ""));
+    let mut machine = machine(alloc)?;
+    if !fail(alloc, fails, &mut machine.world)? {
+        return Ok(false);
+    }
+    let plan = plan(alloc)?;
+    let routers = routers(alloc)?;
+    let ending = run_plan(rt, alloc, plan, routers, 100, &mut machine);
+    Ok(ended(&ending, how) && failed(&ending, what) && has_taken(&machine.world, frames))
+}
+
+#[test]
+fn plans_run(rt: HostRuntime) -> Result<(), NoMemory> {
+    let alloc = rt.alloc();
+    for row in ROWS.lines() {
+        assert_eq!(rt; (row, shows(&rt, alloc, row)?), (row, true));
+    }
+    Ok(())
+}

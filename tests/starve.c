@@ -1,0 +1,43 @@
+/* Preloaded, it refuses the allocation of the number that STARVE has, counted from 1, and says so on standard error. */
+#define _GNU_SOURCE
+#include <dlfcn.h>
+#include <errno.h>
+#include <stdlib.h>
+#include <unistd.h>
+
+static long left = -1;
+
+static int refuses(void) {
+    if (left < 0) {
+        const char *number = getenv("STARVE");
+        left = number ? atol(number) : 0;
+    }
+    if (left == 0 || --left > 0) return 0;
+    (void)!write(2, "starved\n", 8);
+    errno = ENOMEM;
+    return 1;
+}
+
+void *malloc(size_t size) {
+    static void *(*next)(size_t);
+    if (!next) next = dlsym(RTLD_NEXT, "malloc");
+    return refuses() ? NULL : next(size);
+}
+
+void *realloc(void *old, size_t size) {
+    static void *(*next)(void *, size_t);
+    if (!next) next = dlsym(RTLD_NEXT, "realloc");
+    return refuses() ? NULL : next(old, size);
+}
+
+void *aligned_alloc(size_t align, size_t size) {
+    static void *(*next)(size_t, size_t);
+    if (!next) next = dlsym(RTLD_NEXT, "aligned_alloc");
+    return refuses() ? NULL : next(align, size);
+}
+
+int posix_memalign(void **out, size_t align, size_t size) {
+    static int (*next)(void **, size_t, size_t);
+    if (!next) next = dlsym(RTLD_NEXT, "posix_memalign");
+    return refuses() ? ENOMEM : next(out, align, size);
+}
