@@ -117,6 +117,15 @@ expect 'a destination that cannot be made' 4 'cannot open destination 0\n' - run
 config . out >c3
 told='source .: cannot open: not a regular file\n'
 expect 'a source that is a folder' 4 'cannot open inlet 0\n' - run c3 --once
+printf '@version: 4.2\nsource s { file("nowhere"); };\ndestination d { file("out" template("$MSG\\n")); };\nfilter f { message("e"); };\nlog { source(s); filter(f); destination(d); flags(flow-control); };\nlog { source(s); destination { network("h" port(1) template("$PRI\\n")); }; };\n' >t
+printf '<11>x: one\n<12>x: tow\n' >in
+expect 'a configuration is checked' 0 't: ok\n' - check t
+printf '@version: 4.2\nsource s { file("in"); };\nlog { source(s); filter(none); };\n' >bad
+expect 'an unknown filter is checked' 2 'bad:3: unknown name\n' - check bad
+printf '@version: 4.2\nfilter f { message("("); };\n' >bad
+expect 'a pattern that is none' 2 'bad:2: pattern not valid\n' - check bad
+expect 'how it is used' 0 "$usage" - --help
+expect 'which version it is' 0 'syslogr 0.1.0\n' - --version
 expect 'no words' 1 "$usage" -
 expect 'other words' 1 "$usage" - run c
 told='file c\377: cannot open: the name is not UTF-8\n'

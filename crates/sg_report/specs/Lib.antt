@@ -1,4 +1,5 @@
 pub mod Report
+pub mod Sums
 pub mod Fault
 pub mod Entry
 pub mod Store

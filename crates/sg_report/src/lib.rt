@@ -4,6 +4,7 @@
 
 mod entry;
 mod fault;
+mod laws;
 mod line;
 mod report;
 mod shown;
@@ -11,6 +12,7 @@ mod store;
 
 pub use entry::{entries_text, entry_text};
 pub use fault::fault_text;
+pub use laws::drivers_are_summed;
 pub use report::tally_text;
 pub use shown::Shown;
 pub use store::{damaged_text, failed_text, unopened_text};

@@ -28,8 +28,8 @@ use Rattle.sg_standing.specs.Standing.{IsAt, StandsFor, HoldsPosition, IsStored,
 use Rattle.sg_standing.specs.Images.{AreImages, position_in, positions_in}
 use Rattle.sg_standing.specs.declared.source.Source.{Source}
 use Rattle.sg_standing.proofs.Now.{AreQueues, safe-now, stores-now}
-use Rattle.sg_engine.specs.Path.{path_setup}
-use Rattle.sg_engine.specs.History.{stored_now, opening_in, opening_at}
+use Rattle.sg_lines.specs.Path.{path_setup}
+use Rattle.sg_lines.specs.History.{stored_now, opening_in, opening_at}
 use Rattle.sg_machine.specs.declared.tally.Tally.{Tally}
 use Rattle.sg_machine.specs.Tallies.{source_tallies}
 use Rattle.sg_core.specs.Answers.{Tallies}

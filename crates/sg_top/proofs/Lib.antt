@@ -7,3 +7,5 @@ pub mod RoundsLemmas
 pub mod ServingLemmas
 pub mod WordsLemmas
 pub mod SpoolLemmas
+pub mod LoadLemmas
+pub mod CheckLemmas

@@ -26,8 +26,8 @@ use Rattle.sg_standing.specs.States.{CoreState}
 use Rattle.sg_standing.specs.Sources.{store_at}
 use Rattle.sg_standing.specs.Standing.{IsAt, Does, StandsFor}
 use Rattle.sg_core.specs.Opening.{AreKinds, IsOpen, IsUnopened}
-use Rattle.sg_engine.specs.Path.{path_setup}
-use Rattle.sg_engine.specs.History.{stored_now}
+use Rattle.sg_lines.specs.Path.{path_setup}
+use Rattle.sg_lines.specs.History.{stored_now}
 use Rattle.sg_top.specs.History.{start_at, rewinds, broken_rewind}
 use Rattle.sg_top.specs.Opening.{disk_in, disk_of, IsReady, IsOver, BegunBy, HasReason, RefusesCore}
 use Rattle.sg_top.proofs.CoreLemmas.{only-inlet, only-store, one-of}

@@ -14,11 +14,11 @@ use Rattle.sg_machine.specs.Running.{ends_at}
 use Rattle.sg_stores.specs.Stores.{StoreState}
 use Rattle.sg_standing.specs.States.{CoreState}
 use Rattle.sg_standing.specs.Standing.{IsAt}
-use Rattle.sg_engine.specs.Delivery.{last_end}
-use Rattle.sg_engine.specs.History.{Stands, IsTaken, admitted, offer_count, kept_frames, settled_frames, stored_now}
-use Rattle.sg_engine.specs.Serving.{Blames, GoesOn, HasWorked, StoreRose, WereRun, ServesWith}
-use Rattle.sg_engine.specs.declared.rounds.Ended.{Ended}
-use Rattle.sg_engine.specs.declared.rounds.Ended.TheVariants.{Quiet, RoundsSpent, InletFailed, OutletFailed, StoreFailed, NoMemory}
+use Rattle.sg_lines.specs.Delivery.{last_end}
+use Rattle.sg_lines.specs.History.{Stands, IsTaken, admitted, offer_count, kept_frames, settled_frames, stored_now}
+use Rattle.sg_lines.specs.Serving.{Blames, GoesOn, HasWorked, StoreRose, WereRun, ServesWith}
+use Rattle.sg_lines.specs.declared.rounds.Ended.{Ended}
+use Rattle.sg_lines.specs.declared.rounds.Ended.TheVariants.{Quiet, RoundsSpent, InletFailed, OutletFailed, StoreFailed, NoMemory}
 use Rattle.sg_top.specs.Devices.{Shelf, Feed, Drain, Reached, AtRounds}
 use Rattle.sg_top.specs.History.{History, start_at, state_of, rewinds}
 use Rattle.sg_top.specs.Opening.{disk_in, disk_of, BegunBy}

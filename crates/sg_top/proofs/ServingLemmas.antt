@@ -17,9 +17,9 @@ use Rattle.sg_stores.specs.declared.answers.CoreRefusal.{CoreRefusal}
 use Rattle.sg_stores.specs.declared.answers.CoreRefusal.TheVariants.{Damage, DiskFault as CoreFault, NoMemory}
 use Rattle.sg_standing.specs.States.{CoreState, setup_of}
 use Rattle.sg_standing.specs.Standing.{StandsFor}
-use Rattle.sg_engine.specs.Path.{path_setup}
-use Rattle.sg_engine.specs.History.{stored_now}
-use Rattle.sg_engine.specs.declared.rounds.Ended.{Ended}
+use Rattle.sg_lines.specs.Path.{path_setup}
+use Rattle.sg_lines.specs.History.{stored_now}
+use Rattle.sg_lines.specs.declared.rounds.Ended.{Ended}
 use Rattle.sg_top.specs.Devices.{Shelf, Feed, Drain, Nothing, AtStore, AtCore, AtInlet, AtRounds, with_drain, store_of, feed_of, drain_of}
 use Rattle.sg_top.specs.History.{History, start_at, start_of, state_of, rewinds, broken_rewind, IsPrelude}
 use Rattle.sg_top.specs.Opening.{disk_in, disk_of, IsReady, IsOver, Begun, BegunBy, RefusesCore, status_refused}

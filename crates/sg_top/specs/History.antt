@@ -12,7 +12,7 @@ use Rattle.sg_machine.specs.declared.state.State.{State}
 use Rattle.sg_machine.specs.Counts.{WithinWindows}
 use Rattle.sg_machine.specs.Runs.{opened, after_all, are_legal}
 use Rattle.sg_machine.specs.Safe.{Images, Safe, nothing}
-use Rattle.sg_engine.specs.Path.{path_setup}
+use Rattle.sg_lines.specs.Path.{path_setup}
 
 pub record History : Type 0 where
   -- the position that the store had at its opening

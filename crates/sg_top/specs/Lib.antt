@@ -12,3 +12,7 @@ pub mod Opening
 pub mod Rounds
 pub mod Serving
 pub mod Spooled
+pub mod Loading
+pub mod Telling
+pub mod Checking
+pub mod Answers

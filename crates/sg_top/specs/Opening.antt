@@ -10,8 +10,8 @@ use Rattle.sg_stores.specs.declared.answers.CoreRefusal.{CoreRefusal}
 use Rattle.sg_stores.specs.declared.answers.CoreRefusal.TheVariants.{Damage, DiskFault, NoMemory}
 use Rattle.sg_standing.specs.States.{CoreState, setup_of}
 use Rattle.sg_standing.specs.Standing.{StandsFor}
-use Rattle.sg_engine.specs.Path.{path_setup}
-use Rattle.sg_engine.specs.History.{stored_now}
+use Rattle.sg_lines.specs.Path.{path_setup}
+use Rattle.sg_lines.specs.History.{stored_now}
 use Rattle.sg_top.specs.History.{start_at, rewinds, broken_rewind}
 use Rattle.sg_top.specs.declared.status.Status.{Status}
 use Rattle.sg_top.specs.declared.status.Status.TheVariants.{Damage as StatusDamage, DiskFault as StatusFault, NoMemory as StatusNoMemory}

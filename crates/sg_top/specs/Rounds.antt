@@ -8,11 +8,11 @@ use Rattle.sg_machine.specs.declared.state.State.{State}
 use Rattle.sg_machine.specs.Tallies.{tally_of}
 use Rattle.sg_standing.specs.States.{CoreState, setup_of}
 use Rattle.sg_standing.specs.Standing.{IsAt}
-use Rattle.sg_engine.specs.Path.{path_setup}
-use Rattle.sg_engine.specs.History.{Stands}
-use Rattle.sg_engine.specs.Serving.{Blames, Serves}
-use Rattle.sg_engine.specs.declared.rounds.Ended.{Ended}
-use Rattle.sg_engine.specs.declared.rounds.Ended.TheVariants.{Quiet, RoundsSpent, InletFailed, OutletFailed, StoreFailed, NoMemory}
+use Rattle.sg_lines.specs.Path.{path_setup}
+use Rattle.sg_lines.specs.History.{Stands}
+use Rattle.sg_lines.specs.Serving.{Blames, Serves}
+use Rattle.sg_lines.specs.declared.rounds.Ended.{Ended}
+use Rattle.sg_lines.specs.declared.rounds.Ended.TheVariants.{Quiet, RoundsSpent, InletFailed, OutletFailed, StoreFailed, NoMemory}
 use Rattle.sg_report.specs.Report.{report_text}
 use Rattle.sg_top.specs.Said.{shown_of}
 use Rattle.sg_top.specs.declared.ending.Ending.{Ending}

@@ -10,9 +10,9 @@ use Rattle.sg_machine.specs.declared.event.Event.{Event}
 use Rattle.sg_lex.specs.declared.token.Token.{Token}
 use Rattle.sg_expand.specs.Expansion.{State}
 use Rattle.sg_machine.specs.Verdicts.{is_listed}
-use Rattle.sg_engine.specs.Delivery.{AreFirst, AreAll, TookFirst, TookAll, AreOf, IsDrained, last_end}
-use Rattle.sg_engine.specs.History.{admitted, admit_of, offer_count, settled_frames, IsTaken}
-use Rattle.sg_engine.specs.Serving.{WereRun}
+use Rattle.sg_lines.specs.Delivery.{AreFirst, AreAll, TookFirst, TookAll, AreOf, IsDrained, last_end}
+use Rattle.sg_lines.specs.History.{admitted, admit_of, offer_count, settled_frames, IsTaken}
+use Rattle.sg_lines.specs.Serving.{WereRun}
 use Rattle.sg_top.specs.Devices.{Shelf, Feed, Drain, Reached, Nothing, AtStore, AtCore, AtInlet, AtRounds, store_of, feed_of, drain_of, used, IsUsedAnd, IfServed, ServedAnd, AreNamed}
 use Rattle.sg_top.specs.History.{History, IsHistory, IsPrelude, FollowsPrelude, state_of, opening_of, stored_of}
 use Rattle.sg_top.specs.Reading.{Configures}

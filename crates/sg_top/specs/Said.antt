@@ -23,6 +23,9 @@ use Rattle.sg_top.specs.declared.status.Status.TheVariants.{Usage, BadConfig, Re
 abbrev pub usage_text : List ℕ
 usage_text = codes "usage: syslogr check FILE | trace FILE SOURCE INPUT | run FILE [--once] [--rounds N] | spool FILE | drill N\n"
 
+abbrev pub version_text : List ℕ
+version_text = codes "syslogr 0.1.0\n"
+
 -- the text of a status before the rounds, where the configuration was read
 abbrev pub text_of : Status → List ℕ
 text_of Usage = usage_text

@@ -7,7 +7,7 @@ use Rattle.sg_outside.specs.declared.request.OutletSpec.TheVariants.{File}
 use Rattle.sg_outside.specs.declared.request.StoreSpec.{StoreSpec}
 use Rattle.sg_lex.specs.declared.fault.ConfigKind.{ConfigKind}
 use Rattle.sg_standing.specs.States.{CoreState}
-use Rattle.sg_engine.specs.History.{stored_now}
+use Rattle.sg_lines.specs.History.{stored_now}
 use Rattle.sg_top.specs.Devices.{Shelf, Feed, Drain, Reached, with_drain, store_of, feed_of, drain_of, used, IfUsed, AreNamed}
 use Rattle.sg_top.specs.History.{History}
 use Rattle.sg_top.specs.Opening.{disk_of}

@@ -1,8 +1,11 @@
-//! `syslogr`: moves the lines of one file to another, and lists the entries of a disk-buffer's store.
+//! `syslogr`: checks configurations, moves the lines of one file to another, and lists the entries of a
+//! disk-buffer's store.
 #![tactic(auto)]
 
+mod check;
 mod config;
 mod ending;
+mod moving;
 mod opening;
 mod rounds;
 #[cfg(test)]

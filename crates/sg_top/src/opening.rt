@@ -5,7 +5,7 @@ ghost use Rattle.sg_top.specs.Opening.{IsReady, IsOver, disk_of, status_refused,
 use crate::status::Status;
 use sg_core::Core;
 use sg_device::Disk;
-use sg_engine::path_setup;
+use sg_lines::path_setup;
 use sg_stores::CoreRefusal;
 use std::alloc::Global;
 

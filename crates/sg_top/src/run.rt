@@ -16,7 +16,8 @@ use sg_list::Seq;
 use sg_world::World;
 use std::alloc::Global;
 
-fn names_of(alloc: Global, file: &[u8]) -> Result<Seq<Name>, NoMemory>
+/// The list of that name alone.
+pub fn names_of(alloc: Global, file: &[u8]) -> Result<Seq<Name>, NoMemory>
     ensures { IfOk result (λ names. names ≡ file.now ∷ []) }
 {
     let mut names = Seq::empty(alloc);

@@ -1,7 +1,8 @@
 // What is said at the end of a run.
 ghost use Rattle.std.specs.Prelude.{◌≡◌, IfOk, OnOk, ◌++◌};
 ghost use Rattle.sg_report.specs.Fault.{fault_text_of};
-ghost use Rattle.sg_top.specs.Said.{text_of, unread_text_of, status_in, text_in, Concludes};
+ghost use Rattle.sg_top.specs.Said.{text_of, unread_text_of, status_in, text_in, Concludes, usage_text, version_text};
+ghost use Rattle.sg_top.specs.Telling.{Tells};
 
 use crate::ending::Ending;
 use crate::status::{Device, Status};
@@ -14,6 +15,8 @@ use std::alloc::{AllocError, Global};
 
 const USAGE: &[u8] =
     b"usage: syslogr check FILE | trace FILE SOURCE INPUT | run FILE [--once] [--rounds N] | spool FILE | drill N\n";
+
+const VERSION: &[u8] = b"syslogr 0.1.0\n";
 
 fn joined(alloc: Global, front: &[u8], middle: &[u8], back: &[u8]) -> Result<Vec<u8>, NoMemory>
     ensures { IfOk result (λ text. text.items ≡ front.now ++ (middle.now ++ back.now)) }
@@ -88,4 +91,28 @@ pub fn conclude<W: World>(alloc: Global, ending: Ending, world: &mut W) -> Statu
         Err(SayRefusal::Fault) => Status::SayFault,
         Err(SayRefusal::NoMemory) => Status::NoMemory,
     }
+}
+
+fn tell<W: World>(alloc: Global, text: &[u8], world: &mut W) -> Status
+    ensures { Tells (W.state world.old) (W.state world.new) text.now result }
+{
+    match world.say(alloc, text) {
+        Ok(()) => Status::Ok,
+        Err(SayRefusal::Fault) => Status::SayFault,
+        Err(SayRefusal::NoMemory) => Status::NoMemory,
+    }
+}
+
+/// Says how the program is used.
+pub fn tell_usage<W: World>(alloc: Global, world: &mut W) -> Status
+    ensures { Tells (W.state world.old) (W.state world.new) usage_text result }
+{
+    tell(alloc, USAGE, world)
+}
+
+/// Says which version the program is.
+pub fn tell_version<W: World>(alloc: Global, world: &mut W) -> Status
+    ensures { Tells (W.state world.old) (W.state world.new) version_text result }
+{
+    tell(alloc, VERSION, world)
 }

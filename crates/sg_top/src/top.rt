@@ -1,41 +1,32 @@
 // The top call.
-ghost use Rattle.std.specs.Prelude.{ℕ, List};
-ghost use Rattle.sg_top.specs.Run.{Ran};
-ghost use Rattle.sg_top.specs.Spooled.{SpoolsFile};
-ghost use Rattle.sg_top.specs.Words.{IsRun, IsSpool, JudgesWords};
-ghost use Rattle.sg_top.specs.Verdict.{Judges};
+ghost use Rattle.sg_words.specs.Words.{asked};
+ghost use Rattle.sg_top.specs.Answers.{Answers};
 
-use crate::ending::Ending;
-use crate::run::run;
-use crate::say::conclude;
-use crate::spooled::spool;
+use crate::check::check;
+use crate::moving::run_or_list;
+use crate::say::{tell_usage, tell_version};
 use crate::status::Status;
-use crate::words::{run_file, spool_file};
 use sg_device::Name;
+use sg_words::{Command, command_of};
 use sg_world::World;
 use std::alloc::Global;
 
-/// Does what the words of the command line ask for, without the program's name, and answers how it
-/// ended. `run FILE --once` reads the configuration FILE and moves the lines of the file that it
-/// names as source to the one that it names as destination, from the place on to which the runs before
-/// have come. `spool FILE` lists the entries of the disk-buffer's store FILE, and changes nothing.
+/// Does what the words of the command line ask for, without the program's name, and answers how it ended.
+///
+/// `check FILE` says whether FILE is a configuration. `run FILE --once` moves the lines of the
+/// file that the configuration FILE names as source to the one that it names as destination. `spool FILE`
+/// lists the entries of the disk-buffer's store FILE. `--help` says how it is used, and `--version` which
+/// version it is.
 pub fn daemon<W: World>(alloc: Global, words: &[Name], world: &mut W) -> Status
-    // The devices of the configuration were opened and closed, and what happened at the flow core is a
-    // legal history: its records are the first ones of the source, the frames taken are those that it
-    // settled, the window holds, and what a crash leaves in the store is safe. The status has its cause,
-    // and its text was said.
-    ensures ran { ((file : List ℕ) → ¬ IsSpool words.now file) → Ran (W.state world.old) (W.state world.new) words.now result }
-    // The lines of the store's entries were said, the store is as it was, and the status has its cause.
-    ensures spools { (file : List ℕ) → IsSpool words.now file → SpoolsFile (W.state world.old) (W.state world.new) file result }
-    ensures usage { JudgesWords words.now result }
-    ensures config { (file : List ℕ) → IsRun words.now file → Judges (W.state world.old) file result }
+    ensures { Answers (W.state world.old) (W.state world.new) words.now (asked words.now) result }
 {
-    if let Some(file) = spool_file(words) {
-        return spool(alloc, file, world);
+    match command_of(words) {
+        Some(Command::Check(file)) => check(alloc, file, world),
+        Some(Command::Trace { .. }) => run_or_list(alloc, words, world),
+        Some(Command::Run { .. }) => run_or_list(alloc, words, world),
+        Some(Command::Spool(_)) => run_or_list(alloc, words, world),
+        Some(Command::Help) => tell_usage(alloc, world),
+        Some(Command::Version) => tell_version(alloc, world),
+        None => run_or_list(alloc, words, world),
     }
-    let Some(file) = run_file(words) else {
-        return conclude(alloc, Ending::Early(Status::Usage), world);
-    };
-    let ending = run(alloc, file, world);
-    conclude(alloc, ending, world)
 }

@@ -1,6 +1,6 @@
 use Rattle.std.proofs.Common.{ap, ◌∙◌, ◌∷◌, [], ◌++◌, map, subst}
 use Rattle.sg_core.specs.Opening.{IsOpen, IsUnopened}
-use Rattle.sg_engine.specs.Path.{path_setup}
+use Rattle.sg_lines.specs.Path.{path_setup}
 use Rattle.sg_top.proofs.OpeningLemmas.{ready-open, refused-open}
 use Rattle.sg_top.proofs.opening.open_core.Goals as goal
 

@@ -1,5 +1,5 @@
 use Rattle.std.proofs.Common.{◌≡◌, ◌<◌, ap, ◌∙◌, arith, subst}
-use Rattle.sg_engine.specs.History.{stored_now}
+use Rattle.sg_lines.specs.History.{stored_now}
 use Rattle.sg_stores.specs.Positions.{stored_in}
 use Rattle.sg_top.specs.History.{rewinds}
 use Rattle.sg_top.specs.Opening.{BegunBy}

@@ -1,5 +1,5 @@
 use Rattle.std.proofs.Common.{◌≡◌, refl, ap, ◌∙◌, arith}
-use Rattle.sg_engine.specs.History.{stored_now}
+use Rattle.sg_lines.specs.History.{stored_now}
 use Rattle.sg_stores.specs.Positions.{stored_in}
 use Rattle.std.proofs.Common.{true}
 use Rattle.sg_outside.specs.declared.request.InletSpec.TheVariants.{File}

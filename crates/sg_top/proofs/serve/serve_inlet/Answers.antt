@@ -1,5 +1,5 @@
 use Rattle.std.proofs.Common.{refl, arith, subst, true, false}
-use Rattle.sg_engine.specs.History.{stored_now}
+use Rattle.sg_lines.specs.History.{stored_now}
 use Rattle.sg_top.specs.History.{start_at, rewinds}
 use Rattle.sg_top.specs.Opening.{Begun, BegunBy}
 use Rattle.sg_top.specs.Devices.{Feed}

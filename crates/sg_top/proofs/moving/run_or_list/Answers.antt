@@ -1,6 +1,6 @@
 use Rattle.sg_top.proofs.SpoolLemmas.{store-listed, store-words, no-run}
 use Rattle.sg_top.proofs.WordsLemmas.{conclude-ran, conclude-usage, conclude-config, other-words, other-usage}
-use Rattle.sg_top.proofs.top.daemon.Goals as goal
+use Rattle.sg_top.proofs.moving.run_or_list.Goals as goal
 
 pub returns-in-Some-clause-ran : goal.returns-in-Some-clause-ran
 returns-in-Some-clause-ran g c = λ other. absurd (other c.in-Some.file.now c.in-Some.ensures)

@@ -1,0 +1,23 @@
+use Rattle.sg_top.proofs.CheckLemmas.{checks-ok, checks-unsaid, checks-starved, checks-bad, checks-unread}
+use Rattle.sg_top.proofs.check.check.Goals as goal
+
+pub returns-in-Ok : goal.returns-in-Ok
+returns-in-Ok g c = checks-ok (g.W.Machine.state c.args.world.now) (g.W.Machine.state c.check_file.new.world) c.args.file.now c.in-Ok.ensures.only c.in-Ok.ensures.checks
+
+pub returns-in-Err-SayFault : goal.returns-in-Err-SayFault
+returns-in-Err-SayFault g c =
+    checks-unsaid (g.W.Machine.state c.args.world.now) (g.W.Machine.state c.check_file.new.world) c.args.file.now c.in-Err-SayFault.ensures.only
+    (rw c.in-Err-SayFault.field-0-is at c.in-Err-SayFault.ensures.checks) (rw c.in-Err-SayFault.field-0-is at c.in-Err-SayFault.ensures.complete)
+
+pub returns-in-Err-NoMemory : goal.returns-in-Err-NoMemory
+returns-in-Err-NoMemory g c = checks-starved (g.W.Machine.state c.args.world.now) (g.W.Machine.state c.check_file.new.world) c.args.file.now c.in-Err-NoMemory.ensures.only
+
+pub returns-in-Err-Bad : goal.returns-in-Err-Bad
+returns-in-Err-Bad g c =
+    checks-bad (g.W.Machine.state c.args.world.now) (g.W.Machine.state c.check_file.new.world) (g.W.Machine.state c.conclude.new.world) c.args.file.now c.in-Err-Bad.fault c.in-Err-Bad.names c.conclude.result
+    c.in-Err-Bad.ensures.only (rw c.in-Err-Bad.field-0-is at c.in-Err-Bad.ensures.checks) (rw c.in-Err-Bad.field-0-is at c.in-Err-Bad.ensures.complete) c.conclude.ensures
+
+pub returns-in-Err-Unread : goal.returns-in-Err-Unread
+returns-in-Err-Unread g c =
+    checks-unread (g.W.Machine.state c.args.world.now) (g.W.Machine.state c.check_file.new.world) (g.W.Machine.state c.conclude-in-Err-Unread.new.world) c.args.file.now c.in-Err-Unread.name c.conclude-in-Err-Unread.result
+    c.in-Err-Unread.ensures.only (rw c.in-Err-Unread.field-0-is at c.in-Err-Unread.ensures.checks) (rw c.in-Err-Unread.field-0-is at c.in-Err-Unread.ensures.complete) c.conclude-in-Err-Unread.ensures
