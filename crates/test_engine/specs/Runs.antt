@@ -1,7 +1,6 @@
 -- The runs that are tried.
 use Rattle.std.specs.Prelude.{ℕ, Some, None, [], ◌∷◌}
 use Rattle.sg_machine.specs.declared.setup.Setup.{Setup}
-use Rattle.test_engine.specs.declared.router.ByDigit.{ByDigit}
 
 -- two sources with stores of their own, and two destinations with queues in memory
 abbrev pub tried : Setup
@@ -10,5 +9,6 @@ tried = record {
   dests = record { fifo = 100; buffer = None } ∷ record { fifo = 100; buffer = None } ∷ [];
 }
 
-abbrev pub two : ByDigit → ℕ
+-- of both, whatever router
+abbrev pub two : {R : Type 0} → R → ℕ
 two router = 2
