@@ -1,0 +1,5 @@
+pub mod PlanLemmas
+pub mod HeadlineLemmas
+pub mod LineLemmas
+pub mod RunLemmas
+pub mod CauseLemmas

@@ -1,0 +1,68 @@
+-- The run of a configuration file.
+use Rattle.std.proofs.Common.{◌≡◌, ℕ, Bool, List, Option, Some, None, Result, Ok, Err, inl, inr, refl, sym, ap, ◌∙◌, subst}
+use Rattle.sg_device.specs.Inlet.{InletState}
+use Rattle.sg_device.specs.Outlet.{OutletState}
+use Rattle.sg_outside.specs.World.{WorldState}
+use Rattle.sg_pipes.specs.declared.pipes.Pipes.{Pipes}
+use Rattle.sg_plan.specs.Direct.{AreDirect}
+use Rattle.sg_config.specs.Alike.{IsWithin}
+use Rattle.sg_config.specs.declared.config.Config.{Config}
+use Rattle.sg_loaded.specs.Loading.{OnlyLoads, LoadsFile, IsConfigured}
+use Rattle.sg_loaded.specs.declared.loaded.Loaded.{Loaded}
+use Rattle.sg_loaded.specs.declared.loaded.Unloaded.{Unloaded}
+use Rattle.sg_loaded.specs.declared.loaded.Unloaded.TheVariants.{Bad, Unread, NoMemory}
+use Rattle.sg_serve.specs.Run.{Reached, RunsPlan}
+use Rattle.sg_serve.specs.declared.ending.Ending.{Ending}
+use Rattle.sg_delivered.specs.Headline.{RunsDeliver}
+use Rattle.sg_run.specs.Meaning.{planned, paths_in, drivers_in, files_in, AreRouters}
+use Rattle.sg_run.specs.Outcomes.{Tells, EndsBy, EndsSo, AreLines, HasLinesAt}
+use Rattle.sg_run.specs.Run.{offers_by, inlets_by, dests_by, RunsBy, IsLeft, IsStarved, RunsConfig, RunsFile}
+use Rattle.sg_run.specs.declared.end.Outcome.{Outcome}
+use Rattle.sg_run.specs.declared.reporting.Lines.{Lines}
+use Rattle.sg_run.proofs.CauseLemmas.{due-at}
+use Rattle.sg_run.proofs.PlanLemmas.{runnable}
+use Rattle.sg_run.proofs.HeadlineLemmas.{delivers-by}
+use Rattle.sg_run.proofs.LineLemmas.{lines-at}
+
+pub tells-by : (config : Config) (once : Bool) (ending : Ending) (lines : Lines) (outcome : Outcome) → AreLines config lines → EndsSo lines ending (Some outcome) → Tells (planned config once) ending (Ok outcome)
+tells-by config once ending lines outcome are ends =
+    subst (λ fs. EndsBy (drivers_in config.inlets.items) fs ending (Some outcome)) are.1 (subst (λ ds. EndsBy ds lines.files ending (Some outcome)) are.0 ends)
+
+-- the law is that runs of plans come to the headline
+pub runs-by : {I O : Type 0} (feed : I → InletState) (drain : O → OutletState) (loaded new : WorldState) (config : Config) (once : Bool) (rounds : ℕ) (routers : List Pipes) (ending : Ending) (result : Result Outcome Unloaded) → IsWithin config
+    → AreDirect config.outlets.items → AreRouters config routers → RunsDeliver feed drain offers_by inlets_by dests_by → RunsPlan feed drain offers_by inlets_by dests_by loaded new (planned config once) routers rounds ending
+    → Tells (planned config once) ending result → RunsBy feed drain loaded new config once rounds result
+runs-by feed drain loaded new config once rounds routers ending result within direct are law (reached, runs) tells = record {
+  routers = routers;
+  are_routers = are;
+  ending = ending;
+  reached = reached;
+  runs = runs;
+  headline = delivers-by (planned config once) routers (paths_in config) reached reached.core are (law loaded new (planned config once) routers rounds ending reached (runnable config once within direct) runs);
+  tells = tells;
+  due = due-at feed drain offers_by inlets_by dests_by loaded.files (planned config once) routers rounds reached reached.core ending (runnable config once within direct) runs.holds;
+}
+
+pub lines-by-plan : {I O : Type 0} (feed : I → InletState) (drain : O → OutletState) (loaded new : WorldState) (config : Config) (once : Bool) (rounds : ℕ) (routers : List Pipes) (ending : Ending) (lines : Lines) → IsWithin config
+    → AreDirect config.outlets.items → AreLines config lines → RunsDeliver feed drain offers_by inlets_by dests_by → RunsPlan feed drain offers_by inlets_by dests_by loaded new (planned config once) routers rounds ending
+    → HasLinesAt lines ending
+lines-by-plan feed drain loaded new config once rounds routers ending lines within direct are law (reached, runs) =
+    let can = runnable config once within direct in
+    lines-at feed drain offers_by inlets_by dests_by loaded.files config once routers rounds reached ending lines can are runs.holds (law loaded new (planned config once) routers rounds ending reached can runs)
+
+-- The file.
+
+left-starved : (old loaded : WorldState) (file : List ℕ) (result : Result Outcome Unloaded) → IsStarved result → IsLeft old loaded file result
+left-starved old loaded file (Ok outcome) is = absurd is
+left-starved old loaded file (Err (Bad fault names)) is = absurd is
+left-starved old loaded file (Err (Unread name)) is = absurd is
+left-starved old loaded file (Err NoMemory) is = tt
+
+pub file-ran : {I O : Type 0} (feed : I → InletState) (drain : O → OutletState) (old loaded new : WorldState) (file : List ℕ) (once : Bool) (rounds : ℕ) (of_file : Loaded) (result : Result Outcome Unloaded) → OnlyLoads old loaded
+    → IsConfigured old file of_file → RunsConfig feed drain loaded new of_file.config once rounds result → RunsFile feed drain old new file once rounds result
+file-ran feed drain old loaded new file once rounds of_file result only is (inl (same, starved)) = (loaded, (only, inl (same, left-starved old loaded file result starved)))
+file-ran feed drain old loaded new file once rounds of_file result only is (inr runs) = (loaded, (only, inr (of_file, (is, runs))))
+
+pub file-left : {I O : Type 0} (feed : I → InletState) (drain : O → OutletState) (old loaded : WorldState) (file : List ℕ) (once : Bool) (rounds : ℕ) (unloaded : Unloaded) → OnlyLoads old loaded → LoadsFile old loaded file (Err unloaded)
+    → RunsFile feed drain old loaded file once rounds (Err unloaded)
+file-left feed drain old loaded file once rounds unloaded only is = (loaded, (only, inl (refl, is)))

@@ -1,0 +1,5 @@
+pub mod Ends
+pub mod Outcomes
+pub mod Meaning
+pub mod Causes
+pub mod Run

@@ -1,0 +1,12 @@
+//! The command `run`: a configuration file loaded, its plan run, and the text that is said of that.
+#![tactic(auto)]
+
+mod end;
+mod planning;
+mod reporting;
+mod running;
+
+pub use end::{End, Outcome};
+pub use running::run_file;
+pub use sg_loaded::Unloaded;
+pub use sg_serve::Device;

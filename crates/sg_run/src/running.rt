@@ -1,0 +1,111 @@
+// The command.
+ghost use Rattle.std.specs.Prelude.{◌≡◌, ◌≤◌, ◌<◌, ◌^◌, IfOk};
+ghost use Rattle.sg_config.specs.Alike.{IsWithin};
+ghost use Rattle.sg_plan.specs.Direct.{AreDirect};
+ghost use Rattle.sg_loaded.specs.Compiling.{Compiles};
+ghost use Rattle.sg_run.specs.Meaning.{AreRouters};
+ghost use Rattle.sg_run.specs.Outcomes.{AreLines};
+ghost use Rattle.sg_run.specs.Run.{RunsBy, RunsConfig, RunsFile};
+
+use crate::end::Outcome;
+use crate::planning::{drivers_of, files_of, plan_of, routers_of};
+use crate::reporting::{Lines, outcome_of};
+use sg_config::{Config, outlets_are_direct, texts_mean_one};
+use sg_delivered::runs_deliver;
+use sg_device::NoMemory;
+use sg_loaded::{Loaded, Unloaded, load_file};
+use sg_pipes::Pipes;
+use sg_serve::run_plan;
+use sg_table::Table;
+use sg_world::World;
+use std::alloc::Global;
+use std::sync::Wait;
+
+fn lines_of(alloc: Global, config: &Config) -> Result<Lines, NoMemory>
+    ensures { IfOk result (AreLines config.now) }
+{
+    Ok(Lines {
+        drivers: drivers_of(alloc, &config.inlets)?,
+        files: files_of(alloc, config.setup.sources.as_slice())?,
+    })
+}
+
+// Runs the plan of a configuration by these routers.
+fn run_by<T: Wait, W: World>(
+    rt: &T,
+    alloc: Global,
+    config: Config,
+    once: bool,
+    routers: Vec<Pipes>,
+    lines: Lines,
+    rounds: u64,
+    world: &mut W,
+) -> Result<Outcome, Unloaded>
+    requires within { IsWithin config }
+    requires direct { AreDirect config.outlets.items }
+    requires routers { AreRouters config routers.items }
+    requires lines { AreLines config lines }
+    requires some { 0 < rounds }
+    requires rounds { rounds ≤ 2 ^ 36 }
+    ensures { RunsBy W.Feed.state W.Drain.state (W.state world.old) (W.state world.new) config once rounds result }
+{
+    runs_deliver(world, routers.as_slice());
+    let plan = plan_of(config, once);
+    let ending = run_plan(rt, alloc, plan, routers, rounds, world);
+    match outcome_of(alloc, lines, ending) {
+        Ok(Some(outcome)) => Ok(outcome),
+        Ok(None) => Err(Unloaded::NoMemory),
+        Err(_) => Err(Unloaded::NoMemory),
+    }
+}
+
+// Runs a configuration with the table of its log paths.
+fn run_config<T: Wait, W: World>(
+    rt: &T,
+    alloc: Global,
+    loaded: Loaded,
+    once: bool,
+    rounds: u64,
+    world: &mut W,
+) -> Result<Outcome, Unloaded>
+    requires within { IsWithin loaded.config }
+    requires direct { AreDirect loaded.config.outlets.items }
+    requires compiles { Compiles loaded.config loaded.table }
+    requires some { 0 < rounds }
+    requires rounds { rounds ≤ 2 ^ 36 }
+    ensures { RunsConfig W.Feed.state W.Drain.state (W.state world.old) (W.state world.new) loaded.config once rounds result }
+{
+    let Loaded { config, table } = loaded;
+    let Ok(lines) = lines_of(alloc, &config) else {
+        return Err(Unloaded::NoMemory);
+    };
+    let Ok(routers) = routers_of(alloc, table, config.inlets.len()) else {
+        return Err(Unloaded::NoMemory);
+    };
+    run_by(rt, alloc, config, once, routers, lines, rounds, world)
+}
+
+/// Loads the configuration FILE and runs it: opens its devices, runs the rounds over them, so many at
+/// most, 1 to 2^36, and closes the devices. With `once` the run ends once all input was taken, and a
+/// destination whose outlet fails three times in a row is given up. The outcome has the text that is to
+/// be said. A file that isn't loaded opens nothing.
+pub fn run_file<T: Wait, W: World>(
+    rt: &T,
+    alloc: Global,
+    file: &[u8],
+    once: bool,
+    rounds: u64,
+    world: &mut W,
+) -> Result<Outcome, Unloaded>
+    requires some { 0 < rounds }
+    requires rounds { rounds ≤ 2 ^ 36 }
+    // The configuration was run, or why it wasn't; the headline; what is told; and the causes of failures.
+    ensures { RunsFile W.Feed.state W.Drain.state (W.state world.old) (W.state world.new) file.now once rounds result }
+{
+    texts_mean_one();
+    outlets_are_direct();
+    match load_file(alloc, file, world) {
+        Ok(loaded) => run_config(rt, alloc, loaded, once, rounds, world),
+        Err(unloaded) => Err(unloaded),
+    }
+}
