@@ -1,0 +1,11 @@
+pub mod StepLemmas
+pub mod CalmLemmas
+pub mod AgreeLemmas
+pub mod TurnLemmas
+pub mod AnswerLemmas
+pub mod FailingLemmas
+pub mod RoundLemmas
+pub mod FactLemmas
+pub mod RestingLemmas
+pub mod CameLemmas
+pub mod EndingLemmas
