@@ -4,7 +4,7 @@ use Rattle.std.proofs.lemmas.List.{length-map}
 use Rattle.sg_list.proofs.ListLemmas.{some-same, slice_get-some, slice_get-below, slice_get-map}
 use Rattle.sg_device.specs.Inlet.{InletState}
 use Rattle.sg_device.specs.Outlet.{OutletState}
-use Rattle.sg_outside.specs.World.{Files}
+use Rattle.sg_outside.specs.World.{WorldState}
 use Rattle.sg_msg.specs.declared.offer.Offer.{Offer}
 use Rattle.sg_frame.specs.Records.{Record}
 use Rattle.sg_actor.specs.SourceTurns.{actor}
@@ -20,12 +20,13 @@ use Rattle.sg_counter.specs.Exchanges.{OfSource, OfDest}
 use Rattle.sg_serve.specs.Actors.{SourceView, DestView, source_view, dest_view}
 use Rattle.sg_serve.specs.Counts.{gave_up_outlet, numbers_from}
 use Rattle.sg_serve.specs.Plan.{IsRunnable}
-use Rattle.sg_serve.specs.Run.{CoreRun, Reached, Holds, IsServed}
+use Rattle.sg_serve.specs.Run.{CoreRun, Reached, Holds, IsServed, RunsWith}
 use Rattle.sg_serve.specs.declared.counts.Counts.{Counts}
 use Rattle.sg_serve.specs.declared.ending.Ending.{Ending}
 use Rattle.sg_serve.specs.declared.ending.Ending.TheVariants.{Before, Ran}
 use Rattle.sg_serve.specs.declared.plan.RunPlan.{RunPlan}
 use Rattle.sg_delivered.proofs.PreludeLemmas.{get-back}
+use Rattle.sg_quiet.specs.Failing.{AreUsed, FailedStoresCount}
 use Rattle.sg_run.specs.Causes.{FailsThrice, RoseIn, AreDue}
 
 -- a number in the list is the place of a mark
@@ -97,12 +98,18 @@ module _ {R I O : Type 0} (feed : I → InletState) (drain : O → OutletState) 
         rose = fails.1 (for.is).going.1 b.1.1;
       })
 
-pub due-at : {R I O : Type 0} (feed : I → InletState) (drain : O → OutletState) (offers : R → ℕ → Record → List Offer → Type 0) (inlets dests : R → ℕ) (files : Option Files) (plan : RunPlan) (routers : List R) (rounds : ℕ) (reached : Reached)
-    (core : Option CoreRun) (ending : Ending) → IsRunnable plan → Holds feed drain offers inlets dests files plan routers rounds reached core ending → AreDue plan reached ending
-due-at feed drain offers inlets dests files plan routers rounds reached core (Before early) runnable holds = tt
-due-at feed drain offers inlets dests files plan routers rounds reached core (Ran ended None) runnable holds = tt
-due-at feed drain offers inlets dests files plan routers rounds reached None (Ran ended (Some counts)) runnable holds = absurd holds
-due-at feed drain offers inlets dests files plan routers rounds reached (Some run) (Ran ended (Some counts)) runnable (holds, served) = record {
-  sinks = sink-due feed drain offers inlets dests plan routers rounds reached run ended counts runnable served;
-  inlets = inlet-due feed drain offers inlets dests plan routers rounds reached run ended counts runnable served;
-}
+module _ {R I O : Type 0} (feed : I → InletState) (drain : O → OutletState) (offers : R → ℕ → Record → List Offer → Type 0) (inlets dests : R → ℕ) (old new : WorldState) (plan : RunPlan) (routers : List R) (rounds : ℕ) (reached : Reached)
+    (runnable : IsRunnable plan) (used : AreUsed plan) (law : FailedStoresCount feed drain offers inlets dests) where
+  due-served : (ended : Ended) (counts : Counts) (core : Option CoreRun) → Holds feed drain offers inlets dests old.files plan routers rounds reached core (Ran ended (Some counts))
+      → RunsWith feed drain offers inlets dests old new plan routers rounds (Ran ended (Some counts)) reached → AreDue plan reached (Ran ended (Some counts))
+  due-served ended counts None holds runs = absurd holds
+  due-served ended counts (Some run) (holds, served) runs = record {
+    sinks = sink-due feed drain offers inlets dests plan routers rounds reached run ended counts runnable served;
+    stores = law old new plan routers rounds ended counts reached runnable used runs;
+    inlets = inlet-due feed drain offers inlets dests plan routers rounds reached run ended counts runnable served;
+  }
+
+  pub due-by : (ending : Ending) → RunsWith feed drain offers inlets dests old new plan routers rounds ending reached → AreDue plan reached ending
+  due-by (Before early) runs = tt
+  due-by (Ran ended None) runs = tt
+  due-by (Ran ended (Some counts)) runs = due-served ended counts reached.core runs.holds runs

@@ -19,6 +19,7 @@ use Rattle.sg_config.specs.declared.config.Config.{Config}
 use Rattle.sg_loaded.specs.Compiling.{Compiles}
 use Rattle.sg_serve.specs.Devices.{AreFetching, AreNotByPath}
 use Rattle.sg_serve.specs.Plan.{IsRunnable, AllKnow}
+use Rattle.sg_quiet.specs.Failing.{AreUsed}
 use Rattle.sg_run.specs.Meaning.{planned, paths_of, paths_in, AreRouters}
 use Rattle.sg_run.specs.Run.{inlets_by, dests_by}
 
@@ -57,6 +58,9 @@ runnable config once within direct = record {
   fetches = fetching-of within.drivers config.inlets.items within.each;
   paths = not-by-path config.outlets.items direct;
 }
+
+pub used : (config : Config) (once : Bool) → IsWithin config → AreUsed (planned config once)
+used config once within = within.numbers.used
 
 -- The routers.
 

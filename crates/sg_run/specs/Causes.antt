@@ -3,7 +3,7 @@ use Rattle.std.specs.Prelude.{◌≡◌, ◌≤◌, ℕ, true, Option, Some, Non
 use Rattle.sg_device.specs.Faults.{Rose}
 use Rattle.sg_device.specs.Inlet.{InletState}
 use Rattle.sg_device.specs.Outlet.{OutletState}
-use Rattle.sg_serve.specs.Run.{Reached}
+use Rattle.sg_serve.specs.Run.{Reached, RoseAt}
 use Rattle.sg_serve.specs.declared.counts.Counts.{Counts}
 use Rattle.sg_serve.specs.declared.ending.Ending.{Ending}
 use Rattle.sg_serve.specs.declared.ending.Ending.TheVariants.{Before, Ran}
@@ -24,9 +24,10 @@ pub record RoseIn (opened closed : List InletState) (i : ℕ) : Type 0 where
   pub is : slice_get closed i ≡ Some new
   pub rose : Rose old.faults new.faults
 
--- each destination that is told to have been given up, and each inlet that is told to have failed
+-- each destination that is told to have been given up, each store and each inlet that is told to have failed
 pub record FaultsAreDue (plan : RunPlan) (reached : Reached) (counts : Counts) : Type 0 where
   pub sinks : (k d : ℕ) → slice_get counts.sinks k ≡ Some d → FailsThrice plan reached.outlets_closed d
+  pub stores : (k s : ℕ) → slice_get counts.stores k ≡ Some s → RoseAt reached.stores reached.stores_closed s
   pub inlets : (k i : ℕ) → slice_get counts.inlets k ≡ Some i → RoseIn reached.inlets reached.inlets_closed i
 
 abbrev pub AreDue : RunPlan → Reached → Ending → Type 0

@@ -15,6 +15,7 @@ use sg_delivered::runs_deliver;
 use sg_device::NoMemory;
 use sg_loaded::{Loaded, Unloaded, load_file};
 use sg_pipes::Pipes;
+use sg_quiet::failed_stores_count;
 use sg_serve::run_plan;
 use sg_table::Table;
 use sg_world::World;
@@ -50,6 +51,7 @@ fn run_by<T: Wait, W: World>(
     ensures { RunsBy W.Feed.state W.Drain.state (W.state world.old) (W.state world.new) config once rounds result }
 {
     runs_deliver(world, routers.as_slice());
+    failed_stores_count(world, routers.as_slice());
     let plan = plan_of(config, once);
     let ending = run_plan(rt, alloc, plan, routers, rounds, world);
     match outcome_of(alloc, lines, ending) {
