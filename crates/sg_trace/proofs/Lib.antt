@@ -1,0 +1,4 @@
+mod Finding
+mod Sending
+mod Pathing
+mod Completing
