@@ -78,7 +78,7 @@ expect 'a source in a folder' 0 "$(report 1 4 1 0 '' 0)" 'one\n' run c0 --once
 printf '# x\n' >bad
 expect 'a text without a version' 2 'bad:1: version not supported\n' - run bad --once
 printf '@version: 4.2\n' >bad
-expect 'another configuration' 2 'bad:1: not supported\n' - run bad --once
+expect 'a configuration of no statements' 0 'status 0\n' - run bad --once
 printf '@version: 4.2\nlog { `NO`; };\n' >bad
 expect 'an unknown variable' 2 'bad:2: unknown variable\n' - run bad --once
 printf '@version: 4.2\n@include "bad"\n' >bad
@@ -127,7 +127,7 @@ expect 'a pattern that is none' 2 'bad:2: pattern not valid\n' - check bad
 expect 'how it is used' 0 "$usage" - --help
 expect 'which version it is' 0 'syslogr 0.1.0\n' - --version
 expect 'no words' 1 "$usage" -
-expect 'other words' 1 "$usage" - run c
+expect 'other words' 1 "$usage" - run c --rounds
 told='file c\377: cannot open: the name is not UTF-8\n'
 expect 'a word that is not UTF-8' 3 'cannot read c\377\n' - run "$(printf 'c\377')" --once
 if [ -w /dev/full ]; then
@@ -243,6 +243,137 @@ if mount -t tmpfs -o size=16k none small 2>/dev/null; then
     timeout 60 "$top/syslogr" run c7 --once >said 2>errors
     [ $? = 0 ] && sort -u small/out | cmp -s - in && passed=$((passed + 1)) || { failed=$((failed + 1)); echo 'space again: a torn line, or one that is missing'; }
     umount small && mounted=
+fi
+
+# start_run WORD..: starts a run that goes on, and leaves its process in $process.
+start_run() {
+    timeout 60 "$top/syslogr" "$@" >said 2>errors &
+    process=$!
+}
+
+# same NAME WANTED FILE: whether the file comes to hold this, a printf format, within ten seconds
+same() {
+    printf "$2" >same.wanted
+    for _ in $(seq 100); do
+        cmp -s same.wanted "$3" && break
+        sleep 0.1
+    done
+    if cmp -s same.wanted "$3"; then passed=$((passed + 1)); else failed=$((failed + 1)); echo "$1:"; cat "$3" errors; fi
+}
+
+# Two sources, three destinations and filters.
+rm -f out pos-*
+cat >several <<'END'
+@version: 4.2
+source s_a { file("a.log" flags(no-parse)); };
+source s_b { file("b.log" flags(no-parse)); };
+filter f_error { message("error"); };
+destination d_all { file("out" template("$MSG\n")); };
+destination d_error { file("error.log" template("E $MSG\n")); };
+destination d_b { file("b.out" template("$MSG\n")); };
+log { source(s_a); source(s_b); destination(d_all); flags(flow-control); };
+log { source(s_a); source(s_b); filter(f_error); destination(d_error); };
+log { source(s_b); destination(d_b); };
+END
+printf 'one\nan error\ntwo\n' >a.log
+printf 'three\nerror four\n' >b.log
+expect 'two sources and three destinations' 0 'source 0 records 3 bad-frames 0 position 17\nsource 1 records 2 bad-frames 0 position 17\ndestination 0 taken 5 dropped-full 0 dropped-disk 0 left 0\ndestination 1 taken 2 dropped-full 0 dropped-disk 0 left 0\ndestination 2 taken 2 dropped-full 0 dropped-disk 0 left 0\nstatus 0\n' 'one\nan error\ntwo\nthree\nerror four\n' run several --once
+same 'what a filter lets through' 'E an error\nE error four\n' error.log
+same 'what one source gives' 'three\nerror four\n' b.out
+printf 'x\n' >>a.log
+expect 'one round' 9 'source 0 records 4 bad-frames 0 position 0\nsource 1 records 2 bad-frames 0 position 0\ndestination 0 taken 6 dropped-full 0 dropped-disk 0 left 0\ndestination 1 taken 2 dropped-full 0 dropped-disk 0 left 0\ndestination 2 taken 2 dropped-full 0 dropped-disk 0 left 0\nstatus 9\n' 'one\nan error\ntwo\nx\nthree\nerror four\n' run several --once --rounds 1
+
+# A file is followed.
+rm -f out pos-*
+printf 'one\n' >in
+start_run run c
+same 'a file that is followed' 'one\n' out
+printf 'two\n' >>in
+same 'a file that grows' 'one\ntwo\n' out
+kill $process && wait $process 2>/dev/null
+
+# Peers of connections, each on a port that was free.
+cat >peer.py <<'END'
+"""peer.py port: a free port.
+peer.py take PORT LINES FILE: accepts one connection, takes so many lines, and closes.
+peer.py give PORT COUNT LINES: opens so many connections, and gives so many lines by each."""
+import socket, sys, time
+def connected(port):
+    while True:
+        try:
+            return socket.create_connection(("127.0.0.1", port))
+        except OSError:
+            time.sleep(0.05)
+if sys.argv[1] == "port":
+    with socket.socket() as s:
+        s.bind(("127.0.0.1", 0))
+        print(s.getsockname()[1])
+elif sys.argv[1] == "take":
+    with socket.socket() as s:
+        s.setsockopt(socket.SOL_SOCKET, socket.SO_REUSEADDR, 1)
+        s.bind(("127.0.0.1", int(sys.argv[2])))
+        s.listen()
+        peer, _ = s.accept()
+        s.close()
+        got = b""
+        while got.count(b"\n") < int(sys.argv[3]):
+            piece = peer.recv(65536)
+            if not piece:
+                break
+            got += piece
+        peer.close()
+        open(sys.argv[4], "wb").write(got)
+else:
+    count, lines = int(sys.argv[3]), int(sys.argv[4])
+    peers = [connected(int(sys.argv[2])) for _ in range(count)]
+    for k in range(lines):
+        for n, peer in enumerate(peers):
+            peer.sendall(b"peer %d line %d\n" % (n, k))
+    for peer in peers:
+        peer.close()
+END
+if command -v python3 >/dev/null; then
+    # A peer that goes away and comes back.
+    rm -f pos-*
+    port=$(python3 peer.py port)
+    printf '@version: 4.2\nsource s { file("in" flags(no-parse)); };\ndestination d { network("127.0.0.1" port(%s) template("$MSG\\n") time-reopen(1)); };\nlog { source(s); destination(d); flags(flow-control); };\n' "$port" >tcp
+    printf 'one\ntwo\n' >in
+    timeout 60 python3 peer.py take "$port" 2 first &
+    peer=$!
+    start_run run tcp
+    wait $peer
+    same 'what a peer gets' 'one\ntwo\n' first
+    printf 'three\n' >>in
+    sleep 2
+    timeout 60 python3 peer.py take "$port" 1 second &
+    wait $!
+    same 'what it gets once it is back' 'three\n' second
+    kill $process && wait $process 2>/dev/null
+
+    # A disk-buffer holds what comes while its peer is away.
+    rm -f pos-* queue-*
+    printf '@version: 4.2\nsource s { file("in" flags(no-parse)); };\ndestination d { network("127.0.0.1" port(%s) template("$MSG\\n") disk-buffer(reliable(yes) disk-buf-size(1048576))); };\nlog { source(s); destination(d); flags(flow-control); };\n' "$port" >buffered
+    seq -f 'line %.0f' 1 300 >in
+    timeout 60 "$top/syslogr" run buffered --once >said 2>errors
+    [ $? = 6 ] && grep -q '^source 0 records 300 bad-frames 0 position 2592$' said && grep -q '^destination 0 taken 0 dropped-full 0 dropped-disk 0 left 300$' said && passed=$((passed + 1)) || { failed=$((failed + 1)); echo 'a disk-buffer without a peer:'; cat said errors; }
+    "$top/syslogr" spool "queue-network,127.0.0.1,$port" >said 2>errors
+    [ $? = 0 ] && tail -n 1 said | grep -q '^entries 300$' && passed=$((passed + 1)) || { failed=$((failed + 1)); echo 'the entries of a disk-buffer:'; tail -n 3 said; cat errors; }
+    timeout 60 python3 peer.py take "$port" 300 third &
+    peer=$!
+    sleep 1
+    timeout 60 "$top/syslogr" run buffered --once >said 2>errors
+    [ $? = 0 ] && wait $peer && cmp -s in third && passed=$((passed + 1)) || { failed=$((failed + 1)); echo 'a disk-buffer with its peer back:'; cat said errors; }
+
+    # Eight connections at once.
+    rm -f out
+    port=$(python3 peer.py port)
+    printf '@version: 4.2\nsource s { network(ip("127.0.0.1") port(%s) max-connections(8) flags(no-parse)); };\ndestination d { file("out" template("$MSG\\n")); };\nlog { source(s); destination(d); flags(flow-control); };\n' "$port" >eight
+    timeout 60 python3 peer.py give "$port" 8 500 &
+    timeout 60 "$top/syslogr" run eight --once >said 2>errors
+    [ $? = 0 ] && grep -q '^source 0 records 4000 bad-frames 0$' said && passed=$((passed + 1)) || { failed=$((failed + 1)); echo 'eight connections:'; cat said errors; }
+    for n in 0 1 2 3 4 5 6 7; do seq -f "peer $n line %.0f" 0 499; done >wanted
+    for n in 0 1 2 3 4 5 6 7; do grep "^peer $n " out; done >got
+    cmp -s wanted got && passed=$((passed + 1)) || { failed=$((failed + 1)); echo 'eight connections: not the same lines, or out of order'; }
 fi
 
 rm -f out pos-*

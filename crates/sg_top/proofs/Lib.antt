@@ -1,11 +1,3 @@
-pub mod ConfigLemmas
-pub mod ReadingLemmas
-pub mod CoreLemmas
-pub mod OpeningLemmas
-pub mod RunLemmas
-pub mod RoundsLemmas
-pub mod ServingLemmas
-pub mod WordsLemmas
-pub mod SpoolLemmas
-pub mod LoadLemmas
+pub mod SaidLemmas
 pub mod CheckLemmas
+pub mod WordsLemmas

@@ -1,10 +1,10 @@
 // Whether a file is a configuration.
 ghost use Rattle.sg_top.specs.Checking.{ChecksFile};
 
-use crate::ending::Ending;
-use crate::say::conclude;
+use crate::say::tell_unloaded;
 use crate::status::Status;
 use sg_checked::{Unchecked, check_file};
+use sg_run::{End, Unloaded};
 use sg_world::World;
 use std::alloc::Global;
 
@@ -13,12 +13,12 @@ pub fn check<W: World>(alloc: Global, file: &[u8], world: &mut W) -> Status
     ensures { ChecksFile (W.state world.old) (W.state world.new) file.now result }
 {
     match check_file(alloc, file, world) {
-        Ok(()) => Status::Ok,
+        Ok(()) => Status::Ended(End::Clean),
         Err(Unchecked::SayFault) => Status::SayFault,
         Err(Unchecked::NoMemory) => Status::NoMemory,
         Err(Unchecked::Bad(fault, names)) => {
-            conclude(alloc, Ending::Refused(fault, names), world)
+            tell_unloaded(alloc, Unloaded::Bad(fault, names), world)
         }
-        Err(Unchecked::Unread(name)) => conclude(alloc, Ending::Unread(name), world),
+        Err(Unchecked::Unread(name)) => tell_unloaded(alloc, Unloaded::Unread(name), world),
     }
 }

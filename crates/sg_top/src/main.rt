@@ -1,32 +1,24 @@
-//! `syslogr`: checks configurations, moves the lines of one file to another, and lists the entries of a
-//! disk-buffer's store.
+//! `syslogr`: checks configurations, moves messages as they say, and lists the entries of a disk-buffer's store.
 #![tactic(auto)]
 
 mod check;
-mod config;
-mod ending;
-mod moving;
-mod opening;
-mod rounds;
 #[cfg(test)]
 mod rows;
 mod run;
 mod say;
-mod serve;
 mod spooled;
 mod status;
-mod store;
 #[cfg(test)]
 mod store_rows;
 mod top;
-mod words;
 
 use sg_device::Name;
 use sg_world::HostMachine;
-pub use status::{Device, Status};
+pub use status::Status;
 use std::alloc::{AllocError, Global};
 use std::io::ErrorKind;
 use std::process::ExitCode;
+use std::sync::Wait;
 use std::{env, fs};
 pub use top::daemon;
 
@@ -62,15 +54,16 @@ fn read_bytes(alloc: Global, rt: &HostRuntime) -> Result<Vec<Name>, AllocError> 
     Ok(words)
 }
 
-/// Does what the words of the command line ask for, on the machine's files and sockets.
-fn run_words(alloc: Global, rt: HostRuntime) -> Result<Status, AllocError> {
+/// Does what the words of the command line ask for, on the machine's files and sockets. `waits` is the
+/// runtime again, as what may wait.
+fn run_words<T: Wait>(waits: &T, alloc: Global, rt: HostRuntime) -> Result<Status, AllocError> {
     let words = read_words(alloc, &rt)?;
     let mut machine = HostMachine::new(rt)?;
-    Ok(daemon(alloc, &words, &mut machine))
+    Ok(daemon(waits, alloc, &words, &mut machine))
 }
 
 fn main(rt: HostRuntime) -> ExitCode {
-    let status = match run_words(rt.alloc(), rt) {
+    let status = match run_words(&rt, rt.alloc(), rt) {
         Ok(status) => status,
         Err(_) => Status::NoMemory,
     };

@@ -6,42 +6,42 @@ use sg_memory_disk::{DiskPlan, Plan};
 use sg_outside::StoreSpec;
 use sg_world::MemoryMachine;
 use std::alloc::{AllocError, Global};
+use std::sync::Wait;
 use std::test::Fail;
 
 const CONFIG: &[u8] =
     b"@version: 4.2\nsource s { file(\"in\" flags(no-parse)); };\ndestination d { file(\"out\" template(\"$MSG\\n\")); };\nlog { source(s); destination(d); flags(flow-control); };\n";
 
 // A row: the input; the stored position, x for a damaged store; the call that fails, with its number
-// among its kind; the exit status; the frames taken; what is said. `~` is LF, and D stands for
-// `destination 0 taken`, E for `dropped-full 0 dropped-disk 0 left`. The calls are those of opening a
+// among its kind; the words; the exit status; the frames taken; what is said. `~` is LF, and D
+// stands for `destination 0 taken`, E for `dropped-full 0 dropped-disk 0 left`. The calls are those of opening a
 // store, of its disk, of opening the inlet and of pulling, of opening the outlet and of sending, and
 // of saying. A disk is called four times at its opening, and four times for a position.
 const ROWS: &str = "\
-one~two~;0;;0;one~two~;source 0 records 2 bad-frames 0 position 8~D 2 E 0~status 0~
-;0;;0;;source 0 records 0 bad-frames 0 position 0~D 0 E 0~status 0~
-one~two;0;;0;one~;source 0 records 1 bad-frames 0 position 4~D 1 E 0~status 0~
-one~two~;100;;0;one~two~;source 0 records 2 bad-frames 0 position 8~D 2 E 0~status 0~
-one~two~;4;;0;two~;source 0 records 1 bad-frames 0 position 8~D 1 E 0~status 0~
-one~two~;8;;0;;source 0 records 0 bad-frames 0 position 8~D 0 E 0~status 0~
-one~two~;6;;0;one~two~;source 0 records 2 bad-frames 0 position 8~D 2 E 0~status 0~
-a\r~~b;0;;0;a~;source 0 records 2 bad-frames 0 position 4~D 1 E 0~status 0~
-one~;x;;5;;store 0 damaged at 40~
-one~;0;store 0;4;;cannot open store 0~
-one~;0;inlet 0;4;;cannot open inlet 0~
-one~;0;outlet 0;4;;cannot open destination 0~
-one~;0;disk 0;7;;store 0 failed~
-one~;0;disk 1;7;;store 0 failed~
-one~;0;disk 2;7;;store 0 failed~
-one~;0;disk 3;7;;store 0 failed~
-one~;100;disk 4;7;;store 0 failed~
-one~;100;disk 7;7;;store 0 failed~
-one~;0;disk 4;7;one~;source 0 records 1 bad-frames 0 position 0~D 1 E 0~fault store 0~status 7~
-one~;0;disk 5;7;one~;source 0 records 1 bad-frames 0 position 0~D 1 E 0~fault store 0~status 7~
-one~;0;disk 6;7;one~;source 0 records 1 bad-frames 0 position 0~D 1 E 0~fault store 0~status 7~
-one~;0;disk 7;7;one~;source 0 records 1 bad-frames 0 position 0~D 1 E 0~fault store 0~status 7~
-one~two~;0;send 1;6;one~;source 0 records 2 bad-frames 0 position 4~D 1 E 1~fault sink 0~status 6~
-one~two~;0;pull 1;8;one~;source 0 records 1 bad-frames 0 position 0~D 1 E 0~fault inlet 0~status 8~
-one~;0;say 0;10;one~;
+one~two~;0;;run c --once;0;one~two~;source 0 records 2 bad-frames 0 position 8~D 2 E 0~status 0~
+;0;;run c --once;0;;source 0 records 0 bad-frames 0 position 0~D 0 E 0~status 0~
+one~two;0;;run c --once;0;one~;source 0 records 1 bad-frames 0 position 4~D 1 E 0~status 0~
+one~two~;100;;run c --once;0;one~two~;source 0 records 2 bad-frames 0 position 8~D 2 E 0~status 0~
+one~two~;4;;run c --once;0;two~;source 0 records 1 bad-frames 0 position 8~D 1 E 0~status 0~
+one~two~;8;;run c --once;0;;source 0 records 0 bad-frames 0 position 8~D 0 E 0~status 0~
+one~two~;6;;run c --once;0;one~two~;source 0 records 2 bad-frames 0 position 8~D 2 E 0~status 0~
+a\r~~b;0;;run c --once;0;a~;source 0 records 2 bad-frames 0 position 4~D 1 E 0~status 0~
+one~;x;;run c --once;5;;store 0 damaged at 40~
+one~;0;store 0;run c --once;4;;cannot open store 0~
+one~;0;inlet 0;run c --once;4;;cannot open inlet 0~
+one~;0;outlet 0;run c --once;4;;cannot open destination 0~
+one~;0;disk 0;run c --once;7;;store 0 failed~
+one~;0;disk 3;run c --once;7;;store 0 failed~
+one~;100;disk 4;run c --once;7;;store 0 failed~
+one~;100;disk 7;run c --once;7;;store 0 failed~
+one~;0;disk 4;run c --once;7;one~;source 0 records 1 bad-frames 0 position 0~D 1 E 0~fault store 0~status 7~
+one~;0;disk 7;run c --once;7;one~;source 0 records 1 bad-frames 0 position 0~D 1 E 0~fault store 0~status 7~
+one~two~;0;send 1;run c --once;0;one~two~;source 0 records 2 bad-frames 0 position 8~D 2 E 0~status 0~
+one~two~;0;sends 1;run c --once;6;one~;source 0 records 2 bad-frames 0 position 4~D 1 E 1~fault sink 0~status 6~
+one~two~;0;pull 1;run c --once;8;one~;source 0 records 1 bad-frames 0 position 4~D 1 E 0~fault inlet 0~status 8~
+one~;0;say 0;run c --once;10;one~;
+one~two~;0;;run c --once --rounds 1;9;one~;source 0 records 1 bad-frames 0 position 0~D 1 E 0~status 9~
+one~two~;0;;run c --rounds 9;9;one~two~;source 0 records 2 bad-frames 0 position 8~D 2 E 0~status 9~
 ";
 
 // Files that configurations include.
@@ -49,45 +49,36 @@ const PARTS: &str =
     r#"blocks => # sources and destinations~block source local(path()) { file("`path`" flags(no-parse)); };~block destination lines(path(out)) { file("`path`" template("$MSG\n")); };~
 log => log { source(s); destination(d); flags(flow-control); };~
 faulty => x~~y "~
-h01 => *h02
-h02 => *h03
-h03 => *h04
-h04 => *h05
-h05 => *h06
-h06 => *h07
-h07 => *h08
-h08 => *h09
-h09 => *h10
-h10 => *h11
-h11 => *h12
-h12 => *h13
-h13 => *h14
 "#;
 
 // A configuration `c`, the exit status of its run, and where that isn't 0, what is said.
 const TEXTS: &str =
     r#"@version: 4.2~@define OUT out~source s { file("in" flags(no-parse)); }; # a comment~destination d { file("`OUT`" template("$MSG\n")); };~log { source(s); destination(d); flags(flow-control); };~ => 0
-@version: 4.2~block source local(path()) { file("`path`" flags(no-parse)); };~source s { local(path("in")); };~destination d { file("out" template("$MSG\n")); };~log { source(s); destination(d); flags(flow-control); };~ => 0
-@version: 4.2~block source local(path()) { file("`path`" flags(no-parse)); };~source s { local(); };~destination d { file("out" template("$MSG\n")); };~log { source(s); destination(d); flags(flow-control); };~ => 2 => c:3: argument missing~
-@version: 4.2~log { `NO`; };~ => 2 => c:2: unknown variable~
+@version: 4.2~@include "blocks"~source s{local(path('in'));};destination d{lines();};@include "log"~ => 0
+@version:4.10 source "s" { file(in, flags(no-parse)); }; destination d { file("out" template("$MSG~")); }; @include 'log' => 0
+@version: 4.2~log { source { file("in"); }; filter { not message("three"); }; destination { file("out" template("$(format)")); }; };~ => 2 => c:2: template function~
+@version: 4.2~log { source { file("in"); }; filter { message("one|two"); }; destination { file("out" template("$MSG~")); }; };~ => 0
+@version: 4.2~block source local(path()) { file("`path`" flags(no-parse)); };~source s { local(); };~@include "log"~ => 2 => c:3: argument missing~
 @version: 3.38~ => 2 => c:1: version not supported~
-@version: 4.2~@include "conf.d/*.conf"~ => 2 => c:2: not supported~
-@version: 4.2~@include "c"~ => 2 => c:2: includes nested too deep~
-@version: 4.2~@include "h01"~ => 2 => h12:11: configuration too long~
 @version: 4.2~@include "faulty"~ => 2 => faulty:3: string not closed~
 @version: 4.2~@include "none"~ => 3 => cannot read none~
-@version: 4.2~@include "blocks"~source s{local(path('in'));};destination d{lines();};@include "log"~ => 0
-@version:4.10 source s { file("in" flags(no-parse)); }; destination d { file("out" template("$MSG~")); }; @include 'log' => 0
-@version: 4.2~source s { file("\x69\x6e" flags(no-parse)); };~destination d { file('out' template("$MSG\n")); };~@include "log" => 0
-@version: 4.2~source s { file("0123456789$123456789012345678901234567890123456789\x00\xff23456789" flags(no-parse)); };~destination d { file("out" template("$MSG\n")); };~@include "log" => 4 => cannot open inlet 0~
-@version: 4.2~source s { file("0123456789$123456789012345678901234567890123456789\x00\xff234567890" flags(no-parse)); };~destination d { file("out" template("$MSG\n")); };~@include "log" => 2 => c:1: not supported~
-@version: 4.2~source s { file("" flags(no-parse)); };~destination d { file("out" template("$MSG\n")); };~@include "log" => 2 => c:1: not supported~
-@version: 4.2~source s { file("in" flags(no-parse)); };~destination d { file("$out" template("$MSG\n")); };~@include "log" => 2 => c:1: not supported~
-@version: 4.2~source s { file(in flags(no-parse)); };~destination d { file("out" template("$MSG\n")); };~@include "log" => 2 => c:1: not supported~
-@version: 4.2~source "s" { file("in" flags(no-parse)); };~destination d { file("out" template("$MSG\n")); };~@include "log" => 2 => c:1: not supported~
-@version: 4.2~source s { file("in", flags(no-parse)); };~destination d { file("out" template("$MSG\n")); };~@include "log" => 2 => c:1: not supported~
-@version: 4.2~source s { file("in" flags(no-parse)); };~destination d { file("out" template("$MSG\n")); };~ => 2 => c:1: not supported~
+@version: 4.2~source s { file("no"); };~destination d { file("out"); };~@include "log"~ => 4 => cannot open inlet 0~
 "#;
+
+// Words, the exit status, and what is said.
+const COMMANDS: &str = "\
+check c;0;c: ok~
+check bad;2;bad:1: version not supported~
+check none;3;cannot read none~
+run bad;2;bad:1: version not supported~
+run none --once --rounds 3;3;cannot read none~
+spool none;4;cannot open store 0~
+--version;0;syslogr 0.1.0~
+--help;0;usage: syslogr check FILE | trace FILE SOURCE INPUT | run FILE [--once] [--rounds N] | spool FILE | drill N~
+run;1;usage: syslogr check FILE | trace FILE SOURCE INPUT | run FILE [--once] [--rounds N] | spool FILE | drill N~
+run c --rounds 0;1;usage: syslogr check FILE | trace FILE SOURCE INPUT | run FILE [--once] [--rounds N] | spool FILE | drill N~
+spool q q;1;usage: syslogr check FILE | trace FILE SOURCE INPUT | run FILE [--once] [--rounds N] | spool FILE | drill N~
+";
 
 /// What a run says that took the input in.
 const DONE: &str = "source 0 records 2 bad-frames 0 position 8~D 2 E 0~status 0~";
@@ -138,6 +129,13 @@ pub(crate) fn fail(alloc: Global, fails: &str, world: &mut MemoryWorld) -> Resul
             .plans
             .outlets
             .push_back(OutletPlan::failing(alloc, plan))?,
+        "sends" => {
+            let all = Plan::new(vec![in alloc; 1, 2, 3, 4, 5, 6]?);
+            world
+                .plans
+                .outlets
+                .push_back(OutletPlan::failing(alloc, all))?;
+        }
         _ => world.plans.says = plan,
     }
     Ok(())
@@ -178,18 +176,9 @@ fn with_input(alloc: Global, input: &[u8]) -> Result<MemoryMachine, AllocError> 
     Ok(with_files(alloc, files))
 }
 
-/// A text, with `~` for LF, or where a name stands behind `*`, a hundred lines that include the file of
-/// that name.
+/// A text, with `~` for LF.
 fn text(alloc: Global, row: &str) -> Result<Vec<u8>, AllocError> {
     let mut text = Vec::new(alloc);
-    if let Some(next) = row.strip_prefix("*") {
-        for _ in 0..100 {
-            text.extend_from_slice(b"@include \"")?;
-            text.extend_from_slice(next.as_bytes())?;
-            text.extend_from_slice(b"\"\n")?;
-        }
-        return Ok(text);
-    }
     for byte in row.as_bytes() {
         text.push(if *byte == b'~' { b'\n' } else { *byte })?;
     }
@@ -202,7 +191,6 @@ fn with_config(alloc: Global, config: &[u8]) -> Result<MemoryMachine, AllocError
     let mut files = Vec::new(alloc);
     files.push(MemoryFile::new(alloc, b"c", config)?)?;
     files.push(MemoryFile::new(alloc, b"in", b"one\ntwo\n")?)?;
-    files.push(MemoryFile::new(alloc, b"h14", b"")?)?;
     for row in PARTS.lines() {
         if let Some((name, part)) = row.split_once(" => ") {
             files.push(MemoryFile::new(alloc, name.as_bytes(), &text(alloc, part)?)?)?;
@@ -211,10 +199,11 @@ fn with_config(alloc: Global, config: &[u8]) -> Result<MemoryMachine, AllocError
     Ok(with_files(alloc, files))
 }
 
-fn words(alloc: Global, file: &[u8]) -> Result<Vec<Name>, AllocError> {
+/// The words of a command line.
+pub(crate) fn words(alloc: Global, line: &str) -> Result<Vec<Name>, AllocError> {
     let mut words = Vec::new(alloc);
-    for word in [b"run", file, b"--once"] {
-        words.push(Name::new(alloc, word)?)?;
+    for word in line.split(" ") {
+        words.push(Name::new(alloc, word.as_bytes())?)?;
     }
     Ok(words)
 }
@@ -230,43 +219,24 @@ fn taken(alloc: Global, world: &MemoryWorld) -> Result<Vec<u8>, AllocError> {
     Ok(bytes)
 }
 
-/// Whether a run for these words ends with this status, and begins with this what it says.
-fn answers(alloc: Global, words: &[Name], code: u8, said: &[u8]) -> Result<bool, AllocError> {
+/// Whether these words end with this status, and this is said, in a machine without input.
+fn answers<T: Wait>(
+    rt: &T,
+    alloc: Global,
+    words: &[Name],
+    code: u8,
+    said: &[u8],
+) -> Result<bool, AllocError> {
     let mut machine = with_input(alloc, b"")?;
-    let status = daemon(alloc, words, &mut machine);
-    Ok(status.code() == code && machine.world.said().starts_with(said))
-}
-
-/// Whether other words, a file that is no configuration and one that isn't there are told.
-fn tells_what_is_wrong(alloc: Global) -> Result<bool, AllocError> {
-    let bad = words(alloc, b"bad")?;
-    let none = words(alloc, b"none")?;
-    Ok(
-        answers(alloc, &[], 1, b"usage: syslogr check FILE")?
-            && answers(alloc, &bad, 2, b"bad:1: version not supported\n")?
-            && answers(alloc, &none, 3, b"cannot read none\n")?,
-    )
-}
-
-/// Whether a definition that names the one before twice, on each line from the third, is too long on
-/// the 18th.
-fn doubling_is_too_long(alloc: Global) -> Result<bool, Fail> {
-    let mut config = b"@version: 4.2\n@define a0 \"0123456789\"\n".to_vec(alloc)?;
-    for k in 1..21u32 {
-        let line = format!(in alloc; "@define a{} \"`a{}``a{}`\"\n", k, k - 1, k - 1)?;
-        config.extend_from_slice(line.as_bytes())?;
-    }
-    let mut machine = with_config(alloc, &config)?;
-    let status = daemon(alloc, &words(alloc, b"c")?, &mut machine);
-    let said = b"c:18: configuration too long\n".as_slice();
-    Ok(status.code() == 2 && machine.world.said() == said)
+    let status = daemon(rt, alloc, words, &mut machine);
+    Ok(status.code() == code && machine.world.said() == said)
 }
 
 /// Whether a second run takes the new lines alone.
-fn takes_new_lines_alone(alloc: Global) -> Result<bool, AllocError> {
-    let words = words(alloc, b"c")?;
+fn takes_new_lines_alone<T: Wait>(rt: &T, alloc: Global) -> Result<bool, AllocError> {
+    let words = words(alloc, "run c --once")?;
     let mut first = with_input(alloc, b"one\ntw")?;
-    let status = daemon(alloc, &words, &mut first);
+    let status = daemon(rt, alloc, &words, &mut first);
     if status.code() != 0 || taken(alloc, &first.world)?.as_slice() != b"one\n".as_slice() {
         return Ok(false);
     }
@@ -274,7 +244,7 @@ fn takes_new_lines_alone(alloc: Global) -> Result<bool, AllocError> {
     let MemoryMachine { mut world } = with_input(alloc, b"one\ntwo\nthree\n")?;
     world.stores = before.stores;
     let mut second = MemoryMachine { world };
-    let status = daemon(alloc, &words, &mut second);
+    let status = daemon(rt, alloc, &words, &mut second);
     let frames = taken(alloc, &second.world)?;
     let said = b"source 0 records 2 bad-frames 0 position 14\n";
     Ok(
@@ -291,17 +261,18 @@ fn runs(rt: HostRuntime) -> Result<(), Fail> {
         let (input, rest) = field(row);
         let (stored, rest) = field(rest);
         let (fails, rest) = field(rest);
+        let (line, rest) = field(rest);
         let (code, rest) = field(rest);
         let (frames, said) = field(rest);
         let mut machine = with_input(alloc, &bytes(alloc, input)?)?;
         keep(alloc, stored, &mut machine.world)?;
         fail(alloc, fails, &mut machine.world)?;
-        let status = daemon(alloc, &words(alloc, b"c")?, &mut machine);
+        let status = daemon(&rt, alloc, &words(alloc, line)?, &mut machine);
         assert_eq!(rt; Ok(status.code()), code.parse());
         assert_eq!(rt; taken(alloc, &machine.world)?, bytes(alloc, frames)?);
         assert_eq!(rt; machine.world.said(), bytes(alloc, said)?.as_slice());
     }
-    assert!(rt; takes_new_lines_alone(alloc)?);
+    assert!(rt; takes_new_lines_alone(&rt, alloc)?);
     Ok(())
 }
 
@@ -316,12 +287,24 @@ fn texts(rt: HostRuntime) -> Result<(), Fail> {
         let said = if code == "0" { DONE } else { said };
         let frames = if code == "0" { "one~two~" } else { "" };
         let mut machine = with_config(alloc, &text(alloc, config)?)?;
-        let status = daemon(alloc, &words(alloc, b"c")?, &mut machine);
+        let status = daemon(&rt, alloc, &words(alloc, "run c --once")?, &mut machine);
         assert_eq!(rt; machine.world.said(), bytes(alloc, said)?.as_slice());
         assert_eq!(rt; Ok(status.code()), code.parse());
         assert_eq!(rt; taken(alloc, &machine.world)?, bytes(alloc, frames)?);
     }
-    assert!(rt; tells_what_is_wrong(alloc)?);
-    assert!(rt; doubling_is_too_long(alloc)?);
+    Ok(())
+}
+
+#[test]
+fn commands(rt: HostRuntime) -> Result<(), Fail> {
+    let alloc = rt.alloc();
+    for row in COMMANDS.lines() {
+        let (line, rest) = field(row);
+        let (code, said) = field(rest);
+        let words = words(alloc, line)?;
+        let said = text(alloc, said)?;
+        let answered = answers(&rt, alloc, &words, code.parse().unwrap_or(99), &said)?;
+        assert!(rt; answered);
+    }
     Ok(())
 }

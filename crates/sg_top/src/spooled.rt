@@ -2,7 +2,8 @@
 ghost use Rattle.std.specs.Prelude.{◌≡◌};
 ghost use Rattle.sg_top.specs.Spooled.{status_listed, SpoolsFile};
 
-use crate::status::{Device, Status};
+use crate::status::Status;
+use sg_run::{Device, End};
 use sg_spooled::{Unlisted, list_store};
 use sg_world::World;
 use std::alloc::Global;
@@ -11,10 +12,10 @@ fn status_of(listed: Result<(), Unlisted>) -> Status
     ensures { result ≡ status_listed listed }
 {
     match listed {
-        Ok(()) => Status::Ok,
-        Err(Unlisted::NotOpened) => Status::OpenFault(Device::Store(0)),
-        Err(Unlisted::Damage(at)) => Status::Damage { store: 0, at },
-        Err(Unlisted::DiskFault) => Status::DiskFault(0),
+        Ok(()) => Status::Ended(End::Clean),
+        Err(Unlisted::NotOpened) => Status::Ended(End::OpenFault(Device::Store(0))),
+        Err(Unlisted::Damage(at)) => Status::Ended(End::Damage { store: 0, at }),
+        Err(Unlisted::DiskFault) => Status::Ended(End::DiskFault(0)),
         Err(Unlisted::SayFault) => Status::SayFault,
         Err(Unlisted::NoMemory) => Status::NoMemory,
     }

@@ -3,30 +3,33 @@ ghost use Rattle.sg_words.specs.Words.{asked};
 ghost use Rattle.sg_top.specs.Answers.{Answers};
 
 use crate::check::check;
-use crate::moving::run_or_list;
+use crate::run::run;
 use crate::say::{tell_usage, tell_version};
+use crate::spooled::spool;
 use crate::status::Status;
 use sg_device::Name;
+use sg_run::End;
 use sg_words::{Command, command_of};
 use sg_world::World;
 use std::alloc::Global;
+use std::sync::Wait;
 
 /// Does what the words of the command line ask for, without the program's name, and answers how it ended.
 ///
-/// `check FILE` says whether FILE is a configuration. `run FILE --once` moves the lines of the
-/// file that the configuration FILE names as source to the one that it names as destination. `spool FILE`
-/// lists the entries of the disk-buffer's store FILE. `--help` says how it is used, and `--version` which
-/// version it is.
-pub fn daemon<W: World>(alloc: Global, words: &[Name], world: &mut W) -> Status
-    ensures { Answers (W.state world.old) (W.state world.new) words.now (asked words.now) result }
+/// `check FILE` says whether FILE is a configuration. `run FILE [--once] [--rounds N]` moves messages as the
+/// configuration FILE says, N rounds at most: with `--once` until all input was taken. `spool FILE` lists the
+/// entries of the disk-buffer's store FILE. `--help` says how the program is used, and `--version` which version
+/// it is.
+pub fn daemon<T: Wait, W: World>(rt: &T, alloc: Global, words: &[Name], world: &mut W) -> Status
+    ensures { Answers W.Feed.state W.Drain.state (W.state world.old) (W.state world.new) (asked words.now) result }
 {
     match command_of(words) {
         Some(Command::Check(file)) => check(alloc, file, world),
-        Some(Command::Trace { .. }) => run_or_list(alloc, words, world),
-        Some(Command::Run { .. }) => run_or_list(alloc, words, world),
-        Some(Command::Spool(_)) => run_or_list(alloc, words, world),
-        Some(Command::Help) => tell_usage(alloc, world),
+        Some(Command::Trace { .. }) => tell_usage(alloc, Status::Usage, world),
+        Some(Command::Run { file, once, rounds }) => run(rt, alloc, file, once, rounds, world),
+        Some(Command::Spool(file)) => spool(alloc, file, world),
+        Some(Command::Help) => tell_usage(alloc, Status::Ended(End::Clean), world),
         Some(Command::Version) => tell_version(alloc, world),
-        None => run_or_list(alloc, words, world),
+        None => tell_usage(alloc, Status::Usage, world),
     }
 }

@@ -1,8 +1,6 @@
-//! Tests of lists, windows and the rounds over devices in memory.
+//! Tests of lists and windows.
 #![tactic(auto)]
 
-#[cfg(test)]
-mod engine;
 #[cfg(test)]
 mod list;
 #[cfg(test)]

@@ -1,4 +1,6 @@
-use Rattle.sg_top.proofs.CheckLemmas.{checks-ok, checks-unsaid, checks-starved, checks-bad, checks-unread}
+use Rattle.std.proofs.Common.{◌≡◌}
+use Rattle.sg_checked.specs.declared.unchecked.Unchecked.TheVariants.{Bad, Unread}
+use Rattle.sg_top.proofs.CheckLemmas.{checks-ok, checks-unsaid, checks-starved, checks-refused}
 use Rattle.sg_top.proofs.check.check.Goals as goal
 
 pub returns-in-Ok : goal.returns-in-Ok
@@ -14,10 +16,11 @@ returns-in-Err-NoMemory g c = checks-starved (g.W.Machine.state c.args.world.now
 
 pub returns-in-Err-Bad : goal.returns-in-Err-Bad
 returns-in-Err-Bad g c =
-    checks-bad (g.W.Machine.state c.args.world.now) (g.W.Machine.state c.check_file.new.world) (g.W.Machine.state c.conclude.new.world) c.args.file.now c.in-Err-Bad.fault c.in-Err-Bad.names c.conclude.result
-    c.in-Err-Bad.ensures.only (rw c.in-Err-Bad.field-0-is at c.in-Err-Bad.ensures.checks) (rw c.in-Err-Bad.field-0-is at c.in-Err-Bad.ensures.complete) c.conclude.ensures
+    checks-refused (g.W.Machine.state c.args.world.now) (g.W.Machine.state c.check_file.new.world) (g.W.Machine.state c.tell_unloaded.new.world) c.args.file.now (Bad c.in-Err-Bad.fault c.in-Err-Bad.names) c.tell_unloaded.result
+    c.in-Err-Bad.ensures.only (rw c.in-Err-Bad.field-0-is at c.in-Err-Bad.ensures.checks) (rw c.in-Err-Bad.field-0-is at c.in-Err-Bad.ensures.complete) (c.tell_unloaded.ensures).says c.tell_unloaded.ensures
 
 pub returns-in-Err-Unread : goal.returns-in-Err-Unread
 returns-in-Err-Unread g c =
-    checks-unread (g.W.Machine.state c.args.world.now) (g.W.Machine.state c.check_file.new.world) (g.W.Machine.state c.conclude-in-Err-Unread.new.world) c.args.file.now c.in-Err-Unread.name c.conclude-in-Err-Unread.result
-    c.in-Err-Unread.ensures.only (rw c.in-Err-Unread.field-0-is at c.in-Err-Unread.ensures.checks) (rw c.in-Err-Unread.field-0-is at c.in-Err-Unread.ensures.complete) c.conclude-in-Err-Unread.ensures
+    checks-refused (g.W.Machine.state c.args.world.now) (g.W.Machine.state c.check_file.new.world) (g.W.Machine.state c.tell_unloaded-in-Err-Unread.new.world) c.args.file.now (Unread c.in-Err-Unread.name) c.tell_unloaded-in-Err-Unread.result
+    c.in-Err-Unread.ensures.only (rw c.in-Err-Unread.field-0-is at c.in-Err-Unread.ensures.checks) (rw c.in-Err-Unread.field-0-is at c.in-Err-Unread.ensures.complete) (c.tell_unloaded-in-Err-Unread.ensures).says
+    c.tell_unloaded-in-Err-Unread.ensures
