@@ -1,3 +1,4 @@
 pub mod SaidLemmas
 pub mod CheckLemmas
+pub mod TraceLemmas
 pub mod WordsLemmas

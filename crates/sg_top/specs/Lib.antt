@@ -4,4 +4,5 @@ pub mod Loading
 pub mod Checking
 pub mod Running
 pub mod Spooled
+pub mod Tracing
 pub mod Answers

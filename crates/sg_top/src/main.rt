@@ -11,6 +11,7 @@ mod status;
 #[cfg(test)]
 mod store_rows;
 mod top;
+mod trace;
 
 use sg_device::Name;
 use sg_world::HostMachine;

@@ -7,6 +7,7 @@ use crate::run::run;
 use crate::say::{tell_usage, tell_version};
 use crate::spooled::spool;
 use crate::status::Status;
+use crate::trace::trace;
 use sg_device::Name;
 use sg_run::End;
 use sg_words::{Command, command_of};
@@ -16,7 +17,8 @@ use std::sync::Wait;
 
 /// Does what the words of the command line ask for, without the program's name, and answers how it ended.
 ///
-/// `check FILE` says whether FILE is a configuration. `run FILE [--once] [--rounds N]` moves messages as the
+/// `check FILE` says whether FILE is a configuration. `trace FILE SOURCE INPUT` says what becomes of the records of
+/// INPUT on its log paths. `run FILE [--once] [--rounds N]` moves messages as the
 /// configuration FILE says, N rounds at most: with `--once` until all input was taken. `spool FILE` lists the
 /// entries of the disk-buffer's store FILE. `--help` says how the program is used, and `--version` which version
 /// it is.
@@ -25,7 +27,13 @@ pub fn daemon<T: Wait, W: World>(rt: &T, alloc: Global, words: &[Name], world: &
 {
     match command_of(words) {
         Some(Command::Check(file)) => check(alloc, file, world),
-        Some(Command::Trace { .. }) => tell_usage(alloc, Status::Usage, world),
+        Some(
+            Command::Trace {
+                file,
+                source,
+                input,
+            },
+        ) => trace(alloc, file, source, input, world),
         Some(Command::Run { file, once, rounds }) => run(rt, alloc, file, once, rounds, world),
         Some(Command::Spool(file)) => spool(alloc, file, world),
         Some(Command::Help) => tell_usage(alloc, Status::Ended(End::Clean), world),
