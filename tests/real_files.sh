@@ -120,8 +120,13 @@ expect 'a source that is a folder' 4 'cannot open inlet 0\n' - run c3 --once
 printf '@version: 4.2\nsource s { file("nowhere"); };\ndestination d { file("out" template("$MSG\\n")); };\nfilter f { message("e"); };\nlog { source(s); filter(f); destination(d); flags(flow-control); };\nlog { source(s); destination { network("h" port(1) template("$PRI\\n")); }; };\n' >t
 printf '<11>x: one\n<12>x: tow\n' >in
 expect 'a configuration is checked' 0 't: ok\n' - check t
+expect 'a file is traced' 0 'record 0 destination 0 flow yes length 4\none\n\nrecord 0 destination 1 flow no length 3\n11\n\nrecord 1 destination 1 flow no length 3\n12\n\n' - trace t s in
+expect 'a source without a driver' 2 't:0: unknown name\n' - trace t d in
+told='source missing: cannot open: No such file or directory (os error 2)\n'
+expect 'no file to trace' 4 'cannot open inlet 0\n' - trace t s missing
 printf '@version: 4.2\nsource s { file("in"); };\nlog { source(s); filter(none); };\n' >bad
 expect 'an unknown filter is checked' 2 'bad:3: unknown name\n' - check bad
+expect 'an unknown filter is traced' 2 'bad:3: unknown name\n' - trace bad s in
 printf '@version: 4.2\nfilter f { message("("); };\n' >bad
 expect 'a pattern that is none' 2 'bad:2: pattern not valid\n' - check bad
 expect 'how it is used' 0 "$usage" - --help
