@@ -3,3 +3,4 @@ pub mod HeadlineLemmas
 pub mod LineLemmas
 pub mod RunLemmas
 pub mod CauseLemmas
+pub mod RestingLemmas

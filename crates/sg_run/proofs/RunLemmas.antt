@@ -15,6 +15,8 @@ use Rattle.sg_serve.specs.Run.{Reached, RunsPlan}
 use Rattle.sg_serve.specs.declared.ending.Ending.{Ending}
 use Rattle.sg_delivered.specs.Headline.{RunsDeliver}
 use Rattle.sg_quiet.specs.Failing.{FailedStoresCount}
+use Rattle.sg_quiet.specs.Resting.{QuietRunsRest}
+use Rattle.sg_quiet.specs.Ending.{CleanRunsEnd}
 use Rattle.sg_run.specs.Meaning.{planned, paths_in, drivers_in, files_in, AreRouters}
 use Rattle.sg_run.specs.Outcomes.{Tells, EndsBy, EndsSo, AreLines, HasLinesAt}
 use Rattle.sg_run.specs.Run.{offers_by, inlets_by, dests_by, RunsBy, IsLeft, IsStarved, RunsConfig, RunsFile}
@@ -24,16 +26,18 @@ use Rattle.sg_run.proofs.CauseLemmas.{due-by}
 use Rattle.sg_run.proofs.PlanLemmas.{runnable, used}
 use Rattle.sg_run.proofs.HeadlineLemmas.{delivers-by}
 use Rattle.sg_run.proofs.LineLemmas.{lines-at}
+use Rattle.sg_run.proofs.RestingLemmas.{rests-by}
 
 pub tells-by : (config : Config) (once : Bool) (ending : Ending) (lines : Lines) (outcome : Outcome) → AreLines config lines → EndsSo lines ending (Some outcome) → Tells (planned config once) ending (Ok outcome)
 tells-by config once ending lines outcome are ends =
     subst (λ fs. EndsBy (drivers_in config.inlets.items) fs ending (Some outcome)) are.1 (subst (λ ds. EndsBy ds lines.files ending (Some outcome)) are.0 ends)
 
--- the laws are that runs of plans come to the headline, and that a store that is told to have failed has failed
+-- the laws are that runs of plans come to the headline, that a store that is told to have failed has failed, and what a quiet end means
 pub runs-by : {I O : Type 0} (feed : I → InletState) (drain : O → OutletState) (loaded new : WorldState) (config : Config) (once : Bool) (rounds : ℕ) (routers : List Pipes) (ending : Ending) (result : Result Outcome Unloaded) → IsWithin config
-    → AreDirect config.outlets.items → AreRouters config routers → RunsDeliver feed drain offers_by inlets_by dests_by → FailedStoresCount feed drain offers_by inlets_by dests_by → RunsPlan feed drain offers_by inlets_by dests_by loaded new (planned config once) routers rounds ending
+    → AreDirect config.outlets.items → AreRouters config routers → RunsDeliver feed drain offers_by inlets_by dests_by → FailedStoresCount feed drain offers_by inlets_by dests_by → QuietRunsRest feed drain offers_by inlets_by dests_by
+    → CleanRunsEnd feed drain offers_by inlets_by dests_by → RunsPlan feed drain offers_by inlets_by dests_by loaded new (planned config once) routers rounds ending
     → Tells (planned config once) ending result → RunsBy feed drain loaded new config once rounds result
-runs-by feed drain loaded new config once rounds routers ending result within direct are law failing (reached, runs) tells = record {
+runs-by feed drain loaded new config once rounds routers ending result within direct are law failing quiet clean (reached, runs) tells = record {
   routers = routers;
   are_routers = are;
   ending = ending;
@@ -42,6 +46,7 @@ runs-by feed drain loaded new config once rounds routers ending result within di
   headline = delivers-by (planned config once) routers (paths_in config) reached reached.core are (law loaded new (planned config once) routers rounds ending reached (runnable config once within direct) runs);
   tells = tells;
   due = due-by feed drain offers_by inlets_by dests_by loaded new (planned config once) routers rounds reached (runnable config once within direct) (used config once within) failing ending runs;
+  rests = rests-by feed drain offers_by inlets_by dests_by loaded new (planned config once) routers rounds reached (runnable config once within direct) quiet clean ending runs;
 }
 
 pub lines-by-plan : {I O : Type 0} (feed : I → InletState) (drain : O → OutletState) (loaded new : WorldState) (config : Config) (once : Bool) (rounds : ℕ) (routers : List Pipes) (ending : Ending) (lines : Lines) → IsWithin config

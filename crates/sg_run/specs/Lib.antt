@@ -2,4 +2,5 @@ pub mod Ends
 pub mod Outcomes
 pub mod Meaning
 pub mod Causes
+pub mod Resting
 pub mod Run

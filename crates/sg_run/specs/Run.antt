@@ -18,6 +18,7 @@ use Rattle.sg_delivered.specs.Headline.{Delivers}
 use Rattle.sg_run.specs.Causes.{AreDue}
 use Rattle.sg_run.specs.Meaning.{planned, paths_of, paths_in, AreRouters}
 use Rattle.sg_run.specs.Outcomes.{Tells}
+use Rattle.sg_run.specs.Resting.{RestsSo}
 use Rattle.sg_run.specs.declared.end.Outcome.{Outcome}
 
 -- a router gives the offers of the log paths that it goes by
@@ -43,6 +44,8 @@ pub record RunsBy {I O : Type 0} (feed : I → InletState) (drain : O → Outlet
   pub tells : Tells (planned config once) ending result
   -- what is told to have failed has failed
   pub due : AreDue (planned config once) reached ending
+  -- behind a quiet round nothing is left to do
+  pub rests : RestsSo offers_by (planned config once) routers reached ending
 
 -- why it wasn't run; want of memory is free
 abbrev pub IsLeft : WorldState → WorldState → List ℕ → Result Outcome Unloaded → Type 0

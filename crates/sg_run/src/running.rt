@@ -15,7 +15,7 @@ use sg_delivered::runs_deliver;
 use sg_device::NoMemory;
 use sg_loaded::{Loaded, Unloaded, load_file};
 use sg_pipes::Pipes;
-use sg_quiet::failed_stores_count;
+use sg_quiet::{clean_runs_end, failed_stores_count, quiet_runs_rest};
 use sg_serve::run_plan;
 use sg_table::Table;
 use sg_world::World;
@@ -52,6 +52,8 @@ fn run_by<T: Wait, W: World>(
 {
     runs_deliver(world, routers.as_slice());
     failed_stores_count(world, routers.as_slice());
+    quiet_runs_rest(world, routers.as_slice());
+    clean_runs_end(world, routers.as_slice());
     let plan = plan_of(config, once);
     let ending = run_plan(rt, alloc, plan, routers, rounds, world);
     match outcome_of(alloc, lines, ending) {
@@ -101,7 +103,8 @@ pub fn run_file<T: Wait, W: World>(
 ) -> Result<Outcome, Unloaded>
     requires some { 0 < rounds }
     requires rounds { rounds ≤ 2 ^ 36 }
-    // The configuration was run, or why it wasn't; the headline; what is told; and the causes of failures.
+    // The configuration was run, or why it wasn't; the headline; what is told; the causes of failures; and
+    // what the end means.
     ensures { RunsFile W.Feed.state W.Drain.state (W.state world.old) (W.state world.new) file.now once rounds result }
 {
     texts_mean_one();
