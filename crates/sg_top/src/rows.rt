@@ -70,6 +70,10 @@ const COMMANDS: &str = "\
 check c;0;c: ok~
 check bad;2;bad:1: version not supported~
 check none;3;cannot read none~
+trace c s in;0;record 0 destination 0 flow yes length 2~x~~
+trace c x in;2;c:0: unknown name~
+trace bad s in;2;bad:1: version not supported~
+trace c s none;4;cannot open inlet 0~
 run bad;2;bad:1: version not supported~
 run none --once --rounds 3;3;cannot read none~
 spool none;4;cannot open store 0~
@@ -77,6 +81,7 @@ spool none;4;cannot open store 0~
 --help;0;usage: syslogr check FILE | trace FILE SOURCE INPUT | run FILE [--once] [--rounds N] | spool FILE | drill N~
 run;1;usage: syslogr check FILE | trace FILE SOURCE INPUT | run FILE [--once] [--rounds N] | spool FILE | drill N~
 run c --rounds 0;1;usage: syslogr check FILE | trace FILE SOURCE INPUT | run FILE [--once] [--rounds N] | spool FILE | drill N~
+trace c s;1;usage: syslogr check FILE | trace FILE SOURCE INPUT | run FILE [--once] [--rounds N] | spool FILE | drill N~
 spool q q;1;usage: syslogr check FILE | trace FILE SOURCE INPUT | run FILE [--once] [--rounds N] | spool FILE | drill N~
 ";
 
@@ -219,7 +224,7 @@ fn taken(alloc: Global, world: &MemoryWorld) -> Result<Vec<u8>, AllocError> {
     Ok(bytes)
 }
 
-/// Whether these words end with this status, and this is said, in a machine without input.
+/// Whether these words end with this status, and this is said, in a machine whose input is one line.
 fn answers<T: Wait>(
     rt: &T,
     alloc: Global,
@@ -227,7 +232,7 @@ fn answers<T: Wait>(
     code: u8,
     said: &[u8],
 ) -> Result<bool, AllocError> {
-    let mut machine = with_input(alloc, b"")?;
+    let mut machine = with_input(alloc, b"x\n")?;
     let status = daemon(rt, alloc, words, &mut machine);
     Ok(status.code() == code && machine.world.said() == said)
 }
