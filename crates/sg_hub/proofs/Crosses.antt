@@ -1,0 +1,1 @@
+-- A hub is shared by threads.

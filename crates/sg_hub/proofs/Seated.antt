@@ -1,0 +1,56 @@
+-- Calls at a seat, one after another.
+use Rattle.std.proofs.Common.{◌≡◌, ℕ, ◌+◌, ◌-◌, ◌++◌, List, [], ◌∷◌, length, map, refl, sym, ap, ◌∙◌, subst, arith}
+use Rattle.std.proofs.lemmas.List.{append-nil, append_assoc, map-append}
+use Rattle.sg_booth.specs.Desks.{IsDeskOf, turned}
+use Rattle.sg_booth.specs.Lists.{StartsWith, entries_at}
+use Rattle.sg_counter.specs.Exchanges.{Exchange, Makes}
+use Rattle.sg_counter.specs.declared.calls.CoreCall.{CoreCall}
+use Rattle.sg_counter.specs.declared.calls.CoreReply.{CoreReply}
+use Rattle.sg_hub.specs.Histories.{Called, exchange_of, exchanges_of}
+use Rattle.sg_hub.specs.Laws.{GoesOn}
+use Rattle.sg_hub.specs.Seats.{HubState, SeatState, SeatStep}
+
+stays : (hub : HubState) (seat : SeatState) → GoesOn hub seat [] seat
+stays hub seat = record {
+  of_hub = λ h. h;
+  left = omega arith;
+  seen = ([], sym (append-nil seat.seen));
+  calls = sym (append-nil (exchanges_of (entries_at seat.seen seat.own)));
+  joined = refl;
+}
+
+goes-one : (hub : HubState) (old mid new : SeatState) (call : CoreCall) (reply : CoreReply) (made : List Exchange) → SeatStep hub old call reply mid → GoesOn hub mid made new
+    → GoesOn hub old (record { call = call; reply = reply } ∷ made) new
+goes-one hub old mid new call reply made t g =
+    let e : Called = record { call = call; reply = reply } in
+    let x : Exchange = record { call = call; reply = reply } in
+    let seen : mid.seen ≡ (old.seen ++ t.between) ++ e ∷ [] = ap (λ (d : SeatState). d.seen) t.desk in
+    let left : mid.left ≡ old.left - 1 = ap (λ (d : SeatState). d.left) t.desk in
+    let one : exchanges_of (entries_at mid.seen mid.own) ≡ exchanges_of (entries_at old.seen old.own) ++ x ∷ [] =
+    ap exchanges_of t.calls ∙ map-append exchange_of (entries_at old.seen old.own) (e ∷ []) in
+    record {
+      of_hub = λ h. g.of_hub (ap (λ (d : SeatState). d.booth) t.desk ∙ h.0, ap (λ (d : SeatState). d.made) t.desk ∙ h.1);
+      left = omega (arith, g.left, left);
+      seen = (
+        t.between ++ e ∷ g.seen.0,
+        g.seen.1 ∙ (ap (λ (s : List Called). s ++ g.seen.0) seen ∙ (append_assoc (old.seen ++ t.between) (e ∷ []) g.seen.0 ∙ append_assoc old.seen t.between (e ∷ g.seen.0))),
+      );
+      calls = g.calls ∙ (ap (λ (xs : List Exchange). xs ++ made) one ∙ append_assoc (exchanges_of (entries_at old.seen old.own)) (x ∷ []) made);
+      joined = g.joined ∙ ap (λ (d : SeatState). d.joined) t.desk;
+    }
+
+pub goes-on : (hub : HubState) (old new : SeatState) (made : List Exchange) → Makes (SeatStep hub) old made new → GoesOn hub old made new
+goes-on hub old new [] m = subst (GoesOn hub old []) (sym m) (stays hub old)
+goes-on hub old new (x ∷ made) m = goes-one hub old m.0 new x.call x.reply made m.1 (goes-on hub m.0 new made m.2)
+
+-- calls at a seat that is lent leave what is lent, of that hub
+pub same-seat : {S N H : Type 0} (name : S → N) (hub : S → H) (state : H → HubState) (seat : S → SeatState) (old new : S) (made : List Exchange)
+    → Makes (λ (a : S) call reply (b : S). (name b ≡ name a) × (hub b ≡ hub a) × SeatStep (state (hub a)) (seat a) call reply (seat b)) old made new
+    → (name new ≡ name old) × (hub new ≡ hub old) × Makes (SeatStep (state (hub old))) (seat old) made (seat new)
+same-seat name hub state seat old new [] m = (ap name m, ap hub m, ap seat m)
+same-seat {S} {N} {H} name hub state seat old new (x ∷ made) m =
+    let rest = same-seat name hub state seat m.0 new made m.2 in (
+      rest.0 ∙ m.1.0,
+      rest.1 ∙ m.1.1,
+      (seat m.0, m.1.2, subst (λ (h : H). Makes (SeatStep (state h)) (seat m.0) made (seat new)) m.1.1 rest.2),
+    )

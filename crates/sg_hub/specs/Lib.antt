@@ -1,0 +1,4 @@
+pub mod Offices
+pub mod Histories
+pub mod Seats
+pub mod Laws
