@@ -1,13 +1,10 @@
-// The types that threads share, or hand to one another.
-use crate::{CoreOffice, Hub, Seat};
+// The types that threads hand to one another. That they share a hub is `hub_sync` of proofs/Crosses.antt.
+use crate::{CoreOffice, Seat};
 use sg_device::Disk;
 
 fn is_send<T: Send>() {}
 
-fn is_sync<T: Sync>() {}
-
 fn hubs_cross_threads<D: Disk + Send>() {
     is_send::<CoreOffice<D>>();
     is_send::<Seat<D>>();
-    is_sync::<Hub<D>>();
 }

@@ -5,4 +5,4 @@ use Rattle.sg_hub.proofs.Crosses.{hub_sync}
 use Rattle.test_hub.proofs.threads.admit_both.Goals as goal
 
 pub join-one-requires-send-F : goal.join-one-requires-send-F
-join-one-requires-send-F g c κs within = let sync = c.type_bounds.sync-R in search (sendable, crosses, badge_send, hub_sync) depth 20
+join-one-requires-send-F g c κs within = let sync = c.type_bounds.sync-R in search (sendable, crosses, badge_send, hub_sync) depth 40 fits 20000
