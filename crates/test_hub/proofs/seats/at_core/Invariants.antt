@@ -4,7 +4,7 @@ use Rattle.test_hub.specs.Cores.{IsTried}
 use Rattle.test_hub.proofs.seats.at_core.Given as goal
 
 abbrev pub invariant-loop-part : goal.invariant-loop-part
-invariant-loop-part l = record {
+invariant-loop-part g l = record {
   tried : IsTried (setup_of l.core);
   calls : l.core.calls + l.spare ≤ 1000;
 }

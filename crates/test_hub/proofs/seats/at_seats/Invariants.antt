@@ -5,7 +5,7 @@ use Rattle.test_hub.specs.Cores.{IsTried}
 use Rattle.test_hub.proofs.seats.at_seats.Given as goal
 
 abbrev pub invariant-loop-part : goal.invariant-loop-part
-invariant-loop-part l = record {
+invariant-loop-part g l = record {
   one : IsDeskOf l.hub l.one;
   two : IsDeskOf l.hub l.two;
   one_left : l.spare < l.one.left;
