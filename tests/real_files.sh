@@ -129,6 +129,39 @@ expect 'an unknown filter is checked' 2 'bad:3: unknown name\n' - check bad
 expect 'an unknown filter is traced' 2 'bad:3: unknown name\n' - trace bad s in
 printf '@version: 4.2\nfilter f { message("("); };\n' >bad
 expect 'a pattern that is none' 2 'bad:2: pattern not valid\n' - check bad
+cat >dist <<'END'
+@version: 4.2
+@include "scl.conf"
+options { chain_hostnames(off); flush_lines(0); use_dns(no);
+  use_fqdn(no); dns_cache(no); owner("root"); group("adm");
+  perm(0640); stats(freq(0)); bad_hostname("^gconfd$"); };
+source s_src { network(ip("127.0.0.1") port(5514)); };
+destination d_auth { file("/var/log/auth.log"); };
+destination d_syslog { file("/var/log/syslog"); };
+destination d_error { file("/var/log/error"); };
+filter f_dbg { level(debug) and not facility(auth, authpriv, news, mail); };
+filter f_auth { facility(auth, authpriv) and not filter(f_dbg); };
+filter f_syslog { not facility(auth, authpriv, mail) and not filter(f_dbg); };
+filter f_error { level(err .. emerg); };
+log { source(s_src); filter(f_auth); destination(d_auth); };
+log { source(s_src); filter(f_syslog); destination(d_syslog); };
+log { source(s_src); filter(f_error); destination(d_error); };
+END
+: >scl.conf
+expect 'a usual distribution file' 0 'dist: ok\n' - check dist
+# a configuration whose log statement stands there as often as its first word says
+repeated() {
+    config in out | awk -v times="$1" '{ for (k = 0; k < (/^log/ ? times : 1); k++) print }'
+}
+repeated 1024 >many
+expect '1,024 deliveries' 0 'many: ok\n' - check many
+repeated 1025 >many
+expect '1,025 deliveries' 2 'many:1028: too many offers\n' - check many
+printf '@version: 4.2\n@include "bad"\n' >bad
+expect 'a file that includes itself is checked' 2 'bad:2: includes nested too deep\n' - check bad
+expect 'a configuration that moves lines' 0 'c: ok\n' - check c
+expect 'a check of nothing' 1 "$usage" - check
+expect 'no rounds' 1 "$usage" - run c --rounds 0
 expect 'how it is used' 0 "$usage" - --help
 expect 'which version it is' 0 'syslogr 0.1.0\n' - --version
 expect 'no words' 1 "$usage" -

@@ -1,6 +1,7 @@
 //! Says what `check` says of configuration files, one for each line of standard input, in which `|` stands for the
 //! end of a line: the file is named `c`, and includes others by the names `d`, which holds a filter, and `e`, which
-//! isn't there; `missing` is no file at all.
+//! isn't there; `missing` is no file at all. A line `NUMBER TEXT` that begins with a number has the building of the
+//! pattern of that number, from 0, refused as too large.
 #![tactic(auto)]
 
 use sg_checked::{Unchecked, check_file};
@@ -8,6 +9,7 @@ use sg_device::{Name, NoMemory};
 use sg_lex::ConfigFault;
 use sg_list::Seq;
 use sg_memory::{MemoryFile, MemoryWorld, Pace};
+use sg_memory_disk::Plan;
 use sg_report::fault_text;
 use sg_world::MemoryMachine;
 use std::alloc::Global;
@@ -25,7 +27,7 @@ fn broken(alloc: Global, line: &str) -> Result<Vec<u8>, NoMemory> {
     Ok(out)
 }
 
-fn machine(alloc: Global, line: &str) -> Result<MemoryMachine, NoMemory> {
+fn world_with(alloc: Global, line: &str) -> Result<MemoryWorld, NoMemory> {
     let mut files = Vec::new(alloc);
     files.push(MemoryFile::new(alloc, b"d", b"filter f {\n message(\"x\"); };")?)?;
     if line != "missing" {
@@ -34,9 +36,20 @@ fn machine(alloc: Global, line: &str) -> Result<MemoryMachine, NoMemory> {
             bytes: broken(alloc, line)?,
         })?;
     }
-    Ok(MemoryMachine {
-        world: MemoryWorld::new(alloc, files, Pace { piece: 7, at: 0 }),
-    })
+    Ok(MemoryWorld::new(alloc, files, Pace { piece: 7, at: 0 }))
+}
+
+// A machine whose file `c` is the text of the line.
+fn machine(alloc: Global, line: &str) -> Result<MemoryMachine, NoMemory> {
+    if let Some((number, text)) = line.split_once(' ') {
+        if let Ok(number) = number.parse::<u64>() {
+            let mut world = world_with(alloc, text)?;
+            world.plans.builds = Plan::new(vec![in alloc; number]?);
+            return Ok(MemoryMachine { world });
+        }
+    }
+    let world = world_with(alloc, line)?;
+    Ok(MemoryMachine { world })
 }
 
 // The fault as the program prints it, where its file has a name.
