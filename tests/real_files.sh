@@ -333,7 +333,7 @@ kill $process && wait $process 2>/dev/null
 # Peers of connections, each on a port that was free.
 cat >peer.py <<'END'
 """peer.py port: a free port.
-peer.py take PORT LINES FILE: accepts one connection, takes so many lines, and closes.
+peer.py take PORT LINES FILE: accepts one connection, takes so many lines, and closes. FILE.listens is there once it listens.
 peer.py give PORT COUNT LINES: opens so many connections, and gives so many lines by each."""
 import socket, sys, time
 def connected(port):
@@ -351,6 +351,7 @@ elif sys.argv[1] == "take":
         s.setsockopt(socket.SOL_SOCKET, socket.SO_REUSEADDR, 1)
         s.bind(("127.0.0.1", int(sys.argv[2])))
         s.listen()
+        open(sys.argv[4] + ".listens", "wb").close()
         peer, _ = s.accept()
         s.close()
         got = b""
@@ -398,7 +399,7 @@ if command -v python3 >/dev/null; then
     [ $? = 0 ] && tail -n 1 said | grep -q '^entries 300$' && passed=$((passed + 1)) || { failed=$((failed + 1)); echo 'the entries of a disk-buffer:'; tail -n 3 said; cat errors; }
     timeout 60 python3 peer.py take "$port" 300 third &
     peer=$!
-    sleep 1
+    until [ -e third.listens ] || ! kill -0 $peer 2>/dev/null; do sleep 0.1; done
     timeout 60 "$top/syslogr" run buffered --once >said 2>errors
     [ $? = 0 ] && wait $peer && cmp -s in third && passed=$((passed + 1)) || { failed=$((failed + 1)); echo 'a disk-buffer with its peer back:'; cat said errors; }
 
