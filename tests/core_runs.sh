@@ -15,18 +15,19 @@ cd "$folder" || exit 2
 
 # rows: prints the rows of a series
 rows() {
-    echo "runs $seed $count 400"
+    echo "runs $seed $count 400 40"
     k=0
     while [ $k -lt "$count" ]; do
-        echo "moments $((seed + k)) 100"
+        echo "moments $((seed + k)) 100 20"
         k=$((k + 1))
     done
     for store in 0 1 2 3 4; do
         for tear in - o n 1 0 on no 1o 0n; do
-            echo "stops $seed $store 60 100 $tear"
-            echo "fails $seed $store 60 100 $tear"
+            echo "stops $seed $store 60 100 $tear 20"
+            echo "fails $seed $store 60 100 $tear 20"
         done
     done
+    grep '^older' "$crate/stdin" | sed "s/^older [0-9]*/older $seed/"
 }
 
 status=0
@@ -42,11 +43,11 @@ n=1
 refused=0
 failed=0
 while [ $n -le 20000 ]; do
-    echo "runs $((seed + n)) 1 60" | STARVE=$n LD_PRELOAD=./starve.so "$program" >said 2>told
+    echo "runs $((seed + n)) 1 60 20" | STARVE=$n LD_PRELOAD=./starve.so "$program" >said 2>told
     grep -q DIFFERS said && echo "allocation $n: $(cat said)" && status=1
     grep -q starved told || break
     refused=$((refused + 1))
-    grep -q '1 with a store' said && failed=$((failed + 1))
+    grep -q ', [1-9][0-9]* with a store' said && failed=$((failed + 1))
     n=$((n + 3))
 done
 echo "$refused runs with an allocation refused, in $failed of them a store failed"

@@ -1,19 +1,31 @@
 -- The core that is tried, and what is brought to it.
 use Rattle.std.proofs.Common.{◌≡◌, ◌⊎◌, ℕ, ◌+◌, ◌<◌, ◌≤◌, ◌^◌, List, [], ◌∷◌, ◌++◌, length, Some, None, Option, IsSome, refl, sym, ap, ◌∙◌, arith, suc, zero, inl, inr, slice_get, subst, map}
 use Rattle.sg_msg.specs.declared.offer.Offer.{Offer}
+use Rattle.sg_machine.specs.declared.event.Act.{Act}
+use Rattle.sg_machine.specs.declared.state.Dest.{Dest}
+use Rattle.sg_machine.specs.declared.state.Inlet.{Inlet}
+use Rattle.sg_machine.specs.declared.state.State.{State}
+use Rattle.sg_machine.specs.declared.tally.SourceTally.{SourceTally}
+use Rattle.sg_machine.specs.declared.tally.Tally.{Tally}
+use Rattle.sg_machine.specs.Effects.{after_act}
+use Rattle.sg_machine.specs.Runs.{opened}
+use Rattle.sg_machine.specs.Tallies.{source_tally, source_tallies, tally_of}
 use Rattle.sg_machine.specs.declared.event.Admission.{Admission}
 use Rattle.sg_machine.specs.declared.setup.BufferSetup.{BufferSetup}
 use Rattle.sg_machine.specs.declared.setup.DestSetup.{DestSetup}
 use Rattle.sg_machine.specs.declared.setup.Setup.{Setup}
 use Rattle.sg_counter.specs.Bringing.{AllWithin, MayEnter, AllMayEnter, IsBatch, store_in}
-use Rattle.sg_core.specs.Opening.{NumberStores, HaveWindows, HaveCapacities, buffer_store_in}
+use Rattle.sg_core.specs.Answers.{Tallies}
+use Rattle.sg_core.specs.Opening.{NumberStores, HaveWindows, HaveCapacities, buffer_store_in, IsOpen}
 use Rattle.std.proofs.lemmas.List.{length-map}
 use Rattle.sg_sinks.specs.States.{SinkState}
 use Rattle.sg_standing.specs.States.{CoreState}
-use Rattle.sg_standing.specs.Sources.{store_at}
+use Rattle.sg_device.specs.Disk.{DiskState}
+use Rattle.sg_standing.specs.Sources.{store_at, begun_in}
+use Rattle.sg_standing.specs.Standing.{Does, IsAt, source_of, sources_from}
 use Rattle.sg_standing.specs.declared.source.Source.{Source}
 use Rattle.sg_machine.specs.declared.setup.SourceSetup.{SourceSetup}
-use Rattle.test_core_runs.specs.Cores.{three_sources, three_dests, tried, IsTried}
+use Rattle.test_core_runs.specs.Cores.{three_sources, three_dests, tried, IsTried, IsSomewhere}
 
 source-store : (w i s : ℕ) → store_in (three_sources w) i ≡ Some s → (s ≡ i) × (i < 3)
 source-store w zero s p = let e : Some 0 ≡ Some s = p in let f : 0 ≡ s = cc in (sym f, omega arith)
@@ -114,3 +126,28 @@ some-store core i h below =
 
 pub batch_of : (setup : Setup) (records : List Admission) → length setup.dests ≡ 3 → 0 < length records → length records ≤ 1000 → AllMayEnter 3 records → IsBatch setup records
 batch_of setup records count some few each = record { some = some; few = few; each = subst (λ n. AllMayEnter n records) (sym count) each }
+
+-- a core is at some state of the machine once it is opened, and behind each call
+
+pub opened_somewhere : (setup : Setup) (disks : List DiskState) (core : CoreState) → IsOpen setup disks core → IsSomewhere core
+opened_somewhere setup disks core h = (opened setup h.opening, h.stands.at)
+
+pub goes_somewhere : (old new : CoreState) (act : Act) → Does old new act → IsSomewhere old → IsSomewhere new
+goes_somewhere old new act does h = (after_act h.0 act does.failed, (does.step h.0 h.1).1)
+
+-- a source whose tally has no record has none
+
+unbegun-from : (dests : List Dest) (k i : ℕ) (inlets : List Inlet) (t : SourceTally) → slice_get (source_tallies dests k inlets) i ≡ Some t → t.records ≡ 0 → begun_in (sources_from dests k inlets) i ≡ 0
+unbegun-from dests k zero [] t get none = refl
+unbegun-from dests k (suc i) [] t get none = refl
+unbegun-from dests k zero (inlet ∷ inlets) t get none =
+    let e : Some (source_tally dests k inlet) ≡ Some t = get in
+    let is : source_tally dests k inlet ≡ t = cc in
+    ap (λ (x : SourceTally). x.records) is ∙ none
+unbegun-from dests k (suc i) (inlet ∷ inlets) t get none = unbegun-from dests (k + 1) i inlets t get none
+
+pub unbegun : (core : CoreState) (tally : Tally) (i : ℕ) (t : SourceTally) → IsSomewhere core → Tallies core tally → slice_get tally.sources i ≡ Some t → t.records ≡ 0 → begun_in core.sources i ≡ 0
+unbegun core tally i t h tallies get none =
+    let is : tally ≡ tally_of h.0 = tallies h.0 h.1 in
+    let get' : slice_get (source_tallies h.0.dests 0 h.0.inlets) i ≡ Some t = ap (λ (x : Tally). slice_get x.sources i) (sym is) ∙ get in
+    ap (λ (xs : List Source). begun_in xs i) h.1.sources ∙ unbegun-from h.0.dests 0 i h.0.inlets t get' none

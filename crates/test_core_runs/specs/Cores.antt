@@ -3,7 +3,9 @@ use Rattle.std.specs.Prelude.{◌≡◌, ℕ, Some, None, List, [], ◌∷◌, l
 use Rattle.sg_machine.specs.declared.setup.SourceSetup.{SourceSetup}
 use Rattle.sg_machine.specs.declared.setup.DestSetup.{DestSetup}
 use Rattle.sg_machine.specs.declared.setup.Setup.{Setup}
+use Rattle.sg_machine.specs.declared.state.State.{State}
 use Rattle.sg_standing.specs.States.{CoreState, setup_of}
+use Rattle.sg_standing.specs.Standing.{IsAt}
 
 abbrev pub three_sources : ℕ → List SourceSetup
 three_sources window =
@@ -22,3 +24,7 @@ tried window fifo first second = record { sources = three_sources window; dests 
 -- a core of such a setup
 abbrev pub IsTried : CoreState → Type 0
 IsTried core = (window : ℕ) × ((fifo : ℕ) × ((first : ℕ) × ((second : ℕ) × ((setup_of core ≡ tried window fifo first second) × (length core.stores ≡ 5)))))
+
+-- it is at some state
+abbrev pub IsSomewhere : CoreState → Type 0
+IsSomewhere core = (state : State) × IsAt core state

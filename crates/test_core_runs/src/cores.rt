@@ -2,7 +2,7 @@
 ghost use Rattle.std.specs.Prelude.{◌≡◌, ◌<◌, ◌≤◌, ◌+◌, ◌^◌, Some, IfOk, OnOk, length};
 ghost use Rattle.sg_counter.specs.Bringing.{AllWithin, AllMayEnter};
 ghost use Rattle.sg_standing.specs.States.{setup_of};
-ghost use Rattle.test_core_runs.specs.Cores.{tried};
+ghost use Rattle.test_core_runs.specs.Cores.{tried, IsSomewhere};
 
 use sg_core::{Core, CoreRefusal};
 use sg_list::Seq;
@@ -79,6 +79,7 @@ pub(crate) fn setup(
 }
 
 /// The core over these disks.
+#[tactic(auto, using(crate::proofs::TestLemmas::opened_somewhere))]
 pub(crate) fn open(
     alloc: Global,
     window: u32,
@@ -94,6 +95,7 @@ pub(crate) fn open(
     ensures setup { IfOk result (λ core. setup_of core ≡ tried window fifo first second) }
     ensures calls { IfOk result (λ core. core.calls ≡ 0) }
     ensures count { IfOk result (λ core. length core.stores ≡ 5) }
+    ensures at { IfOk result (λ core. IsSomewhere core) }
 {
     let Ok(setup) = setup(alloc, window, fifo, first, second) else {
         return Err((disks, CoreRefusal::NoMemory));
@@ -113,6 +115,24 @@ pub(crate) fn disks(alloc: Global) -> Result<Vec<MemoryDisk>, AllocError>
     Ok(disks)
 }
 
+/// An offer to that destination, with this flow-control, of so many encoded bytes; the message has this number.
+pub(crate) fn offer(
+    alloc: Global,
+    dest: u32,
+    number: u32,
+    size: usize,
+    flow: bool,
+) -> Result<Offer, AllocError>
+    ensures { IfOk result (λ offer. offer.dest ≡ dest) }
+{
+    let message = message(alloc, number, size)?;
+    Ok(Offer {
+        dest,
+        message,
+        flow,
+    })
+}
+
 /// An offer more to that destination, with this flow-control, of so many encoded bytes; the message has this number.
 #[tactic(auto, using(crate::proofs::TestLemmas::within_push))]
 pub(crate) fn add_offer(
@@ -128,12 +148,7 @@ pub(crate) fn add_offer(
     ensures within { OnOk result (AllWithin 3 offers.new.items) }
     ensures count { OnOk result (length offers.new.items ≤ length offers.old.items + 1) }
 {
-    let message = message(alloc, number, size)?;
-    offers.push(Offer {
-        dest,
-        message,
-        flow,
-    })?;
+    offers.push(offer(alloc, dest, number, size, flow)?)?;
     Ok(())
 }
 

@@ -31,6 +31,18 @@ pub(crate) struct Made {
     pub(crate) settled: bool,
 }
 
+/// The same offers, for a core that opens again: it knows those that it finds, and no record that they came from.
+pub(crate) fn left_behind(alloc: Global, made: &[Made]) -> Result<Vec<Made>, AllocError> {
+    let mut left = Vec::new(alloc);
+    for offer in made {
+        left.push(Made {
+            flow: false,
+            ..*offer
+        })?;
+    }
+    Ok(left)
+}
+
 // Makes up to three offers of a record that ends there, of 60 to 219 encoded bytes.
 fn draw_record(
     draws: &mut Draws,

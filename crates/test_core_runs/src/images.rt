@@ -4,15 +4,17 @@ ghost use Rattle.test_core_runs.specs.Cores.{IsTried};
 
 use crate::cores::{FIFO, FIRST, SECOND, WINDOW, open};
 use crate::entries::{Made, numbers_of, short};
+use crate::lines::Line;
+use crate::openings::Found;
 use crate::runs::{Ended, Positions};
 use sg_core::{Core, CoreRefusal};
 use sg_counter::CoreFront;
 use sg_memory_disk::{MemoryDisk, Pick};
 use std::alloc::{AllocError, Global};
 
-// What stands where the writes since the last sync went, one letter a write and the last for those behind it: `o`
-// what was there before, `n` what was written, `1` bytes FF, `0` bytes 0.
-const PICKS: [&str; 10] = ["o", "n", "1", "0", "on", "no", "1o", "0n", "n0", "o1n"];
+/// What stands where the writes since the last sync went, one letter a write and the last for those behind it: `o`
+/// what was there before, `n` what was written, `1` bytes FF, `0` bytes 0.
+pub(crate) const PICKS: [&str; 10] = ["o", "n", "1", "0", "on", "no", "1o", "0n", "n0", "o1n"];
 
 /// What images told.
 #[derive(Clone, Copy, Drop)]
@@ -97,53 +99,72 @@ fn may_be(positions: Positions, found: u64) -> bool {
     found == positions.stored || Some(found) == positions.tried
 }
 
-// Whether the core found what it may find there.
-fn is_found(
+// What a core finds in its stores; none where one of them fails.
+fn find(
     alloc: Global,
     core: &mut Core<MemoryDisk>,
-    ended: &Ended,
-    told: &mut Told,
-) -> Result<bool, AllocError>
+    made: &[Made],
+) -> Result<Option<Found>, AllocError>
     requires tried { IsTried core.old }
     requires calls { core.old.calls ≡ 0 }
 {
-    let mut right = true;
+    let mut whole = true;
     let mut positions = [0u64; 3];
+    let mut lines = [Line::new(alloc), Line::new(alloc), Line::new(alloc)];
     for i in 0..3u32 {
-        let found = core.position(i);
-        positions[i as usize] = found;
-        right = right & may_be(ended.positions[i as usize], found);
+        positions[i as usize] = core.position(i);
     }
     for d in 0..3u32 {
-        match found(alloc, core, d, &ended.run.made)? {
-            Some(list) => {
-                told.entries = told.entries.saturating_add(list.len() as u64);
-                right = right
-                    & ended.run.lines[d as usize].may_find(&list)
-                    & covers(&ended.run.made, d, &list, &positions);
-            }
-            None => right = false,
+        match found(alloc, core, d, made)? {
+            Some(list) => lines[d as usize] = Line::over(alloc, list),
+            None => whole = false,
         }
     }
-    Ok(right)
+    if !whole {
+        return Ok(None);
+    }
+    Ok(Some(Found { positions, lines }))
 }
 
-// A core isn't opened over these disks, which fail for want of memory alone.
-fn not_opened(disks: &[MemoryDisk]) -> Result<bool, AllocError> {
+fn is_line(found: &Found, ended: &Ended, d: u32) -> bool
+    requires { d < 3 }
+{
+    let list = found.lines[d as usize].on_disk();
+    ended.run.lines[d as usize].may_find(list) & covers(&ended.run.made, d, list, &found.positions)
+}
+
+// Whether this is what a core may find behind the end of that run.
+fn is_found(found: &Found, ended: &Ended, told: &mut Told) -> bool {
+    let mut right = true;
+    for i in 0..3usize {
+        right = right & may_be(ended.positions[i], found.positions[i]);
+    }
+    for d in 0..3u32 {
+        let count = found.lines[d as usize].on_disk().len();
+        told.entries = told.entries.saturating_add(count as u64);
+        right = right & is_line(found, ended, d);
+    }
+    right
+}
+
+// A core isn't opened over these disks: they fail for want of memory alone.
+fn not_opened(disks: &[MemoryDisk], told: &mut Told) -> Result<(), AllocError> {
     if disks.iter().any(|disk| disk.starved()) {
         return Err(AllocError);
     }
-    Ok(false)
+    told.right = false;
+    Ok(())
 }
 
-// Whether a core opens over what a crash leaves by these picks, and finds what it may find.
-fn opens_again(
+/// Opens a core over what a crash leaves by these picks at the end of a run. What it finds, which must be what it may
+/// find, and its disks then.
+pub(crate) fn open_again(
     alloc: Global,
     disks: &[MemoryDisk],
     letters: &str,
     ended: &Ended,
     told: &mut Told,
-) -> Result<bool, AllocError>
+) -> Result<Option<(Found, Vec<MemoryDisk>)>, AllocError>
     requires { length disks.now ≡ 5 }
 {
     let picks = picks(alloc, letters)?;
@@ -151,12 +172,21 @@ fn opens_again(
     let mut core = match open(alloc, WINDOW, FIFO, FIRST, SECOND, images) {
         Ok(core) => core,
         Err((_, CoreRefusal::NoMemory)) => return Err(AllocError),
-        Err((disks, _)) => return not_opened(&disks),
+        Err((disks, _)) => {
+            not_opened(&disks, told)?;
+            return Ok(None);
+        }
     };
     told.openings = told.openings.saturating_add(1);
-    let right = is_found(alloc, &mut core, ended, told);
-    let _disks = core.into_stores();
-    right
+    let found = find(alloc, &mut core, &ended.run.made);
+    let disks = core.into_stores();
+    let Some(found) = found? else {
+        told.right = false;
+        return Ok(None);
+    };
+    let right = is_found(&found, ended, told);
+    told.right = told.right & right;
+    Ok(Some((found, disks)))
 }
 
 /// Opens over several images that a crash leaves of these disks at the end of a run.
@@ -171,8 +201,7 @@ pub(crate) fn look_into(
         return Ok(());
     }
     for letters in PICKS {
-        let right = opens_again(alloc, disks, letters, ended, told)?;
-        told.right = told.right & right;
+        let _again = open_again(alloc, disks, letters, ended, told)?;
     }
     Ok(())
 }

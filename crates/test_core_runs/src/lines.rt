@@ -27,6 +27,16 @@ impl Line {
         }
     }
 
+    /// A destination that begins with these on its disk.
+    pub(crate) fn over(alloc: Global, spooled: Vec<u32>) -> Line {
+        Line {
+            spooled,
+            settled: 0,
+            waiting: VecDeque::new(alloc),
+            tried: None,
+        }
+    }
+
     /// An offer gets its verdict.
     pub(crate) fn take(&mut self, number: u32, verdict: Verdict) -> Result<(), AllocError> {
         match verdict {

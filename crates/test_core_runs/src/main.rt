@@ -1,17 +1,19 @@
 //! Says what cores come to, one row of standard input after the other. The first word of a row tells its kind:
 //!
 //! - `calls NAME | ..` makes calls and says their answers: the module `calls` says how they are written.
-//! - `runs SEED COUNT STEPS` makes so many runs of calls drawn at random, each from a seed of its own.
-//! - `moments SEED STEPS` opens again over what a crash leaves after each step of a run.
-//! - `stops SEED STORE CALLS STEPS TEAR` makes a run for each number of calls up to that one, from which on the store
-//!   fails; `fails ..` the same with that call alone. TEAR is what a write or a sync that fails leaves: `-` nothing,
-//!   or letters of `picks` in the module `images`.
+//! - `runs SEED COUNT STEPS MORE` makes so many runs of calls drawn at random, each from a seed of its own.
+//! - `moments SEED STEPS MORE` opens again over what a crash leaves after each step of a run.
+//! - `stops SEED STORE CALLS STEPS TEAR MORE` makes a run for each number of calls up to that one, from which on the
+//!   store fails; `fails ..` the same with that call alone. TEAR is what a write or a sync that fails leaves: `-`
+//!   nothing, or letters of `picks` in the module `images`.
+//! - `older SEED CALLS STEPS MORE COUNT | PARTS` makes such runs over a disk-buffer of an older format.
 //! - `migrates PARTS` opens over a disk-buffer of these bytes: the module `migration` says how they are written.
 //!
 //! After each step of a run the tally of the core must be that of its events, and each front must show the entries
 //! that are left. At its end a crash leaves several images of the stores, and over each the core must open again
-//! with the positions and the entries that it may find. A row says how much was compared, and `DIFFERS` where
-//! something isn't as it must be.
+//! with the positions and the entries that it may find. Over one of them a run goes on for MORE steps, in which a source
+//! may begin anew, and ends in the same way. A row says how much was compared, and `DIFFERS` where something isn't as it
+//! must be.
 #![tactic(auto)]
 
 mod calls;
@@ -21,6 +23,7 @@ mod entries;
 mod images;
 mod lines;
 mod migration;
+mod openings;
 mod rows;
 mod runs;
 mod steps;
@@ -44,6 +47,7 @@ fn answer<T: Wait>(rt: &T, alloc: Global, row: &str) -> Result<String, AllocErro
         "moments" => rows::moments(alloc, rest),
         "stops" => rows::failures(alloc, rest, true),
         "fails" => rows::failures(alloc, rest, false),
+        "older" => rows::older(alloc, rest),
         "migrates" => migration::said(alloc, rest),
         _ => copied(alloc, "no such row"),
     }

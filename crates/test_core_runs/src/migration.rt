@@ -3,7 +3,12 @@ ghost use Rattle.std.specs.Prelude.{◌≡◌, ◌≤◌, ◌<◌, ◌+◌, ◌^
 ghost use Rattle.test_core_runs.specs.Cores.{IsTried};
 
 use crate::cores::{FIFO, FIRST, SECOND, WINDOW, disks, open};
+use crate::entries::Made;
 use crate::images::{images, picks};
+use crate::lines::Line;
+use crate::openings::Found;
+use crate::runs::{Ended, unbegun};
+use crate::steps::Run;
 use sg_core::{Core, CoreRefusal};
 use sg_counter::CoreFront;
 use sg_memory_disk::{DiskChange, MemoryDisk};
@@ -37,8 +42,12 @@ fn add_words(alloc: Global, bytes: &mut Vec<u8>, words: &str) -> Result<(), Allo
     Ok(())
 }
 
-// The disks of a core, of which that of destination 0 has these bytes and fails behind so many calls.
-fn disks_with(alloc: Global, parts: &str, calls: Option<u64>) -> Result<Vec<MemoryDisk>, AllocError>
+/// The disks of a core, of which that of destination 0 has these bytes and fails behind so many calls.
+pub(crate) fn disks_with(
+    alloc: Global,
+    parts: &str,
+    calls: Option<u64>,
+) -> Result<Vec<MemoryDisk>, AllocError>
     ensures { IfOk result (λ disks. length disks.items ≡ 5) }
 {
     let bytes = bytes_of(alloc, parts)?;
@@ -50,6 +59,32 @@ fn disks_with(alloc: Global, parts: &str, calls: Option<u64>) -> Result<Vec<Memo
         disks[STORE].stop_after(calls);
     }
     Ok(disks)
+}
+
+/// A run that begins over so many entries at destination 0, which have three bytes of text each.
+pub(crate) fn over_older(alloc: Global, count: u32) -> Result<Ended, AllocError> {
+    let mut made = Vec::new(alloc);
+    let mut numbers = Vec::new(alloc);
+    for number in 0..count {
+        made.push(Made {
+            source: 0,
+            end: 0,
+            dest: 0,
+            size: 61,
+            flow: false,
+            settled: false,
+        })?;
+        numbers.push(number)?;
+    }
+    let found = Found {
+        positions: [0; 3],
+        lines: [
+            Line::over(alloc, numbers),
+            Line::new(alloc),
+            Line::new(alloc),
+        ],
+    };
+    Ok(unbegun(Run::over(alloc, &made, found)?, [0; 3]))
 }
 
 // The texts of the entries of destination 0, with a comma behind each.

@@ -2,23 +2,30 @@
 ghost use Rattle.std.specs.Prelude.{◌≡◌, ◌≤◌, IfOk, length};
 
 use crate::cores::disks;
-use crate::images::{Told, look_into, picks};
-use crate::runs::{Ended, Positions, run_over};
+use crate::draws::Draws;
+use crate::images::{PICKS, Told, look_into, open_again, picks};
+use crate::migration::{disks_with, over_older};
+use crate::openings::Found;
+use crate::runs::{Ended, run_over, unbegun};
 use crate::steps::Run;
-use sg_core::CoreRefusal;
 use sg_memory_disk::{DiskPlan, MemoryDisk, Plan};
 use std::alloc::{AllocError, Global};
 
 // The steps of a run at most.
 const MOST: u64 = 1000;
 
+// Records of a run that goes on end behind this place, which is behind all records of the run before.
+const FROM: u64 = 20_000;
+
 // What the runs of a row told.
 #[derive(Drop)]
 struct Sums {
     runs: u64,
     refused: u64,
+    more: u64,
     steps: u64,
     fronts: u64,
+    rewinds: u64,
     failed: u64,
     told: Told,
     // The run and the step that differ.
@@ -30,8 +37,10 @@ impl Sums {
         Sums {
             runs: 0,
             refused: 0,
+            more: 0,
             steps: 0,
             fronts: 0,
+            rewinds: 0,
             failed: 0,
             told: Told {
                 openings: 0,
@@ -42,11 +51,14 @@ impl Sums {
         }
     }
 
-    // A run of that number more.
+    // What a run of that number, or one that goes on over what it left, came to.
     fn add(&mut self, number: u64, ended: &Ended) {
-        self.runs = self.runs.saturating_add(1);
+        if !ended.opened {
+            self.refused = self.refused.saturating_add(1);
+        }
         self.steps = self.steps.saturating_add(ended.steps);
         self.fronts = self.fronts.saturating_add(ended.run.fronts);
+        self.rewinds = self.rewinds.saturating_add(ended.run.rewinds);
         if !ended.run.failed.is_empty() {
             self.failed = self.failed.saturating_add(1);
         }
@@ -57,8 +69,12 @@ impl Sums {
 
     fn said(&self, alloc: Global) -> Result<String, AllocError> {
         let runs = format!(in alloc;
-            "{} runs, {} refused, {} with a store that failed, {} tallies, {} fronts",
-            self.runs, self.refused, self.failed, self.steps, self.fronts
+            "{} runs, {} go on, {} refused, {} with a store that failed",
+            self.runs, self.more, self.refused, self.failed
+        )?;
+        let steps = format!(in alloc;
+            "{} tallies, {} fronts, {} rewinds",
+            self.steps, self.fronts, self.rewinds
         )?;
         let found = format!(in alloc;
             "{} openings, {} entries",
@@ -66,9 +82,9 @@ impl Sums {
         )?;
         match self.differs {
             Some((run, step)) => {
-                format!(in alloc; "DIFFERS in run {run} at step {step}: {runs}, {found}")
+                format!(in alloc; "DIFFERS in run {run} at step {step}: {runs}, {steps}, {found}")
             }
-            None => format!(in alloc; "{runs}, {found}"),
+            None => format!(in alloc; "{runs}, {steps}, {found}"),
         }
     }
 }
@@ -80,81 +96,143 @@ fn number(word: Option<&str>) -> u64 {
     }
 }
 
-// Nothing was done.
-fn unbegun(alloc: Global) -> Ended {
-    let nothing = Positions {
-        stored: 0,
-        tried: None,
-    };
-    Ended {
-        run: Run::new(alloc),
-        positions: [nothing; 3],
-        steps: 0,
-        right: true,
+// One of the disks, or none, stops behind some calls.
+fn stop_one(disks: &mut Vec<MemoryDisk>, draws: &mut Draws)
+    ensures { length disks.new.items ≡ length disks.old.items }
+{
+    let store = draws.below(9) as usize;
+    let calls = draws.below(40);
+    if store < disks.len() {
+        disks[store].stop_after(calls);
     }
 }
 
-// A run of that number over these disks, and what a crash leaves at its end. Where the core isn't opened, that is to
-// be as before.
+// So many steps of a run over these disks, in which that is found of the run before.
+fn go_on(
+    alloc: Global,
+    sums: &mut Sums,
+    number: u64,
+    before: &Ended,
+    found: Found,
+    disks: Vec<MemoryDisk>,
+    steps: u64,
+) -> Result<(), AllocError>
+    requires disks { length disks.items ≡ 5 }
+    requires steps { steps ≤ 1000 }
+{
+    let seed = sums.told.openings.wrapping_add(number);
+    let mut disks = disks;
+    let mut draws = Draws::new(seed);
+    stop_one(&mut disks, &mut draws);
+    let positions = found.positions;
+    let run = Run::over(alloc, &before.run.made, found)?;
+    let begun = unbegun(run, positions);
+    let (ended, disks) = run_over(alloc, disks, begun, FROM, seed, steps, false)?;
+    look_into(alloc, &disks, &ended, &mut sums.told)?;
+    sums.more = sums.more.saturating_add(1);
+    sums.add(number, &ended);
+    Ok(())
+}
+
+// Opens again over one image of what a crash leaves of these disks, another one for the next number, and goes on with so
+// many steps.
+fn again(
+    alloc: Global,
+    sums: &mut Sums,
+    number: u64,
+    ended: &Ended,
+    disks: &[MemoryDisk],
+    steps: u64,
+) -> Result<(), AllocError>
+    requires { steps ≤ 1000 }
+{
+    if steps == 0 || disks.len() != 5 {
+        return Ok(());
+    }
+    let letters = PICKS[(number % 10) as usize];
+    let Some((found, disks)) = open_again(alloc, disks, letters, ended, &mut sums.told)? else {
+        return Ok(());
+    };
+    if disks.len() != 5 {
+        return Ok(());
+    }
+    go_on(alloc, sums, number, ended, found, disks, steps)
+}
+
+// A run of that number over these disks, and what a crash leaves at its end, over which more steps go on.
 fn one(
     alloc: Global,
     sums: &mut Sums,
     number: u64,
     disks: Vec<MemoryDisk>,
+    begun: Ended,
     seed: u64,
     steps: u64,
     brief: bool,
+    more: u64,
 ) -> Result<(), AllocError>
     requires disks { length disks.items ≡ 5 }
     requires steps { steps ≤ 1000 }
+    requires more { more ≤ 1000 }
 {
-    let (ended, disks) = run_over(alloc, disks, seed, steps, brief)?;
-    let ended = match ended {
-        Ok(ended) => ended,
-        Err(CoreRefusal::NoMemory) => return Err(AllocError),
-        Err(refusal) => {
-            sums.refused = sums.refused.saturating_add(1);
-            let mut ended = unbegun(alloc);
-            ended.right = matches!(refusal, CoreRefusal::DiskFault(_));
-            ended
-        }
-    };
+    let (ended, disks) = run_over(alloc, disks, begun, 0, seed, steps, brief)?;
     look_into(alloc, &disks, &ended, &mut sums.told)?;
+    sums.runs = sums.runs.saturating_add(1);
     sums.add(number, &ended);
-    Ok(())
+    again(alloc, sums, number, &ended, &disks, more)
 }
 
-/// `SEED COUNT STEPS`: so many runs with seeds from that one on.
+// A run that begins over fresh stores.
+fn fresh(alloc: Global) -> Ended {
+    unbegun(Run::new(alloc), [0; 3])
+}
+
+/// `SEED COUNT STEPS MORE`: so many runs with seeds from that one on.
 pub(crate) fn runs(alloc: Global, row: &str) -> Result<String, AllocError> {
     let mut words = row.split(' ');
     let seed = number(words.next());
     let count = number(words.next());
     let steps = number(words.next()).min(MOST);
+    let more = number(words.next()).min(MOST);
     let mut sums = Sums::new();
     for k in 0..count {
+        let disks = disks(alloc)?;
+        let seed = seed.wrapping_add(k);
+        one(
+            alloc,
+            &mut sums,
+            k,
+            disks,
+            fresh(alloc),
+            seed,
+            steps,
+            false,
+            more,
+        )?;
+    }
+    sums.said(alloc)
+}
+
+/// `SEED STEPS MORE`: the run of that seed, ended behind each of its steps.
+pub(crate) fn moments(alloc: Global, row: &str) -> Result<String, AllocError> {
+    let mut words = row.split(' ');
+    let seed = number(words.next());
+    let steps = number(words.next()).min(MOST);
+    let more = number(words.next()).min(MOST);
+    let mut sums = Sums::new();
+    for k in 0..steps {
         let disks = disks(alloc)?;
         one(
             alloc,
             &mut sums,
             k,
             disks,
-            seed.wrapping_add(k),
-            steps,
+            fresh(alloc),
+            seed,
+            k,
             false,
+            more,
         )?;
-    }
-    sums.said(alloc)
-}
-
-/// `SEED STEPS`: the run of that seed, ended behind each of its steps.
-pub(crate) fn moments(alloc: Global, row: &str) -> Result<String, AllocError> {
-    let mut words = row.split(' ');
-    let seed = number(words.next());
-    let steps = number(words.next()).min(MOST);
-    let mut sums = Sums::new();
-    for k in 0..steps {
-        let disks = disks(alloc)?;
-        one(alloc, &mut sums, k, disks, seed, k, false)?;
     }
     sums.said(alloc)
 }
@@ -196,8 +274,8 @@ fn failing(
     Ok(disks)
 }
 
-/// `SEED STORE CALLS STEPS TEAR`: for each number of calls up to that one a run in which the store fails behind so many,
-/// for good or once; and the same run, ended with the step in which it fails.
+/// `SEED STORE CALLS STEPS TEAR MORE`: for each number of calls up to that one a run in which the store fails behind so
+/// many, for good or once; and the same run, ended with the step in which it fails.
 pub(crate) fn failures(alloc: Global, row: &str, stops: bool) -> Result<String, AllocError> {
     let mut words = row.split(' ');
     let seed = number(words.next());
@@ -205,13 +283,57 @@ pub(crate) fn failures(alloc: Global, row: &str, stops: bool) -> Result<String, 
     let calls = number(words.next());
     let steps = number(words.next()).min(MOST);
     let tear = words.next().unwrap_or("");
+    let more = number(words.next()).min(MOST);
     let mut sums = Sums::new();
     for call in 0..calls {
         let seed = seed.wrapping_add(call);
         let long = failing(alloc, store, call, stops, tear)?;
-        one(alloc, &mut sums, call, long, seed, steps, false)?;
+        one(
+            alloc,
+            &mut sums,
+            call,
+            long,
+            fresh(alloc),
+            seed,
+            steps,
+            false,
+            more,
+        )?;
         let brief = failing(alloc, store, call, stops, tear)?;
-        one(alloc, &mut sums, call, brief, seed, steps, true)?;
+        one(
+            alloc,
+            &mut sums,
+            call,
+            brief,
+            fresh(alloc),
+            seed,
+            steps,
+            true,
+            more,
+        )?;
+    }
+    sums.said(alloc)
+}
+
+/// `SEED CALLS STEPS MORE COUNT | PARTS`: for each number of calls up to that one a run over a disk-buffer of an older
+/// format, whose store stops behind so many. It has these bytes, which are those of so many entries: the first three of
+/// an entry's text are its number, as is the moment it was sent.
+pub(crate) fn older(alloc: Global, row: &str) -> Result<String, AllocError> {
+    let (words, parts) = row.split_once('|').unwrap_or((row, ""));
+    let mut words = words.split(' ');
+    let seed = number(words.next());
+    let calls = number(words.next());
+    let steps = number(words.next()).min(MOST);
+    let more = number(words.next()).min(MOST);
+    let count = number(words.next()).min(9) as u32;
+    let mut sums = Sums::new();
+    for call in 0..calls {
+        let disks = disks_with(alloc, parts, Some(call))?;
+        let begun = over_older(alloc, count)?;
+        let seed = seed.wrapping_add(call);
+        one(
+            alloc, &mut sums, call, disks, begun, seed, steps, false, more,
+        )?;
     }
     sums.said(alloc)
 }

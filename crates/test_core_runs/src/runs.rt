@@ -1,6 +1,6 @@
 // Runs of cores, step after step against their events.
 ghost use Rattle.std.specs.Prelude.{◌≡◌, ◌≤◌, ◌<◌, ◌+◌, ◌^◌, length};
-ghost use Rattle.test_core_runs.specs.Cores.{IsTried};
+ghost use Rattle.test_core_runs.specs.Cores.{IsTried, IsSomewhere};
 
 use crate::cores::{FIFO, FIRST, SECOND, WINDOW, open, setup};
 use crate::draws::Draws;
@@ -23,16 +23,59 @@ pub(crate) struct Positions {
 pub(crate) struct Ended {
     pub(crate) run: Run,
     pub(crate) positions: [Positions; 3],
+    /// The core was opened.
+    pub(crate) opened: bool,
     /// After so many steps.
     pub(crate) steps: u64,
     /// Whether each step was right.
     pub(crate) right: bool,
 }
 
-fn same(tally: &Tally, replayed: &Option<Tally>) -> bool {
+fn found_at(stored: u64) -> Positions {
+    Positions {
+        stored,
+        tried: None,
+    }
+}
+
+/// A run that has made no step, over stores of these positions.
+pub(crate) fn unbegun(run: Run, positions: [u64; 3]) -> Ended {
+    Ended {
+        run,
+        positions: [
+            found_at(positions[0]),
+            found_at(positions[1]),
+            found_at(positions[2]),
+        ],
+        opened: true,
+        steps: 0,
+        right: true,
+    }
+}
+
+// The replay counts so many records more.
+fn is_source(source: Option<&SourceTally>, replayed: Option<&SourceTally>, brought: u64) -> bool {
+    let (Some(source), Some(replayed)) = (source, replayed) else {
+        return false;
+    };
+    source.records.saturating_add(brought) == replayed.records
+        && source.mark == replayed.mark
+        && source.stored == replayed.stored
+}
+
+fn are_sources(tally: &Tally, replayed: &Tally, brought: &[u64; 3]) -> bool {
+    let mut same = tally.sources.len() == 3 && replayed.sources.len() == 3;
+    for i in 0..3usize {
+        let replayed = replayed.sources.get(i);
+        same = same & is_source(tally.sources.get(i), replayed, brought[i]);
+    }
+    same
+}
+
+fn same(tally: &Tally, replayed: &Option<Tally>, brought: &[u64; 3]) -> bool {
     match replayed {
         Some(replayed) => {
-            tally.sources.as_slice() == replayed.sources.as_slice()
+            are_sources(tally, replayed, brought)
                 && tally.dests.as_slice() == replayed.dests.as_slice()
         }
         None => false,
@@ -46,14 +89,16 @@ fn is_replayed(alloc: Global, tally: &Tally, run: &Run) -> Result<bool, AllocErr
     }
     let setup = setup(alloc, WINDOW, FIFO, FIRST, SECOND)?;
     let replayed = replay(alloc, &setup, &run.events)?;
-    Ok(same(tally, &replayed))
+    Ok(same(tally, &replayed, &run.brought))
 }
 
-// What a core may find in the store of a source. Where it fails now, its mark was to be stored.
+// What a core may find in the store of a source. Where it fails now, its mark was to be stored, or 0 by a source
+// that was to begin anew.
 fn positions_of(tally: &SourceTally, failed: bool, before: Positions) -> Positions {
     Positions {
         stored: tally.stored.unwrap_or(0),
         tried: match before.tried {
+            None if failed && tally.records == 0 => Some(0),
             None if failed => Some(tally.mark),
             tried => tried,
         },
@@ -69,31 +114,27 @@ fn look_at(tally: &Tally, run: &Run, positions: &mut [Positions; 3]) {
     }
 }
 
-/// Makes so many steps, or stops behind the first one in which a store fails, where that is asked.
+/// Makes so many steps, or stops behind the first one in which a store fails, where that is asked. Records end behind
+/// that place.
 pub(crate) fn run(
     alloc: Global,
     core: &mut Core<MemoryDisk>,
+    begun: Ended,
+    from: u64,
     seed: u64,
     steps: u64,
     brief: bool,
 ) -> Result<Ended, AllocError>
     requires tried { IsTried core.old }
+    requires at { IsSomewhere core.old }
+    requires from { from ≤ 20000 }
     requires steps { steps ≤ 1000 }
     requires few { core.old.calls + 2000 < 2 ^ 54 }
 {
-    let nothing = Positions {
-        stored: 0,
-        tried: None,
-    };
-    let mut ended = Ended {
-        run: Run::new(alloc),
-        positions: [nothing; 3],
-        steps: 0,
-        right: true,
-    };
+    let mut ended = begun;
     let mut draws = Draws::new(seed);
     for k in 0..steps {
-        step(alloc, core, 10 * k + 10, &mut draws, &mut ended.run)?;
+        step(alloc, core, from + 10 * k + 10, &mut draws, &mut ended.run)?;
         let tally = core.tally(alloc)?;
         look_at(&tally, &ended.run, &mut ended.positions);
         ended.steps = k + 1;
@@ -105,22 +146,32 @@ pub(crate) fn run(
     Ok(ended)
 }
 
-/// A core over these disks, so many steps of a run, and the disks then; no run where the core isn't opened.
+/// A core over these disks, so many steps of a run that begins as that one, and the disks then. Where the core isn't
+/// opened, that is to be for a disk that fails.
 pub(crate) fn run_over(
     alloc: Global,
     disks: Vec<MemoryDisk>,
+    begun: Ended,
+    from: u64,
     seed: u64,
     steps: u64,
     brief: bool,
-) -> Result<(Result<Ended, CoreRefusal>, Vec<MemoryDisk>), AllocError>
+) -> Result<(Ended, Vec<MemoryDisk>), AllocError>
     requires disks { length disks.items ≡ 5 }
+    requires from { from ≤ 20000 }
     requires steps { steps ≤ 1000 }
 {
     let mut core = match open(alloc, WINDOW, FIFO, FIRST, SECOND, disks) {
         Ok(core) => core,
-        Err((disks, refusal)) => return Ok((Err(refusal), disks)),
+        Err((_, CoreRefusal::NoMemory)) => return Err(AllocError),
+        Err((disks, refusal)) => {
+            let mut ended = begun;
+            ended.opened = false;
+            ended.right = matches!(refusal, CoreRefusal::DiskFault(_));
+            return Ok((ended, disks));
+        }
     };
-    let ended = run(alloc, &mut core, seed, steps, brief);
+    let ended = run(alloc, &mut core, begun, from, seed, steps, brief);
     let disks = core.into_stores();
-    Ok((Ok(ended?), disks))
+    Ok((ended?, disks))
 }

@@ -1,11 +1,13 @@
 // The calls of a run, drawn at random, and the events that they are.
-ghost use Rattle.std.specs.Prelude.{◌≤◌, ◌<◌, ◌+◌, ◌^◌};
-ghost use Rattle.test_core_runs.specs.Cores.{IsTried};
+ghost use Rattle.std.specs.Prelude.{◌≡◌, ◌≤◌, ◌<◌, ◌+◌, ◌^◌, true, IfOk};
+ghost use Rattle.sg_standing.specs.Sources.{begun_in};
+ghost use Rattle.test_core_runs.specs.Cores.{IsTried, IsSomewhere};
 
 use crate::cores::{FIRST, SECOND};
 use crate::draws::Draws;
-use crate::entries::{Made, draw_records, numbers_of, records_of, short};
+use crate::entries::{Made, draw_records, left_behind, numbers_of, records_of, short};
 use crate::lines::Line;
+use crate::openings::{Found, events_of, forget_place};
 use sg_core::Core;
 use sg_counter::{CoreFront, Refill, Refused, Settled, Stored};
 use sg_list::Seq;
@@ -22,8 +24,14 @@ pub(crate) struct Run {
     /// The offers that were taken in.
     pub(crate) made: Vec<Made>,
     pub(crate) lines: [Line; 3],
+    /// How many records of each source a replay counts that aren't the core's.
+    pub(crate) brought: [u64; 3],
+    // The source began at the position that was found.
+    placed: [bool; 3],
     /// How many fronts were compared.
     pub(crate) fronts: u64,
+    /// How many sources began anew.
+    pub(crate) rewinds: u64,
     /// Whether each answer was right so far.
     pub(crate) right: bool,
 }
@@ -35,9 +43,30 @@ impl Run {
             failed: Vec::new(alloc),
             made: Vec::new(alloc),
             lines: [Line::new(alloc), Line::new(alloc), Line::new(alloc)],
+            brought: [0; 3],
+            placed: [false; 3],
             fronts: 0,
+            rewinds: 0,
             right: true,
         }
+    }
+
+    /// A run over stores in which this is found, of the offers that were made before.
+    pub(crate) fn over(alloc: Global, made: &[Made], found: Found) -> Result<Run, AllocError> {
+        let events = events_of(alloc, made, &found)?;
+        let Found { positions, lines } = found;
+        let mut run = Run::new(alloc);
+        run.events = events;
+        run.made = left_behind(alloc, made)?;
+        run.lines = lines;
+        run.brought[0] = 1;
+        for i in 0..3usize {
+            if positions[i] > 0 {
+                run.placed[i] = true;
+                run.brought[i] = run.brought[i].saturating_add(1);
+            }
+        }
+        Ok(run)
     }
 
     // An event more, in which the stores failed that have failed now and hadn't before. Those.
@@ -75,6 +104,26 @@ impl Run {
             self.lines[2].fail(tried);
         }
         Ok(())
+    }
+
+    // The source has begun anew. A replay knows no position that was found: for it the source begins at 0.
+    fn begin_anew(
+        &mut self,
+        alloc: Global,
+        core: &Core<MemoryDisk>,
+        i: u32,
+    ) -> Result<(), AllocError>
+        requires tried { IsTried core.now }
+        requires inlet { i < 3 }
+    {
+        if !self.placed[i as usize] {
+            return self.look(alloc, core, Act::Rewind(i));
+        }
+        forget_place(alloc, &mut self.events, i);
+        self.placed[i as usize] = false;
+        self.brought[i as usize] = self.brought[i as usize].saturating_sub(1);
+        self.rewinds = self.rewinds.saturating_add(1);
+        self.look(alloc, core, Act::Look)
     }
 
     // The offers from that number on get these verdicts.
@@ -144,6 +193,7 @@ impl Run {
     }
 }
 
+#[tactic(auto, using(crate::proofs::TestLemmas::goes_somewhere))]
 fn feed(
     alloc: Global,
     core: &mut Core<MemoryDisk>,
@@ -153,10 +203,12 @@ fn feed(
     run: &mut Run,
 ) -> Result<(), AllocError>
     requires tried { IsTried core.old }
+    requires at { IsSomewhere core.old }
     requires inlet { i < 3 }
     requires end { end < 2 ^ 32 }
     requires few { core.old.calls + 1 < 2 ^ 54 }
     ensures tried { IsTried core.new }
+    ensures at { IsSomewhere core.new }
     ensures calls { core.new.calls ≤ core.old.calls + 1 }
 {
     let first = run.made.len();
@@ -193,6 +245,7 @@ fn is_back(refused: &Refused, credit: u64, count: u64) -> bool {
 }
 
 // The first entries that are left, so many at most: the first one's place and their numbers.
+#[tactic(auto, using(crate::proofs::TestLemmas::goes_somewhere))]
 fn front(
     alloc: Global,
     core: &mut Core<MemoryDisk>,
@@ -201,11 +254,13 @@ fn front(
     run: &mut Run,
 ) -> Result<(u64, u32), AllocError>
     requires tried { IsTried core.old }
+    requires at { IsSomewhere core.old }
     requires dest { d < 3 }
     requires some { 0 < most }
     requires few { most ≤ 1000 }
     requires calls { core.old.calls + 1 < 2 ^ 54 }
     ensures tried { IsTried core.new }
+    ensures at { IsSomewhere core.new }
     ensures calls { core.new.calls ≤ core.old.calls + 1 }
 {
     let left = run.left(alloc, d)?;
@@ -233,9 +288,11 @@ fn drain(
     run: &mut Run,
 ) -> Result<(), AllocError>
     requires tried { IsTried core.old }
+    requires at { IsSomewhere core.old }
     requires dest { d < 3 }
     requires few { core.old.calls + 2 < 2 ^ 54 }
     ensures tried { IsTried core.new }
+    ensures at { IsSomewhere core.new }
     ensures calls { core.new.calls ≤ core.old.calls + 2 }
 {
     let most = 1 + draws.below(4) as u32;
@@ -249,6 +306,7 @@ fn drain(
     settle(alloc, core, d, place, n, run)
 }
 
+#[tactic(auto, using(crate::proofs::TestLemmas::goes_somewhere))]
 fn settle(
     alloc: Global,
     core: &mut Core<MemoryDisk>,
@@ -258,10 +316,12 @@ fn settle(
     run: &mut Run,
 ) -> Result<(), AllocError>
     requires tried { IsTried core.old }
+    requires at { IsSomewhere core.old }
     requires dest { d < 3 }
     requires some { 0 < n }
     requires few { core.old.calls + 1 < 2 ^ 54 }
     ensures tried { IsTried core.new }
+    ensures at { IsSomewhere core.new }
     ensures calls { core.new.calls ≤ core.old.calls + 1 }
 {
     match core.settle(d, place, n) {
@@ -277,6 +337,7 @@ fn settle(
     }
 }
 
+#[tactic(auto, using(crate::proofs::TestLemmas::goes_somewhere))]
 fn refill(
     alloc: Global,
     core: &mut Core<MemoryDisk>,
@@ -284,9 +345,11 @@ fn refill(
     run: &mut Run,
 ) -> Result<(), AllocError>
     requires tried { IsTried core.old }
+    requires at { IsSomewhere core.old }
     requires dest { d < 3 }
     requires few { core.old.calls + 1 < 2 ^ 54 }
     ensures tried { IsTried core.new }
+    ensures at { IsSomewhere core.new }
     ensures calls { core.new.calls ≤ core.old.calls + 1 }
 {
     match core.refill(d) {
@@ -298,6 +361,7 @@ fn refill(
     }
 }
 
+#[tactic(auto, using(crate::proofs::TestLemmas::goes_somewhere))]
 fn store(
     alloc: Global,
     core: &mut Core<MemoryDisk>,
@@ -305,9 +369,11 @@ fn store(
     run: &mut Run,
 ) -> Result<(), AllocError>
     requires tried { IsTried core.old }
+    requires at { IsSomewhere core.old }
     requires inlet { i < 3 }
     requires few { core.old.calls + 1 < 2 ^ 54 }
     ensures tried { IsTried core.new }
+    ensures at { IsSomewhere core.new }
     ensures calls { core.new.calls ≤ core.old.calls + 1 }
 {
     let act = match core.store(i) {
@@ -315,6 +381,57 @@ fn store(
         Stored::Unchanged | Stored::Broken => Act::Look,
     };
     run.look(alloc, core, act)
+}
+
+// No record of the source came in.
+#[tactic(auto, using(crate::proofs::TestLemmas::unbegun))]
+fn is_unbegun(alloc: Global, core: &Core<MemoryDisk>, i: u32) -> Result<bool, AllocError>
+    requires tried { IsTried core.now }
+    requires at { IsSomewhere core.now }
+    requires inlet { i < 3 }
+    ensures { IfOk result (λ unbegun. unbegun ≡ true → begun_in core.now.sources i ≡ 0) }
+{
+    let tally = core.tally(alloc)?;
+    let Some(source) = tally.sources.get(i as usize) else {
+        return Ok(false);
+    };
+    if source.records == 0 {
+        return Ok(true);
+    }
+    Ok(false)
+}
+
+#[tactic(auto, using(crate::proofs::TestLemmas::goes_somewhere))]
+fn rewind(
+    alloc: Global,
+    core: &mut Core<MemoryDisk>,
+    i: u32,
+    run: &mut Run,
+) -> Result<(), AllocError>
+    requires tried { IsTried core.old }
+    requires at { IsSomewhere core.old }
+    requires inlet { i < 3 }
+    requires few { core.old.calls + 1 < 2 ^ 54 }
+    ensures tried { IsTried core.new }
+    ensures at { IsSomewhere core.new }
+    ensures calls { core.new.calls ≤ core.old.calls + 1 }
+{
+    let unbegun = is_unbegun(alloc, core, i)?;
+    if !unbegun {
+        return Ok(());
+    }
+    let position = core.position(i);
+    match core.rewind(i) {
+        Stored::Wrote(place) => {
+            run.right = run.right & (position > 0) & (place == 0);
+            run.begin_anew(alloc, core, i)
+        }
+        Stored::Unchanged => {
+            run.right = run.right & (position == 0);
+            run.look(alloc, core, Act::Look)
+        }
+        Stored::Broken => run.look(alloc, core, Act::Look),
+    }
 }
 
 /// A call or two. Records that it brings end behind that place.
@@ -326,16 +443,19 @@ pub(crate) fn step(
     run: &mut Run,
 ) -> Result<(), AllocError>
     requires tried { IsTried core.old }
+    requires at { IsSomewhere core.old }
     requires end { end < 2 ^ 32 }
     requires few { core.old.calls + 2 < 2 ^ 54 }
     ensures tried { IsTried core.new }
+    ensures at { IsSomewhere core.new }
     ensures calls { core.new.calls ≤ core.old.calls + 2 }
 {
     let which = draws.below(3) as u32;
-    match draws.below(8) {
+    match draws.below(9) {
         0..=2 => feed(alloc, core, which, end, draws, run),
         3..=5 => drain(alloc, core, which, draws, run),
         6 => refill(alloc, core, which, run),
+        7 => rewind(alloc, core, which, run),
         _ => store(alloc, core, which, run),
     }
 }
