@@ -3,7 +3,7 @@
 
     bench/expansion.py [PROGRAM]     by default the program that syslogr builds
 
-It makes one text for each family, runs `PROGRAM run FILE --once` on it, which expands it and refuses it, and
+It makes one text for each family, runs `PROGRAM check FILE` on it, which expands it and mostly refuses it, and
 prints the text's bytes, the seconds, the processor's seconds and the most memory held, as /usr/bin/time (GNU)
 tells them, the memory beyond that of the first run, and what the program said. It ends with status 1 where a
 family takes more than two seconds of the processor.
@@ -71,7 +71,7 @@ FAMILIES = [
 def run(program, folder):
     """The seconds, the processor's seconds, the peak in KiB, and what was said."""
     figures = os.path.join(folder, "figures")
-    words = ["/usr/bin/time", "-o", figures, "-f", "%e %U %S %M", program, "run", "c", "--once"]
+    words = ["/usr/bin/time", "-o", figures, "-f", "%e %U %S %M", program, "check", "c"]
     said = subprocess.run(words, cwd=folder, stdout=subprocess.PIPE).stdout.decode(errors="replace").strip()
     with open(figures) as lines:
         elapsed, user, system, peak = lines.read().splitlines()[-1].split()
