@@ -1,5 +1,6 @@
 // A small core, and a router that gives each record to one destination.
-ghost use Rattle.std.specs.Prelude.{◌≡◌};
+ghost use Rattle.std.specs.Prelude.{◌≡◌, codes, IfOk, Some};
+ghost use Rattle.sg_msg.specs.Message.{value_of};
 
 use bytes::Bytes;
 use sg_actor::Turned;
@@ -140,7 +141,9 @@ impl Counter for Small {
 const STAMP: Stamp = Stamp { at: 0, offset: 0 };
 
 // A message of this text.
-pub fn message(alloc: Global, text: &[u8]) -> Result<Message, AllocError> {
+pub fn message(alloc: Global, text: &[u8]) -> Result<Message, AllocError>
+    ensures { IfOk result (λ message. value_of (codes "MESSAGE") message.pairs ≡ Some text.now) }
+{
     let mut message = Message::new(alloc, 13, STAMP, STAMP)?;
     match message.set(b"MESSAGE", text) {
         Ok(()) => Ok(message),
