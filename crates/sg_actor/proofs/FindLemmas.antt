@@ -1,5 +1,5 @@
 -- What a turn finds for the core.
-use Rattle.std.proofs.Common.{arith, ◌≡◌, ◌<◌, ℕ, Bool, true, false, List, [], ◌∷◌, length, refl, ap}
+use Rattle.std.proofs.Common.{arith, ◌≡◌, ◌<◌, ℕ, Bool, true, false, List, [], ◌∷◌, length, refl, ap, sym, ◌∙◌}
 use Rattle.std.proofs.lemmas.Bool.Decides.{nat_tests}
 use Rattle.std.specs.Prelude.{◌==◌, ◌&&◌, ◌||◌, not}
 use Rattle.sg_device.specs.Inlet.{InletState}
@@ -66,6 +66,10 @@ or-false false b h = (refl, h)
 
 pub going-of : (reader : Reader) → is_over reader ≡ false → (reader.ended ≡ false) × (reader.failed ≡ false)
 going-of reader h = or-false reader.ended reader.failed h
+
+-- an inlet that had ended isn't pulled
+pub ended-not : (old mid new : Reader) → IsAsBefore old mid → is_over mid ≡ false → old.ended ≡ true → new.ended ≡ true
+ended-not old mid new before going was = absurd (let differ : true ≡ false = sym was ∙ (sym before.ended ∙ (going-of mid going).0) in cc)
 
 -- a part of a turn before its pull, and the pull
 pub keeps-pulled : (offers : ℕ → Record → List Offer → Type 0) (dests : ℕ) (spec : SourceSpec) (a b c : SourceState) (idle : Bool) → Keeps offers dests spec a b → Pulls b c idle

@@ -1,5 +1,5 @@
 -- Records that are handed in.
-use Rattle.std.proofs.Common.{arith, ◌≡◌, ◌<◌, ℕ, Bool, true, false, List, [], ◌∷◌, length, refl, ap, sym, ◌∙◌, subst, inl, inr}
+use Rattle.std.proofs.Common.{arith, ◌≡◌, ◌≤◌, ◌<◌, ℕ, Bool, true, false, List, [], ◌∷◌, ◌++◌, length, refl, ap, sym, ◌∙◌, subst, inl, inr}
 use Rattle.std.proofs.lemmas.List.{append-nil}
 use Rattle.std.proofs.lemmas.Bool.Decides.{nat_tests}
 use Rattle.std.specs.Prelude.{Ok, Err, IsErr, Result, ◌==◌}
@@ -14,7 +14,7 @@ use Rattle.sg_counter.specs.declared.calls.CoreReply.TheVariants.{Credit as Cred
 use Rattle.sg_counter.specs.declared.answers.Refused.TheVariants.{NoCredit, NoMemory as AdmitNoMemory}
 use Rattle.sg_actor.specs.Sources.{SourceState, source, IsReady}
 use Rattle.sg_actor.specs.Steps.{LooksBy, is_bad, is_spent, GivesUp}
-use Rattle.sg_actor.specs.Bringing.{exchange, admitted_in, last_end, AdmitsBy, Admits, Gives, HandsIn, HasRefusal}
+use Rattle.sg_actor.specs.Bringing.{exchange, admitted_in, carried_in, last_end, AdmitsBy, Admits, Gives, HandsIn, HasRefusal}
 use Rattle.sg_actor.specs.declared.reader.Reader.{Reader}
 use Rattle.sg_actor.specs.declared.admitting.Handed.{Handed}
 use Rattle.sg_actor.specs.declared.settings.SourceSpec.{SourceSpec}
@@ -81,9 +81,15 @@ hands-none step counter dests spec feed feed' buffer old new up none gives ready
       unstored = refl;
       gives = gives-by dests spec feed feed' buffer old new up gives none ready;
       moves = inr (held.0, refl);
+      within = omega arith;
+      empties = inl (held.0 ∙ none);
       end = held.1;
       hands = (refl, (λ spent a b. ups-none (HasRefusal []) (is_spent old) (spent-bad old none (up-bad old new feed feed' up gives b)) spent));
     }
+
+-- the records that are held are brought in one call
+all-carried : (held : List Admission) (i : ℕ) (reply : CoreReply) → length (carried_in (exchange (Admit i held) reply ∷ [])) ≤ length held
+all-carried held i reply = (let same : length (held ++ []) ≡ length held = ap length (append-nil held) in omega arith)
 
 -- the records were refused
 refused : {S : Type 0} (step : S → CoreCall → CoreReply → S → Type 0) (counter counter' : S) (dests : ℕ) (spec : SourceSpec) (feed : InletState) (buffer : List ℕ) (old : Reader) (records : List Admission)
@@ -97,6 +103,8 @@ refused step counter counter' dests spec feed buffer old records made ready = re
   unstored = refl;
   gives = gives-none dests spec (source feed old buffer) ready;
   moves = inr (refl, refl);
+  within = all-carried old.held spec.inlet (Admitted (Err (NoCredit records)));
+  empties = inr (inl tt);
   end = refl;
   hands = (refl, (λ spent a b. inl tt));
 }
@@ -122,6 +130,8 @@ starved step counter counter' dests spec feed buffer old records e made ready = 
   unstored = refl;
   gives = gives-none dests spec (source feed old buffer) ready;
   moves = inr (refl, refl);
+  within = all-carried old.held spec.inlet (Admitted (Err (AdmitNoMemory records)));
+  empties = tt;
   end = refl;
   hands = tt;
 }
@@ -161,6 +171,8 @@ hands-unlooked step counter counter' dests spec feed buffer old mid e (reply, ad
       unstored = refl;
       gives = subst (λ r. Gives dests spec (source feed old buffer) (source feed r buffer) 0) (sym is.1.1) (gives-admitted dests spec feed buffer old (last_end old.end old.held) ready);
       moves = inl (ap (λ r. r.held) is.1.1, all);
+      within = all-carried old.held spec.inlet (Admitted (Ok is.0));
+      empties = tt;
       end = ap (λ r. r.end) is.1.1 ∙ ap (λ as'. last_end old.end as') (sym all);
       hands = tt;
     }
@@ -186,6 +198,8 @@ hands-admitted step counter counter' dests spec feed feed' buffer old mid looked
       gives = gives-then dests spec (source feed old buffer) (source feed mid buffer) (source feed' new buffer) _ first
           (gives-then dests spec (source feed mid buffer) (source feed looked buffer) (source feed' new buffer) _ second third);
       moves = inl (held.0 ∙ none, all);
+      within = all-carried old.held spec.inlet (Admitted (Ok is.0));
+      empties = inl (held.0 ∙ none);
       end = held.1 ∙ end-looked mid looked mid.ahead looks ∙ ap (λ r. r.end) is.1.1 ∙ ap (λ as'. last_end old.end as') (sym all);
       hands = (
         lt-yes 0 (length (admitted_in (exchange (Admit spec.inlet old.held) (Admitted (Ok is.0)) ∷ []))) (let same : length (admitted_in (exchange (Admit spec.inlet old.held) (Admitted (Ok is.0)) ∷ [])) ≡ length old.held = ap length all in omega arith),

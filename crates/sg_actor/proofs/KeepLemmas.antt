@@ -1,5 +1,5 @@
 -- Steps one after another, and what each leaves.
-use Rattle.std.proofs.Common.{arith, ◌≡◌, ◌≤◌, ◌<◌, ◌+◌, ◌^◌, ℕ, Bool, true, false, List, [], ◌∷◌, ◌++◌, length, refl, ap, sym, ◌∙◌, subst, append_assoc, length-append}
+use Rattle.std.proofs.Common.{arith, ◌≡◌, ◌≤◌, ◌<◌, ◌+◌, ◌^◌, ℕ, Bool, true, false, List, [], ◌∷◌, ◌++◌, length, refl, ap, sym, ◌∙◌, subst, append_assoc, length-append, max}
 use Rattle.std.proofs.lemmas.List.{append-nil}
 use Rattle.std.specs.Prelude.{ℤ, Ok}
 use Rattle.sg_device.specs.Inlet.{InletState}
@@ -288,6 +288,15 @@ fed-before buffer old new End has = record { ended = ap (λ r. r.ended) has; fai
 pub whole-before : (buffer : List ℕ) (old mid new : Reader) → FedBy buffer old.pulled old mid → HasTaken mid new → IsAsBefore old new
 whole-before buffer old mid new fed taken =
     let b = fed-before buffer old mid old.pulled fed in record { ended = taken.ended ∙ b.ended; failed = taken.failed ∙ b.failed }
+
+fed-held : (buffer : List ℕ) (old new : Reader) (pull : Pull) → FedBy buffer pull old new → new.held ≡ old.held
+fed-held buffer old new (Bytes len at) has = ap (λ r. r.held) has.rest
+fed-held buffer old new Next has = ap (λ r. r.held) has
+fed-held buffer old new Idle has = ap (λ r. r.held) has
+fed-held buffer old new End has = ap (λ r. r.held) has
+
+pub whole-few : (buffer : List ℕ) (old mid new : Reader) (most : ℕ) → FedBy buffer old.pulled old mid → length new.held ≤ max (length mid.held) most → length new.held ≤ max (length old.held) most
+whole-few buffer old mid new most fed few = (let same : length mid.held ≡ length old.held = ap length (fed-held buffer old mid old.pulled fed) in omega arith)
 
 pub whole-fed : (buffer : List ℕ) (old mid new : Reader) → FedBy buffer old.pulled old mid → HasTaken mid new → IsFed new.pulled
 whole-fed buffer old mid new fed taken =

@@ -1,5 +1,5 @@
 -- What a source's turn does with its inlet.
-use Rattle.std.proofs.Common.{arith, ◌≡◌, ◌≤◌, ◌+◌, ℕ, Bool, true, false, List, [], ◌++◌, length, refl, ap, sym, ◌∙◌, subst, inl, inr}
+use Rattle.std.proofs.Common.{arith, ◌≡◌, ◌≤◌, ◌+◌, ℕ, Bool, true, false, List, [], ◌++◌, length, max, refl, ap, sym, ◌∙◌, subst, inl, inr}
 use Rattle.std.proofs.lemmas.List.{append-nil}
 use Rattle.std.specs.Prelude.{Ok, Err, IsErr, Result}
 use Rattle.std.specs.declared.alloc.AllocError.{AllocError}
@@ -87,6 +87,8 @@ on-poor offers dests spec step counter credit a poor k pulled idle = record {
   few = omega arith;
   brings = brings-kept offers dests spec step counter a a k;
   pulls = omega arith;
+  within = omega arith;
+  empties = inl (poor, refl);
   does = record { brought = pulled; idled = idle; took = refl; nothing = λ p q r s. inl poor };
 }
 
@@ -98,6 +100,8 @@ on-over offers dests spec step counter credit a b k finds pulls = record {
   few = omega arith;
   brings = brings-kept offers dests spec step counter a b k;
   pulls = pulls;
+  within = omega arith;
+  empties = inr (inl ((finds.2).spent).held);
   does = record { brought = finds.0; idled = finds.1; took = refl; nothing = λ p q r s. inr (inr finds.2) };
 }
 
@@ -109,6 +113,8 @@ on-idle offers dests spec step counter credit a b k finds pulls = record {
   few = omega arith;
   brings = brings-kept offers dests spec step counter a b k;
   pulls = pulls;
+  within = omega arith;
+  empties = inr (inl finds.2);
   does = record { brought = finds.0; idled = finds.1; took = refl; nothing = (λ p q r s. absurd (let differ : true ≡ false = s in cc)) };
 }
 
@@ -120,29 +126,36 @@ on-unfound offers dests spec step counter credit a b (Err e) is k pulls = record
   few = omega arith;
   brings = brings-kept offers dests spec step counter a b k;
   pulls = pulls;
+  within = omega arith;
+  empties = tt;
   does = tt;
 }
 
 pub on-starved : {S : Type 0} (offers : ℕ → Record → List Offer → Type 0) (dests : ℕ) (spec : SourceSpec) (step : S → CoreCall → CoreReply → S → Type 0) (counter counter' : S) (credit : ℕ) (a b c : SourceState) (e : AllocError) (r : Result Doings AllocError)
-    → IsErr r → Keeps offers dests spec a b → HandsIn {E = AllocError} dests spec step counter counter' b c (Err e) → b.feed.pulls ≤ a.feed.pulls + 1
+    → IsErr r → Keeps offers dests spec a b → HandsIn {E = AllocError} dests spec step counter counter' b c (Err e) → b.feed.pulls ≤ a.feed.pulls + 1 → length b.reader.held ≤ max (length a.reader.held) credit
     → ReadsOn {E = AllocError} offers dests spec step counter counter' credit a c r
-on-starved offers dests spec step counter counter' credit a b c e (Ok doings) is k h pulls = absurd (let differ : false ≡ true = is in cc)
-on-starved offers dests spec step counter counter' credit a b c e (Err e') is k h pulls = record {
+on-starved offers dests spec step counter counter' credit a b c e (Ok doings) is k h pulls few = absurd (let differ : false ≡ true = is in cc)
+on-starved offers dests spec step counter counter' credit a b c e (Err e') is k h pulls few = record {
   made = h.made;
   few = h.few;
   brings = brings-handed offers dests spec step counter counter' a b c (Err e) k h;
   pulls = omega (arith, h.gives.unpulled.pulls);
+  within = omega (arith, h.within, few);
+  empties = tt;
   does = tt;
 }
 
 pub on-handed : {S : Type 0} (offers : ℕ → Record → List Offer → Type 0) (dests : ℕ) (spec : SourceSpec) (step : S → CoreCall → CoreReply → S → Type 0) (counter counter' : S) (credit : ℕ) (a b c : SourceState) (pulled : Bool) (handed : Handed)
     → Keeps offers dests spec a b → Finds {E = AllocError} a b (Ok (Work pulled)) → HandsIn {E = AllocError} dests spec step counter counter' b c (Ok handed) → b.feed.pulls ≤ a.feed.pulls + 1
+    → length b.reader.held ≤ max (length a.reader.held) credit
     → ReadsOn {E = AllocError} offers dests spec step counter counter' credit a c (Ok (record { pulled = pulled; admitted = handed.admitted; gave_up = handed.gave_up; idle = false }))
-on-handed offers dests spec step counter counter' credit a b c pulled handed k finds h pulls = record {
+on-handed offers dests spec step counter counter' credit a b c pulled handed k finds h pulls few = record {
   made = h.made;
   few = h.few;
   brings = brings-handed offers dests spec step counter counter' a b c (Ok handed) k h;
   pulls = omega (arith, h.gives.unpulled.pulls);
+  within = omega (arith, h.within, few);
+  empties = inr h.empties;
   does = record {
     brought = unpulled-as a b c h.gives.unpulled ∙ finds.0;
     idled = unpulled-idle a b c h.gives.unpulled ∙ finds.1;

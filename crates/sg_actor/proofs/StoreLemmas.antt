@@ -28,6 +28,7 @@ stores-one spec step counter counter' rests end old broken news answer stored du
   makes = (counter', made, refl);
   own = (refl, tt);
   admits = refl;
+  carries = refl;
   asks = rw (stored, due) refl;
   position = ap (λ b. record old { asked = end; broken = b }) is;
   tells = tells;

@@ -15,10 +15,11 @@ use Rattle.sg_counter.specs.declared.answers.Stored.TheVariants.{Wrote, Unchange
 use Rattle.sg_actor.specs.Reading.{one_if}
 use Rattle.sg_actor.specs.Sources.{SourceState, AreOf}
 use Rattle.sg_actor.specs.Steps.{IsOver, Fails}
-use Rattle.sg_actor.specs.Bringing.{exchange, AllBy, admitted_by, admitted_in, stored_by, has_admitted, stores_in, last_end, HasRefusal, HadNothing, ReadsOn, is_nothing}
+use Rattle.sg_actor.specs.Bringing.{exchange, AllBy, admitted_by, admitted_in, carried_by, carried_in, stored_by, has_admitted, stores_in, last_end, HasRefusal, HasSentBack, HadNothing, ReadsOn, is_nothing}
 use Rattle.sg_actor.specs.Positions.{is_same_credit, is_due, has_news, after_stores, Stores}
 use Rattle.sg_actor.specs.SourceTurns.{ActorState, rests, TakesTurn, bad_after}
 use Rattle.sg_actor.specs.declared.position.Position.{Position}
+use Rattle.sg_actor.specs.declared.reader.Reader.{Reader}
 use Rattle.sg_actor.specs.declared.reading.Doings.{Doings}
 use Rattle.sg_actor.specs.declared.settings.SourceSpec.{SourceSpec}
 use Rattle.sg_actor.specs.declared.turned.Turned.{Turned}
@@ -38,6 +39,33 @@ admitted-append [] ys = refl
 admitted-append (x ∷ xs) ys =
     ap (λ as'. admitted_by x.call x.reply ++ as') (admitted-append xs ys) ∙ sym (append_assoc (admitted_by x.call x.reply) (admitted_in xs) (admitted_in ys))
 
+all-nil : {A : Type 0} (xs ys : List A) → xs ++ ys ≡ [] → ys ≡ []
+all-nil [] ys h = h
+all-nil (x ∷ xs) ys h = absurd (let differ : x ∷ (xs ++ ys) ≡ [] = h in cc)
+
+carried-append : (xs ys : List Exchange) → carried_in (xs ++ ys) ≡ carried_in xs ++ carried_in ys
+carried-append [] ys = refl
+carried-append (x ∷ xs) ys =
+    ap (λ as'. carried_by x.call ++ as') (carried-append xs ys) ∙ sym (append_assoc (carried_by x.call) (carried_in xs) (carried_in ys))
+
+-- one call at most, and those behind it bring nothing
+carried-behind : (x : Exchange) (xs : List Exchange) → carried_by x.call ++ carried_in xs ≡ [] → carried_in xs ≡ []
+carried-behind x xs h = all-nil (carried_by x.call) (carried_in xs) h
+
+carried-drop : (xs : List Exchange) → carried_in xs ≡ [] → carried_in (drop 1 xs) ≡ []
+carried-drop [] h = refl
+carried-drop (x ∷ xs) h = carried-behind x xs h
+
+second-only : (xs ys : List Exchange) → length xs ≤ 1 → carried_in ys ≡ [] → carried_in (drop 1 (xs ++ ys)) ≡ []
+second-only [] ys few none = carried-drop ys none
+second-only (x ∷ []) ys few none = none
+second-only (x ∷ y ∷ xs) ys few none = absurd (omega arith)
+
+second-none : (xs : List Exchange) → length xs ≤ 1 → carried_in (drop 1 xs) ≡ []
+second-none [] few = refl
+second-none (x ∷ []) few = refl
+second-none (x ∷ y ∷ xs) few = absurd (omega arith)
+
 stores-append : (xs ys : List Exchange) → stores_in (xs ++ ys) ≡ stores_in xs ++ stores_in ys
 stores-append [] ys = refl
 stores-append (x ∷ xs) ys =
@@ -47,6 +75,11 @@ refusal-append : (xs ys : List Exchange) → HasRefusal xs → HasRefusal (xs ++
 refusal-append [] ys h = absurd h
 refusal-append (x ∷ xs) ys (inl h) = inl h
 refusal-append (x ∷ xs) ys (inr h) = inr (refusal-append xs ys h)
+
+sent-append : (xs ys : List Exchange) → HasSentBack xs → HasSentBack (xs ++ ys)
+sent-append [] ys h = absurd h
+sent-append (x ∷ xs) ys (inl h) = inl h
+sent-append (x ∷ xs) ys (inr h) = inr (sent-append xs ys h)
 
 -- What was done.
 
@@ -94,9 +127,10 @@ stored-empty (s ∷ t ∷ ss) end old false more is count quiet = absurd (omega 
 pub turn-starved : {S : Type 0} (offers : ℕ → Record → List Offer → Type 0) (dests : ℕ) (spec : SourceSpec) (step : S → CoreCall → CoreReply → S → Type 0) (counter mid counter' : S) (credit : ℕ) (old : ActorState) (b : SourceState)
     (position : Position) (e : AllocError) (r : Result Turned AllocError) → IsErr r → step counter (Credit spec.inlet) (CreditReply credit) mid → position ≡ record old.position { credit = Some credit }
     → ReadsOn {E = AllocError} offers dests spec step mid counter' credit old.source b (Err e) → Fails old.source.reader.failed b.reader.failed old.source.feed.faults b.feed.faults
+    → (old.source.reader.ended ≡ true → b.reader.ended ≡ true)
     → TakesTurn {E = AllocError} offers dests spec step counter counter' old (record { source = b; position = position; bad_frames = old.bad_frames }) r
-turn-starved offers dests spec step counter mid counter' credit old b position e (Ok turned) is asked noted h failing = absurd (let differ : false ≡ true = is in cc)
-turn-starved offers dests spec step counter mid counter' credit old b position e (Err e') is asked noted h failing = (
+turn-starved offers dests spec step counter mid counter' credit old b position e (Ok turned) is asked noted h failing ended = absurd (let differ : false ≡ true = is in cc)
+turn-starved offers dests spec step counter mid counter' credit old b position e (Err e') is asked noted h failing ended = (
   exchange (Credit spec.inlet) (CreditReply credit) ∷ h.made,
   (
     0,
@@ -110,9 +144,13 @@ turn-starved offers dests spec step counter mid counter' credit old b position e
         ready = h.brings.ready;
         advances = h.brings.advances;
         failing = failing;
+        ended = ended;
         pulls = h.pulls;
         admits = h.brings.reads;
         fetched = h.brings.fetched;
+        brings = second-none h.made h.few;
+        within = h.within;
+        empties = tt;
         end = h.brings.end;
         one = omega arith;
         parts = h.brings.parts;
@@ -137,16 +175,24 @@ had-nothing i credit made more b (inl poor) = inl (inl poor)
 had-nothing i credit made more b (inr (inl refused)) = inl (inr (refusal-append made more refused))
 had-nothing i credit made more b (inr (inr over)) = inr over
 
+emptied : (i credit : ℕ) (made more : List Exchange) (old new : Reader) → ((credit ≡ 0) × (new.held ≡ old.held)) ⊎ ((new.held ≡ []) ⊎ HasSentBack made)
+    → ((credit ≡ 0) × (new.held ≡ old.held)) ⊎ ((new.held ≡ []) ⊎ HasSentBack (exchange (Credit i) (CreditReply credit) ∷ (made ++ more)))
+emptied i credit made more old new (inl poor) = inl poor
+emptied i credit made more old new (inr (inl none)) = inr (inl none)
+emptied i credit made more old new (inr (inr sent)) = inr (inr (inr (sent-append made more sent)))
+
 pub turn-done : {S : Type 0} (offers : ℕ → Record → List Offer → Type 0) (dests : ℕ) (spec : SourceSpec) (step : S → CoreCall → CoreReply → S → Type 0) (counter mid third counter' : S) (credit : ℕ) (old : ActorState) (b : SourceState)
     (noted position : Position) (doings : Doings) (same quiet news did : Bool) (bad : ℕ)
     → step counter (Credit spec.inlet) (CreditReply credit) mid → noted ≡ record old.position { credit = Some credit } → same ≡ is_same_credit old.position.credit credit
     → ReadsOn {E = AllocError} offers dests spec step mid third credit old.source b (Ok doings) → quiet ≡ (same && is_nothing doings)
     → Stores spec step third counter' quiet b.reader.end noted position news → did ≡ (not quiet || news) → bad ≡ bad_after old.bad_frames (one_if doings.gave_up)
     → Fails old.source.reader.failed b.reader.failed old.source.feed.faults b.feed.faults
+    → (old.source.reader.ended ≡ true → b.reader.ended ≡ true)
     → TakesTurn {E = AllocError} offers dests spec step counter counter' old (record { source = b; position = position; bad_frames = bad }) (Ok (record { did = did; idle = doings.idle }))
-turn-done offers dests spec step counter mid third counter' credit old b noted position doings same quiet news did bad asked noted-is same-is h quiet-is s did-is bad-is failing =
+turn-done offers dests spec step counter mid third counter' credit old b noted position doings same quiet news did bad asked noted-is same-is h quiet-is s did-is bad-is failing ended =
     let made : List Exchange = exchange (Credit spec.inlet) (CreditReply credit) ∷ (h.made ++ s.made) in
     let admitted : admitted_in made ≡ admitted_in h.made = admitted-append h.made s.made ∙ ap (λ as'. admitted_in h.made ++ as') s.admits ∙ append-nil (admitted_in h.made) in
+    let carried : carried_in made ≡ carried_in h.made = carried-append h.made s.made ∙ ap (λ as'. carried_in h.made ++ as') s.carries ∙ append-nil (carried_in h.made) in
     let stores : stores_in made ≡ stores_in s.made = stores-append h.made s.made ∙ ap (λ ss. ss ++ stores_in s.made) h.brings.unstored in
     let took : has_admitted made ≡ doings.admitted = ap (λ as'. nat_lt 0 (length as')) admitted ∙ h.does.took in
     let new : ActorState = record { source = b; position = position; bad_frames = bad } in
@@ -166,11 +212,15 @@ turn-done offers dests spec step counter mid third counter' credit old b noted p
             ready = h.brings.ready;
             advances = h.brings.advances;
             failing = failing;
+            ended = ended;
             pulls = h.pulls;
             admits = (λ done before read.
                 let at-b = h.brings.reads done before read in
                 (at-b.0, (subst (λ as'. AreOf offers spec at-b.0 as') (sym admitted) at-b.1.0, at-b.1.1)));
             fetched = rw admitted h.brings.fetched;
+            brings = second-only h.made s.made h.few s.carries;
+            within = rw carried h.within;
+            empties = emptied spec.inlet credit h.made s.made old.source.reader b.reader h.empties;
             end = h.brings.end ∙ ap (λ as'. last_end old.source.reader.end as') (sym admitted);
             one = few-up doings.gave_up;
             parts = h.brings.parts;

@@ -1,5 +1,5 @@
 -- Calls of a source, and the records that they bring to the core.
-use Rattle.std.specs.Prelude.{◌≡◌, ◌≤◌, ◌⊎◌, ℕ, ◌+◌, Bool, true, false, ◌&&◌, not, nat_lt, List, [], ◌∷◌, ◌++◌, length, Result, Ok, Err}
+use Rattle.std.specs.Prelude.{◌≡◌, ◌≤◌, ◌⊎◌, ℕ, ◌+◌, Bool, true, false, ◌&&◌, not, nat_lt, max, List, [], ◌∷◌, ◌++◌, length, Result, Ok, Err}
 use Rattle.sg_device.specs.Inlet.{Advances}
 use Rattle.sg_msg.specs.declared.offer.Offer.{Offer}
 use Rattle.sg_machine.specs.declared.event.Admission.{Admission}
@@ -39,6 +39,15 @@ admitted_in (e ∷ es) = admitted_by e.call e.reply ++ admitted_in es
 abbrev pub has_admitted : List Exchange → Bool
 has_admitted made = nat_lt 0 (length (admitted_in made))
 
+-- the records that were brought to the core, admitted or not
+abbrev pub carried_by : CoreCall → List Admission
+carried_by (Admit i records) = records
+carried_by call = []
+
+abbrev pub carried_in : List Exchange → List Admission
+carried_in [] = []
+carried_in (e ∷ es) = carried_by e.call ++ carried_in es
+
 -- the end of the last of these records, that place where there is none
 abbrev pub last_end : ℕ → List Admission → ℕ
 last_end end [] = end
@@ -62,6 +71,25 @@ IsRefusal reply = ⊥
 abbrev pub HasRefusal : List Exchange → Type 0
 HasRefusal [] = ⊥
 HasRefusal (e ∷ es) = IsRefusal e.reply ⊎ HasRefusal es
+
+-- the source had not enough credit for the records that it brought
+abbrev pub IsSentBack : CoreReply → Type 0
+IsSentBack (Admitted (Err (NoCredit records))) = Unit {0}
+IsSentBack reply = ⊥
+
+abbrev pub HasSentBack : List Exchange → Type 0
+HasSentBack [] = ⊥
+HasSentBack (e ∷ es) = IsSentBack e.reply ⊎ HasSentBack es
+
+-- no record is held behind what came to its end, but where some were sent back
+abbrev pub Empties : {A E : Type 0} → Reader → List Exchange → Result A E → Type 0
+Empties new made (Ok done) = (new.held ≡ []) ⊎ HasSentBack made
+Empties new made (Err e) = Unit {0}
+
+-- and without credit those are still held that were
+abbrev pub EmptiesOn : {A E : Type 0} → ℕ → Reader → Reader → List Exchange → Result A E → Type 0
+EmptiesOn credit old new made (Ok done) = ((credit ≡ 0) × (new.held ≡ old.held)) ⊎ ((new.held ≡ []) ⊎ HasSentBack made)
+EmptiesOn credit old new made (Err e) = Unit {0}
 
 -- the records that are held were brought to the core in one call: they were admitted, or they are still held
 abbrev pub AdmitsBy : {E : Type 0} → Reader → Reader → CoreReply → Result Bool E → Type 0
@@ -129,6 +157,8 @@ pub record HandsIn {S E : Type 0} (dests : ℕ) (spec : SourceSpec) (step : S �
   pub unstored : stores_in made ≡ []
   pub gives : Gives dests spec old new (ups_of result)
   pub moves : Moves old.reader.held new.reader.held (admitted_in made)
+  pub within : length (carried_in made) ≤ length old.reader.held
+  pub empties : Empties new.reader made result
   pub end : new.reader.end ≡ last_end old.reader.end (admitted_in made)
   pub hands : HandsBy old made result
 
@@ -157,6 +187,8 @@ pub record ReadsOn {S E : Type 0} (offers : ℕ → Record → List Offer → Ty
   pub few : length made ≤ 1
   pub brings : Brings offers dests spec step counter counter' old new (ups_done result) made
   pub pulls : new.feed.pulls ≤ old.feed.pulls + 1
+  pub within : length (carried_in made) ≤ max (length old.reader.held) credit
+  pub empties : EmptiesOn credit old.reader new.reader made result
   pub does : Does credit old new made result
 
 abbrev pub is_nothing : Doings → Bool

@@ -6,7 +6,7 @@ use Rattle.sg_counter.specs.declared.calls.CoreReply.{CoreReply}
 use Rattle.sg_counter.specs.declared.answers.Stored.{Stored}
 use Rattle.sg_counter.specs.declared.answers.Stored.TheVariants.{Wrote, Unchanged, Broken}
 use Rattle.sg_actor.specs.Reading.{one_if}
-use Rattle.sg_actor.specs.Bringing.{AllBy, admitted_in, stores_in}
+use Rattle.sg_actor.specs.Bringing.{AllBy, admitted_in, carried_in, stores_in}
 use Rattle.sg_actor.specs.declared.position.Position.{Position}
 use Rattle.sg_actor.specs.declared.settings.SourceSpec.{SourceSpec}
 
@@ -48,6 +48,7 @@ pub record Stores {S : Type 0} (spec : SourceSpec) (step : S → CoreCall → Co
   pub makes : Makes step counter made counter'
   pub own : AllBy (OfSource spec.inlet) made
   pub admits : admitted_in made ≡ []
+  pub carries : carried_in made ≡ []
   pub asks : length (stores_in made) ≡ one_if (spec.stored && is_due old rests end)
   pub position : new ≡ after_stores end (stores_in made) old
   pub tells : news ≡ has_news (stores_in made)

@@ -1,5 +1,5 @@
 -- A turn of a source.
-use Rattle.std.specs.Prelude.{◌≡◌, ◌≤◌, ◌<◌, ◌⊎◌, ℕ, ◌+◌, ◌-◌, ◌^◌, ◌||◌, ◌&&◌, not, nat_lt, min, zero, suc, is_some, Bool, true, false, Some, None, List, [], ◌∷◌, ◌++◌, length, Result, Ok, Err}
+use Rattle.std.specs.Prelude.{◌≡◌, ◌≤◌, ◌<◌, ◌⊎◌, ℕ, ◌+◌, ◌-◌, ◌^◌, ◌||◌, ◌&&◌, not, nat_lt, min, max, drop, zero, suc, is_some, Bool, true, false, Some, None, List, [], ◌∷◌, ◌++◌, length, Result, Ok, Err}
 use Rattle.sg_device.specs.Inlet.{InletState, Advances}
 use Rattle.sg_msg.specs.declared.offer.Offer.{Offer}
 use Rattle.sg_machine.specs.declared.setup.Setup.{Setup}
@@ -14,7 +14,7 @@ use Rattle.sg_counter.specs.declared.answers.Stored.TheVariants.{Unchanged}
 use Rattle.sg_actor.specs.Reading.{one_if}
 use Rattle.sg_actor.specs.Sources.{SourceState, AreOf, HasRead, IsReady}
 use Rattle.sg_actor.specs.Steps.{parts_over, has_pulled, was_idle, IsOver, Fails}
-use Rattle.sg_actor.specs.Bringing.{exchange, AllBy, admitted_in, has_admitted, stores_in, last_end, HasRefusal}
+use Rattle.sg_actor.specs.Bringing.{exchange, AllBy, admitted_in, carried_in, has_admitted, stores_in, last_end, HasRefusal, EmptiesOn}
 use Rattle.sg_actor.specs.Positions.{is_same_credit, is_due, has_news, after_stores}
 use Rattle.sg_actor.specs.declared.position.Position.{Position}
 use Rattle.sg_actor.specs.declared.reader.Reader.{Reader}
@@ -90,10 +90,17 @@ pub record TurnsWith {S E : Type 0} (offers : ℕ → Record → List Offer → 
   pub ready : IsReady dests spec new.source
   pub advances : Advances old.source.feed new.source.feed
   pub failing : Fails old.source.reader.failed new.source.reader.failed old.source.feed.faults new.source.feed.faults
+  -- an inlet that has ended isn't begun anew
+  pub ended : old.source.reader.ended ≡ true → new.source.reader.ended ≡ true
   pub pulls : new.source.feed.pulls ≤ old.source.feed.pulls + 1
   pub admits : (done : List Record) (before : ℕ) → HasRead offers spec old.source done before
       → (taken : List Record) × (AreOf offers spec taken (admitted_in made) × HasRead offers spec new.source (done ++ taken) (before + ups))
   pub fetched : length (admitted_in made) ≤ spec.fetch
+  -- Records are brought in the second call alone, no more than the credit unless more were held; and none is held behind the turn, unless
+  -- memory ran out.
+  pub brings : carried_in (drop 2 made) ≡ []
+  pub within : length (carried_in made) ≤ max (length old.source.reader.held) credit
+  pub empties : EmptiesOn credit old.source.reader new.source.reader made result
   pub end : new.source.reader.end ≡ last_end old.source.reader.end (admitted_in made)
   -- a part is given up once
   pub one : ups ≤ 1
@@ -110,6 +117,7 @@ TakesTurn offers dests spec step counter counter' old new result =
 pub record IsNewSource (offers : ℕ → Record → List Offer → Type 0) (dests : ℕ) (spec : SourceSpec) (s : ActorState) : Type 0 where
   pub ready : IsReady dests spec s.source
   pub reads : HasRead offers spec s.source [] 0
+  pub held : s.source.reader.held ≡ []
   pub going : (s.source.reader.ended ≡ false) × (s.source.reader.failed ≡ false)
   pub end : s.source.reader.end ≡ spec.from
   pub first : s.position.credit ≡ None

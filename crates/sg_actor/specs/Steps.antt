@@ -199,7 +199,7 @@ pub record IsOver (reader : Reader) : Type 0 where
 -- what a turn finds: where nothing was pulled there is something for the core
 abbrev pub Finds : {E : Type 0} → SourceState → SourceState → Result Found E → Type 0
 Finds old new (Ok (Work pulled)) = (has_pulled old new ≡ pulled) × (was_idle old new ≡ false) × (pulled ≡ false → is_spent new.reader ≡ false)
-Finds old new (Ok FoundIdle) = (has_pulled old new ≡ false) × (was_idle old new ≡ true)
+Finds old new (Ok FoundIdle) = (has_pulled old new ≡ false) × (was_idle old new ≡ true) × (new.reader.held ≡ [])
 Finds old new (Ok Over) = (has_pulled old new ≡ false) × (was_idle old new ≡ false) × IsOver new.reader
 Finds old new (Err e) = Unit {0}
 

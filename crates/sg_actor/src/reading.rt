@@ -1,5 +1,5 @@
 // What a source's turn does with its inlet.
-ghost use Rattle.std.specs.Prelude.{◌≡◌, ◌≤◌, ◌<◌, ◌+◌, length};
+ghost use Rattle.std.specs.Prelude.{◌≡◌, ◌≤◌, ◌<◌, ◌+◌, length, max, true};
 ghost use Rattle.sg_actor.specs.Sources.{source, IsReady};
 ghost use Rattle.sg_actor.specs.Bringing.{ReadsOn};
 ghost use Rattle.sg_actor.specs.Steps.{is_spent, is_over, Keeps, Finds, ReadsAll, IsAsBefore, SameRouter, Fails};
@@ -69,6 +69,7 @@ fn read_whole<R: Router, I: Inlet>(
         (source (I.state inlet.now) reader.new buffer.now) }
     ensures reads { ReadsAll most reader.new result }
     ensures before { IsAsBefore reader.old reader.new }
+    ensures few { length reader.new.held ≤ max (length reader.old.held) most }
     ensures router { SameRouter (R.offers router.old) (R.offers router.new) (R.inlets router.old)
         (R.inlets router.new) (R.dests router.old) (R.dests router.new) }
 {
@@ -98,6 +99,8 @@ fn find_work<R: Router, I: Inlet>(
         (source (I.state inlet.new) reader.new buffer.new) }
     ensures finds { Finds (source (I.state inlet.old) reader.old buffer.old)
         (source (I.state inlet.new) reader.new buffer.new) result }
+    ensures few { length reader.new.held ≤ max (length reader.old.held) most }
+    ensures ended { reader.old.ended ≡ true → reader.new.ended ≡ true }
     ensures pulls { (I.state inlet.new).pulls ≤ (I.state inlet.old).pulls + 1 }
     ensures failing { Fails reader.old.failed reader.new.failed
         (I.state inlet.old).faults (I.state inlet.new).faults }
@@ -156,6 +159,7 @@ pub(crate) fn read_on<T: Wait, C: Counter, R: Router, I: Inlet>(
     ensures reads { ReadsOn (R.offers router.old) (R.dests router.old) spec.now C.step counter.old
         counter.new credit (source (I.state inlet.old) reader.old buffer.old)
         (source (I.state inlet.new) reader.new buffer.new) result }
+    ensures ended { reader.old.ended ≡ true → reader.new.ended ≡ true }
     ensures failing { Fails reader.old.failed reader.new.failed
         (I.state inlet.old).faults (I.state inlet.new).faults }
     ensures router { SameRouter (R.offers router.old) (R.offers router.new) (R.inlets router.old)

@@ -1,5 +1,5 @@
 // Items that become records to be admitted.
-ghost use Rattle.std.specs.Prelude.{◌≡◌, ◌≤◌, ◌<◌, ◌+◌, ◌^◌, length};
+ghost use Rattle.std.specs.Prelude.{◌≡◌, ◌≤◌, ◌<◌, ◌+◌, ◌^◌, length, max};
 ghost use Rattle.sg_actor.specs.Sources.{source};
 ghost use Rattle.sg_actor.specs.Steps.{IsSafe, KeepsAll, HasTaken, TakesOne, TakesAll, SameRouter, end_at};
 
@@ -68,6 +68,7 @@ pub(crate) fn take_items<R: Router, I: Inlet>(
     ensures keeps { KeepsAll (R.offers router.old) (R.dests router.old) spec.now
         (I.state inlet.now) reader.old reader.new }
     ensures takes { TakesAll most reader.new result }
+    ensures few { length reader.new.held ≤ max (length reader.old.held) most }
     ensures taken { HasTaken reader.old reader.new }
     ensures router { SameRouter (R.offers router.old) (R.offers router.new) (R.inlets router.old)
         (R.inlets router.new) (R.dests router.old) (R.dests router.new) }

@@ -8,6 +8,7 @@ mod outlets;
 mod paths;
 mod stores;
 mod streams;
+mod threads;
 
 pub use cells::{InletCell, OutletCell, PathsCell, StoreCell};
 pub use inlets::{HostFeed, HostInlets, OpenedInlet, Source};

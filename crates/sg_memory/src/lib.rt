@@ -15,6 +15,7 @@ mod parts;
 mod paths;
 mod place;
 mod plans;
+mod threads;
 mod world;
 
 pub use cells::{InletCell, OutletCell, PathsCell};

@@ -56,11 +56,15 @@ turns-as old new dests spec x y result made ups credit same h = record {
   ready = h.ready;
   advances = h.advances;
   failing = h.failing;
+  ended = h.ended;
   pulls = h.pulls;
   admits = (λ done before read.
       let r = h.admits done before (read-as old new spec same.forth x.source done before read) in
       (r.0, (are-as new old spec same.back r.0 (admitted_in made) r.1.0, read-as new old spec same.back y.source (done ++ r.0) (before + ups) r.1.1)));
   fetched = h.fetched;
+  brings = h.brings;
+  within = h.within;
+  empties = h.empties;
   end = h.end;
   one = h.one;
   parts = h.parts;

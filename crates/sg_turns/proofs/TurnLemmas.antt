@@ -75,9 +75,13 @@ source-any offers dests spec step counter counter' old new (Ok turned) made ups 
   ready = h.ready;
   advances = h.advances;
   failing = h.failing;
+  ended = h.ended;
   pulls = h.pulls;
   admits = h.admits;
   fetched = h.fetched;
+  brings = h.brings;
+  within = h.within;
+  empties = h.empties;
   end = h.end;
   one = h.one;
   parts = h.parts;
@@ -93,9 +97,13 @@ source-any offers dests spec step counter counter' old new (Err e) made ups cred
   ready = h.ready;
   advances = h.advances;
   failing = h.failing;
+  ended = h.ended;
   pulls = h.pulls;
   admits = h.admits;
   fetched = h.fetched;
+  brings = h.brings;
+  within = h.within;
+  empties = tt;
   end = h.end;
   one = h.one;
   parts = h.parts;

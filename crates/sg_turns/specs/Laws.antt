@@ -7,7 +7,9 @@ use Rattle.sg_frame.specs.Records.{Record}
 use Rattle.sg_counter.specs.Exchanges.{Exchange}
 use Rattle.sg_counter.specs.declared.calls.CoreCall.{CoreCall}
 use Rattle.sg_counter.specs.declared.calls.CoreCall.TheVariants.{Settle}
-use Rattle.sg_actor.specs.Bringing.{admitted_in}
+use Rattle.sg_counter.specs.declared.calls.CoreReply.{CoreReply}
+use Rattle.sg_counter.specs.declared.calls.CoreReply.TheVariants.{Credit as CreditReply}
+use Rattle.sg_actor.specs.Bringing.{admitted_in, carried_by, IsSentBack}
 use Rattle.sg_actor.specs.Rendering.{frames_by}
 use Rattle.sg_actor.specs.Sources.{AreOf, HasRead, IsReady}
 use Rattle.sg_actor.specs.Outages.{HasFailures}
@@ -16,7 +18,7 @@ use Rattle.sg_actor.specs.DestTurns.{shown_in, IsShownEmpty}
 use Rattle.sg_actor.specs.declared.rendering.DestSpec.{DestSpec}
 use Rattle.sg_actor.specs.declared.settings.SourceSpec.{SourceSpec}
 use Rattle.sg_turns.specs.Turns.{Turn, calls_of, TookTurns, DestState, SentTurns}
-use Rattle.sg_turns.specs.Serving.{RestsLast}
+use Rattle.sg_turns.specs.Serving.{AreFed, RestsLast}
 
 -- The records that were admitted are the next ones that the inlet gave, in order, each with its offers; those behind them are still to
 -- come. So many parts were given up.
@@ -34,6 +36,21 @@ abbrev pub TurnsReadOn : (ℕ → Record → List Offer → Type 0) → ℕ → 
 TurnsReadOn offers dests spec old new turns =
     TookTurns offers dests spec old new turns → IsReady dests spec old.source
     → (done : List Record) (before : ℕ) → HasRead offers spec old.source done before → ReadsOn offers dests spec old new turns done before
+
+-- the credit that a call tells
+abbrev pub told_by : CoreReply → ℕ
+told_by (CreditReply credit) = credit
+told_by reply = 0
+
+-- No call brings more records than the credit that the one before it told, until some are sent back.
+abbrev pub KeepWithin : ℕ → List Exchange → Type 0
+KeepWithin told [] = Unit {0}
+KeepWithin told (e ∷ es) = (length (carried_by e.call) ≤ told) × (IsSentBack e.reply ⊎ KeepWithin (told_by e.reply) es)
+
+-- so it is with the turns of a source that holds no record at first, where none finds no memory
+abbrev pub TurnsKeepWithin : (ℕ → Record → List Offer → Type 0) → ℕ → SourceSpec → ActorState → ActorState → List Turn → Type 0
+TurnsKeepWithin offers dests spec old new turns =
+    TookTurns offers dests spec old new turns → AreFed turns → old.source.reader.held ≡ [] → KeepWithin 0 (calls_of turns)
 
 -- how many entries are settled
 abbrev pub settled_by : CoreCall → ℕ

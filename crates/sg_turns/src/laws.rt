@@ -6,7 +6,7 @@ ghost use Rattle.sg_actor.specs.declared.rendering.DestSpec.{DestSpec as ADestSp
 ghost use Rattle.sg_actor.specs.declared.settings.SourceSpec.{SourceSpec as ASpec};
 ghost use Rattle.sg_turns.specs.Turns.{Turn, DestState};
 ghost use Rattle.sg_turns.specs.Failing.{SourceFails, DestFails, DestIsBounded};
-ghost use Rattle.sg_turns.specs.Laws.{TurnsReadOn, TurnsSendOn, SourceRests, DestRests};
+ghost use Rattle.sg_turns.specs.Laws.{TurnsReadOn, TurnsKeepWithin, TurnsSendOn, SourceRests, DestRests};
 
 use sg_route::Router;
 
@@ -14,6 +14,14 @@ use sg_route::Router;
 /// offers.
 pub fn turns_read_on<R: Router>(router: &R)
     ensures { (dests : ℕ) (spec : ASpec) (old new : ActorState) (turns : List Turn) → TurnsReadOn (R.offers router.now) dests spec old new turns }
+{
+    let _router = router;
+}
+
+/// A source brings no more records than the credit that it was told, as long as each turn finds memory
+/// and none are sent back.
+pub fn turns_keep_within<R: Router>(router: &R)
+    ensures { (dests : ℕ) (spec : ASpec) (old new : ActorState) (turns : List Turn) → TurnsKeepWithin (R.offers router.now) dests spec old new turns }
 {
     let _router = router;
 }

@@ -13,15 +13,15 @@ pub const LONGEST: u64 = 1_048_576;
 
 /// A machine: it reads files, makes patterns, opens and closes devices, and says text to the operator. What it holds
 /// is its `state` as `Machine`: the files, the devices that were opened and closed, the bytes said,
-/// and the counts of faults.
+/// and the counts of faults. Its devices may cross threads.
 pub trait World: Files + Builder {
-    type Feed: Inlet;
+    type Feed: Inlet + Send;
 
-    type Drain: Outlet;
+    type Drain: Outlet + Send;
 
-    type Store: Disk;
+    type Store: Disk + Send;
 
-    type Paths: Opener;
+    type Paths: Opener + Send;
 
     /// Opens a store. Where its file is missing and is to be made, it comes to be with 128 zero
     /// bytes, all of them stable.

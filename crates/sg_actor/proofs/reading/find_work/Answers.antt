@@ -1,7 +1,7 @@
-use Rattle.std.proofs.Common.{arith, ◌≡◌, refl, subst, sym, ◌∙◌, true, false, ap}
+use Rattle.std.proofs.Common.{arith, ◌≡◌, refl, subst, sym, ◌∙◌, true, false, ap, length}
 use Rattle.std.specs.Prelude.{not}
 use Rattle.sg_actor.specs.Sources.{source, IsReady}
-use Rattle.sg_actor.proofs.FindLemmas.{spent-of, pulled-none, idle-none, pulled-as, before-same, going-of, keeps-pulled, keeps-rest}
+use Rattle.sg_actor.proofs.FindLemmas.{spent-of, pulled-none, idle-none, pulled-as, before-same, going-of, ended-not, keeps-pulled, keeps-rest}
 use Rattle.sg_actor.proofs.FailLemmas.{fails-same, fails-within}
 use Rattle.sg_actor.proofs.reading.find_work.Goals as goal
 
@@ -57,6 +57,7 @@ returns-then-pull_once-clause-finds g c =
     let pulls = c.pull_once.ensures (g.R.Router.dests c.args.router.now) c.args.spec.now c.in_ok-read_whole.ensures.keeps.ready in (
       pulled-as feed feed' c.args.reader.now r r' r' buffer buffer buffer' buffer' c.in_ok-read_whole.ensures.before (before-same r') ∙ pulls.brought ∙ ap not c.if-pull_once.true,
       pulls.idles ∙ c.if-pull_once.true,
+      pulls.rests.held ∙ (spent-of r c.args.most (sym c.is_spent.ensures ∙ c.if-not-is_spent.false) c.requires.some c.in_ok-read_whole.ensures.reads.0 c.in_ok-read_whole.ensures.reads.1).held,
     )
 
 pub returns-then-pull_once-clause-pulls : goal.returns-then-pull_once-clause-pulls
@@ -144,3 +145,42 @@ returns-clause-failing g c =
     let pulls = c.pull_once.ensures (g.R.Router.dests c.args.router.now) c.args.spec.now c.in_ok-read_whole.ensures.keeps.ready in
     fails-within c.args.reader.now.failed c.read_whole.new.reader.failed c.pull_once.new.reader.failed c.read_whole-2.new.reader.failed faults faults' faults'
     c.in_ok-read_whole.ensures.before.failed pulls.failing c.in_ok-read_whole-2.ensures.before.failed (omega arith)
+
+pub returns-in_err-read_whole-clause-ended : goal.returns-in_err-read_whole-clause-ended
+returns-in_err-read_whole-clause-ended g c = λ was. c.in_err-read_whole.ensures.before.ended ∙ was
+
+pub returns-then-not-is_spent-clause-ended : goal.returns-then-not-is_spent-clause-ended
+returns-then-not-is_spent-clause-ended g c = λ was. c.in_ok-read_whole.ensures.before.ended ∙ was
+
+pub returns-then-is_over-clause-ended : goal.returns-then-is_over-clause-ended
+returns-then-is_over-clause-ended g c = λ was. c.in_ok-read_whole.ensures.before.ended ∙ was
+
+pub returns-then-pull_once-clause-ended : goal.returns-then-pull_once-clause-ended
+returns-then-pull_once-clause-ended g c =
+    ended-not c.args.reader.now c.read_whole.new.reader c.pull_once.new.reader c.in_ok-read_whole.ensures.before (sym c.is_over.ensures ∙ c.if-is_over.false)
+
+pub returns-in_err-read_whole-2-clause-ended : goal.returns-in_err-read_whole-2-clause-ended
+returns-in_err-read_whole-2-clause-ended g c =
+    ended-not c.args.reader.now c.read_whole.new.reader c.read_whole-2.new.reader c.in_ok-read_whole.ensures.before (sym c.is_over.ensures ∙ c.if-is_over.false)
+
+pub returns-clause-ended : goal.returns-clause-ended
+returns-clause-ended g c =
+    ended-not c.args.reader.now c.read_whole.new.reader c.read_whole-2.new.reader c.in_ok-read_whole.ensures.before (sym c.is_over.ensures ∙ c.if-is_over.false)
+
+pub returns-then-pull_once-clause-few : goal.returns-then-pull_once-clause-few
+returns-then-pull_once-clause-few g c =
+    let pulls = c.pull_once.ensures (g.R.Router.dests c.args.router.now) c.args.spec.now c.in_ok-read_whole.ensures.keeps.ready in
+    let same : length c.pull_once.new.reader.held ≡ length c.read_whole.new.reader.held = ap length pulls.rests.held in
+    omega (arith, c.in_ok-read_whole.ensures.few)
+
+pub returns-in_err-read_whole-2-clause-few : goal.returns-in_err-read_whole-2-clause-few
+returns-in_err-read_whole-2-clause-few g c =
+    let pulls = c.pull_once.ensures (g.R.Router.dests c.args.router.now) c.args.spec.now c.in_ok-read_whole.ensures.keeps.ready in
+    let same : length c.pull_once.new.reader.held ≡ length c.read_whole.new.reader.held = ap length pulls.rests.held in
+    omega (arith, c.in_ok-read_whole.ensures.few, c.in_err-read_whole-2.ensures.few)
+
+pub returns-clause-few : goal.returns-clause-few
+returns-clause-few g c =
+    let pulls = c.pull_once.ensures (g.R.Router.dests c.args.router.now) c.args.spec.now c.in_ok-read_whole.ensures.keeps.ready in
+    let same : length c.pull_once.new.reader.held ≡ length c.read_whole.new.reader.held = ap length pulls.rests.held in
+    omega (arith, c.in_ok-read_whole.ensures.few, c.in_ok-read_whole-2.ensures.few)

@@ -1,4 +1,4 @@
-use Rattle.std.proofs.Common.{subst, sym, refl, arith}
+use Rattle.std.proofs.Common.{subst, sym, refl, arith, ◌∙◌}
 use Rattle.std.specs.Prelude.{Ok, Err}
 use Rattle.std.specs.declared.alloc.AllocError.{AllocError}
 use Rattle.sg_actor.specs.Sources.{source, IsReady}
@@ -53,7 +53,7 @@ returns-in_err-handed-in-Work-clause-reads g c =
     let ready = subst (λ d. IsReady d c.args.spec.now b) c.requires.dests e.keeps.ready in
     let hands = subst (λ d. HandsIn {E = AllocError} d c.args.spec.now g.C.Counter.step c.args.counter.now c.hand_in.new.counter b z (Err c.in_err-handed-in-Work.field-0.0)) (sym c.requires.dests) (c.in_err-handed-in-Work.ensures.hands c.find_work.new.buffer ready) in
     on-starved (g.R.Router.offers c.args.router.now) dests c.args.spec.now g.C.Counter.step c.args.counter.now c.hand_in.new.counter c.args.credit a b z c.in_err-handed-in-Work.field-0.0
-    c.from_residual-in_err-handed-in-Work.result c.from_residual-in_err-handed-in-Work.ensures.0 e.keeps hands e.pulls
+    c.from_residual-in_err-handed-in-Work.result c.from_residual-in_err-handed-in-Work.ensures.0 e.keeps hands e.pulls (omega (arith, e.few, c.least-most.ensures.credit))
 
 pub returns-in_ok-handed-in-Work-clause-reads : goal.returns-in_ok-handed-in-Work-clause-reads
 returns-in_ok-handed-in-Work-clause-reads g c =
@@ -65,7 +65,7 @@ returns-in_ok-handed-in-Work-clause-reads g c =
     let ready = subst (λ d. IsReady d c.args.spec.now b) c.requires.dests e.keeps.ready in
     let hands = subst (λ d. HandsIn {E = AllocError} d c.args.spec.now g.C.Counter.step c.args.counter.now c.hand_in.new.counter b z (Ok c.in_ok-handed-in-Work.handed)) (sym c.requires.dests) (c.in_ok-handed-in-Work.ensures.hands c.find_work.new.buffer ready) in
     on-handed (g.R.Router.offers c.args.router.now) dests c.args.spec.now g.C.Counter.step c.args.counter.now c.hand_in.new.counter c.args.credit a b z c.in-Work.pulled c.in_ok-handed-in-Work.handed
-    e.keeps (subst (λ f. Finds {E = AllocError} a b (Ok f)) c.in-Work.is e.finds) hands e.pulls
+    e.keeps (subst (λ f. Finds {E = AllocError} a b (Ok f)) c.in-Work.is e.finds) hands e.pulls (omega (arith, e.few, c.least-most.ensures.credit))
 
 pub returns-then-credit-eq0-clause-failing : goal.returns-then-credit-eq0-clause-failing
 returns-then-credit-eq0-clause-failing g c =
@@ -89,3 +89,17 @@ returns-in_ok-handed-in-Work-clause-failing g c =
     fails-within c.args.reader.now.failed c.args.reader.now.failed c.find_work.new.reader.failed c.hand_in.new.reader.failed
     (g.I.Inlet.state c.args.inlet.now).faults (g.I.Inlet.state c.find_work.new.inlet).faults (g.I.Inlet.state c.hand_in.new.inlet).faults
     refl e.failing hands.gives.unpulled.failed hands.gives.advances.faults
+
+pub returns-in_err-handed-in-Work-clause-ended : goal.returns-in_err-handed-in-Work-clause-ended
+returns-in_err-handed-in-Work-clause-ended g c =
+    let e = c.in_ok-find_work.ensures in
+    let b = source (g.I.Inlet.state c.find_work.new.inlet) c.find_work.new.reader c.find_work.new.buffer in
+    let hands = c.in_err-handed-in-Work.ensures.hands c.find_work.new.buffer (subst (λ d. IsReady d c.args.spec.now b) c.requires.dests e.keeps.ready) in
+    λ was. hands.gives.unpulled.ended ∙ e.ended was
+
+pub returns-in_ok-handed-in-Work-clause-ended : goal.returns-in_ok-handed-in-Work-clause-ended
+returns-in_ok-handed-in-Work-clause-ended g c =
+    let e = c.in_ok-find_work.ensures in
+    let b = source (g.I.Inlet.state c.find_work.new.inlet) c.find_work.new.reader c.find_work.new.buffer in
+    let hands = c.in_ok-handed-in-Work.ensures.hands c.find_work.new.buffer (subst (λ d. IsReady d c.args.spec.now b) c.requires.dests e.keeps.ready) in
+    λ was. hands.gives.unpulled.ended ∙ e.ended was

@@ -1,7 +1,7 @@
-use Rattle.std.proofs.Common.{subst, sym}
+use Rattle.std.proofs.Common.{subst, sym, ap, arith, ◌≡◌, length}
 use Rattle.sg_actor.specs.Sources.{source}
 use Rattle.sg_actor.specs.Steps.{Keeps}
-use Rattle.sg_actor.proofs.KeepLemmas.{keeps-none, keeps-whole, rests-fed, whole-before, whole-fed}
+use Rattle.sg_actor.proofs.KeepLemmas.{keeps-none, keeps-whole, rests-fed, whole-before, whole-fed, whole-few}
 use Rattle.sg_actor.proofs.reading.read_whole.Goals as goal
 
 pub returns-in_err-feed_pulled-clause-keeps : goal.returns-in_err-feed_pulled-clause-keeps
@@ -42,3 +42,14 @@ returns-clause-reads g c = (
   whole-fed c.args.buffer.now c.args.reader.now c.feed_pulled.new.reader c.take_items.new.reader c.in_ok-feed_pulled.ensures c.in_ok-take_items.ensures.taken,
   c.in_ok-take_items.ensures.takes,
 )
+
+pub returns-in_err-take_items-clause-few : goal.returns-in_err-take_items-clause-few
+returns-in_err-take_items-clause-few g c =
+    whole-few c.args.buffer.now c.args.reader.now c.feed_pulled.new.reader c.take_items.new.reader c.args.most c.in_ok-feed_pulled.ensures c.in_err-take_items.ensures.few
+
+pub returns-clause-few : goal.returns-clause-few
+returns-clause-few g c =
+    whole-few c.args.buffer.now c.args.reader.now c.feed_pulled.new.reader c.take_items.new.reader c.args.most c.in_ok-feed_pulled.ensures c.in_ok-take_items.ensures.few
+
+pub returns-in_err-feed_pulled-clause-few : goal.returns-in_err-feed_pulled-clause-few
+returns-in_err-feed_pulled-clause-few g c = (let same : length c.feed_pulled.new.reader.held ≡ length c.args.reader.now.held = ap (λ r. length r.held) c.in_err-feed_pulled.ensures in omega arith)

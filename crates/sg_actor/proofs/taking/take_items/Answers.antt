@@ -10,6 +10,7 @@ loop-count-init g c = record {
   taken = record { pulled = refl; ended = refl; failed = refl; given_up = refl };
   router = same-none (g.R.Router.offers c.args.router.now) (g.R.Router.inlets c.args.router.now) (g.R.Router.dests c.args.router.now);
   held = sym c.len-count.ensures;
+  few = omega arith;
 }
 
 pub returns-in_err-take_item-clause-keeps : goal.returns-in_err-take_item-clause-keeps
@@ -36,4 +37,5 @@ loop-count-preserved g c =
       router = same-then (g.R.Router.offers c.args.router.now) (g.R.Router.offers c.loop-count.router) (g.R.Router.offers c.take_item.new.router) (g.R.Router.inlets c.args.router.now) (g.R.Router.inlets c.loop-count.router) (g.R.Router.inlets c.take_item.new.router)
           (g.R.Router.dests c.args.router.now) (g.R.Router.dests c.loop-count.router) (g.R.Router.dests c.take_item.new.router) i.router e.router;
       held = (let more = takes-one AllocError c.loop-count.reader c.take_item.new.reader c.in_ok-take_item.field-0 (search (rules, tests)) takes in omega arith);
+      few = (let more = takes-one AllocError c.loop-count.reader c.take_item.new.reader c.in_ok-take_item.field-0 (search (rules, tests)) takes in omega (arith, i.held));
     }

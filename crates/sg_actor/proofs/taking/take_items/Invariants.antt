@@ -1,4 +1,4 @@
-use Rattle.std.proofs.Common.{◌≡◌}
+use Rattle.std.proofs.Common.{◌≡◌, ◌≤◌, max}
 use Rattle.std.specs.Prelude.{length}
 use Rattle.sg_actor.specs.Steps.{KeepsAll, HasTaken, SameRouter}
 use Rattle.sg_actor.proofs.taking.take_items.Given as goal
@@ -9,4 +9,5 @@ invariant-loop-count g l = record {
   taken : HasTaken l.initial.reader l.reader;
   router : SameRouter (g.R.Router.offers l.initial.router) (g.R.Router.offers l.router) (g.R.Router.inlets l.initial.router) (g.R.Router.inlets l.router) (g.R.Router.dests l.initial.router) (g.R.Router.dests l.router);
   held : length l.reader.held ≡ l._count;
+  few : length l.reader.held ≤ max (length l.initial.reader.held) l.most;
 }

@@ -9,6 +9,7 @@ returns-clause-new g c =
     record {
       ready = ready-new (g.R.Router.dests c.args.router) c.args.spec feed c.in-Ok-make_reader.reader c.in-Ok.buffer.items begun c.requires.fresh c.requires.from c.in-Ok.ensures;
       reads = reads-new (g.R.Router.offers c.args.router) c.args.spec feed c.in-Ok-make_reader.reader c.in-Ok.buffer.items begun c.requires.fresh;
+      held = begun.held;
       going = (begun.ended, begun.failed);
       end = begun.end;
       first = refl;
