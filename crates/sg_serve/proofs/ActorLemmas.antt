@@ -1,8 +1,7 @@
 -- Lemmas on a plan's sources and destinations, and on why they aren't opened.
-use Rattle.std.proofs.Common.{◌≡◌, ◌≤◌, ℕ, ◌+◌, Bool, List, [], ◌∷◌, ◌++◌, length, Some, None, Option, refl, sym, ap, ◌∙◌, ◌⊎◌, arith, slice_get, subst, inl, inr, true, false, map, zero, suc}
+use Rattle.std.proofs.Common.{◌≡◌, ◌≤◌, ℕ, ◌+◌, Bool, List, [], ◌∷◌, ◌++◌, length, Some, None, Option, refl, sym, ap, ◌∙◌, arith, slice_get, subst, inl, inr, true, false, zero, suc}
 use Rattle.std.specs.Prelude.{option_to_list}
 use Rattle.std.proofs.lemmas.List.{append-nil, length-map}
-use Rattle.sg_device.specs.Faults.{Rose}
 use Rattle.sg_outside.specs.World.{WorldState}
 use Rattle.sg_destination.specs.declared.outlet.OutletPlan.{OutletPlan}
 use Rattle.sg_list.proofs.ListLemmas.{some-same}
@@ -18,7 +17,7 @@ use Rattle.sg_standing.specs.States.{CoreState, setup_of}
 use Rattle.sg_standing.specs.Standing.{StandsFor}
 use Rattle.sg_source.specs.declared.inlet.InletPlan.{InletPlan}
 use Rattle.sg_serve.specs.Actors.{DestView, IsDestFor, AreDestsFor, SourceView, IsSourceFor, AreSourcesFor, BeginsAt, AllBeginAt}
-use Rattle.sg_serve.specs.Devices.{IsFetching, AreFetching, OpensInlets}
+use Rattle.sg_serve.specs.Devices.{IsFetching, AreFetching}
 use Rattle.sg_serve.specs.Early.{OutletsFail, InletsFail, SourceFails, SourcesFail}
 use Rattle.sg_serve.specs.Rewinds.{AreApartIn, Begins, HasBegun, AwaitsFrom, FailsBehind, position_at, places_of, rewinds_from}
 use Rattle.sg_serve.specs.declared.ending.Device.TheVariants.{Store, Inlet, Dest}

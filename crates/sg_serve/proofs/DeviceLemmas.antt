@@ -1,6 +1,6 @@
 -- Lemmas on lists of devices.
-use Rattle.std.proofs.Common.{◌≡◌, ◌≤◌, ◌<◌, ℕ, ◌+◌, List, [], ◌∷◌, ◌++◌, length, map, drop, Some, None, Option, append_assoc, refl, sym, ap, ◌∙◌, ◌⊎◌, arith, slice_get, subst, zero, suc, inl, inr}
-use Rattle.std.proofs.lemmas.List.{append-nil, length-append, length-map, map-append}
+use Rattle.std.proofs.Common.{◌≡◌, ◌≤◌, ℕ, ◌+◌, List, [], ◌∷◌, ◌++◌, length, map, drop, Some, None, Option, append_assoc, refl, sym, ap, ◌∙◌, ◌⊎◌, arith, slice_get, subst, zero, suc, inl, inr}
+use Rattle.std.proofs.lemmas.List.{append-nil, length-append, map-append}
 use Rattle.sg_device.specs.Disk.{DiskState}
 use Rattle.sg_device.specs.Faults.{Rose}
 use Rattle.sg_device.specs.Inlet.{InletState}

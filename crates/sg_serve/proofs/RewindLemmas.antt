@@ -1,7 +1,5 @@
 -- Lemmas on sources that begin anew before the rounds.
-use Rattle.std.proofs.Common.{◌≡◌, ◌≢◌, ◌≤◌, ◌<◌, ◌⊎◌, inl, inr, ℕ, ◌+◌, zero, suc, Bool, true, false, ◌&&◌, List, [], ◌∷◌, ◌++◌, length, map, Some, None, Option, append_assoc, refl, sym, ap, ◌∙◌, arith, slice_get, subst}
-use Rattle.std.specs.Prelude.{option_and_then, ◌==◌}
-use Rattle.std.proofs.lemmas.Bool.{cases_eq}
+use Rattle.std.proofs.Common.{◌≡◌, ◌≤◌, inl, inr, ℕ, ◌+◌, zero, suc, true, false, List, [], ◌∷◌, ◌++◌, length, map, Some, None, Option, append_assoc, refl, sym, ap, ◌∙◌, arith, slice_get, subst}
 use Rattle.std.proofs.lemmas.List.{append-nil, length-append}
 use Rattle.sg_list.specs.Lists.{change, passes_at}
 use Rattle.sg_list.proofs.ListLemmas.{some-same, slice_get-some, slice_get-below, get-change-other, get-change-same}
@@ -13,7 +11,6 @@ use Rattle.sg_machine.specs.declared.event.Act.{Act}
 use Rattle.sg_machine.specs.declared.event.Act.TheVariants.{Rewind, Look}
 use Rattle.sg_machine.specs.declared.event.Event.{Event}
 use Rattle.sg_machine.specs.declared.setup.Setup.{Setup}
-use Rattle.sg_machine.specs.declared.setup.SourceSetup.{SourceSetup}
 use Rattle.sg_machine.specs.declared.state.Inlet.{Inlet}
 use Rattle.sg_machine.specs.declared.state.State.{State}
 use Rattle.sg_machine.specs.Effects.{after_act, rewound}
@@ -21,9 +18,9 @@ use Rattle.sg_machine.specs.Legal.{is_nil, may_rewind}
 use Rattle.sg_machine.specs.Runs.{Opening, opened, after_all}
 use Rattle.sg_machine.proofs.RunLemmas.{both-true}
 use Rattle.sg_counter.specs.Bringing.{store_in}
-use Rattle.sg_stores.specs.Stores.{StoreState, Goes, AllGo}
-use Rattle.sg_stores.specs.Positions.{position_of, stored_in, WritesAt}
-use Rattle.sg_stores.specs.Opening.{AreOpened, IsOpenedAs}
+use Rattle.sg_stores.specs.Stores.{StoreState, AllGo}
+use Rattle.sg_stores.specs.Positions.{position_of, stored_in}
+use Rattle.sg_stores.specs.Opening.{IsOpenedAs}
 use Rattle.sg_stores.specs.declared.kind.StoreKind.{StoreKind}
 use Rattle.sg_stores.specs.declared.kind.StoreKind.TheVariants.{Position, Buffer}
 use Rattle.sg_standing.specs.Sources.{store_at, begun_in}
@@ -35,7 +32,7 @@ use Rattle.sg_standing.proofs.ImageLaws.{shows-at}
 use Rattle.sg_standing.proofs.ListSteps.{get-change}
 use Rattle.sg_core.specs.Opening.{IsOpen}
 use Rattle.sg_core.proofs.PositionSteps.{behind}
-use Rattle.sg_serve.specs.Rewinds.{position_at, rewinds_at, rewinds_from, AreApartIn, BeginsAnew, Begins, HasBegun, FailsBehind, AllWork, AwaitsFrom}
+use Rattle.sg_serve.specs.Rewinds.{position_at, rewinds_at, rewinds_from, AreApartIn, BeginsAnew, Begins, HasBegun, FailsBehind, AwaitsFrom}
 use Rattle.sg_serve.proofs.DeviceLemmas.{rose-wider}
 
 -- Events before the rounds.

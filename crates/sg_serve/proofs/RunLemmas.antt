@@ -1,11 +1,10 @@
 -- Lemmas on the run of a plan: from its parts to the whole.
-use Rattle.std.proofs.Common.{◌≡◌, ◌≤◌, ◌<◌, ◌⊎◌, inl, inr, ℕ, ◌+◌, Bool, true, false, List, [], ◌∷◌, ◌++◌, length, map, Some, None, Option, Ok, Err, refl, sym, ap, ◌∙◌, arith, slice_get, subst}
-use Rattle.std.specs.Prelude.{option_map, option_to_list, is_some, Result, IfOk, IfSome}
+use Rattle.std.proofs.Common.{◌≡◌, ◌≤◌, ◌<◌, ◌⊎◌, inl, inr, ℕ, Bool, List, [], ◌∷◌, ◌++◌, length, map, Some, None, Option, Ok, Err, refl, sym, ap, ◌∙◌, arith, slice_get, subst}
+use Rattle.std.specs.Prelude.{option_to_list, is_some, Result, IfOk, IfSome}
 use Rattle.std.specs.Result.{result_ok}
-use Rattle.std.proofs.lemmas.List.{append-nil, length-map, length-append}
-use Rattle.sg_list.proofs.ListLemmas.{some-same, slice_get-some, slice_get-below, slice_get-map}
+use Rattle.std.proofs.lemmas.List.{append-nil, length-map}
+use Rattle.sg_list.proofs.ListLemmas.{slice_get-some, slice_get-below, slice_get-map}
 use Rattle.sg_device.specs.Disk.{DiskState}
-use Rattle.sg_device.specs.Faults.{Rose}
 use Rattle.sg_device.specs.Inlet.{InletState}
 use Rattle.sg_device.specs.Outlet.{OutletState}
 use Rattle.sg_outside.specs.World.{WorldState, Files}
@@ -14,7 +13,6 @@ use Rattle.sg_frame.specs.Records.{Record}
 use Rattle.sg_machine.specs.declared.event.Act.TheVariants.{Look}
 use Rattle.sg_machine.specs.declared.event.Event.{Event}
 use Rattle.sg_machine.specs.declared.setup.Setup.{Setup}
-use Rattle.sg_machine.specs.declared.setup.SourceSetup.{SourceSetup}
 use Rattle.sg_counter.specs.Bringing.{store_in}
 use Rattle.sg_counter.specs.Exchanges.{Makes, Exchange}
 use Rattle.sg_counter.specs.declared.calls.CoreCall.{CoreCall}
@@ -35,18 +33,16 @@ use Rattle.sg_stores.specs.declared.answers.CoreRefusal.{CoreRefusal}
 use Rattle.sg_stores.specs.declared.answers.CoreRefusal.TheVariants.{Damage as CoreDamage, DiskFault as CoreFault, NoMemory as CoreNoMemory}
 use Rattle.sg_stores.specs.declared.kind.StoreKind.{StoreKind}
 use Rattle.sg_stores.specs.declared.kind.StoreKind.TheVariants.{Position, Buffer}
-use Rattle.sg_standing.specs.States.{CoreState, setup_of}
+use Rattle.sg_standing.specs.States.{CoreState}
 use Rattle.sg_core.specs.Opening.{IsOpen, IsUnopened}
 use Rattle.sg_turns.specs.Actors.{AreSources, AreDests}
-use Rattle.sg_turns.specs.declared.ended.Ended.{Ended}
-use Rattle.sg_source.specs.declared.inlet.InletPlan.{InletPlan}
 use Rattle.sg_destination.specs.declared.outlet.OutletPlan.{OutletPlan}
-use Rattle.sg_serve.specs.Actors.{source_view, dest_view, IsSourceFor, AreSourcesFor, AreDestsFor, AllBeginAt}
-use Rattle.sg_serve.specs.Devices.{with_all_closed, AreFetching, OpensStores, OpensInlets, OpensOutlets, ClosesStores, ClosesInlets, ClosesOutlets, inlets_asked, outlets_asked}
+use Rattle.sg_serve.specs.Actors.{source_view, dest_view, AreSourcesFor, AreDestsFor, AllBeginAt}
+use Rattle.sg_serve.specs.Devices.{with_all_closed, OpensStores, OpensInlets, ClosesStores, ClosesInlets, ClosesOutlets, inlets_asked, outlets_asked}
 use Rattle.sg_serve.specs.Early.{StoresFail, InletsFail, OutletsFail, SourcesFail}
 use Rattle.sg_serve.specs.Plan.{IsRunnable, AllKnow}
 use Rattle.sg_serve.specs.Rewinds.{position_at, places_of, rewinds_from, HasBegun, FailsBehind}
-use Rattle.sg_serve.specs.Run.{CoreRun, Reached, reached_by, ClosesAll, UsesDevices, FailsLast, HoldsCore, RunsRounds, StaysUnserved, IsServed, HoldsRun, HoldsNone, Holds, RestsWithout, RoseAt, HasCause, HasEnding, early_of, RunsWith, RunsPlan, RunsOver, RunsDests, DestsEnd}
+use Rattle.sg_serve.specs.Run.{CoreRun, Reached, reached_by, ClosesAll, FailsLast, StaysUnserved, HoldsRun, Holds, RestsWithout, RoseAt, HasCause, HasEnding, early_of, RunsPlan, RunsOver, RunsDests}
 use Rattle.sg_serve.specs.declared.ending.Device.TheVariants.{Store, Inlet, Dest}
 use Rattle.sg_serve.specs.declared.ending.Early.{Early}
 use Rattle.sg_serve.specs.declared.ending.Early.TheVariants.{OpenFault, Damage, DiskFault, NoMemory}

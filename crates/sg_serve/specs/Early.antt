@@ -9,10 +9,9 @@ use Rattle.sg_machine.specs.declared.setup.SourceSetup.{SourceSetup}
 use Rattle.sg_counter.specs.Bringing.{store_in}
 use Rattle.sg_standing.specs.States.{CoreState}
 use Rattle.sg_serve.specs.Rewinds.{position_at, rewinds_from, places_of, Begins, HasBegun, FailsBehind}
-use Rattle.sg_serve.specs.declared.ending.Device.{Device}
 use Rattle.sg_serve.specs.declared.ending.Device.TheVariants.{Store, Inlet, Dest}
 use Rattle.sg_serve.specs.declared.ending.Early.{Early}
-use Rattle.sg_serve.specs.declared.ending.Early.TheVariants.{OpenFault, Damage, DiskFault, NoMemory}
+use Rattle.sg_serve.specs.declared.ending.Early.TheVariants.{OpenFault, DiskFault, NoMemory}
 
 -- the store behind so many couldn't be opened
 abbrev pub StoresFail : WorldState → WorldState → ℕ → Early → Type 0

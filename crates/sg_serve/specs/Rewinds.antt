@@ -1,5 +1,5 @@
 -- The sources that begin anew before the rounds: those whose inlets give from place 0 though another position is stored.
-use Rattle.std.specs.Prelude.{◌≡◌, ◌≤◌, ℕ, ◌+◌, zero, suc, Bool, true, false, Option, Some, List, [], ◌∷◌, ◌++◌, length, map, slice_get}
+use Rattle.std.specs.Prelude.{◌≡◌, ◌≤◌, ℕ, ◌+◌, zero, suc, Bool, true, false, Some, List, [], ◌∷◌, ◌++◌, length, map, slice_get}
 use Rattle.sg_device.specs.Faults.{Rose}
 use Rattle.sg_device.specs.Inlet.{InletState}
 use Rattle.sg_machine.specs.declared.event.Act.TheVariants.{Rewind, Look}

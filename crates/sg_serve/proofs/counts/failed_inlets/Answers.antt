@@ -1,4 +1,4 @@
-use Rattle.std.proofs.Common.{◌≡◌, ◌+◌, ◌++◌, ◌∷◌, [], ◌∙◌, ap, map, length, drop, slice_get, Some, subst, sym, refl}
+use Rattle.std.proofs.Common.{◌≡◌, ◌+◌, ◌++◌, ◌∙◌, ap, map, length, drop, slice_get, Some, subst, sym, refl}
 use Rattle.std.proofs.lemmas.Option.{slice_get_read}
 use Rattle.sg_list.proofs.ListLemmas.{slice_get-map}
 use Rattle.sg_serve.specs.Counts.{numbers_from}

@@ -1,4 +1,4 @@
-use Rattle.std.proofs.Common.{◌≡◌, ◌+◌, ◌++◌, ◌∷◌, [], ◌∙◌, ap, map, length, drop, slice_get, Some, None, Option, subst, sym, refl}
+use Rattle.std.proofs.Common.{◌≡◌, ◌+◌, ◌++◌, ◌∙◌, map, drop, slice_get, Some, subst, sym}
 use Rattle.sg_serve.specs.Counts.{numbers_from}
 use Rattle.sg_serve.proofs.CountLemmas.{numbers-next, get-mapped}
 use Rattle.sg_serve.proofs.counts.failed_stores.Goals as goal

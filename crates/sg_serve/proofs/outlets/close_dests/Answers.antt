@@ -1,7 +1,7 @@
-use Rattle.std.proofs.Common.{[], ◌∷◌, ◌++◌, ap, map, subst, sym, ◌∙◌, arith, ◌≡◌, Option, Some, None}
+use Rattle.std.proofs.Common.{[], ◌++◌, ap, map, subst, sym, ◌∙◌, arith, ◌≡◌}
 use Rattle.std.specs.Prelude.{option_map, option_to_list}
 use Rattle.std.proofs.lemmas.List.{append-nil}
-use Rattle.sg_outside.specs.World.{WorldState, ClosesOutlet}
+use Rattle.sg_outside.specs.World.{ClosesOutlet}
 use Rattle.sg_serve.specs.Devices.{ClosesOutlets}
 use Rattle.sg_serve.proofs.DeviceLemmas.{closes-outlets, closes-outlets-last, closes-no-outlet, none-of}
 use Rattle.sg_serve.proofs.outlets.close_dests.Goals as goal

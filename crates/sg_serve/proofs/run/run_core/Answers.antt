@@ -1,4 +1,4 @@
-use Rattle.std.proofs.Common.{◌≡◌, ◌≤◌, ◌^◌, ◌++◌, [], map, length, sym, subst, ap, refl, ◌∙◌, arith, inl, inr}
+use Rattle.std.proofs.Common.{◌++◌, map, length, sym, subst, ap, refl, ◌∙◌, arith, inl, inr}
 use Rattle.std.specs.Prelude.{option_map, option_to_list}
 use Rattle.std.proofs.lemmas.List.{length-map}
 use Rattle.sg_actor.specs.SourceTurns.{actor}
@@ -33,7 +33,7 @@ returns-in-Err g c =
     (inr (c.in-Err.refusal, c.in-Err.ensures.refused)) (refused-cause w c.args.plan stores back c.in-Err.refusal c.in-Err.ensures.refused))
 
 pub open_sources-requires-clause-apart : goal.open_sources-requires-clause-apart
-open_sources-requires-clause-apart g c =
+open_sources-requires-clause-apart g c = λ κs lives.
     let ds = c.as_slice-setups.ensures ∙ c.in-Ok.ensures in
     subst AreApartIn (sym ds) (λ i j s a b. c.requires.plan.numbers.inlets_apart i j s a b)
 
@@ -50,7 +50,7 @@ run_dests-requires-clause-calls g c =
     omega (arith, few, long, all, calls, first, c.requires.plan.few_inlets)
 
 pub run_dests-requires-clause-sources : goal.run_dests-requires-clause-sources
-run_dests-requires-clause-sources g c =
+run_dests-requires-clause-sources g c = λ κs lives.
     let f = g.W.Feed.Inlet.state in
     let e = c.in-Ok-open_sources.ensures in
     let sources = c.in-Ok-open_sources.sources.items in

@@ -1,8 +1,6 @@
-use Rattle.std.proofs.Common.{◌≡◌, ◌≤◌, ◌<◌, ◌^◌, ◌∙◌, ◌++◌, [], List, ap, map, length, refl, sym, arith, subst}
+use Rattle.std.proofs.Common.{◌∙◌, ap, map, length, refl, sym, arith, subst}
 use Rattle.std.specs.Prelude.{IfOk, IfSome}
 use Rattle.std.proofs.lemmas.List.{append-nil, length-map}
-use Rattle.sg_actor.specs.declared.dest.DestActor.{DestActor}
-use Rattle.sg_actor.specs.declared.source.SourceActor.{SourceActor}
 use Rattle.sg_standing.specs.States.{setup_of}
 use Rattle.sg_serve.specs.Counts.{IsCounted}
 use Rattle.sg_serve.proofs.RunLemmas.{are-dests, calls-go, ok-some}

@@ -1,4 +1,4 @@
-use Rattle.std.proofs.Common.{◌≡◌, ◌++◌, [], map, sym, subst}
+use Rattle.std.proofs.Common.{◌++◌, map, sym, subst}
 use Rattle.std.specs.Prelude.{option_map, option_to_list}
 use Rattle.std.proofs.lemmas.List.{length-map}
 use Rattle.sg_serve.specs.Devices.{OpensStores}

@@ -1,4 +1,4 @@
-use Rattle.std.proofs.Common.{◌≡◌, ◌≤◌, ◌<◌, ◌^◌, ◌∙◌, ◌∷◌, [], ◌+◌, ◌++◌, append_assoc, ap, map, length, slice_get, Some, subst, sym, refl, arith, true}
+use Rattle.std.proofs.Common.{◌≡◌, ◌<◌, ◌∙◌, ◌∷◌, [], ◌+◌, ◌++◌, append_assoc, ap, map, length, slice_get, Some, subst, sym, refl, arith}
 use Rattle.std.specs.Prelude.{option_map, option_to_list}
 use Rattle.std.proofs.lemmas.List.{length-map}
 use Rattle.std.proofs.lemmas.Option.{slice_get_read}
@@ -11,9 +11,9 @@ use Rattle.sg_standing.specs.States.{setup_of}
 use Rattle.sg_outside.specs.World.{WorldState}
 use Rattle.sg_serve.specs.Devices.{inlet_asked, inlets_asked, OpensInlets}
 use Rattle.sg_serve.specs.Actors.{source_view, IsSourceFor, AreSourcesFor, BeginsAt, AllBeginAt}
-use Rattle.sg_serve.specs.Rewinds.{AreApartIn, Begins, HasBegun, AwaitsFrom, position_at, places_of, rewinds_from}
+use Rattle.sg_serve.specs.Rewinds.{AreApartIn, HasBegun, AwaitsFrom, position_at, places_of, rewinds_from}
 use Rattle.sg_serve.proofs.DeviceLemmas.{inlets-none, inlets-more, map-push}
-use Rattle.sg_serve.proofs.RewindLemmas.{Steps, begun-none, awaits-first, few-rewinds}
+use Rattle.sg_serve.proofs.RewindLemmas.{begun-none, awaits-first, few-rewinds}
 use Rattle.sg_serve.proofs.ActorLemmas.{fetching-at, store-by-setup, no-sources, sources-more, none-begin, begin-more, begin-last, begun-next, sources-fail, long-places}
 use Rattle.sg_serve.proofs.sources.open_sources.Goals as goal
 
@@ -36,7 +36,7 @@ loop-i-init g c =
     })
 
 pub open_source-requires-clause-store : goal.open_source-requires-clause-store
-open_source-requires-clause-store g c =
+open_source-requires-clause-store g c = λ κs lives.
     let inv = c.loop-i.invariant in
     let setups = c.args.setups.now in
     let low : c.loop-i.i < length setups = (let t = c.loop-i-test.true in let m = c.requires.count in omega (arith, t, m)) in
@@ -57,7 +57,7 @@ open_source-requires-clause-few g c =
     omega (arith, few, long, calls, first, n, t, c.requires.few)
 
 pub open_source-requires-clause-fetches : goal.open_source-requires-clause-fetches
-open_source-requires-clause-fetches g c =
+open_source-requires-clause-fetches g c = λ κs lives.
     let plans = c.args.plans.now in
     let there = slice_get_read plans (length plans) c.loop-i.i c.index-plans-i.result refl c.loop-i-test.true c.index-plans-i.is in
     fetching-at plans c.loop-i.i c.index-plans-i.result c.requires.fetches there

@@ -1,6 +1,4 @@
 use Rattle.std.proofs.Common.{[], ap, map, subst, sym, arith, ◌≡◌}
-use Rattle.sg_outside.specs.World.{WorldState}
-use Rattle.sg_device.specs.Disk.{DiskState}
 use Rattle.sg_serve.specs.Devices.{ClosesStores}
 use Rattle.sg_serve.proofs.DeviceLemmas.{closes-stores, closes-no-store, none-of}
 use Rattle.sg_serve.proofs.stores.close_stores.Goals as goal

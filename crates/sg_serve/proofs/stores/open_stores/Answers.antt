@@ -1,7 +1,6 @@
-use Rattle.std.proofs.Common.{◌≡◌, ◌∙◌, ◌∷◌, [], ap, map, length, slice_get, Some, subst, sym, refl, arith}
+use Rattle.std.proofs.Common.{◌≡◌, ◌∙◌, ap, map, length, slice_get, Some, subst, sym, refl, arith}
 use Rattle.std.proofs.lemmas.List.{length-map}
 use Rattle.std.proofs.lemmas.Option.{slice_get_read}
-use Rattle.sg_device.specs.Disk.{DiskState}
 use Rattle.sg_serve.specs.Devices.{OpensStores}
 use Rattle.sg_serve.proofs.DeviceLemmas.{stores-more, map-push}
 use Rattle.sg_serve.proofs.stores.open_stores.Goals as goal
