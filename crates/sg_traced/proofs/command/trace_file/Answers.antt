@@ -33,3 +33,8 @@ pub returns-in_err-new : goal.returns-in_err-new
 returns-in_err-new g c =
     rw (err-is _ NoMemory c.from_residual.ensures.1)
     (traces-none (g.R.Router.offers c.args.router.now c.args.reader.inlet) c.args.targets.now c.args.reader.kind c.args.reader.limit (g.W.Machine.state c.args.world.now) c.args.input.now)
+
+pub returns-in_err-tracer : goal.returns-in_err-tracer
+returns-in_err-tracer g c =
+    rw (err-is _ NoMemory c.from_residual-in_err-tracer.ensures.1)
+    (traces-none (g.R.Router.offers c.args.router.now c.args.reader.inlet) c.args.targets.now c.args.reader.kind c.args.reader.limit (g.W.Machine.state c.args.world.now) c.args.input.now)
