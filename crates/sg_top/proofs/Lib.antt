@@ -1,4 +1,3 @@
 pub mod SaidLemmas
 pub mod CheckLemmas
 pub mod TraceLemmas
-pub mod WordsLemmas

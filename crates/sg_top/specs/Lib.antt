@@ -5,4 +5,5 @@ pub mod Checking
 pub mod Running
 pub mod Spooled
 pub mod Tracing
+pub mod Drilling
 pub mod Answers

@@ -2,6 +2,7 @@
 #![tactic(auto)]
 
 mod check;
+mod drill;
 #[cfg(test)]
 mod rows;
 mod run;

@@ -11,7 +11,8 @@ use sg_world::World;
 use std::alloc::Global;
 use std::sync::Wait;
 
-fn tell_outcome<W: World>(alloc: Global, outcome: Outcome, world: &mut W) -> Status
+/// Says what a run came to.
+pub(crate) fn tell_outcome<W: World>(alloc: Global, outcome: Outcome, world: &mut W) -> Status
     ensures { Concludes (W.state world.old) (W.state world.new) (Ended outcome.end) outcome.text.items result }
 {
     conclude(alloc, Status::Ended(outcome.end), &outcome.text, world)

@@ -3,6 +3,7 @@ ghost use Rattle.sg_words.specs.Words.{asked};
 ghost use Rattle.sg_top.specs.Answers.{Answers};
 
 use crate::check::check;
+use crate::drill::drill;
 use crate::run::run;
 use crate::say::{tell_usage, tell_version};
 use crate::spooled::spool;
@@ -20,7 +21,8 @@ use std::sync::Wait;
 /// `check FILE` says whether FILE is a configuration. `trace FILE SOURCE INPUT` says what becomes of the records of
 /// INPUT on its log paths. `run FILE [--once] [--rounds N]` moves messages as the
 /// configuration FILE says, N rounds at most: with `--once` until all input was taken. `spool FILE` lists the
-/// entries of the disk-buffer's store FILE. `--help` says how the program is used, and `--version` which version
+/// entries of the disk-buffer's store FILE. `drill N` moves N records through a fixed configuration over
+/// devices in memory. `--help` says how the program is used, and `--version` which version
 /// it is.
 pub fn daemon<T: Wait, W: World>(rt: &T, alloc: Global, words: &[Name], world: &mut W) -> Status
     ensures { Answers W.Feed.state W.Drain.state (W.state world.old) (W.state world.new) (asked words.now) result }
@@ -36,6 +38,7 @@ pub fn daemon<T: Wait, W: World>(rt: &T, alloc: Global, words: &[Name], world: &
         ) => trace(alloc, file, source, input, world),
         Some(Command::Run { file, once, rounds }) => run(rt, alloc, file, once, rounds, world),
         Some(Command::Spool(file)) => spool(alloc, file, world),
+        Some(Command::Drill(records)) => drill(rt, alloc, records, world),
         Some(Command::Help) => tell_usage(alloc, Status::Ended(End::Clean), world),
         Some(Command::Version) => tell_version(alloc, world),
         None => tell_usage(alloc, Status::Usage, world),

@@ -1,16 +1,17 @@
 -- What the words of the command line ask for, without the program's name.
-use Rattle.std.specs.Prelude.{ℕ, ◌||◌, Bool, true, false, if◌then◌else◌, List, [], ◌∷◌, codes, Option, Some, None}
+use Rattle.std.specs.Prelude.{ℕ, ◌<◌, ◌≤◌, Bool, true, false, if◌then◌else◌, List, [], ◌∷◌, codes, Option, Some, None}
 use Rattle.std.specs.Option.{option_map}
 use Rattle.std.specs.Str.{bytes_eq}
 use Rattle.sg_words.specs.declared.command.Command.{Command}
 use Rattle.sg_words.specs.declared.command.Command.TheVariants as command
-use Rattle.sg_words.specs.Rounds.{most_rounds, rounds_of}
+use Rattle.sg_words.specs.Numbers.{most_rounds, most_records, number_of}
 
 pub data Asked : Type 0 where
   check : List ℕ → Asked
   trace : (file source input : List ℕ) → Asked
   run : List ℕ → Bool → ℕ → Asked
   spool : List ℕ → Asked
+  drill : ℕ → Asked
   help : Asked
   version : Asked
 
@@ -19,6 +20,7 @@ asked_by (command.Check file) = check file.now
 asked_by (command.Trace file source input) = trace file.now source.now input.now
 asked_by (command.Run file once rounds) = run file.now once rounds
 asked_by (command.Spool file) = spool file.now
+asked_by (command.Drill records) = drill records
 asked_by command.Help = help
 asked_by command.Version = version
 
@@ -33,7 +35,7 @@ trace_of _ = None
 -- --rounds N, or nothing
 abbrev pub rounds_in : List (List ℕ) → Option ℕ
 rounds_in [] = Some most_rounds
-rounds_in (word ∷ number ∷ []) = if bytes_eq word (codes "--rounds") then rounds_of number else None
+rounds_in (word ∷ number ∷ []) = if bytes_eq word (codes "--rounds") then number_of most_rounds number else None
 rounds_in _ = None
 
 -- [--once] [--rounds N]
@@ -45,6 +47,10 @@ run_with file (word ∷ words) =
 abbrev pub run_of : List (List ℕ) → Option Asked
 run_of [] = None
 run_of (file ∷ words) = run_with file words
+
+abbrev pub drill_of : List (List ℕ) → Option Asked
+drill_of (number ∷ []) = option_map drill (number_of most_records number)
+drill_of _ = None
 
 abbrev pub alone : Asked → List (List ℕ) → Option Asked
 alone asked [] = Some asked
@@ -63,9 +69,20 @@ asked_behind word words =
     else (if bytes_eq word (codes "trace") then trace_of words
     else (if bytes_eq word (codes "run") then run_of words
     else (if bytes_eq word (codes "spool") then one_file spool words
-    else told_behind word words)))
+    else (if bytes_eq word (codes "drill") then drill_of words
+    else told_behind word words))))
 
 -- none where the words are of no command
 abbrev pub asked : List (List ℕ) → Option Asked
 asked [] = None
 asked (word ∷ words) = asked_behind word words
+
+-- the numbers are within their bounds
+abbrev pub IsWithin : Command → Type 0
+IsWithin (command.Run file once rounds) = (0 < rounds) × (rounds ≤ most_rounds)
+IsWithin (command.Drill records) = (0 < records) × (records ≤ most_records)
+IsWithin (command.Check file) = Unit {0}
+IsWithin (command.Trace file source input) = Unit {0}
+IsWithin (command.Spool file) = Unit {0}
+IsWithin command.Help = Unit {0}
+IsWithin command.Version = Unit {0}

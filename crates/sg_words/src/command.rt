@@ -1,11 +1,10 @@
 // What the words of the command line ask for.
-ghost use Rattle.std.specs.Prelude.{◌≡◌, ◌≤◌, codes, IfSome};
+ghost use Rattle.std.specs.Prelude.{◌≡◌, ◌<◌, ◌≤◌, codes, IfSome};
 ghost use Rattle.std.specs.Option.{option_map};
 ghost use Rattle.std.specs.Str.{bytes_eq};
-ghost use Rattle.sg_words.specs.Rounds as rounds;
 ghost use Rattle.sg_words.specs.Words as spec;
 
-use crate::rounds::{MOST_ROUNDS, rounds_of};
+use crate::numbers::{MOST_RECORDS, MOST_ROUNDS, number_of};
 use sg_device::Name;
 
 /// What the program is asked to do.
@@ -27,6 +26,8 @@ pub enum Command<'a> {
     },
     /// `spool FILE`
     Spool(&'a [u8]),
+    /// `drill N`, N being 1 to 100,000.
+    Drill(u64),
     /// `--help`
     Help,
     /// `--version`
@@ -40,7 +41,8 @@ fn is_word(word: &Name, text: &[u8]) -> bool
 }
 
 fn check_of(words: &[Name]) -> Option<Command<'_>>
-    ensures { option_map spec.asked_by result ≡ spec.one_file spec.check words.now }
+    ensures within { IfSome result spec.IsWithin }
+    ensures asked { option_map spec.asked_by result ≡ spec.one_file spec.check words.now }
 {
     match words {
         [file] => Some(Command::Check(file.bytes())),
@@ -49,7 +51,8 @@ fn check_of(words: &[Name]) -> Option<Command<'_>>
 }
 
 fn spool_of(words: &[Name]) -> Option<Command<'_>>
-    ensures { option_map spec.asked_by result ≡ spec.one_file spec.spool words.now }
+    ensures within { IfSome result spec.IsWithin }
+    ensures asked { option_map spec.asked_by result ≡ spec.one_file spec.spool words.now }
 {
     match words {
         [file] => Some(Command::Spool(file.bytes())),
@@ -58,7 +61,8 @@ fn spool_of(words: &[Name]) -> Option<Command<'_>>
 }
 
 fn trace_of(words: &[Name]) -> Option<Command<'_>>
-    ensures { option_map spec.asked_by result ≡ spec.trace_of words.now }
+    ensures within { IfSome result spec.IsWithin }
+    ensures asked { option_map spec.asked_by result ≡ spec.trace_of words.now }
 {
     match words {
         [file, source, input] => Some(Command::Trace {
@@ -72,13 +76,13 @@ fn trace_of(words: &[Name]) -> Option<Command<'_>>
 
 fn rounds_in(words: &[Name]) -> Option<u64>
     ensures value { result ≡ spec.rounds_in words.now }
-    ensures bound { IfSome result (λ n. n ≤ 68_719_476_736) }
+    ensures bound { IfSome result (λ n. (0 < n) × (n ≤ 68_719_476_736)) }
 {
     match words {
         [] => Some(MOST_ROUNDS),
         [word, number] => {
             if is_word(word, b"--rounds") {
-                rounds_of(number.bytes())
+                number_of(MOST_ROUNDS, number.bytes())
             } else {
                 None
             }
@@ -88,7 +92,8 @@ fn rounds_in(words: &[Name]) -> Option<u64>
 }
 
 fn run_rounds<'a>(file: &'a [u8], once: bool, words: &[Name]) -> Option<Command<'a>>
-    ensures { option_map spec.asked_by result ≡ option_map (spec.run file.now once) (spec.rounds_in words.now) }
+    ensures within { IfSome result spec.IsWithin }
+    ensures asked { option_map spec.asked_by result ≡ option_map (spec.run file.now once) (spec.rounds_in words.now) }
 {
     match rounds_in(words) {
         Some(rounds) => Some(Command::Run { file, once, rounds }),
@@ -97,7 +102,8 @@ fn run_rounds<'a>(file: &'a [u8], once: bool, words: &[Name]) -> Option<Command<
 }
 
 fn run_with<'a>(file: &'a [u8], words: &[Name]) -> Option<Command<'a>>
-    ensures { option_map spec.asked_by result ≡ spec.run_with file.now words.now }
+    ensures within { IfSome result spec.IsWithin }
+    ensures asked { option_map spec.asked_by result ≡ spec.run_with file.now words.now }
 {
     match words {
         [] => run_rounds(file, false, words),
@@ -112,7 +118,8 @@ fn run_with<'a>(file: &'a [u8], words: &[Name]) -> Option<Command<'a>>
 }
 
 fn run_of(words: &[Name]) -> Option<Command<'_>>
-    ensures { option_map spec.asked_by result ≡ spec.run_of words.now }
+    ensures within { IfSome result spec.IsWithin }
+    ensures asked { option_map spec.asked_by result ≡ spec.run_of words.now }
 {
     match words {
         [file, rest @ ..] => run_with(file.bytes(), rest),
@@ -120,8 +127,22 @@ fn run_of(words: &[Name]) -> Option<Command<'_>>
     }
 }
 
+fn drill_of(words: &[Name]) -> Option<Command<'_>>
+    ensures within { IfSome result spec.IsWithin }
+    ensures asked { option_map spec.asked_by result ≡ spec.drill_of words.now }
+{
+    match words {
+        [number] => match number_of(MOST_RECORDS, number.bytes()) {
+            Some(records) => Some(Command::Drill(records)),
+            None => None,
+        },
+        _ => None,
+    }
+}
+
 fn help_of(words: &[Name]) -> Option<Command<'_>>
-    ensures { option_map spec.asked_by result ≡ spec.alone spec.help words.now }
+    ensures within { IfSome result spec.IsWithin }
+    ensures asked { option_map spec.asked_by result ≡ spec.alone spec.help words.now }
 {
     match words {
         [] => Some(Command::Help),
@@ -130,7 +151,8 @@ fn help_of(words: &[Name]) -> Option<Command<'_>>
 }
 
 fn version_of(words: &[Name]) -> Option<Command<'_>>
-    ensures { option_map spec.asked_by result ≡ spec.alone spec.version words.now }
+    ensures within { IfSome result spec.IsWithin }
+    ensures asked { option_map spec.asked_by result ≡ spec.alone spec.version words.now }
 {
     match words {
         [] => Some(Command::Version),
@@ -139,7 +161,8 @@ fn version_of(words: &[Name]) -> Option<Command<'_>>
 }
 
 fn told_of<'a>(word: &Name, words: &'a [Name]) -> Option<Command<'a>>
-    ensures { option_map spec.asked_by result ≡ spec.told_behind word.now words.now }
+    ensures within { IfSome result spec.IsWithin }
+    ensures asked { option_map spec.asked_by result ≡ spec.told_behind word.now words.now }
 {
     if is_word(word, b"--help") {
         return help_of(words);
@@ -151,7 +174,8 @@ fn told_of<'a>(word: &Name, words: &'a [Name]) -> Option<Command<'a>>
 }
 
 fn command_behind<'a>(word: &Name, words: &'a [Name]) -> Option<Command<'a>>
-    ensures { option_map spec.asked_by result ≡ spec.asked_behind word.now words.now }
+    ensures within { IfSome result spec.IsWithin }
+    ensures asked { option_map spec.asked_by result ≡ spec.asked_behind word.now words.now }
 {
     if is_word(word, b"check") {
         return check_of(words);
@@ -165,13 +189,17 @@ fn command_behind<'a>(word: &Name, words: &'a [Name]) -> Option<Command<'a>>
     if is_word(word, b"spool") {
         return spool_of(words);
     }
+    if is_word(word, b"drill") {
+        return drill_of(words);
+    }
     told_of(word, words)
 }
 
 /// What the words of the command line ask for, without the program's name; none where they are of no
 /// command.
 pub fn command_of(words: &[Name]) -> Option<Command<'_>>
-    ensures { option_map spec.asked_by result ≡ spec.asked words.now }
+    ensures within { IfSome result spec.IsWithin }
+    ensures asked { option_map spec.asked_by result ≡ spec.asked words.now }
 {
     match words {
         [word, rest @ ..] => command_behind(word, rest),

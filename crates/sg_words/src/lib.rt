@@ -2,7 +2,7 @@
 #![tactic(auto)]
 
 mod command;
-mod rounds;
+mod numbers;
 
 pub use command::{Command, command_of};
-pub use rounds::MOST_ROUNDS;
+pub use numbers::MOST_ROUNDS;
