@@ -1,0 +1,10 @@
+pub mod HasLemmas
+pub mod PieceLemmas
+pub mod PassLemmas
+pub mod EntryLemmas
+pub mod PlaceLemmas
+pub mod LeftLemmas
+pub mod OpenLemmas
+pub mod OfferLemmas
+pub mod CoverLemmas
+pub mod RunLemmas
