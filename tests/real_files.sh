@@ -149,6 +149,13 @@ log { source(s_src); filter(f_error); destination(d_error); };
 END
 : >scl.conf
 expect 'a usual distribution file' 0 'dist: ok\n' - check dist
+cp "$top/examples/debian/syslogr.conf" "$top/examples/debian/in.log" .
+expect 'the configuration of Debian, converted' 0 'syslogr.conf: ok\n' - check syslogr.conf
+accepted='Nov 28 06:00:00 web sshd[42]: Accepted publickey for root\n'
+cron='Nov 28 06:00:01 web CRON[7]: (root) CMD (true)\n'
+error='Nov 28 06:00:02 web app: failed 3 times\n'
+debug='Nov 28 06:00:03 web app: 7 rows\n'
+expect 'what becomes of records there' 0 "record 0 destination 0 flow yes length 58\n$accepted\nrecord 1 destination 1 flow no length 47\n$cron\nrecord 1 destination 6 flow no length 47\n$cron\nrecord 2 destination 2 flow no length 40\n$error\nrecord 2 destination 6 flow no length 40\n$error\nrecord 2 destination 10 flow no length 40\n$error\nrecord 3 destination 9 flow no length 32\n$debug\n" - trace syslogr.conf s_src in.log
 # a configuration whose log statement stands there as often as its first word says
 repeated() {
     config in out | awk -v times="$1" '{ for (k = 0; k < (/^log/ ? times : 1); k++) print }'
@@ -333,6 +340,7 @@ kill $process && wait $process 2>/dev/null
 # Peers of connections, each on a port that was free.
 cat >peer.py <<'END'
 """peer.py port: a free port.
+peer.py send PORT FILE: opens a connection, and gives the file's bytes by it.
 peer.py take PORT LINES FILE: accepts one connection, takes so many lines, and closes. FILE.listens is there once it listens.
 peer.py give PORT COUNT LINES: opens so many connections, and gives so many lines by each."""
 import socket, sys, time
@@ -346,6 +354,9 @@ if sys.argv[1] == "port":
     with socket.socket() as s:
         s.bind(("127.0.0.1", 0))
         print(s.getsockname()[1])
+elif sys.argv[1] == "send":
+    with connected(int(sys.argv[2])) as peer:
+        peer.sendall(open(sys.argv[3], "rb").read())
 elif sys.argv[1] == "take":
     with socket.socket() as s:
         s.setsockopt(socket.SOL_SOCKET, socket.SO_REUSEADDR, 1)
@@ -372,6 +383,21 @@ else:
         peer.close()
 END
 if command -v python3 >/dev/null; then
+    # The configuration of Debian, in another folder and on other ports.
+    rm -f pos-*
+    mkdir debian
+    printf 'a package\n' >debian/dpkg.log
+    port=$(python3 peer.py port)
+    sed "s|^@define logs .*|@define logs debian|; s|^@define lines_port .*|@define lines_port $port|; s|^@define counted_port .*|@define counted_port $(python3 peer.py port)|" syslogr.conf >debian.conf
+    start_run run debian.conf
+    timeout 60 python3 peer.py send "$port" in.log
+    same 'the file of auth' "$accepted" debian/auth.log
+    same 'the file of all but auth and mail' "$cron$error" debian/syslog
+    same 'the file of errors' "$error" debian/error
+    same 'the file of what is being debugged' "$debug" debian/debug
+    [ "$(stat -c %a debian/auth.log)" = 640 ] && grep -q ' a package$' debian/dpkg.received && passed=$((passed + 1)) || { failed=$((failed + 1)); echo 'the file of packages, or the mode of what is made'; }
+    kill $process && wait $process 2>/dev/null
+
     # A peer that goes away and comes back.
     rm -f pos-*
     port=$(python3 peer.py port)
