@@ -306,6 +306,15 @@ same() {
     if cmp -s same.wanted "$3"; then passed=$((passed + 1)); else failed=$((failed + 1)); echo "$1:"; cat "$3" errors; fi
 }
 
+# The example that README.md shows.
+mkdir -p examples/first && cp "$top/examples/first/errors.conf" "$top/examples/first/in.log" examples/first
+full='2026-02-05T17:32:18+01:00 app: disk is full\n'
+expect 'the first example is checked' 0 'examples/first/errors.conf: ok\n' - check examples/first/errors.conf
+expect 'the first example is traced' 0 "record 0 destination 0 flow yes length 44\n$full\n" - trace examples/first/errors.conf s examples/first/in.log
+expect 'the first example is run' 0 'source 0 records 2 bad-frames 0 position 98\ndestination 0 taken 1 dropped-full 0 dropped-disk 0 left 0\nstatus 0\n' - run examples/first/errors.conf --once
+same 'what the first example writes' "$full" examples/first/out.log
+again 'the first example again' 0 'source 0 records 0 bad-frames 0 position 98\ndestination 0 taken 0 dropped-full 0 dropped-disk 0 left 0\nstatus 0\n' - run examples/first/errors.conf --once
+
 # Two sources, three destinations and filters.
 rm -f out pos-*
 cat >several <<'END'
