@@ -306,14 +306,23 @@ same() {
     if cmp -s same.wanted "$3"; then passed=$((passed + 1)); else failed=$((failed + 1)); echo "$1:"; cat "$3" errors; fi
 }
 
-# The example that README.md shows.
-mkdir -p examples/first && cp "$top/examples/first/errors.conf" "$top/examples/first/in.log" examples/first
+# The examples. The first one is that of README.md.
+mkdir -p examples/first examples/blocks
+cp "$top/examples/first/errors.conf" "$top/examples/first/in.log" examples/first
+cp "$top/examples/blocks/copy.conf" "$top/examples/blocks/blocks.conf" "$top/examples/blocks/in.log" examples/blocks
 full='2026-02-05T17:32:18+01:00 app: disk is full\n'
 expect 'the first example is checked' 0 'examples/first/errors.conf: ok\n' - check examples/first/errors.conf
 expect 'the first example is traced' 0 "record 0 destination 0 flow yes length 44\n$full\n" - trace examples/first/errors.conf s examples/first/in.log
 expect 'the first example is run' 0 'source 0 records 2 bad-frames 0 position 98\ndestination 0 taken 1 dropped-full 0 dropped-disk 0 left 0\nstatus 0\n' - run examples/first/errors.conf --once
 same 'what the first example writes' "$full" examples/first/out.log
 again 'the first example again' 0 'source 0 records 0 bad-frames 0 position 98\ndestination 0 taken 0 dropped-full 0 dropped-disk 0 left 0\nstatus 0\n' - run examples/first/errors.conf --once
+expect 'the example with blocks' 0 'source 0 records 3 bad-frames 0 position 75\ndestination 0 taken 3 dropped-full 0 dropped-disk 0 left 0\nstatus 0\n' - run examples/blocks/copy.conf --once
+same 'what the example with blocks writes' "$(cat examples/blocks/in.log)\n" examples/blocks/out.log
+first="$(date -u +%Y)-02-05T18:32:18+01:00 web sshd: failed N times\n"
+second='<11>Feb  5 18:32:18 localhost sshd[42]: failed 3 times\n'
+third='<14>Feb  5 18:32:19 localhost app: started\n'
+fourth='Feb  5 18:32:20 localhost app: 7 rows\n'
+expect 'the example with log paths' 0 "record 0 destination 0 flow yes length 51\n$first\nrecord 0 destination 1 flow no length 55\n$second\nrecord 1 destination 1 flow no length 43\n$third\nrecord 2 destination 2 flow no length 38\n$fourth\n" - trace "$top/examples/trace/paths.conf" s_local "$top/examples/trace/in.log"
 
 # Two sources, three destinations and filters.
 rm -f out pos-*
