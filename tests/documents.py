@@ -1,0 +1,102 @@
+#!/usr/bin/env python3
+"""Whether the documents say what the tables of the code have: options, flags, macros, faults, exit statuses, the usage line; and whether the files and crates
+that they name are there."""
+import os
+import re
+import shutil
+import subprocess
+import sys
+
+top = os.path.dirname(os.path.dirname(os.path.abspath(__file__)))
+os.chdir(top)
+failed = passed = 0
+
+
+def read(path):
+    with open(path, encoding="utf-8") as file:
+        return file.read()
+
+
+def expect(name, lacking):
+    global failed, passed
+    lacking = sorted(set(lacking))
+    if lacking:
+        failed += 1
+        print(f"{name}: {', '.join(lacking)}")
+    else:
+        passed += 1
+
+
+def words(text):
+    return re.findall(r'b"([^"]+)"', text)
+
+
+def table(path, name):
+    """The rows of a const array."""
+    return re.search(rf"const {name}: [^=]*= \[(.*?)\];\n", read(path), re.S).group(1)
+
+
+configuration = read("docs/CONFIGURATION.md")
+migration = read("docs/MIGRATION.md")
+formats = read("docs/FORMATS.md")
+page5 = read("docs/man/syslogr.conf.5").replace("\\&", "")
+page8 = read("docs/man/syslogr.8")
+architecture = read("docs/ARCHITECTURE.md")
+
+objects = "crates/sg_parse_obj/src/table.rt"
+for name in ["SOURCE", "LISTENER", "DESTINATION", "WRITER", "SENDER", "FRAMED", "DISK", "GLOBAL", "WITHOUT_EFFECT"]:
+    options = words(table(objects, name))
+    expect(f"options {name} in CONFIGURATION.md", [o for o in options if f"`{o}`" not in configuration])
+    expect(f"options {name} in MIGRATION.md", [o for o in options if f"`{o}`" not in migration])
+    expect(f"options {name} in syslogr.conf.5", [o for o in options if not re.search(rf"(?<![\w-]){o}(?![\w-])", page5)])
+
+# what is said to be without effect is
+ignored = set(words(table(objects, "WITHOUT_EFFECT")))
+skipped = re.findall(r'b"([^"]+)", Flat::Skipped', read(objects))
+part = migration[migration.index("## Options without effect") : migration.index("## Options that are refused")]
+flags = words(re.search(r"Choice::SourceFlag => is_one_of\((.*?)\n        \)", read("crates/sg_parse_expr/src/class.rt"), re.S).group(1))
+said = set(re.findall(r"`([a-z0-9-]+)`", part)) - {"file", "network", "syslog"}
+expect("said to be without effect, and not in the tables", said - ignored - set(skipped) - set(flags))
+expect("without effect, and not said to be", (ignored | set(skipped)) - said)
+expect("source flags", [f for f in flags if f"`{f}`" not in configuration or f not in page5])
+
+refused = migration[migration.index("- flow-control and rates:") : migration.index("- source flags:")].replace("`localport` of a destination", "").replace("`flags` of a destination", "")
+expect("said to be refused, and taken", set(re.findall(r"`([a-z0-9-]+)`", refused)) & set(words(read(objects))))
+
+macros = words(table("crates/sg_macro/src/macros.rt", "MACROS"))
+expect("macros in CONFIGURATION.md", [m for m in macros if f"`${m}`" not in configuration])
+expect("macros in syslogr.conf.5", [m for m in macros if not m.startswith(("S_", "R_")) and not re.search(rf"(?<![\w-]){m}(?![\w-])", page5)])
+
+faults = re.findall(r'=> "([^"]+)"', read("crates/sg_report/src/fault.rt"))
+expect("faults in FORMATS.md", [f for f in faults if f"`{f}`" not in formats])
+expect("faults in syslogr.conf.5", [f for f in faults if f not in " ".join(page5.split())])
+
+code = read("crates/sg_run/src/end.rt") + read("crates/sg_top/src/status.rt")
+statuses = set(re.findall(r"=> (\d+),", code))
+expect("statuses in FORMATS.md", [s for s in statuses if f"\n| {s} | " not in formats])
+expect("statuses in syslogr.8", [s for s in statuses if f"\n.It {s}\n" not in page8])
+expect("statuses in ARCHITECTURE.md", [s for s in statuses if f"\n| {s} | " not in architecture])
+
+say = read("crates/sg_top/src/say.rt")
+for line in re.findall(r'b"(usage: .*?|syslogr .*?)\\n"', say):
+    expect("what --help and --version say, in FORMATS.md", [] if line in formats.replace("\\|", "|") else [line])
+
+documents = ["README.md"] + sorted(f"docs/{name}" for name in os.listdir("docs") if name.endswith(".md"))
+for path in documents:
+    text = read(path)
+    links = [link for link in re.findall(r"\]\(([^)#]+)\)", text) if "://" not in link]
+    expect(f"links of {path}", [link for link in links if not os.path.exists(os.path.join(os.path.dirname(path), link))])
+    files = re.findall(r"`((?:sg|test|bench)_[a-z0-9_]+/[A-Za-z0-9_./-]+)`", text)
+    expect(f"files of {path}", [file for file in files if not os.path.exists(os.path.join("crates", file))])
+    scripts = re.findall(r"`((?:tests|bench|examples|crates|docs)/[A-Za-z0-9_./-]+)`", text)
+    expect(f"scripts of {path}", [file for file in scripts if not os.path.exists(file) and not file.endswith("out.log") and "NAME" not in file])
+
+crates = [line.split(":")[0] for line in read("crates.txt").splitlines() if re.match(r"[a-z]", line)]
+expect("crates in ARCHITECTURE.md", [crate for crate in crates if f"`{crate}`" not in architecture])
+
+if shutil.which("mandoc"):
+    lint = subprocess.run(["mandoc", "-Tlint", "-Wwarning", "syslogr.8", "syslogr.conf.5"], cwd="docs/man", capture_output=True, text=True)
+    expect("mandoc", lint.stdout.splitlines())
+
+print(f"{passed} passed, {failed} failed")
+sys.exit(failed != 0)
