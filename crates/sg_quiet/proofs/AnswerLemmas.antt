@@ -37,12 +37,12 @@ use Rattle.sg_core.specs.Answers.{credit_left, AnswersFrontAt, RefillsAt, Refill
 use Rattle.sg_core.specs.Calls.{Serves}
 use Rattle.sg_core.proofs.Fits.{credit-of, mark-in-of, store-at-of}
 use Rattle.sg_core.proofs.PositionSteps.{mark-at}
-use Rattle.sg_actor.specs.Bringing.{IsRefusal, HasRefusal}
+use Rattle.sg_actor.specs.Bringing.{IsRefusal, HasRefusal, IsSentBack}
 use Rattle.sg_actor.specs.DestTurns.{is_breakage, IsEmptyFront}
 use Rattle.sg_quiet.proofs.StepLemmas.{Has}
 use Rattle.sg_quiet.proofs.AgreeLemmas.{seen, sink-at}
 
-equal-of : (d e : ℕ) → (d == e) ≡ true → e ≡ d
+pub equal-of : (d e : ℕ) → (d == e) ≡ true → e ≡ d
 equal-of d e h = grind arith
 
 -- Credit.
@@ -52,16 +52,26 @@ refusal-in [] h = absurd h
 refusal-in (x ∷ xs) (inl here) = (x, (inl refl, here))
 refusal-in (x ∷ xs) (inr later) = let r = refusal-in xs later in (r.0, (inr r.1.0, r.1.1))
 
--- the credit is none, or the records that came back were too many
-pub refused-as : (reply : CoreReply) → IsRefusal reply → (reply ≡ CreditReply 0) ⊎ ((back : List Admission) × (reply ≡ Admitted (Err (NoCredit back))))
+-- the credit is none, or records were sent back
+pub refused-as : (reply : CoreReply) → IsRefusal reply → (reply ≡ CreditReply 0) ⊎ IsSentBack reply
 refused-as (CreditReply credit) h = inl (ap CreditReply h)
 refused-as (Admitted (Ok verdicts)) h = absurd h
-refused-as (Admitted (Err (NoCredit back))) h = inr (back, refl)
+refused-as (Admitted (Err (NoCredit back))) h = inr tt
 refused-as (Admitted (Err (NoMemory back))) h = absurd h
 refused-as (FrontReply result) h = absurd h
 refused-as (SettledReply result) h = absurd h
 refused-as (Refilled result) h = absurd h
 refused-as (StoredReply result) h = absurd h
+
+pub sent-as : (reply : CoreReply) → IsSentBack reply → (back : List Admission) × (reply ≡ Admitted (Err (NoCredit back)))
+sent-as (Admitted (Err (NoCredit back))) h = (back, refl)
+sent-as (Admitted (Ok verdicts)) h = absurd h
+sent-as (Admitted (Err (NoMemory back))) h = absurd h
+sent-as (CreditReply credit) h = absurd h
+sent-as (FrontReply result) h = absurd h
+sent-as (SettledReply result) h = absurd h
+sent-as (Refilled result) h = absurd h
+sent-as (StoredReply result) h = absurd h
 
 no-credit-by : (old new : CoreState) (call : CoreCall) (i : ℕ) (t : State) → Serves old call (CreditReply 0) new → same_caller (OfSource i) (caller_of call) ≡ true → IsAt old t → credit_left t i ≡ 0
 no-credit-by old new (Credit j) i t h own at = subst (λ k. credit_left t k ≡ 0) (equal-of i j own) (sym (h.stands t at))

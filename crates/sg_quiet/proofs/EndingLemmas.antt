@@ -52,7 +52,7 @@ use Rattle.sg_serve.specs.declared.counts.Fault.TheVariants.{Sink, Disk, Inlet a
 use Rattle.sg_serve.specs.declared.ending.Ending.TheVariants.{Ran}
 use Rattle.sg_serve.specs.declared.plan.RunPlan.{RunPlan}
 use Rattle.sg_quiet.specs.Resting.{brought_by}
-use Rattle.sg_quiet.specs.Ending.{IsEnded, IsOverdrawn, Ends, CleanRunsEnd}
+use Rattle.sg_quiet.specs.Ending.{IsEnded, Ends, CleanRunsEnd}
 use Rattle.sg_quiet.proofs.AgreeLemmas.{seen}
 use Rattle.sg_quiet.proofs.FailingLemmas.{begun}
 use Rattle.sg_quiet.proofs.RoundLemmas.{Rounds, inlet-of-setup, source-credit}
@@ -169,7 +169,7 @@ module _ {R I O : Type 0} (feed : I → InletState) (drain : O → OutletState) 
   -- Inlets.
 
   ended-of : (i : ℕ) (inlet : InletPlan) (setup : SourceSetup) (router : R) (closed : InletState) → slice_get plan.inlets.items i ≡ Some inlet → slice_get plan.setup.sources i ≡ Some setup → slice_get routers i ≡ Some router
-      → slice_get reached.inlets_closed i ≡ Some closed → IsEnded (offers router) inlet setup i closed (served.runs).serves.0 ⊎ IsOverdrawn setup i (served.runs).serves.0
+      → slice_get reached.inlets_closed i ≡ Some closed → IsEnded (offers router) inlet setup i closed (served.runs).serves.0
   ended-of i inlet setup router closed at_inlet at_setup at_router at_closed =
       let runs = served.runs in
       let q = rounds-of in
@@ -183,23 +183,13 @@ module _ {R I O : Type 0} (feed : I → InletState) (drain : O → OutletState) 
       let x = inlet-of-setup run.last t plan.setup i setup (q.stayed).at same-setup at_setup in
       let credit : credit_left t i ≡ setup.window = whole-credit t i x.0 (none-left t (q.stayed).at) x.1.0 ∙ ap (λ (s : SourceSetup). s.window) x.1.1 in
       elim facts.over [
-        | inl refused ↦ elim (source-credit run.begun run.last runs.serves.0 ((runs.serves.1.1.1).ends).last q i x.0 x.1.0 refused) [
-          | inl no-credit ↦ absurd (
-              let some = window-of plan.setup.sources i setup runnable.windows at_setup in
-              let no = no-credit t (q.stayed).at in
-              let wrong : ⊥ = omega (arith, some, no, credit) in
-              wrong)
-          | inr over ↦ inr (record {
-            earlier = over.earlier;
-            later = over.later;
-            brought = over.brought;
-            back = over.back;
-            are = over.are;
-            more = subst (λ n. n < length over.brought) credit (over.more t (q.stayed).at);
-          })
-        ]
+        | inl refused ↦ absurd (
+            let some = window-of plan.setup.sources i setup runnable.windows at_setup in
+            let no = source-credit run.begun run.last runs.serves.0 ((runs.serves.1.1.1).ends).last q i x.0 x.1.0 facts.unsent refused t (q.stayed).at in
+            let wrong : ⊥ = omega (arith, some, no, credit) in
+            wrong)
         | inr done ↦ elim done.0 [
-          | inl ended ↦ inl (record { ended = ended.0; whole = done.1; drained = ended.1 })
+          | inl ended ↦ record { ended = ended.0; whole = done.1; drained = ended.1 }
           | inr failed ↦ absurd (unmarked 0 i marks unnumbered (facts.is ∙ ap Some failed))
         ]
       ]

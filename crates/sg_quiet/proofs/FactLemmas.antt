@@ -1,5 +1,5 @@
 -- What is known of each source and of each destination behind a quiet round.
-use Rattle.std.proofs.Common.{◌≡◌, ◌<◌, ◌≤◌, ℕ, ◌+◌, Bool, true, false, List, [], ◌∷◌, length, map, Some, None, Option, ◌⊎◌, inl, inr, refl, sym, ap, ◌∙◌, arith, slice_get, subst}
+use Rattle.std.proofs.Common.{◌≡◌, ◌<◌, ◌≤◌, ℕ, ◌+◌, Bool, true, false, List, [], ◌∷◌, ◌++◌, length, map, Some, None, Option, ◌⊎◌, inl, inr, refl, sym, ap, ◌∙◌, arith, slice_get, subst}
 use Rattle.std.specs.Prelude.{is_some, IfSome}
 use Rattle.std.specs.Option.{option_map}
 use Rattle.std.proofs.lemmas.Bool.{cases_lt}
@@ -30,12 +30,14 @@ use Rattle.sg_actor.specs.declared.settings.SourceSpec.{SourceSpec}
 use Rattle.sg_actor.specs.declared.source.SourceActor.{SourceActor}
 use Rattle.sg_actor.specs.declared.turned.GivenUp.{GivenUp}
 use Rattle.sg_actor.specs.declared.turned.GivenUp.TheVariants.{Outlet, Store}
+use Rattle.sg_actor.specs.declared.turned.Turned.{Turned}
 use Rattle.sg_actor.proofs.LawLemmas.{reads-all, stays-whole}
 use Rattle.sg_turns.specs.Actors.{source_seen, dest_seen, SourceTook, DestTook}
-use Rattle.sg_turns.specs.Laws.{ReadsOn}
-use Rattle.sg_turns.specs.Serving.{IsActor, RestsLast}
+use Rattle.sg_turns.specs.Laws.{ReadsOn, KeepWithin}
+use Rattle.sg_turns.specs.Serving.{IsActor, AreFed, RestsLast}
 use Rattle.sg_turns.specs.Turns.{Turn, calls_of}
 use Rattle.sg_turns.specs.declared.ended.Ended.TheVariants.{Quiet}
+use Rattle.sg_turns.proofs.CreditLemmas.{keep-within}
 use Rattle.sg_turns.proofs.FailingLemmas.{source-fails, dest-fails}
 use Rattle.sg_turns.proofs.LawLemmas.{read-on, source-rests, dest-rests}
 use Rattle.sg_source.specs.declared.inlet.InletPlan.{InletPlan}
@@ -51,14 +53,16 @@ use Rattle.sg_quiet.proofs.StepLemmas.{Has, has-behind, own-has, either-true, we
 use Rattle.sg_quiet.proofs.CalmLemmas.{AllCalm, calm-all, makes-split}
 use Rattle.sg_quiet.proofs.TurnLemmas.{last-source, last-dest, HasFailure, took-broke, HasBreakage, sent-broke}
 use Rattle.sg_quiet.proofs.FailingLemmas.{begun}
-use Rattle.sg_quiet.proofs.RoundLemmas.{Rounds}
+use Rattle.sg_quiet.proofs.RoundLemmas.{Rounds, inlet-of-setup}
+use Rattle.sg_quiet.proofs.CreditLemmas.{NoneSentBack, none-sent}
 
--- Of a source: whether a pull failed, as these marks tell; whether its inlet is over, or it was refused credit; and what it was told of
--- its store.
+-- Of a source: whether a pull failed, as these marks tell; that no records were sent back; whether its inlet is over, or it was refused
+-- credit; and what it was told of its store.
 pub record SourceFacts (offers : ℕ → Record → List Offer → Type 0) (inlet : InletPlan) (setup : SourceSetup) (i : ℕ) (opened closed : InletState) (made last : List Exchange) (marks : List Bool) : Type 0 where
   pub failed : Bool
   pub is : slice_get marks i ≡ Some failed
   pub rose : failed ≡ true → Rose opened.faults closed.faults
+  pub unsent : NoneSentBack i made
   pub over : HasRefusal (calls_by (OfSource i) last) ⊎ ((((closed.ended ≡ true) × (inlet.kind ≡ Lines → IsDrained closed)) ⊎ (failed ≡ true)) × IsWhole offers inlet setup.store i closed (brought_by i made))
   pub stored : (u : ℕ) → setup.store ≡ Some u → HasFailure (calls_by (OfSource i) made) ⊎ (stores_in (calls_by (OfSource i) last) ≡ Unchanged ∷ [])
 
@@ -99,6 +103,15 @@ whole-read offers dests spec old new turns plan store i brought reads spec-is ca
     subst (λ (s : SourceSpec). AreOf offers s (records plan.kind plan.limit feed.from parts) brought) spec-is
     (subst (λ (rs : List Record). AreOf offers spec rs brought) given
     (subst (λ (as' : List Admission). AreOf offers spec reads.taken as') (sym came) reads.offered)))
+
+-- The turns of a quiet run found memory.
+
+all-fed : (earlier : List Turn) (turn : Turn) → AreFed earlier → is_some turn.answer ≡ true → AreFed (earlier ++ turn ∷ [])
+all-fed [] turn fed last = (last, tt)
+all-fed (t ∷ earlier) turn fed last = (fed.0, all-fed earlier turn fed.1 last)
+
+rests-fed : (turns : List Turn) (before last : List Exchange) → RestsLast turns before last → AreFed turns
+rests-fed turns before last rest = subst (λ (ts : List Turn). AreFed ts) (sym rest.are) (all-fed rest.earlier rest.turn rest.fed (ap (λ (o : Option Turned). is_some o) rest.nothing))
 
 for-outlet : (cause : Option GivenUp) → gave_up_outlet cause ≡ true → cause ≡ Some Outlet
 for-outlet None h = absurd (let wrong : false ≡ true = h in cc)
@@ -217,6 +230,10 @@ module _ {R I O : Type 0} (feed : I → InletState) (drain : O → OutletState) 
       let reads = read-on says count a.spec old new turns does.took (for.is).ready [] 0 (nothing-read says count a.spec old for.is none) in
       let calls : calls_by (OfSource i) made ≡ calls_of turns = took.calls (OfSource i) low in
       let rest = ends.each (OfSource i) low in
+      let keeps = keep-within says count a.spec 0 old new turns does.took (rests-fed turns (calls_by (OfSource i) ends.before) (calls_by (OfSource i) ends.last) rest) (for.is).held in
+      let within = subst (λ (es : List Exchange). KeepWithin 0 es) (sym calls) keeps in
+      let first = begun plan reached run holds.core served.rewinds in
+      let x = inlet-of-setup run.begun first.state plan.setup i setup first.at first.setup at_setup in
       let empty = source-rests says count a.spec old new turns (calls_by (OfSource i) ends.before) (calls_by (OfSource i) ends.last) does.took rest in
       let from : (feed a.inlet).from ≡ (feed b.inlet).from = sym (ap (λ (s : SourceSpec). s.from) for.spec_is) ∙ sym (reads.ready).from in
       let spec-is : a.spec ≡ spec_for inlet setup.store i (feed b.inlet).from = for.spec_is ∙ ap (λ (f : ℕ). spec_for inlet setup.store i f) from in
@@ -225,6 +242,7 @@ module _ {R I O : Type 0} (feed : I → InletState) (drain : O → OutletState) 
         failed = b.reader.failed;
         is = slice_get-map (λ (x : SourceActor R I). x.reader.failed) runs.sources_then i b at_b;
         rose = λ e. (source-fails says count a.spec old new turns does.took).1 (for.is).going.1 e;
+        unsent = none-sent run.begun run.last made i 0 took.makes (record { state = first.state; at = first.at; inlet = x.0; there = x.1.0; credit = omega arith }) within;
         over = elim empty.over [
           | inl refused ↦ inl refused
           | inr over ↦ inr (

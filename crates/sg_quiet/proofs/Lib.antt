@@ -3,6 +3,7 @@ pub mod CalmLemmas
 pub mod AgreeLemmas
 pub mod TurnLemmas
 pub mod AnswerLemmas
+pub mod CreditLemmas
 pub mod FailingLemmas
 pub mod RoundLemmas
 pub mod FactLemmas

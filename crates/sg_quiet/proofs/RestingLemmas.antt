@@ -54,7 +54,7 @@ source-rests-by offers old new made last q plan i inlet setup opened closed mark
     let x = inlet-of-setup new (with_failed q.state (q.stayed).failed) plan i setup (q.stayed).at same at_setup in
     record {
       over = elim facts.over [
-        | inl refused ↦ inr (source-credit old new made last q i x.0 x.1.0 refused)
+        | inl refused ↦ inr (source-credit old new made last q i x.0 x.1.0 facts.unsent refused)
         | inr done ↦ inl (record {
           over = elim done.0 [
             | inl ended ↦ inl ended.0

@@ -1,5 +1,5 @@
 -- What the calls of a quiet round tell of the state in which they leave the core.
-use Rattle.std.proofs.Common.{◌≡◌, ◌<◌, ℕ, true, List, [], ◌∷◌, ◌++◌, length, Some, None, Option, Err, ◌⊎◌, inl, inr, refl, sym, ap, ◌∙◌, slice_get, subst}
+use Rattle.std.proofs.Common.{◌≡◌, ℕ, true, List, [], ◌∷◌, ◌++◌, Some, None, Option, inl, inr, refl, sym, ap, ◌∙◌, slice_get, subst}
 use Rattle.sg_list.proofs.ListLemmas.{some-same}
 use Rattle.sg_machine.specs.declared.setup.BufferSetup.{BufferSetup}
 use Rattle.sg_machine.specs.declared.setup.DestSetup.{DestSetup}
@@ -11,11 +11,8 @@ use Rattle.sg_machine.specs.declared.state.State.{State}
 use Rattle.sg_machine.specs.Marks.{mark_of}
 use Rattle.sg_machine.specs.Verdicts.{is_listed}
 use Rattle.sg_counter.specs.Exchanges.{Exchange, Makes, OfSource, OfDest, calls_by}
-use Rattle.sg_counter.specs.declared.answers.Refused.TheVariants.{NoCredit}
 use Rattle.sg_counter.specs.declared.answers.Stored.{Stored}
 use Rattle.sg_counter.specs.declared.answers.Stored.TheVariants.{Unchanged}
-use Rattle.sg_counter.specs.declared.calls.CoreCall.{CoreCall}
-use Rattle.sg_counter.specs.declared.calls.CoreCall.TheVariants.{Admit}
 use Rattle.sg_counter.specs.declared.calls.CoreReply.{CoreReply}
 use Rattle.sg_counter.specs.declared.calls.CoreReply.TheVariants.{Credit as CreditReply, Admitted, Front as FrontReply, Settled as SettledReply, Refilled, Stored as StoredReply}
 use Rattle.sg_sinks.specs.Laws.{is_listed_in}
@@ -25,14 +22,15 @@ use Rattle.sg_standing.specs.Standing.{IsAt, is_broken}
 use Rattle.sg_standing.specs.declared.source.Source.{Source}
 use Rattle.sg_core.specs.Calls.{Serves}
 use Rattle.sg_core.proofs.PositionSteps.{behind}
-use Rattle.sg_actor.specs.Bringing.{exchange, stored_by, stores_in, HasRefusal}
+use Rattle.sg_actor.specs.Bringing.{stored_by, stores_in, HasRefusal}
 use Rattle.sg_actor.specs.DestTurns.{IsEmptyFront, IsShownEmpty}
-use Rattle.sg_quiet.specs.Resting.{HasNoCredit, IsRefused}
-use Rattle.sg_quiet.proofs.StepLemmas.{Has, has-own, has-split, moment, inlet-before, dest-before}
+use Rattle.sg_quiet.specs.Resting.{HasNoCredit}
+use Rattle.sg_quiet.proofs.StepLemmas.{Has, has-own, moment, inlet-before, dest-before}
 use Rattle.sg_quiet.proofs.CalmLemmas.{AllCalm, with_failed, Stayed, CalmMoment, calm-moment}
 use Rattle.sg_quiet.proofs.AgreeLemmas.{inlet-there, agree-mark, agree-setup, agree-credit, agree-stored, dest-there, agree-broken, agree-left}
 use Rattle.sg_quiet.proofs.TurnLemmas.{HasFailure, HasBreakage}
-use Rattle.sg_quiet.proofs.AnswerLemmas.{refusal-in, refused-as, no-credit, less-credit, same-stored, failed-store, none-left, breakage}
+use Rattle.sg_quiet.proofs.AnswerLemmas.{refusal-in, refused-as, no-credit, same-stored, failed-store, none-left, breakage}
+use Rattle.sg_quiet.proofs.CreditLemmas.{NoneSentBack}
 
 -- Rounds from one core to another, of which the last was quiet: that one's calls are these.
 pub record Rounds (old new : CoreState) (made last : List Exchange) : Type 0 where
@@ -59,8 +57,9 @@ inlet-of-setup core t setup i s at same h =
 own-moment : {old new : CoreState} {made last : List Exchange} (q : Rounds old new made last) (e : Exchange) → Has last e → CalmMoment q.state e
 own-moment {old} {new} {made} {last} q e h = calm-moment q.mid new last q.state e q.rest q.calm q.at_mid h
 
-pub source-credit : (old new : CoreState) (made last : List Exchange) (q : Rounds old new made last) (i : ℕ) (x : Inlet) → slice_get (q.state).inlets i ≡ Some x → HasRefusal (calls_by (OfSource i) last) → HasNoCredit new i ⊎ IsRefused new i made
-source-credit old new made last q i x there refused =
+-- where it was refused credit, it has none at the end
+pub source-credit : (old new : CoreState) (made last : List Exchange) (q : Rounds old new made last) (i : ℕ) (x : Inlet) → slice_get (q.state).inlets i ≡ Some x → NoneSentBack i made → HasRefusal (calls_by (OfSource i) last) → HasNoCredit new i
+source-credit old new made last q i x there unsent refused =
     let r = refusal-in (calls_by (OfSource i) last) refused in
     let e = r.0 in
     let own = has-own (OfSource i) last e r.1.0 in
@@ -68,20 +67,8 @@ source-credit old new made last q i x there refused =
     let t = with_failed q.state m.failed in
     let final = with_failed q.state (q.stayed).failed in
     elim (refused-as e.reply r.1.1) [
-      | inl none ↦ inl (λ state at. sym (agree-credit new final state i x (q.stayed).at at there) ∙ no-credit m.first m.next e i t none m.serves own.1 m.at)
-      | inr few ↦ (
-          let beyond = less-credit m.first m.next e few.0 i t x few.1 m.serves own.1 m.at there in
-          let split = has-split made e (q.within e own.0) in
-          let same : e ≡ exchange (Admit i beyond.records) (Admitted (Err (NoCredit few.0))) =
-          ap (λ (c : CoreCall). exchange c e.reply) beyond.is ∙ ap (λ (y : CoreReply). exchange (Admit i beyond.records) y) few.1 in
-          inr (record {
-            earlier = split.0;
-            later = split.1.0;
-            brought = beyond.records;
-            back = few.0;
-            are = split.1.1 ∙ ap (λ (y : Exchange). split.0 ++ y ∷ split.1.0) same;
-            more = λ state at. subst (λ c. c < length beyond.records) (agree-credit new final state i x (q.stayed).at at there) beyond.more;
-          }))
+      | inl none ↦ (λ state at. sym (agree-credit new final state i x (q.stayed).at at there) ∙ no-credit m.first m.next e i t none m.serves own.1 m.at)
+      | inr sent ↦ absurd (unsent e (q.within e own.0) own.1 sent)
     ]
 
 -- an answer on a position

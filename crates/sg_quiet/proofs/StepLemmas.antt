@@ -231,12 +231,6 @@ pub has-behind : (xs ys : List Exchange) (e : Exchange) → Has ys e → Has (xs
 has-behind [] ys e h = h
 has-behind (x ∷ xs) ys e h = inr (has-behind xs ys e h)
 
--- it stands between those before it and those behind it
-pub has-split : (xs : List Exchange) (e : Exchange) → Has xs e → (earlier : List Exchange) × ((later : List Exchange) × (xs ≡ earlier ++ e ∷ later))
-has-split [] e h = absurd h
-has-split (x ∷ xs) e (inl same) = ([], (xs, ap (λ (y : Exchange). y ∷ xs) same))
-has-split (x ∷ xs) e (inr h) = let r = has-split xs e h in (x ∷ r.0, (r.1.0, ap (λ (ys : List Exchange). x ∷ ys) r.1.1))
-
 -- The calls of one caller.
 
 has-if : (b : Bool) (x : Exchange) (xs : List Exchange) (e : Exchange) → Has (if b then x ∷ xs else xs) e → ((b ≡ true) × (x ≡ e)) ⊎ Has xs e

@@ -1,5 +1,5 @@
 -- What a run comes to that ends quietly, with nothing failed.
-use Rattle.std.specs.Prelude.{◌≡◌, ◌⊎◌, ◌<◌, ℕ, true, Some, None, List, [], ◌∷◌, ◌++◌, length, slice_get, Err}
+use Rattle.std.specs.Prelude.{◌≡◌, ℕ, true, Some, None, List, [], slice_get}
 use Rattle.sg_device.specs.Disk.{DiskState, EachNow}
 use Rattle.sg_device.specs.Inlet.{InletState}
 use Rattle.sg_device.specs.Outlet.{OutletState}
@@ -9,19 +9,15 @@ use Rattle.sg_frame.specs.Records.{Record}
 use Rattle.sg_frame.specs.declared.kind.FrameKind.TheVariants.{Lines}
 use Rattle.sg_stable.specs.Position.{IsPosition}
 use Rattle.sg_buffer.specs.Entries.{IsListOf}
-use Rattle.sg_machine.specs.declared.event.Admission.{Admission}
 use Rattle.sg_machine.specs.declared.setup.BufferSetup.{BufferSetup}
 use Rattle.sg_machine.specs.declared.setup.DestSetup.{DestSetup}
 use Rattle.sg_machine.specs.declared.setup.SourceSetup.{SourceSetup}
 use Rattle.sg_machine.specs.declared.state.Dest.{Dest}
 use Rattle.sg_machine.specs.declared.state.State.{State}
 use Rattle.sg_counter.specs.Exchanges.{Exchange, Makes}
-use Rattle.sg_counter.specs.declared.answers.Refused.TheVariants.{NoCredit}
-use Rattle.sg_counter.specs.declared.calls.CoreCall.TheVariants.{Admit}
-use Rattle.sg_counter.specs.declared.calls.CoreReply.TheVariants.{Admitted}
 use Rattle.sg_standing.specs.Standing.{IsAt}
 use Rattle.sg_core.specs.Calls.{Serves}
-use Rattle.sg_actor.specs.Bringing.{exchange, last_end}
+use Rattle.sg_actor.specs.Bringing.{last_end}
 use Rattle.sg_actor.specs.Sources.{IsDrained}
 use Rattle.sg_source.specs.declared.inlet.InletPlan.{InletPlan}
 use Rattle.sg_turns.specs.declared.ended.Ended.TheVariants.{Quiet}
@@ -40,20 +36,11 @@ pub record IsEnded (offers : ℕ → Record → List Offer → Type 0) (plan : I
   pub whole : IsWhole offers plan setup.store i closed (brought_by i made)
   pub drained : plan.kind ≡ Lines → IsDrained closed
 
--- its source brought more records in one of these calls than its window has
-pub record IsOverdrawn (setup : SourceSetup) (i : ℕ) (made : List Exchange) : Type 0 where
-  pub earlier : List Exchange
-  pub later : List Exchange
-  pub brought : List Admission
-  pub back : List Admission
-  pub are : made ≡ earlier ++ exchange (Admit i brought) (Admitted (Err (NoCredit back))) ∷ later
-  pub more : setup.window < length brought
-
 -- these calls were made in the rounds, and leave this
 pub record Ends {R : Type 0} (offers : R → ℕ → Record → List Offer → Type 0) (plan : RunPlan) (routers : List R) (reached : Reached) (run : CoreRun) (made : List Exchange) : Type 0 where
   pub makes : Makes Serves run.begun made run.last
   pub inlets : (i : ℕ) (inlet : InletPlan) (setup : SourceSetup) (router : R) (closed : InletState) → slice_get plan.inlets.items i ≡ Some inlet → slice_get plan.setup.sources i ≡ Some setup → slice_get routers i ≡ Some router
-      → slice_get reached.inlets_closed i ≡ Some closed → IsEnded (offers router) inlet setup i closed made ⊎ IsOverdrawn setup i made
+      → slice_get reached.inlets_closed i ≡ Some closed → IsEnded (offers router) inlet setup i closed made
   -- all that is kept is settled
   pub dests : (d : ℕ) (state : State) (dest : Dest) → IsAt run.last state → slice_get state.dests d ≡ Some dest → dest.left ≡ []
   -- each image of a disk-buffer has no entry

@@ -1,5 +1,5 @@
 -- What is left behind a quiet round.
-use Rattle.std.specs.Prelude.{◌≡◌, ◌⊎◌, ◌≤◌, ◌<◌, ℕ, Bool, true, false, is_some, Option, Some, List, [], ◌∷◌, ◌++◌, length, slice_get, IfSome, Err}
+use Rattle.std.specs.Prelude.{◌≡◌, ◌⊎◌, ◌≤◌, ℕ, Bool, true, false, is_some, Option, Some, List, [], slice_get, IfSome}
 use Rattle.std.specs.Option.{option_map}
 use Rattle.sg_device.specs.Faults.{Rose}
 use Rattle.sg_device.specs.Inlet.{InletState}
@@ -15,14 +15,11 @@ use Rattle.sg_machine.specs.declared.state.State.{State}
 use Rattle.sg_machine.specs.Marks.{mark_of}
 use Rattle.sg_machine.specs.Verdicts.{is_listed}
 use Rattle.sg_counter.specs.Exchanges.{Exchange, Makes, OfSource, calls_by}
-use Rattle.sg_counter.specs.declared.answers.Refused.TheVariants.{NoCredit}
-use Rattle.sg_counter.specs.declared.calls.CoreCall.TheVariants.{Admit}
-use Rattle.sg_counter.specs.declared.calls.CoreReply.TheVariants.{Admitted}
 use Rattle.sg_standing.specs.States.{CoreState}
 use Rattle.sg_standing.specs.Standing.{IsAt, is_broken}
 use Rattle.sg_core.specs.Answers.{credit_left}
 use Rattle.sg_core.specs.Calls.{Serves}
-use Rattle.sg_actor.specs.Bringing.{exchange, admitted_in}
+use Rattle.sg_actor.specs.Bringing.{admitted_in}
 use Rattle.sg_actor.specs.Sources.{AreOf}
 use Rattle.sg_actor.specs.declared.settings.SourceSpec.{SourceSpec}
 use Rattle.sg_source.specs.declared.inlet.InletPlan.{InletPlan}
@@ -57,18 +54,9 @@ pub record IsDone (offers : ℕ → Record → List Offer → Type 0) (plan : In
 abbrev pub HasNoCredit : CoreState → ℕ → Type 0
 HasNoCredit core i = (state : State) → IsAt core state → credit_left state i ≡ 0
 
--- it brought more records in one of these calls than it has credit for
-pub record IsRefused (core : CoreState) (i : ℕ) (made : List Exchange) : Type 0 where
-  pub earlier : List Exchange
-  pub later : List Exchange
-  pub brought : List Admission
-  pub back : List Admission
-  pub are : made ≡ earlier ++ exchange (Admit i brought) (Admitted (Err (NoCredit back))) ∷ later
-  pub more : (state : State) → IsAt core state → credit_left state i < length brought
-
 -- The inlet is done, or there is no credit. The stored position is the mark, where the store works.
 pub record SourceRests (offers : ℕ → Record → List Offer → Type 0) (plan : InletPlan) (setup : SourceSetup) (core : CoreState) (i : ℕ) (opened closed : InletState) (made : List Exchange) : Type 0 where
-  pub over : IsDone offers plan setup.store i opened closed (brought_by i made) ⊎ (HasNoCredit core i ⊎ IsRefused core i made)
+  pub over : IsDone offers plan setup.store i opened closed (brought_by i made) ⊎ HasNoCredit core i
   pub stored : (state : State) (inlet : Inlet) (s : ℕ) → IsAt core state → slice_get state.inlets i ≡ Some inlet → setup.store ≡ Some s → is_listed s state.failed ≡ false → inlet.stored ≡ mark_of state.dests i inlet
 
 -- Destinations.

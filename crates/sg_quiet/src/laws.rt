@@ -15,7 +15,7 @@ pub fn failed_stores_count<W: World, R: Router>(world: &W, router: &[R])
 }
 
 /// Behind a quiet round nothing is left to do: each inlet is over and all that it gave came in, or its
-/// source lacks credit; each destination that isn't given up has settled all that it keeps; and each
+/// source has no credit; each destination that isn't given up has settled all that it keeps; and each
 /// stored position is the mark, where its store works.
 pub fn quiet_runs_rest<W: World, R: Router>(world: &W, router: &[R])
     ensures { QuietRunsRest W.Feed.state W.Drain.state R.offers R.inlets R.dests }
@@ -24,8 +24,8 @@ pub fn quiet_runs_rest<W: World, R: Router>(world: &W, router: &[R])
     let _router = router;
 }
 
-/// Where nothing failed either, each inlet has ended, all is settled, no disk-buffer has an entry, and
-/// each stored position is the end of the last record.
+/// Where nothing failed either, each inlet has ended and all that it gave came in, all is settled, no
+/// disk-buffer has an entry, and each stored position is the end of the last record.
 pub fn clean_runs_end<W: World, R: Router>(world: &W, router: &[R])
     ensures { CleanRunsEnd W.Feed.state W.Drain.state R.offers R.inlets R.dests }
 {
