@@ -1,0 +1,4 @@
+pub mod MergeLemmas
+pub mod OpenLemmas
+pub mod PlaceLemmas
+pub mod RunLemmas
