@@ -1,10 +1,10 @@
 -- What a core is opened with stood in images of the stores handed in.
-use Rattle.std.proofs.Common.{◌≡◌, ℕ, suc, zero, ◌+◌, ◌<◌, ◌≤◌, List, [], ◌∷◌, ◌++◌, length, map, Some, None, Option, Bool, true, false, not, ◌&&◌, refl, sym, ap, ◌∙◌, subst, arith, inl, inr, ◌⊎◌, if◌then◌else◌, slice_get}
+use Rattle.std.proofs.Common.{◌≡◌, ℕ, suc, List, [], ◌∷◌, length, map, Some, None, Option, true, false, refl, sym, ap, ◌∙◌, subst, arith, inl, inr, slice_get}
 use Rattle.std.specs.Prelude.{◌==◌, is_some, option_and_then}
 use Rattle.std.specs.Option.{option_map_or}
 use Rattle.std.proofs.lemmas.Bool.{cases_eq}
 use Rattle.std.proofs.lemmas.List.{length-map}
-use Rattle.sg_list.proofs.ListLemmas.{slice_get-some, slice_get-below, slice_get-map, some-same}
+use Rattle.sg_list.proofs.ListLemmas.{slice_get-some, slice_get-map}
 use Rattle.sg_device.specs.Disk.{DiskState, content}
 use Rattle.sg_device.proofs.DiskCalls.{reads_as_image}
 use Rattle.sg_stable.specs.Cell.{cell_value}
@@ -14,10 +14,7 @@ use Rattle.sg_machine.specs.declared.setup.BufferSetup.{BufferSetup}
 use Rattle.sg_machine.specs.declared.setup.DestSetup.{DestSetup}
 use Rattle.sg_machine.specs.declared.setup.Setup.{Setup}
 use Rattle.sg_machine.specs.declared.setup.SourceSetup.{SourceSetup}
-use Rattle.sg_machine.specs.declared.state.Dest.{Dest}
-use Rattle.sg_machine.specs.declared.state.Entry.{Entry}
-use Rattle.sg_machine.specs.Runs.{Kept, recovered, opened_dest, opened_dests, opened}
-use Rattle.sg_machine.specs.Safe.{Images}
+use Rattle.sg_machine.specs.Runs.{Kept, recovered, opened_dest}
 use Rattle.sg_counter.specs.Bringing.{store_in}
 use Rattle.sg_sinks.specs.Standing.{are_waiting, is_split_by}
 use Rattle.sg_stores.specs.Opening.{IsOpened, IsOpenedAs}
@@ -28,9 +25,8 @@ use Rattle.sg_stores.specs.declared.kind.StoreKind.TheVariants.{Position, Buffer
 use Rattle.sg_standing.specs.Images.{position_in}
 use Rattle.sg_core.specs.Opening.{IsOpen, NumberStores, buffer_store_in, kind_by, kind_of}
 use Rattle.sg_standing.specs.States.{CoreState}
-use Rattle.sg_runs.specs.Covered.{IsFile}
 use Rattle.sg_runs.specs.Passes.{BeginsWith}
-use Rattle.sg_runs.proofs.OpenLemmas.{OpensDest, opens-dest}
+use Rattle.sg_runs.proofs.OpenLemmas.{opens-dest}
 use Rattle.sg_delivered.proofs.PreludeLemmas.{get-back}
 use Rattle.sg_covered.specs.Runs.{AreImagesOf, positions_by, AreListsBy, AllTell}
 

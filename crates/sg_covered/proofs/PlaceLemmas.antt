@@ -1,13 +1,12 @@
 -- The opening place of an inlet is where its feed began.
-use Rattle.std.proofs.Common.{◌≡◌, ◌≢◌, ℕ, suc, zero, ◌+◌, ◌<◌, ◌≤◌, List, [], ◌∷◌, ◌++◌, length, map, Some, None, Option, Bool, true, false, refl, sym, ap, ◌∙◌, subst, arith, inl, inr, ◌⊎◌, if◌then◌else◌, slice_get}
+use Rattle.std.proofs.Common.{◌≡◌, ◌≢◌, ℕ, suc, zero, ◌+◌, ◌<◌, List, [], ◌∷◌, ◌++◌, map, Some, None, Option, Bool, true, false, refl, sym, ap, ◌∙◌, subst, arith, inl, inr, ◌⊎◌, if◌then◌else◌, slice_get}
 use Rattle.std.specs.Prelude.{◌==◌, Ok, Err}
 use Rattle.sg_list.proofs.ListLemmas.{some-same}
 use Rattle.sg_device.specs.Inlet.{InletState}
-use Rattle.sg_outside.specs.World.{Files, place_in, LeavesFile, StandsIn}
+use Rattle.sg_outside.specs.World.{Files, LeavesFile, StandsIn}
 use Rattle.sg_outside.specs.declared.request.InletSpec.{InletSpec}
 use Rattle.sg_outside.specs.declared.request.InletSpec.TheVariants.{File, Slot}
 use Rattle.sg_machine.specs.declared.event.Act.{Act}
-use Rattle.sg_machine.specs.declared.event.Act.TheVariants.{Admit as AdmitAct, Settle as SettleAct, Refill as RefillAct, Store as StoreAct, Rewind, Look}
 use Rattle.sg_machine.specs.declared.event.Event.{Event}
 use Rattle.sg_machine.specs.Counts.{opening_by, opening_from}
 use Rattle.sg_counter.specs.Exchanges.{Exchange}

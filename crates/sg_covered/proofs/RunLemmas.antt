@@ -1,19 +1,22 @@
 -- A plan's run leaves covered what it found covered.
-use Rattle.std.proofs.Common.{◌≡◌, ℕ, suc, zero, ◌+◌, ◌<◌, ◌≤◌, List, [], ◌∷◌, ◌++◌, length, map, Some, None, Option, Bool, true, false, ◌&&◌, refl, sym, ap, ◌∙◌, subst, arith, inl, inr, ◌⊎◌, slice_get, append_assoc}
-use Rattle.std.specs.Prelude.{pos, is_some, filter, Contains, Ok, Err}
+use Rattle.std.proofs.Common.{◌≡◌, ℕ, suc, zero, ◌+◌, ◌<◌, List, [], ◌∷◌, ◌++◌, length, map, Some, None, Option, Bool, true, false, not, ◌&&◌, take, drop, refl, sym, ap, ◌∙◌, subst, arith, inl, inr, ◌⊎◌, slice_get, append_assoc}
+use Rattle.std.specs.Prelude.{pos, ◌==◌, is_some, filter, Contains, Ok, Err}
 use Rattle.std.specs.Option.{option_map_or}
-use Rattle.std.proofs.lemmas.List.{append-nil, map-append, length-map}
-use Rattle.sg_list.proofs.ListLemmas.{some-same, slice_get-some, slice_get-below, slice_get-map}
+use Rattle.std.proofs.lemmas.Bool.{cases_eq}
+use Rattle.std.proofs.lemmas.List.{append-nil, map-append, length-map, length-append, take-append-drop}
+use Rattle.sg_list.specs.Lists.{passes_at}
+use Rattle.sg_list.proofs.ListLemmas.{some-same, slice_get-some, slice_get-below, slice_get-map, drop-get}
 use Rattle.sg_device.specs.Disk.{DiskState}
 use Rattle.sg_device.specs.Inlet.{InletState, Part, stamped}
 use Rattle.sg_device.specs.Outlet.{OutletState}
-use Rattle.sg_outside.specs.World.{WorldState, Files}
+use Rattle.sg_outside.specs.World.{Files}
 use Rattle.sg_msg.specs.Message.{Content}
 use Rattle.sg_msg.specs.declared.offer.Offer.{Offer}
 use Rattle.sg_frame.specs.Items.{Item, items_of}
 use Rattle.sg_frame.specs.declared.kind.FrameKind.{FrameKind}
 use Rattle.sg_frame.specs.Records.{Record, moved, record_of, records_of, records}
-use Rattle.sg_machine.specs.declared.event.Act.TheVariants.{Look}
+use Rattle.sg_machine.specs.declared.event.Act.{Act}
+use Rattle.sg_machine.specs.declared.event.Act.TheVariants.{Admit, Settle, Refill, Store, Rewind, Look}
 use Rattle.sg_machine.specs.declared.event.Admission.{Admission}
 use Rattle.sg_machine.specs.declared.event.Event.{Event}
 use Rattle.sg_machine.specs.declared.setup.DestSetup.{DestSetup}
@@ -22,10 +25,12 @@ use Rattle.sg_machine.specs.declared.setup.SourceSetup.{SourceSetup}
 use Rattle.sg_machine.specs.declared.state.Dest.{Dest}
 use Rattle.sg_machine.specs.declared.state.Inlet.{Inlet}
 use Rattle.sg_machine.specs.declared.state.State.{State}
-use Rattle.sg_machine.specs.Runs.{Kept, Opening, opened_inlet, opened, after_all, are_legal}
-use Rattle.sg_machine.specs.Counts.{opening_from}
+use Rattle.sg_machine.specs.Legal.{is_nil, works, may_rewind, is_legal, is_legal_act}
+use Rattle.sg_machine.specs.Effects.{after}
+use Rattle.sg_machine.specs.Runs.{Kept, Opening, opened_inlet, opened_inlets, opened, after_all, are_legal}
+use Rattle.sg_machine.specs.Counts.{ends_by, ends_admitted, opening_by, opening_from}
 use Rattle.sg_machine.specs.Safe.{Images, Safe, nothing}
-use Rattle.sg_machine.proofs.RunLemmas.{are_legal-join}
+use Rattle.sg_machine.proofs.RunLemmas.{are_legal-join, are_legal-parts, both-true, length-inlets}
 use Rattle.sg_machine.proofs.InletLemmas.{counts-inlet}
 use Rattle.sg_counter.specs.Exchanges.{Exchange, Makes, OfSource, OfDest, calls_by}
 use Rattle.sg_counter.specs.declared.calls.CoreCall.{CoreCall}
@@ -33,7 +38,7 @@ use Rattle.sg_counter.specs.declared.calls.CoreCall.TheVariants.{Credit, Admit a
 use Rattle.sg_counter.specs.declared.calls.CoreReply.{CoreReply}
 use Rattle.sg_counter.specs.declared.calls.CoreReply.TheVariants.{Credit as CreditReply, Admitted, Front as FrontReply, Settled as SettledReply, Refilled, Stored as StoredReply}
 use Rattle.sg_sinks.specs.States.{SinkState}
-use Rattle.sg_standing.specs.Images.{positions_in, position_in, AreListsIn, AreImages}
+use Rattle.sg_standing.specs.Images.{positions_in, position_in, AreListsIn, AreImages, AreImagesBetween}
 use Rattle.sg_standing.specs.Standing.{StandsFor}
 use Rattle.sg_standing.specs.States.{CoreState, setup_of}
 use Rattle.sg_standing.specs.declared.source.Source.{Source}
@@ -43,7 +48,6 @@ use Rattle.sg_core.specs.Calls.{Serves, acts_of}
 use Rattle.sg_core.specs.Opening.{IsOpen, NumberStores}
 use Rattle.sg_actor.specs.Bringing.{admitted_in}
 use Rattle.sg_actor.specs.Rendering.{frame_by}
-use Rattle.sg_actor.specs.Sources.{AreOf}
 use Rattle.sg_actor.specs.SourceTurns.{actor}
 use Rattle.sg_actor.specs.declared.dest.DestActor.{DestActor}
 use Rattle.sg_actor.specs.declared.rendering.DestSpec.{DestSpec}
@@ -52,7 +56,6 @@ use Rattle.sg_actor.specs.declared.source.SourceActor.{SourceActor}
 use Rattle.sg_actor.proofs.LawLemmas.{reads-first}
 use Rattle.sg_turns.specs.Actors.{source_seen, dest_seen, SourceTook, DestTook}
 use Rattle.sg_turns.specs.Turns.{Turn, calls_of}
-use Rattle.sg_turns.specs.Laws.{ReadsOn}
 use Rattle.sg_turns.specs.Serving.{IsActor}
 use Rattle.sg_turns.specs.declared.ended.Ended.{Ended}
 use Rattle.sg_turns.proofs.LawLemmas.{read-on}
@@ -62,14 +65,14 @@ use Rattle.sg_headline.specs.Calls.{Ran, AreOwn}
 use Rattle.sg_headline.specs.Fronts.{IsDest, TakesSettled}
 use Rattle.sg_headline.specs.Headline.{admissions_of}
 use Rattle.sg_headline.specs.Turns.{Sending, AreSendings, calls_in}
-use Rattle.sg_headline.proofs.OwnLemmas.{are-own, calls-run}
+use Rattle.sg_headline.proofs.OwnLemmas.{calls-run}
 use Rattle.sg_headline.proofs.RunLemmas.{frames-settled}
 use Rattle.sg_headline.proofs.ToldLemmas.{told-goes}
 use Rattle.sg_serve.specs.Actors.{SourceView, DestView, source_view, dest_view}
 use Rattle.sg_serve.specs.Devices.{inlet_asked, AreFetching}
 use Rattle.sg_serve.specs.Plan.{IsRunnable}
 use Rattle.sg_serve.specs.Rewinds.{position_at, places_of}
-use Rattle.sg_serve.specs.Run.{CoreRun, Reached, RunsWith, HoldsRun, IsServed, StaysUnserved, Holds}
+use Rattle.sg_serve.specs.Run.{CoreRun, Reached, HoldsRun, IsServed, Holds}
 use Rattle.sg_serve.specs.declared.counts.Counts.{Counts}
 use Rattle.sg_serve.specs.declared.ending.Ending.{Ending}
 use Rattle.sg_serve.specs.declared.ending.Ending.TheVariants.{Before, Ran as RanSo}
@@ -83,11 +86,13 @@ use Rattle.sg_resumed.specs.Pieces.{Piece, piece_of, pieces, Rise, behind}
 use Rattle.sg_resumed.specs.Law.{IsBegun}
 use Rattle.sg_resumed.proofs.RestLemmas.{reading-resumes, ends-rise}
 use Rattle.sg_runs.specs.Covered.{Pass, Taken, Offers, IsFile, Covered}
-use Rattle.sg_runs.specs.Passes.{AreRead, pass_piece, pieces_of, taken_at, Stopped, IsStopped}
+use Rattle.sg_runs.specs.Passes.{AreRead, AreAdmitted, pass_piece, pieces_of, BeginsWith, IsStopped}
 use Rattle.sg_runs.specs.Law.{offers_in}
 use Rattle.sg_runs.proofs.CoverLemmas.{covers-run}
 use Rattle.sg_runs.proofs.OpenLemmas.{opened-inlet-at}
-use Rattle.sg_covered.specs.Runs.{positions_by, EachChoice, AllTell, GaveOf, GaveFiles, files_of, LeavesCovered, PlanRunsCover}
+use Rattle.sg_runs.proofs.PassLemmas.{admitted-split, admitted-ends, pieces-append}
+use Rattle.sg_runs.proofs.PieceLemmas.{ends}
+use Rattle.sg_covered.specs.Runs.{positions_by, AreListsBy, held_by, EachChoice, AllTell, GaveOf, GaveFiles, files_of, stopped_with, CoversStop, LeavesCovered, PlanRunsCover}
 use Rattle.sg_covered.proofs.MergeLemmas.{is_of, pass_of, record_piece, read-of, Merged, merge, pieces-are, admitted-nothing}
 use Rattle.sg_covered.proofs.OpenLemmas.{contents, contents-images, contents-lists, begins-with}
 use Rattle.sg_covered.proofs.PlaceLemmas.{opening-append, later-still, rewinds-here, stands-place}
@@ -323,89 +328,261 @@ begun-at plan run bytes i inlet from position at (inr y) (inl e) =
     inr (y.0, (subst P (files-here plan.inlets.items bytes i inlet at) y.1.0, y.1.1 ∙ sym e))
 begun-at plan run bytes i inlet from position at place (inr e) = inl e
 
-covers-choice : {R : Type 0} (offers : R → ℕ → Record → List Offer → Type 0) (files : Option Files) (plan : RunPlan) (routers : List R) (reached : Reached) (run : CoreRun) (bytes : ℕ → List ℕ) (taken : List Taken) (passes : List Pass) (places : ℕ → ℕ)
-    → ImagesAreSafe → IsRunnable plan → (holds : HoldsRun files plan reached run) → AllTell reached.stores → GaveFiles plan.setup reached.inlets_closed bytes
-    → EachChoice plan.setup reached.stores (Covered plan.setup (offers_in offers routers) (files_of plan.inlets.items bytes) taken passes places)
-    → setup_of run.last ≡ plan.setup → (events : List Event) → StandsFor run.last (opened plan.setup (((holds.core).opens).opening)) events → (came : (i : ℕ) → CameOf (offers_in offers routers) plan reached run events i)
-    → (m : Merged (offers_in offers routers) events (λ i. (came i).passes))
-    → EachChoice plan.setup reached.stores_closed (Covered plan.setup (offers_in offers routers) (files_of plan.inlets.items bytes) (taken ++ taken_at Look 0 (after_all (opened plan.setup (((holds.core).opens).opening)) events).dests) (passes ++ m.now) places)
-covers-choice {R} offers files plan routers reached run bytes taken passes places safe runnable holds tell gave covered setups events stands came m images lists are in_lists =
-    let os = offers_in offers routers in
-    let o = (holds.core).opens in
+-- at the return each file's records are its first items behind the place at which its inlet began
+reads-return : {R : Type 0} (offers : R → ℕ → Record → List Offer → Type 0) (plan : RunPlan) (routers : List R) (reached : Reached) (run : CoreRun) (bytes : ℕ → List ℕ) (taken : List Taken) (passes : List Pass) (places : ℕ → ℕ)
+    (o : IsOpen plan.setup reached.stores run.first) (events : List Event) → IsRunnable plan → GaveFiles plan.setup reached.inlets_closed bytes → BeginsWith plan.setup (held_by plan.setup (contents reached.stores) (o.opening).entries) o.opening
+    → Covered plan.setup (offers_in offers routers) (files_of plan.inlets.items bytes) taken passes places (held_by plan.setup (contents reached.stores) (o.opening).entries) → are_legal (opened plan.setup o.opening) events ≡ true
+    → (came : (i : ℕ) → CameOf (offers_in offers routers) plan reached run events i) → (m : Merged (offers_in offers routers) events (λ i. (came i).passes))
+    → (i : ℕ) (inlet : Inlet) → IsFile plan.setup i → slice_get (after_all (opened plan.setup o.opening) events).inlets i ≡ Some inlet
+    → (later : List Piece) × (behind inlet.opening (files_of plan.inlets.items bytes i) ≡ pieces_of i m.now ++ later)
+reads-return {R} offers plan routers reached run bytes taken passes places o events runnable gave begins first legal came m i inlet file at =
     let opening = o.opening in
     let start = opened plan.setup opening in
-    let N : ℕ → Type 0 = λ n. NumberStores plan.setup n in
-    let numbers = subst N (sym holds.all_stores) runnable.numbers in
-    let before : Images = record { positions = positions_by plan.setup.sources (contents reached.stores); lists = opening.entries } in
-    let first = covered (contents reached.stores) opening.entries (contents-images reached.stores tell) (contents-lists plan.setup reached.stores run.first o tell) in
-    let begins = begins-with plan.setup reached.stores run.first o numbers tell in
-    let left : Images = record { positions = positions_by plan.setup.sources images; lists = lists } in
-    let same : positions_in run.last.sources images ≡ positions_by plan.setup.sources images =
-    positions-same run.last.sources images ∙ ap (λ (s : Setup). positions_by s.sources images) setups in
+    let before = held_by plan.setup (contents reached.stores) opening.entries in
+    let low = slice_get-below plan.setup.sources i file.source file.at in
+    let mine = slice_get-some plan.inlets.items i (let n = runnable.sources in omega (arith, low, n)) in
+    elim ((came i).reading mine.0 file mine.1) [
+      | inl none ↦ (
+          let own : pieces_of i m.now ≡ [] = ap (map pass_piece) (m.each i ∙ none) in
+          (behind inlet.opening (files_of plan.inlets.items bytes i), ap (λ (xs : List Piece). xs ++ behind inlet.opening (files_of plan.inlets.items bytes i)) (sym own)))
+      | inr r ↦ (
+          let many = begins.every_position in
+          let p = slice_get-some before.positions i (omega (arith, low, many)) in
+          let position = p.0 in
+          let place_at = begins.places i position file p.1 in
+          let c = counts-inlet start events i (opened_inlet file.source position) legal (opened-inlet-at plan.setup.sources opening.places i file.source position file.at place_at) in
+          let is : c.0 ≡ inlet = some-same c.0 inlet (sym c.1 ∙ at) in
+          let sources : (setup_of run.first).sources ≡ plan.setup.sources = ap (λ (s : Setup). s.sources) o.setups in
+          let stored : position ≡ position_at run.first i =
+          some-same position (position_at run.first i)
+          (sym place_at
+          ∙ ap (λ (xs : List ℕ). slice_get xs i) o.places
+          ∙ slice_get-map (λ (s : SourceSetup). stored_in run.first.stores s.store) plan.setup.sources i file.source file.at
+          ∙ ap (λ (x : Option ℕ). Some (stored_in run.first.stores x)) (sym (store-by-setup run.first plan.setup.sources i file.source sources file.at))) in
+          let began : inlet.opening ≡ (r.closed).from = sym (ap (λ (x : Inlet). x.opening) is) ∙ c.2.opening ∙ r.opening position stored in
+          let place : ((r.closed).from ≡ position) ⊎ ((r.closed).from ≡ 0) = elim r.place [ inl e ↦ inl (e ∙ sym stored) | inr e ↦ inr e ] in
+          let begun = begun-at plan run bytes i mine.0 (r.closed).from position mine.1 (first.positions i position file p.1) place in
+          let read = reads-file plan reached run events i mine.0 (came i).passes m.now (bytes i) (fetch-some plan.inlets.items i mine.0 runnable.fetches mine.1) r (gave i r.closed file r.at) (m.each i) begun in
+          let P : ℕ → Type 0 = λ n. (later : List Piece) × (behind n (files_of plan.inlets.items bytes i) ≡ pieces_of i m.now ++ later) in
+          subst P (sym began) (read.0, ap (behind (r.closed).from) (files-here plan.inlets.items bytes i mine.0 mine.1) ∙ read.1))
+    ]
+
+-- Once a record of an inlet came in, its opening place stays.
+
+nil-list : (xs : List ℕ) → is_nil xs ≡ true → xs ≡ []
+nil-list [] h = refl
+nil-list (x ∷ xs) h = grind (arith, h)
+
+rewind-nil : (s : State) (i : ℕ) (failed : List ℕ) (inlet : Inlet) → is_legal_act s (Rewind i) failed ≡ true → slice_get s.inlets i ≡ Some inlet → inlet.ends ≡ []
+rewind-nil s i failed inlet l h =
+    let P : Option Inlet → Type 0 = λ o. option_map_or (may_rewind s.failed) o false ≡ true in
+    let legal = subst P h ((both-true (passes_at s.inlets i (may_rewind s.failed)) (is_nil failed) l).0) in
+    let first = both-true (works s.failed inlet.setup.store && is_nil inlet.ends) (not (inlet.stored == 0)) legal in
+    nil-list inlet.ends ((both-true (works s.failed inlet.setup.store) (is_nil inlet.ends) first.0).1)
+
+opening-act : (s : State) (act : Act) (failed : List ℕ) (i : ℕ) (inlet : Inlet) → is_legal_act s act failed ≡ true → slice_get s.inlets i ≡ Some inlet → (inlet.ends ++ ends_by i act ≡ [] → ⊥) → opening_by i inlet.opening act ≡ inlet.opening
+opening-act s (Admit j records vs) failed i inlet l h some = refl
+opening-act s (Settle d n) failed i inlet l h some = refl
+opening-act s (Refill d n) failed i inlet l h some = refl
+opening-act s (Store j w) failed i inlet l h some = refl
+opening-act s (Rewind j) failed i inlet l h some =
+    elim (cases_eq j i) [
+      | inl e ↦ (
+          let P : ℕ → Type 0 = λ n. is_legal_act s (Rewind n) failed ≡ true in
+          let none = rewind-nil s i failed inlet (subst P e l) h in
+          absurd (some (ap (λ (xs : List ℕ). xs ++ []) none)))
+      | inr ne ↦ (let miss : (j == i) ≡ false = grind arith in rw miss refl)
+    ]
+opening-act s Look failed i inlet l h some = refl
+
+append-some : (xs ys : List ℕ) → (xs ≡ [] → ⊥) → xs ++ ys ≡ [] → ⊥
+append-some [] ys some e = some refl
+append-some (x ∷ xs) ys some e = let long = length-append (x ∷ xs) ys in omega (arith, ap length e, long)
+
+stays : (s : State) (e : Event) (rest : List Event) (i : ℕ) (inlet : Inlet) → are_legal s (e ∷ rest) ≡ true → slice_get s.inlets i ≡ Some inlet → (inlet.ends ++ ends_by i e.act ≡ [] → ⊥) → opening_from i inlet.opening (e ∷ rest) ≡ inlet.opening
+stays s e [] i inlet l h some = opening-act s e.act e.failed i inlet ((both-true (is_legal s e) true l).0) h some
+stays s e (f ∷ rest) i inlet l h some =
+    let p = both-true (is_legal s e) (are_legal (after s e) (f ∷ rest)) l in
+    let one : are_legal s (e ∷ []) ≡ true = (let first = p.0 in rw first refl) in
+    let c = counts-inlet s (e ∷ []) i inlet one h in
+    let now = opening-act s e.act e.failed i inlet p.0 h some in
+    let ends_are : (c.0).ends ≡ inlet.ends ++ ends_by i e.act = c.2.ends ∙ ap (λ (xs : List ℕ). inlet.ends ++ xs) (append-nil (ends_by i e.act)) in
+    let opening : (c.0).opening ≡ opening_by i inlet.opening e.act = c.2.opening in
+    let next = stays (after s e) f rest i c.0 p.1 c.1 (append-some (c.0).ends (ends_by i f.act) (λ q. some (sym ends_are ∙ q))) in
+    ap (λ (n : ℕ). opening_from i n (f ∷ rest)) (sym opening) ∙ next ∙ opening ∙ now
+
+legal-behind : (s : State) (es : List Event) (e : Event) (rest : List Event) → are_legal s (es ++ e ∷ rest) ≡ true → are_legal (after_all s es) (e ∷ rest) ≡ true
+legal-behind s es e rest l = (are_legal-parts s es (e ∷ rest) l).1
+
+ends-append-admitted : (i : ℕ) (es fs : List Event) → ends_admitted i (es ++ fs) ≡ ends_admitted i es ++ ends_admitted i fs
+ends-append-admitted i [] fs = refl
+ends-append-admitted i (e ∷ es) fs = ap (λ (xs : List ℕ). ends_by i e.act ++ xs) (ends-append-admitted i es fs) ∙ sym (append_assoc (ends_by i e.act) (ends_admitted i es) (ends_admitted i fs))
+
+opened-parts : (ss : List SourceSetup) (ps : List ℕ) (i : ℕ) (inlet : Inlet) → slice_get (opened_inlets ss ps) i ≡ Some inlet → inlet.ends ≡ []
+opened-parts [] ps i inlet h = absurd (let wrong : None ≡ Some inlet = h in cc)
+opened-parts (s ∷ ss) [] zero inlet h = let e = some-same _ inlet h in sym (ap (λ (x : Inlet). x.ends) e)
+opened-parts (s ∷ ss) (p ∷ ps) zero inlet h = let e = some-same _ inlet h in sym (ap (λ (x : Inlet). x.ends) e)
+opened-parts (s ∷ ss) [] (suc i) inlet h = opened-parts ss [] i inlet h
+opened-parts (s ∷ ss) (p ∷ ps) (suc i) inlet h = opened-parts ss ps i inlet h
+
+-- of what was read in all, a first part
+read-part : (i : ℕ) (came : List Pass) (rest all held : List Piece) (place last : ℕ) (mine : List Piece) → mine ≡ pieces_of i came → all ≡ pieces_of i came ++ rest → ((later : List Piece) × (behind last held ≡ all ++ later))
+    → ((ends (pieces_of i came) ≡ [] → ⊥) → last ≡ place) → (more : List Piece) × (behind place held ≡ pieces_of i came ++ more)
+read-part i came rest all held place last [] q both full opening = (behind place held, ap (λ (xs : List Piece). xs ++ behind place held) q)
+read-part i came rest all held place last (x ∷ mine) q both full opening =
+    let same : last ≡ place = opening (λ e. let wrong : ends (x ∷ mine) ≡ [] = ap ends q ∙ e in omega (arith, ap length wrong)) in (
+      rest ++ full.0,
+      ap (λ (n : ℕ). behind n held) (sym same) ∙ full.1 ∙ ap (λ (xs : List Piece). xs ++ full.0) both ∙ append_assoc (pieces_of i came) rest full.0,
+    )
+
+-- Stops.
+
+abbrev pub ImagesBetweenAreSafe : Type 0
+ImagesBetweenAreSafe =
+    (setup : Setup) (opening : Opening) (events : List Event) (core : CoreState) (stands : StandsFor core (opened setup opening) events) (k : ℕ) (event : Event) (images : List (List ℕ)) (lists : List (List Kept)) → slice_get events k ≡ Some event
+    → AreImagesBetween core.stores (stands.moments.rows k) (stands.moments.rows (k + 1)) images → AreListsIn core.sinks images lists
+    → Safe (opened setup opening) (take k events) event (record { positions = positions_in core.sources images; lists = lists })
+
+-- the laws of what a stop leaves
+pub record Laws : Type 0 where
+  pub now : ImagesAreSafe
+  pub between : ImagesBetweenAreSafe
+
+-- what is known of the run: it found covered what `first` holds, and these events followed, in which these records came in
+record Known {R : Type 0} (offers : R → ℕ → Record → List Offer → Type 0) (plan : RunPlan) (routers : List R) (reached : Reached) (run : CoreRun) (bytes : ℕ → List ℕ) (taken : List Taken) (passes : List Pass) (places : ℕ → ℕ)
+    (o : IsOpen plan.setup reached.stores run.first) (events : List Event) (now : List Pass) : Type 0 where
+  runnable : IsRunnable plan
+  setups : setup_of run.last ≡ plan.setup
+  begins : BeginsWith plan.setup (held_by plan.setup (contents reached.stores) (o.opening).entries) o.opening
+  first : Covered plan.setup (offers_in offers routers) (files_of plan.inlets.items bytes) taken passes places (held_by plan.setup (contents reached.stores) (o.opening).entries)
+  stands : StandsFor run.last (opened plan.setup o.opening) events
+  admitted : AreAdmitted (offers_in offers routers) events now
+  reads : (i : ℕ) (inlet : Inlet) → IsFile plan.setup i → slice_get (after_all (opened plan.setup o.opening) events).inlets i ≡ Some inlet
+      → (later : List Piece) × (behind inlet.opening (files_of plan.inlets.items bytes i) ≡ pieces_of i now ++ later)
+
+-- the lists are those of the core's destinations
+lists-in : (plan : RunPlan) (run : CoreRun) (images : List (List ℕ)) (lists : List (List Kept)) → setup_of run.last ≡ plan.setup → AreListsBy plan.setup.dests images lists → AreListsIn run.last.sinks images lists
+lists-in plan run images lists setups in_lists =
     let dests : map (λ (k : SinkState). k.setup) run.last.sinks ≡ plan.setup.dests = ap (λ (s : Setup). s.dests) setups in
-    let disks : reached.stores_closed ≡ map (λ (store : StoreState). store.disk) run.last.stores = (holds.core).closed in
+    record {
+      every = in_lists.every ∙ sym (ap length dests) ∙ length-map run.last.sinks (λ (k : SinkState). k.setup);
+      each = λ d sink buffer list b h q g at.
+          (let at_dest : slice_get plan.setup.dests d ≡ Some sink.setup = ap (λ (ds : List DestSetup). slice_get ds d) (sym dests) ∙ slice_get-map (λ (k : SinkState). k.setup) run.last.sinks d sink h in
+          in_lists.each d sink.setup buffer list b at_dest q g at);
+    }
+
+-- the positions are those of its sources
+positions-by : (plan : RunPlan) (run : CoreRun) (images : List (List ℕ)) → setup_of run.last ≡ plan.setup → positions_in run.last.sources images ≡ positions_by plan.setup.sources images
+positions-by plan run images setups = positions-same run.last.sources images ∙ ap (λ (s : Setup). positions_by s.sources images) setups
+
+-- a stop behind these events with this one on is covered
+covers-stop : {R : Type 0} (offers : R → ℕ → Record → List Offer → Type 0) (plan : RunPlan) (routers : List R) (reached : Reached) (run : CoreRun) (bytes : ℕ → List ℕ) (taken : List Taken) (passes : List Pass) (places : ℕ → ℕ)
+    (o : IsOpen plan.setup reached.stores run.first) (events : List Event) (now : List Pass) → Known offers plan routers reached run bytes taken passes places o events now → (es : List Event) (e : Event) (came : List Pass) (images : Images)
+    → are_legal (opened plan.setup o.opening) (es ++ e ∷ []) ≡ true → Safe (opened plan.setup o.opening) es e images → AreAdmitted (offers_in offers routers) (es ++ e ∷ []) came
+    → ((i : ℕ) (inlet : Inlet) → IsFile plan.setup i → slice_get (after_all (opened plan.setup o.opening) es).inlets i ≡ Some inlet → (later : List Piece) × (behind inlet.opening (files_of plan.inlets.items bytes i) ≡ pieces_of i came ++ later))
+    → CoversStop plan.setup (offers_in offers routers) (held_by plan.setup (contents reached.stores) (o.opening).entries) taken passes places (stopped_with plan bytes o.opening es e came images)
+covers-stop {R} offers plan routers reached run bytes taken passes places o events now known es e came images legal safe admitted reads =
+    let os = offers_in offers routers in
+    let before = held_by plan.setup (contents reached.stores) (o.opening).entries in
+    let files = files_of plan.inlets.items bytes in
+    let stopped : IsStopped plan.setup os before (stopped_with plan bytes o.opening es e came images) = record {
+      begins = known.begins;
+      legal = legal;
+      safe = safe;
+      admits = admitted;
+      rising = λ i. files-rise plan.inlets.items bytes i (slice_get plan.inlets.items i) refl (known.runnable).fetches;
+      reads = reads;
+    } in
+    record {
+      stopped = stopped;
+      covered = covers-run plan.setup os files taken passes places before (stopped_with plan bytes o.opening es e came images) known.first (λ i. ([], sym (append-nil (files i)))) stopped;
+    }
+
+-- at the return
+covers-return : {R : Type 0} (offers : R → ℕ → Record → List Offer → Type 0) (plan : RunPlan) (routers : List R) (reached : Reached) (run : CoreRun) (bytes : ℕ → List ℕ) (taken : List Taken) (passes : List Pass) (places : ℕ → ℕ)
+    (o : IsOpen plan.setup reached.stores run.first) (events : List Event) (now : List Pass) → Laws → Known offers plan routers reached run bytes taken passes places o events now → reached.stores_closed ≡ map (λ (store : StoreState). store.disk) run.last.stores
+    → EachChoice plan.setup reached.stores_closed
+    (λ images. CoversStop plan.setup (offers_in offers routers) (held_by plan.setup (contents reached.stores) (o.opening).entries) taken passes places (stopped_with plan bytes o.opening events nothing now images))
+covers-return {R} offers plan routers reached run bytes taken passes places o events now laws known disks images lists are in_lists =
+    let start = opened plan.setup o.opening in
     let now_images : AreImages run.last.stores images =
     λ s store h.
     let at : slice_get reached.stores_closed s ≡ Some store.disk = ap (λ (ds : List DiskState). slice_get ds s) disks ∙ slice_get-map (λ (x : StoreState). x.disk) run.last.stores s store h in
     let x = are s store.disk at in
     (x.0, x.1.0, x.1.1) in
-    let now_lists : AreListsIn run.last.sinks images lists = record {
-      every = in_lists.every ∙ sym (ap length dests) ∙ length-map run.last.sinks (λ (k : SinkState). k.setup);
-      each = λ d sink buffer list b h q g at.
-          (let at_dest : slice_get plan.setup.dests d ≡ Some sink.setup = ap (λ (ds : List DestSetup). slice_get ds d) (sym dests) ∙ slice_get-map (λ (k : SinkState). k.setup) run.last.sinks d sink h in
-          in_lists.each d sink.setup buffer list b at_dest q g at);
-    } in
     let S : List ℕ → Type 0 = λ ps. Safe start events nothing (record { positions = ps; lists = lists }) in
-    let is_safe : Safe start events nothing left = subst S same (safe plan.setup opening events run.last images lists stands now_images now_lists) in
-    let run_of : Stopped = record { opening = opening; events = events; event = nothing; passes = m.now; files = files_of plan.inlets.items bytes; images = left } in
-    let stopped : IsStopped plan.setup os before run_of = record {
-      begins = begins;
-      legal = are_legal-join start events (nothing ∷ []) stands.legal refl;
-      safe = is_safe;
-      admits = admitted-nothing os events m.now [] m.admitted;
-      rising = λ i. files-rise plan.inlets.items bytes i (slice_get plan.inlets.items i) refl runnable.fetches;
-      reads = λ i inlet file at.
-          (let low = slice_get-below plan.setup.sources i file.source file.at in
-          let mine = slice_get-some plan.inlets.items i (let n = runnable.sources in omega (arith, low, n)) in
-          elim ((came i).reading mine.0 file mine.1) [
-            | inl none ↦ (
-                let own : pieces_of i m.now ≡ [] = ap (map pass_piece) (m.each i ∙ none) in
-                (behind inlet.opening (files_of plan.inlets.items bytes i), ap (λ (xs : List Piece). xs ++ behind inlet.opening (files_of plan.inlets.items bytes i)) (sym own)))
-            | inr r ↦ (
-                let many = begins.every_position in
-                let p = slice_get-some before.positions i (omega (arith, low, many)) in
-                let position = p.0 in
-                let place_at = begins.places i position file p.1 in
-                let c = counts-inlet start events i (opened_inlet file.source position) stands.legal (opened-inlet-at plan.setup.sources opening.places i file.source position file.at place_at) in
-                let is : c.0 ≡ inlet = some-same c.0 inlet (sym c.1 ∙ at) in
-                let sources : (setup_of run.first).sources ≡ plan.setup.sources = ap (λ (s : Setup). s.sources) o.setups in
-                let stored : position ≡ position_at run.first i =
-                some-same position (position_at run.first i)
-                (sym place_at
-                ∙ ap (λ (xs : List ℕ). slice_get xs i) o.places
-                ∙ slice_get-map (λ (s : SourceSetup). stored_in run.first.stores s.store) plan.setup.sources i file.source file.at
-                ∙ ap (λ (x : Option ℕ). Some (stored_in run.first.stores x)) (sym (store-by-setup run.first plan.setup.sources i file.source sources file.at))) in
-                let began : inlet.opening ≡ (r.closed).from = sym (ap (λ (x : Inlet). x.opening) is) ∙ c.2.opening ∙ r.opening position stored in
-                let place : ((r.closed).from ≡ position) ⊎ ((r.closed).from ≡ 0) = elim r.place [ inl e ↦ inl (e ∙ sym stored) | inr e ↦ inr e ] in
-                let begun = begun-at plan run bytes i mine.0 (r.closed).from position mine.1 (first.positions i position file p.1) place in
-                let read = reads-file plan reached run events i mine.0 (came i).passes m.now (bytes i) (fetch-some plan.inlets.items i mine.0 runnable.fetches mine.1) r (gave i r.closed file r.at) (m.each i) begun in
-                let P : ℕ → Type 0 = λ n. (later : List Piece) × (behind n (files_of plan.inlets.items bytes i) ≡ pieces_of i m.now ++ later) in
-                subst P (sym began) (read.0, ap (behind (r.closed).from) (files-here plan.inlets.items bytes i mine.0 mine.1) ∙ read.1))
-          ]);
-    } in
-    covers-run plan.setup os (files_of plan.inlets.items bytes) taken passes places before run_of first (λ i. ([], sym (append-nil (files_of plan.inlets.items bytes i)))) stopped
+    let safe = subst S (positions-by plan run images known.setups) (laws.now plan.setup o.opening events run.last images lists known.stands now_images (lists-in plan run images lists known.setups in_lists)) in
+    covers-stop offers plan routers reached run bytes taken passes places o events now known events nothing now (held_by plan.setup images lists)
+    (are_legal-join start events (nothing ∷ []) known.stands.legal refl) safe (admitted-nothing (offers_in offers routers) events now [] known.admitted) known.reads
+
+-- within an event
+covers-within : {R : Type 0} (offers : R → ℕ → Record → List Offer → Type 0) (plan : RunPlan) (routers : List R) (reached : Reached) (run : CoreRun) (bytes : ℕ → List ℕ) (taken : List Taken) (passes : List Pass) (places : ℕ → ℕ)
+    (o : IsOpen plan.setup reached.stores run.first) (events : List Event) (now : List Pass) → Laws → (known : Known offers plan routers reached run bytes taken passes places o events now)
+    → (k : ℕ) (event : Event) (images : List (List ℕ)) (lists : List (List Kept)) → slice_get events k ≡ Some event
+    → AreImagesBetween run.last.stores (known.stands.moments.rows k) (known.stands.moments.rows (k + 1)) images → AreListsBy plan.setup.dests images lists
+    → (came : List Pass) × ((rest : List Pass) × ((now ≡ came ++ rest) × CoversStop plan.setup (offers_in offers routers) (held_by plan.setup (contents reached.stores) (o.opening).entries) taken passes places
+    (stopped_with plan bytes o.opening (take k events) event came (held_by plan.setup images lists))))
+covers-within {R} offers plan routers reached run bytes taken passes places o events now laws known k event images lists at between in_lists =
+    let os = offers_in offers routers in
+    let start = opened plan.setup o.opening in
+    let files = files_of plan.inlets.items bytes in
+    let es = take k events in
+    let later = drop (k + 1) events in
+    let split : events ≡ (es ++ event ∷ []) ++ later = sym (take-append-drop k events) ∙ ap (λ (xs : List Event). es ++ xs) (drop-get events k event at) ∙ sym (append_assoc es (event ∷ []) later) in
+    let A : List Event → Type 0 = λ xs. AreAdmitted os xs now in
+    let parts = admitted-split os (es ++ event ∷ []) later now (subst A split known.admitted) in
+    let came = parts.0 in
+    let rest = parts.1.0 in
+    let L : List Event → Type 0 = λ xs. are_legal start xs ≡ true in
+    let legals = are_legal-parts start (es ++ event ∷ []) later (subst L split known.stands.legal) in
+    let S : List ℕ → Type 0 = λ ps. Safe start es event (record { positions = ps; lists = lists }) in
+    let safe = subst S (positions-by plan run images known.setups) (laws.between plan.setup o.opening events run.last known.stands k event images lists at between (lists-in plan run images lists known.setups in_lists)) in
+    let reads : (i : ℕ) (inlet : Inlet) → IsFile plan.setup i → slice_get (after_all start es).inlets i ≡ Some inlet → (more : List Piece) × (behind inlet.opening (files i) ≡ pieces_of i came ++ more) =
+    λ i inlet file here.
+    let low = slice_get-below (after_all start es).inlets i inlet here in
+    let wide = length-inlets start es in
+    let one = slice_get-some start.inlets i (omega (arith, low, wide)) in
+    let none = (opened-parts plan.setup.sources (o.opening).places i one.0 one.1) in
+    let all = counts-inlet start events i one.0 known.stands.legal one.1 in
+    let half = counts-inlet start es i one.0 (are_legal-parts start es (event ∷ []) legals.0).0 one.1 in
+    let is : half.0 ≡ inlet = some-same half.0 inlet (sym half.1 ∙ here) in
+    let full = known.reads i all.0 file all.1 in
+    let both : pieces_of i now ≡ pieces_of i came ++ pieces_of i rest = ap (pieces_of i) parts.1.1.0 ∙ pieces-append i came rest in
+    let ends_are : ends (pieces_of i came) ≡ inlet.ends ++ ends_by i event.act =
+    admitted-ends os i (es ++ event ∷ []) came parts.1.1.1
+    ∙ ends-append-admitted i es (event ∷ [])
+    ∙ ap (λ (xs : List ℕ). ends_admitted i es ++ xs) (append-nil (ends_by i event.act))
+    ∙ ap (λ (xs : List ℕ). xs ++ ends_by i event.act) (sym (ap (λ (xs : List ℕ). xs ++ ends_admitted i es) none) ∙ sym half.2.ends ∙ ap (λ (x : Inlet). x.ends) is) in
+    let behind_them = legal-behind start es event later (subst L (split ∙ append_assoc es (event ∷ []) later) known.stands.legal) in
+    let opening : (ends (pieces_of i came) ≡ [] → ⊥) → (all.0).opening ≡ inlet.opening =
+    λ some.
+    all.2.opening
+    ∙ ap (opening_from i (one.0).opening) (split ∙ append_assoc es (event ∷ []) later)
+    ∙ opening-append i (one.0).opening es (event ∷ later)
+    ∙ ap (λ (n : ℕ). opening_from i n (event ∷ later)) (sym half.2.opening ∙ ap (λ (x : Inlet). x.opening) is)
+    ∙ stays (after_all start es) event later i inlet behind_them here (λ e. some (ends_are ∙ e)) in
+    read-part i came (pieces_of i rest) (pieces_of i now) (files i) inlet.opening (all.0).opening (pieces_of i came) refl both full opening in (
+      came,
+      (
+        rest,
+        (
+          parts.1.1.0,
+          covers-stop offers plan routers reached run bytes taken passes places o events now known es event came (held_by plan.setup images lists) legals.0 safe parts.1.1.1 reads,
+        ),
+      ),
+    )
 
 -- The whole.
 
 -- by what was called and what came in
 covers-by : {R : Type 0} (offers : R → ℕ → Record → List Offer → Type 0) (files : Option Files) (plan : RunPlan) (routers : List R) (reached : Reached) (run : CoreRun) (bytes : ℕ → List ℕ) (taken : List Taken) (passes : List Pass) (places : ℕ → ℕ)
-    → ImagesAreSafe → IsRunnable plan → HoldsRun files plan reached run → AllTell reached.stores → GaveFiles plan.setup reached.inlets_closed bytes
+    → Laws → IsRunnable plan → HoldsRun files plan reached run → AllTell reached.stores → GaveFiles plan.setup reached.inlets_closed bytes
     → EachChoice plan.setup reached.stores (Covered plan.setup (offers_in offers routers) (files_of plan.inlets.items bytes) taken passes places)
     → (made : List Exchange) → Makes Serves run.begun made run.last
     → ((later : List Event) → map (λ (e : Event). e.act) later ≡ acts_of made → AreOwn made later → (i : ℕ) → CameOf (offers_in offers routers) plan reached run (run.prelude ++ later) i)
     → ((start : State) (later : List Event) → Ran run.begun run.last made start run.prelude later → TakesThese plan reached run start (run.prelude ++ later))
     → LeavesCovered offers plan routers reached run bytes taken passes places
-covers-by {R} offers files plan routers reached run bytes taken passes places safe runnable holds tell gave covered made makes came took =
+covers-by {R} offers files plan routers reached run bytes taken passes places laws runnable holds tell gave covered made makes came took =
     let os = offers_in offers routers in
     let o = (holds.core).opens in
     let start = opened plan.setup o.opening in
@@ -416,39 +593,57 @@ covers-by {R} offers files plan routers reached run bytes taken passes places sa
     let mine = came h.0 ran.acts h.1.1 in
     let m = merge os events (λ i. (mine i).passes) (λ i. (mine i).are) in
     let setups : setup_of run.last ≡ plan.setup = made-setup run.begun run.last made makes ∙ ((holds.core).begins).setup ∙ o.setups in
+    let N : ℕ → Type 0 = λ n. NumberStores plan.setup n in
+    let numbers = subst N (sym holds.all_stores) runnable.numbers in
+    let images = contents-images reached.stores tell in
+    let lists = contents-lists plan.setup reached.stores run.first o tell in
+    let first = covered (contents reached.stores) (o.opening).entries images lists in
+    let begins = begins-with plan.setup reached.stores run.first o numbers tell in
+    let known : Known offers plan routers reached run bytes taken passes places o events m.now = record {
+      runnable = runnable;
+      setups = setups;
+      begins = begins;
+      first = first;
+      stands = ran.stands;
+      admitted = m.admitted;
+      reads = reads-return offers plan routers reached run bytes taken passes places o events runnable gave begins first ran.stands.legal mine m;
+    } in
     record {
       opens = o;
+      first = contents reached.stores;
+      first_are = images;
+      first_lists = lists;
       later = h.0;
       stands = ran.stands;
       took = took start h.0 ran;
       now = m.now;
-      admitted = m.admitted;
-      covered = covers-choice offers files plan routers reached run bytes taken passes places safe runnable holds tell gave covered setups events ran.stands mine m;
+      returns = covers-return offers plan routers reached run bytes taken passes places o events m.now laws known (holds.core).closed;
+      stops = covers-within offers plan routers reached run bytes taken passes places o events m.now laws known;
     }
 
 covers-held : {R I O : Type 0} (feed : I → InletState) (drain : O → OutletState) (offers : R → ℕ → Record → List Offer → Type 0) (inlets dests : R → ℕ) (files : Option Files) (plan : RunPlan) (routers : List R) (rounds : ℕ) (reached : Reached)
-    (core : Option CoreRun) (ending : Ending) (run : CoreRun) (bytes : ℕ → List ℕ) (taken : List Taken) (passes : List Pass) (places : ℕ → ℕ) → ImagesAreSafe → IsRunnable plan → Holds feed drain offers inlets dests files plan routers rounds reached core ending
+    (core : Option CoreRun) (ending : Ending) (run : CoreRun) (bytes : ℕ → List ℕ) (taken : List Taken) (passes : List Pass) (places : ℕ → ℕ) → Laws → IsRunnable plan → Holds feed drain offers inlets dests files plan routers rounds reached core ending
     → core ≡ Some run → AllTell reached.stores → GaveFiles plan.setup reached.inlets_closed bytes
     → EachChoice plan.setup reached.stores (Covered plan.setup (offers_in offers routers) (files_of plan.inlets.items bytes) taken passes places) → LeavesCovered offers plan routers reached run bytes taken passes places
-covers-held feed drain offers inlets dests files plan routers rounds reached None ending run bytes taken passes places safe runnable h q tell gave covered = absurd (let wrong : None ≡ Some run = q in cc)
-covers-held {R} {I} {O} feed drain offers inlets dests files plan routers rounds reached (Some core) (Before early) run bytes taken passes places safe runnable (holds, stays) q tell gave covered =
+covers-held feed drain offers inlets dests files plan routers rounds reached None ending run bytes taken passes places laws runnable h q tell gave covered = absurd (let wrong : None ≡ Some run = q in cc)
+covers-held {R} {I} {O} feed drain offers inlets dests files plan routers rounds reached (Some core) (Before early) run bytes taken passes places laws runnable (holds, stays) q tell gave covered =
     let still = still-either core.first reached.inlets core.prelude stays.rewinds in
     let P : CoreRun → Type 0 = λ r. LeavesCovered offers plan routers reached r bytes taken passes places in
     let here : P core =
-    covers-by offers files plan routers reached core bytes taken passes places safe runnable holds tell gave covered [] stays.core_stays
+    covers-by offers files plan routers reached core bytes taken passes places laws runnable holds tell gave covered [] stays.core_stays
     (λ later acts own i. none-came (offers_in offers routers) plan reached core (core.prelude ++ later) i (admitted-later i core.prelude later still ∙ own.admits i))
     (λ start later ran. stayed-taken files plan reached core holds still stays.outlets_stay start later ran) in
     subst P (some-same core run q) here
-covers-held {R} {I} {O} feed drain offers inlets dests files plan routers rounds reached (Some core) (RanSo ended counts) run bytes taken passes places safe runnable (holds, served) q tell gave covered =
+covers-held {R} {I} {O} feed drain offers inlets dests files plan routers rounds reached (Some core) (RanSo ended counts) run bytes taken passes places laws runnable (holds, served) q tell gave covered =
     let still = still-rewinds (position_at core.first) (places_of reached.inlets) core.prelude served.rewinds in
     let serves = (served.runs).serves in
     let P : CoreRun → Type 0 = λ r. LeavesCovered offers plan routers reached r bytes taken passes places in
     let here : P core =
-    covers-by offers files plan routers reached core bytes taken passes places safe runnable holds tell gave covered serves.0 ((serves.1.1.1).took).makes
+    covers-by offers files plan routers reached core bytes taken passes places laws runnable holds tell gave covered serves.0 ((serves.1.1.1).took).makes
     (λ later acts own i. came-by feed drain offers inlets dests files plan routers rounds reached core ended counts runnable holds served later own acts still i (slice_get (served.runs).sources i) refl)
     (λ start later ran. run-taken feed drain offers inlets dests files plan routers rounds reached core ended counts holds served still start later ran) in
     subst P (some-same core run q) here
 
-pub covers : {R I O : Type 0} (feed : I → InletState) (drain : O → OutletState) (offers : R → ℕ → Record → List Offer → Type 0) (inlets dests : R → ℕ) → ImagesAreSafe → PlanRunsCover feed drain offers inlets dests
-covers feed drain offers inlets dests safe old new plan routers rounds ending reached run bytes taken passes places runnable runs core tell gave covered =
-    covers-held feed drain offers inlets dests old.files plan routers rounds reached reached.core ending run bytes taken passes places safe runnable runs.holds core tell gave covered
+pub covers : {R I O : Type 0} (feed : I → InletState) (drain : O → OutletState) (offers : R → ℕ → Record → List Offer → Type 0) (inlets dests : R → ℕ) → Laws → PlanRunsCover feed drain offers inlets dests
+covers feed drain offers inlets dests laws old new plan routers rounds ending reached run bytes taken passes places runnable runs core tell gave covered =
+    covers-held feed drain offers inlets dests old.files plan routers rounds reached reached.core ending run bytes taken passes places laws runnable runs.holds core tell gave covered
