@@ -3,12 +3,12 @@ use Rattle.sg_trace.proofs.Completing.{complete}
 use Rattle.sg_trace.proofs.tracing.trace_input.Goals as goal
 
 pub trace_source-requires-clause-within : goal.trace_source-requires-clause-within
-trace_source-requires-clause-within g c =
+trace_source-requires-clause-within g c = λ κs lives.
     let configures = c.in-Ok.ensures.loads.configures in
     c.texts_mean_one.ensures.within configures.tokens c.in-Ok.loaded.config configures.means
 
 pub trace_source-requires-clause-compiles : goal.trace_source-requires-clause-compiles
-trace_source-requires-clause-compiles g c = c.in-Ok.ensures.loads.compiles
+trace_source-requires-clause-compiles g c = λ κs lives. c.in-Ok.ensures.loads.compiles
 
 pub returns-in-Ok-clause-traces : goal.returns-in-Ok-clause-traces
 returns-in-Ok-clause-traces g c = (

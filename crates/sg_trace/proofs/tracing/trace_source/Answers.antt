@@ -6,7 +6,7 @@ pub first_inlet-requires : goal.first_inlet-requires
 first_inlet-requires g c = few-inlets c.args.loaded.config c.as_slice.result.now c.requires.within c.as_slice.ensures.value
 
 pub trace_inlet-requires-clause-inlet : goal.trace_inlet-requires-clause-inlet
-trace_inlet-requires-clause-inlet g c = first-there c.args.source.now c.as_slice.result.now c.args.loaded.config.inlets.items c.in-Some.inlet c.as_slice.ensures.value c.in-Some.ensures
+trace_inlet-requires-clause-inlet g c = λ κs lives. first-there c.args.source.now c.as_slice.result.now c.args.loaded.config.inlets.items c.in-Some.inlet c.as_slice.ensures.value c.in-Some.ensures
 
 pub returns-in-Some : goal.returns-in-Some
 returns-in-Some g c =
