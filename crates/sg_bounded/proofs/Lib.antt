@@ -1,0 +1,10 @@
+pub mod OwedLemmas
+pub mod MarkLemmas
+pub mod ActLemmas
+pub mod CountLemmas
+pub mod TurnLemmas
+pub mod CallLemmas
+pub mod RiseLemmas
+pub mod SumLemmas
+pub mod EventLemmas
+pub mod RunLemmas

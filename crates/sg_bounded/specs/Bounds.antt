@@ -1,0 +1,120 @@
+-- How many turns do something or are idle, and so how many rounds a run may have: each such turn is paid for by what devices and calls of
+-- the core count.
+use Rattle.std.specs.Prelude.{◌≡◌, ◌≤◌, ◌<◌, ℕ, ◌+◌, ◌-◌, ◌*◌, ◌^◌, not, Option, Some, None, List, length}
+use Rattle.sg_device.specs.Inlet.{InletState}
+use Rattle.sg_device.specs.Outlet.{OutletState}
+use Rattle.sg_outside.specs.World.{WorldState}
+use Rattle.sg_msg.specs.declared.offer.Offer.{Offer}
+use Rattle.sg_frame.specs.Records.{Record}
+use Rattle.sg_machine.specs.Runs.{opened}
+use Rattle.sg_counter.specs.Exchanges.{Exchange, Makes}
+use Rattle.sg_core.specs.Calls.{Serves}
+use Rattle.sg_core.specs.Opening.{IsOpen}
+use Rattle.sg_actor.specs.Bringing.{admitted_in}
+use Rattle.sg_actor.specs.Reading.{one_if}
+use Rattle.sg_actor.specs.Sources.{SourceState}
+use Rattle.sg_actor.specs.SourceTurns.{ActorState}
+use Rattle.sg_actor.specs.Steps.{parts_over}
+use Rattle.sg_actor.specs.declared.settings.SourceSpec.{SourceSpec}
+use Rattle.sg_turns.specs.Turns.{Turn, calls_of, TookTurns}
+use Rattle.sg_turns.specs.Serving.{busy_of}
+use Rattle.sg_turns.specs.declared.ended.Ended.TheVariants.{Quiet, RoundsSpent, NoMemory}
+use Rattle.sg_serve.specs.Plan.{IsRunnable}
+use Rattle.sg_serve.specs.Run.{CoreRun, Reached, RunsWith}
+use Rattle.sg_serve.specs.declared.counts.Counts.{Counts}
+use Rattle.sg_serve.specs.declared.ending.Ending.{Ending}
+use Rattle.sg_serve.specs.declared.ending.Ending.TheVariants.{Before, Ran}
+use Rattle.sg_serve.specs.declared.plan.RunPlan.{RunPlan}
+use Rattle.sg_bounded.specs.Counts.{changes, writes_in, offers_of, left_in, bytes_in, parts_in, idles_in, inlet_faults, outlet_faults, laters_in}
+
+-- A source.
+
+-- the bytes and the parts that came meanwhile, the pulls that failed or were idle, and the parts that were closed or given up
+abbrev pub brought : SourceState → SourceState → ℕ
+brought old new =
+    (new.feed.bytes - old.feed.bytes) + (new.feed.parts - old.feed.parts) + (new.feed.faults - old.feed.faults) + (new.feed.idles - old.feed.idles)
+    + (parts_over new.reader.given_up new.feed.parts - parts_over old.reader.given_up old.feed.parts)
+
+-- Each turn of a source that did something or was idle pulled bytes, a part or the end, which comes once, failed or was idle in its pull,
+-- gave up a part, admitted a record, was told another credit than in the turn before, wrote its position, or found that the position store
+-- has failed.
+abbrev pub SourceIsBounded : (ℕ → Record → List Offer → Type 0) → ℕ → SourceSpec → ActorState → ActorState → List Turn → Type 0
+SourceIsBounded offers dests spec old new turns =
+    TookTurns offers dests spec old new turns → new.source.feed.faults < 2 ^ 64 - 1
+    → busy_of turns ≤ brought old.source new.source + 1 + length (admitted_in (calls_of turns)) + changes old.position.credit (calls_of turns) + writes_in (calls_of turns) + one_if (not old.position.broken)
+
+-- A run.
+
+-- the entries that the disk-buffers had at first, and the offers of the records that these calls brought in
+abbrev pub recovered_in : (plan : RunPlan) (reached : Reached) (run : CoreRun) → IsOpen plan.setup reached.stores run.first → ℕ
+recovered_in plan reached run opens = left_in (opened plan.setup opens.opening).dests
+
+abbrev pub offered_in : List Exchange → ℕ
+offered_in made = offers_of (admitted_in made)
+
+-- So many entries were recovered as the core was opened, and so many offers came in, by the calls that were made of it.
+pub record CameIn (plan : RunPlan) (reached : Reached) (run : CoreRun) (recovered offered : ℕ) : Type 0 where
+  pub opens : IsOpen plan.setup reached.stores run.first
+  pub made : List Exchange
+  pub makes : Makes Serves run.begun made run.last
+  pub recovered_are : recovered ≡ recovered_in plan reached run opens
+  pub offered_are : offered ≡ offered_in made
+
+-- none did where no core was opened
+abbrev pub HaveCome : RunPlan → Reached → Option CoreRun → (recovered offered : ℕ) → Type 0
+HaveCome plan reached None recovered offered = (recovered ≡ 0) × (offered ≡ 0)
+HaveCome plan reached (Some run) recovered offered = CameIn plan reached run recovered offered
+
+-- so many rounds at most
+abbrev pub most_rounds : (recovered offered : ℕ) → Reached → ℕ
+most_rounds recovered offered reached =
+    4 * bytes_in reached.inlets_closed + 2 * parts_in reached.inlets_closed + 3 * length reached.inlets + 2 * offered + recovered
+    + inlet_faults reached.inlets reached.inlets_closed + 2 * outlet_faults reached.outlets reached.outlets_closed
+    + idles_in reached.inlets_closed + laters_in reached.outlets reached.outlets_closed
+
+-- one, the bytes, the parts, the inlets, the offers and the recovered entries
+abbrev pub given_rounds : (recovered offered : ℕ) → Reached → ℕ
+given_rounds recovered offered reached = 1 + bytes_in reached.inlets_closed + parts_in reached.inlets_closed + length reached.inlets + offered + recovered
+
+-- by how much the counts of faults rose
+abbrev pub faults_in : Reached → ℕ
+faults_in reached = inlet_faults reached.inlets reached.inlets_closed + outlet_faults reached.outlets reached.outlets_closed
+
+-- the idle answers, and those that it was too early
+abbrev pub waits_in : Reached → ℕ
+waits_in reached = idles_in reached.inlets_closed + laters_in reached.outlets reached.outlets_closed
+
+-- the rounds are few
+pub record AreFew (recovered offered rounds : ℕ) (reached : Reached) : Type 0 where
+  pub most : rounds ≤ most_rounds recovered offered reached
+  pub below : rounds < 4 * (given_rounds recovered offered reached + faults_in reached) + waits_in reached
+
+-- so they are where all of them were run, and the last one wasn't quiet
+abbrev pub IsFew : (recovered offered rounds : ℕ) → Reached → Ending → Type 0
+IsFew recovered offered rounds reached (Before early) = Unit {0}
+IsFew recovered offered rounds reached (Ran Quiet counts) = Unit {0}
+IsFew recovered offered rounds reached (Ran RoundsSpent counts) = AreFew recovered offered rounds reached
+IsFew recovered offered rounds reached (Ran NoMemory counts) = Unit {0}
+
+-- What a run took in, and that it spends no more rounds than this pays for.
+pub record IsBounded (plan : RunPlan) (rounds : ℕ) (ending : Ending) (reached : Reached) : Type 0 where
+  pub recovered : ℕ
+  pub offered : ℕ
+  pub came : HaveCome plan reached reached.core recovered offered
+  pub few : IsFew recovered offered rounds reached ending
+
+abbrev pub RunsAreBounded : {R I O : Type 0} → (I → InletState) → (O → OutletState) → (R → ℕ → Record → List Offer → Type 0) → (R → ℕ) → (R → ℕ) → Type 0
+RunsAreBounded {R} {I} {O} feed drain offers inlets dests =
+    (old new : WorldState) (plan : RunPlan) (routers : List R) (rounds : ℕ) (ending : Ending) (reached : Reached) → IsRunnable plan → rounds < 2 ^ 64
+    → RunsWith feed drain offers inlets dests old new plan routers rounds ending reached → IsBounded plan rounds ending reached
+
+-- no count of faults rose, no inlet was idle, and it was never too early to reopen an outlet
+pub record IsUntroubled (reached : Reached) : Type 0 where
+  pub faults : faults_in reached ≡ 0
+  pub waits : waits_in reached ≡ 0
+
+-- An untroubled run that spent its rounds had fewer than so many: with as many or more it doesn't spend them.
+abbrev pub UntroubledRunsEnd : Type 0
+UntroubledRunsEnd =
+    (plan : RunPlan) (rounds : ℕ) (counts : Option Counts) (reached : Reached) (bounds : IsBounded plan rounds (Ran RoundsSpent counts) reached) → IsUntroubled reached
+    → rounds < 4 * given_rounds bounds.recovered bounds.offered reached
