@@ -1,19 +1,23 @@
 -- What a run tells to have failed has failed.
-use Rattle.std.proofs.Common.{◌≡◌, ◌<◌, ◌≤◌, ℕ, ◌+◌, suc, zero, Bool, true, false, List, [], ◌∷◌, Option, Some, None, map, length, slice_get, refl, sym, ap, ◌∙◌, subst, arith}
+use Rattle.std.proofs.Common.{◌≡◌, ◌≤◌, ℕ, ◌+◌, suc, zero, Bool, true, false, List, [], ◌∷◌, Option, Some, None, map, length, slice_get, refl, sym, ap, ◌∙◌, subst, arith}
 use Rattle.std.proofs.lemmas.List.{length-map}
 use Rattle.sg_list.proofs.ListLemmas.{some-same, slice_get-some, slice_get-below, slice_get-map}
+use Rattle.sg_device.specs.Faults.{Rose}
 use Rattle.sg_device.specs.Inlet.{InletState}
 use Rattle.sg_device.specs.Outlet.{OutletState}
 use Rattle.sg_outside.specs.World.{WorldState}
 use Rattle.sg_msg.specs.declared.offer.Offer.{Offer}
 use Rattle.sg_frame.specs.Records.{Record}
+use Rattle.sg_actor.specs.DestTurns.{HasCause}
 use Rattle.sg_actor.specs.SourceTurns.{actor}
 use Rattle.sg_actor.specs.declared.dest.DestActor.{DestActor}
+use Rattle.sg_actor.specs.declared.outage.Outage.{Outage}
 use Rattle.sg_actor.specs.declared.rendering.DestSpec.{DestSpec}
 use Rattle.sg_actor.specs.declared.source.SourceActor.{SourceActor}
 use Rattle.sg_actor.specs.declared.turned.GivenUp.{GivenUp}
 use Rattle.sg_actor.specs.declared.turned.GivenUp.TheVariants.{Outlet, Store}
 use Rattle.sg_turns.specs.Actors.{source_seen, dest_seen, SourceTook, DestTook}
+use Rattle.sg_turns.specs.Turns.{Turn, DestState, SendsBy, SentTurns}
 use Rattle.sg_turns.specs.declared.ended.Ended.{Ended}
 use Rattle.sg_turns.proofs.FailingLemmas.{dest-fails, source-fails}
 use Rattle.sg_counter.specs.Exchanges.{OfSource, OfDest}
@@ -41,9 +45,32 @@ for-outlet None h = cc
 for-outlet (Some Outlet) h = refl
 for-outlet (Some Store) h = cc
 
+-- Once a destination is given up for its outlet, the outlet's count of faults rose.
+record Rises (first : OutletState) (s : DestState) : Type 0 where
+  later : first.faults ≤ s.drain.faults
+  rose : s.outage.given_up ≡ Some Outlet → Rose first.faults s.drain.faults
+
+turn-rises : (cause : Option GivenUp) (spec : DestSpec) (first : OutletState) (old new : DestState) (turn : Turn) → SendsBy cause spec old new turn → Rises first old → Rises first new
+turn-rises None spec first old new turn (taken, (refused, h)) before = record {
+  later = (let sooner = before.later in let more = h.takes.faults in omega (arith, sooner, more));
+  rose = λ e. (
+      let why = subst (λ c. HasCause spec.gives_up refused new.drain turn.made c) e h.cause in
+      let one : Rose old.drain.faults new.drain.faults = h.rose why.1 in
+      let sooner = before.later in
+      omega (arith, one, sooner));
+}
+turn-rises (Some cause) spec first old new turn h before = record {
+  later = subst (λ (drain : OutletState). first.faults ≤ drain.faults) (sym h.1.drain_stays) before.later;
+  rose = λ e. subst (λ (drain : OutletState). Rose first.faults drain.faults) (sym h.1.drain_stays) (before.rose (ap (λ (outage : Outage). outage.given_up) (sym h.1.outage_stays) ∙ e));
+}
+
+turns-rise : (spec : DestSpec) (first : OutletState) (old new : DestState) (turns : List Turn) → SentTurns spec old new turns → Rises first old → Rises first new
+turns-rise spec first old new [] same before = subst (λ (s : DestState). Rises first s) (sym same) before
+turns-rise spec first old new (turn ∷ turns) (mid, (sent, rest)) before = turns-rise spec first mid new turns rest (turn-rises old.outage.given_up spec first old mid turn sent before)
+
 module _ {R I O : Type 0} (feed : I → InletState) (drain : O → OutletState) (offers : R → ℕ → Record → List Offer → Type 0) (inlets dests : R → ℕ) (plan : RunPlan) (routers : List R) (rounds : ℕ) (reached : Reached) (run : CoreRun) (ended : Ended)
     (counts : Counts) (runnable : IsRunnable plan) (served : IsServed feed drain offers inlets dests plan routers rounds reached run ended (Some counts)) where
-  sink-due : (k d : ℕ) → slice_get counts.sinks k ≡ Some d → FailsThrice plan reached.outlets_closed d
+  sink-due : (k d : ℕ) → slice_get counts.sinks k ≡ Some d → FailsThrice plan reached.outlets reached.outlets_closed d
   sink-due k d h =
       let runs = served.runs in
       let took = (runs.serves.1.1.1).took in
@@ -63,11 +90,16 @@ module _ {R I O : Type 0} (feed : I → InletState) (drain : O → OutletState) 
       let does : DestTook drain a.0 b.0 turns = took.dests_took j a.0 b.0 a.1 b.1.0 in
       let kept = (for.is).kept in
       let why = dest-fails (a.0).spec (dest_seen drain a.0) (dest_seen drain b.0) turns does.took (λ e. absurd (let wrong : None ≡ Some Outlet = sym kept ∙ e in cc)) (for-outlet ((b.0).outage).given_up b.1.1) in
-      subst (λ n. FailsThrice plan reached.outlets_closed n) (sym number) (record {
+      let rises = turns-rise (a.0).spec (drain (a.0).outlet) (dest_seen drain a.0) (dest_seen drain b.0) turns does.took
+      (record { later = omega arith; rose = λ e. absurd (let wrong : None ≡ Some Outlet = sym kept ∙ e in cc) }) in
+      subst (λ n. FailsThrice plan reached.outlets reached.outlets_closed n) (sym number) (record {
         once = sym (ap (λ (s : DestSpec). s.gives_up) (for.is).spec_is) ∙ why.0;
-        drain = drain (b.0).outlet;
+        old = drain (a.0).outlet;
+        new = drain (b.0).outlet;
+        was = ap (λ os. slice_get os j) (sym runs.outlets_opened) ∙ slice_get-map (λ (x : DestActor O). drain x.outlet) runs.dests_first j a.0 a.1;
         is = ap (λ os. slice_get os j) (sym runs.outlets_closed) ∙ slice_get-map (λ (x : DestActor O). drain x.outlet) runs.dests_then j b.0 b.1.0;
         failing = why.1;
+        rose = rises.rose (for-outlet ((b.0).outage).given_up b.1.1);
       })
 
   inlet-due : (k i : ℕ) → slice_get counts.inlets k ≡ Some i → RoseIn reached.inlets reached.inlets_closed i

@@ -1,5 +1,5 @@
 -- The headline by the log paths of a configuration.
-use Rattle.std.proofs.Common.{◌≡◌, ℕ, List, Option, Some, None, ◌++◌, map, slice_get, refl, sym, ap, ◌∙◌, subst}
+use Rattle.std.proofs.Common.{◌≡◌, List, Option, Some, None, ◌++◌, map, subst}
 use Rattle.sg_machine.specs.declared.event.Event.{Event}
 use Rattle.sg_machine.specs.declared.state.State.{State}
 use Rattle.sg_tree.specs.Offers.{Woods, AreOffers}

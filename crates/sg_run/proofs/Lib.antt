@@ -4,3 +4,4 @@ pub mod LineLemmas
 pub mod RunLemmas
 pub mod CauseLemmas
 pub mod RestingLemmas
+pub mod BoundingLemmas

@@ -1,5 +1,5 @@
 -- A report has a line for each source of a plan.
-use Rattle.std.proofs.Common.{◌≡◌, ℕ, ◌+◌, suc, Bool, is_some, List, [], ◌∷◌, Option, Some, None, ◌++◌, map, length, refl, sym, ap, ◌∙◌}
+use Rattle.std.proofs.Common.{◌≡◌, ℕ, ◌+◌, suc, Bool, is_some, List, [], ◌∷◌, Option, Some, None, ◌++◌, length, refl, sym, ap, ◌∙◌}
 use Rattle.std.proofs.lemmas.List.{length-map}
 use Rattle.sg_device.specs.Inlet.{InletState}
 use Rattle.sg_device.specs.Outlet.{OutletState}
@@ -8,7 +8,6 @@ use Rattle.sg_msg.specs.declared.offer.Offer.{Offer}
 use Rattle.sg_frame.specs.Records.{Record}
 use Rattle.sg_machine.specs.Runs.{opened, after_all}
 use Rattle.sg_machine.specs.Tallies.{source_tallies}
-use Rattle.sg_machine.specs.declared.setup.Setup.{Setup}
 use Rattle.sg_machine.specs.declared.setup.SourceSetup.{SourceSetup}
 use Rattle.sg_machine.specs.declared.state.Dest.{Dest}
 use Rattle.sg_machine.specs.declared.state.Inlet.{Inlet}
@@ -17,12 +16,12 @@ use Rattle.sg_machine.specs.declared.tally.Tally.{Tally}
 use Rattle.sg_machine.proofs.RunLemmas.{length-inlets}
 use Rattle.sg_standing.specs.Standing.{IsAt, sources_from}
 use Rattle.sg_standing.specs.States.{CoreState}
-use Rattle.sg_core.specs.Opening.{IsOpen, opened_source}
+use Rattle.sg_core.specs.Opening.{opened_source}
 use Rattle.sg_actor.specs.declared.source.SourceActor.{SourceActor}
 use Rattle.sg_source.specs.declared.inlet.InletPlan.{InletPlan}
 use Rattle.sg_turns.specs.declared.ended.Ended.{Ended}
 use Rattle.sg_serve.specs.Plan.{IsRunnable}
-use Rattle.sg_serve.specs.Run.{CoreRun, Reached, Holds, HoldsRun, IsServed}
+use Rattle.sg_serve.specs.Run.{CoreRun, Reached, Holds, IsServed}
 use Rattle.sg_serve.specs.declared.counts.Counts.{Counts}
 use Rattle.sg_serve.specs.declared.ending.Ending.{Ending}
 use Rattle.sg_serve.specs.declared.ending.Ending.TheVariants.{Before, Ran}

@@ -1,5 +1,5 @@
 -- The plan of a configuration can be run, by routers that know its inlets and destinations.
-use Rattle.std.proofs.Common.{◌≡◌, ◌<◌, ◌≤◌, ℕ, suc, zero, Bool, List, [], ◌∷◌, map, length, slice_get, replicate, Some, None, refl, sym, ap, ◌∙◌, subst, arith}
+use Rattle.std.proofs.Common.{◌≡◌, ◌≤◌, ℕ, suc, zero, Bool, List, [], ◌∷◌, map, length, slice_get, replicate, Some, None, refl, sym, ap, ◌∙◌, subst, arith}
 use Rattle.std.proofs.lemmas.List.{length-map, length-replicate}
 use Rattle.sg_list.proofs.ListLemmas.{some-same, slice_get-map}
 use Rattle.sg_machine.specs.declared.setup.SourceSetup.{SourceSetup}

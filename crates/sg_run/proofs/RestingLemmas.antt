@@ -1,13 +1,12 @@
 -- What the end of a run means, by the laws of the runs of plans.
-use Rattle.std.proofs.Common.{◌≡◌, ℕ, List, Option, Some, None}
+use Rattle.std.proofs.Common.{ℕ, List, Some, None}
 use Rattle.sg_device.specs.Inlet.{InletState}
 use Rattle.sg_device.specs.Outlet.{OutletState}
 use Rattle.sg_outside.specs.World.{WorldState}
 use Rattle.sg_msg.specs.declared.offer.Offer.{Offer}
 use Rattle.sg_frame.specs.Records.{Record}
 use Rattle.sg_serve.specs.Plan.{IsRunnable}
-use Rattle.sg_serve.specs.Run.{CoreRun, Reached, RunsWith}
-use Rattle.sg_serve.specs.declared.counts.Counts.{Counts}
+use Rattle.sg_serve.specs.Run.{Reached, RunsWith}
 use Rattle.sg_serve.specs.declared.ending.Ending.{Ending}
 use Rattle.sg_serve.specs.declared.ending.Ending.TheVariants.{Before, Ran}
 use Rattle.sg_serve.specs.declared.plan.RunPlan.{RunPlan}

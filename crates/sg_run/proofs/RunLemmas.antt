@@ -1,5 +1,5 @@
 -- The run of a configuration file.
-use Rattle.std.proofs.Common.{◌≡◌, ℕ, Bool, List, Option, Some, None, Result, Ok, Err, inl, inr, refl, sym, ap, ◌∙◌, subst}
+use Rattle.std.proofs.Common.{◌<◌, ◌^◌, ℕ, Bool, List, Some, Result, Ok, Err, inl, inr, refl, subst}
 use Rattle.sg_device.specs.Inlet.{InletState}
 use Rattle.sg_device.specs.Outlet.{OutletState}
 use Rattle.sg_outside.specs.World.{WorldState}
@@ -11,17 +11,19 @@ use Rattle.sg_loaded.specs.Loading.{OnlyLoads, LoadsFile, IsConfigured}
 use Rattle.sg_loaded.specs.declared.loaded.Loaded.{Loaded}
 use Rattle.sg_loaded.specs.declared.loaded.Unloaded.{Unloaded}
 use Rattle.sg_loaded.specs.declared.loaded.Unloaded.TheVariants.{Bad, Unread, NoMemory}
-use Rattle.sg_serve.specs.Run.{Reached, RunsPlan}
+use Rattle.sg_serve.specs.Run.{RunsPlan}
 use Rattle.sg_serve.specs.declared.ending.Ending.{Ending}
 use Rattle.sg_delivered.specs.Headline.{RunsDeliver}
 use Rattle.sg_quiet.specs.Failing.{FailedStoresCount}
 use Rattle.sg_quiet.specs.Resting.{QuietRunsRest}
 use Rattle.sg_quiet.specs.Ending.{CleanRunsEnd}
-use Rattle.sg_run.specs.Meaning.{planned, paths_in, drivers_in, files_in, AreRouters}
+use Rattle.sg_bounded.specs.Bounds.{RunsAreBounded, UntroubledRunsEnd}
+use Rattle.sg_run.specs.Meaning.{planned, paths_in, drivers_in, AreRouters}
 use Rattle.sg_run.specs.Outcomes.{Tells, EndsBy, EndsSo, AreLines, HasLinesAt}
 use Rattle.sg_run.specs.Run.{offers_by, inlets_by, dests_by, RunsBy, IsLeft, IsStarved, RunsConfig, RunsFile}
 use Rattle.sg_run.specs.declared.end.Outcome.{Outcome}
 use Rattle.sg_run.specs.declared.reporting.Lines.{Lines}
+use Rattle.sg_run.proofs.BoundingLemmas.{completes-by}
 use Rattle.sg_run.proofs.CauseLemmas.{due-by}
 use Rattle.sg_run.proofs.PlanLemmas.{runnable, used}
 use Rattle.sg_run.proofs.HeadlineLemmas.{delivers-by}
@@ -32,22 +34,30 @@ pub tells-by : (config : Config) (once : Bool) (ending : Ending) (lines : Lines)
 tells-by config once ending lines outcome are ends =
     subst (λ fs. EndsBy (drivers_in config.inlets.items) fs ending (Some outcome)) are.1 (subst (λ ds. EndsBy ds lines.files ending (Some outcome)) are.0 ends)
 
--- the laws are that runs of plans come to the headline, that a store that is told to have failed has failed, and what a quiet end means
+-- The laws are that runs of plans come to the headline, that a store that is told to have failed has failed, what a quiet end means, and
+-- that rounds are bounded.
 pub runs-by : {I O : Type 0} (feed : I → InletState) (drain : O → OutletState) (loaded new : WorldState) (config : Config) (once : Bool) (rounds : ℕ) (routers : List Pipes) (ending : Ending) (result : Result Outcome Unloaded) → IsWithin config
     → AreDirect config.outlets.items → AreRouters config routers → RunsDeliver feed drain offers_by inlets_by dests_by → FailedStoresCount feed drain offers_by inlets_by dests_by → QuietRunsRest feed drain offers_by inlets_by dests_by
-    → CleanRunsEnd feed drain offers_by inlets_by dests_by → RunsPlan feed drain offers_by inlets_by dests_by loaded new (planned config once) routers rounds ending
+    → CleanRunsEnd feed drain offers_by inlets_by dests_by → RunsAreBounded feed drain offers_by inlets_by dests_by → UntroubledRunsEnd → rounds < 2 ^ 64 → RunsPlan feed drain offers_by inlets_by dests_by loaded new (planned config once) routers rounds ending
     → Tells (planned config once) ending result → RunsBy feed drain loaded new config once rounds result
-runs-by feed drain loaded new config once rounds routers ending result within direct are law failing quiet clean (reached, runs) tells = record {
-  routers = routers;
-  are_routers = are;
-  ending = ending;
-  reached = reached;
-  runs = runs;
-  headline = delivers-by (planned config once) routers (paths_in config) reached reached.core are (law loaded new (planned config once) routers rounds ending reached (runnable config once within direct) runs);
-  tells = tells;
-  due = due-by feed drain offers_by inlets_by dests_by loaded new (planned config once) routers rounds reached (runnable config once within direct) (used config once within) failing ending runs;
-  rests = rests-by feed drain offers_by inlets_by dests_by loaded new (planned config once) routers rounds reached (runnable config once within direct) quiet clean ending runs;
-}
+runs-by feed drain loaded new config once rounds routers ending result within direct are law failing quiet clean bounded untroubled low (reached, runs) tells =
+    let plan = planned config once in
+    let can = runnable config once within direct in
+    let due = due-by feed drain offers_by inlets_by dests_by loaded new plan routers rounds reached can (used config once within) failing ending runs in
+    let few = bounded loaded new plan routers rounds ending reached can low runs in
+    record {
+      routers = routers;
+      are_routers = are;
+      ending = ending;
+      reached = reached;
+      runs = runs;
+      headline = delivers-by plan routers (paths_in config) reached reached.core are (law loaded new plan routers rounds ending reached can runs);
+      tells = tells;
+      due = due;
+      rests = rests-by feed drain offers_by inlets_by dests_by loaded new plan routers rounds reached can quiet clean ending runs;
+      few = few;
+      completes = completes-by loaded new plan rounds ending reached result untroubled runs.ends due few tells;
+    }
 
 pub lines-by-plan : {I O : Type 0} (feed : I → InletState) (drain : O → OutletState) (loaded new : WorldState) (config : Config) (once : Bool) (rounds : ℕ) (routers : List Pipes) (ending : Ending) (lines : Lines) → IsWithin config
     → AreDirect config.outlets.items → AreLines config lines → RunsDeliver feed drain offers_by inlets_by dests_by → RunsPlan feed drain offers_by inlets_by dests_by loaded new (planned config once) routers rounds ending

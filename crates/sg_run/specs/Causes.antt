@@ -1,5 +1,5 @@
 -- Why a run ended so.
-use Rattle.std.specs.Prelude.{◌≡◌, ◌≤◌, ℕ, true, Option, Some, None, List, slice_get}
+use Rattle.std.specs.Prelude.{◌≡◌, ◌≤◌, ℕ, true, Some, None, List, slice_get}
 use Rattle.sg_device.specs.Faults.{Rose}
 use Rattle.sg_device.specs.Inlet.{InletState}
 use Rattle.sg_device.specs.Outlet.{OutletState}
@@ -9,12 +9,15 @@ use Rattle.sg_serve.specs.declared.ending.Ending.{Ending}
 use Rattle.sg_serve.specs.declared.ending.Ending.TheVariants.{Before, Ran}
 use Rattle.sg_serve.specs.declared.plan.RunPlan.{RunPlan}
 
--- With `--once` three sends or reopenings of the outlet failed, and no frame was taken since.
-pub record FailsThrice (plan : RunPlan) (closed : List OutletState) (d : ℕ) : Type 0 where
+-- With `--once` three sends or reopenings of the outlet failed, and no frame was taken since. So its count of faults rose.
+pub record FailsThrice (plan : RunPlan) (opened closed : List OutletState) (d : ℕ) : Type 0 where
   pub once : plan.once ≡ true
-  pub drain : OutletState
-  pub is : slice_get closed d ≡ Some drain
-  pub failing : 3 ≤ drain.failing
+  pub old : OutletState
+  pub new : OutletState
+  pub was : slice_get opened d ≡ Some old
+  pub is : slice_get closed d ≡ Some new
+  pub failing : 3 ≤ new.failing
+  pub rose : Rose old.faults new.faults
 
 -- The inlet's count of faults rose.
 pub record RoseIn (opened closed : List InletState) (i : ℕ) : Type 0 where
@@ -26,7 +29,7 @@ pub record RoseIn (opened closed : List InletState) (i : ℕ) : Type 0 where
 
 -- each destination that is told to have been given up, each store and each inlet that is told to have failed
 pub record FaultsAreDue (plan : RunPlan) (reached : Reached) (counts : Counts) : Type 0 where
-  pub sinks : (k d : ℕ) → slice_get counts.sinks k ≡ Some d → FailsThrice plan reached.outlets_closed d
+  pub sinks : (k d : ℕ) → slice_get counts.sinks k ≡ Some d → FailsThrice plan reached.outlets reached.outlets_closed d
   pub stores : (k s : ℕ) → slice_get counts.stores k ≡ Some s → RoseAt reached.stores reached.stores_closed s
   pub inlets : (k i : ℕ) → slice_get counts.inlets k ≡ Some i → RoseIn reached.inlets reached.inlets_closed i
 

@@ -3,4 +3,5 @@ pub mod Outcomes
 pub mod Meaning
 pub mod Causes
 pub mod Resting
+pub mod Bounding
 pub mod Run

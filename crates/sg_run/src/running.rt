@@ -10,6 +10,7 @@ ghost use Rattle.sg_run.specs.Run.{RunsBy, RunsConfig, RunsFile};
 use crate::end::Outcome;
 use crate::planning::{drivers_of, files_of, plan_of, routers_of};
 use crate::reporting::{Lines, outcome_of};
+use sg_bounded::{runs_are_bounded, untroubled_runs_end};
 use sg_config::{Config, outlets_are_direct, texts_mean_one};
 use sg_delivered::runs_deliver;
 use sg_device::NoMemory;
@@ -54,6 +55,8 @@ fn run_by<T: Wait, W: World>(
     failed_stores_count(world, routers.as_slice());
     quiet_runs_rest(world, routers.as_slice());
     clean_runs_end(world, routers.as_slice());
+    runs_are_bounded(world, routers.as_slice());
+    untroubled_runs_end();
     let plan = plan_of(config, once);
     let ending = run_plan(rt, alloc, plan, routers, rounds, world);
     match outcome_of(alloc, lines, ending) {
@@ -103,8 +106,8 @@ pub fn run_file<T: Wait, W: World>(
 ) -> Result<Outcome, Unloaded>
     requires some { 0 < rounds }
     requires rounds { rounds ≤ 2 ^ 36 }
-    // The configuration was run, or why it wasn't; the headline; what is told; the causes of failures; and
-    // what the end means.
+    // The configuration was run, or why it wasn't; the headline; what is told; the causes of failures; what
+    // the end means; how many rounds there are at most; and that a run in which all goes well ends clean.
     ensures { RunsFile W.Feed.state W.Drain.state (W.state world.old) (W.state world.new) file.now once rounds result }
 {
     texts_mean_one();

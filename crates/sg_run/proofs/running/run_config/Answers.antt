@@ -1,4 +1,3 @@
-use Rattle.std.proofs.Common.{◌≡◌, inl, inr, refl, ap, ◌∙◌}
 use Rattle.sg_run.proofs.PlanLemmas.{pipes-within}
 use Rattle.sg_run.proofs.running.run_config.Goals as goal
 

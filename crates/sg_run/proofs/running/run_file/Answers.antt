@@ -11,10 +11,10 @@ returns-in-Err g c =
     file-left g.W.Feed.Inlet.state g.W.Drain.Outlet.state (g.W.Machine.state c.args.world.now) (g.W.Machine.state c.load_file.new.world) c.args.file.now c.args.once c.args.rounds c.in-Err.unloaded c.load_file.ensures.only c.in-Err.ensures.loads
 
 pub run_config-requires-clause-within : goal.run_config-requires-clause-within
-run_config-requires-clause-within g c = c.texts_mean_one.ensures.within _ _ ((c.in-Ok.ensures.loads).configures).means
+run_config-requires-clause-within g c = λ κs lives. c.texts_mean_one.ensures.within _ _ ((c.in-Ok.ensures.loads).configures).means
 
 pub run_config-requires-clause-direct : goal.run_config-requires-clause-direct
-run_config-requires-clause-direct g c = c.outlets_are_direct.ensures _ _ ((c.in-Ok.ensures.loads).configures).means
+run_config-requires-clause-direct g c = λ κs lives. c.outlets_are_direct.ensures _ _ ((c.in-Ok.ensures.loads).configures).means
 
 pub run_config-requires-clause-compiles : goal.run_config-requires-clause-compiles
-run_config-requires-clause-compiles g c = (c.in-Ok.ensures.loads).compiles
+run_config-requires-clause-compiles g c = λ κs lives. (c.in-Ok.ensures.loads).compiles

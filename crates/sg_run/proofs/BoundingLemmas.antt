@@ -1,0 +1,114 @@
+-- That a run ends clean in which all goes well.
+use Rattle.std.proofs.Common.{◌≡◌, ◌≤◌, ℕ, ◌*◌, Bool, List, [], ◌∷◌, Some, None, Result, Ok, Err, ◌++◌, inl, inr, slice_get, refl, sym, ap, ◌∙◌, subst, arith}
+use Rattle.sg_list.proofs.ListLemmas.{some-same}
+use Rattle.sg_outside.specs.World.{WorldState}
+use Rattle.sg_codec.specs.declared.kept.Kept.{Kept}
+use Rattle.sg_spool.specs.Ring.{Entries}
+use Rattle.sg_spool.proofs.Damages.{no_damage}
+use Rattle.sg_spool.proofs.Unique.{list_unique}
+use Rattle.sg_buffer.specs.Entries.{IsStoredAs, AreStoredAs}
+use Rattle.sg_stores.specs.Opening.{IsStore, IsDamagedStore}
+use Rattle.sg_stores.specs.declared.kind.StoreKind.{StoreKind}
+use Rattle.sg_stores.specs.declared.kind.StoreKind.TheVariants.{Position, Buffer}
+use Rattle.sg_loaded.specs.declared.loaded.Unloaded.{Unloaded}
+use Rattle.sg_loaded.specs.declared.loaded.Unloaded.TheVariants.{Bad, Unread, NoMemory}
+use Rattle.sg_serve.specs.Counts.{first_fault}
+use Rattle.sg_serve.specs.Run.{Reached, IsDamagedIn, HasCause, HasEnding}
+use Rattle.sg_serve.specs.declared.counts.Counts.{Counts}
+use Rattle.sg_serve.specs.declared.ending.Device.TheVariants.{Store, Inlet, Dest}
+use Rattle.sg_serve.specs.declared.ending.Early.{Early}
+use Rattle.sg_serve.specs.declared.ending.Early.TheVariants as early
+use Rattle.sg_serve.specs.declared.ending.Ending.{Ending}
+use Rattle.sg_serve.specs.declared.ending.Ending.TheVariants.{Before, Ran}
+use Rattle.sg_serve.specs.declared.plan.RunPlan.{RunPlan}
+use Rattle.sg_turns.specs.declared.ended.Ended.TheVariants.{Quiet, RoundsSpent as Spent, NoMemory as Starved}
+use Rattle.sg_bounded.specs.Bounds.{given_rounds, IsBounded, UntroubledRunsEnd}
+use Rattle.sg_bounded.proofs.RiseLemmas.{inlet-rose, outlet-rose}
+use Rattle.sg_run.specs.Bounding.{AreSpelled, GoesWell, Completes}
+use Rattle.sg_run.specs.Causes.{FailsThrice, RoseIn, FaultsAreDue, AreDue}
+use Rattle.sg_run.specs.Ends.{quiet_end, end_after, early_end}
+use Rattle.sg_run.specs.Outcomes.{EndsBy, Tells}
+use Rattle.sg_run.specs.declared.end.End.{End}
+use Rattle.sg_run.specs.declared.end.End.TheVariants.{Clean}
+use Rattle.sg_run.specs.declared.end.Outcome.{Outcome}
+
+-- Stores.
+
+stored-at : (entries : List Kept) (before : Entries) (payload : List ℕ) (after : Entries) → AreStoredAs entries (before ++ payload ∷ after) → (kept : Kept) × IsStoredAs kept payload
+stored-at [] [] payload after h = absurd h
+stored-at (kept ∷ entries) [] payload after h = (kept, h.0)
+stored-at [] (b ∷ before) payload after h = absurd h
+stored-at (kept ∷ entries) (b ∷ before) payload after h = stored-at entries before payload after h.1
+
+-- a spelling isn't damaged
+whole : (kind : StoreKind) (at : ℕ) (bytes : List ℕ) → IsStore kind bytes → IsDamagedStore kind at bytes → ⊥
+whole Position at bytes (position, is) (inl found) = found.nonzero ((is.shape).zeros at found.inside found.outside)
+whole Position at bytes (position, is) (inr other) = other.1 (is.shape).size
+whole (Buffer capacity) at bytes (entries, is) (inl damaged) = no_damage is.payloads at bytes is.list damaged
+whole (Buffer capacity) at bytes (entries, is) (inr found) =
+    let none = found.none in
+    let one = list_unique is.payloads (none.payloads ++ none.payload ∷ none.after) bytes is.list none.list in
+    let kept = stored-at entries none.payloads none.payload none.after (subst (λ (es : Entries). AreStoredAs entries es) one is.stored) in
+    none.none kept.0 kept.1
+
+not-damaged : (plan : RunPlan) (reached : Reached) (s at : ℕ) → AreSpelled plan.setup.dests reached.stores → IsDamagedIn plan.setup reached.stores s at → ⊥
+not-damaged plan reached s at spelled is =
+    let lowest = is.damaged in
+    let store = spelled s lowest.disk lowest.is_disk in
+    whole lowest.kind at store.0 (subst (λ (kind : StoreKind). IsStore kind store.0) (sym ((is.kinds_are).each s lowest.kind lowest.is_kind)) store.1.1) (lowest.damaged store.0 store.1.0)
+
+-- How the run ended.
+
+none-failed : (sinks stores inlets : List ℕ) → ((k d : ℕ) → slice_get sinks k ≡ Some d → ⊥) → ((k s : ℕ) → slice_get stores k ≡ Some s → ⊥) → ((k i : ℕ) → slice_get inlets k ≡ Some i → ⊥) → first_fault sinks stores inlets ≡ None
+none-failed (d ∷ ds) stores inlets no_sink no_store no_inlet = absurd (no_sink 0 d refl)
+none-failed [] (s ∷ ss) inlets no_sink no_store no_inlet = absurd (no_store 0 s refl)
+none-failed [] [] (i ∷ is) no_sink no_store no_inlet = absurd (no_inlet 0 i refl)
+none-failed [] [] [] no_sink no_store no_inlet = refl
+
+module _ (old new : WorldState) (plan : RunPlan) (rounds : ℕ) (reached : Reached) (law : UntroubledRunsEnd) (well : GoesWell old new plan reached) where
+  -- the rounds began
+  begins : (early : Early) (end : End) → HasCause old new plan reached early → early_end early ≡ Some end → ⊥
+  begins (early.OpenFault (Store n)) end cause is = well.opens_stores cause.2
+  begins (early.OpenFault (Inlet n)) end cause is = well.opens_inlets cause.1
+  begins (early.OpenFault (Dest n)) end cause is = well.opens_outlets cause.1
+  begins (early.Damage s at) end cause is = not-damaged plan reached s at well.spelled cause.1
+  begins (early.DiskFault s) end cause is = well.stores s cause
+  begins early.NoMemory end cause is = let wrong : None ≡ Some end = is in cc
+
+  no-sink : (d : ℕ) → FailsThrice plan reached.outlets reached.outlets_closed d → ⊥
+  no-sink d fails =
+      let some = outlet-rose reached.outlets reached.outlets_closed d fails.old fails.new fails.was fails.is fails.rose in
+      let none = (well.untroubled).faults in
+      omega (arith, some, none)
+
+  no-inlet : (i : ℕ) → RoseIn reached.inlets reached.inlets_closed i → ⊥
+  no-inlet i fails =
+      let some = inlet-rose reached.inlets reached.inlets_closed i fails.old fails.new fails.was fails.is fails.rose in
+      let none = (well.untroubled).faults in
+      omega (arith, some, none)
+
+  -- nothing failed
+  quiet-clean : (counts : Counts) (end : End) → FaultsAreDue plan reached counts → end_after Quiet (first_fault counts.sinks counts.stores counts.inlets) ≡ Some end → end ≡ Clean
+  quiet-clean counts end due is =
+      let none = none-failed counts.sinks counts.stores counts.inlets (λ k d h. no-sink d (due.sinks k d h)) (λ k s h. well.stores s (due.stores k s h)) (λ k i h. no-inlet i (due.inlets k i h)) in
+      sym (some-same (quiet_end (first_fault counts.sinks counts.stores counts.inlets)) end is) ∙ ap quiet_end none
+
+  clean-of : (ending : Ending) (drivers : List ℕ) (files : List Bool) (outcome : Outcome) → HasEnding old new plan reached ending → AreDue plan reached ending → (bounds : IsBounded plan rounds ending reached)
+      → 4 * given_rounds bounds.recovered bounds.offered reached ≤ rounds → EndsBy drivers files ending (Some outcome) → outcome.end ≡ Clean
+  clean-of (Before early) drivers files outcome cause due bounds enough ends = absurd (begins early outcome.end cause ends.0)
+  clean-of (Ran Quiet None) drivers files outcome cause due bounds enough ends = absurd ends
+  clean-of (Ran Quiet (Some counts)) drivers files outcome cause due bounds enough ends = quiet-clean counts outcome.end due ends.0
+  clean-of (Ran Spent counts) drivers files outcome cause due bounds enough ends =
+      let fewer = law plan rounds counts reached bounds well.untroubled in
+      absurd (let wrong : ⊥ = omega (arith, fewer, enough) in wrong)
+  clean-of (Ran Starved None) drivers files outcome cause due bounds enough ends = absurd ends
+  clean-of (Ran Starved (Some counts)) drivers files outcome cause due bounds enough ends = absurd (let wrong : None ≡ Some outcome.end = ends.0 in cc)
+
+-- The end that is told is the clean one: before the rounds each refusal has its cause, the rounds of an untroubled run aren't spent, and
+-- behind a quiet one what is told to have failed has failed.
+pub completes-by : (old new : WorldState) (plan : RunPlan) (rounds : ℕ) (ending : Ending) (reached : Reached) (result : Result Outcome Unloaded) → UntroubledRunsEnd → HasEnding old new plan reached ending → AreDue plan reached ending
+    → (bounds : IsBounded plan rounds ending reached) → Tells plan ending result → Completes old new plan rounds ending reached bounds result
+completes-by old new plan rounds ending reached (Ok outcome) law cause due bounds tells well enough = clean-of old new plan rounds reached law well ending _ _ outcome cause due bounds enough tells
+completes-by old new plan rounds ending reached (Err (Bad fault names)) law cause due bounds tells well enough = absurd tells
+completes-by old new plan rounds ending reached (Err (Unread name)) law cause due bounds tells well enough = absurd tells
+completes-by old new plan rounds ending reached (Err NoMemory) law cause due bounds tells well enough = tt

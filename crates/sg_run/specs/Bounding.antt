@@ -1,0 +1,41 @@
+-- That a run ends clean in which nothing goes wrong.
+use Rattle.std.specs.Prelude.{◌≡◌, ◌≤◌, ℕ, ◌*◌, Some, List, slice_get, Result, Ok, Err}
+use Rattle.sg_device.specs.Disk.{DiskState, content}
+use Rattle.sg_device.specs.Faults.{Rose}
+use Rattle.sg_outside.specs.World.{WorldState}
+use Rattle.sg_loaded.specs.declared.loaded.Unloaded.{Unloaded}
+use Rattle.sg_loaded.specs.declared.loaded.Unloaded.TheVariants.{Bad, Unread, NoMemory}
+use Rattle.sg_machine.specs.declared.setup.DestSetup.{DestSetup}
+use Rattle.sg_stores.specs.Opening.{IsStore}
+use Rattle.sg_core.specs.Opening.{kind_of}
+use Rattle.sg_serve.specs.Run.{Reached, RoseAt}
+use Rattle.sg_serve.specs.declared.ending.Ending.{Ending}
+use Rattle.sg_serve.specs.declared.plan.RunPlan.{RunPlan}
+use Rattle.sg_bounded.specs.Bounds.{given_rounds, IsBounded, IsUntroubled}
+use Rattle.sg_run.specs.declared.end.End.TheVariants.{Clean}
+use Rattle.sg_run.specs.declared.end.Outcome.{Outcome}
+
+-- each store tells its bytes, which are a position, or at a disk-buffer a list of entries
+abbrev pub AreSpelled : List DestSetup → List DiskState → Type 0
+AreSpelled dests disks = (s : ℕ) (disk : DiskState) → slice_get disks s ≡ Some disk → (bytes : List ℕ) × ((content disk ≡ Some bytes) × IsStore (kind_of dests s) bytes)
+
+-- The stores are spellings, and no count of faults rose: of the openings of each kind, and of each store, inlet and outlet that was opened.
+-- No inlet was idle, and it was never too early to reopen an outlet.
+pub record GoesWell (old new : WorldState) (plan : RunPlan) (reached : Reached) : Type 0 where
+  pub opens_stores : Rose old.store_faults new.store_faults → ⊥
+  pub opens_inlets : Rose old.inlet_faults new.inlet_faults → ⊥
+  pub opens_outlets : Rose old.outlet_faults new.outlet_faults → ⊥
+  pub spelled : AreSpelled plan.setup.dests reached.stores
+  pub stores : (s : ℕ) → RoseAt reached.stores reached.stores_closed s → ⊥
+  pub untroubled : IsUntroubled reached
+
+-- the end is the clean one, but for want of memory
+abbrev pub EndsClean : Result Outcome Unloaded → Type 0
+EndsClean (Ok outcome) = outcome.end ≡ Clean
+EndsClean (Err (Bad fault names)) = ⊥
+EndsClean (Err (Unread name)) = ⊥
+EndsClean (Err NoMemory) = Unit {0}
+
+-- With four rounds or more for each byte, part, inlet, offer and recovered entry, and for one more, a run in which all goes well ends clean.
+abbrev pub Completes : WorldState → WorldState → (plan : RunPlan) (rounds : ℕ) (ending : Ending) (reached : Reached) → IsBounded plan rounds ending reached → Result Outcome Unloaded → Type 0
+Completes old new plan rounds ending reached bounds result = GoesWell old new plan reached → 4 * given_rounds bounds.recovered bounds.offered reached ≤ rounds → EndsClean result
