@@ -1,6 +1,7 @@
 pub mod PlanLemmas
 pub mod HeadlineLemmas
 pub mod LineLemmas
+pub mod CoveringLemmas
 pub mod RunLemmas
 pub mod CauseLemmas
 pub mod RestingLemmas

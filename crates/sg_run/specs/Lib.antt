@@ -4,4 +4,5 @@ pub mod Meaning
 pub mod Causes
 pub mod Resting
 pub mod Bounding
+pub mod Covering
 pub mod Run
