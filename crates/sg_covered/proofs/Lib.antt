@@ -2,3 +2,4 @@ pub mod MergeLemmas
 pub mod OpenLemmas
 pub mod PlaceLemmas
 pub mod RunLemmas
+pub mod CleanLemmas

@@ -98,7 +98,7 @@ use Rattle.sg_covered.proofs.OpenLemmas.{contents, contents-images, contents-lis
 use Rattle.sg_covered.proofs.PlaceLemmas.{opening-append, later-still, rewinds-here, stands-place}
 
 -- the items of records
-given-pieces : (from : ℕ) (peer : List ℕ) (xs : List Item) → map record_piece (map (record_of from peer) xs) ≡ map piece_of (map (moved from) xs)
+pub given-pieces : (from : ℕ) (peer : List ℕ) (xs : List Item) → map record_piece (map (record_of from peer) xs) ≡ map piece_of (map (moved from) xs)
 given-pieces from peer [] = refl
 given-pieces from peer (x ∷ xs) = ap (λ (ys : List Piece). piece_of (moved from x) ∷ ys) (given-pieces from peer xs)
 
@@ -114,7 +114,7 @@ call-setup old new (RefillCall d) (Refilled result) s = s.does.setup
 call-setup old new (StoreCall i) (StoredReply result) s = s.does.setup
 call-setup old new call reply s = absurd s
 
-made-setup : (old new : CoreState) (made : List Exchange) → Makes Serves old made new → setup_of new ≡ setup_of old
+pub made-setup : (old new : CoreState) (made : List Exchange) → Makes Serves old made new → setup_of new ≡ setup_of old
 made-setup old new [] m = ap setup_of m
 made-setup old new (x ∷ rest) m = made-setup m.0 new rest m.2 ∙ call-setup old m.0 x.call x.reply m.1
 
@@ -288,16 +288,16 @@ positions-same : (sources : List Source) (images : List (List ℕ)) → position
 positions-same [] images = refl
 positions-same (s ∷ sources) images = ap (λ (xs : List ℕ). position_in images s.setup.store ∷ xs) (positions-same sources images)
 
-fetch-some : (plans : List InletPlan) (i : ℕ) (plan : InletPlan) → AreFetching plans → slice_get plans i ≡ Some plan → 0 < plan.limit
+pub fetch-some : (plans : List InletPlan) (i : ℕ) (plan : InletPlan) → AreFetching plans → slice_get plans i ≡ Some plan → 0 < plan.limit
 fetch-some [] i plan f h = absurd (let wrong : None ≡ Some plan = h in cc)
 fetch-some (p ∷ plans) zero plan f h = let P : InletPlan → Type 0 = λ x. 0 < x.limit in subst P (some-same p plan h) f.0.limit
 fetch-some (p ∷ plans) (suc i) plan f h = fetch-some plans i plan f.1 h
 
-files-rise : (plans : List InletPlan) (bytes : ℕ → List ℕ) (i : ℕ) (o : Option InletPlan) → slice_get plans i ≡ o → AreFetching plans → Rise 0 (option_map_or (λ (plan : InletPlan). pieces plan.kind plan.limit (bytes i)) o [])
+pub files-rise : (plans : List InletPlan) (bytes : ℕ → List ℕ) (i : ℕ) (o : Option InletPlan) → slice_get plans i ≡ o → AreFetching plans → Rise 0 (option_map_or (λ (plan : InletPlan). pieces plan.kind plan.limit (bytes i)) o [])
 files-rise plans bytes i None q f = tt
 files-rise plans bytes i (Some plan) q f = ends-rise plan.kind plan.limit (stamped (bytes i) (pos 0)) (fetch-some plans i plan f q)
 
-files-here : (plans : List InletPlan) (bytes : ℕ → List ℕ) (i : ℕ) (plan : InletPlan) → slice_get plans i ≡ Some plan → files_of plans bytes i ≡ pieces plan.kind plan.limit (bytes i)
+pub files-here : (plans : List InletPlan) (bytes : ℕ → List ℕ) (i : ℕ) (plan : InletPlan) → slice_get plans i ≡ Some plan → files_of plans bytes i ≡ pieces plan.kind plan.limit (bytes i)
 files-here plans bytes i plan h = ap (λ (o : Option InletPlan). option_map_or (λ (p : InletPlan). pieces p.kind p.limit (bytes i)) o []) h
 
 -- what was read of a file are the first of its items behind the place at which the inlet began
@@ -320,7 +320,7 @@ reads-file plan reached run events i inlet passes now bytes some r g own begun =
     )
 
 -- where reading of a file began is a place where its items may begin
-begun-at : (plan : RunPlan) (run : CoreRun) (bytes : ℕ → List ℕ) (i : ℕ) (inlet : InletPlan) (from position : ℕ) → slice_get plan.inlets.items i ≡ Some inlet
+pub begun-at : (plan : RunPlan) (run : CoreRun) (bytes : ℕ → List ℕ) (i : ℕ) (inlet : InletPlan) (from position : ℕ) → slice_get plan.inlets.items i ≡ Some inlet
     → (position ≡ 0) ⊎ ((piece : Piece) × (Contains (files_of plan.inlets.items bytes i) piece × (piece.end ≡ position))) → (from ≡ position) ⊎ (from ≡ 0) → IsBegun inlet.kind inlet.limit (bytes i) from
 begun-at plan run bytes i inlet from position at (inl none) (inl e) = inl (e ∙ none)
 begun-at plan run bytes i inlet from position at (inr y) (inl e) =

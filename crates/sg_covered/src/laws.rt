@@ -1,6 +1,9 @@
 // What a plan's run leaves covered.
 ghost use Rattle.sg_covered.specs.Runs.{PlanRunsCover};
+ghost use Rattle.sg_covered.specs.Clean.{PlanRunsEndClean};
 
+use sg_buffer::lists_are_one;
+use sg_quiet::clean_runs_end;
 use sg_route::Router;
 use sg_standing::{images_are_safe, images_between_are_safe};
 use sg_world::World;
@@ -15,4 +18,15 @@ pub fn plan_runs_cover<W: World, R: Router>(world: &W, router: &[R])
     let _router = router;
     images_are_safe();
     images_between_are_safe();
+}
+
+/// A plan's run that ended quietly, with nothing counted as failed, over files that are read by lines,
+/// leaves no entry in a disk-buffer, and each position behind all items of its file.
+pub fn plan_runs_end_clean<W: World, R: Router>(world: &W, router: &[R])
+    ensures { PlanRunsEndClean W.Feed.state W.Drain.state R.offers R.inlets R.dests }
+{
+    clean_runs_end(world, router);
+    images_are_safe();
+    images_between_are_safe();
+    lists_are_one();
 }

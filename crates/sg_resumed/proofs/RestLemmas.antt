@@ -418,3 +418,10 @@ reading-resumes kind limit place bytes left given some begun h =
           ∙ ap (map piece_of) (map-append (moved place) (items_of kind limit given) m.0)
           ∙ map-append piece_of (map (moved place) (items_of kind limit given)) (map (moved place) m.0),
     )
+
+pub reading-ends : (kind : FrameKind) (limit place : ℕ) (bytes : List ℕ) (given : List Stamped) → 0 < limit → IsBegun kind limit bytes place → plain given ≡ drop place bytes
+    → behind place (pieces kind limit bytes) ≡ map piece_of (map (moved place) (items_of kind limit given))
+reading-ends kind limit place bytes given some begun h =
+    let rest = drop place (stamped bytes (pos 0)) in
+    let same : plain rest ≡ plain given = plain-drop place (stamped bytes (pos 0)) ∙ ap (drop place) (plain-stamped bytes (pos 0)) ∙ sym h in
+    behind-place kind limit place bytes some begun ∙ moved-pieces place (items_of kind limit rest) (items_of kind limit given) (moments-free kind limit rest given same)

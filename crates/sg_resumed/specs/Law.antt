@@ -34,3 +34,9 @@ abbrev pub ReadingResumes : Type 0
 ReadingResumes =
     (kind : FrameKind) (limit place : ℕ) (bytes left : List ℕ) (given : List Stamped) → 0 < limit → IsBegun kind limit bytes place → plain given ++ left ≡ drop place bytes
     → (later : List Piece) × (behind place (pieces kind limit bytes) ≡ map piece_of (map (moved place) (items_of kind limit given)) ++ later)
+
+-- and what was read of it to its end are all of these
+abbrev pub ReadingEnds : Type 0
+ReadingEnds =
+    (kind : FrameKind) (limit place : ℕ) (bytes : List ℕ) (given : List Stamped) → 0 < limit → IsBegun kind limit bytes place → plain given ≡ drop place bytes
+    → behind place (pieces kind limit bytes) ≡ map piece_of (map (moved place) (items_of kind limit given))

@@ -1,5 +1,5 @@
 // The items of a file, and those from a place in it on.
-ghost use Rattle.sg_resumed.specs.Law.{RestFollows, EndsRise, MomentsAreFree, PiecesGrow, ReadingResumes};
+ghost use Rattle.sg_resumed.specs.Law.{RestFollows, EndsRise, MomentsAreFree, PiecesGrow, ReadingResumes, ReadingEnds};
 
 /// The items of the bytes from an item's end on are the rest of the items.
 pub fn rest_follows()
@@ -25,4 +25,9 @@ pub fn pieces_grow()
 /// place.
 pub fn reading_resumes()
     ensures { ReadingResumes }
+{}
+
+/// What is read of it to its end are all of these.
+pub fn reading_ends()
+    ensures { ReadingEnds }
 {}

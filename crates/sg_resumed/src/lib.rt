@@ -4,4 +4,6 @@
 
 mod laws;
 
-pub use laws::{ends_rise, moments_are_free, pieces_grow, reading_resumes, rest_follows};
+pub use laws::{
+    ends_rise, moments_are_free, pieces_grow, reading_ends, reading_resumes, rest_follows,
+};

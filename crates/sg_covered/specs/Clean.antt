@@ -1,0 +1,32 @@
+-- Where a plan's run ends clean, no entry is left in its disk-buffers, and each position is behind all items of its file.
+use Rattle.std.specs.Prelude.{◌≡◌, ℕ, Some, None, List, slice_get}
+use Rattle.sg_device.specs.Inlet.{InletState}
+use Rattle.sg_device.specs.Outlet.{OutletState}
+use Rattle.sg_outside.specs.World.{WorldState}
+use Rattle.sg_msg.specs.declared.offer.Offer.{Offer}
+use Rattle.sg_frame.specs.Records.{Record}
+use Rattle.sg_frame.specs.declared.kind.FrameKind.TheVariants.{Lines}
+use Rattle.sg_source.specs.declared.inlet.InletPlan.{InletPlan}
+use Rattle.sg_turns.specs.declared.ended.Ended.TheVariants.{Quiet}
+use Rattle.sg_serve.specs.Counts.{first_fault}
+use Rattle.sg_serve.specs.Plan.{IsRunnable}
+use Rattle.sg_serve.specs.Run.{CoreRun, Reached, RunsWith}
+use Rattle.sg_serve.specs.declared.counts.Counts.{Counts}
+use Rattle.sg_serve.specs.declared.ending.Ending.TheVariants.{Ran}
+use Rattle.sg_serve.specs.declared.plan.RunPlan.{RunPlan}
+use Rattle.sg_runs.specs.Covered.{Pass, Taken, IsFile, Covered}
+use Rattle.sg_runs.specs.Law.{offers_in, EndsClean}
+use Rattle.sg_covered.specs.Runs.{EachChoice, AllTell, GaveOf, files_of}
+
+-- Each inlet with a position store is read by lines, and tells what is left of its file.
+pub record AreLines (plan : RunPlan) (reached : Reached) (bytes : ℕ → List ℕ) : Type 0 where
+  pub kinds : (i : ℕ) (inlet : InletPlan) → IsFile plan.setup i → slice_get plan.inlets.items i ≡ Some inlet → inlet.kind ≡ Lines
+  pub gave : (i : ℕ) (feed : InletState) → IsFile plan.setup i → slice_get reached.inlets_closed i ≡ Some feed → (g : GaveOf (bytes i) feed) × (feed.left ≡ Some g.left)
+
+-- A run that ended quietly, with nothing counted as failed, over files that are read by lines, ends clean.
+abbrev pub PlanRunsEndClean : {R I O : Type 0} → (I → InletState) → (O → OutletState) → (R → ℕ → Record → List Offer → Type 0) → (R → ℕ) → (R → ℕ) → Type 0
+PlanRunsEndClean {R} {I} {O} feed drain offers inlets dests =
+    (old new : WorldState) (plan : RunPlan) (routers : List R) (rounds : ℕ) (counts : Counts) (reached : Reached) (run : CoreRun) (bytes : ℕ → List ℕ) (taken : List Taken) (passes : List Pass) (places : ℕ → ℕ)
+    → IsRunnable plan → RunsWith feed drain offers inlets dests old new plan routers rounds (Ran Quiet (Some counts)) reached → reached.core ≡ Some run → first_fault counts.sinks counts.stores counts.inlets ≡ None
+    → AllTell reached.stores → AreLines plan reached bytes → EachChoice plan.setup reached.stores (Covered plan.setup (offers_in offers routers) (files_of plan.inlets.items bytes) taken passes places)
+    → EachChoice plan.setup reached.stores_closed (EndsClean plan.setup (files_of plan.inlets.items bytes))
