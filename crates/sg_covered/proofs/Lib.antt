@@ -3,3 +3,4 @@ pub mod OpenLemmas
 pub mod PlaceLemmas
 pub mod RunLemmas
 pub mod CleanLemmas
+pub mod RestLemmas

@@ -69,7 +69,7 @@ kind-by-none (Some b) s kind h =
 buffer-first : (setup : DestSetup) (setups : List DestSetup) (b : BufferSetup) (s : ℕ) → setup.buffer ≡ Some b → b.store ≡ s → buffer_store_in (setup ∷ setups) 0 ≡ Some s
 buffer-first setup setups b s h q = ap (λ (o : Option BufferSetup). option_map_or (λ (x : BufferSetup). Some x.store) o None) h ∙ ap (λ (n : ℕ). Some n) q
 
-kind-none : (setups : List DestSetup) (s : ℕ) → ((d : ℕ) → buffer_store_in setups d ≡ Some s → ⊥) → kind_of setups s ≡ Position
+pub kind-none : (setups : List DestSetup) (s : ℕ) → ((d : ℕ) → buffer_store_in setups d ≡ Some s → ⊥) → kind_of setups s ≡ Position
 kind-none [] s h = refl
 kind-none (setup ∷ setups) s h =
     kind-by-none setup.buffer s (kind_of setups s) (λ b q e. h 0 (buffer-first setup setups b s q e)) ∙ kind-none setups s (λ d q. h (suc d) q)

@@ -1,6 +1,7 @@
 // What a plan's run leaves covered.
 ghost use Rattle.sg_covered.specs.Runs.{PlanRunsCover};
 ghost use Rattle.sg_covered.specs.Clean.{PlanRunsEndClean};
+ghost use Rattle.sg_covered.specs.Rest.{PlanRunsRest};
 
 use sg_buffer::lists_are_one;
 use sg_quiet::clean_runs_end;
@@ -18,6 +19,15 @@ pub fn plan_runs_cover<W: World, R: Router>(world: &W, router: &[R])
     let _router = router;
     images_are_safe();
     images_between_are_safe();
+}
+
+/// A plan's run that opened no core leaves covered what it found covered.
+pub fn plan_runs_rest<W: World, R: Router>(world: &W, router: &[R])
+    ensures { PlanRunsRest W.Feed.state W.Drain.state R.offers R.inlets R.dests }
+{
+    let _world = world;
+    let _router = router;
+    lists_are_one();
 }
 
 /// A plan's run that ended quietly, with nothing counted as failed, over files that are read by lines,

@@ -4,4 +4,4 @@
 
 mod laws;
 
-pub use laws::{plan_runs_cover, plan_runs_end_clean};
+pub use laws::{plan_runs_cover, plan_runs_end_clean, plan_runs_rest};
