@@ -1,0 +1,9 @@
+pub mod PlaceLemmas
+pub mod CallerLemmas
+pub mod ListLemmas
+pub mod SeatLemmas
+pub mod ActorLemmas
+pub mod RoundLemmas
+pub mod RunLemmas
+pub mod WorkLemmas
+pub mod TakeLemmas

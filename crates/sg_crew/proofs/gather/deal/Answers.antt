@@ -1,0 +1,32 @@
+use Rattle.std.proofs.Common.{arith, ◌≡◌, ◌≤◌, ◌<◌, ◌+◌, ◌-◌, ℕ, length, refl, sym, ap, ◌∙◌, subst}
+use Rattle.std.specs.Prelude.{◌*◌}
+use Rattle.sg_booth.specs.Desks.{IsDeskOf, fresh_desk}
+use Rattle.sg_hub.specs.Seats.{SeatState}
+use Rattle.sg_crew.specs.Workers.{IsDealt}
+use Rattle.sg_crew.proofs.ListLemmas.{changed-none, changed-more, changed-all}
+use Rattle.sg_crew.proofs.SeatLemmas.{with-left, less-left}
+use Rattle.sg_crew.proofs.gather.deal.Goals as goal
+
+pub loop-i-init : goal.loop-i-init
+loop-i-init g c = record {
+  first = sym (with-left c.args.first.now (c.args.first.now.left - 4 * 0) (omega arith));
+  workers = changed-none (IsDealt c.args.first.now) c.args.workers.now.items;
+}
+
+pub loop-i-preserved : goal.loop-i-preserved
+loop-i-preserved g c =
+    let i = c.loop-i.invariant in
+    let all = i.workers.all in
+    let below : c.loop-i.i < length c.loop-i.workers.items = omega (arith, all) in
+    record {
+      first = less-left c.args.first.now c.loop-i.first c.deal_one.new.first c.loop-i.i i.first c.deal_one.ensures.first;
+      workers = changed-more (IsDealt c.args.first.now) c.args.workers.now.items c.loop-i.workers.items c.loop-i.i c.index_mut.result.now c.deal_one.new.worker i.workers below
+          c.index_mut.ensures.value (c.deal_one.ensures.actor, c.deal_one.ensures.seat ∙ ap (λ (s : SeatState). fresh_desk s 4) i.first);
+    }
+
+pub returns-clause-workers : goal.returns-clause-workers
+returns-clause-workers g c =
+    let i = c.loop-i.invariant in
+    let all = i.workers.all in
+    let is : c.loop-i.i ≡ length c.args.workers.now.items = omega (arith, all) in
+    changed-all (IsDealt c.args.first.now) c.args.workers.now.items c.loop-i.workers.items c.loop-i.i i.workers is

@@ -1,0 +1,25 @@
+use Rattle.std.proofs.Common.{◌∙◌, sym}
+use Rattle.sg_turns.specs.Actors.{source_seen}
+use Rattle.sg_crew.proofs.WorkLemmas.{read-lent}
+use Rattle.sg_crew.proofs.work.read_one.Goals as goal
+
+pub shape_of-worker : goal.shape_of-worker
+shape_of-worker g c =
+    let state = g.I.Inlet.state in
+    let a = c.args.worker.now.actor in
+    sym (read-lent (g.R.Router.offers a.router) (g.R.Router.dests a.router) a.spec _ c.turn.new.counter (source_seen state a) (source_seen state c.turn.new.self) c.turn.result c.turn.ensures.turn).back
+
+pub returns : goal.returns
+returns g c =
+    let state = g.I.Inlet.state in
+    let a = c.args.worker.now.actor in
+    let t = read-lent (g.R.Router.offers a.router) (g.R.Router.dests a.router) a.spec _ c.turn.new.counter (source_seen state a) (source_seen state c.turn.new.self) c.turn.result c.turn.ensures.turn in record {
+      turn = t.turn;
+      worked = record {
+        took = record { turns = t.took; router = c.turn.ensures.router; spec = c.turn.ensures.spec };
+        makes = t.makes;
+        own = t.own;
+        few = t.few;
+        answered = t.answered ∙ sym c.answer.ensures;
+      };
+    }

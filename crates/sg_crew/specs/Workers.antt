@@ -1,0 +1,73 @@
+-- Workers, as the actors that sit at their seats.
+use Rattle.std.specs.Prelude.{◌≡◌, ◌≤◌, ◌<◌, ℕ, Option, List, [], map, length}
+use Rattle.sg_device.specs.Inlet.{InletState}
+use Rattle.sg_device.specs.Outlet.{OutletState}
+use Rattle.sg_msg.specs.declared.offer.Offer.{Offer}
+use Rattle.sg_frame.specs.Records.{Record}
+use Rattle.sg_booth.specs.Desks.{IsDeskOf, fresh_desk}
+use Rattle.sg_standing.specs.States.{setup_of}
+use Rattle.sg_counter.specs.Exchanges.{OfSource, OfDest}
+use Rattle.sg_actor.specs.Sources.{IsReady}
+use Rattle.sg_actor.specs.Outages.{HasFailures}
+use Rattle.sg_actor.specs.SourceTurns.{FitsSource}
+use Rattle.sg_actor.specs.declared.dest.DestActor.{DestActor}
+use Rattle.sg_actor.specs.declared.source.SourceActor.{SourceActor}
+use Rattle.sg_actor.specs.declared.turned.Turned.{Turned}
+use Rattle.sg_turns.specs.Turns.{Turn}
+use Rattle.sg_turns.specs.Actors.{source_seen, SourceTakes, DestTakes}
+use Rattle.sg_hub.specs.Seats.{HubState, SeatState}
+use Rattle.sg_crew.specs.Crews.{WorkedWith}
+use Rattle.sg_crew.specs.declared.worker.Worker.{Worker}
+
+abbrev pub actor_of : {A D : Type 0} → Worker A D → A
+actor_of w = w.actor
+
+abbrev pub seat_of : {A D : Type 0} → Worker A D → SeatState
+seat_of w = w.seat
+
+abbrev pub turn_of : {A D : Type 0} → Worker A D → Option Turned
+turn_of w = w.turn
+
+abbrev pub actors_of : {A D : Type 0} → List (Worker A D) → List A
+actors_of ws = map actor_of ws
+
+abbrev pub seats_of : {A D : Type 0} → List (Worker A D) → List SeatState
+seats_of ws = map seat_of ws
+
+abbrev pub turns_of : {A D : Type 0} → List (Worker A D) → List (Option Turned)
+turns_of ws = map turn_of ws
+
+-- the worker has a seat with the turns of one round, which has seen what the first seat has
+abbrev pub IsDealt : {A D : Type 0} → SeatState → Worker A D → Worker A D → Type 0
+IsDealt first w v = (v.actor ≡ w.actor) × (v.seat ≡ fresh_desk first 4)
+
+abbrev pub HasStayed : {A D : Type 0} → Worker A D → Worker A D → Type 0
+HasStayed w v = v.actor ≡ w.actor
+
+-- the seat may be joined into the first one
+abbrev pub MayJoin : {A D : Type 0} → HubState → Worker A D → Type 0
+MayJoin hub w = IsDeskOf hub w.seat × (w.seat.joined ≡ [])
+
+-- the source may take a turn
+pub record MayRead {R I D : Type 0} (state : I → InletState) (inlets dests : R → ℕ) (hub : HubState) (w : Worker (SourceActor R I) D) : Type 0 where
+  pub of_hub : IsDeskOf hub w.seat
+  pub left : 4 ≤ w.seat.left
+  pub fits : FitsSource (setup_of hub.made) w.actor.spec (inlets w.actor.router) (dests w.actor.router)
+  pub ready : IsReady (dests w.actor.router) w.actor.spec (source_seen state w.actor).source
+
+-- the destination may take a turn
+pub record MaySend {O D : Type 0} (state : O → OutletState) (hub : HubState) (w : Worker (DestActor O) D) : Type 0 where
+  pub of_hub : IsDeskOf hub w.seat
+  pub left : 4 ≤ w.seat.left
+  pub dest : w.actor.spec.dest < length (setup_of hub.made).dests
+  pub failures : HasFailures w.actor.outage (state w.actor.outlet)
+
+-- the source took a turn
+pub record HasRead {R I D : Type 0} (state : I → InletState) (offers : R → ℕ → Record → List Offer → Type 0) (inlets dests : R → ℕ) (hub : HubState) (w v : Worker (SourceActor R I) D) : Type 0 where
+  pub turn : Turn
+  pub worked : WorkedWith (SourceTakes state offers inlets dests w.actor v.actor) (OfSource w.actor.spec.inlet) hub w.seat v.seat v.turn turn
+
+-- the destination took a turn
+pub record HasSent {O D : Type 0} (state : O → OutletState) (hub : HubState) (w v : Worker (DestActor O) D) : Type 0 where
+  pub turn : Turn
+  pub worked : WorkedWith (DestTakes state w.actor v.actor) (OfDest w.actor.spec.dest) hub w.seat v.seat v.turn turn

@@ -1,0 +1,231 @@
+// A run over a flow core.
+ghost use Rattle.std.specs.Prelude.{◌≡◌, ◌≤◌, ◌<◌, ◌+◌, ◌*◌, ◌-◌, ◌^◌, [], IfOk, length, vec_capacity};
+ghost use Rattle.sg_booth.specs.Desks.{first_desk};
+ghost use Rattle.sg_standing.specs.States.{setup_of};
+ghost use Rattle.sg_core.specs.Calls.{Serves as CoreServes};
+ghost use Rattle.sg_turns.specs.Actors.{AreSources, AreDests, SourceTook, DestTook};
+ghost use Rattle.sg_turns.specs.Serving.{Serves};
+
+use crate::rounds::run_rounds;
+use crate::worker::{Worker, free_all, seat_all};
+use sg_actor::{DestActor, SourceActor};
+use sg_core::Core;
+use sg_device::{Disk, Inlet, Outlet};
+use sg_engine::Served;
+use sg_hub::{Hub, Seat};
+use sg_route::Router;
+use std::alloc::{AllocError, Global};
+use std::sync::Wait;
+use std::thread::{Threads, available_parallelism};
+
+// The memory of a run: where the actors sit, and where they come back.
+struct Room<A, D: Disk> {
+    workers: Vec<Worker<A, D>>,
+    actors: Vec<A>,
+}
+
+// Room for so many actors.
+fn make_room<A, D: Disk>(alloc: Global, count: usize) -> Result<Room<A, D>, AllocError>
+    ensures empty { IfOk result (λ room. (room.workers.items ≡ []) × (room.actors.items ≡ [])) }
+    ensures fits { IfOk result (λ room. (count ≤ vec_capacity room.workers) × (count ≤ vec_capacity room.actors)) }
+{
+    let workers = Vec::with_capacity(alloc, count)?;
+    match Vec::with_capacity(alloc, count) {
+        Ok(actors) => Ok(Room { workers, actors }),
+        Err(e) => {
+            workers.destroy_empty();
+            Err(e)
+        }
+    }
+}
+
+// Gives the memory back.
+fn leave<A, D: Disk>(room: Room<A, D>)
+    requires { (room.workers.items ≡ []) × (room.actors.items ≡ []) }
+{
+    let Room { workers, actors } = room;
+    workers.destroy_empty();
+    actors.destroy_empty();
+}
+
+// How many threads take turns of one kind.
+fn threads<T: Threads>(rt: &T) -> usize
+    ensures { 0 < result }
+{
+    match available_parallelism(rt) {
+        Ok(count) => count.get(),
+        Err(_) => 1,
+    }
+}
+
+// The run, once there is memory for it.
+fn serve_at<
+    T: Threads + Wait + Sync,
+    R: Router + Send,
+    I: Inlet + Send,
+    O: Outlet + Send,
+    D: Disk + Send,
+>(
+    rt: &T,
+    alloc: Global,
+    hub: Hub<D>,
+    first: Seat<D>,
+    sources: Vec<SourceActor<R, I>>,
+    dests: Vec<DestActor<O>>,
+    sources_room: Room<SourceActor<R, I>, D>,
+    dests_room: Room<DestActor<O>, D>,
+    rounds: u64,
+) -> Served<R, I, O, D>
+    requires some { 0 < rounds }
+    requires first { first ≡ first_desk hub }
+    requires turns { 768 * rounds < hub.turns }
+    requires few_sources { length sources.items ≤ 128 }
+    requires few_dests { length dests.items ≤ 64 }
+    requires sources { AreSources I.state R.inlets R.dests (setup_of hub.made) sources.items }
+    requires dests { AreDests O.state (setup_of hub.made) dests.items }
+    requires sources_room { (sources_room.workers.items ≡ []) × (sources_room.actors.items ≡ []) × (length sources.items ≤ vec_capacity sources_room.workers) × (length sources.items ≤ vec_capacity sources_room.actors) }
+    requires dests_room { (dests_room.workers.items ≡ []) × (dests_room.actors.items ≡ []) × (length dests.items ≤ vec_capacity dests_room.workers) × (length dests.items ≤ vec_capacity dests_room.actors) }
+    ensures serves { Serves (SourceTook I.state R.offers R.inlets R.dests) (DestTook O.state) CoreServes hub.made result.core sources.items result.sources.items dests.items result.dests.items rounds result.ended }
+    ensures sources { AreSources I.state R.inlets R.dests (setup_of result.core) result.sources.items }
+    ensures dests { AreDests O.state (setup_of result.core) result.dests.items }
+    ensures setup { setup_of result.core ≡ setup_of hub.made }
+{
+    let mut first = first;
+    let Room {
+        workers: readers,
+        actors: sources_back,
+    } = sources_room;
+    let Room {
+        workers: senders,
+        actors: dests_back,
+    } = dests_room;
+    let mut readers = seat_all(&hub, &mut first, sources, readers);
+    let mut senders = seat_all(&hub, &mut first, dests, senders);
+    let count = threads(rt);
+    let ended = run_rounds(
+        rt,
+        alloc,
+        &hub,
+        &mut first,
+        &mut readers,
+        &mut senders,
+        rounds,
+        count,
+    );
+    let core = hub.close(rt, first);
+    Served {
+        ended,
+        core,
+        sources: free_all(readers, sources_back),
+        dests: free_all(senders, dests_back),
+    }
+}
+
+// The run, once there is room for the actors.
+fn serve_in<
+    T: Threads + Wait + Sync,
+    R: Router + Send,
+    I: Inlet + Send,
+    O: Outlet + Send,
+    D: Disk + Send,
+>(
+    rt: &T,
+    alloc: Global,
+    core: Core<D>,
+    sources: Vec<SourceActor<R, I>>,
+    dests: Vec<DestActor<O>>,
+    sources_room: Room<SourceActor<R, I>, D>,
+    dests_room: Room<DestActor<O>, D>,
+    rounds: u64,
+) -> Served<R, I, O, D>
+    requires some { 0 < rounds }
+    requires rounds { rounds ≤ 2 ^ 36 }
+    requires calls { core.calls ≤ 2 ^ 50 }
+    requires few_sources { length sources.items ≤ 128 }
+    requires few_dests { length dests.items ≤ 64 }
+    requires sources { AreSources I.state R.inlets R.dests (setup_of core) sources.items }
+    requires dests { AreDests O.state (setup_of core) dests.items }
+    requires sources_room { (sources_room.workers.items ≡ []) × (sources_room.actors.items ≡ []) × (length sources.items ≤ vec_capacity sources_room.workers) × (length sources.items ≤ vec_capacity sources_room.actors) }
+    requires dests_room { (dests_room.workers.items ≡ []) × (dests_room.actors.items ≡ []) × (length dests.items ≤ vec_capacity dests_room.workers) × (length dests.items ≤ vec_capacity dests_room.actors) }
+    ensures serves { Serves (SourceTook I.state R.offers R.inlets R.dests) (DestTook O.state) CoreServes core result.core sources.items result.sources.items dests.items result.dests.items rounds result.ended }
+    ensures sources { AreSources I.state R.inlets R.dests (setup_of result.core) result.sources.items }
+    ensures dests { AreDests O.state (setup_of result.core) result.dests.items }
+    ensures setup { setup_of result.core ≡ setup_of core }
+{
+    match Hub::new(alloc, core) {
+        Ok((hub, first)) => serve_at(
+            rt,
+            alloc,
+            hub,
+            first,
+            sources,
+            dests,
+            sources_room,
+            dests_room,
+            rounds,
+        ),
+        Err((core, _)) => {
+            leave(sources_room);
+            leave(dests_room);
+            sg_engine::serve(rt, alloc, core, sources, dests, rounds)
+        }
+    }
+}
+
+/// Moves what the sources' inlets give through the core to the destinations' outlets, so many rounds at
+/// most, 1 to 2^36. In a round each source and each destination takes one turn, all at the same time. The
+/// first quiet round, in which no turn does anything and none is idle, is the last, and so is one in which a
+/// turn finds no memory.
+///
+/// There is one source for each inlet of the core, and one destination for each of its destinations, in
+/// the order of their numbers. Where there is no memory for the threads' places, the turns are taken on this
+/// thread, one after the other.
+pub fn serve<
+    T: Threads + Wait + Sync,
+    R: Router + Send,
+    I: Inlet + Send,
+    O: Outlet + Send,
+    D: Disk + Send,
+>(
+    rt: &T,
+    alloc: Global,
+    core: Core<D>,
+    sources: Vec<SourceActor<R, I>>,
+    dests: Vec<DestActor<O>>,
+    rounds: u64,
+) -> Served<R, I, O, D>
+    requires some { 0 < rounds }
+    requires rounds { rounds ≤ 2 ^ 36 }
+    requires calls { core.calls ≤ 2 ^ 50 }
+    requires few_sources { length sources.items ≤ 128 }
+    requires few_dests { length dests.items ≤ 64 }
+    requires sources { AreSources I.state R.inlets R.dests (setup_of core) sources.items }
+    requires dests { AreDests O.state (setup_of core) dests.items }
+    ensures serves { Serves (SourceTook I.state R.offers R.inlets R.dests) (DestTook O.state) CoreServes core result.core sources.items result.sources.items dests.items result.dests.items rounds result.ended }
+    ensures sources { AreSources I.state R.inlets R.dests (setup_of result.core) result.sources.items }
+    ensures dests { AreDests O.state (setup_of result.core) result.dests.items }
+    ensures setup { setup_of result.core ≡ setup_of core }
+{
+    if sources.len() + dests.len() < 2 {
+        return sg_engine::serve(rt, alloc, core, sources, dests, rounds);
+    }
+    let Ok(sources_room) = make_room(alloc, sources.len()) else {
+        return sg_engine::serve(rt, alloc, core, sources, dests, rounds);
+    };
+    match make_room(alloc, dests.len()) {
+        Ok(dests_room) => serve_in(
+            rt,
+            alloc,
+            core,
+            sources,
+            dests,
+            sources_room,
+            dests_room,
+            rounds,
+        ),
+        Err(_) => {
+            leave(sources_room);
+            sg_engine::serve(rt, alloc, core, sources, dests, rounds)
+        }
+    }
+}
