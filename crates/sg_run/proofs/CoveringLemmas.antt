@@ -15,10 +15,11 @@ use Rattle.sg_runs.specs.Covered.{Pass, Taken, Covered}
 use Rattle.sg_runs.specs.Law.{offers_in}
 use Rattle.sg_covered.specs.Runs.{AllTell, EachChoice, files_of, PlanRunsCover}
 use Rattle.sg_covered.specs.Clean.{PlanRunsEndClean}
-use Rattle.sg_run.specs.Covering.{CleanSo, CoversSo}
+use Rattle.sg_covered.specs.Rest.{PlanRunsRest}
+use Rattle.sg_run.specs.Covering.{CleanSo, Covers}
 
 module _ {R I O : Type 0} (feed : I → InletState) (drain : O → OutletState) (offers : R → ℕ → Record → List Offer → Type 0) (inlets dests : R → ℕ) (old new : WorldState) (plan : RunPlan) (routers : List R) (rounds : ℕ) (reached : Reached) (can : IsRunnable plan)
-    (cover : PlanRunsCover feed drain offers inlets dests) (clean : PlanRunsEndClean feed drain offers inlets dests) where
+    (cover : PlanRunsCover feed drain offers inlets dests) (clean : PlanRunsEndClean feed drain offers inlets dests) (rest : PlanRunsRest feed drain offers inlets dests) where
   clean-by : (ending : Ending) (run : CoreRun) (bytes : ℕ → List ℕ) (taken : List Taken) (passes : List Pass) (places : ℕ → ℕ) → RunsWith feed drain offers inlets dests old new plan routers rounds ending reached → reached.core ≡ Some run → AllTell reached.stores
       → EachChoice plan.setup reached.stores (Covered plan.setup (offers_in offers routers) (files_of plan.inlets.items bytes) taken passes places) → CleanSo plan reached ending bytes
   clean-by (Before early) run bytes taken passes places runs core told before = tt
@@ -27,8 +28,11 @@ module _ {R I O : Type 0} (feed : I → InletState) (drain : O → OutletState) 
   clean-by (Ran Spent counts) run bytes taken passes places runs core told before = tt
   clean-by (Ran NoMemory counts) run bytes taken passes places runs core told before = tt
 
-  pub covers-by : (ending : Ending) → RunsWith feed drain offers inlets dests old new plan routers rounds ending reached → CoversSo offers plan routers reached ending
-  covers-by ending runs = λ run bytes taken passes places core told gave before. record {
-    leaves = cover old new plan routers rounds ending reached run bytes taken passes places can runs core told gave before;
-    clean = clean-by ending run bytes taken passes places runs core told before;
+  pub covers-by : (ending : Ending) → RunsWith feed drain offers inlets dests old new plan routers rounds ending reached → Covers offers plan routers reached ending
+  covers-by ending runs = record {
+    unopened = λ bytes taken passes places none before. rest old new plan routers rounds ending reached bytes taken passes places can runs none before;
+    opened = λ run bytes taken passes places core told gave before. record {
+      leaves = cover old new plan routers rounds ending reached run bytes taken passes places can runs core told gave before;
+      clean = clean-by ending run bytes taken passes places runs core told before;
+    };
   }

@@ -28,8 +28,11 @@ pub record StaysCovered {R : Type 0} (offers : R → ℕ → Record → List Off
   pub clean : CleanSo plan reached ending bytes
 
 -- What is covered stays so, over stores that tell their bytes and files of these bytes: at the return, and at every moment before it.
-abbrev pub CoversSo : {R : Type 0} → (R → ℕ → Record → List Offer → Type 0) → RunPlan → List R → Reached → Ending → Type 0
-CoversSo offers plan routers reached ending =
-    (run : CoreRun) (bytes : ℕ → List ℕ) (taken : List Taken) (passes : List Pass) (places : ℕ → ℕ) → reached.core ≡ Some run → AllTell reached.stores → GaveFiles plan.setup reached.inlets_closed bytes
-    → EachChoice plan.setup reached.stores (Covered plan.setup (offers_in offers routers) (files_of plan.inlets.items bytes) taken passes places)
-    → StaysCovered offers plan routers reached ending run bytes taken passes places
+pub record Covers {R : Type 0} (offers : R → ℕ → Record → List Offer → Type 0) (plan : RunPlan) (routers : List R) (reached : Reached) (ending : Ending) : Type 0 where
+  -- without a core nothing was taken, and no record came in
+  pub unopened : (bytes : ℕ → List ℕ) (taken : List Taken) (passes : List Pass) (places : ℕ → ℕ) → reached.core ≡ None
+      → EachChoice plan.setup reached.stores (Covered plan.setup (offers_in offers routers) (files_of plan.inlets.items bytes) taken passes places)
+      → EachChoice plan.setup reached.stores_closed (Covered plan.setup (offers_in offers routers) (files_of plan.inlets.items bytes) taken passes places)
+  pub opened : (run : CoreRun) (bytes : ℕ → List ℕ) (taken : List Taken) (passes : List Pass) (places : ℕ → ℕ) → reached.core ≡ Some run → AllTell reached.stores → GaveFiles plan.setup reached.inlets_closed bytes
+      → EachChoice plan.setup reached.stores (Covered plan.setup (offers_in offers routers) (files_of plan.inlets.items bytes) taken passes places)
+      → StaysCovered offers plan routers reached ending run bytes taken passes places

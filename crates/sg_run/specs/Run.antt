@@ -18,7 +18,7 @@ use Rattle.sg_delivered.specs.Headline.{Delivers}
 use Rattle.sg_bounded.specs.Bounds.{IsBounded}
 use Rattle.sg_run.specs.Bounding.{Completes}
 use Rattle.sg_run.specs.Causes.{AreDue}
-use Rattle.sg_run.specs.Covering.{CoversSo}
+use Rattle.sg_run.specs.Covering.{Covers}
 use Rattle.sg_run.specs.Meaning.{planned, paths_of, paths_in, AreRouters}
 use Rattle.sg_run.specs.Outcomes.{Tells}
 use Rattle.sg_run.specs.Resting.{RestsSo}
@@ -54,7 +54,7 @@ pub record RunsBy {I O : Type 0} (feed : I → InletState) (drain : O → Outlet
   -- a run in which all goes well, with rounds enough, ends clean
   pub completes : Completes loaded new (planned config once) rounds ending reached few result
   -- no record of a file is lost between the stores as they were found and as they are left
-  pub covers : CoversSo offers_by (planned config once) routers reached ending
+  pub covers : Covers offers_by (planned config once) routers reached ending
 
 -- why it wasn't run; want of memory is free
 abbrev pub IsLeft : WorldState → WorldState → List ℕ → Result Outcome Unloaded → Type 0

@@ -12,7 +12,7 @@ use crate::planning::{drivers_of, files_of, plan_of, routers_of};
 use crate::reporting::{Lines, outcome_of};
 use sg_bounded::{runs_are_bounded, untroubled_runs_end};
 use sg_config::{Config, outlets_are_direct, texts_mean_one};
-use sg_covered::{plan_runs_cover, plan_runs_end_clean};
+use sg_covered::{plan_runs_cover, plan_runs_end_clean, plan_runs_rest};
 use sg_delivered::runs_deliver;
 use sg_device::NoMemory;
 use sg_loaded::{Loaded, Unloaded, load_file};
@@ -60,6 +60,7 @@ fn run_by<T: Wait, W: World>(
     untroubled_runs_end();
     plan_runs_cover(world, routers.as_slice());
     plan_runs_end_clean(world, routers.as_slice());
+    plan_runs_rest(world, routers.as_slice());
     let plan = plan_of(config, once);
     let ending = run_plan(rt, alloc, plan, routers, rounds, world);
     match outcome_of(alloc, lines, ending) {
