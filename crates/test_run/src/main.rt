@@ -1,106 +1,41 @@
-//! Says what comes of runs of configurations over a machine in memory, one for each line of standard input: what
-//! fails, how many rounds there are at most, and the configuration, in which `|` stands for the end of a line. The file
-//! `in` has the three records `<13>a b: c`, `<13>a b: d` and `<14>a e: f`. Each run is with `--once`. The answer is
-//! the exit status, the text, and the frames that the last outlet took.
+//! Says what comes of runs of configurations over a machine in memory. The first word of a line of standard input tells
+//! what it does; in a TEXT `|` stands for the end of a line.
+//!
+//! - `file NAME TEXT` puts a file there from now on, in the place of an earlier one. `c` is the configuration.
+//! - `piece N`: from now on a pull gives at most so many bytes.
+//! - `peer IP PORT SLOT PEER TEXT`: in the next run this peer connects to the slot on that address, sends the text and closes.
+//! - `store NAME PLACE DIGITS`: the next run finds this store, with these bytes at that place and zeros around them, 128 at least.
+//! - `fail CALL NUMBERS`: in the next run these calls fail, counted from 0; `all` and `none` are numbers too. `read`, `store`,
+//!   `inlet` and `outlet` are readings of files and openings. `disk`, `pull` and `send` are the calls of one store, inlet or outlet,
+//!   by the first such line those of the first that is opened, by the second those of the second; reopenings count as sends.
+//! - `rounds N`: the next run has at most so many.
+//! - `run NAME`: a run with `--once`. It finds no other stores than those of the lines before it.
+//! - `again NAME`: a run over the stores as the run before left them.
+//! - `each K NAME`: runs in each of which one call of store K fails, the first, the second and so on; K counts from 0.
+//! - `# ..`, and a line of no words: nothing.
+//!
+//! A run's answer is NAME, the exit status, the text that is to be said, and behind each `; ` the frames that an outlet took, in
+//! the order of the configuration; or why the configuration wasn't loaded. That of `each` is the statuses, each once where it
+//! comes several times in a row, up to a run that makes no such call any more. A line that isn't understood is answered too.
 #![tactic(auto)]
 
-use sg_device::{Name, NoMemory};
-use sg_memory::{MemoryFile, MemoryWorld, OutletPlan as Sends, Pace};
-use sg_memory_disk::Plan;
-use sg_run::{Outcome, Unloaded, run_file};
-use sg_world::MemoryMachine;
-use std::alloc::Global;
+mod answers;
+mod reading;
+mod stage;
+
+use stage::{Heard, Stage};
 use std::io;
-use std::sync::Wait;
-
-fn copied(alloc: Global, text: &[u8]) -> Result<Vec<u8>, NoMemory> {
-    Vec::from_slice(alloc, text)
-}
-
-fn broken(alloc: Global, line: &str) -> Result<Vec<u8>, NoMemory> {
-    let mut out = Vec::new(alloc);
-    for byte in line.as_bytes() {
-        out.push(if *byte == b'|' { b'\n' } else { *byte })?;
-    }
-    Ok(out)
-}
-
-fn machine(alloc: Global, config: &str) -> Result<MemoryMachine, NoMemory> {
-    let mut files = Vec::new(alloc);
-    files.push(MemoryFile::new(alloc, b"in", b"<13>a b: c\n<13>a b: d\n<14>a e: f\n")?)?;
-    if config != "missing" {
-        files.push(MemoryFile {
-            name: Name::new(alloc, b"c")?,
-            bytes: broken(alloc, config)?,
-        })?;
-    }
-    Ok(MemoryMachine {
-        world: MemoryWorld::new(alloc, files, Pace { piece: 7, at: 0 }),
-    })
-}
-
-// Lets the first call fail that a line names.
-fn fail(alloc: Global, fails: &str, world: &mut MemoryWorld) -> Result<(), NoMemory> {
-    match fails {
-        "store" => world.stores.opens = Plan::new(vec![in alloc; 0]?),
-        "inlet" => world.plans.inlet_opens = Plan::new(vec![in alloc; 0]?),
-        "outlet" => world.plans.outlet_opens = Plan::new(vec![in alloc; 0]?),
-        "pull" => world.plans.inlets.push_back(Plan::new(vec![in alloc; 0]?))?,
-        "sends" => {
-            let all = Plan::new(vec![in alloc; 0, 1, 2, 3, 4, 5, 6, 7]?);
-            world.plans.outlets.push_back(Sends::failing(alloc, all))?;
-        }
-        _ => {}
-    }
-    Ok(())
-}
-
-fn told(alloc: Global, outcome: &Outcome) -> Result<Vec<u8>, NoMemory> {
-    let code = outcome.end.code();
-    let mut out = Vec::new(alloc);
-    out.extend_from_slice(format!(in alloc; "{code} ")?.as_bytes())?;
-    out.extend_from_slice(&outcome.text)?;
-    Ok(out)
-}
-
-fn left(alloc: Global, unloaded: &Unloaded) -> Result<Vec<u8>, NoMemory> {
-    match unloaded {
-        Unloaded::Bad(_, _) => copied(alloc, b"bad"),
-        Unloaded::Unread(_) => copied(alloc, b"unread"),
-        Unloaded::NoMemory => copied(alloc, b"no memory"),
-    }
-}
-
-// The frames that the last outlet took, one behind the other.
-fn append_taken(world: &MemoryWorld, out: &mut Vec<u8>) -> Result<(), NoMemory> {
-    out.extend_from_slice(b"; ")?;
-    if let Some(cell) = world.closed_outlets()
-        && let Some(outlet) = &cell.closed
-    {
-        out.extend_from_slice(outlet.frames().bytes())?;
-    }
-    Ok(())
-}
-
-fn answer<T: Wait>(rt: &T, alloc: Global, line: &str) -> Result<Vec<u8>, NoMemory> {
-    let (fails, rest) = line.split_once(';').unwrap_or((line, ""));
-    let (rounds, config) = rest.split_once(';').unwrap_or((rest, ""));
-    let mut machine = machine(alloc, config)?;
-    fail(alloc, fails, &mut machine.world)?;
-    let rounds = if rounds == "2" { 2 } else { 1_000 };
-    let mut out = match run_file(rt, alloc, b"c", true, rounds, &mut machine) {
-        Ok(outcome) => told(alloc, &outcome)?,
-        Err(unloaded) => left(alloc, &unloaded)?,
-    };
-    append_taken(&machine.world, &mut out)?;
-    Ok(out)
-}
 
 fn main(rt: HostRuntime) -> io::Result<()> {
     let alloc = rt.alloc();
+    let mut stage = Stage::new(alloc);
     for line in rt.lines(alloc) {
-        let said = answer(&rt, alloc, line?.as_str())?;
-        println!(rt; "{}", said.escape_ascii())?;
+        let line = line?;
+        match stage.hear(&rt, line.as_str())? {
+            Heard::Setting => {}
+            Heard::Answer(said) => println!(rt; "{}", said.escape_ascii())?,
+            Heard::Unknown => println!(rt; "not understood: {}", line.as_str())?,
+        }
     }
     Ok(())
 }
