@@ -1,6 +1,6 @@
 // Stores of disk-buffers, listed over the machine in memory.
 use crate::daemon;
-use crate::rows::{bytes, fail, field, with_files, words};
+use crate::rows::{fail, field, text, with_files, words};
 use sg_device::Name;
 use sg_memory::MemoryWorld;
 use sg_memory_disk::MemoryDisk;
@@ -52,53 +52,59 @@ const ROWS: &str = "\
 256;64 B, 69 01;;5;store 0 damaged at 64~
 ";
 
-fn half(digit: u8) -> u8 {
+fn half(digit: u8) -> Option<u8> {
     match digit {
-        b'0'..=b'9' => digit - b'0',
-        b'a'..=b'f' => digit - b'a' + 10,
-        _ => 0,
+        b'0'..=b'9' => Some(digit - b'0'),
+        b'a'..=b'f' => Some(digit - b'a' + 10),
+        _ => None,
     }
 }
 
 // The bytes of hexadecimal digits.
-fn digits(alloc: Global, text: &str) -> Result<Vec<u8>, AllocError> {
+fn digits(alloc: Global, text: &str) -> Result<Vec<u8>, Fail> {
     let mut bytes = Vec::new(alloc);
     let mut high = None;
     for digit in text.as_bytes() {
+        let half = half(*digit).ok_or("no digit")?;
         match high {
-            None => high = Some(half(*digit)),
+            None => high = Some(half),
             Some(first) => {
-                bytes.push(half(*digit) | first << 4)?;
+                bytes.push(half | first << 4)?;
                 high = None;
             }
         }
     }
+    if high.is_some() {
+        return Err(Fail::new("half a byte"));
+    }
     Ok(bytes)
 }
 
-fn lay(store: &mut [u8], place: usize, bytes: &[u8]) {
+fn lay(store: &mut [u8], place: usize, bytes: &[u8]) -> Result<(), Fail> {
     for (i, byte) in bytes.iter().enumerate() {
-        if let Some(slot) = store.get_mut(place.saturating_add(i)) {
-            *slot = *byte;
-        }
+        let Some(slot) = store.get_mut(place.saturating_add(i)) else {
+            return Err(Fail::new("no such place"));
+        };
+        *slot = *byte;
     }
+    Ok(())
 }
 
 // The bytes of a row's store.
-fn laid(alloc: Global, length: &str, parts: &str) -> Result<Vec<u8>, AllocError> {
-    let mut store = vec![in alloc; 0u8; length.parse().unwrap_or(0)]?;
+fn laid(alloc: Global, length: &str, parts: &str) -> Result<Vec<u8>, Fail> {
+    let length: usize = length.parse()?;
+    let mut store = vec![in alloc; 0u8; length]?;
+    if parts.is_empty() {
+        return Ok(store);
+    }
     for part in parts.split(", ") {
-        let (place, text) = part.split_once(' ').unwrap_or(("0", ""));
+        let (place, text) = part.split_once(' ').ok_or("no place")?;
         let text = match text {
             "A" => OLDER,
             "B" => NEWER,
             _ => text,
         };
-        lay(
-            &mut store,
-            place.parse().unwrap_or(0),
-            &digits(alloc, text)?,
-        );
+        lay(&mut store, place.parse()?, &digits(alloc, text)?)?;
     }
     Ok(store)
 }
@@ -161,14 +167,14 @@ fn lists_many<T: Wait>(rt: &T, alloc: Global) -> Result<bool, Fail> {
 fn stores(rt: HostRuntime) -> Result<(), Fail> {
     let alloc = rt.alloc();
     for row in ROWS.lines() {
-        let (length, rest) = field(row);
-        let (parts, rest) = field(rest);
-        let (fails, rest) = field(rest);
-        let (code, said) = field(rest);
+        let (length, rest) = field(row)?;
+        let (parts, rest) = field(rest)?;
+        let (fails, rest) = field(rest)?;
+        let (code, said) = field(rest)?;
         let mut machine = with_store(alloc, laid(alloc, length, parts)?)?;
         fail(alloc, fails, &mut machine.world)?;
         let status = daemon(&rt, alloc, &words(alloc, "spool q")?, &mut machine);
-        assert_eq!(rt; machine.world.said(), bytes(alloc, said)?.as_slice());
+        assert_eq!(rt; machine.world.said(), text(alloc, said)?.as_slice());
         assert_eq!(rt; Ok(status.code()), code.parse());
         assert!(rt; holds(&machine.world, &laid(alloc, length, parts)?));
     }
