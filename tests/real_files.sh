@@ -46,9 +46,13 @@ report() {
     printf 'destination 0 taken %s dropped-full 0 dropped-disk 0 left %s\\n%sstatus %s\\n' "$3" "$4" "$5" "$6"
 }
 
+# config SOURCE DESTINATION: a configuration that moves the lines of a file
 config() {
     printf '@version: 4.2\nsource s { file("%s" flags(no-parse)); };\ndestination d { file("%s" template("$MSG\\n")); };\nlog { source(s); destination(d); flags(flow-control); };\n' "$1" "$2"
 }
+# changes of it: a smaller window, and a disk-buffer
+window='2s/no-parse)/no-parse) log-iw-size(100)/'
+buffer='3s/"));/") disk-buffer(reliable(yes) disk-buf-size(1048576)));/'
 
 "$top/syslogr" >/dev/null 2>build || [ $? = 1 ] || { cat build; exit 2; }
 usage='usage: syslogr check FILE | trace FILE SOURCE INPUT | run FILE [--once] [--rounds N] | spool FILE | drill N\n'
@@ -69,6 +73,14 @@ rm -f pos-in out && mkdir pos-in
 told='store pos-in: cannot open: not a regular file\n'
 again 'a folder in the place of the store' 4 'cannot open store 0\n' - run c --once
 rmdir pos-in
+: >in
+expect 'an empty file' 0 "$(report 0 0 0 0 '' 0)" '' run c --once
+printf 'one\ntwo' >in
+expect 'an open last line' 0 "$(report 1 4 1 0 '' 0)" 'one\n' run c --once
+printf 'one\ntwo\n' >in
+rm -f out pos-*
+{ head -c 23 /dev/zero; printf '\144'; head -c 104 /dev/zero; } >pos-in
+again 'a position past the file' 0 "$(report 2 8 2 0 '' 0)" 'one\ntwo\n' run c --once
 printf 'a\r\n\nb' >in
 expect 'trimmed, empty and open lines' 0 "$(report 2 4 1 0 '' 0)" 'a\n' run c --once
 mkdir sub && printf 'one\n' >sub/a_b.log
@@ -77,6 +89,10 @@ expect 'a source in a folder' 0 "$(report 1 4 1 0 '' 0)" 'one\n' run c0 --once
 [ -e pos-sub_2fa_5fb.log ] || { failed=$((failed + 1)); echo 'a source in a folder: its store has another name'; }
 printf '# x\n' >bad
 expect 'a text without a version' 2 'bad:1: version not supported\n' - run bad --once
+printf '@version: 3.38\n' >bad
+expect 'an older version' 2 'bad:1: version not supported\n' - run bad --once
+printf '@version: 4.2\n@include "conf.d/*.conf"\n' >bad
+expect 'an include of many files' 2 'bad:2: not supported\n' - run bad --once
 printf '@version: 4.2\n' >bad
 expect 'a configuration of no statements' 0 'status 0\n' - run bad --once
 printf '@version: 4.2\nlog { `NO`; };\n' >bad
@@ -124,11 +140,29 @@ expect 'a file is traced' 0 'record 0 destination 0 flow yes length 4\none\n\nre
 expect 'a source without a driver' 2 't:0: unknown name\n' - trace t d in
 told='source missing: cannot open: No such file or directory (os error 2)\n'
 expect 'no file to trace' 4 'cannot open inlet 0\n' - trace t s missing
+printf '@version: 4.2\nsource s { file("in" flags(no-parse)); };\ndestination d { file("out" template("$MSG\\n")); };\nlog { source(s); junction { channel { rewrite { set("x" value("MESSAGE")); }; }; channel { filter { message("o"); }; }; }; destination(d); };\n' >t
+printf 'one\n' >in
+expect 'each channel of a junction has a copy' 0 'record 0 destination 0 flow no length 2\nx\n\nrecord 0 destination 0 flow no length 4\none\n\n' - trace t s in
 printf '@version: 4.2\nsource s { file("in"); };\nlog { source(s); filter(none); };\n' >bad
 expect 'an unknown filter is checked' 2 'bad:3: unknown name\n' - check bad
 expect 'an unknown filter is traced' 2 'bad:3: unknown name\n' - trace bad s in
 printf '@version: 4.2\nfilter f { message("("); };\n' >bad
 expect 'a pattern that is none' 2 'bad:2: pattern not valid\n' - check bad
+# what `check` says of the first configuration, changed by sed
+while IFS='~' read -r change status text; do
+    sed "$change" c >changed
+    expect "changed by $change" "$status" "changed$text\n" - check changed
+done <<'END'
+4s/source(s)/source(x)/~2~:4: unknown name
+4s/flow-control/drop-unmatched/~0~: ok
+2s/no-parse)/no-parse) log-iw-size(0)/~2~:2: value out of range
+3s/file(.*));/network("h");/~2~:3: option missing
+4s/;/; filter { match("a(" value("MESSAGE")); };/~2~:4: pattern not valid
+4s/;/; rewrite { set("1" value("PRI")); };/~2~:4: macro cannot be set
+$a filter f { filter(f); };~2~:5: filter refers to itself
+2s/.*/block source local(path()) { file("`path`"); };\nsource s { local(path("in")); };/~0~: ok
+2s/.*/block source local(path()) { file("`path`"); };\nsource s { local(); };/~2~:3: argument missing
+END
 cat >dist <<'END'
 @version: 4.2
 @include "scl.conf"
@@ -183,6 +217,31 @@ told='destination /dev/full: cannot write: No space left on device (os error 28)
     "$top/syslogr" run c --once >/dev/full 2>errors
     if [ $? = 10 ] && [ ! -s errors ]; then passed=$((passed + 1)); else failed=$((failed + 1)); echo 'a full standard output: not status 10'; fi
 fi
+
+# A destination that takes nothing leaves what it hasn't taken to its window, or to a disk-buffer, from which another run takes it.
+if [ -w /dev/full ]; then
+    nospace='destination dead: cannot write: No space left on device (os error 28)\n'
+    rm -f out pos-* queue-*
+    ln -s /dev/full dead
+    config in dead | sed "$window" >c4
+    seq 1 150 >in
+    told=$nospace
+    again 'the window of a dead destination' 6 "$(report 100 0 0 100 'fault sink 0\n' 6)" - run c4 --once
+    config in dead | sed "$buffer" >c4
+    printf 'one\n' >in
+    told=$nospace
+    again 'a dead destination' 6 "$(report 1 4 0 1 'fault sink 0\n' 6)" - run c4 --once
+    rm dead
+    again 'then a working one' 0 "$(report 0 4 1 0 '' 0)" - run c4 --once
+    [ "$(cat dead)" = one ] && passed=$((passed + 1)) || { failed=$((failed + 1)); echo 'then a working one:'; cat dead; }
+fi
+
+# A disk-buffer whose only entry is none.
+config in out | sed "$buffer" >c4
+rm -f out pos-*
+{ head -c 64 /dev/zero; printf '\1\0\0\0\2ab'; head -c 57 /dev/zero; } >queue-file,out
+again 'a disk-buffer whose entry is none' 5 'store 1 damaged at 64\n' - run c4 --once
+rm queue-file,out
 
 # Another file under the source's name, in which no line ends at the stored position, is read from its beginning.
 printf 'one\ntwo\n' >in
@@ -360,7 +419,8 @@ cat >peer.py <<'END'
 """peer.py port: a free port.
 peer.py send PORT FILE: opens a connection, and gives the file's bytes by it.
 peer.py take PORT LINES FILE: accepts one connection, takes so many lines, and closes. FILE.listens is there once it listens.
-peer.py give PORT COUNT LINES: opens so many connections, and gives so many lines by each."""
+peer.py give PORT COUNT LINES: opens so many connections, and gives so many lines by each.
+peer.py say PORT COUNT FILE: opens so many connections, and gives the file by the first."""
 import socket, sys, time
 def connected(port):
     while True:
@@ -392,11 +452,13 @@ elif sys.argv[1] == "take":
         peer.close()
         open(sys.argv[4], "wb").write(got)
 else:
-    count, lines = int(sys.argv[3]), int(sys.argv[4])
-    peers = [connected(int(sys.argv[2])) for _ in range(count)]
-    for k in range(lines):
-        for n, peer in enumerate(peers):
-            peer.sendall(b"peer %d line %d\n" % (n, k))
+    peers = [connected(int(sys.argv[2])) for _ in range(int(sys.argv[3]))]
+    if sys.argv[1] == "say":
+        peers[0].sendall(open(sys.argv[4], "rb").read())
+    else:
+        for k in range(int(sys.argv[4])):
+            for n, peer in enumerate(peers):
+                peer.sendall(b"peer %d line %d\n" % (n, k))
     for peer in peers:
         peer.close()
 END
@@ -433,9 +495,27 @@ if command -v python3 >/dev/null; then
     same 'what it gets once it is back' 'three\n' second
     kill $process && wait $process 2>/dev/null
 
+    # Nobody listens on the port.
+    rm -f out pos-* queue-*
+    refused="destination 127.0.0.1:$port: cannot connect: Connection refused (os error 111)\n"
+    tcp="3s/file(\"out\"/network(\"127.0.0.1\" port($port)/"
+    config in out | sed -e "$window" -e "$tcp" >windowed
+    seq 1 150 >in
+    told=$refused
+    again 'the window of a peer that is away' 6 "$(report 100 0 0 100 'fault sink 0\n' 6)" - run windowed --once
+
     # A disk-buffer holds what comes while its peer is away.
+    config in out | sed -e "$buffer" -e "$tcp" >buffered
+    printf 'one\n' >in
+    told=$refused
+    again 'a peer that is away' 6 "$(report 1 4 0 1 'fault sink 0\n' 6)" - run buffered --once
+    timeout 60 python3 peer.py take "$port" 1 one &
+    peer=$!
+    until [ -e one.listens ] || ! kill -0 $peer 2>/dev/null; do sleep 0.1; done
+    again 'then one that listens' 0 "$(report 0 4 1 0 '' 0)" - run buffered --once
+    wait $peer
+    same 'what a disk-buffer held' 'one\n' one
     rm -f pos-* queue-*
-    printf '@version: 4.2\nsource s { file("in" flags(no-parse)); };\ndestination d { network("127.0.0.1" port(%s) template("$MSG\\n") disk-buffer(reliable(yes) disk-buf-size(1048576))); };\nlog { source(s); destination(d); flags(flow-control); };\n' "$port" >buffered
     seq -f 'line %.0f' 1 300 >in
     timeout 60 "$top/syslogr" run buffered --once >said 2>errors
     [ $? = 6 ] && grep -q '^source 0 records 300 bad-frames 0 position 2592$' said && grep -q '^destination 0 taken 0 dropped-full 0 dropped-disk 0 left 300$' said && passed=$((passed + 1)) || { failed=$((failed + 1)); echo 'a disk-buffer without a peer:'; cat said errors; }
@@ -446,6 +526,18 @@ if command -v python3 >/dev/null; then
     until [ -e third.listens ] || ! kill -0 $peer 2>/dev/null; do sleep 0.1; done
     timeout 60 "$top/syslogr" run buffered --once >said 2>errors
     [ $? = 0 ] && wait $peer && cmp -s in third && passed=$((passed + 1)) || { failed=$((failed + 1)); echo 'a disk-buffer with its peer back:'; cat said errors; }
+
+    # A usual distribution file, with the files of this folder.
+    port=$(python3 peer.py port)
+    sed -e "s/5514/$port/" -e 's|/var/log/||' dist >here
+    printf '<38>Feb  5 17:32:18 h1 sshd[811]: Accepted\n<11>Feb  5 17:32:19 h1 app: broken\n<15>Feb  5 17:32:20 h1 app: probe\n' >records
+    rm -f out pos-*
+    timeout 60 python3 peer.py say "$port" 10 records &
+    again 'a distribution file runs' 0 'source 0 records 3 bad-frames 0\ndestination 0 taken 1 dropped-full 0 dropped-disk 0 left 0\ndestination 1 taken 1 dropped-full 0 dropped-disk 0 left 0\ndestination 2 taken 1 dropped-full 0 dropped-disk 0 left 0\nstatus 0\n' - run here --once
+    same 'its auth.log' 'Feb  5 17:32:18 127.0.0.1 sshd[811]: Accepted\n' auth.log
+    same 'its syslog' 'Feb  5 17:32:19 127.0.0.1 app: broken\n' syslog
+    same 'its error' 'Feb  5 17:32:19 127.0.0.1 app: broken\n' error
+    [ "$(stat -c %a auth.log syslog error | tr '\n' ' ')" = '640 640 640 ' ] && passed=$((passed + 1)) || { failed=$((failed + 1)); echo 'modes by perm()'; }
 
     # Eight connections at once.
     rm -f out
