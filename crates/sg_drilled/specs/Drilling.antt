@@ -20,15 +20,23 @@ pub record AreDrillFiles (records : ℕ) (files : List MemoryFile) : Type 0 wher
   pub input : file_of files (codes "drill") ≡ Some (drill_text records)
   pub config : file_of files (codes "drill.conf") ≡ Some drill_config
 
--- the configuration was run with `--once` over a machine in memory that has these files, from its beginning, and nothing failed
+-- the configuration was run with `--once`, from one state of the machine to another, and nothing failed
+pub record RunClean (old new : WorldState) (outcome : Outcome) : Type 0 where
+  pub runs : RunsFile feed_of drain_of old new (codes "drill.conf") true most_rounds (Ok outcome)
+  pub clean : outcome.end ≡ Clean
+
+-- want of memory is free
+abbrev pub RunsClean : WorldState → WorldState → Result Outcome AllocError → Type 0
+RunsClean old new (Ok outcome) = RunClean old new outcome
+RunsClean old new (Err e) = Unit {0}
+
+-- so it was over a machine in memory that has these files, of which nothing was asked before
 pub record Drilled (records : ℕ) (outcome : Outcome) : Type 0 where
   pub files : List MemoryFile
   pub are_files : AreDrillFiles records files
   pub ran : WorldState
-  pub runs : RunsFile feed_of drain_of (new_world files) ran (codes "drill.conf") true most_rounds (Ok outcome)
-  pub clean : outcome.end ≡ Clean
+  pub run : RunClean (new_world files) ran outcome
 
--- want of memory is free
 abbrev pub Drills : ℕ → Result Outcome AllocError → Type 0
 Drills records (Ok outcome) = Drilled records outcome
 Drills records (Err e) = Unit {0}

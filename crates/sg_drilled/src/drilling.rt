@@ -1,7 +1,7 @@
 // A drill.
-ghost use Rattle.std.specs.Prelude.{◌≡◌, ◌≤◌, [], ◌∷◌, IfOk};
-ghost use Rattle.sg_drill.specs.Input.{drill_text};
-ghost use Rattle.sg_drilled.specs.Drilling.{drill_config, AreDrillFiles, Drills};
+ghost use Rattle.std.specs.Prelude.{◌≤◌, IfOk};
+ghost use Rattle.sg_memory.specs.World.{world_of};
+ghost use Rattle.sg_drilled.specs.Drilling.{AreDrillFiles, RunsClean, Drills};
 
 use sg_device::NoMemory;
 use sg_drill::drill_input;
@@ -33,6 +33,23 @@ fn drill_files(alloc: Global, records: u64) -> Result<Vec<MemoryFile>, NoMemory>
     Ok(files)
 }
 
+// Runs the configuration over this machine, which ends clean or for want of memory.
+fn run_clean<T: Wait>(
+    rt: &T,
+    alloc: Global,
+    machine: &mut MemoryMachine,
+) -> Result<Outcome, NoMemory>
+    ensures { RunsClean (world_of machine.old.world) (world_of machine.new.world) result }
+{
+    match run_file(rt, alloc, b"drill.conf", true, MOST_ROUNDS, machine) {
+        Ok(outcome) => match outcome.end {
+            End::Clean => Ok(outcome),
+            _ => Err(AllocError),
+        },
+        Err(_) => Err(AllocError),
+    }
+}
+
 /// Makes the input of so many records, 1 to 100,000, runs the configuration of a drill on it over devices in
 /// memory, with `--once`, and answers the report. A machine in memory of which no call is to fail ends a
 /// run otherwise for want of memory alone.
@@ -41,21 +58,12 @@ pub fn drill<T: Wait>(rt: &T, alloc: Global, records: u64) -> Result<Outcome, No
     ensures { Drills records result }
 {
     let files = drill_files(alloc, records)?;
+    let pace = Pace {
+        piece: PIECE,
+        at: MOMENT,
+    };
     let mut machine = MemoryMachine {
-        world: MemoryWorld::new(
-            alloc,
-            files,
-            Pace {
-                piece: PIECE,
-                at: MOMENT,
-            },
-        ),
+        world: MemoryWorld::new(alloc, files, pace),
     };
-    let Ok(outcome) = run_file(rt, alloc, b"drill.conf", true, MOST_ROUNDS, &mut machine) else {
-        return Err(AllocError);
-    };
-    if outcome.end != End::Clean {
-        return Err(AllocError);
-    }
-    Ok(outcome)
+    run_clean(rt, alloc, &mut machine)
 }
