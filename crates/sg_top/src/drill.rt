@@ -10,7 +10,7 @@ use std::sync::Wait;
 
 /// Runs a fixed configuration on so many records over a machine in memory, and says how that ended.
 pub fn drill<T: Wait, W: World>(rt: &T, alloc: Global, records: u64, world: &mut W) -> Status
-    requires { records ≤ 100000 }
+    requires records { records ≤ 100000 }
     ensures { DrillsCommand (W.state world.old) (W.state world.new) records result }
 {
     match sg_drilled::drill(rt, alloc, records) {
