@@ -81,6 +81,13 @@ say = read("crates/sg_top/src/say.rt")
 for line in re.findall(r'b"(usage: .*?|syslogr .*?)\\n"', say):
     expect("what --help and --version say, in FORMATS.md", [] if line in formats.replace("\\|", "|") else [line])
 
+# the words that a hint may name
+hinted = set(" ".join(words(read("crates/sg_hint/src/words.rt").replace("\\\n", " "))).split())
+for name in ["SOURCE_DRIVERS", "SOURCE", "LISTENER", "DESTINATION", "WRITER", "SENDER", "FRAMED", "DISK", "GLOBAL", "WITHOUT_EFFECT"]:
+    expect(f"words {name} in the hints", set(words(table(objects, name))) - hinted)
+for path in ["filters.rt", "rewrites.rt", "form.rt", "class.rt"]:
+    expect(f"words of {path} in the hints", {w for w in words(read(f"crates/sg_parse_expr/src/{path}")) if w.islower()} - hinted - {"yes", "on"})
+
 documents = ["README.md"] + sorted(f"docs/{name}" for name in os.listdir("docs") if name.endswith(".md"))
 for path in documents:
     text = read(path)

@@ -88,6 +88,7 @@ config sub/a_b.log out >c0
 expect 'a source in a folder' 0 "$(report 1 4 1 0 '' 0)" 'one\n' run c0 --once
 [ -e pos-sub_2fa_5fb.log ] || { failed=$((failed + 1)); echo 'a source in a folder: its store has another name'; }
 printf '# x\n' >bad
+told='bad:1: version not supported\n   # x\n'
 expect 'a text without a version' 2 'bad:1: version not supported\n' - run bad --once
 printf '@version: 3.38\n' >bad
 expect 'an older version' 2 'bad:1: version not supported\n' - run bad --once
@@ -96,11 +97,14 @@ expect 'an include of many files' 2 'bad:2: not supported\n' - run bad --once
 printf '@version: 4.2\n' >bad
 expect 'a configuration of no statements' 0 'status 0\n' - run bad --once
 printf '@version: 4.2\nlog { `NO`; };\n' >bad
+told='bad:2:7: unknown variable\n   log { `NO`; };\n         ^\n'
 expect 'an unknown variable' 2 'bad:2: unknown variable\n' - run bad --once
 printf '@version: 4.2\n@include "bad"\n' >bad
+told='bad:2:1: includes nested too deep\n   @include "bad"\n   ^\n'
 expect 'a file that includes itself' 2 'bad:2: includes nested too deep\n' - run bad --once
 printf '# one\n# two\n  "\n' >part
 printf '@version: 4.2\n@include "part"\n' >bad
+told='part:3:3: string not closed\n     "\n     ^\n'
 expect 'a fault in an included file' 2 'part:3: string not closed\n' - run bad --once
 printf '@version: 4.2\n@include "none"\n' >bad
 told='file none: cannot open: No such file or directory (os error 2)\n'
@@ -144,9 +148,12 @@ printf '@version: 4.2\nsource s { file("in" flags(no-parse)); };\ndestination d 
 printf 'one\n' >in
 expect 'each channel of a junction has a copy' 0 'record 0 destination 0 flow no length 2\nx\n\nrecord 0 destination 0 flow no length 4\none\n\n' - trace t s in
 printf '@version: 4.2\nsource s { file("in"); };\nlog { source(s); filter(none); };\n' >bad
+told='bad:3:25: unknown name\n   log { source(s); filter(none); };\n                           ^\n'
 expect 'an unknown filter is checked' 2 'bad:3: unknown name\n' - check bad
+told='bad:3:25: unknown name\n   log { source(s); filter(none); };\n                           ^\n'
 expect 'an unknown filter is traced' 2 'bad:3: unknown name\n' - trace bad s in
 printf '@version: 4.2\nfilter f { message("("); };\n' >bad
+told='bad:2:20: pattern not valid\n   filter f { message("("); };\n                      ^\n'
 expect 'a pattern that is none' 2 'bad:2: pattern not valid\n' - check bad
 # what `check` says of the first configuration, changed by sed
 while IFS='~' read -r change status text; do
@@ -197,8 +204,10 @@ repeated() {
 repeated 1024 >many
 expect '1,024 deliveries' 0 'many: ok\n' - check many
 repeated 1025 >many
+told='many:1028:1: too many offers\n   log { source(s); destination(d); flags(flow-control); };\n   ^\n'
 expect '1,025 deliveries' 2 'many:1028: too many offers\n' - check many
 printf '@version: 4.2\n@include "bad"\n' >bad
+told='bad:2:1: includes nested too deep\n   @include "bad"\n   ^\n'
 expect 'a file that includes itself is checked' 2 'bad:2: includes nested too deep\n' - check bad
 expect 'a configuration that moves lines' 0 'c: ok\n' - check c
 expect 'a check of nothing' 1 "$usage" - check

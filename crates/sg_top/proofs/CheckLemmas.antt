@@ -11,10 +11,9 @@ use Rattle.sg_checked.specs.declared.unchecked.Unchecked.{Unchecked}
 use Rattle.sg_checked.specs.declared.unchecked.Unchecked.TheVariants.{SayFault as Unsaid, NoMemory as Starved}
 use Rattle.sg_run.specs.declared.end.End.TheVariants.{Clean}
 use Rattle.sg_top.specs.Checking.{EndsCheck, ChecksFile}
-use Rattle.sg_top.specs.Said.{OnlySays}
 use Rattle.sg_top.specs.declared.status.Status.{Status}
 use Rattle.sg_top.specs.declared.status.Status.TheVariants.{Ended, SayFault, NoMemory}
-use Rattle.sg_top.proofs.SaidLemmas.{rose-later}
+use Rattle.sg_top.proofs.SaidLemmas.{rose-later, OnlyTells}
 
 -- a configuration is checked whole, where no trouble comes
 abbrev pub IsWhole : WorldState → WorldState → List ℕ → Result Unit Unchecked → Type 0
@@ -31,16 +30,16 @@ checks-unsaid old new file only is whole =
 pub checks-starved : (old new : WorldState) (file : List ℕ) → OnlyChecks old new → ChecksFile old new file NoMemory
 checks-starved old new file only = (new, (Err Starved, record { checks = tt; only = only; ends = (refl, refl); complete = λ files config f c k u. tt }))
 
--- no trouble came before what was said last
-before : (old mid new : WorldState) → OnlySays mid new → IsUntroubled old new → IsUntroubled old mid
-before old mid new says u = record {
-  read = λ rose. u.read (subst (λ (n : ℕ). Rose old.read_faults n) (sym (ap (λ (w : WorldState). w.read_faults) says.state)) rose);
-  build = λ rose. u.build (subst (λ (n : ℕ). Rose old.build_faults n) (sym (ap (λ (w : WorldState). w.build_faults) says.state)) rose);
-  say = λ rose. u.say (rose-later old.say_faults mid.say_faults new.say_faults rose says.later);
+-- no trouble came before what was told last
+before : (old mid new : WorldState) → OnlyTells mid new → IsUntroubled old new → IsUntroubled old mid
+before old mid new tells u = record {
+  read = λ rose. u.read (rose-later old.read_faults mid.read_faults new.read_faults rose tells.read);
+  build = λ rose. u.build (subst (λ (n : ℕ). Rose old.build_faults n) (sym (ap (λ (w : WorldState). w.build_faults) tells.state)) rose);
+  say = λ rose. u.say (rose-later old.say_faults mid.say_faults new.say_faults rose tells.say);
 }
 
 pub checks-refused : (old mid new : WorldState) (file : List ℕ) (why : Unchecked) (status : Status) → OnlyChecks old mid → Checks old mid file (Err why)
-    → ((files : Files) (config : Config) → old.files ≡ Some files → Configures old file config → CanBeCompiled config → IsUntroubled old mid → ⊥) → OnlySays mid new → EndsCheck mid new (Err why) status
+    → ((files : Files) (config : Config) → old.files ≡ Some files → Configures old file config → CanBeCompiled config → IsUntroubled old mid → ⊥) → OnlyTells mid new → EndsCheck mid new (Err why) status
     → ChecksFile old new file status
-checks-refused old mid new file why status only is whole says ends =
-    (mid, (Err why, record { checks = is; only = only; ends = ends; complete = λ files config f c k u. absurd (whole files config f c k (before old mid new says u)) }))
+checks-refused old mid new file why status only is whole tells ends =
+    (mid, (Err why, record { checks = is; only = only; ends = ends; complete = λ files config f c k u. absurd (whole files config f c k (before old mid new tells u)) }))

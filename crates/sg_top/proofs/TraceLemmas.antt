@@ -16,11 +16,10 @@ use Rattle.sg_trace.specs.declared.unshown.Unshown.{Unshown}
 use Rattle.sg_trace.specs.declared.unshown.Unshown.TheVariants as unshown
 use Rattle.sg_run.specs.declared.end.End.TheVariants.{Clean}
 use Rattle.sg_top.specs.Loading.{TellsUnloaded}
-use Rattle.sg_top.specs.Said.{OnlySays}
 use Rattle.sg_top.specs.Tracing.{status_untraced, IsComplete, TracesCommand}
 use Rattle.sg_top.specs.declared.status.Status.{Status}
 use Rattle.sg_top.specs.declared.status.Status.TheVariants.{Ended}
-use Rattle.sg_top.proofs.SaidLemmas.{rose-later, says-nothing}
+use Rattle.sg_top.proofs.SaidLemmas.{rose-later, OnlyTells, tells-of}
 
 -- INPUT is traced to its end, where no trouble comes
 abbrev pub IsWhole : WorldState → WorldState → List ℕ → List ℕ → List ℕ → Result Unit Unshown → Type 0
@@ -42,22 +41,17 @@ pub traces-ended : (old new : WorldState) (file source input : List ℕ) (untrac
 traces-ended old new file source input untraced traces whole =
     (new, (Err (unshown.Untraced untraced), record { traces = traces; ends = (refl, refl); complete = λ files config i f c k n u. whole-status untraced (whole files config i f c k n u) }))
 
--- no trouble came before what was said last
-before : (old shown new : WorldState) (input : List ℕ) → OnlySays shown new → IsUntroubled old new input → IsUntroubled old shown input
-before old shown new input says u = record {
+-- no trouble came before what was told last
+before : (old shown new : WorldState) (input : List ℕ) → OnlyTells shown new → IsUntroubled old new input → IsUntroubled old shown input
+before old shown new input tells u = record {
   load = record {
-    read = λ rose. (u.load).read (subst (λ (n : ℕ). Rose old.read_faults n) (sym (ap (λ (w : WorldState). w.read_faults) says.state)) rose);
-    build = λ rose. (u.load).build (subst (λ (n : ℕ). Rose old.build_faults n) (sym (ap (λ (w : WorldState). w.build_faults) says.state)) rose);
+    read = λ rose. (u.load).read (rose-later old.read_faults shown.read_faults new.read_faults rose tells.read);
+    build = λ rose. (u.load).build (subst (λ (n : ℕ). Rose old.build_faults n) (sym (ap (λ (w : WorldState). w.build_faults) tells.state)) rose);
   };
-  opening = λ rose. u.opening (subst (λ (n : ℕ). Rose old.inlet_faults n) (sym (ap (λ (w : WorldState). w.inlet_faults) says.state)) rose);
-  say = λ rose. u.say (rose-later old.say_faults shown.say_faults new.say_faults rose says.later);
-  inlet = λ limit feed is. u.inlet limit feed (ap (λ (w : WorldState). w.inlets) says.state ∙ is);
+  opening = λ rose. u.opening (subst (λ (n : ℕ). Rose old.inlet_faults n) (sym (ap (λ (w : WorldState). w.inlet_faults) tells.state)) rose);
+  say = λ rose. u.say (rose-later old.say_faults shown.say_faults new.say_faults rose tells.say);
+  inlet = λ limit feed is. u.inlet limit feed (ap (λ (w : WorldState). w.inlets) tells.state ∙ is);
 }
-
-says-of : (shown new : WorldState) (why : Unloaded) (status : Status) → TellsUnloaded shown new why status → OnlySays shown new
-says-of shown new (Bad fault names) status tells = tells.says
-says-of shown new (Unread name) status tells = tells.says
-says-of shown new Unfed status tells = subst (λ (w : WorldState). OnlySays shown w) (sym tells.0) (says-nothing shown)
 
 whole-unloaded : (shown new : WorldState) (why : Unloaded) (status : Status) → TellsUnloaded shown new why status → IsShown (Err (unshown.Unloaded why)) → IsComplete status
 whole-unloaded shown new (Bad fault names) status tells is = absurd is
@@ -73,7 +67,7 @@ traces-refused old shown new file source input why status traces whole tells = (
     record {
       traces = traces;
       ends = tells;
-      complete = λ files config i f c k n u. whole-unloaded shown new why status tells (whole files config i f c k n (before old shown new input (says-of shown new why status tells) u));
+      complete = λ files config i f c k n u. whole-unloaded shown new why status tells (whole files config i f c k n (before old shown new input (tells-of shown new why status tells) u));
     },
   ),
 )

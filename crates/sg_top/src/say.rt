@@ -3,11 +3,13 @@ ghost use Rattle.std.specs.Prelude.{◌≡◌, ◌++◌, IfOk};
 ghost use Rattle.sg_report.specs.Fault.{fault_text_of};
 ghost use Rattle.sg_top.specs.Loading.{TellsUnloaded};
 ghost use Rattle.sg_top.specs.Said.{unread_text_of, usage_text, version_text, Concludes};
-ghost use Rattle.sg_top.specs.declared.status.Status.TheVariants.{Ended};
+ghost use Rattle.sg_top.specs.declared.status.Status.TheVariants.{Ended, BadConfig};
+ghost use Rattle.sg_loaded.specs.declared.loaded.Unloaded.TheVariants.{Bad};
 ghost use Rattle.sg_run.specs.declared.end.End.TheVariants.{Clean};
 
 use crate::status::Status;
 use sg_device::{Name, NoMemory, SayRefusal};
+use sg_hint::tell_hint;
 use sg_lex::ConfigFault;
 use sg_list::Seq;
 use sg_report::fault_text;
@@ -48,15 +50,35 @@ pub fn conclude<W: World>(alloc: Global, status: Status, text: &[u8], world: &mu
     }
 }
 
+fn tell_fault<W: World>(
+    alloc: Global,
+    fault: ConfigFault,
+    names: &Seq<Name>,
+    world: &mut W,
+) -> Status
+    ensures { Concludes (W.state world.old) (W.state world.new) (BadConfig fault) (fault_text_of fault names.now) result }
+{
+    match refusal_text(alloc, fault, names) {
+        Ok(text) => conclude(alloc, Status::BadConfig(fault), &text, world),
+        Err(_) => Status::NoMemory,
+    }
+}
+
+/// Says what is wrong with a configuration file, and tells the hint beside it.
+fn tell_bad<W: World>(alloc: Global, fault: ConfigFault, names: Seq<Name>, world: &mut W) -> Status
+    ensures { TellsUnloaded (W.state world.old) (W.state world.new) (Bad fault names) result }
+{
+    let status = tell_fault(alloc, fault, &names, world);
+    tell_hint(alloc, world, &fault, names.as_slice());
+    status
+}
+
 /// Says why a configuration file isn't loaded, and answers the status of that.
 pub fn tell_unloaded<W: World>(alloc: Global, unloaded: Unloaded, world: &mut W) -> Status
     ensures { TellsUnloaded (W.state world.old) (W.state world.new) unloaded result }
 {
     match unloaded {
-        Unloaded::Bad(fault, names) => match refusal_text(alloc, fault, &names) {
-            Ok(text) => conclude(alloc, Status::BadConfig(fault), &text, world),
-            Err(_) => Status::NoMemory,
-        },
+        Unloaded::Bad(fault, names) => tell_bad(alloc, fault, names, world),
         Unloaded::Unread(name) => match unread_text(alloc, &name) {
             Ok(text) => conclude(alloc, Status::ReadFault, &text, world),
             Err(_) => Status::NoMemory,

@@ -1,6 +1,7 @@
-use Rattle.std.proofs.Common.{◌≡◌}
 use Rattle.sg_checked.specs.declared.unchecked.Unchecked.TheVariants.{Bad, Unread}
+use Rattle.sg_loaded.specs.declared.loaded.Unloaded.TheVariants as unloaded
 use Rattle.sg_top.proofs.CheckLemmas.{checks-ok, checks-unsaid, checks-starved, checks-refused}
+use Rattle.sg_top.proofs.SaidLemmas.{says-tells, tells-of}
 use Rattle.sg_top.proofs.check.check.Goals as goal
 
 pub returns-in-Ok : goal.returns-in-Ok
@@ -17,10 +18,11 @@ returns-in-Err-NoMemory g c = checks-starved (g.W.Machine.state c.args.world.now
 pub returns-in-Err-Bad : goal.returns-in-Err-Bad
 returns-in-Err-Bad g c =
     checks-refused (g.W.Machine.state c.args.world.now) (g.W.Machine.state c.check_file.new.world) (g.W.Machine.state c.tell_unloaded.new.world) c.args.file.now (Bad c.in-Err-Bad.fault c.in-Err-Bad.names) c.tell_unloaded.result
-    c.in-Err-Bad.ensures.only (rw c.in-Err-Bad.field-0-is at c.in-Err-Bad.ensures.checks) (rw c.in-Err-Bad.field-0-is at c.in-Err-Bad.ensures.complete) (c.tell_unloaded.ensures).says c.tell_unloaded.ensures
+    c.in-Err-Bad.ensures.only (rw c.in-Err-Bad.field-0-is at c.in-Err-Bad.ensures.checks) (rw c.in-Err-Bad.field-0-is at c.in-Err-Bad.ensures.complete)
+    (tells-of (g.W.Machine.state c.check_file.new.world) (g.W.Machine.state c.tell_unloaded.new.world) (unloaded.Bad c.in-Err-Bad.fault c.in-Err-Bad.names) c.tell_unloaded.result c.tell_unloaded.ensures) c.tell_unloaded.ensures
 
 pub returns-in-Err-Unread : goal.returns-in-Err-Unread
 returns-in-Err-Unread g c =
     checks-refused (g.W.Machine.state c.args.world.now) (g.W.Machine.state c.check_file.new.world) (g.W.Machine.state c.tell_unloaded-in-Err-Unread.new.world) c.args.file.now (Unread c.in-Err-Unread.name) c.tell_unloaded-in-Err-Unread.result
-    c.in-Err-Unread.ensures.only (rw c.in-Err-Unread.field-0-is at c.in-Err-Unread.ensures.checks) (rw c.in-Err-Unread.field-0-is at c.in-Err-Unread.ensures.complete) (c.tell_unloaded-in-Err-Unread.ensures).says
+    c.in-Err-Unread.ensures.only (rw c.in-Err-Unread.field-0-is at c.in-Err-Unread.ensures.checks) (rw c.in-Err-Unread.field-0-is at c.in-Err-Unread.ensures.complete) (says-tells (g.W.Machine.state c.check_file.new.world) (g.W.Machine.state c.tell_unloaded-in-Err-Unread.new.world) (c.tell_unloaded-in-Err-Unread.ensures).says)
     c.tell_unloaded-in-Err-Unread.ensures

@@ -1,4 +1,4 @@
-use Rattle.std.proofs.Common.{◌≡◌, sym, subst}
+use Rattle.std.proofs.Common.{sym, subst}
 use Rattle.sg_top.specs.Tracing.{TracesCommand}
 use Rattle.sg_top.specs.declared.status.Status.{Status}
 use Rattle.sg_top.proofs.TraceLemmas.{traces-ok, traces-ended, traces-refused}
