@@ -20,7 +20,7 @@ use Rattle.sg_machine.specs.Effects.{next_of}
 use Rattle.sg_machine.specs.Marks.{mark_of}
 use Rattle.sg_machine.specs.Runs.{opened, after_all}
 use Rattle.sg_machine.proofs.RunLemmas.{after_all-append}
-use Rattle.sg_counter.specs.Exchanges.{Exchange, Makes, Caller, OfSource, OfDest, calls_by}
+use Rattle.sg_counter.specs.Exchanges.{Exchange, Caller, OfSource, OfDest, calls_by}
 use Rattle.sg_counter.specs.declared.answers.Refill.TheVariants.{Moved, NoneWaits, NoRoom, Broken as RefillBroken}
 use Rattle.sg_counter.specs.declared.answers.Settled.TheVariants.{Done, NotFront, DiskFailed}
 use Rattle.sg_counter.specs.declared.answers.Stored.TheVariants.{Wrote, Unchanged, Broken}
@@ -30,8 +30,7 @@ use Rattle.sg_counter.specs.declared.calls.CoreReply.{CoreReply}
 use Rattle.sg_counter.specs.declared.calls.CoreReply.TheVariants.{Admitted, Settled as SettledReply, Refilled, Stored as StoredReply}
 use Rattle.sg_standing.specs.Standing.{IsAt}
 use Rattle.sg_standing.specs.States.{CoreState}
-use Rattle.sg_core.specs.Calls.{Serves, acts_in, acts_of}
-use Rattle.sg_core.specs.Opening.{IsOpen}
+use Rattle.sg_core.specs.Calls.{acts_in, acts_of}
 use Rattle.sg_actor.specs.Bringing.{admitted_by, admitted_in}
 use Rattle.sg_actor.specs.Reading.{one_if}
 use Rattle.sg_actor.specs.Rendering.{frame_by}
@@ -68,7 +67,7 @@ use Rattle.sg_serve.specs.declared.plan.RunPlan.{RunPlan}
 use Rattle.sg_delivered.proofs.DestLemmas.{sendings-of}
 use Rattle.sg_delivered.proofs.PreludeLemmas.{get-back, still-rewinds}
 use Rattle.sg_delivered.proofs.SourceLemmas.{nothing-read}
-use Rattle.sg_bounded.specs.Bounds.{brought, recovered_in, offered_in, HaveCome, most_rounds, AreFew, IsFew, IsBounded, RunsAreBounded, UntroubledRunsEnd}
+use Rattle.sg_bounded.specs.Bounds.{brought, recovered_in, offered_in, recovered_at, offered_at, most_rounds, AreFew, IsFew, RunsAreBounded, UntroubledRunsEnd}
 use Rattle.sg_bounded.specs.Counts.{rise, changes, writes_in, offers_of}
 use Rattle.sg_bounded.proofs.ActLemmas.{unstored_at}
 use Rattle.sg_bounded.proofs.CallLemmas.{calls-end}
@@ -404,12 +403,6 @@ rounds-few {R} {I} {O} feed drain offers inlets dests files plan routers rounds 
     (subst (λ n. rounds ≤ sum_below (length runs.sources) (λ i. busy_of (account (OfSource i))) + sum_below n (λ d. busy_of (account (OfDest d)))) all_dests spends.busy) in
     are-few recovered (offered_in made) rounds reached (omega (arith, busy, sources, offered, drains, kept, whole, entries, acts))
 
--- what came in at a core
-came : (plan : RunPlan) (reached : Reached) (run : CoreRun) → reached.core ≡ Some run → (opens : IsOpen plan.setup reached.stores run.first) (made : List Exchange) → Makes Serves run.begun made run.last
-    → HaveCome plan reached reached.core (recovered_in plan reached run opens) (offered_in made)
-came plan reached run is opens made makes = subst (λ (core : Option CoreRun). HaveCome plan reached core (recovered_in plan reached run opens) (offered_in made)) (sym is)
-    (record { opens = opens; made = made; makes = makes; recovered_are = refl; offered_are = refl })
-
 served-few : {R I O : Type 0} (feed : I → InletState) (drain : O → OutletState) (offers : R → ℕ → Record → List Offer → Type 0) (inlets dests : R → ℕ) (files : Option Files) (plan : RunPlan) (routers : List R) (rounds : ℕ) (reached : Reached)
     (run : CoreRun) (ended : Ended) (counts : Option Counts) → IsRunnable plan → rounds < 2 ^ 64 → (holds : HoldsRun files plan reached run) → (served : IsServed feed drain offers inlets dests plan routers rounds reached run ended counts)
     → IsFew (recovered_in plan reached run (holds.core).opens) (offered_in ((served.runs).serves).0) rounds reached (Ran ended counts)
@@ -418,35 +411,22 @@ served-few feed drain offers inlets dests files plan routers rounds reached run 
     rounds-few feed drain offers inlets dests files plan routers rounds reached run counts runnable low holds served
 served-few feed drain offers inlets dests files plan routers rounds reached run NoMemory counts runnable low holds served = tt
 
-bounded-by : {R I O : Type 0} (feed : I → InletState) (drain : O → OutletState) (offers : R → ℕ → Record → List Offer → Type 0) (inlets dests : R → ℕ) (files : Option Files) (plan : RunPlan) (routers : List R) (rounds : ℕ) (reached : Reached)
-    (core : Option CoreRun) (ending : Ending) → reached.core ≡ core → IsRunnable plan → rounds < 2 ^ 64 → Holds feed drain offers inlets dests files plan routers rounds reached core ending → IsBounded plan rounds ending reached
-bounded-by feed drain offers inlets dests files plan routers rounds reached None (Before early) is runnable low h = record {
-  recovered = 0;
-  offered = 0;
-  came = subst (λ (core : Option CoreRun). HaveCome plan reached core 0 0) (sym is) (refl, refl);
-  few = tt;
-}
-bounded-by feed drain offers inlets dests files plan routers rounds reached None (Ran ended counts) is runnable low h = absurd h
-bounded-by feed drain offers inlets dests files plan routers rounds reached (Some run) (Before early) is runnable low (holds, stays) = record {
-  recovered = recovered_in plan reached run (holds.core).opens;
-  offered = 0;
-  came = came plan reached run is (holds.core).opens [] stays.core_stays;
-  few = tt;
-}
-bounded-by feed drain offers inlets dests files plan routers rounds reached (Some run) (Ran ended counts) is runnable low (holds, served) = record {
-  recovered = recovered_in plan reached run (holds.core).opens;
-  offered = offered_in ((served.runs).serves).0;
-  came = came plan reached run is (holds.core).opens ((served.runs).serves).0 ((((served.runs).serves.1.1.1).took).makes);
-  few = served-few feed drain offers inlets dests files plan routers rounds reached run ended counts runnable low holds served;
-}
+bounded-at : {R I O : Type 0} (feed : I → InletState) (drain : O → OutletState) (offers : R → ℕ → Record → List Offer → Type 0) (inlets dests : R → ℕ) (files : Option Files) (plan : RunPlan) (routers : List R) (rounds : ℕ) (reached : Reached)
+    (core : Option CoreRun) (ending : Ending) → IsRunnable plan → rounds < 2 ^ 64 → (holds : Holds feed drain offers inlets dests files plan routers rounds reached core ending)
+    → IsFew (recovered_at feed drain offers inlets dests files plan routers rounds reached core ending holds) (offered_at feed drain offers inlets dests files plan routers rounds reached core ending holds) rounds reached ending
+bounded-at feed drain offers inlets dests files plan routers rounds reached None (Before early) runnable low h = tt
+bounded-at feed drain offers inlets dests files plan routers rounds reached None (Ran ended counts) runnable low h = absurd h
+bounded-at feed drain offers inlets dests files plan routers rounds reached (Some run) (Before early) runnable low h = tt
+bounded-at feed drain offers inlets dests files plan routers rounds reached (Some run) (Ran ended counts) runnable low (holds, served) =
+    served-few feed drain offers inlets dests files plan routers rounds reached run ended counts runnable low holds served
 
 pub runs-bounded : {R I O : Type 0} (feed : I → InletState) (drain : O → OutletState) (offers : R → ℕ → Record → List Offer → Type 0) (inlets dests : R → ℕ) → RunsAreBounded feed drain offers inlets dests
 runs-bounded feed drain offers inlets dests old new plan routers rounds ending reached runnable low runs =
-    bounded-by feed drain offers inlets dests old.files plan routers rounds reached reached.core ending refl runnable low runs.holds
+    bounded-at feed drain offers inlets dests old.files plan routers rounds reached reached.core ending runnable low runs.holds
 
-pub untroubled-end : UntroubledRunsEnd
-untroubled-end plan rounds counts reached bounds untroubled =
-    let few = (bounds.few).below in
+pub untroubled-end : {R I O : Type 0} (feed : I → InletState) (drain : O → OutletState) (offers : R → ℕ → Record → List Offer → Type 0) (inlets dests : R → ℕ) → UntroubledRunsEnd feed drain offers inlets dests
+untroubled-end feed drain offers inlets dests old new plan routers rounds counts reached runnable low runs untroubled =
+    let few = (runs-bounded feed drain offers inlets dests old new plan routers rounds (Ran RoundsSpent counts) reached runnable low runs).below in
     let faults = untroubled.faults in
     let waits = untroubled.waits in
     omega (arith, few, faults, waits)

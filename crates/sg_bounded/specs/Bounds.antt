@@ -3,12 +3,11 @@
 use Rattle.std.specs.Prelude.{◌≡◌, ◌≤◌, ◌<◌, ℕ, ◌+◌, ◌-◌, ◌*◌, ◌^◌, not, Option, Some, None, List, length}
 use Rattle.sg_device.specs.Inlet.{InletState}
 use Rattle.sg_device.specs.Outlet.{OutletState}
-use Rattle.sg_outside.specs.World.{WorldState}
+use Rattle.sg_outside.specs.World.{WorldState, Files}
 use Rattle.sg_msg.specs.declared.offer.Offer.{Offer}
 use Rattle.sg_frame.specs.Records.{Record}
 use Rattle.sg_machine.specs.Runs.{opened}
-use Rattle.sg_counter.specs.Exchanges.{Exchange, Makes}
-use Rattle.sg_core.specs.Calls.{Serves}
+use Rattle.sg_counter.specs.Exchanges.{Exchange}
 use Rattle.sg_core.specs.Opening.{IsOpen}
 use Rattle.sg_actor.specs.Bringing.{admitted_in}
 use Rattle.sg_actor.specs.Reading.{one_if}
@@ -20,7 +19,7 @@ use Rattle.sg_turns.specs.Turns.{Turn, calls_of, TookTurns}
 use Rattle.sg_turns.specs.Serving.{busy_of}
 use Rattle.sg_turns.specs.declared.ended.Ended.TheVariants.{Quiet, RoundsSpent, NoMemory}
 use Rattle.sg_serve.specs.Plan.{IsRunnable}
-use Rattle.sg_serve.specs.Run.{CoreRun, Reached, RunsWith}
+use Rattle.sg_serve.specs.Run.{CoreRun, Reached, Holds, RunsWith}
 use Rattle.sg_serve.specs.declared.counts.Counts.{Counts}
 use Rattle.sg_serve.specs.declared.ending.Ending.{Ending}
 use Rattle.sg_serve.specs.declared.ending.Ending.TheVariants.{Before, Ran}
@@ -52,18 +51,29 @@ recovered_in plan reached run opens = left_in (opened plan.setup opens.opening).
 abbrev pub offered_in : List Exchange → ℕ
 offered_in made = offers_of (admitted_in made)
 
--- So many entries were recovered as the core was opened, and so many offers came in, by the calls that were made of it.
-pub record CameIn (plan : RunPlan) (reached : Reached) (run : CoreRun) (recovered offered : ℕ) : Type 0 where
-  pub opens : IsOpen plan.setup reached.stores run.first
-  pub made : List Exchange
-  pub makes : Makes Serves run.begun made run.last
-  pub recovered_are : recovered ≡ recovered_in plan reached run opens
-  pub offered_are : offered ≡ offered_in made
+-- So they are of a run, by its own calls: none were where no core was opened, and none came in before the rounds.
 
--- none did where no core was opened
-abbrev pub HaveCome : RunPlan → Reached → Option CoreRun → (recovered offered : ℕ) → Type 0
-HaveCome plan reached None recovered offered = (recovered ≡ 0) × (offered ≡ 0)
-HaveCome plan reached (Some run) recovered offered = CameIn plan reached run recovered offered
+abbrev pub recovered_at : {R I O : Type 0} (feed : I → InletState) (drain : O → OutletState) (offers : R → ℕ → Record → List Offer → Type 0) (inlets dests : R → ℕ) (files : Option Files) (plan : RunPlan) (routers : List R) (rounds : ℕ) (reached : Reached)
+    (core : Option CoreRun) (ending : Ending) → Holds feed drain offers inlets dests files plan routers rounds reached core ending → ℕ
+recovered_at feed drain offers inlets dests files plan routers rounds reached None ending holds = 0
+recovered_at feed drain offers inlets dests files plan routers rounds reached (Some run) (Before early) (holds, stays) = recovered_in plan reached run (holds.core).opens
+recovered_at feed drain offers inlets dests files plan routers rounds reached (Some run) (Ran ended counts) (holds, served) = recovered_in plan reached run (holds.core).opens
+
+abbrev pub offered_at : {R I O : Type 0} (feed : I → InletState) (drain : O → OutletState) (offers : R → ℕ → Record → List Offer → Type 0) (inlets dests : R → ℕ) (files : Option Files) (plan : RunPlan) (routers : List R) (rounds : ℕ) (reached : Reached)
+    (core : Option CoreRun) (ending : Ending) → Holds feed drain offers inlets dests files plan routers rounds reached core ending → ℕ
+offered_at feed drain offers inlets dests files plan routers rounds reached None ending holds = 0
+offered_at feed drain offers inlets dests files plan routers rounds reached (Some run) (Before early) holds = 0
+offered_at feed drain offers inlets dests files plan routers rounds reached (Some run) (Ran ended counts) (holds, served) = offered_in ((served.runs).serves).0
+
+abbrev pub recovered_by : {R I O : Type 0} {feed : I → InletState} {drain : O → OutletState} {offers : R → ℕ → Record → List Offer → Type 0} {inlets dests : R → ℕ} {old new : WorldState} {plan : RunPlan} {routers : List R} {rounds : ℕ} {ending : Ending}
+    {reached : Reached} → RunsWith feed drain offers inlets dests old new plan routers rounds ending reached → ℕ
+recovered_by {R} {I} {O} {feed} {drain} {offers} {inlets} {dests} {old} {new} {plan} {routers} {rounds} {ending} {reached} runs =
+    recovered_at feed drain offers inlets dests old.files plan routers rounds reached reached.core ending runs.holds
+
+abbrev pub offered_by : {R I O : Type 0} {feed : I → InletState} {drain : O → OutletState} {offers : R → ℕ → Record → List Offer → Type 0} {inlets dests : R → ℕ} {old new : WorldState} {plan : RunPlan} {routers : List R} {rounds : ℕ} {ending : Ending}
+    {reached : Reached} → RunsWith feed drain offers inlets dests old new plan routers rounds ending reached → ℕ
+offered_by {R} {I} {O} {feed} {drain} {offers} {inlets} {dests} {old} {new} {plan} {routers} {rounds} {ending} {reached} runs =
+    offered_at feed drain offers inlets dests old.files plan routers rounds reached reached.core ending runs.holds
 
 -- so many rounds at most
 abbrev pub most_rounds : (recovered offered : ℕ) → Reached → ℕ
@@ -96,17 +106,10 @@ IsFew recovered offered rounds reached (Ran Quiet counts) = Unit {0}
 IsFew recovered offered rounds reached (Ran RoundsSpent counts) = AreFew recovered offered rounds reached
 IsFew recovered offered rounds reached (Ran NoMemory counts) = Unit {0}
 
--- What a run took in, and that it spends no more rounds than this pays for.
-pub record IsBounded (plan : RunPlan) (rounds : ℕ) (ending : Ending) (reached : Reached) : Type 0 where
-  pub recovered : ℕ
-  pub offered : ℕ
-  pub came : HaveCome plan reached reached.core recovered offered
-  pub few : IsFew recovered offered rounds reached ending
-
 abbrev pub RunsAreBounded : {R I O : Type 0} → (I → InletState) → (O → OutletState) → (R → ℕ → Record → List Offer → Type 0) → (R → ℕ) → (R → ℕ) → Type 0
 RunsAreBounded {R} {I} {O} feed drain offers inlets dests =
     (old new : WorldState) (plan : RunPlan) (routers : List R) (rounds : ℕ) (ending : Ending) (reached : Reached) → IsRunnable plan → rounds < 2 ^ 64
-    → RunsWith feed drain offers inlets dests old new plan routers rounds ending reached → IsBounded plan rounds ending reached
+    → (runs : RunsWith feed drain offers inlets dests old new plan routers rounds ending reached) → IsFew (recovered_by runs) (offered_by runs) rounds reached ending
 
 -- no count of faults rose, no inlet was idle, and it was never too early to reopen an outlet
 pub record IsUntroubled (reached : Reached) : Type 0 where
@@ -114,7 +117,8 @@ pub record IsUntroubled (reached : Reached) : Type 0 where
   pub waits : waits_in reached ≡ 0
 
 -- An untroubled run that spent its rounds had fewer than so many: with as many or more it doesn't spend them.
-abbrev pub UntroubledRunsEnd : Type 0
-UntroubledRunsEnd =
-    (plan : RunPlan) (rounds : ℕ) (counts : Option Counts) (reached : Reached) (bounds : IsBounded plan rounds (Ran RoundsSpent counts) reached) → IsUntroubled reached
-    → rounds < 4 * given_rounds bounds.recovered bounds.offered reached
+abbrev pub UntroubledRunsEnd : {R I O : Type 0} → (I → InletState) → (O → OutletState) → (R → ℕ → Record → List Offer → Type 0) → (R → ℕ) → (R → ℕ) → Type 0
+UntroubledRunsEnd {R} {I} {O} feed drain offers inlets dests =
+    (old new : WorldState) (plan : RunPlan) (routers : List R) (rounds : ℕ) (counts : Option Counts) (reached : Reached) → IsRunnable plan → rounds < 2 ^ 64
+    → (runs : RunsWith feed drain offers inlets dests old new plan routers rounds (Ran RoundsSpent counts) reached) → IsUntroubled reached
+    → rounds < 4 * given_rounds (recovered_by runs) (offered_by runs) reached

@@ -28,6 +28,9 @@ pub fn runs_are_bounded<W: World, R: Router>(world: &W, router: &[R])
 
 /// A run without faults, idle inlets and outlets that can't be reopened yet ends before so many rounds are
 /// spent.
-pub fn untroubled_runs_end()
-    ensures { UntroubledRunsEnd }
-{}
+pub fn untroubled_runs_end<W: World, R: Router>(world: &W, router: &[R])
+    ensures { UntroubledRunsEnd W.Feed.state W.Drain.state R.offers R.inlets R.dests }
+{
+    let _world = world;
+    let _router = router;
+}

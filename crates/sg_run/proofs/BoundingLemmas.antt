@@ -22,11 +22,12 @@ use Rattle.sg_serve.specs.declared.ending.Ending.{Ending}
 use Rattle.sg_serve.specs.declared.ending.Ending.TheVariants.{Before, Ran}
 use Rattle.sg_serve.specs.declared.plan.RunPlan.{RunPlan}
 use Rattle.sg_turns.specs.declared.ended.Ended.TheVariants.{Quiet, RoundsSpent as Spent, NoMemory as Starved}
-use Rattle.sg_bounded.specs.Bounds.{given_rounds, IsBounded, UntroubledRunsEnd}
+use Rattle.sg_bounded.specs.Bounds.{given_rounds, IsFew}
 use Rattle.sg_bounded.proofs.RiseLemmas.{inlet-rose, outlet-rose}
 use Rattle.sg_run.specs.Bounding.{AreSpelled, GoesWell, Completes}
 use Rattle.sg_run.specs.Causes.{FailsThrice, RoseIn, FaultsAreDue, AreDue}
 use Rattle.sg_run.specs.Ends.{quiet_end, end_after, early_end}
+use Rattle.sg_run.specs.Meaning.{drivers_in, files_in}
 use Rattle.sg_run.specs.Outcomes.{EndsBy, Tells}
 use Rattle.sg_run.specs.declared.end.End.{End}
 use Rattle.sg_run.specs.declared.end.End.TheVariants.{Clean}
@@ -65,7 +66,7 @@ none-failed [] (s ∷ ss) inlets no_sink no_store no_inlet = absurd (no_store 0 
 none-failed [] [] (i ∷ is) no_sink no_store no_inlet = absurd (no_inlet 0 i refl)
 none-failed [] [] [] no_sink no_store no_inlet = refl
 
-module _ (old new : WorldState) (plan : RunPlan) (rounds : ℕ) (reached : Reached) (law : UntroubledRunsEnd) (well : GoesWell old new plan reached) where
+module _ (old new : WorldState) (plan : RunPlan) (recovered offered rounds : ℕ) (reached : Reached) (well : GoesWell old new plan reached) where
   -- the rounds began
   begins : (early : Early) (end : End) → HasCause old new plan reached early → early_end early ≡ Some end → ⊥
   begins (early.OpenFault (Store n)) end cause is = well.opens_stores cause.2
@@ -93,22 +94,25 @@ module _ (old new : WorldState) (plan : RunPlan) (rounds : ℕ) (reached : Reach
       let none = none-failed counts.sinks counts.stores counts.inlets (λ k d h. no-sink d (due.sinks k d h)) (λ k s h. well.stores s (due.stores k s h)) (λ k i h. no-inlet i (due.inlets k i h)) in
       sym (some-same (quiet_end (first_fault counts.sinks counts.stores counts.inlets)) end is) ∙ ap quiet_end none
 
-  clean-of : (ending : Ending) (drivers : List ℕ) (files : List Bool) (outcome : Outcome) → HasEnding old new plan reached ending → AreDue plan reached ending → (bounds : IsBounded plan rounds ending reached)
-      → 4 * given_rounds bounds.recovered bounds.offered reached ≤ rounds → EndsBy drivers files ending (Some outcome) → outcome.end ≡ Clean
-  clean-of (Before early) drivers files outcome cause due bounds enough ends = absurd (begins early outcome.end cause ends.0)
-  clean-of (Ran Quiet None) drivers files outcome cause due bounds enough ends = absurd ends
-  clean-of (Ran Quiet (Some counts)) drivers files outcome cause due bounds enough ends = quiet-clean counts outcome.end due ends.0
-  clean-of (Ran Spent counts) drivers files outcome cause due bounds enough ends =
-      let fewer = law plan rounds counts reached bounds well.untroubled in
-      absurd (let wrong : ⊥ = omega (arith, fewer, enough) in wrong)
-  clean-of (Ran Starved None) drivers files outcome cause due bounds enough ends = absurd ends
-  clean-of (Ran Starved (Some counts)) drivers files outcome cause due bounds enough ends = absurd (let wrong : None ≡ Some outcome.end = ends.0 in cc)
+  clean-of : (ending : Ending) (drivers : List ℕ) (files : List Bool) (outcome : Outcome) → HasEnding old new plan reached ending → AreDue plan reached ending → IsFew recovered offered rounds reached ending
+      → 4 * given_rounds recovered offered reached ≤ rounds → EndsBy drivers files ending (Some outcome) → outcome.end ≡ Clean
+  clean-of (Before early) drivers files outcome cause due few enough ends = absurd (begins early outcome.end cause ends.0)
+  clean-of (Ran Quiet None) drivers files outcome cause due few enough ends = absurd ends
+  clean-of (Ran Quiet (Some counts)) drivers files outcome cause due few enough ends = quiet-clean counts outcome.end due ends.0
+  clean-of (Ran Spent counts) drivers files outcome cause due few enough ends =
+      let below = few.below in
+      let faults = (well.untroubled).faults in
+      let waits = (well.untroubled).waits in
+      absurd (let wrong : ⊥ = omega (arith, below, faults, waits, enough) in wrong)
+  clean-of (Ran Starved None) drivers files outcome cause due few enough ends = absurd ends
+  clean-of (Ran Starved (Some counts)) drivers files outcome cause due few enough ends = absurd (let wrong : None ≡ Some outcome.end = ends.0 in cc)
 
 -- The end that is told is the clean one: before the rounds each refusal has its cause, the rounds of an untroubled run aren't spent, and
 -- behind a quiet one what is told to have failed has failed.
-pub completes-by : (old new : WorldState) (plan : RunPlan) (rounds : ℕ) (ending : Ending) (reached : Reached) (result : Result Outcome Unloaded) → UntroubledRunsEnd → HasEnding old new plan reached ending → AreDue plan reached ending
-    → (bounds : IsBounded plan rounds ending reached) → Tells plan ending result → Completes old new plan rounds ending reached bounds result
-completes-by old new plan rounds ending reached (Ok outcome) law cause due bounds tells well enough = clean-of old new plan rounds reached law well ending _ _ outcome cause due bounds enough tells
-completes-by old new plan rounds ending reached (Err (Bad fault names)) law cause due bounds tells well enough = absurd tells
-completes-by old new plan rounds ending reached (Err (Unread name)) law cause due bounds tells well enough = absurd tells
-completes-by old new plan rounds ending reached (Err NoMemory) law cause due bounds tells well enough = tt
+pub completes-by : (old new : WorldState) (plan : RunPlan) (recovered offered rounds : ℕ) (ending : Ending) (reached : Reached) (result : Result Outcome Unloaded) → HasEnding old new plan reached ending → AreDue plan reached ending
+    → IsFew recovered offered rounds reached ending → Tells plan ending result → Completes old new plan recovered offered rounds reached result
+completes-by old new plan recovered offered rounds ending reached (Ok outcome) cause due few tells well enough =
+    clean-of old new plan recovered offered rounds reached well ending (drivers_in plan.inlets.items) (files_in plan.setup.sources) outcome cause due few enough tells
+completes-by old new plan recovered offered rounds ending reached (Err (Bad fault names)) cause due few tells well enough = absurd tells
+completes-by old new plan recovered offered rounds ending reached (Err (Unread name)) cause due few tells well enough = absurd tells
+completes-by old new plan recovered offered rounds ending reached (Err NoMemory) cause due few tells well enough = tt

@@ -17,7 +17,7 @@ use Rattle.sg_delivered.specs.Headline.{RunsDeliver}
 use Rattle.sg_quiet.specs.Failing.{FailedStoresCount}
 use Rattle.sg_quiet.specs.Resting.{QuietRunsRest}
 use Rattle.sg_quiet.specs.Ending.{CleanRunsEnd}
-use Rattle.sg_bounded.specs.Bounds.{RunsAreBounded, UntroubledRunsEnd}
+use Rattle.sg_bounded.specs.Bounds.{recovered_by, offered_by, RunsAreBounded}
 use Rattle.sg_covered.specs.Runs.{PlanRunsCover}
 use Rattle.sg_covered.specs.Clean.{PlanRunsEndClean}
 use Rattle.sg_covered.specs.Rest.{PlanRunsRest}
@@ -42,9 +42,9 @@ tells-by config once ending lines outcome are ends =
 -- rounds are bounded, and what stays covered.
 pub runs-by : {I O : Type 0} (feed : I → InletState) (drain : O → OutletState) (loaded new : WorldState) (config : Config) (once : Bool) (rounds : ℕ) (routers : List Pipes) (ending : Ending) (result : Result Outcome Unloaded) → IsWithin config
     → AreDirect config.outlets.items → AreRouters config routers → RunsDeliver feed drain offers_by inlets_by dests_by → FailedStoresCount feed drain offers_by inlets_by dests_by → QuietRunsRest feed drain offers_by inlets_by dests_by
-    → CleanRunsEnd feed drain offers_by inlets_by dests_by → RunsAreBounded feed drain offers_by inlets_by dests_by → UntroubledRunsEnd → PlanRunsCover feed drain offers_by inlets_by dests_by → PlanRunsEndClean feed drain offers_by inlets_by dests_by → PlanRunsRest feed drain offers_by inlets_by dests_by → rounds < 2 ^ 64 → RunsPlan feed drain offers_by inlets_by dests_by loaded new (planned config once) routers rounds ending
+    → CleanRunsEnd feed drain offers_by inlets_by dests_by → RunsAreBounded feed drain offers_by inlets_by dests_by → PlanRunsCover feed drain offers_by inlets_by dests_by → PlanRunsEndClean feed drain offers_by inlets_by dests_by → PlanRunsRest feed drain offers_by inlets_by dests_by → rounds < 2 ^ 64 → RunsPlan feed drain offers_by inlets_by dests_by loaded new (planned config once) routers rounds ending
     → Tells (planned config once) ending result → RunsBy feed drain loaded new config once rounds result
-runs-by feed drain loaded new config once rounds routers ending result within direct are law failing quiet clean bounded untroubled cover covered_clean covered_rest low (reached, runs) tells =
+runs-by feed drain loaded new config once rounds routers ending result within direct are law failing quiet clean bounded cover covered_clean covered_rest low (reached, runs) tells =
     let plan = planned config once in
     let can = runnable config once within direct in
     let due = due-by feed drain offers_by inlets_by dests_by loaded new plan routers rounds reached can (used config once within) failing ending runs in
@@ -60,7 +60,7 @@ runs-by feed drain loaded new config once rounds routers ending result within di
       due = due;
       rests = rests-by feed drain offers_by inlets_by dests_by loaded new plan routers rounds reached can quiet clean ending runs;
       few = few;
-      completes = completes-by loaded new plan rounds ending reached result untroubled runs.ends due few tells;
+      completes = completes-by loaded new plan (recovered_by runs) (offered_by runs) rounds ending reached result runs.ends due few tells;
       covers = covers-by feed drain offers_by inlets_by dests_by loaded new plan routers rounds reached can cover covered_clean covered_rest ending runs;
     }
 

@@ -1,4 +1,4 @@
--- That a run ends clean in which nothing goes wrong.
+-- That a run in which all goes well ends clean.
 use Rattle.std.specs.Prelude.{◌≡◌, ◌≤◌, ℕ, ◌*◌, Some, List, slice_get, Result, Ok, Err}
 use Rattle.sg_device.specs.Disk.{DiskState, content}
 use Rattle.sg_device.specs.Faults.{Rose}
@@ -9,9 +9,8 @@ use Rattle.sg_machine.specs.declared.setup.DestSetup.{DestSetup}
 use Rattle.sg_stores.specs.Opening.{IsStore}
 use Rattle.sg_core.specs.Opening.{kind_of}
 use Rattle.sg_serve.specs.Run.{Reached, RoseAt}
-use Rattle.sg_serve.specs.declared.ending.Ending.{Ending}
 use Rattle.sg_serve.specs.declared.plan.RunPlan.{RunPlan}
-use Rattle.sg_bounded.specs.Bounds.{given_rounds, IsBounded, IsUntroubled}
+use Rattle.sg_bounded.specs.Bounds.{given_rounds, IsUntroubled}
 use Rattle.sg_run.specs.declared.end.End.TheVariants.{Clean}
 use Rattle.sg_run.specs.declared.end.Outcome.{Outcome}
 
@@ -36,6 +35,6 @@ EndsClean (Err (Bad fault names)) = ⊥
 EndsClean (Err (Unread name)) = ⊥
 EndsClean (Err NoMemory) = Unit {0}
 
--- With four rounds or more for each byte, part, inlet, offer and recovered entry, and for one more, a run in which all goes well ends clean.
-abbrev pub Completes : WorldState → WorldState → (plan : RunPlan) (rounds : ℕ) (ending : Ending) (reached : Reached) → IsBounded plan rounds ending reached → Result Outcome Unloaded → Type 0
-Completes old new plan rounds ending reached bounds result = GoesWell old new plan reached → 4 * given_rounds bounds.recovered bounds.offered reached ≤ rounds → EndsClean result
+-- With four rounds for each byte, part, inlet, offer and recovered entry, and four more, a run in which all goes well ends clean.
+abbrev pub Completes : WorldState → WorldState → RunPlan → (recovered offered rounds : ℕ) → Reached → Result Outcome Unloaded → Type 0
+Completes old new plan recovered offered rounds reached result = GoesWell old new plan reached → 4 * given_rounds recovered offered reached ≤ rounds → EndsClean result

@@ -15,7 +15,7 @@ use Rattle.sg_loaded.specs.declared.loaded.Unloaded.TheVariants.{Bad, Unread, No
 use Rattle.sg_serve.specs.Run.{Reached, RunsWith}
 use Rattle.sg_serve.specs.declared.ending.Ending.{Ending}
 use Rattle.sg_delivered.specs.Headline.{Delivers}
-use Rattle.sg_bounded.specs.Bounds.{IsBounded}
+use Rattle.sg_bounded.specs.Bounds.{recovered_by, offered_by, IsFew}
 use Rattle.sg_run.specs.Bounding.{Completes}
 use Rattle.sg_run.specs.Causes.{AreDue}
 use Rattle.sg_run.specs.Covering.{Covers}
@@ -49,10 +49,10 @@ pub record RunsBy {I O : Type 0} (feed : I → InletState) (drain : O → Outlet
   pub due : AreDue (planned config once) reached ending
   -- behind a quiet round nothing is left to do
   pub rests : RestsSo offers_by (planned config once) routers reached ending
-  -- where all rounds were run and the last one wasn't quiet, as `runs` says of such an end, what the run took in pays for so many
-  pub few : IsBounded (planned config once) rounds ending reached
+  -- where all rounds were run and the last one wasn't quiet, as `runs` says of such an end, what came in and failed pays for so many
+  pub few : IsFew (recovered_by runs) (offered_by runs) rounds reached ending
   -- a run in which all goes well, with rounds enough, ends clean
-  pub completes : Completes loaded new (planned config once) rounds ending reached few result
+  pub completes : Completes loaded new (planned config once) (recovered_by runs) (offered_by runs) rounds reached result
   -- no record of a file is lost between the stores as they were found and as they are left
   pub covers : Covers offers_by (planned config once) routers reached ending
 

@@ -10,7 +10,7 @@ ghost use Rattle.sg_run.specs.Run.{RunsBy, RunsConfig, RunsFile};
 use crate::end::Outcome;
 use crate::planning::{drivers_of, files_of, plan_of, routers_of};
 use crate::reporting::{Lines, outcome_of};
-use sg_bounded::{runs_are_bounded, untroubled_runs_end};
+use sg_bounded::runs_are_bounded;
 use sg_config::{Config, outlets_are_direct, texts_mean_one};
 use sg_covered::{plan_runs_cover, plan_runs_end_clean, plan_runs_rest};
 use sg_delivered::runs_deliver;
@@ -57,7 +57,6 @@ fn run_by<T: Wait, W: World>(
     quiet_runs_rest(world, routers.as_slice());
     clean_runs_end(world, routers.as_slice());
     runs_are_bounded(world, routers.as_slice());
-    untroubled_runs_end();
     plan_runs_cover(world, routers.as_slice());
     plan_runs_end_clean(world, routers.as_slice());
     plan_runs_rest(world, routers.as_slice());

@@ -2,4 +2,4 @@ use Rattle.sg_bounded.proofs.RunLemmas.{untroubled-end}
 use Rattle.sg_bounded.proofs.laws.untroubled_runs_end.Goals as goal
 
 pub returns : goal.returns
-returns c = untroubled-end
+returns g c = untroubled-end g.W.Feed.Inlet.state g.W.Drain.Outlet.state g.R.Router.offers g.R.Router.inlets g.R.Router.dests
