@@ -1,0 +1,9 @@
+//! Tests of runs whose actors take their turns at the same time, with devices in memory.
+#![tactic(auto)]
+
+#[cfg(test)]
+mod meeting;
+#[cfg(test)]
+mod router;
+#[cfg(test)]
+mod runs;

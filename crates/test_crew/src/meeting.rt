@@ -1,0 +1,393 @@
+// A source and a destination whose turns wait for each other.
+ghost use Rattle.std.specs.Prelude.{◌≡◌, ◌<◌, ◌++◌, ◌∷◌, [], IfOk, length};
+ghost use Rattle.sg_memory.specs.Inlet.{inlet_of};
+ghost use Rattle.sg_memory.specs.Outlet.{outlet_of};
+ghost use Rattle.sg_counter.specs.Bringing.{IsBatch};
+ghost use Rattle.sg_standing.specs.States.{setup_of};
+ghost use Rattle.sg_turns.specs.Actors.{IsSource, AreSources, IsDest, AreDests};
+ghost use Rattle.test_crew.specs.Runs.{meeting, two};
+
+use crate::router::{ByDigit, message};
+use sg_actor::{DestActor, SourceActor, SourceSpec};
+use sg_core::Core;
+use sg_crew::serve;
+use sg_device::{Frames, Inlet, InletFault, Outlet, OutletFault, Pull, Reopened, SendRefusal};
+use sg_engine::Served;
+use sg_frame::FrameKind;
+use sg_list::Seq;
+use sg_machine::{Admission, BufferSetup, DestSetup, Setup, SourceSetup};
+use sg_memory::{MemoryInlet, MemoryOutlet, OutletPlan, Pace};
+use sg_memory_disk::{MemoryDisk, Plan};
+use sg_msg::{Message, Offer};
+use sg_outfmt::Shape;
+use sg_template::{Env, Template};
+use sg_time::Stamp;
+use std::alloc::Global;
+use std::collections::VecDeque;
+use std::sync::Wait;
+use std::sync::atomic::{AtomicU64, Ordering};
+use std::test::Fail;
+use std::thread;
+use std::thread::Threads;
+use std::time::{Clock, Duration};
+
+// Which of both has come, and how many have seen the other one.
+#[derive(Drop)]
+struct Flags {
+    pulled: AtomicU64,
+    sent: AtomicU64,
+    seen: AtomicU64,
+}
+
+// Comes, and looks for the other one for ten seconds at most.
+fn meet<T: Clock>(rt: &T, mine: &AtomicU64, theirs: &AtomicU64, seen: &AtomicU64) {
+    mine.store(1, Ordering::SeqCst);
+    for _look in 0..10_000u64 {
+        if theirs.load(Ordering::SeqCst) == 1 {
+            seen.fetch_add(1, Ordering::SeqCst);
+            return;
+        }
+        thread::sleep(rt, Duration::from_millis(1));
+    }
+}
+
+// A file whose first pull meets a send.
+#[derive(Drop)]
+struct MeetingInlet<'a, T> {
+    rt: &'a T,
+    flags: &'a Flags,
+    met: bool,
+    inner: MemoryInlet,
+}
+
+impl<'a, T: Clock> Inlet for MeetingInlet<'a, T> {
+    ghost use Rattle.sg_memory.specs.Inlet.{inlet_of};
+
+    ghost state = { λ inlet. inlet_of inlet.inner };
+
+    fn pull(&mut self, into: &mut [u8]) -> Result<Pull, InletFault> {
+        if !self.met {
+            self.met = true;
+            meet(
+                self.rt,
+                &self.flags.pulled,
+                &self.flags.sent,
+                &self.flags.seen,
+            );
+        }
+        self.inner.pull(into)
+    }
+
+    fn peer(&self) -> &[u8] {
+        self.inner.peer()
+    }
+
+    fn hangup(&mut self) {
+        self.inner.hangup();
+    }
+}
+
+// A destination whose first send meets a pull.
+#[derive(Drop)]
+struct MeetingOutlet<'a, T> {
+    rt: &'a T,
+    flags: &'a Flags,
+    met: bool,
+    inner: MemoryOutlet,
+}
+
+impl<'a, T: Clock> Outlet for MeetingOutlet<'a, T> {
+    ghost use Rattle.sg_memory.specs.Outlet.{outlet_of};
+
+    ghost state = { λ outlet. outlet_of outlet.inner };
+
+    fn send(&mut self, frames: &Frames) -> Result<(), SendRefusal> {
+        if !self.met {
+            self.met = true;
+            meet(
+                self.rt,
+                &self.flags.sent,
+                &self.flags.pulled,
+                &self.flags.seen,
+            );
+        }
+        self.inner.send(frames)
+    }
+
+    fn taken(&self) -> u64 {
+        self.inner.taken()
+    }
+
+    fn reopen(&mut self) -> Result<Reopened, OutletFault> {
+        self.inner.reopen()
+    }
+}
+
+fn setup(alloc: Global) -> Result<Setup, Fail>
+    ensures { IfOk result (λ setup. setup ≡ meeting) }
+{
+    let mut sources = Seq::empty(alloc);
+    sources.push(SourceSetup {
+        window: 100,
+        store: Some(0),
+    })?;
+    let mut dests = Seq::empty(alloc);
+    dests.push(DestSetup {
+        fifo: 100,
+        buffer: Some(BufferSetup {
+            store: 1,
+            capacity: 1000,
+        }),
+    })?;
+    dests.push(DestSetup {
+        fifo: 100,
+        buffer: None,
+    })?;
+    Ok(Setup { sources, dests })
+}
+
+fn disks(alloc: Global) -> Result<Vec<MemoryDisk>, Fail> {
+    let mut disks = Vec::new(alloc);
+    disks.push(MemoryDisk::new(alloc, vec![in alloc; 0u8; 128]?)?)?;
+    disks.push(MemoryDisk::new(alloc, vec![in alloc; 0u8; 128]?)?)?;
+    Ok(disks)
+}
+
+fn open(alloc: Global, disks: Vec<MemoryDisk>) -> Result<Core<MemoryDisk>, Fail>
+    ensures setup { IfOk result (λ core. setup_of core ≡ meeting) }
+    ensures calls { IfOk result (λ core. core.calls ≡ 0) }
+{
+    let setup = setup(alloc)?;
+    if disks.len() != 2 {
+        return Err(Fail::new("disks"));
+    }
+    match Core::open(alloc, setup, disks) {
+        Ok(core) => Ok(core),
+        Err(_) => Err(Fail::new("core")),
+    }
+}
+
+fn entry(alloc: Global) -> Result<Vec<Admission>, Fail>
+    ensures { IfOk result (λ records. IsBatch meeting records.items) }
+{
+    let message = message(alloc, b"0")?;
+    let mut offers = Vec::new(alloc);
+    offers.push(Offer {
+        dest: 0,
+        message,
+        flow: true,
+    })?;
+    let mut records = Vec::new(alloc);
+    records.push(Admission {
+        end: 0,
+        offers: Seq::new(offers),
+    })?;
+    Ok(records)
+}
+
+// A core that finds an entry of the first destination in its store.
+fn recovered(alloc: Global) -> Result<Core<MemoryDisk>, Fail>
+    ensures setup { IfOk result (λ core. setup_of core ≡ meeting) }
+    ensures calls { IfOk result (λ core. core.calls ≡ 0) }
+{
+    let records = entry(alloc)?;
+    let mut core = open(alloc, disks(alloc)?)?;
+    let admitted = core.admit(alloc, 0, records).is_ok();
+    let disks = core.into_stores();
+    if !admitted {
+        return Err(Fail::new("admit"));
+    }
+    open(alloc, disks)
+}
+
+fn source<'a, T: Clock>(
+    rt: &'a T,
+    alloc: Global,
+    flags: &'a Flags,
+) -> Result<SourceActor<ByDigit, MeetingInlet<'a, T>>, Fail>
+    ensures { IfOk result (λ a. IsSource (λ inlet. inlet_of inlet.inner) two two meeting 0 a) }
+{
+    let pace = Pace { piece: 64, at: 0 };
+    let mut text = Vec::new(alloc);
+    text.extend_from_slice(b"0\n")?;
+    let inlet = MeetingInlet {
+        rt,
+        flags,
+        met: false,
+        inner: MemoryInlet::file(alloc, text, 0, pace, true, Plan::new(Vec::new(alloc)))?,
+    };
+    let spec = SourceSpec {
+        inlet: 0,
+        kind: FrameKind::Lines,
+        limit: 100,
+        fetch: 100,
+        from: 0,
+        stored: true,
+    };
+    match SourceActor::new(alloc, inlet, ByDigit { routed: 0 }, spec) {
+        Ok(source) => Ok(source),
+        Err(_) => Err(Fail::new("memory")),
+    }
+}
+
+fn dest<'a, T: Clock>(
+    rt: &'a T,
+    alloc: Global,
+    flags: &'a Flags,
+    dest: u32,
+) -> Result<DestActor<MeetingOutlet<'a, T>>, Fail>
+    ensures { IfOk result (λ a. IsDest (λ outlet. outlet_of outlet.inner) dest a) }
+{
+    let plan = OutletPlan {
+        fails: Plan::new(Vec::new(alloc)),
+        first: 0,
+        laters: Plan::new(Vec::new(alloc)),
+    };
+    let outlet = MeetingOutlet {
+        rt,
+        flags,
+        met: dest == 1,
+        inner: MemoryOutlet::new(alloc, plan),
+    };
+    let Ok(template) = Template::read(alloc, b"$MSG ") else {
+        return Err(Fail::new("template"));
+    };
+    let env = Env {
+        zone: None,
+        digits: 0,
+        iso: false,
+        old: None,
+    };
+    match DestActor::new(alloc, outlet, Shape::Text(template), env, dest, false) {
+        Ok(dest) => Ok(dest),
+        Err(_) => Err(Fail::new("memory")),
+    }
+}
+
+fn close<'a, T: Clock>(
+    served: Served<ByDigit, MeetingInlet<'a, T>, MeetingOutlet<'a, T>, MemoryDisk>,
+) {
+    let Served {
+        ended: _,
+        core,
+        sources,
+        dests,
+    } = served;
+    let _disks = core.into_stores();
+    close_sources(sources);
+    close_dests(dests);
+}
+
+fn close_sources<'a, T: Clock>(sources: Vec<SourceActor<ByDigit, MeetingInlet<'a, T>>>) {
+    let mut rest = VecDeque::from(sources);
+    while let Some(source) = rest.pop_front() {
+        let _inlet = source.into_inlet();
+    }
+    rest.destroy_empty();
+}
+
+fn close_dests<'a, T: Clock>(dests: Vec<DestActor<MeetingOutlet<'a, T>>>) {
+    let mut rest = VecDeque::from(dests);
+    while let Some(dest) = rest.pop_front() {
+        let _outlet = dest.into_outlet();
+    }
+    rest.destroy_empty();
+}
+
+fn with_source<'a, T: Clock>(
+    mut sources: Vec<SourceActor<ByDigit, MeetingInlet<'a, T>>>,
+    source: SourceActor<ByDigit, MeetingInlet<'a, T>>,
+) -> Result<Vec<SourceActor<ByDigit, MeetingInlet<'a, T>>>, Fail>
+    ensures { IfOk result (λ held. held.items ≡ sources.entry.items ++ source.entry ∷ []) }
+{
+    match sources.push(source) {
+        Ok(()) => Ok(sources),
+        Err(failed) => {
+            let _inlet = failed.value.into_inlet();
+            close_sources(sources);
+            Err(Fail::new("memory"))
+        }
+    }
+}
+
+fn sources<'a, T: Clock>(
+    rt: &'a T,
+    alloc: Global,
+    flags: &'a Flags,
+) -> Result<Vec<SourceActor<ByDigit, MeetingInlet<'a, T>>>, Fail>
+    ensures { IfOk result (λ held. AreSources (λ inlet. inlet_of inlet.inner) two two meeting held.items) }
+{
+    let first = source(rt, alloc, flags)?;
+    Ok(with_source(Vec::new(alloc), first)?)
+}
+
+fn with_dest<'a, T: Clock>(
+    mut dests: Vec<DestActor<MeetingOutlet<'a, T>>>,
+    dest: DestActor<MeetingOutlet<'a, T>>,
+) -> Result<Vec<DestActor<MeetingOutlet<'a, T>>>, Fail>
+    ensures { IfOk result (λ held. held.items ≡ dests.entry.items ++ dest.entry ∷ []) }
+{
+    match dests.push(dest) {
+        Ok(()) => Ok(dests),
+        Err(failed) => {
+            let _outlet = failed.value.into_outlet();
+            close_dests(dests);
+            Err(Fail::new("memory"))
+        }
+    }
+}
+
+fn dests<'a, T: Clock>(
+    rt: &'a T,
+    alloc: Global,
+    flags: &'a Flags,
+) -> Result<Vec<DestActor<MeetingOutlet<'a, T>>>, Fail>
+    ensures { IfOk result (λ held. AreDests (λ outlet. outlet_of outlet.inner) meeting held.items) }
+{
+    let first = dest(rt, alloc, flags, 0)?;
+    let dests = with_dest(Vec::new(alloc), first)?;
+    match dest(rt, alloc, flags, 1) {
+        Ok(second) => Ok(with_dest(dests, second)?),
+        Err(e) => {
+            close_dests(dests);
+            Err(e)
+        }
+    }
+}
+
+// How many of a pull and a send of one round have seen the other one.
+fn met<T: Threads + Wait + Sync + Clock>(
+    rt: &T,
+    alloc: Global,
+    flags: &Flags,
+) -> Result<u64, Fail> {
+    let sources = sources(rt, alloc, flags)?;
+    let dests = match dests(rt, alloc, flags) {
+        Ok(dests) => dests,
+        Err(e) => {
+            close_sources(sources);
+            return Err(e);
+        }
+    };
+    let core = match recovered(alloc) {
+        Ok(core) => core,
+        Err(e) => {
+            close_sources(sources);
+            close_dests(dests);
+            return Err(e);
+        }
+    };
+    close(serve(rt, alloc, core, sources, dests, 1));
+    Ok(flags.seen.load(Ordering::SeqCst))
+}
+
+#[test]
+fn actors_in_turn(rt: HostRuntime) -> Result<(), Fail> {
+    let flags = Flags {
+        pulled: AtomicU64::new(0),
+        sent: AtomicU64::new(0),
+        seen: AtomicU64::new(0),
+    };
+    assert!(rt; met(&rt, rt.alloc(), &flags)? == 2);
+    Ok(())
+}
