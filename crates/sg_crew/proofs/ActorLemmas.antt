@@ -1,5 +1,5 @@
 -- The turns of the actors of one kind in a round.
-use Rattle.std.proofs.Common.{arith, ◌≡◌, ◌≤◌, ◌<◌, ◌+◌, ℕ, Bool, true, false, List, [], ◌∷◌, length, map, refl, ap, sym, ◌∙◌, subst, slice_get, Some, None, Option}
+use Rattle.std.proofs.Common.{arith, ◌≡◌, ◌≤◌, ◌<◌, ℕ, true, false, List, length, map, refl, ap, sym, ◌∙◌, subst, slice_get, Some, None, Option}
 use Rattle.std.specs.Prelude.{not, is_some}
 use Rattle.sg_device.specs.Inlet.{InletState}
 use Rattle.sg_device.specs.Outlet.{OutletState}
@@ -8,7 +8,7 @@ use Rattle.sg_machine.specs.declared.setup.Setup.{Setup}
 use Rattle.sg_frame.specs.Records.{Record}
 use Rattle.sg_list.proofs.ListLemmas.{slice_get-some, slice_get-below, some-same}
 use Rattle.sg_booth.specs.Desks.{fresh_desk}
-use Rattle.sg_counter.specs.Exchanges.{Exchange, Caller}
+use Rattle.sg_counter.specs.Exchanges.{Caller}
 use Rattle.sg_actor.specs.Sources.{IsReady}
 use Rattle.sg_actor.specs.Outages.{HasFailures}
 use Rattle.sg_actor.specs.SourceTurns.{FitsSource}
@@ -19,8 +19,8 @@ use Rattle.sg_actor.specs.declared.settings.SourceSpec.{SourceSpec}
 use Rattle.sg_actor.specs.declared.turned.GivenUp.{GivenUp}
 use Rattle.sg_actor.specs.declared.turned.Turned.{Turned}
 use Rattle.sg_turns.specs.Turns.{Turn, DestState, SendsBy}
-use Rattle.sg_turns.specs.Actors.{source_seen, dest_seen, IsSource, AreSources, IsDest, AreDests, SourceTakes, DestTakes}
-use Rattle.sg_turns.specs.Serving.{is_busy, is_busy_answer}
+use Rattle.sg_turns.specs.Actors.{source_seen, dest_seen, IsSource, AreSources, AreDests, SourceTakes, DestTakes}
+use Rattle.sg_turns.specs.Serving.{is_busy_answer}
 use Rattle.sg_turns.specs.Rounds.{TellsRound}
 use Rattle.sg_turns.proofs.PartLemmas.{no-turn}
 use Rattle.sg_hub.specs.Seats.{HubState, SeatState}

@@ -1,9 +1,9 @@
 -- Lists, and changes of their items.
-use Rattle.std.proofs.Common.{arith, ◌≡◌, ◌≤◌, ◌<◌, ◌+◌, ℕ, zero, suc, Bool, true, false, List, [], ◌∷◌, ◌++◌, length, map, set, take, get_or, refl, ap, sym, ◌∙◌, subst, slice_get, Some, None, Option, ◌⊎◌, inl, inr}
+use Rattle.std.proofs.Common.{arith, ◌≡◌, ◌≤◌, ◌<◌, ◌+◌, ℕ, zero, suc, Bool, true, false, List, [], ◌∷◌, ◌++◌, length, map, set, take, get_or, refl, ap, sym, ◌∙◌, subst, slice_get, Some, None, ◌⊎◌, inl, inr}
 use Rattle.std.proofs.lemmas.Bool.{cases_eq, or_cases, or_parts}
 use Rattle.std.proofs.lemmas.Option.{slice_get-get_or}
 use Rattle.std.specs.Prelude.{◌||◌}
-use Rattle.sg_list.proofs.ListLemmas.{change-set, length-change, get-change-same, get-change-other, slice_get-some, slice_get-below, slice_get-map, some-same}
+use Rattle.sg_list.proofs.ListLemmas.{change-set, length-change, get-change-same, get-change-other, slice_get-below, some-same}
 use Rattle.sg_list.specs.Lists.{change}
 use Rattle.sg_crew.specs.Crews.{any, AllChanged}
 

@@ -1,10 +1,10 @@
 -- Which calls of a history stand at the places of a list.
-use Rattle.std.proofs.Common.{arith, ◌≡◌, ◌≤◌, ◌<◌, ◌+◌, ℕ, zero, suc, Bool, true, false, List, [], ◌∷◌, ◌++◌, length, map, refl, ap, sym, ◌∙◌, subst, slice_get, Some, None, Option, inl, inr}
+use Rattle.std.proofs.Common.{arith, ◌≡◌, ◌≤◌, ◌<◌, ◌+◌, ℕ, suc, Bool, true, false, List, [], ◌∷◌, ◌++◌, length, map, refl, ap, sym, ◌∙◌, subst, slice_get, Some, None, Option, inl, inr}
 use Rattle.std.proofs.lemmas.Bool.{cases_eq, eq-eqb, ne_eqb, cond-true, cond-false}
-use Rattle.std.specs.Prelude.{filter, if◌then◌else◌, ◌==◌}
+use Rattle.std.specs.Prelude.{filter, if◌then◌else◌}
 use Rattle.std.specs.Option.{option_to_list}
-use Rattle.sg_booth.specs.Lists.{times, joined_up, Rises, AllRise, StartsWith, entries_at}
-use Rattle.sg_booth.proofs.Sums.{times-append, rises_to}
+use Rattle.sg_booth.specs.Lists.{times, joined_up, Rises, AllRise, entries_at}
+use Rattle.sg_booth.proofs.Sums.{times-append}
 
 -- Places in a list.
 

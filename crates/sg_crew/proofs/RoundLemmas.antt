@@ -1,22 +1,21 @@
 -- A round of all actors.
-use Rattle.std.proofs.Common.{arith, ◌≡◌, ◌≤◌, ◌<◌, ◌+◌, ℕ, Bool, true, false, List, [], ◌∷◌, ◌++◌, length, map, refl, ap, sym, ◌∙◌, subst, slice_get, Some, None, Option, inl, inr}
+use Rattle.std.proofs.Common.{arith, ◌≡◌, ◌<◌, ◌+◌, ℕ, Bool, false, List, [], ◌∷◌, ◌++◌, length, map, refl, sym, ◌∙◌, subst, slice_get, Some, Option, inl, inr}
 use Rattle.std.proofs.lemmas.Bool.{or_cases, or_parts}
-use Rattle.std.proofs.lemmas.List.{map-append}
 use Rattle.std.specs.Prelude.{not, is_some, ◌||◌, ◌*◌}
 use Rattle.sg_booth.specs.Desks.{AreOrdered, fresh_desk, places}
-use Rattle.sg_counter.specs.Exchanges.{Exchange, Makes, Caller, OfSource, OfDest, calls_by}
+use Rattle.sg_counter.specs.Exchanges.{Exchange, Makes, Caller, OfSource, OfDest}
 use Rattle.sg_counter.specs.declared.calls.CoreCall.{CoreCall}
 use Rattle.sg_counter.specs.declared.calls.CoreReply.{CoreReply}
 use Rattle.sg_actor.specs.declared.turned.Turned.{Turned}
 use Rattle.sg_turns.specs.Turns.{Turn, any_step}
 use Rattle.sg_turns.specs.Serving.{IsActor, is_busy, is_busy_answer, Took, ServesWith}
-use Rattle.sg_turns.specs.Rounds.{both, TellsRound, TookRoundWith}
+use Rattle.sg_turns.specs.Rounds.{both, TellsRound}
 use Rattle.sg_turns.specs.declared.ended.Ended.{Ended}
 use Rattle.sg_turns.specs.declared.round.Round.{Round}
 use Rattle.sg_turns.proofs.RoundLemmas.{turn-of}
 use Rattle.sg_hub.specs.Histories.{Called, exchanges_of}
 use Rattle.sg_hub.specs.Seats.{HubState, SeatState}
-use Rattle.sg_crew.specs.Crews.{any, AllSeen, HasGathered, HasRoundWith}
+use Rattle.sg_crew.specs.Crews.{any, HasGathered, HasRoundWith}
 use Rattle.sg_crew.proofs.ListLemmas.{length-map}
 use Rattle.sg_crew.proofs.SeatLemmas.{seen-before, calls-are, no-others, turns-stay}
 use Rattle.sg_crew.proofs.ActorLemmas.{KindTook, spent-at, took-at, tells-kind}

@@ -1,18 +1,18 @@
 -- Rounds of a run, one behind the other.
-use Rattle.std.proofs.Common.{arith, ◌≡◌, ◌≤◌, ◌<◌, ◌+◌, ℕ, Bool, true, false, List, [], ◌∷◌, ◌++◌, length, map, refl, ap, sym, ◌∙◌, subst, length-append}
+use Rattle.std.proofs.Common.{arith, ◌≡◌, ◌≤◌, ◌<◌, ◌+◌, ℕ, Bool, true, false, List, [], ◌∷◌, ◌++◌, length, ap, sym, ◌∙◌, subst, length-append}
 use Rattle.std.proofs.lemmas.List.{append-nil, map-append}
-use Rattle.sg_booth.specs.Lists.{times, joined_up, StartsWith}
+use Rattle.sg_booth.specs.Lists.{times, joined_up}
 use Rattle.sg_booth.specs.Rule.{Makes as MakesAll}
-use Rattle.sg_booth.specs.Desks.{IsDeskOf, AreOrdered, first_desk, places, HasClosed}
+use Rattle.sg_booth.specs.Desks.{AreOrdered, places, HasClosed}
 use Rattle.sg_booth.proofs.Sums.{times-append}
-use Rattle.sg_counter.specs.Exchanges.{Exchange, Makes, Caller}
+use Rattle.sg_counter.specs.Exchanges.{Caller}
 use Rattle.sg_counter.specs.declared.calls.CoreCall.{CoreCall}
 use Rattle.sg_counter.specs.declared.calls.CoreReply.{CoreReply}
 use Rattle.sg_standing.specs.States.{CoreState, setup_of}
 use Rattle.sg_core.specs.Calls.{Serves as CoreServes}
 use Rattle.sg_turns.specs.Turns.{Turn, any_step}
 use Rattle.sg_turns.specs.Serving.{Serves, ServesWith}
-use Rattle.sg_turns.specs.Rounds.{TookRoundWith, RunsOn}
+use Rattle.sg_turns.specs.Rounds.{RunsOn}
 use Rattle.sg_turns.specs.declared.ended.Ended.{Ended}
 use Rattle.sg_turns.specs.declared.ended.Ended.TheVariants.{Quiet, RoundsSpent, NoMemory}
 use Rattle.sg_turns.specs.declared.round.Round.{Round}
@@ -20,7 +20,7 @@ use Rattle.sg_turns.proofs.RoundLemmas.{more as and-turns, took-nothing, runs-ro
 use Rattle.sg_hub.specs.Histories.{Called, exchange_of, exchanges_of}
 use Rattle.sg_hub.specs.Seats.{HubState, SeatState}
 use Rattle.sg_hub.proofs.Tellings.{made-of, setups-stay}
-use Rattle.sg_crew.specs.Crews.{AllSeen, HasRoundWith, HasRound, HasServed}
+use Rattle.sg_crew.specs.Crews.{AllSeen, HasRound, HasServed}
 use Rattle.sg_crew.proofs.PlaceLemmas.{times-high, all-high}
 use Rattle.sg_crew.proofs.RoundLemmas.{serves-with}
 

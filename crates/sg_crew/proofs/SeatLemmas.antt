@@ -1,9 +1,9 @@
 -- Seats of a round, and the first seat, into which they are joined.
-use Rattle.std.proofs.Common.{arith, ◌≡◌, ◌≤◌, ◌<◌, ◌+◌, ◌-◌, ℕ, zero, suc, List, [], ◌∷◌, ◌++◌, length, map, refl, ap, sym, ◌∙◌, subst, slice_get, Some, inl, inr, append_assoc, length-append}
+use Rattle.std.proofs.Common.{arith, ◌≡◌, ◌≤◌, ◌<◌, ◌+◌, ◌-◌, ℕ, suc, List, [], ◌∷◌, ◌++◌, length, map, refl, ap, sym, ◌∙◌, subst, slice_get, Some, inl, inr, append_assoc, length-append}
 use Rattle.std.proofs.lemmas.List.{append-nil, map-append}
 use Rattle.std.specs.Prelude.{◌*◌}
 use Rattle.sg_list.proofs.ListLemmas.{slice_get-some, slice_get-below, slice_get-map, some-same}
-use Rattle.sg_booth.specs.Lists.{total, times, joined_up, Rises, AllRise, StartsWith, entries_at}
+use Rattle.sg_booth.specs.Lists.{total, times, joined_up, Rises, StartsWith, entries_at}
 use Rattle.sg_booth.specs.Desks.{IsDeskOf, AreOrdered, fresh_desk, HasJoined, places}
 use Rattle.sg_booth.proofs.Sums.{times-append, joined_up-append, rises_to}
 use Rattle.sg_booth.proofs.Calls.{entries-more}
@@ -16,7 +16,7 @@ use Rattle.sg_hub.specs.Seats.{HubState, SeatState, SeatStep}
 use Rattle.sg_hub.proofs.Seated.{goes-on}
 use Rattle.sg_crew.specs.Crews.{AllSeen, HasGathered}
 use Rattle.sg_crew.proofs.ListLemmas.{get-push, unmapped}
-use Rattle.sg_crew.proofs.PlaceLemmas.{Each, times-high, all-high, all-low}
+use Rattle.sg_crew.proofs.PlaceLemmas.{times-high, all-high, all-low}
 use Rattle.sg_crew.proofs.CallerLemmas.{IsOwner, ByCaller, calls-at}
 
 -- The places of a seat's calls lie behind what it had seen.

@@ -1,10 +1,8 @@
 -- The steps of a round: seats are dealt, turns are taken, and the seats are gathered.
-use Rattle.std.proofs.Common.{arith, ◌≡◌, ◌≤◌, ◌<◌, ◌+◌, ◌-◌, ℕ, Bool, List, [], ◌++◌, length, map, refl, ap, sym, ◌∙◌, subst, slice_get, Some}
-use Rattle.std.specs.Prelude.{◌*◌}
+use Rattle.std.proofs.Common.{arith, ◌≡◌, ◌≤◌, ℕ, Bool, List, ap, sym, ◌∙◌, subst, slice_get, Some}
 use Rattle.sg_device.specs.Inlet.{InletState}
 use Rattle.sg_device.specs.Outlet.{OutletState}
 use Rattle.sg_msg.specs.declared.offer.Offer.{Offer}
-use Rattle.sg_machine.specs.declared.setup.Setup.{Setup}
 use Rattle.sg_frame.specs.Records.{Record}
 use Rattle.sg_list.proofs.ListLemmas.{slice_get-some, slice_get-below, slice_get-map}
 use Rattle.sg_booth.specs.Desks.{IsDeskOf, fresh_desk}
@@ -13,7 +11,7 @@ use Rattle.sg_counter.specs.Exchanges.{Caller, OfSource, OfDest}
 use Rattle.sg_actor.specs.declared.dest.DestActor.{DestActor}
 use Rattle.sg_actor.specs.declared.source.SourceActor.{SourceActor}
 use Rattle.sg_turns.specs.Turns.{Turn}
-use Rattle.sg_turns.specs.Actors.{IsSource, AreSources, IsDest, AreDests, SourceTakes, DestTakes}
+use Rattle.sg_turns.specs.Actors.{AreSources, AreDests, SourceTakes, DestTakes}
 use Rattle.sg_hub.specs.Histories.{Called}
 use Rattle.sg_hub.specs.Seats.{HubState, SeatState}
 use Rattle.sg_crew.specs.Crews.{AllChanged, Every, HasRoundWith}

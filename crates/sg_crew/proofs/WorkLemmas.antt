@@ -1,10 +1,10 @@
 -- A turn at a seat that is lent.
-use Rattle.std.proofs.Common.{arith, ◌≡◌, ◌≤◌, ℕ, List, length, refl, ap, sym, ◌∙◌, subst, Option, Bor}
+use Rattle.std.proofs.Common.{◌≡◌, ◌≤◌, ℕ, List, length, Option, Bor}
 use Rattle.std.specs.Prelude.{Result}
 use Rattle.sg_device.specs.Outlet.{OutletState}
 use Rattle.sg_msg.specs.declared.offer.Offer.{Offer}
 use Rattle.sg_frame.specs.Records.{Record}
-use Rattle.sg_counter.specs.Exchanges.{Exchange, Makes, Caller, OfSource, OfDest}
+use Rattle.sg_counter.specs.Exchanges.{Makes, Caller, OfSource, OfDest}
 use Rattle.sg_counter.specs.declared.calls.CoreCall.{CoreCall}
 use Rattle.sg_counter.specs.declared.calls.CoreReply.{CoreReply}
 use Rattle.sg_actor.specs.Bringing.{AllBy}
@@ -16,10 +16,9 @@ use Rattle.sg_actor.specs.declared.settings.SourceSpec.{SourceSpec}
 use Rattle.sg_actor.specs.declared.turned.Turned.{Turned}
 use Rattle.sg_turns.specs.Turns.{Turn, answer_of, SourceTurns, dest_state, DestTurns}
 use Rattle.sg_turns.proofs.TurnLemmas.{TurnIs, source-turn, dest-turn}
-use Rattle.sg_hub.specs.Seats.{HubState, SeatState, SeatStep}
+use Rattle.sg_hub.specs.Seats.{HubState, SeatStep}
 use Rattle.sg_hub.specs.declared.seat.HubSeat.{HubSeat}
 use Rattle.sg_hub.proofs.Seated.{same-seat}
-use Rattle.sg_crew.specs.Crews.{WorkedWith}
 use Rattle.sg_crew.proofs.ActorLemmas.{dest-few}
 
 -- a call at a seat that is lent

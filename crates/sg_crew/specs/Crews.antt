@@ -1,5 +1,5 @@
 -- Actors at seats of a hub, all of which are split off the first seat for a round and joined into it behind it.
-use Rattle.std.specs.Prelude.{◌≡◌, ◌≤◌, ◌<◌, ◌+◌, ◌||◌, ℕ, Bool, true, false, Option, Some, List, [], ◌∷◌, ◌++◌, map, length, slice_get}
+use Rattle.std.specs.Prelude.{◌≡◌, ◌≤◌, ◌<◌, ◌+◌, ◌||◌, ℕ, Bool, false, Option, Some, List, [], ◌∷◌, ◌++◌, map, length, slice_get}
 use Rattle.sg_booth.specs.Lists.{total, times, StartsWith}
 use Rattle.sg_booth.specs.Desks.{places}
 use Rattle.sg_counter.specs.Exchanges.{Makes, Caller}
@@ -9,7 +9,6 @@ use Rattle.sg_turns.specs.Turns.{Turn, any_step}
 use Rattle.sg_turns.specs.Serving.{ServesWith}
 use Rattle.sg_turns.specs.Rounds.{TookRoundWith}
 use Rattle.sg_turns.specs.declared.ended.Ended.{Ended}
-use Rattle.sg_turns.specs.declared.round.Round.{Round}
 use Rattle.sg_hub.specs.Histories.{Called, exchanges_of}
 use Rattle.sg_hub.specs.Seats.{HubState, SeatState, SeatStep}
 

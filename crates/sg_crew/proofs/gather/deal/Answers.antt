@@ -1,6 +1,6 @@
-use Rattle.std.proofs.Common.{arith, ◌≡◌, ◌≤◌, ◌<◌, ◌+◌, ◌-◌, ℕ, length, refl, sym, ap, ◌∙◌, subst}
+use Rattle.std.proofs.Common.{arith, ◌≡◌, ◌<◌, ◌-◌, length, sym, ap, ◌∙◌}
 use Rattle.std.specs.Prelude.{◌*◌}
-use Rattle.sg_booth.specs.Desks.{IsDeskOf, fresh_desk}
+use Rattle.sg_booth.specs.Desks.{fresh_desk}
 use Rattle.sg_hub.specs.Seats.{SeatState}
 use Rattle.sg_crew.specs.Workers.{IsDealt}
 use Rattle.sg_crew.proofs.ListLemmas.{changed-none, changed-more, changed-all}

@@ -1,6 +1,5 @@
-use Rattle.std.proofs.Common.{arith, ◌≡◌, ◌≤◌, ◌<◌, ◌+◌, ℕ, [], ◌∷◌, ◌++◌, length, map, take, refl, sym, ap, ◌∙◌, subst}
+use Rattle.std.proofs.Common.{arith, ◌≡◌, ◌<◌, length, take, refl, sym, ap, ◌∙◌, subst}
 use Rattle.std.specs.Prelude.{not, is_some, ◌||◌}
-use Rattle.sg_booth.specs.Desks.{IsDeskOf}
 use Rattle.sg_turns.specs.Serving.{is_busy_answer}
 use Rattle.sg_crew.specs.Crews.{any, HasGathered}
 use Rattle.sg_crew.specs.Workers.{seat_of, turn_of, seats_of, turns_of, HasStayed}

@@ -1,4 +1,4 @@
-use Rattle.std.proofs.Common.{arith, ◌≡◌, ◌<◌, ℕ, [], length, get_or, ap, sym, ◌∙◌, subst}
+use Rattle.std.proofs.Common.{arith, ◌<◌, length, get_or, ap, sym, subst}
 use Rattle.sg_crew.specs.Crews.{AllChanged}
 use Rattle.sg_crew.specs.Workers.{MayRead, MaySend, HasRead, HasSent}
 use Rattle.sg_crew.specs.Lanes.{MayTake, HasTaken}

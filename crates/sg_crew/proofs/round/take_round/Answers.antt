@@ -1,5 +1,5 @@
-use Rattle.std.proofs.Common.{arith, ◌≡◌, ◌≤◌, ◌<◌, ◌+◌, ◌-◌, ℕ, ◌++◌, length, refl, ap, sym, ◌∙◌, subst, append_assoc}
-use Rattle.std.specs.Prelude.{◌*◌, ◌||◌, not, is_some}
+use Rattle.std.proofs.Common.{arith, ◌≡◌, ◌++◌, refl, ap, sym, ◌∙◌, subst, append_assoc}
+use Rattle.std.specs.Prelude.{◌||◌, not, is_some}
 use Rattle.sg_booth.specs.Desks.{IsDeskOf, fresh_desk}
 use Rattle.sg_counter.specs.Exchanges.{OfSource, OfDest}
 use Rattle.sg_turns.specs.Actors.{SourceTakes, DestTakes}

@@ -1,11 +1,10 @@
-use Rattle.std.proofs.Common.{arith, [], ◌≡◌, ◌≤◌, ◌<◌, ◌+◌, length, refl, sym, ap, ◌∙◌, subst}
-use Rattle.sg_booth.specs.Desks.{IsDeskOf, AreOrdered, first_desk, places}
+use Rattle.std.proofs.Common.{arith, ◌≡◌, ◌+◌, length, refl, sym, ap, ◌∙◌, subst}
+use Rattle.sg_booth.specs.Desks.{IsDeskOf, AreOrdered, places}
 use Rattle.sg_turns.specs.Actors.{SourceTakes, DestTakes, SourceTook, DestTook}
 use Rattle.sg_turns.proofs.ActorLemmas.{source-none, source-more, dest-none, dest-more}
 use Rattle.sg_turns.proofs.RoundLemmas.{busy-is, calm-is}
 use Rattle.sg_hub.specs.Seats.{SeatState}
 use Rattle.sg_crew.specs.Workers.{actors_of}
-use Rattle.sg_crew.proofs.ListLemmas.{length-map}
 use Rattle.sg_crew.proofs.RunLemmas.{run-none, run-more, run-quiet, run-out, run-spent}
 use Rattle.sg_crew.proofs.rounds.run_rounds.Goals as goal
 

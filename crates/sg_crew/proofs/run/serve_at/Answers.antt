@@ -1,8 +1,7 @@
-use Rattle.std.proofs.Common.{arith, ◌≡◌, ◌≤◌, ◌<◌, length, refl, ap, sym, ◌∙◌, subst}
-use Rattle.sg_booth.specs.Desks.{IsDeskOf, first_desk}
+use Rattle.std.proofs.Common.{arith, length, refl, ap, sym, ◌∙◌, subst}
+use Rattle.sg_booth.specs.Desks.{IsDeskOf}
 use Rattle.sg_core.specs.Calls.{Serves as CoreServes}
 use Rattle.sg_turns.specs.Actors.{AreSources, AreDests, SourceTook, DestTook}
-use Rattle.sg_turns.specs.Serving.{Serves}
 use Rattle.sg_standing.specs.States.{setup_of}
 use Rattle.sg_hub.specs.Seats.{SeatState}
 use Rattle.sg_crew.specs.Workers.{actor_of, actors_of}

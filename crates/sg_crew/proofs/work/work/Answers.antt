@@ -1,4 +1,4 @@
-use Rattle.std.proofs.Common.{◌≡◌, drop, length, refl, sym, ap, ◌∙◌, subst}
+use Rattle.std.proofs.Common.{drop, length, sym, ◌∙◌, subst}
 use Rattle.sg_crew.specs.Crews.{AllChanged}
 use Rattle.sg_crew.specs.Workers.{HasRead, HasSent}
 use Rattle.sg_crew.proofs.ListLemmas.{all-changed, back-is}
