@@ -83,12 +83,15 @@ trace c s none;4;cannot open inlet 0~
 run bad;2;bad:1: version not supported~
 run none --once --rounds 3;3;cannot read none~
 spool none;4;cannot open store 0~
+drill 1000;0;source 0 records 1000 bad-frames 0 position 44310~destination 0 taken 500 dropped-full 0 dropped-disk 0 left 0~destination 1 taken 500 dropped-full 0 dropped-disk 0 left 0~status 0~
 --version;0;syslogr 0.1.0~
 --help;0;usage: syslogr check FILE | trace FILE SOURCE INPUT | run FILE [--once] [--rounds N] | spool FILE | drill N~
 run;1;usage: syslogr check FILE | trace FILE SOURCE INPUT | run FILE [--once] [--rounds N] | spool FILE | drill N~
 run c --rounds 0;1;usage: syslogr check FILE | trace FILE SOURCE INPUT | run FILE [--once] [--rounds N] | spool FILE | drill N~
 trace c s;1;usage: syslogr check FILE | trace FILE SOURCE INPUT | run FILE [--once] [--rounds N] | spool FILE | drill N~
 spool q q;1;usage: syslogr check FILE | trace FILE SOURCE INPUT | run FILE [--once] [--rounds N] | spool FILE | drill N~
+drill 0;1;usage: syslogr check FILE | trace FILE SOURCE INPUT | run FILE [--once] [--rounds N] | spool FILE | drill N~
+drill 100001;1;usage: syslogr check FILE | trace FILE SOURCE INPUT | run FILE [--once] [--rounds N] | spool FILE | drill N~
 ";
 
 /// What a run says that took the input in.
