@@ -212,6 +212,8 @@ expect 'a file that includes itself is checked' 2 'bad:2: includes nested too de
 expect 'a configuration that moves lines' 0 'c: ok\n' - check c
 expect 'a check of nothing' 1 "$usage" - check
 expect 'no rounds' 1 "$usage" - run c --rounds 0
+expect 'a drill' 0 'source 0 records 1000 bad-frames 0 position 44310\ndestination 0 taken 500 dropped-full 0 dropped-disk 0 left 0\ndestination 1 taken 500 dropped-full 0 dropped-disk 0 left 0\nstatus 0\n' - drill 1000
+expect 'a drill of nothing' 1 "$usage" - drill 0
 expect 'how it is used' 0 "$usage" - --help
 expect 'which version it is' 0 'syslogr 0.1.0\n' - --version
 expect 'no words' 1 "$usage" -
@@ -428,8 +430,7 @@ cat >peer.py <<'END'
 """peer.py port: a free port.
 peer.py send PORT FILE: opens a connection, and gives the file's bytes by it.
 peer.py take PORT LINES FILE: accepts one connection, takes so many lines, and closes. FILE.listens is there once it listens.
-peer.py give PORT COUNT LINES: opens so many connections, and gives so many lines by each.
-peer.py say PORT COUNT FILE: opens so many connections, and gives the file by the first."""
+peer.py give PORT COUNT LINES: opens so many connections, and gives so many lines by each."""
 import socket, sys, time
 def connected(port):
     while True:
@@ -461,13 +462,11 @@ elif sys.argv[1] == "take":
         peer.close()
         open(sys.argv[4], "wb").write(got)
 else:
-    peers = [connected(int(sys.argv[2])) for _ in range(int(sys.argv[3]))]
-    if sys.argv[1] == "say":
-        peers[0].sendall(open(sys.argv[4], "rb").read())
-    else:
-        for k in range(int(sys.argv[4])):
-            for n, peer in enumerate(peers):
-                peer.sendall(b"peer %d line %d\n" % (n, k))
+    count, lines = int(sys.argv[3]), int(sys.argv[4])
+    peers = [connected(int(sys.argv[2])) for _ in range(count)]
+    for k in range(lines):
+        for n, peer in enumerate(peers):
+            peer.sendall(b"peer %d line %d\n" % (n, k))
     for peer in peers:
         peer.close()
 END
@@ -541,7 +540,8 @@ if command -v python3 >/dev/null; then
     sed -e "s/5514/$port/" -e 's|/var/log/||' dist >here
     printf '<38>Feb  5 17:32:18 h1 sshd[811]: Accepted\n<11>Feb  5 17:32:19 h1 app: broken\n<15>Feb  5 17:32:20 h1 app: probe\n' >records
     rm -f out pos-*
-    timeout 60 python3 peer.py say "$port" 10 records &
+    timeout 60 python3 peer.py send "$port" records &
+    timeout 60 python3 peer.py give "$port" 9 0 &
     again 'a distribution file runs' 0 'source 0 records 3 bad-frames 0\ndestination 0 taken 1 dropped-full 0 dropped-disk 0 left 0\ndestination 1 taken 1 dropped-full 0 dropped-disk 0 left 0\ndestination 2 taken 1 dropped-full 0 dropped-disk 0 left 0\nstatus 0\n' - run here --once
     same 'its auth.log' 'Feb  5 17:32:18 127.0.0.1 sshd[811]: Accepted\n' auth.log
     same 'its syslog' 'Feb  5 17:32:19 127.0.0.1 app: broken\n' syslog
