@@ -91,8 +91,10 @@ printf '# x\n' >bad
 told='bad:1: version not supported\n   # x\n'
 expect 'a text without a version' 2 'bad:1: version not supported\n' - run bad --once
 printf '@version: 3.38\n' >bad
+told='bad:1:1: version not supported\n   @version: 3.38\n   ^\n'
 expect 'an older version' 2 'bad:1: version not supported\n' - run bad --once
 printf '@version: 4.2\n@include "conf.d/*.conf"\n' >bad
+told='bad:2:1: not supported\n   @include "conf.d/*.conf"\n   ^\n'
 expect 'an include of many files' 2 'bad:2: not supported\n' - run bad --once
 printf '@version: 4.2\n' >bad
 expect 'a configuration of no statements' 0 'status 0\n' - run bad --once
@@ -155,18 +157,27 @@ expect 'an unknown filter is traced' 2 'bad:3: unknown name\n' - trace bad s in
 printf '@version: 4.2\nfilter f { message("("); };\n' >bad
 told='bad:2:20: pattern not valid\n   filter f { message("("); };\n                      ^\n'
 expect 'a pattern that is none' 2 'bad:2: pattern not valid\n' - check bad
-# what `check` says of the first configuration, changed by sed
-while IFS='~' read -r change status text; do
+# hint FILE PLACE COLUMN: what is told of a fault that is said as FILE, PLACE, at this column of its line, or nothing; a printf format
+hint() {
+    line=${2#:} line=${line%%:*}
+    printf '%s:%s%s: %s\\n   ' "$1" "$line" "${3:+:$3}" "${2#*: }"
+    sed -n "${line}s/[\\\\%]/&&/g;${line}p" "$1" | tr -d '\n'
+    printf '\\n'
+    [ -z "$3" ] || printf '%*s^\\n' $((3 + $3 - 1)) ''
+}
+# what `check` says of the first configuration, changed by sed, and at which column of its line that is
+while IFS='~' read -r change status text column; do
     sed "$change" c >changed
+    [ "$status" = 0 ] || told=$(hint changed "$text" "$column")
     expect "changed by $change" "$status" "changed$text\n" - check changed
 done <<'END'
-4s/source(s)/source(x)/~2~:4: unknown name
+4s/source(s)/source(x)/~2~:4: unknown name~14
 4s/flow-control/drop-unmatched/~0~: ok
-2s/no-parse)/no-parse) log-iw-size(0)/~2~:2: value out of range
-3s/file(.*));/network("h");/~2~:3: option missing
-4s/;/; filter { match("a(" value("MESSAGE")); };/~2~:4: pattern not valid
-4s/;/; rewrite { set("1" value("PRI")); };/~2~:4: macro cannot be set
-$a filter f { filter(f); };~2~:5: filter refers to itself
+2s/no-parse)/no-parse) log-iw-size(0)/~2~:2: value out of range~50
+3s/file(.*));/network("h");/~2~:3: option missing~17
+4s/;/; filter { match("a(" value("MESSAGE")); };/~2~:4: pattern not valid~33
+4s/;/; rewrite { set("1" value("PRI")); };/~2~:4: macro cannot be set~28
+$a filter f { filter(f); };~2~:5: filter refers to itself~8
 2s/.*/block source local(path()) { file("`path`"); };\nsource s { local(path("in")); };/~0~: ok
 2s/.*/block source local(path()) { file("`path`"); };\nsource s { local(); };/~2~:3: argument missing
 END
