@@ -18,6 +18,8 @@ pub(crate) struct Round {
     pub(crate) busy: bool,
     /// A turn found no memory.
     pub(crate) starved: bool,
+    /// How many turns did something, or were idle.
+    pub(crate) active: u32,
 }
 
 // Takes note of what a turn came to.
@@ -29,10 +31,14 @@ fn note(round: Round, turn: Option<Turned>) -> Round
         Some(turned) => Round {
             busy: round.busy || (turned.did || turned.idle),
             starved: round.starved,
+            active: round
+                .active
+                .saturating_add(u32::from(turned.did || turned.idle)),
         },
         None => Round {
             busy: round.busy,
             starved: true,
+            active: round.active,
         },
     }
 }
@@ -45,6 +51,7 @@ pub(crate) fn both(read: Round, sent: Round) -> Round
     Round {
         busy: read.busy || sent.busy,
         starved: read.starved || sent.starved,
+        active: read.active.saturating_add(sent.active),
     }
 }
 
@@ -107,6 +114,7 @@ pub(crate) fn gather<A, D: Disk>(
     let mut round = Round {
         busy: false,
         starved: false,
+        active: 0,
     };
     for i in 0..workers.len() {
         let turn = gather_one(hub, first, &mut workers[i]);

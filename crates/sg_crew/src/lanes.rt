@@ -44,8 +44,16 @@ fn take_lanes<
     I: Inlet + Send,
     O: Outlet + Send,
     D: Disk + Send,
->(rt: &T, alloc: Global, hub: &Hub<D>, threads: usize, lanes: &mut [Lane<R, I, O, D>])
+>(
+    rt: &T,
+    alloc: Global,
+    hub: &Hub<D>,
+    threads: usize,
+    beside: usize,
+    lanes: &mut [Lane<R, I, O, D>],
+)
     requires threads { 0 < threads }
+    requires beside { 0 < beside }
     requires may { All (MayTake I.state R.inlets R.dests O.state hub.now) lanes.old }
     ensures all { length lanes.new ≡ length lanes.old }
     ensures taken { (i : ℕ) (d : _) → i < length lanes.old → HasTaken I.state R.offers R.inlets R.dests O.state hub.entry.now (slice_index_or lanes.old i d) (slice_index_or lanes.new i d) }
@@ -54,7 +62,7 @@ fn take_lanes<
         requires { IsSync T.row × IsSend R.row × IsSend I.row × IsSend O.row × IsSend D.row × (0 < threads) × MayTake I.state R.inlets R.dests O.state hub.now lane.now }
         ensures { HasTaken I.state R.offers R.inlets R.dests O.state hub.entry.now lane.entry.now lane.exit.now }
     { take_lane(rt, alloc, hub, threads, lane) };
-    for_each_mut(rt, lanes, 2, &take);
+    for_each_mut(rt, lanes, beside, &take);
 }
 
 // The two lanes.
@@ -65,7 +73,8 @@ fn parted<R, I, O, D: Disk>(lanes: [Lane<R, I, O, D>; 2]) -> (Lane<R, I, O, D>, 
     (first, second)
 }
 
-/// Each source and each destination takes a turn, at the same time.
+/// Each source and each destination takes a turn: sources beside destinations where that is 2, and each
+/// kind in so many threads.
 pub(crate) fn take_turns<
     T: Threads + Wait + Sync,
     R: Router + Send,
@@ -77,10 +86,12 @@ pub(crate) fn take_turns<
     alloc: Global,
     hub: &Hub<D>,
     threads: usize,
+    beside: usize,
     sources: &mut Vec<Worker<SourceActor<R, I>, D>>,
     dests: &mut Vec<Worker<DestActor<O>, D>>,
 )
     requires threads { 0 < threads }
+    requires beside { 0 < beside }
     requires read { All (MayRead I.state R.inlets R.dests hub.now) sources.old.items }
     requires send { All (MaySend O.state hub.now) dests.old.items }
     ensures read { AllChanged (HasRead I.state R.offers R.inlets R.dests hub.entry.now) sources.old.items sources.new.items }
@@ -96,7 +107,7 @@ pub(crate) fn take_turns<
             dests: mem::replace(dests, Vec::new(alloc)),
         },
     ];
-    take_lanes(rt, alloc, hub, threads, &mut lanes);
+    take_lanes(rt, alloc, hub, threads, beside, &mut lanes);
     let (first, second) = parted(lanes);
     let Lane {
         sources: readers,

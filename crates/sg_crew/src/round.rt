@@ -33,8 +33,10 @@ pub(crate) fn take_round<
     sources: &mut Vec<Worker<SourceActor<R, I>, D>>,
     dests: &mut Vec<Worker<DestActor<O>, D>>,
     threads: usize,
+    beside: usize,
 ) -> Round
     requires threads { 0 < threads }
+    requires beside { 0 < beside }
     requires first { IsDeskOf hub.now first.old }
     requires ordered { AreOrdered first.old }
     requires left { 4 * length sources.old.items + 4 * length dests.old.items < first.old.left }
@@ -52,7 +54,7 @@ pub(crate) fn take_round<
 {
     deal(hub, first, sources);
     deal(hub, first, dests);
-    take_turns(rt, alloc, hub, threads, sources, dests);
+    take_turns(rt, alloc, hub, threads, beside, sources, dests);
     let read = gather(hub, first, sources);
     let sent = gather(hub, first, dests);
     let _left = first.left();

@@ -6,6 +6,7 @@ ghost use Rattle.sg_turns.specs.Actors.{AreSources, AreDests, SourceTook, DestTo
 ghost use Rattle.sg_crew.specs.Workers.{actors_of};
 ghost use Rattle.sg_crew.specs.Crews.{HasServed};
 
+use crate::gather::Round;
 use crate::round::take_round;
 use crate::worker::Worker;
 use sg_actor::{DestActor, SourceActor};
@@ -16,6 +17,29 @@ use sg_turns::Ended;
 use std::alloc::Global;
 use std::sync::Wait;
 use std::thread::Threads;
+
+// In how many threads the turns of a round are taken: of each kind, and whether the kinds are beside each
+// other.
+#[derive(Clone, Copy, Drop)]
+struct Width {
+    threads: usize,
+    beside: usize,
+}
+
+// Where at most one actor has work, its turn is taken on this thread.
+fn width_after(round: Round, threads: usize) -> Width
+    requires { 0 < threads }
+    ensures { (0 < result.threads) × (0 < result.beside) }
+{
+    if round.active < 2 {
+        Width {
+            threads: 1,
+            beside: 1,
+        }
+    } else {
+        Width { threads, beside: 2 }
+    }
+}
 
 /// Runs so many rounds at most. The first quiet one is the last, and so is one in which a turn finds no
 /// memory.
@@ -53,14 +77,25 @@ pub(crate) fn run_rounds<
     ensures all_sources { length sources.new.items ≡ length sources.old.items }
     ensures all_dests { length dests.new.items ≡ length dests.old.items }
 {
+    let mut width = Width { threads, beside: 2 };
     for _round in 0..rounds {
-        let round = take_round(rt, alloc, hub, first, sources, dests, threads);
+        let round = take_round(
+            rt,
+            alloc,
+            hub,
+            first,
+            sources,
+            dests,
+            width.threads,
+            width.beside,
+        );
         if round.starved {
             return Ended::NoMemory;
         }
         if !round.busy {
             return Ended::Quiet;
         }
+        width = width_after(round, threads);
     }
     Ended::RoundsSpent
 }

@@ -17,6 +17,7 @@ loop-round-init g c =
     let is = c.requires.first in
     record {
       hub = refl;
+      width = (c.requires.threads, omega arith);
       first = subst (IsDeskOf c.args.hub.now) (sym is) (refl, refl);
       ordered = subst AreOrdered (sym is) (omega arith, tt);
       sum = subst (λ (s : SeatState). length (places s) + s.left ≡ c.args.hub.now.turns) (sym is) (omega arith);
@@ -50,6 +51,7 @@ loop-round-preserved g c =
     let k = e.took in
     record {
       hub = i.hub;
+      width = c.width_after-width.ensures;
       first = e.first;
       ordered = e.ordered;
       sum = e.sum ∙ i.sum;
