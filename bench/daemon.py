@@ -1,0 +1,411 @@
+#!/usr/bin/env python3
+"""Records a second and processor time a record of `syslogr run`, beside syslog-ng where it is installed.
+
+    bench/daemon.py [JOB..]      all jobs, or those whose names begin so
+        --mib N                  how much each job moves, by default 16 MiB
+        --length N               the bytes of a record, by default 200
+        --rounds N               how often, by default 5; the programs take turns, and the best of each is shown
+        --program PATH           another build of syslogr
+        --keep FOLDER            works there, and leaves what the last round wrote
+
+Both programs get the same statements. A record counts as moved once its destinations have it, or where its peer is
+away, its disk-buffer. syslogr is run with `--once`, and measured to its end; syslog-ng doesn't end at the end of
+its input, and is measured to the moment when the last record was there. Where both write the same bytes that is
+looked at; else each must have written the lines that it should.
+
+What a run of one record takes is taken off the times, so that the figures are those of the records alone; the table
+shows it as the start. The jobs that end short of their aim, in records a second, are marked, and the script then
+ends with status 1. Processor time tells more where the machine does other work too.
+"""
+import argparse
+import hashlib
+import os
+import shutil
+import signal
+import socket
+import subprocess
+import sys
+import tempfile
+import threading
+import time
+
+TOP = os.path.dirname(os.path.dirname(os.path.abspath(__file__)))
+PROGRAM = os.path.join(TOP, "crates", "sg_top", "out", "sg_top")
+PULLS = "log-fetch-limit(1000) log-iw-size(10000)"
+LIMIT = 120
+HOST = "127.0.0.1"
+
+OPTIONS = "options { keep-hostname(yes); use-dns(no); };\n"
+COPY = 'destination d { file("out" template("%s\\n")); };\nlog { source(s); destination(d); flags(flow-control); };\n'
+PLAIN = 'source s { file("in" flags(no-parse) %s follow-freq(1)); };\n' % PULLS
+PARSED = 'source s { file("in" %s follow-freq(1)); };\n' % PULLS
+TCP = 'source s { network(ip("127.0.0.1") port({port}) transport("tcp") max-connections(%d) %s); };\n'
+COUNTED = 'source s { syslog(ip("127.0.0.1") port({port}) transport("tcp") max-connections(1) %s); };\n' % PULLS
+PEER = (
+    'destination d { network("127.0.0.1" port({port}) transport("tcp") template("$MSG\\n")'
+    ' disk-buffer(reliable(yes) disk-buf-size(536870912) dir("."))); };\n'
+    "log { source(s); destination(d); flags(flow-control); };\n"
+)
+THREE = "".join(
+    [
+        "filter f_auth { facility(auth, authpriv); };\n",
+        "filter f_error { level(err .. emerg); };\n",
+        'filter f_late { program("app") and message("timed out"); };\n',
+        *('destination d_%s { file("%s"); };\n' % (name, name) for name in ("auth", "error", "late")),
+        *("log { source(s); filter(f_%s); destination(d_%s); flags(flow-control); };\n" % (name, name) for name in ("auth", "error", "late")),
+    ]
+)
+
+
+def filled(record, length):
+    return record + b"x" * (length - 1 - len(record)) + b"\n"
+
+
+def plain(k, length):
+    return filled(b"record %d " % k, length)
+
+
+def bsd(k, length):
+    return filled(b"<34>Oct 11 22:14:15 mymachine su[7]: record %d " % k, length)
+
+
+def mixed(k, length):
+    """Of each eight records two are of auth, two are errors, and in two the program app says that something timed out."""
+    pri = (34, 14, 86, 11, 14, 22, 14, 30)[k % 8]
+    program = b"app" if k % 4 == 1 else b"other"
+    event = b"timed out" if k % 2 else b"went on"
+    return filled(b"<%d>Oct 11 22:14:15 mymachine %s[%d]: record %d %s " % (pri, program, k % 1000, k, event), length)
+
+
+def counted(k, length):
+    record = filled(
+        b"<165>1 2003-10-11T22:14:15.003Z mymachine evntslog 8710 ID47 "
+        b'[exampleSDID@32473 iut="3" eventSource="Application" eventID="1011"] record %d ' % k,
+        length - 4,
+    )
+    return b"%d %s" % (len(record), record)
+
+
+def of_all(count):
+    return {"out": count}
+
+
+def of_mixed(count):
+    """How many lines each destination gets of so many records."""
+    kinds = {"auth": (0, 2), "error": (0, 3), "late": (1, 5)}
+    return {name: sum(count // 8 + (k < count % 8) for k in places) for name, places in kinds.items()}
+
+
+class Job:
+    """`wanted` is how many times syslog-ng's rate the job is to reach."""
+
+    def __init__(self, name, wanted, make, text, lines=of_all, connections=0, peer=None):
+        self.name, self.wanted, self.make, self.text, self.lines = name, wanted, make, text, lines
+        self.connections, self.peer = connections, peer
+
+
+JOBS = [
+    Job("plain file", 2, plain, PLAIN + COPY % "$MSG"),
+    Job("parsed file", 2, bsd, PARSED + COPY % "$DATE $HOST $MSGHDR$MSG"),
+    Job("filters", 1, mixed, PARSED + THREE, of_mixed),
+    Job("tcp 1", 1, bsd, TCP % (1, PULLS) + COPY % "$DATE $HOST $MSGHDR$MSG", connections=1),
+    Job("tcp 8", 1, bsd, TCP % (8, PULLS) + COPY % "$DATE $HOST $MSGHDR$MSG", connections=8),
+    Job("counted 5424", 1, counted, COUNTED + COPY % "<$PRI>1 $ISODATE $HOST $PROGRAM $PID $MSGID ${.SDATA.exampleSDID@32473.eventID} $MSG", connections=1),
+    Job("buffer, peer up", 1, plain, PLAIN + PEER, peer="up"),
+    Job("buffer, peer away", 1, plain, PLAIN + PEER, peer="away"),
+]
+
+
+class Feeder:
+    """Sends texts, each by a connection of its own, to a server that may still be starting."""
+
+    def __init__(self, port, texts):
+        self.threads = [threading.Thread(target=self.feed, args=(port, text), daemon=True) for text in texts]
+        for thread in self.threads:
+            thread.start()
+
+    def feed(self, port, text):
+        end = time.monotonic() + 30
+        while time.monotonic() < end:
+            try:
+                with socket.create_connection((HOST, port)) as to:
+                    to.sendall(text)
+                return
+            except ConnectionRefusedError:
+                time.sleep(0.002)
+
+
+class Sink:
+    """A peer that takes what comes."""
+
+    def __init__(self):
+        self.pieces, self.lines = [], 0
+        self.listener = socket.create_server((HOST, 0))
+        self.port = self.listener.getsockname()[1]
+        threading.Thread(target=self.accept, daemon=True).start()
+
+    def accept(self):
+        while True:
+            try:
+                connection, _ = self.listener.accept()
+            except OSError:
+                return
+            threading.Thread(target=self.take, args=(connection,), daemon=True).start()
+
+    def take(self, connection):
+        with connection:
+            while piece := connection.recv(1 << 18):
+                self.pieces.append(piece)
+                self.lines += piece.count(b"\n")
+
+    def count(self):
+        return self.lines
+
+    def close(self):
+        self.listener.close()
+
+
+class Files:
+    """Counts the lines of files that grow."""
+
+    def __init__(self, paths):
+        self.at = {path: 0 for path in paths}
+        self.lines = 0
+
+    def count(self):
+        for path, at in self.at.items():
+            if os.path.exists(path) and os.path.getsize(path) > at:
+                with open(path, "rb") as file:
+                    file.seek(at)
+                    more = file.read()
+                self.at[path] += len(more)
+                self.lines += more.count(b"\n")
+        return self.lines
+
+
+class Queue:
+    """How many messages wait in syslog-ng's disk-buffer, as its control socket says."""
+
+    def __init__(self, control):
+        self.control = control
+
+    def count(self):
+        said = b""
+        try:
+            with socket.socket(socket.AF_UNIX) as ask:
+                ask.connect(self.control)
+                ask.sendall(b"STATS\n")
+                while not said.endswith(b"\n.\n") and (piece := ask.recv(65536)):
+                    said += piece
+        except OSError:
+            return 0
+        return sum(int(line.rsplit(b";", 1)[1]) for line in said.split(b"\n") if line.startswith(b"dst.") and b";queued;" in line)
+
+
+def read(path):
+    """What stands in a file, nothing where it isn't there."""
+    if not os.path.exists(path):
+        return b""
+    with open(path, "rb") as file:
+        return file.read()
+
+
+def free_port():
+    with socket.socket() as probe:
+        probe.bind((HOST, 0))
+        return probe.getsockname()[1]
+
+
+def processor_seconds(process):
+    """What a process that runs has taken, all its threads together (clock_getcpuclockid)."""
+    return time.clock_gettime((~process << 3) | 2)
+
+
+class Run:
+    """One run of one program for a job, in a folder of its own."""
+
+    def __init__(self, job, folder, texts, count):
+        self.job, self.folder, self.texts, self.count = job, folder, texts, count
+        shutil.rmtree(folder, ignore_errors=True)
+        os.makedirs(folder)
+        self.sink = Sink() if job.peer == "up" else None
+        self.port = self.sink.port if self.sink else free_port()
+        if not job.connections:
+            with open(self.path("in"), "wb") as file:
+                file.write(b"".join(texts))
+        self.outputs = {} if job.peer else job.lines(count)
+
+    def path(self, name):
+        return os.path.join(self.folder, name)
+
+    def configure(self, version):
+        with open(self.path("conf"), "w") as conf:
+            conf.write("@version: %s\n" % version + OPTIONS + self.job.text.replace("{port}", str(self.port)))
+
+    def feed(self):
+        if self.job.connections:
+            Feeder(self.port, self.texts)
+
+    def start(self, words):
+        log = open(self.path("said"), "wb")
+        environment = dict(os.environ, TZ="UTC")
+        return subprocess.Popen(words, cwd=self.folder, stdout=log, stderr=subprocess.STDOUT, env=environment)
+
+    def fail(self, why):
+        raise SystemExit("%s: %s\n%s" % (self.job.name, why, read(self.path("said"))[-2000:].decode(errors="replace")))
+
+    def syslogr(self, program):
+        self.configure("4.2")
+        start = time.monotonic()
+        child = self.start([program, "run", "conf", "--once"])
+        self.feed()
+        timer = threading.Timer(LIMIT, child.kill)
+        timer.start()
+        _, status, used = os.wait4(child.pid, 0)
+        took = time.monotonic() - start
+        timer.cancel()
+        child.returncode = os.waitstatus_to_exitcode(status)
+        if child.returncode != (6 if self.job.peer == "away" else 0):
+            self.fail("syslogr ended with %d" % child.returncode)
+        if self.job.peer == "away":
+            store = next(name for name in os.listdir(self.folder) if name.startswith("queue-"))
+            said = subprocess.run([program, "spool", store], cwd=self.folder, stdout=subprocess.PIPE).stdout
+            if not said.endswith(b"entries %d\n" % self.count):
+                self.fail("syslogr's disk-buffer hasn't all")
+        return took, used.ru_utime + used.ru_stime
+
+    def syslog_ng(self):
+        self.configure("current")
+        state = [self.path(name) for name in ("ng.persist", "ng.ctl", "ng.pid")]
+        words = ["syslog-ng", "-F", "--no-caps", "-f", "conf", "-R", state[0], "-c", state[1], "-p", state[2]]
+        meter = self.sink or (Queue(state[1]) if self.job.peer else Files([self.path(name) for name in self.outputs]))
+        whole = self.count if self.job.peer else sum(self.outputs.values())
+        start = time.monotonic()
+        child = self.start(words)
+        try:
+            self.feed()
+            while meter.count() < whole:
+                if time.monotonic() - start > LIMIT or child.poll() is not None:
+                    self.fail("syslog-ng has delivered %d of %d" % (meter.count(), whole))
+                time.sleep(0.005)
+            return time.monotonic() - start, processor_seconds(child.pid)
+        finally:
+            if child.poll() is None:
+                child.send_signal(signal.SIGTERM)
+                child.wait()
+
+    def delivered(self):
+        """What was written, each as its number of lines, its sum, and the sum of its lines in order."""
+        texts = {}
+        if self.sink:
+            texts["peer"] = b"".join(self.sink.pieces)
+        for name in self.outputs:
+            texts[name] = read(self.path(name))
+        found = {}
+        for name, text in texts.items():
+            lines = text.split(b"\n")
+            found[name] = (len(lines) - 1, hashlib.sha256(text).digest(), hashlib.sha256(b"\n".join(sorted(lines))).digest())
+        return found
+
+    def check(self):
+        wanted = {"peer": self.count} if self.sink else self.outputs
+        found = self.delivered()
+        for name, lines in wanted.items():
+            if found[name][0] != lines:
+                self.fail("%s has %d lines in the place of %d" % (name, found[name][0], lines))
+        return found
+
+    def close(self):
+        if self.sink:
+            self.sink.close()
+
+
+def texts_of(job, count, length):
+    """What each connection sends; of a file one text."""
+    texts = [[] for _ in range(max(job.connections, 1))]
+    for k in range(count):
+        texts[k % len(texts)].append(job.make(k, length))
+    return [b"".join(text) for text in texts]
+
+
+def same(mine, theirs):
+    """How the outputs of the two compare."""
+    if mine == theirs:
+        return "same bytes"
+    if all(mine[name][2] == theirs[name][2] for name in mine):
+        return "same lines"
+    return "as many lines"
+
+
+class Figures:
+    """Times of one program for one job, of all records and of the fewest."""
+
+    def __init__(self):
+        self.all, self.few = [], []
+
+    def told(self, count, fewest):
+        """Records a second, microseconds of the processor a record, and the start's milliseconds, of the clock and of the processor."""
+        wall, used = (min(times) for times in zip(*self.all))
+        wall_few, used_few = (min(times) for times in zip(*self.few))
+        more = count - fewest
+        return more / max(wall - wall_few, 1e-6), (used - used_few) / more * 1e6, wall_few * 1e3, used_few * 1e3
+
+
+def measured(job, options, folder):
+    count = options.mib * 1048576 // options.length
+    fewest = max(job.connections, 1)
+    texts = {n: texts_of(job, n, options.length) for n in (count, fewest)}
+    mine, theirs = Figures(), Figures()
+    compared = "not compared"
+    for _ in range(options.rounds):
+        for n in (fewest, count):
+            found = []
+            for which, figures in (("syslogr", mine), ("syslog-ng", theirs)):
+                if not shutil.which(options.program if which == "syslogr" else which):
+                    continue
+                run = Run(job, os.path.join(folder, which), texts[n], n)
+                took = run.syslogr(options.program) if which == "syslogr" else run.syslog_ng()
+                found.append(run.check())
+                run.close()
+                (figures.all if n == count else figures.few).append(took)
+            if n == count and len(found) == 2:
+                compared = same(*found) if found[0] else "in the buffer"
+    return [figures.told(count, fewest) if figures.all else None for figures in (mine, theirs)], compared
+
+
+def shown(figures):
+    return "%9.0f %7.2f %5.0f %5.0f" % figures if figures else "%9s %7s %5s %5s" % ("-", "-", "-", "-")
+
+
+def main():
+    parser = argparse.ArgumentParser(description="syslogr beside syslog-ng")
+    parser.add_argument("jobs", nargs="*")
+    parser.add_argument("--mib", type=int, default=16)
+    parser.add_argument("--length", type=int, default=200)
+    parser.add_argument("--rounds", type=int, default=5)
+    parser.add_argument("--program", default=PROGRAM)
+    parser.add_argument("--keep")
+    options = parser.parse_args()
+    if options.program == PROGRAM and not os.path.exists(PROGRAM):
+        subprocess.run([os.path.join(TOP, "syslogr")], check=False, stdout=subprocess.DEVNULL)
+    chosen = [job for job in JOBS if not options.jobs or any(job.name.startswith(word) for word in options.jobs)]
+    good = True
+    with tempfile.TemporaryDirectory(prefix="syslogr-bench-") as temporary:
+        folder = options.keep or temporary
+        print("%d MiB of records of %d bytes; starts in milliseconds" % (options.mib, options.length))
+        print("%-17s | %-29s | %-29s | %-22s |" % ("", "syslogr", "syslog-ng", "syslogr / syslog-ng"))
+        head = "%9s %7s %5s %5s" % ("records/s", "µs each", "start", "of it")
+        print("%-17s | %s | %s | %7s %7s %6s | %s" % ("job", head, head, "rate", "µs each", "aim", "outputs"))
+        for job in chosen:
+            (mine, theirs), compared = measured(job, options, folder)
+            ratios = "%7s %7s %6s" % ("-", "-", job.wanted)
+            if mine and theirs:
+                short = mine[0] < job.wanted * theirs[0]
+                good = good and not short
+                ratios = "%7.2f %7.2f %6s" % (mine[0] / theirs[0], mine[1] / theirs[1], ("%d !" if short else "%d  ") % job.wanted)
+            print("%-17s | %s | %s | %s | %s" % (job.name, shown(mine), shown(theirs), ratios, compared), flush=True)
+    return 0 if good else 1
+
+
+if __name__ == "__main__":
+    sys.exit(main())
