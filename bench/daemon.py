@@ -9,9 +9,9 @@
         --keep FOLDER            works there, and leaves what the last round wrote
 
 Both programs get the same statements. A record counts as moved once its destinations have it, or where its peer is
-away, its disk-buffer. syslogr is run with `--once`, and measured to its end; syslog-ng doesn't end at the end of
-its input, and is measured to the moment when the last record was there. Where both write the same bytes that is
-looked at; else each must have written the lines that it should.
+away, its disk-buffer. syslogr is run with `--once`, and measured to its end; syslog-ng doesn't end at the end of its
+input, and is measured to the moment when the last record was there. Each must have written the lines that it should,
+and the last column tells how the outputs compare.
 
 What a run of one record takes is taken off the times, so that the figures are those of the records alone; the table
 shows it as the start. The jobs that end short of their aim, in records a second, are marked, and the script then
@@ -262,8 +262,10 @@ class Run:
         timer = threading.Timer(LIMIT, child.kill)
         timer.start()
         _, status, used = os.wait4(child.pid, 0)
-        took = time.monotonic() - start
         timer.cancel()
+        while self.sink and self.sink.count() < self.count and time.monotonic() - start < LIMIT:
+            time.sleep(0.002)
+        took = time.monotonic() - start
         child.returncode = os.waitstatus_to_exitcode(status)
         if child.returncode != (6 if self.job.peer == "away" else 0):
             self.fail("syslogr ended with %d" % child.returncode)
