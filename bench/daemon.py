@@ -13,9 +13,11 @@ away, its disk-buffer. syslogr is run with `--once`, and measured to its end; sy
 input, and is measured to the moment when the last record was there. Each must have written the lines that it should,
 and the last column tells how the outputs compare.
 
+syslogr syncs its stores, and syslog-ng none of its files: where gcc is installed, its rate without syncs is shown too.
 What a run of one record takes is taken off the times, so that the figures are those of the records alone; the table
-shows it as the start. The jobs that end short of their aim, in records a second, are marked, and the script then
-ends with status 1. Processor time tells more where the machine does other work too.
+shows it as the start. It stays in where it is more than half of the whole. The jobs that end short of their aim, in
+records a second, are marked, and the script then ends with status 1. Processor time tells more where the machine
+does other work too.
 """
 import argparse
 import hashlib
@@ -246,18 +248,18 @@ class Run:
         if self.job.connections:
             Feeder(self.port, self.texts)
 
-    def start(self, words):
+    def start(self, words, preload=None):
         log = open(self.path("said"), "wb")
-        environment = dict(os.environ, TZ="UTC")
+        environment = dict(os.environ, TZ="UTC", **({"LD_PRELOAD": preload} if preload else {}))
         return subprocess.Popen(words, cwd=self.folder, stdout=log, stderr=subprocess.STDOUT, env=environment)
 
     def fail(self, why):
         raise SystemExit("%s: %s\n%s" % (self.job.name, why, read(self.path("said"))[-2000:].decode(errors="replace")))
 
-    def syslogr(self, program):
+    def syslogr(self, program, preload=None):
         self.configure("4.2")
         start = time.monotonic()
-        child = self.start([program, "run", "conf", "--once"])
+        child = self.start([program, "run", "conf", "--once"], preload)
         self.feed()
         timer = threading.Timer(LIMIT, child.kill)
         timer.start()
@@ -350,33 +352,58 @@ class Figures:
         wall, used = (min(times) for times in zip(*self.all))
         wall_few, used_few = (min(times) for times in zip(*self.few))
         more = count - fewest
-        return more / max(wall - wall_few, 1e-6), (used - used_few) / more * 1e6, wall_few * 1e3, used_few * 1e3
+        net = wall - wall_few if wall_few < wall / 2 else wall
+        return more / net, (used - used_few) / more * 1e6, wall_few * 1e3, used_few * 1e3
 
 
-def measured(job, options, folder):
+def measured(job, options, preload, folder):
     count = options.mib * 1048576 // options.length
     fewest = max(job.connections, 1)
     texts = {n: texts_of(job, n, options.length) for n in (count, fewest)}
-    mine, theirs = Figures(), Figures()
+    mine, unsynced, theirs = Figures(), Figures(), Figures()
+    ways = []
+    if shutil.which(options.program):
+        ways.append(("syslogr", mine, lambda run: run.syslogr(options.program)))
+        if preload:
+            ways.append(("unsynced", unsynced, lambda run: run.syslogr(options.program, preload)))
+    if shutil.which("syslog-ng"):
+        ways.append(("syslog-ng", theirs, Run.syslog_ng))
     compared = "not compared"
     for _ in range(options.rounds):
         for n in (fewest, count):
-            found = []
-            for which, figures in (("syslogr", mine), ("syslog-ng", theirs)):
-                if not shutil.which(options.program if which == "syslogr" else which):
-                    continue
+            found = {}
+            for which, figures, go in ways:
                 run = Run(job, os.path.join(folder, which), texts[n], n)
-                took = run.syslogr(options.program) if which == "syslogr" else run.syslog_ng()
-                found.append(run.check())
+                took = go(run)
+                found[which] = run.check()
                 run.close()
                 (figures.all if n == count else figures.few).append(took)
-            if n == count and len(found) == 2:
-                compared = same(*found) if found[0] else "in the buffer"
-    return [figures.told(count, fewest) if figures.all else None for figures in (mine, theirs)], compared
+            if n == count and "syslogr" in found and "syslog-ng" in found:
+                compared = same(found["syslogr"], found["syslog-ng"]) if found["syslogr"] else "in the buffer"
+    return [figures.told(count, fewest) if figures.all else None for figures in (mine, unsynced, theirs)], compared
 
 
 def shown(figures):
     return "%9.0f %7.2f %5.0f %5.0f" % figures if figures else "%9s %7s %5s %5s" % ("-", "-", "-", "-")
+
+
+def without_syncs(folder):
+    """A library with which a program's syncs do nothing."""
+    if not shutil.which("gcc"):
+        return None
+    library = os.path.join(folder, "nosync.so")
+    subprocess.run(["gcc", "-O2", "-shared", "-fPIC", "-o", library, os.path.join(TOP, "bench", "nosync.c")], check=True)
+    return library
+
+
+def tell(job, mine, unsynced, theirs, compared):
+    """Prints a job's row. Whether it reaches its aim, or wasn't compared."""
+    reached = not (mine and theirs) or mine[0] >= job.wanted * theirs[0]
+    ratios = ["%.2f" % (figures[0] / theirs[0]) if figures and theirs else "-" for figures in (mine, unsynced)]
+    used = "%.2f" % (mine[1] / theirs[1]) if mine and theirs else "-"
+    aim = "%d %s" % (job.wanted, " " if reached else "!")
+    print("%-17s | %s | %s | %7s %8s %7s %5s | %s" % (job.name, shown(mine), shown(theirs), *ratios, used, aim, compared), flush=True)
+    return reached
 
 
 def main():
@@ -393,19 +420,14 @@ def main():
     chosen = [job for job in JOBS if not options.jobs or any(job.name.startswith(word) for word in options.jobs)]
     good = True
     with tempfile.TemporaryDirectory(prefix="syslogr-bench-") as temporary:
-        folder = options.keep or temporary
-        print("%d MiB of records of %d bytes; starts in milliseconds" % (options.mib, options.length))
-        print("%-17s | %-29s | %-29s | %-22s |" % ("", "syslogr", "syslog-ng", "syslogr / syslog-ng"))
+        preload = without_syncs(temporary)
         head = "%9s %7s %5s %5s" % ("records/s", "µs each", "start", "of it")
-        print("%-17s | %s | %s | %7s %7s %6s | %s" % ("job", head, head, "rate", "µs each", "aim", "outputs"))
+        print("%d MiB of records of %d bytes; starts in milliseconds, and what the processor had of them" % (options.mib, options.length))
+        print("%-17s | %-29s | %-29s | %-30s |" % ("", "syslogr", "syslog-ng", "syslogr / syslog-ng"))
+        print("%-17s | %s | %s | %7s %8s %7s %5s | %s" % ("job", head, head, "rate", "unsynced", "µs each", "aim  ", "outputs"))
         for job in chosen:
-            (mine, theirs), compared = measured(job, options, folder)
-            ratios = "%7s %7s %6s" % ("-", "-", job.wanted)
-            if mine and theirs:
-                short = mine[0] < job.wanted * theirs[0]
-                good = good and not short
-                ratios = "%7.2f %7.2f %6s" % (mine[0] / theirs[0], mine[1] / theirs[1], ("%d !" if short else "%d  ") % job.wanted)
-            print("%-17s | %s | %s | %s | %s" % (job.name, shown(mine), shown(theirs), ratios, compared), flush=True)
+            figures, compared = measured(job, options, preload, options.keep or temporary)
+            good &= tell(job, *figures, compared)
     return 0 if good else 1
 
 
