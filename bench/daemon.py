@@ -415,6 +415,7 @@ def main():
     parser.add_argument("--program", default=PROGRAM)
     parser.add_argument("--keep")
     options = parser.parse_args()
+    options.program = os.path.abspath(options.program)
     if options.program == PROGRAM and not os.path.exists(PROGRAM):
         subprocess.run([os.path.join(TOP, "syslogr")], check=False, stdout=subprocess.DEVNULL)
     chosen = [job for job in JOBS if not options.jobs or any(job.name.startswith(word) for word in options.jobs)]
@@ -426,7 +427,7 @@ def main():
         print("%-17s | %-29s | %-29s | %-30s |" % ("", "syslogr", "syslog-ng", "syslogr / syslog-ng"))
         print("%-17s | %s | %s | %7s %8s %7s %5s | %s" % ("job", head, head, "rate", "unsynced", "µs each", "aim  ", "outputs"))
         for job in chosen:
-            figures, compared = measured(job, options, preload, options.keep or temporary)
+            figures, compared = measured(job, options, preload, os.path.abspath(options.keep or temporary))
             good &= tell(job, *figures, compared)
     return 0 if good else 1
 
