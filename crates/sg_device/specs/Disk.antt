@@ -41,7 +41,8 @@ with_event event log = record log { events = event ∷ log.events }
 abbrev pub bytes_after : List ℕ → List DiskEvent → List ℕ
 bytes_after first [] = first
 bytes_after first (Wrote at bytes ∷ earlier) = overwritten at bytes (bytes_after first earlier)
-bytes_after first (Tore at n bytes ∷ earlier) = overwritten at (take n bytes) (bytes_after first earlier)
+bytes_after first (Tore at n bytes ∷ earlier) = overwritten at (take n bytes)
+    (bytes_after first earlier)
 bytes_after first (Synced ∷ earlier) = bytes_after first earlier
 bytes_after first (Lost left ∷ earlier) = left
 
@@ -49,15 +50,18 @@ bytes_after first (Lost left ∷ earlier) = left
 -- none is added by it.
 abbrev pub IsLeft : List ℕ → List DiskEvent → List ℕ → Type 0
 IsLeft first [] bytes = bytes ≡ first
-IsLeft first (Wrote at written ∷ earlier) bytes = (before : List ℕ) × IsLeft first earlier before × Torn at (length written) before bytes
-IsLeft first (Tore at n written ∷ earlier) bytes = (before : List ℕ) × IsLeft first earlier before × Torn at n before bytes
+IsLeft first (Wrote at written ∷ earlier) bytes = (before : List ℕ) × IsLeft first earlier before
+    × Torn at (length written) before bytes
+IsLeft first (Tore at n written ∷ earlier) bytes = (before : List ℕ) × IsLeft first earlier before
+    × Torn at n before bytes
 IsLeft first (Synced ∷ earlier) bytes = bytes ≡ bytes_after first earlier
 IsLeft first (Lost left ∷ earlier) bytes = IsLeft first earlier bytes ⊎ (bytes ≡ left)
 
 -- the same at a moment: after so many of the events
 abbrev pub IsLeftAt : Option DiskLog → ℕ → List ℕ → Type 0
 IsLeftAt None moment bytes = ⊥
-IsLeftAt (Some log) moment bytes = IsLeft log.first (drop (length log.events - moment) log.events) bytes
+IsLeftAt (Some log) moment bytes = IsLeft log.first (drop (length log.events - moment) log.events)
+    bytes
 
 -- the number of events, 0 where they aren't told
 abbrev pub event_count : Option DiskLog → ℕ
@@ -103,21 +107,25 @@ pub record HasCause {T E : Type 0} (before now : ℕ) (result : Result T E) : Ty
 
 -- the length, where the bytes are told
 abbrev pub Measures : DiskState → Result ℕ DiskFault → Type 0
-Measures disk result = IfOk result (λ count. WhereTold (content disk) (λ bytes. count ≡ length bytes))
+Measures disk result = IfOk result
+    (λ count. WhereTold (content disk) (λ bytes. count ≡ length bytes))
 
 -- the bytes from this place on, where they are told
 abbrev pub Reads : DiskState → ℕ → List ℕ → List ℕ → Result ℕ DiskFault → Type 0
-Reads disk at before after result = IfOk result (λ count. WhereTold (content disk) (λ bytes. IsRead at bytes before after count))
+Reads disk at before after result = IfOk result
+    (λ count. WhereTold (content disk) (λ bytes. IsRead at bytes before after count))
 
 -- A write that succeeds is an event. One that fails is none, or a torn write.
 abbrev pub Writes : DiskState → DiskState → ℕ → List ℕ → Result Unit DiskFault → Type 0
 Writes old new at bytes (Ok done) = new.told ≡ option_map (with_event (Wrote at bytes)) old.told
-Writes old new at bytes (Err e) = (new.told ≡ old.told) ⊎ ((left : List ℕ) × (new.told ≡ option_map (with_event (Tore at (length bytes) left)) old.told))
+Writes old new at bytes (Err e) = (new.told ≡ old.told) ⊎
+    ((left : List ℕ) × (new.told ≡ option_map (with_event (Tore at (length bytes) left)) old.told))
 
 -- A sync that succeeds is an event. One that fails is none, or a read gives one of the images since.
 abbrev pub Syncs : DiskState → DiskState → Result Unit DiskFault → Type 0
 Syncs old new (Ok done) = new.told ≡ option_map (with_event Synced) old.told
-Syncs old new (Err e) = (new.told ≡ old.told) ⊎ ((left : List ℕ) × IsImage old left × (new.told ≡ option_map (with_event (Lost left)) old.told))
+Syncs old new (Err e) = (new.told ≡ old.told) ⊎
+    ((left : List ℕ) × IsImage old left × (new.told ≡ option_map (with_event (Lost left)) old.told))
 
 -- Where a disk tells its bytes after a call, it told them before it, and the step leads from those to these.
 -- A disk that tells its bytes goes on to.
@@ -130,7 +138,8 @@ pub record Elapses (step : List ℕ → List ℕ → Type 0) (old new : DiskStat
   pub later : clock old ≤ clock new
   pub past : (t : ℕ) (c : List ℕ) → t ≤ clock old → IsImageAt new t c → IsImageAt old t c
   pub kept : (t : ℕ) (c : List ℕ) → t ≤ clock old → IsImageAt old t c → IsImageAt new t c
-  pub since : (t : ℕ) (c : List ℕ) → clock old < t → t ≤ clock new → IsImageAt new t c → (d : List ℕ) × IsImage old d × step d c
+  pub since : (t : ℕ) (c : List ℕ) → clock old < t → t ≤ clock new → IsImageAt new t c
+      → (d : List ℕ) × IsImage old d × step d c
 
 -- The bytes stay, and so do the images, but that a sync may take some away.
 pub record Preserves (old new : DiskState) : Type 0 where

@@ -11,7 +11,8 @@ SameIn low high old new = (k : ℕ) → low ≤ k → k < high → slice_index n
 
 -- the bytes after a write; this byte fills a gap behind the old end
 unfoldable pub overlaid : ℕ → ℕ → List ℕ → List ℕ → List ℕ
-overlaid gap at bytes old = take at (old ++ replicate (at - length old) gap) ++ bytes ++ drop (at + length bytes) old
+overlaid gap at bytes old = take at (old ++ replicate (at - length old) gap) ++ bytes
+    ++ drop (at + length bytes) old
 
 -- the bytes after a write, as a read gives them: zeros fill a gap
 abbrev pub overwritten : ℕ → List ℕ → List ℕ → List ℕ

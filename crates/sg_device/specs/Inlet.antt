@@ -53,7 +53,8 @@ with_part parts peer = parts ++ (record { peer = peer; given = [] }) ∷ []
 
 -- one byte at least, and no more than there is room for, at a moment within bounds
 abbrev pub PullIsWhole : ℕ → Result Pull InletFault → Type 0
-PullIsWhole room (Ok (Bytes len at)) = (0 < len) × (len ≤ room) × (pos 0 ≤ℤ at) × (at ≤ℤ pos 250000000000000000)
+PullIsWhole room (Ok (Bytes len at)) = (0 < len) × (len ≤ room) × (pos 0 ≤ℤ at)
+    × (at ≤ℤ pos 250000000000000000)
 PullIsWhole room (Ok Next) = Unit {0}
 PullIsWhole room (Ok Idle) = Unit {0}
 PullIsWhole room (Ok End) = Unit {0}
@@ -61,15 +62,19 @@ PullIsWhole room (Err e) = Unit {0}
 
 -- Bytes go behind the last part, Next begins one, and nothing else changes the parts.
 abbrev pub PullTells : InletState → InletState → List ℕ → Result Pull InletFault → Type 0
-PullTells old new into (Ok (Bytes len at)) = (new.told ≡ option_map (λ parts. with_bytes parts new.peer (stamped (take len into) at)) old.told) × (new.peer ≡ old.peer)
-PullTells old new into (Ok Next) = new.told ≡ option_map (λ parts. with_part parts new.peer) old.told
+PullTells old new into (Ok (Bytes len at)) = (new.told
+    ≡ option_map (λ parts. with_bytes parts new.peer (stamped (take len into) at)) old.told)
+    × (new.peer ≡ old.peer)
+PullTells old new into (Ok Next) = new.told
+    ≡ option_map (λ parts. with_part parts new.peer) old.told
 PullTells old new into (Ok Idle) = (new.told ≡ old.told) × (new.peer ≡ old.peer)
 PullTells old new into (Ok End) = (new.told ≡ old.told) × (new.peer ≡ old.peer)
 PullTells old new into (Err e) = (new.told ≡ old.told) × (new.peer ≡ old.peer)
 
 -- the place goes on by the bytes, stays below 2 ^ 63, and is again where reading began with a new part
 abbrev pub PullMoves : InletState → InletState → Result Pull InletFault → Type 0
-PullMoves old new (Ok (Bytes len at)) = (new.from ≡ old.from) × (new.place ≡ old.place + len) × (new.place < 2 ^ 63)
+PullMoves old new (Ok (Bytes len at)) = (new.from ≡ old.from) × (new.place ≡ old.place + len)
+    × (new.place < 2 ^ 63)
 PullMoves old new (Ok Next) = (new.from ≡ old.from) × (new.place ≡ old.from)
 PullMoves old new (Ok Idle) = (new.from ≡ old.from) × (new.place ≡ old.place)
 PullMoves old new (Ok End) = (new.from ≡ old.from) × (new.place ≡ old.place)
@@ -77,19 +82,31 @@ PullMoves old new (Err e) = (new.from ≡ old.from) × (new.place ≡ old.place)
 
 -- the bytes left of a file lose those given, and End comes only where none is left or it was hung up
 abbrev pub PullLeaves : InletState → InletState → List ℕ → Result Pull InletFault → Type 0
-PullLeaves old new into (Ok (Bytes len at)) = old.left ≡ option_map (λ left. take len into ++ left) new.left
+PullLeaves old new into (Ok (Bytes len at)) = old.left
+    ≡ option_map (λ left. take len into ++ left) new.left
 PullLeaves old new into (Ok Next) = new.left ≡ old.left
 PullLeaves old new into (Ok Idle) = new.left ≡ old.left
-PullLeaves old new into (Ok End) = (new.left ≡ old.left) × (old.hung ≡ false → new.left ≡ option_map (λ _. []) old.left)
+PullLeaves old new into (Ok End) = (new.left ≡ old.left)
+    × (old.hung ≡ false → new.left ≡ option_map (λ _. []) old.left)
 PullLeaves old new into (Err e) = new.left ≡ old.left
 
 -- an end is for good, a part that was hung up gives no more bytes, and a file has no second part
 abbrev pub PullCounts : InletState → InletState → Result Pull InletFault → Type 0
-PullCounts old new (Ok (Bytes len at)) = (new.pulls ≡ old.pulls + 1) × (new.idles ≡ old.idles) × (new.bytes ≡ old.bytes + len) × (new.parts ≡ max old.parts 1) × (old.ended ≡ false) × (new.ended ≡ false) × (old.hung ≡ false) × (new.hung ≡ false) × (new.single ≡ old.single)
-PullCounts old new (Ok Next) = (new.pulls ≡ old.pulls + 1) × (new.idles ≡ old.idles) × (new.bytes ≡ old.bytes) × (new.parts ≡ old.parts + 1) × (old.ended ≡ false) × (new.ended ≡ false) × (new.hung ≡ false) × (old.single ≡ false) × (new.single ≡ false)
-PullCounts old new (Ok Idle) = (new.pulls ≡ old.pulls + 1) × (new.idles ≡ old.idles + 1) × (new.bytes ≡ old.bytes) × (new.parts ≡ old.parts) × (old.ended ≡ false) × (new.ended ≡ false) × (new.hung ≡ old.hung) × (new.single ≡ old.single)
-PullCounts old new (Ok End) = (new.pulls ≡ old.pulls + 1) × (new.idles ≡ old.idles) × (new.bytes ≡ old.bytes) × (new.parts ≡ old.parts) × (new.ended ≡ true) × (new.hung ≡ old.hung) × (new.single ≡ old.single)
-PullCounts old new (Err e) = (new.pulls ≡ old.pulls) × (new.idles ≡ old.idles) × (new.bytes ≡ old.bytes) × (new.parts ≡ old.parts) × (new.ended ≡ old.ended) × (new.hung ≡ old.hung) × (new.single ≡ old.single)
+PullCounts old new (Ok (Bytes len at)) = (new.pulls ≡ old.pulls + 1) × (new.idles ≡ old.idles)
+    × (new.bytes ≡ old.bytes + len) × (new.parts ≡ max old.parts 1) × (old.ended ≡ false)
+    × (new.ended ≡ false) × (old.hung ≡ false) × (new.hung ≡ false) × (new.single ≡ old.single)
+PullCounts old new (Ok Next) = (new.pulls ≡ old.pulls + 1) × (new.idles ≡ old.idles)
+    × (new.bytes ≡ old.bytes) × (new.parts ≡ old.parts + 1) × (old.ended ≡ false)
+    × (new.ended ≡ false) × (new.hung ≡ false) × (old.single ≡ false) × (new.single ≡ false)
+PullCounts old new (Ok Idle) = (new.pulls ≡ old.pulls + 1) × (new.idles ≡ old.idles + 1)
+    × (new.bytes ≡ old.bytes) × (new.parts ≡ old.parts) × (old.ended ≡ false) × (new.ended ≡ false)
+    × (new.hung ≡ old.hung) × (new.single ≡ old.single)
+PullCounts old new (Ok End) = (new.pulls ≡ old.pulls + 1) × (new.idles ≡ old.idles)
+    × (new.bytes ≡ old.bytes) × (new.parts ≡ old.parts) × (new.ended ≡ true) × (new.hung ≡ old.hung)
+    × (new.single ≡ old.single)
+PullCounts old new (Err e) = (new.pulls ≡ old.pulls) × (new.idles ≡ old.idles)
+    × (new.bytes ≡ old.bytes) × (new.parts ≡ old.parts) × (new.ended ≡ old.ended)
+    × (new.hung ≡ old.hung) × (new.single ≡ old.single)
 
 abbrev pub PullFaults : InletState → InletState → Result Pull InletFault → Type 0
 PullFaults old new (Ok pull) = old.faults ≤ new.faults
@@ -118,8 +135,19 @@ HangsUp old new = new ≡ record old { hung = true }
 -- the parts go on: the earlier ones stay, the last one has more bytes or as many, and others may follow
 abbrev pub GoesOn : List Part → List Part → Type 0
 GoesOn [] later = Unit {0}
-GoesOn (part ∷ []) later = (more : List Stamped) × ((rest : List Part) × (later ≡ (record part { given = part.given ++ more }) ∷ rest))
-GoesOn (part ∷ next ∷ parts) later = (rest : List Part) × ((later ≡ part ∷ rest) × GoesOn (next ∷ parts) rest)
+GoesOn (part ∷ []) later = (more : List Stamped)
+    × ((rest : List Part) × (later ≡ (record part { given = part.given ++ more }) ∷ rest))
+GoesOn (part ∷ next ∷ parts) later = (rest : List Part)
+    × ((later ≡ part ∷ rest) × GoesOn (next ∷ parts) rest)
+
+-- the bytes of all the parts, one behind another
+abbrev pub bytes_of : List Part → List ℕ
+bytes_of [] = []
+bytes_of (part ∷ parts) = map (λ b. b.0) part.given ++ bytes_of parts
+
+-- as many parts are told as were begun
+abbrev pub IsCounted : InletState → Type 0
+IsCounted inlet = IfSome inlet.told (λ parts. length parts ≡ inlet.parts)
 
 -- the same, where the parts are told; and an inlet that tells them goes on to
 abbrev pub TellsOn : Option (List Part) → Option (List Part) → Type 0
@@ -134,6 +162,10 @@ pub record Advances (old new : InletState) : Type 0 where
   pub given : List ℕ
   pub left : old.left ≡ option_map (λ left. given ++ left) new.left
   pub bytes : new.bytes ≡ old.bytes + length given
+  -- the parts that are told have those bytes behind what they had
+  pub bytes_told : option_map bytes_of new.told
+      ≡ option_map (λ parts. bytes_of parts ++ given) old.told
+  pub parts_told : IsCounted old → IsCounted new
   pub from : new.from ≡ old.from
   pub parts : old.parts ≤ new.parts
   pub pulls : old.pulls ≤ new.pulls

@@ -43,10 +43,12 @@ one_more failing = min (failing + 1) (2 ^ 64 - 1)
 
 -- a refusal took some of the first frames
 abbrev pub SendFails : OutletState → OutletState → List (List ℕ) → Type 0
-SendFails old new frames = (k : ℕ) × (k < length frames) × TakesFirst k frames old new × (new.failing ≡ one_more (failing_after k old.failing))
+SendFails old new frames = (k : ℕ) × (k < length frames) × TakesFirst k frames old new
+    × (new.failing ≡ one_more (failing_after k old.failing))
 
 abbrev pub SendStarves : OutletState → OutletState → List (List ℕ) → Type 0
-SendStarves old new frames = (k : ℕ) × (k < length frames) × TakesFirst k frames old new × (new.failing ≡ failing_after k old.failing)
+SendStarves old new frames = (k : ℕ) × (k < length frames) × TakesFirst k frames old new
+    × (new.failing ≡ failing_after k old.failing)
 
 -- the frames were taken, or some of the first
 abbrev pub Sends : OutletState → OutletState → List (List ℕ) → Result Unit SendRefusal → Type 0
@@ -58,4 +60,5 @@ Sends old new frames (Err NoMemory) = SendStarves old new frames
 abbrev pub Reopens : OutletState → OutletState → Result Reopened OutletFault → Type 0
 Reopens old new (Ok Ready) = TakesFirst 0 [] old new × (new.failing ≡ old.failing)
 Reopens old new (Ok Later) = new ≡ record old { laters = old.laters + 1 }
-Reopens old new (Err e) = TakesFirst 0 [] old new × (new.failing ≡ one_more old.failing) × Rose old.faults new.faults
+Reopens old new (Err e) = TakesFirst 0 [] old new × (new.failing ≡ one_more old.failing)
+    × Rose old.faults new.faults

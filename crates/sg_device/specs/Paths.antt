@@ -48,7 +48,8 @@ PathOpens old new path (Err Failed) = KeepsPaths old new × Rose old.faults new.
 PathOpens old new path (Err OpenNoMemory) = KeepsPaths old new
 
 abbrev pub PathSends : PathsState → PathsState → List ℕ → List ℕ → Result Unit SendRefusal → Type 0
-PathSends old new path text (Ok done) = new ≡ record old { taken = option_map (λ before. before ++ (record { path = path; text = text }) ∷ []) old.taken }
+PathSends old new path text (Ok done) = new ≡ record old
+    { taken = option_map (λ before. before ++ (record { path = path; text = text }) ∷ []) old.taken }
 PathSends old new path text (Err Fault) = KeepsPaths old new × Rose old.faults new.faults
 PathSends old new path text (Err NoMemory) = KeepsPaths old new
 

@@ -48,7 +48,8 @@ pub trait Disk {
 pub fn write_through<D: Disk>(disk: &mut D, at: u64, from: &[u8]) -> Result<(), DiskFault>
     ensures past_end { 2 ^ 63 ≤ at + length from.now → IsErr result }
 
-    ensures written { OnOk result (Changes (Written at from.now) (content (D.state disk.old)) (content (D.state disk.new))) }
+    ensures written { OnOk result
+        (Changes (Written at from.now) (content (D.state disk.old)) (content (D.state disk.new))) }
     ensures durable { OnOk result (Durable (D.state disk.new)) }
 
     // Whatever it answers, nothing but the write comes to what a crash leaves, of which a read gives one.
