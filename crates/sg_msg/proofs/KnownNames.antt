@@ -1,5 +1,5 @@
 -- Known names are names that a pair may have.
-use Rattle.std.proofs.Common.{◌≤◌, refl, arith}
+use Rattle.std.proofs.Common.{refl, arith}
 use Rattle.sg_msg.specs.Macros.{is_hard, date_macros, other_macros}
 use Rattle.sg_msg.specs.Message.{IsName}
 use Rattle.sg_msg.specs.Build.{name_of, MayName}

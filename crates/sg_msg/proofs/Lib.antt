@@ -7,6 +7,7 @@ mod TagPlaces
 mod Prefixes
 pub mod ValueLaws
 pub mod ManyPairs
+mod ApartPairs
 mod SortedPairs
 mod KnownNames
 pub mod LengthLemmas

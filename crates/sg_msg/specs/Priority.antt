@@ -28,5 +28,6 @@ abbrev pub priority : List ℕ → Option (ℕ × ℕ)
 priority text =
     let digits = prefix_len is_digit (drop 1 text) in
     if has_at text 0 60 && has_at text (digits + 1) 62
-    then option_map (λ value. (value, digits + 2)) (priority_value (slice_range text 1 (digits + 1)))
+    then option_map (λ value. (value, digits + 2))
+    (priority_value (slice_range text 1 (digits + 1)))
     else None

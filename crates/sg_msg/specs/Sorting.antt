@@ -24,7 +24,8 @@ is_named name (Some pair) = bytes_eq pair.name name
 -- the pairs with this one at the end, in the place of one of its name that stands there
 abbrev pub put_last : Pair → List Pair → List Pair
 put_last pair pairs =
-    (if is_named pair.name (slice_get pairs (length pairs - 1)) then take (length pairs - 1) pairs else pairs) ++ pair ∷ []
+    (if is_named pair.name (slice_get pairs (length pairs - 1)) then take (length pairs - 1) pairs
+    else pairs) ++ pair ∷ []
 
 -- the same with one pair after another
 abbrev pub put_each : List Pair → List Pair → List Pair

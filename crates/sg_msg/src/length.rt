@@ -6,13 +6,15 @@ ghost use Rattle.sg_msg.specs.Length.{tag_lengths, pair_lengths, encoded_len};
 use crate::Message;
 
 fn less_text(room: u64, header: u64, text: &[u8]) -> Option<u64>
-    ensures { MatchOption result (room < header + length text.now) (λ left. left + header + length text.now ≡ room) }
+    ensures { MatchOption result (room < header + length text.now)
+        (λ left. left + header + length text.now ≡ room) }
 {
     room.checked_sub(header)?.checked_sub(text.len() as u64)
 }
 
 fn less_tags(room: u64, message: &Message) -> Option<u64>
-    ensures { MatchOption result (room < tag_lengths message.now.tags) (λ left. left + tag_lengths message.now.tags ≡ room) }
+    ensures { MatchOption result (room < tag_lengths message.now.tags)
+        (λ left. left + tag_lengths message.now.tags ≡ room) }
 {
     let mut left = room;
     let mut place = 0;
@@ -24,7 +26,8 @@ fn less_tags(room: u64, message: &Message) -> Option<u64>
 }
 
 fn less_pairs(room: u64, message: &Message) -> Option<u64>
-    ensures { MatchOption result (room < pair_lengths message.now.pairs) (λ left. left + pair_lengths message.now.pairs ≡ room) }
+    ensures { MatchOption result (room < pair_lengths message.now.pairs)
+        (λ left. left + pair_lengths message.now.pairs ≡ room) }
 {
     let mut left = room;
     let mut place = 0;
@@ -39,7 +42,8 @@ fn less_pairs(room: u64, message: &Message) -> Option<u64>
 /// What is left of this many bytes behind the message's entry in a disk-buffer of format 2: None where
 /// it is longer.
 pub fn less_entry(room: u64, message: &Message) -> Option<u64>
-    ensures { MatchOption result (room < encoded_len message.now) (λ left. left + encoded_len message.now ≡ room) }
+    ensures { MatchOption result (room < encoded_len message.now)
+        (λ left. left + encoded_len message.now ≡ room) }
 {
     less_pairs(less_tags(room.checked_sub(43)?, message)?, message)
 }

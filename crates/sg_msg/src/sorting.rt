@@ -1,5 +1,5 @@
 // Pairs in the order of their names, the later of two of one name.
-ghost use Rattle.std.specs.Prelude.{◌≡◌, ◌++◌, ◌-◌, [], ◌∷◌, length, take, if◌then◌else◌, IfOk, OnOk, OnErr, slice_get};
+ghost use Rattle.std.specs.Prelude.{◌≡◌, ◌++◌, ◌-◌, true, [], ◌∷◌, length, take, if◌then◌else◌, IfOk, OnOk, OnErr, slice_get};
 ghost use Rattle.sg_msg.specs.Message.{with_all};
 ghost use Rattle.sg_msg.specs.Sorting.{is_named, put_last, put_each, IsInOrder, KeepsEachName};
 
@@ -35,6 +35,18 @@ fn sort(alloc: Global, pairs: &mut SmallVec<Pair, FEW>) -> Result<(), AllocError
     pairs.sort_by(alloc, |a, b| a.name().cmp(b.name()))
 }
 
+// Whether no two that stand beside each other have one name.
+fn are_apart(pairs: &[Pair]) -> bool
+    ensures { result ≡ true → put_each pairs.now [] ≡ pairs.now }
+{
+    for at in 0..pairs.len() {
+        if ends_with_name(&pairs[..at], pairs[at].name()) {
+            return false;
+        }
+    }
+    true
+}
+
 // The pairs, where they stand in order: of those of one name the last.
 fn last_of_each(
     alloc: Global,
@@ -42,6 +54,9 @@ fn last_of_each(
 ) -> Result<SmallVec<Pair, FEW>, AllocError>
     ensures { IfOk result (λ kept. kept.items ≡ put_each pairs.items []) }
 {
+    if are_apart(pairs.as_slice()) {
+        return Ok(pairs);
+    }
     let mut kept = SmallVec::with_capacity(alloc, pairs.len())?;
     for pair in pairs {
         put_last(&mut kept, pair)?;
