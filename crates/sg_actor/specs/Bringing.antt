@@ -88,19 +88,23 @@ Empties new made (Err e) = Unit {0}
 
 -- and without credit those are still held that were
 abbrev pub EmptiesOn : {A E : Type 0} → ℕ → Reader → Reader → List Exchange → Result A E → Type 0
-EmptiesOn credit old new made (Ok done) = ((credit ≡ 0) × (new.held ≡ old.held)) ⊎ ((new.held ≡ []) ⊎ HasSentBack made)
+EmptiesOn credit old new made (Ok done) = ((credit ≡ 0) × (new.held ≡ old.held))
+    ⊎ ((new.held ≡ []) ⊎ HasSentBack made)
 EmptiesOn credit old new made (Err e) = Unit {0}
 
 -- the records that are held were brought to the core in one call: they were admitted, or they are still held
 abbrev pub AdmitsBy : {E : Type 0} → Reader → Reader → CoreReply → Result Bool E → Type 0
-AdmitsBy old new (Admitted (Ok verdicts)) (Ok true) = new ≡ record old { held = []; end = last_end old.end old.held }
+AdmitsBy old new (Admitted (Ok verdicts)) (Ok true) = new
+    ≡ record old { held = []; end = last_end old.end old.held }
 AdmitsBy old new (Admitted (Err (NoCredit records))) (Ok false) = new ≡ old
 AdmitsBy old new (Admitted (Err (AdmitNoMemory records))) (Err e) = new ≡ old
 AdmitsBy old new reply result = ⊥
 
-abbrev pub Admits : {S E : Type 0} → (S → CoreCall → CoreReply → S → Type 0) → S → S → ℕ → Reader → Reader → Result Bool E → Type 0
+abbrev pub Admits : {S E : Type 0} → (S → CoreCall → CoreReply → S → Type 0) → S → S → ℕ → Reader
+    → Reader → Result Bool E → Type 0
 Admits step counter counter' i old new result =
-    (reply : CoreReply) × (step counter (Admit i old.held) reply counter' × AdmitsBy old new reply result)
+    (reply : CoreReply)
+    × (step counter (Admit i old.held) reply counter' × AdmitsBy old new reply result)
 
 -- What steps leave that make these calls: the records of the admitted calls are the next ones of the inlet, in order.
 pub record Brings {S : Type 0} (offers : ℕ → Record → List Offer → Type 0) (dests : ℕ) (spec : SourceSpec) (step : S → CoreCall → CoreReply → S → Type 0) (counter counter' : S)
@@ -111,10 +115,12 @@ pub record Brings {S : Type 0} (offers : ℕ → Record → List Offer → Type 
   pub fetched : length (admitted_in made) ≤ spec.fetch
   pub ready : IsReady dests spec new
   pub reads : (done : List Record) (before : ℕ) → HasRead offers spec old done before
-      → (taken : List Record) × (AreOf offers spec taken (admitted_in made) × HasRead offers spec new (done ++ taken) (before + ups))
+      → (taken : List Record) × (AreOf offers spec taken (admitted_in made)
+      × HasRead offers spec new (done ++ taken) (before + ups))
   pub end : new.reader.end ≡ last_end old.reader.end (admitted_in made)
   pub advances : Advances old.feed new.feed
-  pub parts : ups + parts_over old.reader.given_up old.feed.parts ≤ parts_over new.reader.given_up new.feed.parts
+  pub parts : ups + parts_over old.reader.given_up old.feed.parts
+      ≤ parts_over new.reader.given_up new.feed.parts
 
 -- nothing was pulled
 pub record IsUnpulled (old new : SourceState) : Type 0 where
@@ -132,15 +138,18 @@ ups_of (Err e) = 0
 -- where there was something for the core and nothing came of it, the source was refused credit
 abbrev pub HandsBy : {E : Type 0} → SourceState → List Exchange → Result Handed E → Type 0
 HandsBy old made (Ok handed) =
-    (has_admitted made ≡ handed.admitted) × (is_spent old.reader ≡ false → handed.admitted ≡ false → handed.gave_up ≡ false → HasRefusal made)
+    (has_admitted made ≡ handed.admitted) × (is_spent old.reader ≡ false → handed.admitted ≡ false
+    → handed.gave_up ≡ false → HasRefusal made)
 HandsBy old made (Err e) = Unit {0}
 
 -- What a step leaves that may give parts up, so many.
 pub record Gives (dests : ℕ) (spec : SourceSpec) (old new : SourceState) (ups : ℕ) : Type 0 where
   pub ready : IsReady dests spec new
-  pub reads : (done : List Record) (before : ℕ) → Reads old done before → Reads new done (before + ups)
+  pub reads : (done : List Record) (before : ℕ) → Reads old done before
+      → Reads new done (before + ups)
   pub advances : Advances old.feed new.feed
-  pub parts : ups + parts_over old.reader.given_up old.feed.parts ≤ parts_over new.reader.given_up new.feed.parts
+  pub parts : ups + parts_over old.reader.given_up old.feed.parts
+      ≤ parts_over new.reader.given_up new.feed.parts
   pub unpulled : IsUnpulled old new
 
 -- the records that were held are admitted, or they are still held
@@ -175,9 +184,11 @@ pub record DoesAs (credit : ℕ) (old new : SourceState) (made : List Exchange) 
   pub brought : has_pulled old new ≡ doings.pulled
   pub idled : was_idle old new ≡ doings.idle
   pub took : has_admitted made ≡ doings.admitted
-  pub nothing : doings.pulled ≡ false → doings.admitted ≡ false → doings.gave_up ≡ false → doings.idle ≡ false → HadNothing credit made new.reader
+  pub nothing : doings.pulled ≡ false → doings.admitted ≡ false → doings.gave_up ≡ false
+      → doings.idle ≡ false → HadNothing credit made new.reader
 
-abbrev pub Does : {E : Type 0} → ℕ → SourceState → SourceState → List Exchange → Result Doings E → Type 0
+abbrev pub Does : {E : Type 0} → ℕ → SourceState → SourceState → List Exchange → Result Doings E
+    → Type 0
 Does credit old new made (Ok doings) = DoesAs credit old new made doings
 Does credit old new made (Err e) = Unit {0}
 

@@ -31,17 +31,22 @@ pub record SettlesSome {S : Type 0} (step : S → CoreCall → CoreReply → S �
   pub outage : new ≡ after_reply (is_breakage (SettledReply answer)) old
   pub goes_on : goes ≡ is_done (SettledReply answer)
 
-abbrev pub Settles : {S : Type 0} → (S → CoreCall → CoreReply → S → Type 0) → S → S → (d place taken : ℕ) → Outage → Outage → Bool → Type 0
+abbrev pub Settles : {S : Type 0} → (S → CoreCall → CoreReply → S → Type 0) → S → S
+    → (d place taken : ℕ) → Outage → Outage → Bool → Type 0
 Settles step counter counter' d place taken old new goes =
-    SettlesNone counter counter' taken old new goes ⊎ SettlesSome step counter counter' d place taken old new goes
+    SettlesNone counter counter' taken old new goes
+    ⊎ SettlesSome step counter counter' d place taken old new goes
 
-abbrev pub Refills : {S : Type 0} → (S → CoreCall → CoreReply → S → Type 0) → S → S → ℕ → Outage → Outage → Type 0
+abbrev pub Refills : {S : Type 0} → (S → CoreCall → CoreReply → S → Type 0) → S → S → ℕ → Outage
+    → Outage → Type 0
 Refills step counter counter' d old new =
-    (answer : Refilled) × (step counter (Refill d) (RefilledReply answer) counter' × (new ≡ after_reply (is_breakage (RefilledReply answer)) old))
+    (answer : Refilled) × (step counter (Refill d) (RefilledReply answer) counter'
+    × (new ≡ after_reply (is_breakage (RefilledReply answer)) old))
 
 -- there were entries, or the question came to this
 abbrev pub ShowsBy : {E : Type 0} → List Exchange → Outage → Result Bool E → Type 0
-ShowsBy made new (Ok found) = (has_shown made ≡ found) × (found ≡ false → (is_some new.given_up ≡ true) ⊎ IsShownEmpty made)
+ShowsBy made new (Ok found) = (has_shown made ≡ found)
+    × (found ≡ false → (is_some new.given_up ≡ true) ⊎ IsShownEmpty made)
 ShowsBy made new (Err e) = Unit {0}
 
 -- what a turn does once its outlet is open

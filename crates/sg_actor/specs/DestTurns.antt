@@ -62,11 +62,13 @@ Refills d false (r ∷ rs) = ⊥
 abbrev pub SettlesFirst : (d place taken : ℕ) → Bool → List Exchange → Type 0
 SettlesFirst d place zero well made = Refills d well made
 SettlesFirst d place (suc n) well [] = ⊥
-SettlesFirst d place (suc n) well (s ∷ made) = (s.call ≡ Settle d place (suc n)) × Refills d (well && is_done s.reply) made
+SettlesFirst d place (suc n) well (s ∷ made) = (s.call ≡ Settle d place (suc n))
+    × Refills d (well && is_done s.reply) made
 
 abbrev pub Follows : (d taken : ℕ) → Bool → CoreReply → List Exchange → Type 0
 Follows d taken well (FrontReply (Ok (Entries place []))) made = (made ≡ []) × (taken ≡ 0)
-Follows d taken well (FrontReply (Ok (Entries place (m ∷ ms)))) made = SettlesFirst d place taken well made
+Follows d taken well (FrontReply (Ok (Entries place (m ∷ ms)))) made = SettlesFirst d place taken
+    well made
 Follows d taken well reply made = (made ≡ []) × (taken ≡ 0)
 
 -- the first entries are asked for, at most 100, and what was taken of them is settled; or no call is made
@@ -76,8 +78,10 @@ Delivers d taken well (f ∷ made) = (f.call ≡ Front d 100) × Follows d taken
 
 -- Why a destination is given up: its outlet failed three times in a row, or the store of its disk-buffer failed.
 abbrev pub HasCause : Bool → Bool → OutletState → List Exchange → Option GivenUp → Type 0
-HasCause gives_up refused drain made None = (has_broken made ≡ false) × (gives_up ≡ true → refused ≡ true → drain.failing < 3)
-HasCause gives_up refused drain made (Some Outlet) = (gives_up ≡ true) × (refused ≡ true) × (3 ≤ drain.failing)
+HasCause gives_up refused drain made None = (has_broken made ≡ false)
+    × (gives_up ≡ true → refused ≡ true → drain.failing < 3)
+HasCause gives_up refused drain made (Some Outlet) = (gives_up ≡ true) × (refused ≡ true)
+    × (3 ≤ drain.failing)
 HasCause gives_up refused drain made (Some Store) = has_broken made ≡ true
 
 -- no entry is left
@@ -94,9 +98,11 @@ IsShownEmpty (f ∷ made) = IsEmptyFront f.reply
 pub record TellsSent (old new : Outage) (made : List Exchange) (drain drain' : OutletState) (turned : Turned) : Type 0 where
   pub did : turned.did ≡ (has_shown made || (old.reopens && not turned.idle))
   pub idle : turned.idle ≡ nat_lt drain.laters drain'.laters
-  pub empty : turned.did ≡ false → turned.idle ≡ false → (is_some new.given_up ≡ true) ⊎ IsShownEmpty made
+  pub empty : turned.did ≡ false → turned.idle ≡ false
+      → (is_some new.given_up ≡ true) ⊎ IsShownEmpty made
 
-abbrev pub Tells : {E : Type 0} → Outage → Outage → List Exchange → OutletState → OutletState → Result Turned E → Type 0
+abbrev pub Tells : {E : Type 0} → Outage → Outage → List Exchange → OutletState → OutletState
+    → Result Turned E → Type 0
 Tells old new made drain drain' (Ok turned) = TellsSent old new made drain drain' turned
 Tells old new made drain drain' (Err e) = Unit {0}
 
@@ -126,13 +132,19 @@ pub record Stays {S E : Type 0} (counter counter' : S) (old new : Outage) (drain
   pub drain_stays : drain' ≡ drain
   pub nothing : result ≡ Ok (record { did = false; idle = false })
 
-abbrev pub SendsBy : {S E : Type 0} → Option GivenUp → DestSpec → (S → CoreCall → CoreReply → S → Type 0) → S → S → Outage → Outage → OutletState → OutletState → Result Turned E → Type 0
+abbrev pub SendsBy : {S E : Type 0} → Option GivenUp → DestSpec
+    → (S → CoreCall → CoreReply → S → Type 0) → S → S → Outage → Outage → OutletState → OutletState
+    → Result Turned E → Type 0
 SendsBy None spec step counter counter' old new drain drain' result =
-    (made : List Exchange) × ((taken : ℕ) × ((refused : Bool) × SendsWith spec step counter counter' old new drain drain' result made taken refused))
-SendsBy (Some cause) spec step counter counter' old new drain drain' result = Stays counter counter' old new drain drain' result
+    (made : List Exchange) × ((taken : ℕ) × ((refused : Bool)
+    × SendsWith spec step counter counter' old new drain drain' result made taken refused))
+SendsBy (Some cause) spec step counter counter' old new drain drain' result = Stays counter counter'
+    old new drain drain' result
 
-abbrev pub SendsTurn : {S E : Type 0} → DestSpec → (S → CoreCall → CoreReply → S → Type 0) → S → S → Outage → Outage → OutletState → OutletState → Result Turned E → Type 0
-SendsTurn spec step counter counter' old new drain drain' result = SendsBy old.given_up spec step counter counter' old new drain drain' result
+abbrev pub SendsTurn : {S E : Type 0} → DestSpec → (S → CoreCall → CoreReply → S → Type 0) → S → S
+    → Outage → Outage → OutletState → OutletState → Result Turned E → Type 0
+SendsTurn spec step counter counter' old new drain drain' result = SendsBy old.given_up spec step
+    counter counter' old new drain drain' result
 
 -- What the calls leave of what is known of failures.
 abbrev pub after_reply : Bool → Outage → Outage

@@ -12,16 +12,20 @@ use Rattle.sg_actor.specs.declared.settings.SourceSpec.{SourceSpec}
 -- the records admitted are the first ones that the inlet gave
 abbrev pub ReadsFirst : (ℕ → Record → List Offer → Type 0) → ℕ → SourceSpec → SourceState → Type 0
 ReadsFirst offers dests spec s =
-    (done : List Record) (ups : ℕ) (parts : List Part) → IsReady dests spec s → HasRead offers spec s done ups → s.feed.told ≡ Some parts
+    (done : List Record) (ups : ℕ) (parts : List Part) → IsReady dests spec s
+    → HasRead offers spec s done ups → s.feed.told ≡ Some parts
     → (rest : List Record) × (records spec.kind spec.limit spec.from parts ≡ done ++ rest)
 
 -- they are all of them, and the parts given up are those with a bad count
 abbrev pub ReadsAll : (ℕ → Record → List Offer → Type 0) → ℕ → SourceSpec → SourceState → Type 0
 ReadsAll offers dests spec s =
-    (done : List Record) (ups : ℕ) (parts : List Part) → IsReady dests spec s → HasRead offers spec s done ups → IsOver s.reader → s.feed.told ≡ Some parts
-    → (done ≡ records spec.kind spec.limit spec.from parts) × (ups ≡ bad_parts spec.kind spec.limit parts)
+    (done : List Record) (ups : ℕ) (parts : List Part) → IsReady dests spec s
+    → HasRead offers spec s done ups → IsOver s.reader → s.feed.told ≡ Some parts
+    → (done ≡ records spec.kind spec.limit spec.from parts)
+    × (ups ≡ bad_parts spec.kind spec.limit parts)
 
 -- no part is given up, and at its end a file has no byte left
 abbrev pub StaysWhole : ℕ → SourceSpec → SourceState → Type 0
 StaysWhole dests spec s =
-    IsReady dests spec s → spec.kind ≡ Lines → (s.reader.given_up ≡ false) × (s.reader.ended ≡ true → IsDrained s.feed)
+    IsReady dests spec s → spec.kind ≡ Lines
+    → (s.reader.given_up ≡ false) × (s.reader.ended ≡ true → IsDrained s.feed)

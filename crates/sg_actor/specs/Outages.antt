@@ -47,9 +47,14 @@ pub record Takes (taken : ℕ) (frames : List (List ℕ)) (old new : OutletState
 -- an outlet that didn't fail last isn't reopened; another one is, or it is too early, or it fails again
 abbrev pub Begins : Bool → Outage → Outage → OutletState → OutletState → Begun → Type 0
 Begins gives_up old new drain drain' Open = (old.reopens ≡ false) × (new ≡ old) × (drain' ≡ drain)
-Begins gives_up old new drain drain' Reopened = (old.reopens ≡ true) × (new ≡ record old { reopens = false }) × Takes 0 [] drain drain' × (drain'.laters ≡ drain.laters) × (drain'.failing ≡ drain.failing)
-Begins gives_up old new drain drain' Later = (old.reopens ≡ true) × (new ≡ old) × (drain' ≡ record drain { laters = drain.laters + 1 })
-Begins gives_up old new drain drain' Failed = (old.reopens ≡ true) × (new ≡ failed gives_up old) × Takes 0 [] drain drain' × (drain'.laters ≡ drain.laters) × Rose drain.faults drain'.faults × HasFailures new drain'
+Begins gives_up old new drain drain' Reopened = (old.reopens ≡ true)
+    × (new ≡ record old { reopens = false }) × Takes 0 [] drain drain'
+    × (drain'.laters ≡ drain.laters) × (drain'.failing ≡ drain.failing)
+Begins gives_up old new drain drain' Later = (old.reopens ≡ true) × (new ≡ old)
+    × (drain' ≡ record drain { laters = drain.laters + 1 })
+Begins gives_up old new drain drain' Failed = (old.reopens ≡ true) × (new ≡ failed gives_up old)
+    × Takes 0 [] drain drain' × (drain'.laters ≡ drain.laters) × Rose drain.faults drain'.faults
+    × HasFailures new drain'
 
 -- what became of a send: a failure is counted, and want of memory isn't one
 pub record Sends (gives_up : Bool) (frames : List (List ℕ)) (old new : Outage) (drain drain' : OutletState) (sent : Sent) : Type 0 where
@@ -59,5 +64,6 @@ pub record Sends (gives_up : Bool) (frames : List (List ℕ)) (old new : Outage)
   pub failures : HasFailures new drain'
   pub refused : Bool
   pub rose : refused ≡ true → Rose drain.faults drain'.faults
-  pub outage : new ≡ (if refused then failed gives_up (with_taken sent.taken old) else with_taken sent.taken old)
+  pub outage : new
+      ≡ (if refused then failed gives_up (with_taken sent.taken old) else with_taken sent.taken old)
   pub whole : sent.starved ≡ false → refused ≡ false → sent.taken ≡ length frames

@@ -38,7 +38,8 @@ has_news (s ∷ ss) = is_news s || has_news ss
 -- what is known after these answers, the core having been asked at this end
 abbrev pub after_stores : ℕ → List Stored → Position → Position
 after_stores end [] position = position
-after_stores end (s ∷ ss) position = after_stores end ss (record position { asked = end; broken = position.broken || is_failure s })
+after_stores end (s ∷ ss) position = after_stores end ss
+    (record position { asked = end; broken = position.broken || is_failure s })
 
 -- the position was stored where that was due, and else nothing was asked
 pub record Stores {S : Type 0} (spec : SourceSpec) (step : S → CoreCall → CoreReply → S → Type 0) (counter counter' : S) (rests : Bool) (end : ℕ)

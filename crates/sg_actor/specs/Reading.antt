@@ -40,7 +40,8 @@ bad_forms (Bad place) = 1
 -- the number of the parts whose items a bad count follows
 abbrev pub bad_parts : FrameKind → ℕ → List Part → ℕ
 bad_parts kind limit [] = 0
-bad_parts kind limit (part ∷ parts) = bad_forms (open_of kind limit part.given) + bad_parts kind limit parts
+bad_parts kind limit (part ∷ parts) = bad_forms (open_of kind limit part.given)
+    + bad_parts kind limit parts
 
 -- Of the last part these bytes were given, and of them these items taken; so many parts were given up for a bad count, the last one
 -- among them or not.
@@ -51,9 +52,11 @@ pub record IsRead (kind : FrameKind) (limit from : ℕ) (peer : List ℕ) (parts
   pub given_up : ups ≡ bad_parts kind limit (earlier parts) + one_if last_too
 
 -- It claims nothing where the inlet doesn't tell.
-abbrev pub AreRead : FrameKind → ℕ → ℕ → List ℕ → Option (List Part) → Bool → List Record → ℕ → List Stamped → List Item → Type 0
+abbrev pub AreRead : FrameKind → ℕ → ℕ → List ℕ → Option (List Part) → Bool → List Record → ℕ
+    → List Stamped → List Item → Type 0
 AreRead kind limit from peer None last_too done ups bytes items = Unit {0}
-AreRead kind limit from peer (Some parts) last_too done ups bytes items = IsRead kind limit from peer parts last_too done ups bytes items
+AreRead kind limit from peer (Some parts) last_too done ups bytes items = IsRead kind limit from
+    peer parts last_too done ups bytes items
 
 -- the item that the framer gave last, where its record isn't held yet
 abbrev pub items_ahead : Framed → List Item

@@ -58,11 +58,13 @@ abbrev pub does_some : ActorState → ActorState → List Exchange → ℕ → B
 does_some old new made ups = has_pulled old.source new.source || has_admitted made || nat_lt 0 ups
 
 abbrev pub rests : ActorState → ActorState → List Exchange → ℕ → ℕ → Bool
-rests old new made ups credit = not (does_some old new made ups) && is_same_credit old.position.credit credit
+rests old new made ups credit = not (does_some old new made ups)
+    && is_same_credit old.position.credit credit
 
 -- the last answer on the position, where there is a store, is that it is the stored one, or that the store has failed
 abbrev pub IsStored : SourceSpec → Position → List Exchange → Type 0
-IsStored spec position made = spec.stored ≡ true → (position.broken ≡ true) ⊎ (stores_in made ≡ Unchanged ∷ [])
+IsStored spec position made = spec.stored ≡ true
+    → (position.broken ≡ true) ⊎ (stores_in made ≡ Unchanged ∷ [])
 
 -- In an empty turn the source was refused credit, or the inlet has ended or failed and all that it gave is dealt with.
 pub record IsEmptyTurn (spec : SourceSpec) (new : ActorState) (made : List Exchange) : Type 0 where
@@ -72,10 +74,12 @@ pub record IsEmptyTurn (spec : SourceSpec) (new : ActorState) (made : List Excha
 pub record TellsTurn (spec : SourceSpec) (old new : ActorState) (made : List Exchange) (ups credit : ℕ) (turned : Turned) : Type 0 where
   pub did : turned.did ≡ (not (rests old new made ups credit) || has_news (stores_in made))
   pub idle : turned.idle ≡ was_idle old.source new.source
-  pub asks : length (stores_in made) ≡ one_if (spec.stored && is_due old.position (rests old new made ups credit) new.source.reader.end)
+  pub asks : length (stores_in made) ≡ one_if
+      (spec.stored && is_due old.position (rests old new made ups credit) new.source.reader.end)
   pub empty : turned.did ≡ false → turned.idle ≡ false → IsEmptyTurn spec new made
 
-abbrev pub Tells : {E : Type 0} → SourceSpec → ActorState → ActorState → List Exchange → ℕ → ℕ → Result Turned E → Type 0
+abbrev pub Tells : {E : Type 0} → SourceSpec → ActorState → ActorState → List Exchange → ℕ → ℕ
+    → Result Turned E → Type 0
 Tells spec old new made ups credit (Ok turned) = TellsTurn spec old new made ups credit turned
 Tells spec old new made ups credit (Err e) = Unit {0}
 
@@ -89,12 +93,14 @@ pub record TurnsWith {S E : Type 0} (offers : ℕ → Record → List Offer → 
   pub asks : AsksCredit spec.inlet credit made
   pub ready : IsReady dests spec new.source
   pub advances : Advances old.source.feed new.source.feed
-  pub failing : Fails old.source.reader.failed new.source.reader.failed old.source.feed.faults new.source.feed.faults
+  pub failing : Fails old.source.reader.failed new.source.reader.failed old.source.feed.faults
+      new.source.feed.faults
   -- an inlet that has ended isn't begun anew
   pub ended : old.source.reader.ended ≡ true → new.source.reader.ended ≡ true
   pub pulls : new.source.feed.pulls ≤ old.source.feed.pulls + 1
   pub admits : (done : List Record) (before : ℕ) → HasRead offers spec old.source done before
-      → (taken : List Record) × (AreOf offers spec taken (admitted_in made) × HasRead offers spec new.source (done ++ taken) (before + ups))
+      → (taken : List Record) × (AreOf offers spec taken (admitted_in made)
+      × HasRead offers spec new.source (done ++ taken) (before + ups))
   pub fetched : length (admitted_in made) ≤ spec.fetch
   -- Records are brought in the second call alone, no more than the credit unless more were held; and none is held behind the turn, unless
   -- memory ran out.
@@ -104,14 +110,19 @@ pub record TurnsWith {S E : Type 0} (offers : ℕ → Record → List Offer → 
   pub end : new.source.reader.end ≡ last_end old.source.reader.end (admitted_in made)
   -- a part is given up once
   pub one : ups ≤ 1
-  pub parts : ups + parts_over old.source.reader.given_up old.source.feed.parts ≤ parts_over new.source.reader.given_up new.source.feed.parts
+  pub parts : ups + parts_over old.source.reader.given_up old.source.feed.parts
+      ≤ parts_over new.source.reader.given_up new.source.feed.parts
   pub bad : new.bad_frames ≡ bad_after old.bad_frames ups
-  pub position : new.position ≡ after_stores new.source.reader.end (stores_in made) (record old.position { credit = Some credit })
+  pub position : new.position ≡ after_stores new.source.reader.end (stores_in made)
+      (record old.position { credit = Some credit })
   pub tells : Tells spec old new made ups credit result
 
-abbrev pub TakesTurn : {S E : Type 0} → (ℕ → Record → List Offer → Type 0) → ℕ → SourceSpec → (S → CoreCall → CoreReply → S → Type 0) → S → S → ActorState → ActorState → Result Turned E → Type 0
+abbrev pub TakesTurn : {S E : Type 0} → (ℕ → Record → List Offer → Type 0) → ℕ → SourceSpec
+    → (S → CoreCall → CoreReply → S → Type 0) → S → S → ActorState → ActorState → Result Turned E
+    → Type 0
 TakesTurn offers dests spec step counter counter' old new result =
-    (made : List Exchange) × ((ups : ℕ) × ((credit : ℕ) × TurnsWith offers dests spec step counter counter' old new result made ups credit))
+    (made : List Exchange) × ((ups : ℕ) × ((credit : ℕ)
+    × TurnsWith offers dests spec step counter counter' old new result made ups credit))
 
 -- nothing was read yet
 pub record IsNewSource (offers : ℕ → Record → List Offer → Type 0) (dests : ℕ) (spec : SourceSpec) (s : ActorState) : Type 0 where

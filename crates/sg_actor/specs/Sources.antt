@@ -25,9 +25,11 @@ source feed reader buffer = record { feed = feed; reader = reader; buffer = buff
 
 pub record ReadsWith (s : SourceState) (done : List Record) (ups : ℕ) (bytes : List Stamped) (items : List Item) : Type 0 where
   pub framed : HasFramed bytes (items ++ items_ahead s.reader.ahead) s.reader.framer
-  pub read : AreRead s.reader.framer.kind s.reader.framer.limit s.feed.from s.feed.peer s.feed.told s.reader.given_up done ups (bytes ++ bytes_pulled s.reader.pulled s.buffer) items
+  pub read : AreRead s.reader.framer.kind s.reader.framer.limit s.feed.from s.feed.peer s.feed.told
+      s.reader.given_up done ups (bytes ++ bytes_pulled s.reader.pulled s.buffer) items
   -- each record took a byte with it at least
-  pub fewer : length done + length (items_ahead s.reader.ahead) + length s.reader.framer.held + length (bytes_pulled s.reader.pulled s.buffer) ≤ s.feed.bytes
+  pub fewer : length done + length (items_ahead s.reader.ahead) + length s.reader.framer.held
+      + length (bytes_pulled s.reader.pulled s.buffer) ≤ s.feed.bytes
 
 -- these records were taken of what the inlet gave, the reader has what is behind them, and so many parts were given up
 abbrev pub Reads : SourceState → List Record → ℕ → Type 0
@@ -44,7 +46,8 @@ pub record IsOf (offers : ℕ → Record → List Offer → Type 0) (spec : Sour
   pub offered : offers spec.inlet (record_at r.peer r.item.text r.item.at) a.offers
 
 -- these records, in order
-abbrev pub AreOf : (ℕ → Record → List Offer → Type 0) → SourceSpec → List Record → List Admission → Type 0
+abbrev pub AreOf : (ℕ → Record → List Offer → Type 0) → SourceSpec → List Record → List Admission
+    → Type 0
 AreOf offers spec [] [] = Unit {0}
 AreOf offers spec [] (a ∷ as') = ⊥
 AreOf offers spec (r ∷ rs) [] = ⊥
@@ -52,8 +55,10 @@ AreOf offers spec (r ∷ rs) (a ∷ as') = IsOf offers spec r a × AreOf offers 
 
 -- Of what the inlet gave, these records were admitted; those behind them are held, and the reader has what is behind those. So many parts
 -- were given up.
-abbrev pub HasRead : (ℕ → Record → List Offer → Type 0) → SourceSpec → SourceState → List Record → ℕ → Type 0
-HasRead offers spec s done ups = (behind : List Record) × (AreOf offers spec behind s.reader.held × Reads s (done ++ behind) ups)
+abbrev pub HasRead : (ℕ → Record → List Offer → Type 0) → SourceSpec → SourceState → List Record → ℕ
+    → Type 0
+HasRead offers spec s done ups = (behind : List Record)
+    × (AreOf offers spec behind s.reader.held × Reads s (done ++ behind) ups)
 
 -- a router that says the same
 pub record SameOffers (old new : ℕ → Record → List Offer → Type 0) : Type 0 where
@@ -81,16 +86,19 @@ pub record IsReady (dests : ℕ) (spec : SourceSpec) (s : SourceState) : Type 0 
   pub kind : s.reader.framer.kind ≡ spec.kind
   pub limit : s.reader.framer.limit ≡ spec.limit
   pub from : s.feed.from ≡ spec.from
-  pub place : s.feed.from + (fed s.reader.framer + length (bytes_pulled s.reader.pulled s.buffer)) ≡ s.feed.place
+  pub place : s.feed.from + (fed s.reader.framer + length (bytes_pulled s.reader.pulled s.buffer))
+      ≡ s.feed.place
   pub in_range : s.feed.place < 2 ^ 63
   pub timely : AreTimely s.reader.framer.held
   pub unfed : IsUnfed (length s.buffer) s.reader.pulled
   pub ahead : IsAhead s.reader.framer s.reader.ahead
   pub held : AllMayEnter dests s.reader.held
   pub few : length s.reader.held ≤ spec.fetch
-  pub begun : 0 < length s.reader.framer.held + length (bytes_pulled s.reader.pulled s.buffer) → 0 < s.feed.parts
+  pub begun : 0 < length s.reader.framer.held + length (bytes_pulled s.reader.pulled s.buffer)
+      → 0 < s.feed.parts
   -- a part is given up for a bad count behind all its items, and is hung up
   pub bad : s.reader.given_up ≡ true → IsBadFrame s.reader.ahead × (s.reader.held ≡ [])
   pub hung : s.feed.hung ≡ s.reader.given_up
   -- at its end an inlet that wasn't hung up has nothing left
-  pub over : s.reader.ended ≡ true → (s.feed.ended ≡ true) × (s.reader.given_up ≡ false → IsDrained s.feed)
+  pub over : s.reader.ended ≡ true
+      → (s.feed.ended ≡ true) × (s.reader.given_up ≡ false → IsDrained s.feed)

@@ -100,11 +100,13 @@ pub record Rests (dests : ℕ) (spec : SourceSpec) (old new : SourceState) : Typ
   pub held : new.reader.held ≡ old.reader.held
   pub end : new.reader.end ≡ old.reader.end
   pub advances : Advances old.feed new.feed
-  pub parts : parts_over old.reader.given_up old.feed.parts ≤ parts_over new.reader.given_up new.feed.parts
+  pub parts : parts_over old.reader.given_up old.feed.parts
+      ≤ parts_over new.reader.given_up new.feed.parts
 
 -- a pull that failed isn't forgotten, and let the count of faults rise
 abbrev pub Fails : (failed failed' : Bool) → (faults faults' : ℕ) → Type 0
-Fails failed failed' faults faults' = (failed ≡ true → failed' ≡ true) × (failed ≡ false → failed' ≡ true → Rose faults faults')
+Fails failed failed' faults faults' = (failed ≡ true → failed' ≡ true)
+    × (failed ≡ false → failed' ≡ true → Rose faults faults')
 
 -- the inlet was pulled once
 pub record PullsOnce (dests : ℕ) (spec : SourceSpec) (old new : SourceState) (idle : Bool) : Type 0 where
@@ -115,16 +117,19 @@ pub record PullsOnce (dests : ℕ) (spec : SourceSpec) (old new : SourceState) (
   pub failing : Fails old.reader.failed new.reader.failed old.feed.faults new.feed.faults
 
 abbrev pub Pulls : SourceState → SourceState → Bool → Type 0
-Pulls old new idle = (dests : ℕ) (spec : SourceSpec) → IsReady dests spec old → PullsOnce dests spec old new idle
+Pulls old new idle = (dests : ℕ) (spec : SourceSpec) → IsReady dests spec old
+    → PullsOnce dests spec old new idle
 
 -- What a step leaves that brings nothing to the core: whatever was admitted before, it is still followed by what is held and by what the
 -- reader has.
 pub record Keeps (offers : ℕ → Record → List Offer → Type 0) (dests : ℕ) (spec : SourceSpec) (old new : SourceState) : Type 0 where
   pub ready : IsReady dests spec new
-  pub reads : (done : List Record) (ups : ℕ) → HasRead offers spec old done ups → HasRead offers spec new done ups
+  pub reads : (done : List Record) (ups : ℕ) → HasRead offers spec old done ups
+      → HasRead offers spec new done ups
   pub end : new.reader.end ≡ old.reader.end
   pub advances : Advances old.feed new.feed
-  pub parts : parts_over old.reader.given_up old.feed.parts ≤ parts_over new.reader.given_up new.feed.parts
+  pub parts : parts_over old.reader.given_up old.feed.parts
+      ≤ parts_over new.reader.given_up new.feed.parts
 
 -- it is ready, with some buffer
 abbrev pub IsSafe : ℕ → SourceSpec → InletState → Reader → Type 0
@@ -166,7 +171,8 @@ is_bad reader = is_bad_frame reader.ahead && not reader.given_up
 
 -- the present part is given up, and hung up
 abbrev pub GivesUp : Reader → InletState → Reader → InletState → Bool → Type 0
-GivesUp old feed new feed' true = (is_bad old ≡ true) × (new ≡ record old { given_up = true }) × (feed' ≡ record feed { hung = true })
+GivesUp old feed new feed' true = (is_bad old ≡ true) × (new ≡ record old { given_up = true })
+    × (feed' ≡ record feed { hung = true })
 GivesUp old feed new feed' false = (is_bad old ≡ false) × (new ≡ old) × (feed' ≡ feed)
 
 -- so many are held, or no item is whole
@@ -180,9 +186,11 @@ end_at true from end = from + end
 end_at false from end = 0
 
 -- With whatever buffer it is ready, it keeps what was read.
-abbrev pub KeepsAll : (ℕ → Record → List Offer → Type 0) → ℕ → SourceSpec → InletState → Reader → Reader → Type 0
+abbrev pub KeepsAll : (ℕ → Record → List Offer → Type 0) → ℕ → SourceSpec → InletState → Reader
+    → Reader → Type 0
 KeepsAll offers dests spec feed old new =
-    (buffer : List ℕ) → IsReady dests spec (source feed old buffer) → Keeps offers dests spec (source feed old buffer) (source feed new buffer)
+    (buffer : List ℕ) → IsReady dests spec (source feed old buffer)
+    → Keeps offers dests spec (source feed old buffer) (source feed new buffer)
 
 -- neither a record nor a bad count is left for the core
 abbrev pub is_spent : Reader → Bool
@@ -198,14 +206,18 @@ pub record IsOver (reader : Reader) : Type 0 where
 
 -- what a turn finds: where nothing was pulled there is something for the core
 abbrev pub Finds : {E : Type 0} → SourceState → SourceState → Result Found E → Type 0
-Finds old new (Ok (Work pulled)) = (has_pulled old new ≡ pulled) × (was_idle old new ≡ false) × (pulled ≡ false → is_spent new.reader ≡ false)
-Finds old new (Ok FoundIdle) = (has_pulled old new ≡ false) × (was_idle old new ≡ true) × (new.reader.held ≡ [])
-Finds old new (Ok Over) = (has_pulled old new ≡ false) × (was_idle old new ≡ false) × IsOver new.reader
+Finds old new (Ok (Work pulled)) = (has_pulled old new ≡ pulled) × (was_idle old new ≡ false)
+    × (pulled ≡ false → is_spent new.reader ≡ false)
+Finds old new (Ok FoundIdle) = (has_pulled old new ≡ false) × (was_idle old new ≡ true)
+    × (new.reader.held ≡ [])
+Finds old new (Ok Over) = (has_pulled old new ≡ false) × (was_idle old new ≡ false)
+    × IsOver new.reader
 Finds old new (Err e) = Unit {0}
 
 -- what was pulled is fed, and so many are held or no item is whole
 abbrev pub ReadsAll : {E : Type 0} → ℕ → Reader → Result Unit E → Type 0
-ReadsAll most new (Ok done) = IsFed new.pulled × (length new.held < most → IsLooked new.framer new.ahead)
+ReadsAll most new (Ok done) = IsFed new.pulled
+    × (length new.held < most → IsLooked new.framer new.ahead)
 ReadsAll most new (Err e) = Unit {0}
 
 -- the inlet is no nearer its end

@@ -27,7 +27,8 @@ is_missing (parameter ∷ others) given = lacks parameter given || is_missing ot
 -- an argument is given that isn't declared
 abbrev pub is_unknown : List Argument → List Argument → Bool
 is_unknown parameters [] = false
-is_unknown parameters (argument ∷ others) = not (has_name argument.name parameters) || is_unknown parameters others
+is_unknown parameters (argument ∷ others) = not (has_name argument.name parameters)
+    || is_unknown parameters others
 
 -- the defaults of the parameters that aren't given, in the order declared
 abbrev pub defaults : List Argument → List Argument → List Argument
@@ -42,7 +43,8 @@ bindings parameters given = last_named given ++ defaults parameters given
 abbrev pub HasNames : map.FinMap (slice_cmp nat_cmp) Bool → List Argument → Type 0
 HasNames names arguments = (name : List ℕ) → map.contains_key names name ≡ has_name name arguments
 
-abbrev pub AddsName : map.FinMap (slice_cmp nat_cmp) Bool → map.FinMap (slice_cmp nat_cmp) Bool → Argument → Type 0
+abbrev pub AddsName : map.FinMap (slice_cmp nat_cmp) Bool → map.FinMap (slice_cmp nat_cmp) Bool
+    → Argument → Type 0
 AddsName old new argument = new ≡ map.insert old argument.name true
 
 -- the first, or the last, is taken off where there is one

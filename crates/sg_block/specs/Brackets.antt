@@ -30,15 +30,18 @@ Parted = List Token × List Token
 abbrev pub inner_behind : Token → Parted → Parted
 inner_behind token parted = (token ∷ parted.0, parted.1)
 
-abbrev pub parted_behind : Token → List Token → Option (List ℕ) → (List ℕ → Option Parted) → Option Parted
+abbrev pub parted_behind : Token → List Token → Option (List ℕ) → (List ℕ → Option Parted)
+    → Option Parted
 parted_behind token tokens None later = None
 parted_behind token tokens (Some []) later = Some ([], tokens)
-parted_behind token tokens (Some (c ∷ open_ones)) later = option_map (inner_behind token) (later (c ∷ open_ones))
+parted_behind token tokens (Some (c ∷ open_ones)) later = option_map (inner_behind token)
+    (later (c ∷ open_ones))
 
 -- the tokens up to the one that closes the outermost bracket, none where what stands before it isn't balanced
 abbrev pub inside : List ℕ → List Token → Option Parted
 inside open_ones [] = None
-inside open_ones (token ∷ tokens) = parted_behind token tokens (open_behind (bracket token) open_ones) (λ later. inside later tokens)
+inside open_ones (token ∷ tokens) = parted_behind token tokens
+    (open_behind (bracket token) open_ones) (λ later. inside later tokens)
 
 -- what stands in the brackets that open at a place, between two bytes
 abbrev pub bracketed : ℕ → ℕ → List Token → ℕ → Option Parted
@@ -59,7 +62,9 @@ EndsAt tokens end place =
 
 -- the ends of the places from one on
 abbrev pub HasEndsFrom : List Token → List ℕ → ℕ → Type 0
-HasEndsFrom tokens ends from = (length ends ≡ length tokens + 1) × ((place : ℕ) → from ≤ place → place ≤ length tokens → EndsAt tokens (slice_index ends place) place)
+HasEndsFrom tokens ends from = (length ends ≡ length tokens + 1)
+    × ((place : ℕ) → from ≤ place → place ≤ length tokens
+    → EndsAt tokens (slice_index ends place) place)
 
 abbrev pub HasEnds : List Token → List ℕ → Type 0
 HasEnds tokens ends = HasEndsFrom tokens ends 0
@@ -67,11 +72,13 @@ HasEnds tokens ends = HasEndsFrom tokens ends 0
 -- the entry of a place at which a bracket opens that the byte closes: the end behind its own
 abbrev pub EndsBehind : List Token → List ℕ → ℕ → ℕ → ℕ → Type 0
 EndsBehind tokens ends closing place end =
-    end ≡ (if passes_at tokens (slice_index ends (place + 1)) (is_symbol closing) then slice_index ends (slice_index ends (place + 1) + 1) else length tokens)
+    end ≡ (if passes_at tokens (slice_index ends (place + 1)) (is_symbol closing) then slice_index
+    ends (slice_index ends (place + 1) + 1) else length tokens)
 
 -- the place at which the byte closes the bracket that opens at a place, if it does
 abbrev pub IsClosing : ℕ → List Token → ℕ → Option ℕ → Type 0
 IsClosing closing tokens place None = inside (closing ∷ []) (drop (place + 1) tokens) ≡ None
 IsClosing closing tokens place (Some end) =
-    (inside (closing ∷ []) (drop (place + 1) tokens) ≡ Some (take (end - (place + 1)) (drop (place + 1) tokens), drop (end + 1) tokens))
+    (inside (closing ∷ []) (drop (place + 1) tokens)
+    ≡ Some (take (end - (place + 1)) (drop (place + 1) tokens), drop (end + 1) tokens))
     × (place + 1 ≤ end) × (end < length tokens)

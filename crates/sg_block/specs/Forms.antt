@@ -22,7 +22,8 @@ Next = Argument × List Token
 
 abbrev pub argument_of : List ℕ → Option Parted → Option Next
 argument_of name None = None
-argument_of name (Some parted) = option_map (λ rest. (record { name = name; tokens = parted.0 }, rest)) (separated parted.1)
+argument_of name (Some parted) =
+    option_map (λ rest. (record { name = name; tokens = parted.0 }, rest)) (separated parted.1)
 
 -- `name(tokens)` at the front
 abbrev pub next_argument : List Token → Option Next
@@ -36,7 +37,8 @@ and_others (Some next) later = option_map (λ others. next.0 ∷ others) (later 
 abbrev pub arguments_within : ℕ → List Token → Option (List Argument)
 arguments_within most [] = Some []
 arguments_within zero (token ∷ tokens) = None
-arguments_within (suc most) (token ∷ tokens) = and_others (next_argument (token ∷ tokens)) (arguments_within most)
+arguments_within (suc most) (token ∷ tokens) = and_others (next_argument (token ∷ tokens))
+    (arguments_within most)
 
 abbrev pub arguments : List Token → Option (List Argument)
 arguments tokens = arguments_within (length tokens) tokens
@@ -44,19 +46,23 @@ arguments tokens = arguments_within (length tokens) tokens
 -- the argument at the front is taken off, and stands behind the others, where one stands there
 abbrev pub TakesArgument : List Argument → List Token → List Argument → List Token → Bool → Type 0
 TakesArgument found rest found' rest' true =
-    (next : Next) × ((Some next ≡ next_argument rest) × ((found' ≡ found ++ next.0 ∷ []) × ((rest' ≡ next.1) × (length rest' < length rest))))
+    (next : Next) × ((Some next ≡ next_argument rest)
+    × ((found' ≡ found ++ next.0 ∷ []) × ((rest' ≡ next.1) × (length rest' < length rest))))
 TakesArgument found rest found' rest' false = None ≡ next_argument rest
 
 -- `block WORD NAME`
 abbrev pub begins_definition : List Token → Bool
-begins_definition tokens = passes_at tokens 0 is_block_word && (passes_at tokens 1 is_block_type && passes_at tokens 2 is_name)
+begins_definition tokens = passes_at tokens 0 is_block_word
+    && (passes_at tokens 1 is_block_type && passes_at tokens 2 is_name)
 
-abbrev pub with_body : List ℕ → List Token → Option (List Argument) → Option Parted → Option Definition
+abbrev pub with_body : List ℕ → List Token → Option (List Argument) → Option Parted
+    → Option Definition
 with_body name written given None = None
 with_body name written None (Some body) = None
 with_body name written (Some given) (Some body) =
     if passes_at body.1 0 (is_symbol 59)
-    then Some (record { name = name; parameters = last_named given; written = written; body = body.0; behind = drop 1 body.1 })
+    then Some (record
+    { name = name; parameters = last_named given; written = written; body = body.0; behind = drop 1 body.1 })
     else None
 
 abbrev pub defined : List ℕ → Option Parted → Option Definition

@@ -10,4 +10,5 @@ tokens_of part = take (part.to - part.from) (drop part.from (arc_value part.sour
 
 -- the part is within its file, whose brackets' ends are known
 abbrev pub IsPart : Inside → Type 0
-IsPart part = (part.from ≤ part.to) × (part.to ≤ length (arc_value part.source).tokens.items) × HasEnds (arc_value part.source).tokens.items (arc_value part.source).ends.items
+IsPart part = (part.from ≤ part.to) × (part.to ≤ length (arc_value part.source).tokens.items)
+    × HasEnds (arc_value part.source).tokens.items (arc_value part.source).ends.items

@@ -79,4 +79,5 @@ abbrev pub text_at : List Token → ℕ → List ℕ
 text_at tokens place = option_map_or (λ token. token.text) (slice_get tokens place) []
 
 abbrev pub line_at : List Token → ℕ → Line
-line_at tokens place = option_map_or line_of (slice_get tokens place) (record { file = 0; line = 0 })
+line_at tokens place = option_map_or line_of (slice_get tokens place)
+    (record { file = 0; line = 0 })

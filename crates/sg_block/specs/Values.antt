@@ -52,11 +52,13 @@ replaced scope variables skip [] = Some []
 replaced scope variables (suc skip) (b ∷ bytes) = replaced scope variables skip bytes
 replaced scope variables zero (b ∷ bytes) =
     if variable_length (b ∷ bytes) == 0 then option_map (λ text. b ∷ text) (replaced scope variables zero bytes)
-    else text_behind (reached scope variables (take (variable_length (b ∷ bytes)) bytes)) (replaced scope variables (variable_length (b ∷ bytes) + 1) bytes)
+    else text_behind (reached scope variables (take (variable_length (b ∷ bytes)) bytes))
+    (replaced scope variables (variable_length (b ∷ bytes) + 1) bytes)
 
 -- the text, where there is room for it; else more bytes than there is room for
 abbrev pub IsCapped : ℕ → List ℕ → List ℕ → Type 0
-IsCapped room made kept = (length made ≤ room → kept ≡ made) × (room < length made → room < length kept)
+IsCapped room made kept = (length made ≤ room → kept ≡ made)
+    × (room < length made → room < length kept)
 
 abbrev pub IsReplaced : ℕ → Option (List ℕ) → Replaced → Type 0
 IsReplaced room None Unknown = Unit {0}

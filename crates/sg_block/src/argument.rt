@@ -189,7 +189,8 @@ fn keep(kept: &mut Arguments, known: bool, argument: Argument) -> Result<(), NoM
 
 /// Puts a copy of a parameter at the end, unless its name is known.
 fn keep_copy(left: &mut Arguments, known: bool, parameter: &Argument) -> Result<(), NoMemory>
-    ensures { OnOk result (left.new ≡ (if known then left.old else left.old ++ parameter.now ∷ [])) }
+    ensures { OnOk result
+        (left.new ≡ (if known then left.old else left.old ++ parameter.now ∷ [])) }
 {
     if !known {
         left.push(parameter.copy()?)?;
@@ -207,14 +208,16 @@ fn add_name(alloc: Global, names: &mut Table<bool>, argument: &Argument) -> Resu
 
 /// Whether the argument's name is among the names.
 fn is_among(names: &Table<bool>, argument: &Argument) -> bool
-    ensures { (arguments : List ArgumentValue) → HasNames names.now arguments → result ≡ has_name argument.now.name arguments }
+    ensures { (arguments : List ArgumentValue) → HasNames names.now arguments
+        → result ≡ has_name argument.now.name arguments }
 {
     names.has(argument.name.bytes())
 }
 
 /// Whether a parameter must be given, and its name isn't among the names.
 fn is_lacking(names: &Table<bool>, parameter: &Argument) -> bool
-    ensures { (given : List ArgumentValue) → HasNames names.now given → result ≡ lacks parameter.now given }
+    ensures { (given : List ArgumentValue) → HasNames names.now given
+        → result ≡ lacks parameter.now given }
 {
     if !parameter.tokens.is_empty() {
         return false;

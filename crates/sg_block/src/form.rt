@@ -52,7 +52,8 @@ fn separated(tokens: Part) -> Option<Part>
 /// The argument at the front, and what stands behind it and its commas.
 fn next_argument(alloc: Global, tokens: &Part) -> Result<Option<(Argument, Part)>, NoMemory>
     ensures value { IfOk result (λ found. found ≡ next_argument tokens.now) }
-    ensures shorter { IfOk result (λ found. IfSome found (λ next. length next.1 < length tokens.now)) }
+    ensures shorter { IfOk result
+        (λ found. IfSome found (λ next. length next.1 < length tokens.now)) }
 {
     if !tokens.is_word_at(0) {
         return Ok(None);
@@ -130,7 +131,8 @@ fn with_body(
     given: Part,
     rest: &Part,
 ) -> Result<Option<Definition>, NoMemory>
-    ensures { IfOk result (λ found. found ≡ with_body name.now given (arguments given) (bracketed 123 125 rest.now 0)) }
+    ensures { IfOk result (λ found. found
+        ≡ with_body name.now given (arguments given) (bracketed 123 125 rest.now 0)) }
 {
     let Some((body, behind)) = rest.bracketed(b'{', b'}', 0)? else {
         return Ok(None);

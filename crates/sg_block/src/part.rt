@@ -159,7 +159,8 @@ impl Part {
     ) -> Result<Option<(Part, Part)>, NoMemory>
         requires { ((closing == 41) || (closing == 125)) ≡ true }
         ensures value { IfOk result (λ found. found ≡ bracketed opening closing self.now place) }
-        ensures shorter { IfOk result (λ found. IfSome found (λ parted. length parted.1 < length self.now)) }
+        ensures shorter { IfOk result
+            (λ found. IfSome found (λ parted. length parted.1 < length self.now)) }
     {
         if !self.is_symbol_at(place, opening) {
             return Ok(None);

@@ -119,7 +119,8 @@ fn variable_at(text: &[u8], place: usize) -> usize
 }
 
 fn whole_text(whole: Vec<u8>, room: u64) -> Replaced
-    ensures { (made : List ℕ) → IsCapped room made whole.items → IsReplaced room (Some made) result }
+    ensures { (made : List ℕ) → IsCapped room made whole.items
+        → IsReplaced room (Some made) result }
 {
     if whole.len() as u64 > room {
         return Replaced::TooLong;
@@ -135,7 +136,8 @@ pub fn replace(
     text: &[u8],
     room: u64,
 ) -> Result<Replaced, NoMemory>
-    ensures { IfOk result (λ found. IsReplaced room (replaced scope.now variables.now 0 text.now) found) }
+    ensures { IfOk result
+        (λ found. IsReplaced room (replaced scope.now variables.now 0 text.now) found) }
 {
     let mut whole = Vec::new(alloc);
     let mut place = 0;

@@ -50,7 +50,8 @@ module _ {V C R : Type 0} where
   pub record HasTurned (step : V → C → R → V → Type 0) (made : V) (old : DeskState V C R) (call : C) (reply : R) (new : DeskState V C R) : Type 0 where
     pub between : List (Exchange C R)
     pub desk : new ≡ turned old between (record { call = call; reply = reply })
-    pub calls : entries_at new.seen new.own ≡ entries_at old.seen old.own ++ record { call = call; reply = reply } ∷ []
+    pub calls : entries_at new.seen new.own
+        ≡ entries_at old.seen old.own ++ record { call = call; reply = reply } ∷ []
     pub before : V
     pub after : V
     pub gives : Makes step made (old.seen ++ between) before
@@ -63,7 +64,8 @@ module _ {V C R : Type 0} where
   -- two desks are one, which has seen what both had
   pub record HasJoined (old other new : DeskState V C R) : Type 0 where
     pub more : List (Exchange C R)
-    pub desk : new ≡ record old { left = old.left + other.left; seen = old.seen ++ more; joined = old.joined ++ other.own ∷ other.joined }
+    pub desk : new ≡ record old
+        { left = old.left + other.left; seen = old.seen ++ more; joined = old.joined ++ other.own ∷ other.joined }
     pub told : StartsWith new.seen other.seen
 
   -- The history gives this office, and begins with what the desk has seen. Where the desk's calls and turns are all that the booth was
@@ -72,4 +74,5 @@ module _ {V C R : Type 0} where
     pub history : List (Exchange C R)
     pub gives : Makes step booth.made history office
     pub seen : StartsWith history desk.seen
-    pub all : length (places desk) + desk.left ≡ booth.turns → CountsOnce 0 (length history) (λ x. times x (places desk))
+    pub all : length (places desk) + desk.left ≡ booth.turns
+        → CountsOnce 0 (length history) (λ x. times x (places desk))

@@ -19,7 +19,8 @@ joined_up (xs ∷ xss) = xs ++ joined_up xss
 
 -- each number from low on and below high is counted once, and no other
 abbrev pub CountsOnce : ℕ → ℕ → (ℕ → ℕ) → Type 0
-CountsOnce low high f = (x : ℕ) → (x < low → f x ≡ 0) × (low ≤ x → x < high → f x ≡ 1) × (high ≤ x → f x ≡ 0)
+CountsOnce low high f = (x : ℕ)
+    → (x < low → f x ≡ 0) × (low ≤ x → x < high → f x ≡ 1) × (high ≤ x → f x ≡ 0)
 
 -- the numbers rise, from low on and below high
 abbrev pub Rises : ℕ → List ℕ → ℕ → Type 0

@@ -12,7 +12,8 @@ use sg_world::World;
 /// pull, gives up parts, admits records, is told other credits, writes its position, or finds that the
 /// position store has failed: so many turns at most.
 pub fn sources_are_bounded<R: Router>(router: &R)
-    ensures { (dests : ℕ) (spec : ASpec) (old new : ActorState) (turns : List Turn) → SourceIsBounded (R.offers router.now) dests spec old new turns }
+    ensures { (dests : ℕ) (spec : ASpec) (old new : ActorState) (turns : List Turn)
+        → SourceIsBounded (R.offers router.now) dests spec old new turns }
 {
     let _router = router;
 }

@@ -13,7 +13,8 @@ abbrev pub AreStoredAs : List Kept → Entries → Type 0
 AreStoredAs [] [] = Unit {0}
 AreStoredAs [] (payload ∷ payloads) = ⊥
 AreStoredAs (kept ∷ entries) [] = ⊥
-AreStoredAs (kept ∷ entries) (payload ∷ payloads) = IsStoredAs kept payload × AreStoredAs entries payloads
+AreStoredAs (kept ∷ entries) (payload ∷ payloads) = IsStoredAs kept payload
+    × AreStoredAs entries payloads
 
 -- the entries that a store's bytes stand for
 pub record IsListOf (entries : List Kept) (bytes : List ℕ) : Type 0 where

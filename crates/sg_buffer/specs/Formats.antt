@@ -34,7 +34,8 @@ payload_or old new = if is_payload new then new else old
 unfoldable pub upgraded : List ℕ → List ℕ
 upgraded bytes = payload_or bytes (if is_older bytes then renewed bytes (reading bytes) else bytes)
 
-chosen-fits : (old new : List ℕ) (fits : Bool) → is_payload new ≡ fits → IsPayload old → IsPayload (if fits then new else old)
+chosen-fits : (old new : List ℕ) (fits : Bool) → is_payload new ≡ fits → IsPayload old
+    → IsPayload (if fits then new else old)
 chosen-fits old new true e is = record {
   some = leb-true 1 (length new) (and_parts (nat_le 1 (length new)) (nat_le (length new) (2 ^ 30 + 64)) e).0;
   limit = leb-true (length new) (2 ^ 30 + 64) (and_parts (nat_le 1 (length new)) (nat_le (length new) (2 ^ 30 + 64)) e).1;

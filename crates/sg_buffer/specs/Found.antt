@@ -22,9 +22,11 @@ pub record Finds (disk : DiskState) (rows : Rows) (found : Found) (entries : Lis
   pub kept : AreKept entries
   pub count : rows.count ≡ length entries
   pub size : found.size ≡ min (size_of entries) (2 ^ 64 - 1)
-  pub list : WhereTold (content disk) (λ bytes. (payloads : Entries) → IsList payloads bytes → AreStoredAs entries payloads)
+  pub list : WhereTold (content disk)
+      (λ bytes. (payloads : Entries) → IsList payloads bytes → AreStoredAs entries payloads)
   pub live : found.older ≡ false → live rows.list ≡ size_of entries
-  pub newer : found.older ≡ false → WhereTold (content disk) (λ bytes. (payloads : Entries) → IsList payloads bytes → payloads ≡ spelled entries)
+  pub newer : found.older ≡ false → WhereTold (content disk)
+      (λ bytes. (payloads : Entries) → IsList payloads bytes → payloads ≡ spelled entries)
 
 -- At this gate stands the first payload of the list that is no entry.
 pub record IsNoEntry (places : Places) (at : ℕ) (bytes : List ℕ) : Type 0 where
@@ -41,7 +43,8 @@ pub record IsNoEntry (places : Places) (at : ℕ) (bytes : List ℕ) : Type 0 wh
 pub record Adds (kept : Kept) (payload : List ℕ) (old new : Found) : Type 0 where
   pub heads : new.heads.items ≡ old.heads.items ++ head_of kept ∷ []
   pub older : new.older ≡ (old.older || is_format1 payload)
-  pub size : new.size ≡ min (min (old.size + 5) (2 ^ 64 - 1) + encoded_len kept.message) (2 ^ 64 - 1)
+  pub size : new.size
+      ≡ min (min (old.size + 5) (2 ^ 64 - 1) + encoded_len kept.message) (2 ^ 64 - 1)
 
 -- damage at this gate, where the payload is no entry; want of memory is free
 abbrev pub AddReason : List ℕ → ℕ → StoreRefusal → Type 0

@@ -25,10 +25,13 @@ pub fn first_messages<D: Disk>(
     requires enough { n ≤ spool.old.rows.count }
     requires unstaged { spool.old.rows.staged ≡ 0 }
     ensures reads { Reads D.state spool.old spool.new }
-    ensures messages { IfOk result (λ messages. WhereTold (content (D.state spool.old.disk)) (λ bytes. (entries : List Entry) → AreKept entries → IsList (spelled entries) bytes → messages.items ≡ map (λ kept. kept.message) (take n entries))) }
+    ensures messages { IfOk result (λ messages. WhereTold (content (D.state spool.old.disk))
+        (λ bytes. (entries : List Entry) → AreKept entries → IsList (spelled entries) bytes
+        → messages.items ≡ map (λ kept. kept.message) (take n entries))) }
     ensures number { IfOk result (λ messages. length messages.items ≡ n) }
     ensures open { IfOk result (λ _. spool.new.closed ≡ false) }
-    ensures cause { IfErr result (ReadReason (D.state spool.old.disk) (D.state spool.new.disk) spool.new.closed) }
+    ensures cause { IfErr result
+        (ReadReason (D.state spool.old.disk) (D.state spool.new.disk) spool.new.closed) }
 {
     let mut messages = Vec::new(alloc);
     let mut gate = spool.head();
@@ -48,7 +51,8 @@ pub fn first_messages<D: Disk>(
 
 // The message that a payload spells.
 fn message_of(alloc: Global, payload: &[u8]) -> Result<Message, AllocError>
-    ensures { IfOk result (λ message. (kept : Entry) → Spells kept payload.now → message ≡ kept.message) }
+    ensures { IfOk result
+        (λ message. (kept : Entry) → Spells kept payload.now → message ≡ kept.message) }
 {
     match decode(alloc, payload) {
         Ok(kept) => {

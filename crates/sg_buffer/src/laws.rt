@@ -10,7 +10,8 @@ use sg_spool::bytes_have_one_meaning;
 
 /// Spelled anew, an entry stays the same entry.
 pub fn entries_stay()
-    ensures older { (kept : Entry) (bytes : List ℕ) → Spells1 kept bytes → length bytes ≤ 2 ^ 30 → Spells2 kept (upgraded bytes) }
+    ensures older { (kept : Entry) (bytes : List ℕ) → Spells1 kept bytes → length bytes ≤ 2 ^ 30
+        → Spells2 kept (upgraded bytes) }
     ensures newer { (kept : Entry) (bytes : List ℕ) → Spells2 kept bytes → upgraded bytes ≡ bytes }
 {
     spellings_are_read();

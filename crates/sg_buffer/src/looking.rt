@@ -21,9 +21,11 @@ pub fn look<D: Disk>(alloc: Global, spool: &mut Spool<D>) -> Result<Found, Store
     requires open { spool.old.closed ≡ false }
     requires unstaged { spool.old.rows.staged ≡ 0 }
     ensures reads { Reads D.state spool.old spool.new }
-    ensures found { IfOk result (λ found. (entries : List Entry) × Finds (D.state spool.old.disk) spool.old.rows found entries) }
+    ensures found { IfOk result (λ found. (entries : List Entry)
+        × Finds (D.state spool.old.disk) spool.old.rows found entries) }
     ensures open { IfOk result (λ _. spool.new.closed ≡ false) }
-    ensures reason { IfErr result (LookReason (D.state spool.old.disk) (D.state spool.new.disk) spool.old.rows.list) }
+    ensures reason { IfErr result
+        (LookReason (D.state spool.old.disk) (D.state spool.new.disk) spool.old.rows.list) }
 {
     bytes_have_one_meaning();
     let mut found = Found::none(alloc);
@@ -49,7 +51,8 @@ pub fn look<D: Disk>(alloc: Global, spool: &mut Spool<D>) -> Result<Found, Store
 // Adds the entry that a payload spells, which stands at this gate.
 fn add(alloc: Global, found: &mut Found, payload: &[u8], gate: u64) -> Result<(), StoreRefusal>
     requires { IsPayload payload.now }
-    ensures added { OnOk result ((kept : Entry) × IsStoredAs kept payload.now × Adds kept payload.now found.old found.new) }
+    ensures added { OnOk result
+        ((kept : Entry) × IsStoredAs kept payload.now × Adds kept payload.now found.old found.new) }
     ensures reason { IfErr result (AddReason payload.now gate) }
 {
     let older = is_format1(payload);

@@ -26,13 +26,23 @@ pub fn renew<D: Disk>(
     requires open { spool.old.closed ≡ false }
     requires unstaged { spool.old.rows.staged ≡ 0 }
     ensures lasts { Lasts D.state spool.old spool.new }
-    ensures within { (entries : List Entry) (payloads : Entries) → Finds (D.state spool.old.disk) spool.old.rows found.now entries → Holds D.state spool.old payloads [] → Within (D.state spool.old.disk) (D.state spool.new.disk) (IsListOf entries) }
-    ensures renewed { OnOk result ((entries : List Entry) (payloads : Entries) → Finds (D.state spool.old.disk) spool.old.rows found.now entries → Holds D.state spool.old payloads [] → Holds D.state spool.new (spelled entries) []) }
-    ensures size { OnOk result ((entries : List Entry) → Finds (D.state spool.old.disk) spool.old.rows found.now entries → live spool.new.rows.list ≡ size_of entries) }
+    ensures within { (entries : List Entry) (payloads : Entries)
+        → Finds (D.state spool.old.disk) spool.old.rows found.now entries
+        → Holds D.state spool.old payloads []
+        → Within (D.state spool.old.disk) (D.state spool.new.disk) (IsListOf entries) }
+    ensures renewed { OnOk result ((entries : List Entry) (payloads : Entries)
+        → Finds (D.state spool.old.disk) spool.old.rows found.now entries
+        → Holds D.state spool.old payloads [] → Holds D.state spool.new (spelled entries) []) }
+    ensures size { OnOk result ((entries : List Entry)
+        → Finds (D.state spool.old.disk) spool.old.rows found.now entries
+        → live spool.new.rows.list ≡ size_of entries) }
     ensures open { OnOk result (spool.new.closed ≡ false) }
     ensures count { OnOk result (spool.new.rows.count ≡ spool.old.rows.count) }
     ensures unstaged { OnOk result (spool.new.rows.staged ≡ 0) }
-    ensures reason { IfErr result (λ e. (entries : List Entry) (payloads : Entries) → Finds (D.state spool.old.disk) spool.old.rows found.now entries → Holds D.state spool.old payloads [] → RenewReason (D.state spool.old.disk) (D.state spool.new.disk) e) }
+    ensures reason { IfErr result (λ e. (entries : List Entry) (payloads : Entries)
+        → Finds (D.state spool.old.disk) spool.old.rows found.now entries
+        → Holds D.state spool.old payloads []
+        → RenewReason (D.state spool.old.disk) (D.state spool.new.disk) e) }
 {
     if !found.older {
         return Ok(());

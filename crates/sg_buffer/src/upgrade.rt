@@ -24,10 +24,12 @@ impl Recode for Upgrade {
         ensures stays { (bytes : List ℕ) → upgraded bytes ≡ upgraded bytes }
 
         // An entry of format 1 is the same entry in format 2.
-        ensures upgraded { (kept : Entry) → Spells1 kept payload.now → length payload.now ≤ 2 ^ 30 → IfOk result (λ spelled. Spells2 kept spelled.items) }
+        ensures upgraded { (kept : Entry) → Spells1 kept payload.now → length payload.now ≤ 2 ^ 30
+            → IfOk result (λ spelled. Spells2 kept spelled.items) }
 
         // Every other payload stays.
-        ensures others { ((kept : Entry) → Spells1 kept payload.now → length payload.now ≤ 2 ^ 30 → ⊥) → IfOk result (λ spelled. spelled.items ≡ payload.now) }
+        ensures others { ((kept : Entry) → Spells1 kept payload.now → length payload.now ≤ 2 ^ 30 → ⊥)
+            → IfOk result (λ spelled. spelled.items ≡ payload.now) }
     {
         if is_older(payload) {
             return spell_anew(alloc, payload);
@@ -56,8 +58,10 @@ fn is_older(payload: &[u8]) -> bool
 fn spell_anew(alloc: Global, payload: &[u8]) -> Result<Vec<u8>, NoMemory>
     requires { is_older payload.now ≡ true }
     ensures payload { IfOk result (λ spelled. spelled.items ≡ upgraded payload.now) }
-    ensures read { (kept : Entry) → Spells kept payload.now → IfOk result (λ spelled. Spells2 kept spelled.items) }
-    ensures others { ((kept : Entry) → Spells kept payload.now → ⊥) → IfOk result (λ spelled. spelled.items ≡ payload.now) }
+    ensures read { (kept : Entry) → Spells kept payload.now
+        → IfOk result (λ spelled. Spells2 kept spelled.items) }
+    ensures others { ((kept : Entry) → Spells kept payload.now → ⊥)
+        → IfOk result (λ spelled. spelled.items ≡ payload.now) }
 {
     match decode(alloc, payload) {
         Ok(kept) => Ok(encode(alloc, &kept)?),

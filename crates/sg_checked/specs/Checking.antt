@@ -17,15 +17,18 @@ SaidText old new text = new.said ≡ option_map (λ said. said ++ text) old.said
 -- the state but for what was said and the counts of faults of saying, of reading and of patterns refused as too large, which don't
 -- fall, and the name of the file that couldn't be read last
 pub record OnlyChecks (old new : WorldState) : Type 0 where
-  pub state : new ≡ record old { read_faults = new.read_faults; unread = new.unread; build_faults = new.build_faults; say_faults = new.say_faults; said = new.said }
+  pub state : new ≡ record old
+      { read_faults = new.read_faults; unread = new.unread; build_faults = new.build_faults; say_faults = new.say_faults; said = new.said }
   pub read : old.read_faults ≤ new.read_faults
   pub build : old.build_faults ≤ new.build_faults
   pub say : old.say_faults ≤ new.say_faults
 
 -- the file is a configuration, which was said; or it isn't, and nothing was said; or it couldn't be said, or memory ran out
 abbrev pub Checks : WorldState → WorldState → List ℕ → Result Unit Unchecked → Type 0
-Checks old new file (Ok done) = ((loaded : Loaded) × IsConfigured old file loaded) × SaidText old new (ok_line file)
-Checks old new file (Err (Bad fault names)) = IsFaultOf old new file fault names × (new.said ≡ old.said)
+Checks old new file (Ok done) = ((loaded : Loaded) × IsConfigured old file loaded)
+    × SaidText old new (ok_line file)
+Checks old new file (Err (Bad fault names)) = IsFaultOf old new file fault names
+    × (new.said ≡ old.said)
 Checks old new file (Err (Unread name)) = IsUnread old new file name × (new.said ≡ old.said)
 Checks old new file (Err SayFault) = Rose old.say_faults new.say_faults
 Checks old new file (Err NoMemory) = Unit {0}

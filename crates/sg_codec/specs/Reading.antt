@@ -46,7 +46,8 @@ pri_at (pri ∷ rest) = if nat_le pri 191 then Ok (pri, rest) else Err (suc (len
 unfoldable pub is_valid : Stamp → Bool
 is_valid stamp =
     int_le (negsuc 1438) stamp.offset && int_le stamp.offset (pos 1439)
-    && int_le (negsuc 62167219199999999) (local_of stamp) && int_le (local_of stamp) (pos 253402300799999999)
+    && int_le (negsuc 62167219199999999) (local_of stamp)
+    && int_le (local_of stamp) (pos 253402300799999999)
 
 -- one that isn't valid is damaged at its offset
 unfoldable pub stamp_at : List ℕ → Result (Stamp × List ℕ) ℕ

@@ -43,12 +43,14 @@ pair_list pairs = number_bytes w32 (length pairs) ++ pairs_bytes pairs
 -- message's own stamp
 abbrev pub head_bytes : Kept → List ℕ
 head_bytes kept =
-    flag_bytes kept.flow ++ (number_bytes w32 kept.source ++ (number_bytes w64 kept.end ++ (kept.message.pri ∷ stamp_bytes kept.message.sent)))
+    flag_bytes kept.flow ++ (number_bytes w32 kept.source
+    ++ (number_bytes w64 kept.end ++ (kept.message.pri ∷ stamp_bytes kept.message.sent)))
 
 -- format 2, in which entries are written
 abbrev pub spelling2 : Kept → List ℕ
 spelling2 kept =
-    2 ∷ (head_bytes kept ++ (stamp_bytes kept.message.received ++ (tag_list kept.message.tags ++ pair_list kept.message.pairs)))
+    2 ∷ (head_bytes kept ++ (stamp_bytes kept.message.received
+    ++ (tag_list kept.message.tags ++ pair_list kept.message.pairs)))
 
 -- format 1, the older one, which has neither the stamp of arrival nor tags
 abbrev pub spelling1 : Kept → List ℕ

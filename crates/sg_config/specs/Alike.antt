@@ -30,11 +30,14 @@ pub record IsWithin (config : Config) : Type 0 where
   pub inlet_setups : length config.setup.sources ≡ length config.inlets.items
   pub outlet_setups : length config.setup.dests ≡ length config.outlets.items
   pub numbers : NumbersStores config.setup.sources config.setup.dests (length config.stores.items)
-  pub windows : (i : ℕ) (setup : SourceSetup) → slice_get config.setup.sources i ≡ Some setup → HasWindow setup
-  pub rooms : (d : ℕ) (setup : DestSetup) → slice_get config.setup.dests d ≡ Some setup → HasRoom setup
+  pub windows : (i : ℕ) (setup : SourceSetup) → slice_get config.setup.sources i ≡ Some setup
+      → HasWindow setup
+  pub rooms : (d : ℕ) (setup : DestSetup) → slice_get config.setup.dests d ≡ Some setup
+      → HasRoom setup
   -- so many drivers of sources
   pub drivers : ℕ
-  pub each : (i : ℕ) (inlet : InletPlan) → slice_get config.inlets.items i ≡ Some inlet → IsInlet drivers inlet
+  pub each : (i : ℕ) (inlet : InletPlan) → slice_get config.inlets.items i ≡ Some inlet
+      → IsInlet drivers inlet
   -- its log paths are those of its inlets and destinations
   pub readings : length (woods_of config.forest).inlets ≡ length config.inlets.items
   pub dests : (woods_of config.forest).dests ≡ length config.outlets.items

@@ -47,11 +47,13 @@ IsUnparsed tokens fault = Refuses tokens (text_at (spots_at tokens 0)) (Unparsed
 
 -- the first thing that is wrong with statements
 abbrev pub IsUnresolved : List Statement → ConfigFault → Type 0
-IsUnresolved statements fault = (placed : Placed) × HasFirstFault statements (Some placed) × (fault ≡ fault_at placed)
+IsUnresolved statements fault = (placed : Placed) × HasFirstFault statements (Some placed)
+    × (fault ≡ fault_at placed)
 
 -- what is wrong with tokens
 abbrev pub IsFirstFault : List Token → ConfigFault → Type 0
-IsFirstFault tokens fault = IsUnparsed tokens fault ⊎ ((statements : List Statement) × IsText (spots_at tokens 0) statements × IsUnresolved statements fault)
+IsFirstFault tokens fault = IsUnparsed tokens fault ⊎ ((statements : List Statement)
+    × IsText (spots_at tokens 0) statements × IsUnresolved statements fault)
 
 -- what statements come to, or what is wrong with them, unless memory runs out
 abbrev pub Resolves : List Statement → Result Config LoadRefusal → Type 0

@@ -14,9 +14,12 @@ use sg_plan::{plans_are_one, plans_are_within};
 /// Tokens mean one configuration, or one thing is wrong with them first, and never both. A configuration is
 /// within the limits.
 pub fn texts_mean_one()
-    ensures one { (tokens : List Token) (a b : Config) → Means tokens a → Means tokens b → AreAlike a b }
-    ensures none { (tokens : List Token) (a : Config) (fault : ConfigFault) → Means tokens a → IsFirstFault tokens fault → ⊥ }
-    ensures one_fault { (tokens : List Token) (fault other : ConfigFault) → IsFirstFault tokens fault → IsFirstFault tokens other → fault ≡ other }
+    ensures one { (tokens : List Token) (a b : Config) → Means tokens a → Means tokens b
+        → AreAlike a b }
+    ensures none { (tokens : List Token) (a : Config) (fault : ConfigFault) → Means tokens a
+        → IsFirstFault tokens fault → ⊥ }
+    ensures one_fault { (tokens : List Token) (fault other : ConfigFault)
+        → IsFirstFault tokens fault → IsFirstFault tokens other → fault ≡ other }
     ensures within { (tokens : List Token) (a : Config) → Means tokens a → IsWithin a }
 {
     texts_are_of_the_grammar();
@@ -27,7 +30,8 @@ pub fn texts_mean_one()
 
 /// The outlets of a configuration are one file or one connection each.
 pub fn outlets_are_direct()
-    ensures { (tokens : List Token) (config : Config) → Means tokens config → AreDirect config.outlets.items }
+    ensures { (tokens : List Token) (config : Config) → Means tokens config
+        → AreDirect config.outlets.items }
 {
     sg_plan::outlets_are_direct();
 }

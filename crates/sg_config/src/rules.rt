@@ -35,7 +35,8 @@ fn add_rule(
     rules: &mut Vec<InletRule>,
     driver: Option<&SourceDriver>,
 ) -> Result<(), NoMemory>
-    ensures { OnOk result (map inlet_of rules.new.items ≡ map inlet_of rules.old.items ++ readings_at (option_copied driver.entry)) }
+    ensures { OnOk result (map inlet_of rules.new.items
+        ≡ map inlet_of rules.old.items ++ readings_at (option_copied driver.entry)) }
 {
     match driver {
         Some(driver) => {

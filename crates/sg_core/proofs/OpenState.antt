@@ -51,7 +51,7 @@ kind-past : (buffer : Option BufferSetup) (s : ℕ) (kind : StoreKind) → ((oth
 kind-past None s kind none = refl
 kind-past (Some other) s kind none = kind-other (other.store == s) other.capacity kind (let ne : other.store ≢ s = none other refl in grind (arith, ne))
 
-kind-found : (dests : List DestSetup) (d : ℕ) (dest : DestSetup) (buffer : BufferSetup) → slice_get dests d ≡ Some dest → dest.buffer ≡ Some buffer
+pub kind-found : (dests : List DestSetup) (d : ℕ) (dest : DestSetup) (buffer : BufferSetup) → slice_get dests d ≡ Some dest → dest.buffer ≡ Some buffer
     → ((e : ℕ) → buffer_store_in dests e ≡ Some buffer.store → e ≡ d) → kind_of dests buffer.store ≡ Buffer buffer.capacity
 kind-found [] d dest buffer h b one = absurd (let no : None ≡ Some dest = h in cc)
 kind-found (x ∷ dests) zero dest buffer h b one =
@@ -64,7 +64,7 @@ kind-found (x ∷ dests) (suc d) dest buffer h b one =
     kind-past x.buffer buffer.store (kind_of dests buffer.store) (λ other is here. (let n = one 0 (rw (is, here) refl) in omega (arith, n))) ∙ rest
 
 -- no destination has it
-kind-none : (dests : List DestSetup) (s : ℕ) → ((e : ℕ) → buffer_store_in dests e ≡ Some s → ⊥) → kind_of dests s ≡ Position
+pub kind-none : (dests : List DestSetup) (s : ℕ) → ((e : ℕ) → buffer_store_in dests e ≡ Some s → ⊥) → kind_of dests s ≡ Position
 kind-none [] s none = refl
 kind-none (x ∷ dests) s none = kind-past x.buffer s (kind_of dests s) (λ other is here. none 0 (rw (is, here) refl)) ∙ kind-none dests s (λ e is. none (suc e) is)
 

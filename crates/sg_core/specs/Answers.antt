@@ -33,7 +33,9 @@ use Rattle.sg_standing.specs.Standing.{IsAt}
 
 -- the window of an inlet less its outstanding records
 abbrev pub credit_left : State → ℕ → ℕ
-credit_left state i = option_map_or (λ inlet. inlet.setup.window - outstanding_of state.dests i inlet) (slice_get state.inlets i) 0
+credit_left state i =
+    option_map_or (λ inlet. inlet.setup.window - outstanding_of state.dests i inlet)
+    (slice_get state.inlets i) 0
 
 -- the stored position of an inlet
 abbrev pub stored_position : State → ℕ → ℕ
@@ -63,7 +65,8 @@ rewind_act i Broken = Look
 abbrev pub AnswersStore : ℕ → Option StoreState → Option StoreState → Stored → Type 0
 AnswersStore position old new (Wrote w) = (w ≡ position) × (position_of old ≢ position)
 AnswersStore position old new Unchanged = position_of old ≡ position
-AnswersStore position old new Broken = (position_of old ≢ position) × (option_map (λ (s : StoreState). s.failed) new ≡ Some true)
+AnswersStore position old new Broken = (position_of old ≢ position)
+    × (option_map (λ (s : StoreState). s.failed) new ≡ Some true)
 
 -- Fronts.
 
@@ -74,19 +77,23 @@ shown_of most sink = if length sink.lengths == 0 then min most (length sink.entr
 -- So many messages, from the place of the first; those that wait are known. None is left, and the store works. It has failed
 -- before, or in this call.
 abbrev pub AnswersFront : SinkState → SinkState → ℕ → CoreFront → Type 0
-AnswersFront old new most (Entries place messages) = (new ≡ old) × (old.broken ≡ false) × (place ≡ old.taken) × (length messages ≡ shown_of most old) × (0 < length messages)
+AnswersFront old new most (Entries place messages) = (new ≡ old) × (old.broken ≡ false)
+    × (place ≡ old.taken) × (length messages ≡ shown_of most old) × (0 < length messages)
     × (old.lengths ≡ [] → messages ≡ map (λ (e : Waiting). e.message) (take most old.entries))
-AnswersFront old new most Empty = (new ≡ old) × (old.broken ≡ false) × (old.lengths ≡ []) × (old.entries ≡ [])
+AnswersFront old new most Empty = (new ≡ old) × (old.broken ≡ false) × (old.lengths ≡ [])
+    × (old.entries ≡ [])
 AnswersFront old new most FrontBroken = new ≡ with_broken old
 
 -- there is no disk-buffer, or its disk tells its bytes
 abbrev pub IsTold : List StoreState → Option BufferSetup → Type 0
 IsTold stores None = Unit {0}
-IsTold stores (Some buffer) = option_map (λ (store : StoreState). is_some (content store.disk)) (slice_get stores buffer.store) ≡ Some true
+IsTold stores (Some buffer) = option_map (λ (store : StoreState). is_some (content store.disk))
+    (slice_get stores buffer.store) ≡ Some true
 
 -- the messages are those of the first entries that are left
 abbrev pub ShowsLeft : List StoreState → Dest → CoreFront → Type 0
-ShowsLeft stores dest (Entries place messages) = IsTold stores dest.setup.buffer → messages ≡ map (λ e. e.message) (take (length messages) dest.left)
+ShowsLeft stores dest (Entries place messages) = IsTold stores dest.setup.buffer
+    → messages ≡ map (λ e. e.message) (take (length messages) dest.left)
 ShowsLeft stores dest Empty = dest.left ≡ []
 ShowsLeft stores dest FrontBroken = Unit {0}
 
@@ -99,10 +106,12 @@ is_front_broken FrontBroken = true
 
 -- so many entries are left, from that place on
 abbrev pub can_settle : SinkState → ℕ → ℕ → Bool
-can_settle sink place n = place == sink.taken && nat_le n (length sink.lengths + length sink.entries)
+can_settle sink place n = place == sink.taken
+    && nat_le n (length sink.lengths + length sink.entries)
 
 abbrev pub can_settle_at : List SinkState → ℕ → ℕ → ℕ → Bool
-can_settle_at sinks d place n = option_map_or (λ sink. can_settle sink place n) (slice_get sinks d) false
+can_settle_at sinks d place n = option_map_or (λ sink. can_settle sink place n) (slice_get sinks d)
+    false
 
 -- the store of the destination's disk-buffer has failed
 abbrev pub broken_at : List SinkState → ℕ → Bool
@@ -146,8 +155,10 @@ abbrev pub RefillsBy : Option BufferSetup → SinkState → SinkState → Refill
 RefillsBy None old new answer = answer ≡ NoneWaits
 RefillsBy (Some buffer) old new RefillBroken = new.broken ≡ true
 RefillsBy (Some buffer) old new NoneWaits = (old.broken ≡ false) × (old.entries ≡ [])
-RefillsBy (Some buffer) old new NoRoom = (old.broken ≡ false) × (old.entries ≢ []) × (fitting 1000 (refill_of buffer old) old.entries ≡ 0)
-RefillsBy (Some buffer) old new (Moved n) = (new.broken ≡ false) × (0 < n) × (n ≡ fitting 1000 (refill_of buffer old) old.entries)
+RefillsBy (Some buffer) old new NoRoom = (old.broken ≡ false) × (old.entries ≢ [])
+    × (fitting 1000 (refill_of buffer old) old.entries ≡ 0)
+RefillsBy (Some buffer) old new (Moved n) = (new.broken ≡ false) × (0 < n)
+    × (n ≡ fitting 1000 (refill_of buffer old) old.entries)
 
 -- of the destination of that number
 abbrev pub RefillsAt : Option SinkState → Option SinkState → Refill → Type 0

@@ -35,7 +35,8 @@ CreditGives old i reply new = ⊥
 
 -- records come in; or they don't, and come back
 pub record HasAdmitted (old : CoreState) (i : ℕ) (records : List Admission) (result : Result (List Verdict) Refused) (new : CoreState) : Type 0 where
-  pub does : MatchResult result (λ verdicts. Does old new (AdmitAct i records verdicts)) (λ _. Does old new Look)
+  pub does : MatchResult result (λ verdicts. Does old new (AdmitAct i records verdicts))
+      (λ _. Does old new Look)
   pub no_credit : (is_no_credit result ≡ true) ↔ (credit_at old.sources i < length records)
   pub back : IfErr result (λ refused. records_back refused ≡ records)
   pub err : OnErr result (new ≡ counted old)
@@ -48,7 +49,8 @@ AdmitGives old i records reply new = ⊥
 pub record HasShown {E : Type 0} (old : CoreState) (d most : ℕ) (result : Result CoreFront E) (new : CoreState) : Type 0 where
   pub does : Does old new Look
   pub front : IfOk result (AnswersFrontAt (slice_get old.sinks d) (slice_get new.sinks d) most)
-  pub shows : IfOk result (λ front. (state : State) (dest : Dest) → IsAt old state → slice_get state.dests d ≡ Some dest → ShowsLeft old.stores dest front)
+  pub shows : IfOk result (λ front. (state : State) (dest : Dest) → IsAt old state
+      → slice_get state.dests d ≡ Some dest → ShowsLeft old.stores dest front)
   pub err : OnErr result (new.sinks ≡ old.sinks)
 
 abbrev pub FrontGives : CoreState → ℕ → ℕ → CoreReply → CoreState → Type 0
@@ -77,8 +79,10 @@ RefillGives old d reply new = ⊥
 -- the mark is stored
 pub record HasStored (old : CoreState) (i : ℕ) (result : Stored) (new : CoreState) : Type 0 where
   pub does : Does old new (store_act i result)
-  pub writes : (s : ℕ) → store_at old.sources i ≡ Some s → WritesAt old.stores new.stores s (mark_in old.sources i) result
-  pub answer : (s : ℕ) → store_at old.sources i ≡ Some s → AnswersStore (mark_in old.sources i) (slice_get old.stores s) (slice_get new.stores s) result
+  pub writes : (s : ℕ) → store_at old.sources i ≡ Some s
+      → WritesAt old.stores new.stores s (mark_in old.sources i) result
+  pub answer : (s : ℕ) → store_at old.sources i ≡ Some s → AnswersStore (mark_in old.sources i)
+      (slice_get old.stores s) (slice_get new.stores s) result
 
 abbrev pub StoreGives : CoreState → ℕ → CoreReply → CoreState → Type 0
 StoreGives old i (StoredReply result) new = HasStored old i result new

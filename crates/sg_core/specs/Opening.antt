@@ -27,7 +27,9 @@ use Rattle.sg_standing.specs.declared.source.Source.{Source}
 
 -- the number of the store of a destination's disk-buffer
 abbrev pub buffer_store_in : List DestSetup → ℕ → Option ℕ
-buffer_store_in setups d = option_and_then (λ setup. option_map_or (λ (buffer : BufferSetup). Some buffer.store) setup.buffer None) (slice_get setups d)
+buffer_store_in setups d = option_and_then
+    (λ setup. option_map_or (λ (buffer : BufferSetup). Some buffer.store) setup.buffer None)
+    (slice_get setups d)
 
 -- they are among so many
 abbrev pub HaveStores : List DestSetup → ℕ → Type 0
@@ -37,9 +39,12 @@ HaveStores setups count = (d s : ℕ) → buffer_store_in setups d ≡ Some s �
 pub record NumberStores (setup : Setup) (count : ℕ) : Type 0 where
   pub positions : (i s : ℕ) → store_in setup.sources i ≡ Some s → s < count
   pub buffers : HaveStores setup.dests count
-  pub inlets_apart : (i j s : ℕ) → store_in setup.sources i ≡ Some s → store_in setup.sources j ≡ Some s → i ≡ j
-  pub dests_apart : (d e s : ℕ) → buffer_store_in setup.dests d ≡ Some s → buffer_store_in setup.dests e ≡ Some s → d ≡ e
-  pub apart : (i d s : ℕ) → store_in setup.sources i ≡ Some s → buffer_store_in setup.dests d ≡ Some s → ⊥
+  pub inlets_apart : (i j s : ℕ) → store_in setup.sources i ≡ Some s
+      → store_in setup.sources j ≡ Some s → i ≡ j
+  pub dests_apart : (d e s : ℕ) → buffer_store_in setup.dests d ≡ Some s
+      → buffer_store_in setup.dests e ≡ Some s → d ≡ e
+  pub apart : (i d s : ℕ) → store_in setup.sources i ≡ Some s
+      → buffer_store_in setup.dests d ≡ Some s → ⊥
 
 abbrev pub HaveWindows : List SourceSetup → Type 0
 HaveWindows [] = Unit {0}
@@ -47,7 +52,8 @@ HaveWindows (s ∷ ss) = (0 < s.window) × HaveWindows ss
 
 -- no disk-buffer has a capacity above 2^30
 abbrev pub HaveCapacities : List DestSetup → Type 0
-HaveCapacities setups = (d : ℕ) (setup : DestSetup) (buffer : BufferSetup) → slice_get setups d ≡ Some setup → setup.buffer ≡ Some buffer → buffer.capacity ≤ 2 ^ 30
+HaveCapacities setups = (d : ℕ) (setup : DestSetup) (buffer : BufferSetup)
+    → slice_get setups d ≡ Some setup → setup.buffer ≡ Some buffer → buffer.capacity ≤ 2 ^ 30
 
 -- the disk-buffer's, where it has this store
 abbrev pub kind_by : Option BufferSetup → ℕ → StoreKind → StoreKind
@@ -79,7 +85,8 @@ lengths_in heads = map (λ (h : Head). h.length) heads
 -- what was found at a destination's disk-buffer
 abbrev pub found_at : List Found → Option BufferSetup → List Head
 found_at founds None = []
-found_at founds (Some buffer) = option_map_or (λ (found : Found). found.heads.items) (slice_get founds buffer.store) []
+found_at founds (Some buffer) = option_map_or (λ (found : Found). found.heads.items)
+    (slice_get founds buffer.store) []
 
 abbrev pub opened_sink : List Found → DestSetup → SinkState
 opened_sink founds setup = recovers (fresh_sink setup) (found_at founds setup.buffer)
@@ -87,11 +94,14 @@ opened_sink founds setup = recovers (fresh_sink setup) (found_at founds setup.bu
 -- entries were found in the disk-buffer's store, whose sizes add up
 abbrev pub CanRecover : List Found → Option BufferSetup → Type 0
 CanRecover founds None = Unit {0}
-CanRecover founds (Some buffer) = (buffer.store < length founds) × ((found : Found) → slice_get founds buffer.store ≡ Some found → space (lengths_in found.heads.items) < 2 ^ 64)
+CanRecover founds (Some buffer) = (buffer.store < length founds)
+    × ((found : Found) → slice_get founds buffer.store ≡ Some found
+    → space (lengths_in found.heads.items) < 2 ^ 64)
 
 abbrev pub AreRecoverable : List Found → List DestSetup → Type 0
 AreRecoverable founds [] = Unit {0}
-AreRecoverable founds (setup ∷ setups) = CanRecover founds setup.buffer × AreRecoverable founds setups
+AreRecoverable founds (setup ∷ setups) = CanRecover founds setup.buffer
+    × AreRecoverable founds setups
 
 abbrev pub AreThere : List StoreState → List SourceSetup → Type 0
 AreThere stores [] = Unit {0}
@@ -107,10 +117,14 @@ pub record IsOpen (setup : Setup) (disks : List DiskState) (core : CoreState) : 
   pub sources : core.sources ≡ map (opened_source core.stores) setup.sources
   pub sinks : core.sinks ≡ map (opened_sink founds) setup.dests
   pub opening : Opening
-  pub places : opening.places ≡ map (λ (s : SourceSetup). stored_in core.stores s.store) setup.sources
+  pub places : opening.places
+      ≡ map (λ (s : SourceSetup). stored_in core.stores s.store) setup.sources
   pub every_list : length opening.entries ≡ length setup.dests
-  pub lists : (d : ℕ) (dest : DestSetup) (buffer : BufferSetup) (disk : DiskState) (list : List Kept) → slice_get setup.dests d ≡ Some dest → dest.buffer ≡ Some buffer
-      → slice_get disks buffer.store ≡ Some disk → slice_get opening.entries d ≡ Some list → WhereTold (content disk) (IsListOf (map coded list))
+  pub lists :
+      (d : ℕ) (dest : DestSetup) (buffer : BufferSetup) (disk : DiskState) (list : List Kept)
+      → slice_get setup.dests d ≡ Some dest → dest.buffer ≡ Some buffer
+      → slice_get disks buffer.store ≡ Some disk → slice_get opening.entries d ≡ Some list
+      → WhereTold (content disk) (IsListOf (map coded list))
   pub stands : StandsFor core (opened setup opening) []
   pub unbegun : (i : ℕ) → begun_in core.sources i ≡ 0
   pub calls : core.calls ≡ 0

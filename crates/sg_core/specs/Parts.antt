@@ -11,7 +11,8 @@ use Rattle.sg_standing.specs.declared.source.Source.{Source}
 
 -- the first entries that wait at a destination
 abbrev pub entries_at : List SinkState → ℕ → ℕ → List Entry
-entries_at sinks d n = option_map_or (λ (sink : SinkState). take n sink.entries) (slice_get sinks d) []
+entries_at sinks d n = option_map_or (λ (sink : SinkState). take n sink.entries) (slice_get sinks d)
+    []
 
 -- so many wait there
 abbrev pub HasWaiting : Option SinkState → ℕ → Type 0
@@ -29,12 +30,15 @@ HasLeft (Some sink) n = n ≤ length sink.lengths + length sink.entries
 
 -- of the first n that are left those that wait
 abbrev pub settling_at : List SinkState → ℕ → ℕ → List Entry
-settling_at sinks d n = option_map_or (λ (sink : SinkState). take (n - length sink.lengths) sink.entries) (slice_get sinks d) []
+settling_at sinks d n =
+    option_map_or (λ (sink : SinkState). take (n - length sink.lengths) sink.entries)
+    (slice_get sinks d) []
 
 -- each can be acknowledged, one after another
 abbrev pub CanAckAll : List Source → List Entry → Type 0
 CanAckAll sources [] = Unit {0}
-CanAckAll sources (e ∷ es) = (e.flow ≡ true → CanAck (slice_get sources e.inlet) e.number) × CanAckAll (acks sources e) es
+CanAckAll sources (e ∷ es) = (e.flow ≡ true → CanAck (slice_get sources e.inlet) e.number)
+    × CanAckAll (acks sources e) es
 
 -- the first n that wait are settled
 abbrev pub settled_waiting_some : ℕ → SinkState → SinkState
@@ -49,8 +53,10 @@ moved_some n sink =
 abbrev pub FitSome : ℕ → ℕ → ℕ → List Entry → Type 0
 FitSome zero capacity used es = Unit {0}
 FitSome (suc n) capacity used [] = ⊥
-FitSome (suc n) capacity used (e ∷ es) = (has_space capacity used (encoded_len e.message) ≡ true) × FitSome n capacity (used + (5 + encoded_len e.message)) es
+FitSome (suc n) capacity used (e ∷ es) = (has_space capacity used (encoded_len e.message) ≡ true)
+    × FitSome n capacity (used + (5 + encoded_len e.message)) es
 
 abbrev pub CanMove : BufferSetup → Option SinkState → ℕ → Type 0
 CanMove buffer None n = ⊥
-CanMove buffer (Some sink) n = (sink.setup.buffer ≡ Some buffer) × FitSome n buffer.capacity (space sink.lengths) sink.entries
+CanMove buffer (Some sink) n = (sink.setup.buffer ≡ Some buffer)
+    × FitSome n buffer.capacity (space sink.lengths) sink.entries

@@ -48,8 +48,11 @@ impl<D: Disk> Core<D> {
         requires inlet { i < length self.old.sources }
         requires batch { IsBatch (setup_of self.old) records.items }
         requires few { self.old.calls + 1 < 2 ^ 54 }
-        ensures does { MatchResult result (λ verdicts. Does self.old self.new (Act.Admit i records.items verdicts.items)) (λ _. Does self.old self.new Act.Look) }
-        ensures no_credit { (is_no_credit result ≡ true) ↔ (credit_at self.old.sources i < length records.items) }
+        ensures does { MatchResult result
+            (λ verdicts. Does self.old self.new (Act.Admit i records.items verdicts.items))
+            (λ _. Does self.old self.new Act.Look) }
+        ensures no_credit { (is_no_credit result ≡ true) ↔
+            (credit_at self.old.sources i < length records.items) }
         ensures back { IfErr result (λ refused. records_back refused ≡ records.items) }
         ensures err { OnErr result (self.new ≡ counted self.old) }
     {

@@ -38,7 +38,8 @@ fn stage_all<D: Disk>(
     requires flags { length staged.old ≡ length sinks.now }
     requires stores { HaveStores (buffers_of (seen_in sinks.now)) (length stores.old) }
     ensures stores { StagedAll stores.old stores.new (buffers_of (seen_in sinks.now)) payloads.now }
-    ensures flags { (d : ℕ) → fails_at staged.new d ≡ (fails_at staged.old d || is_staged d payloads.now) }
+    ensures flags { (d : ℕ)
+        → fails_at staged.new d ≡ (fails_at staged.old d || is_staged d payloads.now) }
 {
     for payload in payloads {
         if payload.taken {
@@ -65,7 +66,8 @@ fn commit_all<D: Disk>(sinks: &Seq<Sink>, stores: &mut Stores<D>, staged: &mut [
     requires flags { length staged.old ≡ length sinks.now }
     requires stores { HaveStores (buffers_of (seen_in sinks.now)) (length stores.old) }
     requires apart { AreApartBuffers (buffers_of (seen_in sinks.now)) }
-    ensures { CommittedAll stores.old stores.new (buffers_of (seen_in sinks.now)) staged.old staged.new }
+    ensures { CommittedAll stores.old stores.new (buffers_of (seen_in sinks.now)) staged.old
+        staged.new }
 {
     for d in 0..staged.len() {
         if staged[d] {
@@ -86,7 +88,8 @@ pub fn append_all<D: Disk>(
     requires unset { (d : ℕ) → fails_at fails.old d ≡ false }
     requires stores { HaveStores (buffers_of (seen_in sinks.now)) (length stores.old) }
     requires apart { AreApartBuffers (buffers_of (seen_in sinks.now)) }
-    ensures { AppendedAll stores.old stores.new (buffers_of (seen_in sinks.now)) payloads.now fails.new }
+    ensures { AppendedAll stores.old stores.new (buffers_of (seen_in sinks.now)) payloads.now
+        fails.new }
 {
     stage_all(sinks, stores, payloads, fails);
     commit_all(sinks, stores, fails);

@@ -62,5 +62,8 @@ impl<D: Disk> Counter for Core<D> {
 /// A law: the calls of a core, one after another, are the events of their acts. The function does
 /// nothing.
 pub fn calls_are_events()
-    ensures { (old new : CoreState) (made : List Exchange) (start : State) (events : List Event) → Makes Serves old made new → StandsFor old start events → (more : List Event) × (map (λ event. event.act) more ≡ acts_of made) × StandsFor new start (events ++ more) }
+    ensures { (old new : CoreState) (made : List Exchange) (start : State) (events : List Event)
+        → Makes Serves old made new → StandsFor old start events
+        → (more : List Event) × (map (λ event. event.act) more ≡ acts_of made)
+        × StandsFor new start (events ++ more) }
 {}

@@ -22,7 +22,8 @@ use std::alloc::{AllocError, Global};
 // The message of the entry at a place among those that wait, shared and not copied.
 fn waiting_message(sink: &Sink, k: usize) -> Result<Message, NoMemory>
     requires { k < length sink.now.seen.entries }
-    ensures { IfOk result (λ message. option_map (λ e. e.message) (slice_get sink.now.seen.entries k) ≡ Some message) }
+    ensures { IfOk result (
+        λ message. option_map (λ e. e.message) (slice_get sink.now.seen.entries k) ≡ Some message) }
 {
     let Some(entry) = sink.get(k) else {
         unreachable!()
@@ -40,7 +41,8 @@ fn push(messages: &mut Vec<Message>, message: Message) -> Result<(), AllocError>
 // The messages of the first n entries that wait.
 fn waiting_messages(alloc: Global, sink: &Sink, n: usize) -> Result<Vec<Message>, NoMemory>
     requires { n ≤ length sink.now.seen.entries }
-    ensures { IfOk result (λ messages. messages.items ≡ map (λ e. e.message) (take n sink.now.seen.entries)) }
+    ensures { IfOk result
+        (λ messages. messages.items ≡ map (λ e. e.message) (take n sink.now.seen.entries)) }
 {
     let mut messages = Vec::with_capacity(alloc, n)?;
     for k in 0..n {
@@ -76,11 +78,14 @@ impl<D: Disk> Core<D> {
         requires some { 0 < most }
         requires few { self.old.calls + 1 < 2 ^ 54 }
         ensures does { Does self.old self.new Act.Look }
-        ensures front { IfOk result (AnswersFrontAt (slice_get self.old.sinks d) (slice_get self.new.sinks d) most) }
-        ensures shows { IfOk result (λ front. (state : State) (dest : Dest) → IsAt self.old state → slice_get state.dests d ≡ Some dest → ShowsLeft self.old.stores dest front) }
+        ensures front { IfOk result
+            (AnswersFrontAt (slice_get self.old.sinks d) (slice_get self.new.sinks d) most) }
+        ensures shows { IfOk result (λ front. (state : State) (dest : Dest) → IsAt self.old state
+            → slice_get state.dests d ≡ Some dest → ShowsLeft self.old.stores dest front) }
         ensures err { OnErr result (self.new.sinks ≡ self.old.sinks) }
         ensures queue { buffer_at self.old.sinks d ≡ None → self.new ≡ counted self.old }
-        ensures unbroken { buffer_at self.old.sinks d ≡ None → IfOk result (λ front. is_front_broken front ≡ false) }
+        ensures unbroken { buffer_at self.old.sinks d ≡ None
+            → IfOk result (λ front. is_front_broken front ≡ false) }
     {
         self.calls += 1;
         let sink = self.sinks.at(d as usize);

@@ -20,7 +20,8 @@ use std::alloc::{AllocError, Global};
 fn set_kind(kinds: &mut [StoreKind], buffer: BufferSetup)
     requires { buffer.store < length kinds.old }
     ensures count { length kinds.new ≡ length kinds.old }
-    ensures kinds { (s : ℕ) → slice_get kinds.new s ≡ option_map (kind_by (Some buffer) s) (slice_get kinds.old s) }
+    ensures kinds { (s : ℕ)
+        → slice_get kinds.new s ≡ option_map (kind_by (Some buffer) s) (slice_get kinds.old s) }
 {
     kinds[buffer.store as usize] = StoreKind::Buffer {
         capacity: buffer.capacity,
@@ -133,7 +134,8 @@ impl<D: Disk> Core<D> {
         requires dests { length setup.dests ≤ 64 }
         requires stores { length stores.items ≤ 192 }
         ensures opened { IfOk result (IsOpen setup (map D.state stores.items)) }
-        ensures refused { IfErr result (λ e. IsUnopened setup (map D.state stores.items) (map D.state e.0.items) e.1) }
+        ensures refused { IfErr result
+            (λ e. IsUnopened setup (map D.state stores.items) (map D.state e.0.items) e.1) }
     {
         let kinds = match kinds_of(alloc, setup.dests.as_slice(), stores.len()) {
             Ok(kinds) => kinds,

@@ -17,8 +17,11 @@ impl<D: Disk> Core<D> {
         requires store { IsSome (store_at self.old.sources i) }
         requires few { self.old.calls + 1 < 2 ^ 54 }
         ensures does { Does self.old self.new (store_act i result) }
-        ensures writes { (s : ℕ) → store_at self.old.sources i ≡ Some s → WritesAt self.old.stores self.new.stores s (mark_in self.old.sources i) result }
-        ensures answer { (s : ℕ) → store_at self.old.sources i ≡ Some s → AnswersStore (mark_in self.old.sources i) (slice_get self.old.stores s) (slice_get self.new.stores s) result }
+        ensures writes { (s : ℕ) → store_at self.old.sources i ≡ Some s
+            → WritesAt self.old.stores self.new.stores s (mark_in self.old.sources i) result }
+        ensures answer { (s : ℕ) → store_at self.old.sources i ≡ Some s
+            → AnswersStore (mark_in self.old.sources i) (slice_get self.old.stores s)
+            (slice_get self.new.stores s) result }
     {
         self.calls += 1;
         let source = self.sources.at(i as usize);
@@ -36,8 +39,10 @@ impl<D: Disk> Core<D> {
         requires none { begun_in self.old.sources i ≡ 0 }
         requires few { self.old.calls + 1 < 2 ^ 54 }
         ensures does { Does self.old self.new (rewind_act i result) }
-        ensures writes { (s : ℕ) → store_at self.old.sources i ≡ Some s → WritesAt self.old.stores self.new.stores s 0 result }
-        ensures answer { (s : ℕ) → store_at self.old.sources i ≡ Some s → AnswersStore 0 (slice_get self.old.stores s) (slice_get self.new.stores s) result }
+        ensures writes { (s : ℕ) → store_at self.old.sources i ≡ Some s
+            → WritesAt self.old.stores self.new.stores s 0 result }
+        ensures answer { (s : ℕ) → store_at self.old.sources i ≡ Some s
+            → AnswersStore 0 (slice_get self.old.stores s) (slice_get self.new.stores s) result }
     {
         self.calls += 1;
         let Some(s) = self.sources.at(i as usize).setup.store else {

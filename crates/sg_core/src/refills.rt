@@ -25,7 +25,8 @@ const MOST: u32 = 1000;
 fn fitting(sink: &Sink, buffer: BufferSetup) -> u32
     ensures value { result ≡ fitting 1000 (refill_of buffer sink.now.seen) sink.now.seen.entries }
     ensures few { result ≤ 1000 }
-    ensures fits { FitSome result buffer.capacity (space sink.now.seen.lengths) sink.now.seen.entries }
+    ensures fits { FitSome result buffer.capacity (space sink.now.seen.lengths)
+        sink.now.seen.entries }
 {
     let mut trial = sink.refill(buffer);
     let mut n = 0;
@@ -61,7 +62,8 @@ impl<D: Disk> Core<D> {
         requires dest { d < length self.old.sinks }
         requires few { self.old.calls + 1 < 2 ^ 54 }
         ensures does { Does self.old self.new (refill_act d result) }
-        ensures answer { RefillsAt (slice_get self.old.sinks d) (slice_get self.new.sinks d) result }
+        ensures answer { RefillsAt (slice_get self.old.sinks d) (slice_get self.new.sinks d)
+            result }
         ensures none { buffer_at self.old.sinks d ≡ None → result ≡ Answer.NoneWaits }
         ensures queue { buffer_at self.old.sinks d ≡ None → self.new ≡ counted self.old }
     {

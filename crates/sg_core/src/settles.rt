@@ -78,7 +78,8 @@ impl<D: Disk> Core<D> {
         requires some { 0 < n }
         requires few { self.old.calls + 1 < 2 ^ 54 }
         ensures does { Does self.old self.new (settle_act d n result) }
-        ensures answer { AnswersSettle (can_settle_at self.old.sinks d place n) (broken_at self.new.sinks d) result }
+        ensures answer { AnswersSettle (can_settle_at self.old.sinks d place n)
+            (broken_at self.new.sinks d) result }
         ensures same { OnNotFront result (self.new ≡ counted self.old) }
         ensures queue { buffer_at self.old.sinks d ≡ None → result ≢ Answer.DiskFailed }
     {

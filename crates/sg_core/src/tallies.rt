@@ -53,7 +53,8 @@ pub fn tally_sources<D: Disk>(
     stores: &Stores<D>,
 ) -> Result<Vec<SourceTally>, AllocError>
     requires { AreFit stores.now sources.now }
-    ensures { IfOk result (λ tallies. tallies.items ≡ map (source_tally_of stores.now) sources.now) }
+    ensures { IfOk result
+        (λ tallies. tallies.items ≡ map (source_tally_of stores.now) sources.now) }
 {
     let mut tallies = Vec::with_capacity(alloc, sources.len())?;
     for source in sources {

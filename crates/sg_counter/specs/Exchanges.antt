@@ -10,9 +10,11 @@ pub record Exchange : Type 0 where
   pub reply : CoreReply
 
 -- calls one after another, each a step
-abbrev pub Makes : {S : Type 0} → (S → CoreCall → CoreReply → S → Type 0) → S → List Exchange → S → Type 0
+abbrev pub Makes : {S : Type 0} → (S → CoreCall → CoreReply → S → Type 0) → S → List Exchange → S
+    → Type 0
 Makes step old [] new = new ≡ old
-Makes {S} step old (made ∷ rest) new = (between : S) × step old made.call made.reply between × Makes step between rest new
+Makes {S} step old (made ∷ rest) new = (between : S) × step old made.call made.reply between
+    × Makes step between rest new
 
 -- who makes a call: the feeder of a source, or the one that empties a destination
 pub data Caller : Type 0 where

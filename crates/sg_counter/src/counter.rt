@@ -43,7 +43,10 @@ pub trait Counter {
         requires left { 0 < left self.old }
         requires inlet { i < length (setup self.old).sources }
         requires batch { IsBatch (setup self.old) records.items }
-        ensures step { MatchResult result (λ verdicts. step self.old (CoreCall.Admit i records.items) (CoreReply.Admitted (Ok verdicts.items)) self.new) (λ refused. step self.old (CoreCall.Admit i records.items) (CoreReply.Admitted (Err refused)) self.new) }
+        ensures step { MatchResult result (λ verdicts. step self.old
+            (CoreCall.Admit i records.items) (CoreReply.Admitted (Ok verdicts.items)) self.new)
+            (λ refused. step self.old (CoreCall.Admit i records.items)
+            (CoreReply.Admitted (Err refused)) self.new) }
         ensures back { IfErr result (λ refused. records_back refused ≡ records.items) }
         ensures setup { setup self.new ≡ setup self.old }
         ensures left { left self.old ≤ left self.new + 1 };
@@ -70,7 +73,8 @@ pub trait Counter {
         requires left { 0 < left self.old }
         requires dest { d < length (setup self.old).dests }
         requires some { 0 < n }
-        ensures step { step self.old (CoreCall.Settle d place n) (CoreReply.Settled result) self.new }
+        ensures step { step self.old (CoreCall.Settle d place n) (CoreReply.Settled result)
+            self.new }
         ensures setup { setup self.new ≡ setup self.old }
         ensures left { left self.old ≤ left self.new + 1 };
 

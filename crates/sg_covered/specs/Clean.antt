@@ -20,13 +20,24 @@ use Rattle.sg_covered.specs.Runs.{EachChoice, AllTell, GaveOf, files_of}
 
 -- Each inlet with a position store is read by lines, and tells what is left of its file.
 pub record AreLines (plan : RunPlan) (reached : Reached) (bytes : ℕ → List ℕ) : Type 0 where
-  pub kinds : (i : ℕ) (inlet : InletPlan) → IsFile plan.setup i → slice_get plan.inlets.items i ≡ Some inlet → inlet.kind ≡ Lines
-  pub gave : (i : ℕ) (feed : InletState) → IsFile plan.setup i → slice_get reached.inlets_closed i ≡ Some feed → (g : GaveOf (bytes i) feed) × (feed.left ≡ Some g.left)
+  pub kinds : (i : ℕ) (inlet : InletPlan) → IsFile plan.setup i
+      → slice_get plan.inlets.items i ≡ Some inlet → inlet.kind ≡ Lines
+  pub gave : (i : ℕ) (feed : InletState) → IsFile plan.setup i
+      → slice_get reached.inlets_closed i ≡ Some feed
+      → (g : GaveOf (bytes i) feed) × (feed.left ≡ Some g.left)
 
 -- A run that ended quietly, with nothing counted as failed, over files that are read by lines, ends clean.
-abbrev pub PlanRunsEndClean : {R I O : Type 0} → (I → InletState) → (O → OutletState) → (R → ℕ → Record → List Offer → Type 0) → (R → ℕ) → (R → ℕ) → Type 0
+abbrev pub PlanRunsEndClean : {R I O : Type 0} → (I → InletState) → (O → OutletState)
+    → (R → ℕ → Record → List Offer → Type 0) → (R → ℕ) → (R → ℕ) → Type 0
 PlanRunsEndClean {R} {I} {O} feed drain offers inlets dests =
-    (old new : WorldState) (plan : RunPlan) (routers : List R) (rounds : ℕ) (counts : Counts) (reached : Reached) (run : CoreRun) (bytes : ℕ → List ℕ) (taken : List Taken) (passes : List Pass) (places : ℕ → ℕ)
-    → IsRunnable plan → RunsWith feed drain offers inlets dests old new plan routers rounds (Ran Quiet (Some counts)) reached → reached.core ≡ Some run → first_fault counts.sinks counts.stores counts.inlets ≡ None
-    → AllTell reached.stores → AreLines plan reached bytes → EachChoice plan.setup reached.stores (Covered plan.setup (offers_in offers routers) (files_of plan.inlets.items bytes) taken passes places)
-    → EachChoice plan.setup reached.stores_closed (EndsClean plan.setup (files_of plan.inlets.items bytes))
+    (old new : WorldState) (plan : RunPlan) (routers : List R) (rounds : ℕ) (counts : Counts)
+    (reached : Reached) (run : CoreRun) (bytes : ℕ → List ℕ) (taken : List Taken)
+    (passes : List Pass) (places : ℕ → ℕ)
+    → IsRunnable plan → RunsWith feed drain offers inlets dests old new plan routers rounds
+    (Ran Quiet (Some counts)) reached → reached.core ≡ Some run
+    → first_fault counts.sinks counts.stores counts.inlets ≡ None
+    → AllTell reached.stores → AreLines plan reached bytes → EachChoice plan.setup reached.stores
+    (Covered plan.setup (offers_in offers routers) (files_of plan.inlets.items bytes) taken passes
+    places)
+    → EachChoice plan.setup reached.stores_closed
+    (EndsClean plan.setup (files_of plan.inlets.items bytes))

@@ -41,7 +41,8 @@ pub record HasGathered (old : SeatState) (seats : List SeatState) (new : SeatSta
   pub own : new.own ≡ old.own
   pub left : new.left ≡ old.left + total (λ (seat : SeatState). seat.left) seats
   pub seen : StartsWith new.seen old.seen
-  pub told : (j : ℕ) (seat : SeatState) → slice_get seats j ≡ Some seat → StartsWith new.seen seat.seen
+  pub told : (j : ℕ) (seat : SeatState) → slice_get seats j ≡ Some seat
+      → StartsWith new.seen seat.seen
   pub joined : new.joined ≡ old.joined ++ map (λ (seat : SeatState). seat.own) seats
 
 -- Turns.
@@ -60,15 +61,19 @@ pub record HasRoundWith {A B : Type 0} (source : A → A → Turn → Type 0) (d
     (busy starved : Bool) (more : List Called) (turn : Caller → Turn) : Type 0 where
   pub seen : first'.seen ≡ first.seen ++ more
   pub before : AllSeen first' → AllSeen first
-  pub took : AllSeen first' → TookRoundWith source dest any_step (tt {0}) (tt {0}) sources sources' dests dests' (record { busy = busy; starved = starved }) (exchanges_of more) turn
+  pub took : AllSeen first' → TookRoundWith source dest any_step (tt {0}) (tt {0}) sources sources'
+      dests dests' (record { busy = busy; starved = starved }) (exchanges_of more) turn
   pub all_sources : length sources' ≡ length sources
   pub all_dests : length dests' ≡ length dests
 
-abbrev pub HasRound : {A B : Type 0} → (A → A → Turn → Type 0) → (B → B → Turn → Type 0) → SeatState → SeatState → List A → List A → List B → List B → Bool → Bool → Type 0
+abbrev pub HasRound : {A B : Type 0} → (A → A → Turn → Type 0) → (B → B → Turn → Type 0) → SeatState
+    → SeatState → List A → List A → List B → List B → Bool → Bool → Type 0
 HasRound source dest first first' sources sources' dests dests' busy starved =
-    (more : List Called) × ((turn : Caller → Turn) × HasRoundWith source dest first first' sources sources' dests dests' busy starved more turn)
+    (more : List Called) × ((turn : Caller → Turn)
+    × HasRoundWith source dest first first' sources sources' dests dests' busy starved more turn)
 
-abbrev pub HasServed : {A B : Type 0} → (A → A → List Turn → Type 0) → (B → B → List Turn → Type 0) → SeatState → List A → List A → List B → List B → ℕ → Ended → Type 0
+abbrev pub HasServed : {A B : Type 0} → (A → A → List Turn → Type 0) → (B → B → List Turn → Type 0)
+    → SeatState → List A → List A → List B → List B → ℕ → Ended → Type 0
 HasServed source dest first sources sources' dests dests' rounds ended =
     (account : Caller → List Turn) × ((number : ℕ)
     × (AllSeen first → ServesWith source dest any_step (tt {0}) (tt {0}) sources sources' dests dests' rounds ended (exchanges_of first.seen) account number))

@@ -52,7 +52,8 @@ MayJoin hub w = IsDeskOf hub w.seat × (w.seat.joined ≡ [])
 pub record MayRead {R I D : Type 0} (state : I → InletState) (inlets dests : R → ℕ) (hub : HubState) (w : Worker (SourceActor R I) D) : Type 0 where
   pub of_hub : IsDeskOf hub w.seat
   pub left : 4 ≤ w.seat.left
-  pub fits : FitsSource (setup_of hub.made) w.actor.spec (inlets w.actor.router) (dests w.actor.router)
+  pub fits : FitsSource (setup_of hub.made) w.actor.spec (inlets w.actor.router)
+      (dests w.actor.router)
   pub ready : IsReady (dests w.actor.router) w.actor.spec (source_seen state w.actor).source
 
 -- the destination may take a turn
@@ -65,9 +66,11 @@ pub record MaySend {O D : Type 0} (state : O → OutletState) (hub : HubState) (
 -- the source took a turn
 pub record HasRead {R I D : Type 0} (state : I → InletState) (offers : R → ℕ → Record → List Offer → Type 0) (inlets dests : R → ℕ) (hub : HubState) (w v : Worker (SourceActor R I) D) : Type 0 where
   pub turn : Turn
-  pub worked : WorkedWith (SourceTakes state offers inlets dests w.actor v.actor) (OfSource w.actor.spec.inlet) hub w.seat v.seat v.turn turn
+  pub worked : WorkedWith (SourceTakes state offers inlets dests w.actor v.actor)
+      (OfSource w.actor.spec.inlet) hub w.seat v.seat v.turn turn
 
 -- the destination took a turn
 pub record HasSent {O D : Type 0} (state : O → OutletState) (hub : HubState) (w v : Worker (DestActor O) D) : Type 0 where
   pub turn : Turn
-  pub worked : WorkedWith (DestTakes state w.actor v.actor) (OfDest w.actor.spec.dest) hub w.seat v.seat v.turn turn
+  pub worked : WorkedWith (DestTakes state w.actor v.actor) (OfDest w.actor.spec.dest) hub w.seat
+      v.seat v.turn turn

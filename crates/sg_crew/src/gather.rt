@@ -70,7 +70,8 @@ fn deal_one<A, D: Disk>(hub: &Hub<D>, first: &mut Seat<D>, worker: &mut Worker<A
 pub(crate) fn deal<A, D: Disk>(hub: &Hub<D>, first: &mut Seat<D>, workers: &mut Vec<Worker<A, D>>)
     requires first { IsDeskOf hub.now first.old }
     requires left { 4 * length workers.old.items < first.old.left }
-    ensures first { first.new ≡ record first.old { left = first.old.left - 4 * length workers.old.items } }
+    ensures first { first.new
+        ≡ record first.old { left = first.old.left - 4 * length workers.old.items } }
     ensures workers { AllChanged (IsDealt first.old) workers.old.items workers.new.items }
 {
     for i in 0..workers.len() {
@@ -109,7 +110,8 @@ pub(crate) fn gather<A, D: Disk>(
     ensures gathered { HasGathered first.old (seats_of workers.old.items) first.new }
     ensures actors { AllChanged HasStayed workers.old.items workers.new.items }
     ensures busy { result.busy ≡ any is_busy_answer (turns_of workers.old.items) }
-    ensures starved { result.starved ≡ any (λ turn. not (is_some turn)) (turns_of workers.old.items) }
+    ensures starved { result.starved
+        ≡ any (λ turn. not (is_some turn)) (turns_of workers.old.items) }
 {
     let mut round = Round {
         busy: false,

@@ -32,7 +32,8 @@ fn take_lane<
 >(rt: &T, alloc: Global, hub: &Hub<D>, threads: usize, lane: &mut Lane<R, I, O, D>)
     requires threads { 0 < threads }
     requires may { MayTake I.state R.inlets R.dests O.state hub.now lane.old }
-    ensures taken { HasTaken I.state R.offers R.inlets R.dests O.state hub.entry.now lane.old lane.new }
+    ensures taken { HasTaken I.state R.offers R.inlets R.dests O.state hub.entry.now lane.old
+        lane.new }
 {
     work(rt, alloc, hub, threads, &mut lane.sources, &mut lane.dests);
 }
@@ -56,11 +57,15 @@ fn take_lanes<
     requires beside { 0 < beside }
     requires may { All (MayTake I.state R.inlets R.dests O.state hub.now) lanes.old }
     ensures all { length lanes.new ≡ length lanes.old }
-    ensures taken { (i : ℕ) (d : _) → i < length lanes.old → HasTaken I.state R.offers R.inlets R.dests O.state hub.entry.now (slice_index_or lanes.old i d) (slice_index_or lanes.new i d) }
+    ensures taken { (i : ℕ) (d : _) → i < length lanes.old → HasTaken I.state R.offers R.inlets
+        R.dests O.state hub.entry.now (slice_index_or lanes.old i d)
+        (slice_index_or lanes.new i d) }
 {
     let take = |_place: usize, lane: &mut Lane<R, I, O, D>|
-        requires { IsSync T.row × IsSend R.row × IsSend I.row × IsSend O.row × IsSend D.row × (0 < threads) × MayTake I.state R.inlets R.dests O.state hub.now lane.now }
-        ensures { HasTaken I.state R.offers R.inlets R.dests O.state hub.entry.now lane.entry.now lane.exit.now }
+        requires { IsSync T.row × IsSend R.row × IsSend I.row × IsSend O.row × IsSend D.row
+            × (0 < threads) × MayTake I.state R.inlets R.dests O.state hub.now lane.now }
+        ensures { HasTaken I.state R.offers R.inlets R.dests O.state hub.entry.now lane.entry.now
+            lane.exit.now }
     { take_lane(rt, alloc, hub, threads, lane) };
     for_each_mut(rt, lanes, beside, &take);
 }
@@ -94,7 +99,8 @@ pub(crate) fn take_turns<
     requires beside { 0 < beside }
     requires read { All (MayRead I.state R.inlets R.dests hub.now) sources.old.items }
     requires send { All (MaySend O.state hub.now) dests.old.items }
-    ensures read { AllChanged (HasRead I.state R.offers R.inlets R.dests hub.entry.now) sources.old.items sources.new.items }
+    ensures read { AllChanged (HasRead I.state R.offers R.inlets R.dests hub.entry.now)
+        sources.old.items sources.new.items }
     ensures send { AllChanged (HasSent O.state hub.entry.now) dests.old.items dests.new.items }
 {
     let mut lanes = [

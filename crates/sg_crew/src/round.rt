@@ -40,16 +40,22 @@ pub(crate) fn take_round<
     requires first { IsDeskOf hub.now first.old }
     requires ordered { AreOrdered first.old }
     requires left { 4 * length sources.old.items + 4 * length dests.old.items < first.old.left }
-    requires sources { AreSources I.state R.inlets R.dests (setup_of hub.now.made) (actors_of sources.old.items) }
+    requires sources { AreSources I.state R.inlets R.dests (setup_of hub.now.made)
+        (actors_of sources.old.items) }
     requires dests { AreDests O.state (setup_of hub.now.made) (actors_of dests.old.items) }
     ensures first { IsDeskOf hub.entry.now first.new }
     ensures ordered { AreOrdered first.new }
-    ensures sum { length (places first.new) + first.new.left ≡ length (places first.old) + first.old.left }
-    ensures left { first.old.left ≤ first.new.left + (4 * length sources.old.items + 4 * length dests.old.items) }
+    ensures sum { length (places first.new) + first.new.left
+        ≡ length (places first.old) + first.old.left }
+    ensures left { first.old.left
+        ≤ first.new.left + (4 * length sources.old.items + 4 * length dests.old.items) }
     ensures all_sources { length sources.new.items ≡ length sources.old.items }
     ensures all_dests { length dests.new.items ≡ length dests.old.items }
-    ensures took { HasRound (SourceTakes I.state R.offers R.inlets R.dests) (DestTakes O.state) first.old first.new (actors_of sources.old.items) (actors_of sources.new.items) (actors_of dests.old.items) (actors_of dests.new.items) result.busy result.starved }
-    ensures sources { AreSources I.state R.inlets R.dests (setup_of hub.entry.now.made) (actors_of sources.new.items) }
+    ensures took { HasRound (SourceTakes I.state R.offers R.inlets R.dests) (DestTakes O.state)
+        first.old first.new (actors_of sources.old.items) (actors_of sources.new.items)
+        (actors_of dests.old.items) (actors_of dests.new.items) result.busy result.starved }
+    ensures sources { AreSources I.state R.inlets R.dests (setup_of hub.entry.now.made)
+        (actors_of sources.new.items) }
     ensures dests { AreDests O.state (setup_of hub.entry.now.made) (actors_of dests.new.items) }
 {
     deal(hub, first, sources);

@@ -65,14 +65,18 @@ pub(crate) fn run_rounds<
     requires few_sources { length sources.old.items ≤ 128 }
     requires few_dests { length dests.old.items ≤ 64 }
     requires turns { 768 * rounds < hub.now.turns }
-    requires sources { AreSources I.state R.inlets R.dests (setup_of hub.now.made) (actors_of sources.old.items) }
+    requires sources { AreSources I.state R.inlets R.dests (setup_of hub.now.made)
+        (actors_of sources.old.items) }
     requires dests { AreDests O.state (setup_of hub.now.made) (actors_of dests.old.items) }
     ensures first { IsDeskOf hub.entry.now first.new }
     ensures ordered { AreOrdered first.new }
     ensures sum { length (places first.new) + first.new.left ≡ hub.entry.now.turns }
     ensures left { 0 < first.new.left }
-    ensures served { HasServed (SourceTook I.state R.offers R.inlets R.dests) (DestTook O.state) first.new (actors_of sources.old.items) (actors_of sources.new.items) (actors_of dests.old.items) (actors_of dests.new.items) rounds result }
-    ensures sources { AreSources I.state R.inlets R.dests (setup_of hub.entry.now.made) (actors_of sources.new.items) }
+    ensures served { HasServed (SourceTook I.state R.offers R.inlets R.dests) (DestTook O.state)
+        first.new (actors_of sources.old.items) (actors_of sources.new.items)
+        (actors_of dests.old.items) (actors_of dests.new.items) rounds result }
+    ensures sources { AreSources I.state R.inlets R.dests (setup_of hub.entry.now.made)
+        (actors_of sources.new.items) }
     ensures dests { AreDests O.state (setup_of hub.entry.now.made) (actors_of dests.new.items) }
     ensures all_sources { length sources.new.items ≡ length sources.old.items }
     ensures all_dests { length dests.new.items ≡ length dests.old.items }

@@ -27,7 +27,8 @@ struct Room<A, D: Disk> {
 // Room for so many actors.
 fn make_room<A, D: Disk>(alloc: Global, count: usize) -> Result<Room<A, D>, AllocError>
     ensures empty { IfOk result (λ room. (room.workers.items ≡ []) × (room.actors.items ≡ [])) }
-    ensures fits { IfOk result (λ room. (count ≤ vec_capacity room.workers) × (count ≤ vec_capacity room.actors)) }
+    ensures fits { IfOk result
+        (λ room. (count ≤ vec_capacity room.workers) × (count ≤ vec_capacity room.actors)) }
 {
     let workers = Vec::with_capacity(alloc, count)?;
     match Vec::with_capacity(alloc, count) {
@@ -83,10 +84,17 @@ fn serve_at<
     requires few_dests { length dests.items ≤ 64 }
     requires sources { AreSources I.state R.inlets R.dests (setup_of hub.made) sources.items }
     requires dests { AreDests O.state (setup_of hub.made) dests.items }
-    requires sources_room { (sources_room.workers.items ≡ []) × (sources_room.actors.items ≡ []) × (length sources.items ≤ vec_capacity sources_room.workers) × (length sources.items ≤ vec_capacity sources_room.actors) }
-    requires dests_room { (dests_room.workers.items ≡ []) × (dests_room.actors.items ≡ []) × (length dests.items ≤ vec_capacity dests_room.workers) × (length dests.items ≤ vec_capacity dests_room.actors) }
-    ensures serves { Serves (SourceTook I.state R.offers R.inlets R.dests) (DestTook O.state) CoreServes hub.made result.core sources.items result.sources.items dests.items result.dests.items rounds result.ended }
-    ensures sources { AreSources I.state R.inlets R.dests (setup_of result.core) result.sources.items }
+    requires sources_room { (sources_room.workers.items ≡ []) × (sources_room.actors.items ≡ [])
+        × (length sources.items ≤ vec_capacity sources_room.workers)
+        × (length sources.items ≤ vec_capacity sources_room.actors) }
+    requires dests_room { (dests_room.workers.items ≡ []) × (dests_room.actors.items ≡ [])
+        × (length dests.items ≤ vec_capacity dests_room.workers)
+        × (length dests.items ≤ vec_capacity dests_room.actors) }
+    ensures serves { Serves (SourceTook I.state R.offers R.inlets R.dests) (DestTook O.state)
+        CoreServes hub.made result.core sources.items result.sources.items dests.items
+        result.dests.items rounds result.ended }
+    ensures sources { AreSources I.state R.inlets R.dests (setup_of result.core)
+        result.sources.items }
     ensures dests { AreDests O.state (setup_of result.core) result.dests.items }
     ensures setup { setup_of result.core ≡ setup_of hub.made }
 {
@@ -145,10 +153,17 @@ fn serve_in<
     requires few_dests { length dests.items ≤ 64 }
     requires sources { AreSources I.state R.inlets R.dests (setup_of core) sources.items }
     requires dests { AreDests O.state (setup_of core) dests.items }
-    requires sources_room { (sources_room.workers.items ≡ []) × (sources_room.actors.items ≡ []) × (length sources.items ≤ vec_capacity sources_room.workers) × (length sources.items ≤ vec_capacity sources_room.actors) }
-    requires dests_room { (dests_room.workers.items ≡ []) × (dests_room.actors.items ≡ []) × (length dests.items ≤ vec_capacity dests_room.workers) × (length dests.items ≤ vec_capacity dests_room.actors) }
-    ensures serves { Serves (SourceTook I.state R.offers R.inlets R.dests) (DestTook O.state) CoreServes core result.core sources.items result.sources.items dests.items result.dests.items rounds result.ended }
-    ensures sources { AreSources I.state R.inlets R.dests (setup_of result.core) result.sources.items }
+    requires sources_room { (sources_room.workers.items ≡ []) × (sources_room.actors.items ≡ [])
+        × (length sources.items ≤ vec_capacity sources_room.workers)
+        × (length sources.items ≤ vec_capacity sources_room.actors) }
+    requires dests_room { (dests_room.workers.items ≡ []) × (dests_room.actors.items ≡ [])
+        × (length dests.items ≤ vec_capacity dests_room.workers)
+        × (length dests.items ≤ vec_capacity dests_room.actors) }
+    ensures serves { Serves (SourceTook I.state R.offers R.inlets R.dests) (DestTook O.state)
+        CoreServes core result.core sources.items result.sources.items dests.items
+        result.dests.items rounds result.ended }
+    ensures sources { AreSources I.state R.inlets R.dests (setup_of result.core)
+        result.sources.items }
     ensures dests { AreDests O.state (setup_of result.core) result.dests.items }
     ensures setup { setup_of result.core ≡ setup_of core }
 {
@@ -202,8 +217,11 @@ pub fn serve<
     requires few_dests { length dests.items ≤ 64 }
     requires sources { AreSources I.state R.inlets R.dests (setup_of core) sources.items }
     requires dests { AreDests O.state (setup_of core) dests.items }
-    ensures serves { Serves (SourceTook I.state R.offers R.inlets R.dests) (DestTook O.state) CoreServes core result.core sources.items result.sources.items dests.items result.dests.items rounds result.ended }
-    ensures sources { AreSources I.state R.inlets R.dests (setup_of result.core) result.sources.items }
+    ensures serves { Serves (SourceTook I.state R.offers R.inlets R.dests) (DestTook O.state)
+        CoreServes core result.core sources.items result.sources.items dests.items
+        result.dests.items rounds result.ended }
+    ensures sources { AreSources I.state R.inlets R.dests (setup_of result.core)
+        result.sources.items }
     ensures dests { AreDests O.state (setup_of result.core) result.dests.items }
     ensures setup { setup_of result.core ≡ setup_of core }
 {

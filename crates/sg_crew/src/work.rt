@@ -64,7 +64,9 @@ fn read_each<T: Threads + Wait + Sync, R: Router + Send, I: Inlet + Send, D: Dis
     requires threads { 0 < threads }
     requires may { All (MayRead I.state R.inlets R.dests hub.now) workers.old }
     ensures all { length workers.new ≡ length workers.old }
-    ensures worked { (i : ℕ) (d : _) → i < length workers.old → HasRead I.state R.offers R.inlets R.dests hub.entry.now (slice_index_or workers.old i d) (slice_index_or workers.new i d) }
+    ensures worked { (i : ℕ) (d : _) → i < length workers.old
+        → HasRead I.state R.offers R.inlets R.dests hub.entry.now (slice_index_or workers.old i d)
+        (slice_index_or workers.new i d) }
 {
     for_each_mut(
         rt,
@@ -85,7 +87,9 @@ fn send_each<T: Threads + Wait + Sync, O: Outlet + Send, D: Disk + Send>(
     requires threads { 0 < threads }
     requires may { All (MaySend O.state hub.now) workers.old }
     ensures all { length workers.new ≡ length workers.old }
-    ensures worked { (i : ℕ) (d : _) → i < length workers.old → HasSent O.state hub.entry.now (slice_index_or workers.old i d) (slice_index_or workers.new i d) }
+    ensures worked { (i : ℕ) (d : _) → i < length workers.old
+        → HasSent O.state hub.entry.now (slice_index_or workers.old i d)
+        (slice_index_or workers.new i d) }
 {
     for_each_mut(
         rt,
@@ -113,7 +117,8 @@ pub(crate) fn work<
     requires threads { 0 < threads }
     requires read { All (MayRead I.state R.inlets R.dests hub.now) sources.old.items }
     requires send { All (MaySend O.state hub.now) dests.old.items }
-    ensures read { AllChanged (HasRead I.state R.offers R.inlets R.dests hub.entry.now) sources.old.items sources.new.items }
+    ensures read { AllChanged (HasRead I.state R.offers R.inlets R.dests hub.entry.now)
+        sources.old.items sources.new.items }
     ensures send { AllChanged (HasSent O.state hub.entry.now) dests.old.items dests.new.items }
 {
     read_each(rt, alloc, hub, threads, sources);

@@ -56,7 +56,7 @@ use Rattle.sg_delivered.proofs.DestLemmas.{sendings-of}
 
 -- What a destination's outlet took, by its sendings.
 
-takes-these : (files : Option Files) (plan : RunPlan) (reached : Reached) (run : CoreRun) (made : List Exchange) → HoldsRun files plan reached run → AreStill run.prelude → (start : State) (later : List Event)
+pub takes-these : (files : Option Files) (plan : RunPlan) (reached : Reached) (run : CoreRun) (made : List Exchange) → HoldsRun files plan reached run → AreStill run.prelude → (start : State) (later : List Event)
     → Ran run.begun run.last made start run.prelude later → (d : ℕ) (new closed : OutletState) (first last : Dest) → IsDest start [] (run.prelude ++ later) d first last
     → (turns : List Turn) (sendings : List Sending) → calls_by (OfDest d) made ≡ calls_of turns → calls_in sendings ≡ calls_of turns → AreSendings (frame_at plan.outlets.items d) d sendings new closed
     → TakesSettled (frame_at plan.outlets.items d) run.first.stores first last new closed
@@ -103,7 +103,7 @@ run-texts {R} {I} {O} feed drain offers inlets dests files plan routers rounds r
     subst (λ (r : R). TakesFirst (offers r) frame i d (records_of inlet closed) events taken last.left) a.1.1
     (subst (λ (c : InletState). TakesFirst says frame i d (records_of inlet c) events taken last.left) b.1.1 texts)
 
-run-taken : {R I O : Type 0} (feed : I → InletState) (drain : O → OutletState) (offers : R → ℕ → Record → List Offer → Type 0) (inlets dests : R → ℕ) (files : Option Files) (plan : RunPlan) (routers : List R) (rounds : ℕ) (reached : Reached)
+pub run-taken : {R I O : Type 0} (feed : I → InletState) (drain : O → OutletState) (offers : R → ℕ → Record → List Offer → Type 0) (inlets dests : R → ℕ) (files : Option Files) (plan : RunPlan) (routers : List R) (rounds : ℕ) (reached : Reached)
     (run : CoreRun) (ended : Ended) (counts : Option Counts) → HoldsRun files plan reached run → (served : IsServed feed drain offers inlets dests plan routers rounds reached run ended counts)
     → AreStill run.prelude → (start : State) (later : List Event) → Ran run.begun run.last ((served.runs).serves).0 start run.prelude later → TakesThese plan reached run start (run.prelude ++ later)
 run-taken {R} {I} {O} feed drain offers inlets dests files plan routers rounds reached run ended counts holds served still start later ran d new closed first last at_new at_closed is =
@@ -137,7 +137,7 @@ stayed-texts : {R : Type 0} (offers : R → ℕ → Record → List Offer → Ty
 stayed-texts offers plan routers reached run still start later legal own i d inlet router closed first last at_inlet at_router at_closed is =
     no-texts (offers router) (frame_at plan.outlets.items) start (run.prelude ++ later) i inlet (records_of inlet closed) d first last legal (admitted-later i run.prelude later still ∙ own.admits i) is
 
-stayed-taken : (files : Option Files) (plan : RunPlan) (reached : Reached) (run : CoreRun) → HoldsRun files plan reached run → AreStill run.prelude → reached.outlets_closed ≡ reached.outlets → (start : State) (later : List Event)
+pub stayed-taken : (files : Option Files) (plan : RunPlan) (reached : Reached) (run : CoreRun) → HoldsRun files plan reached run → AreStill run.prelude → reached.outlets_closed ≡ reached.outlets → (start : State) (later : List Event)
     → Ran run.begun run.last [] start run.prelude later → TakesThese plan reached run start (run.prelude ++ later)
 stayed-taken files plan reached run holds still stay start later ran d new closed first last at_new at_closed is =
     let same : closed ≡ new = some-same closed new (sym at_closed ∙ ap (λ os. slice_get os d) stay ∙ at_new) in

@@ -53,17 +53,22 @@ records_of plan feed = option_map (records plan.kind plan.limit feed.from) feed.
 
 -- each destination takes from each source, in order, a prefix of exactly the texts that the log statements, which are the source's router,
 -- give for each record alone, less those whose verdict dropped them
-abbrev pub TakesPrefixes : {R : Type 0} → (R → ℕ → Record → List Offer → Type 0) → RunPlan → List R → Reached → State → List Event → Type 0
+abbrev pub TakesPrefixes : {R : Type 0} → (R → ℕ → Record → List Offer → Type 0) → RunPlan → List R
+    → Reached → State → List Event → Type 0
 TakesPrefixes {R} offers plan routers reached start events =
-    (i d : ℕ) (inlet : InletPlan) (router : R) (closed : InletState) (first last : Dest) → slice_get plan.inlets.items i ≡ Some inlet → slice_get routers i ≡ Some router
+    (i d : ℕ) (inlet : InletPlan) (router : R) (closed : InletState) (first last : Dest)
+    → slice_get plan.inlets.items i ≡ Some inlet → slice_get routers i ≡ Some router
     → slice_get reached.inlets_closed i ≡ Some closed → IsDest start [] events d first last
-    → TakesFirst (offers router) (frame_at plan.outlets.items) i d (records_of inlet closed) events (taken_from (frame_at plan.outlets.items) i d first last) last.left
+    → TakesFirst (offers router) (frame_at plan.outlets.items) i d (records_of inlet closed) events
+    (taken_from (frame_at plan.outlets.items) i d first last) last.left
 
 -- takes: since its outlet was opened, that took the frames of the entries settled, no more and no fewer
 abbrev pub TakesThese : RunPlan → Reached → CoreRun → State → List Event → Type 0
 TakesThese plan reached run start events =
-    (d : ℕ) (new closed : OutletState) (first last : Dest) → slice_get reached.outlets d ≡ Some new → slice_get reached.outlets_closed d ≡ Some closed
-    → IsDest start [] events d first last → TakesSettled (frame_at plan.outlets.items d) run.first.stores first last new closed
+    (d : ℕ) (new closed : OutletState) (first last : Dest) → slice_get reached.outlets d ≡ Some new
+    → slice_get reached.outlets_closed d ≡ Some closed
+    → IsDest start [] events d first last
+    → TakesSettled (frame_at plan.outlets.items d) run.first.stores first last new closed
 
 -- The sentence, over the events from a start on.
 
@@ -73,18 +78,26 @@ pub record HeadlineOf {R : Type 0} (offers : R → ℕ → Record → List Offer
   -- each verdict is one that there may be
   pub legal : are_legal start events ≡ true
   -- dropped without flow-control at a full or failed buffer
-  pub due : (before later : List Event) (i : ℕ) (admitted : List Admission) (verdicts : List Verdict) (failed : List ℕ) → events ≡ before ++ record { act = Admit i admitted verdicts; failed = failed } ∷ later
-      → AreDue i (next_of (after_all start before) i) (after_all start before).dests ((after_all start before).failed ++ failed) (claims_of admitted) verdicts
+  pub due : (before later : List Event) (i : ℕ) (admitted : List Admission)
+      (verdicts : List Verdict) (failed : List ℕ)
+      → events ≡ before ++ record { act = Admit i admitted verdicts; failed = failed } ∷ later
+      → AreDue i (next_of (after_all start before) i) (after_all start before).dests
+      ((after_all start before).failed ++ failed) (claims_of admitted) verdicts
   -- unacknowledged records never exceed a source's window
   pub windows : StayWithin start events
   -- what was opened stands for all of it at the end
   pub stands : StandsFor run.last start events
   -- a stop within any write leaves each flow-controlled record of a file beyond the stored position, in its disk-buffer, or accepted:
   -- whatever images of the stores are chosen of moments within one event, or at the end
-  pub stop : (k : ℕ) (event : Event) (images : List (List ℕ)) (lists : List (List Kept)) → slice_get events k ≡ Some event → AreImagesBetween run.last.stores (stands.moments.rows k) (stands.moments.rows (k + 1)) images
-      → AreListsIn run.last.sinks images lists → Safe start (take k events) event (record { positions = positions_in run.last.sources images; lists = lists })
-  pub stop_then : (images : List (List ℕ)) (lists : List (List Kept)) → AreImages run.last.stores images → AreListsIn run.last.sinks images lists
-      → Safe start events nothing (record { positions = positions_in run.last.sources images; lists = lists })
+  pub stop : (k : ℕ) (event : Event) (images : List (List ℕ)) (lists : List (List Kept))
+      → slice_get events k ≡ Some event → AreImagesBetween run.last.stores (stands.moments.rows k)
+      (stands.moments.rows (k + 1)) images
+      → AreListsIn run.last.sinks images lists → Safe start (take k events) event
+      (record { positions = positions_in run.last.sources images; lists = lists })
+  pub stop_then : (images : List (List ℕ)) (lists : List (List Kept))
+      → AreImages run.last.stores images → AreListsIn run.last.sinks images lists
+      → Safe start events nothing
+      (record { positions = positions_in run.last.sources images; lists = lists })
 
 -- Every interleaving: the events are those of the sources that begin anew, and then those of the calls, in the order in which the core
 -- served them; they begin with what the stores had.
@@ -93,15 +106,20 @@ pub record Headline {R : Type 0} (offers : R → ℕ → Record → List Offer �
   pub made : List Exchange
   pub later : List Event
   pub ran : Ran run.begun run.last made (opened plan.setup opens.opening) run.prelude later
-  pub holds : HeadlineOf offers plan routers reached run (opened plan.setup opens.opening) (run.prelude ++ later)
+  pub holds : HeadlineOf offers plan routers reached run (opened plan.setup opens.opening)
+      (run.prelude ++ later)
 
 -- as far as the run came: without a core no inlet and no outlet was opened
-abbrev pub Delivers : {R : Type 0} → (R → ℕ → Record → List Offer → Type 0) → RunPlan → List R → Reached → Option CoreRun → Type 0
+abbrev pub Delivers : {R : Type 0} → (R → ℕ → Record → List Offer → Type 0) → RunPlan → List R
+    → Reached → Option CoreRun → Type 0
 Delivers offers plan routers reached None = (reached.inlets ≡ []) × (reached.outlets ≡ [])
 Delivers offers plan routers reached (Some run) = Headline offers plan routers reached run
 
 -- every configuration and input: so it is in each run of a plan, however it ended
-abbrev pub RunsDeliver : {R I O : Type 0} → (I → InletState) → (O → OutletState) → (R → ℕ → Record → List Offer → Type 0) → (R → ℕ) → (R → ℕ) → Type 0
+abbrev pub RunsDeliver : {R I O : Type 0} → (I → InletState) → (O → OutletState)
+    → (R → ℕ → Record → List Offer → Type 0) → (R → ℕ) → (R → ℕ) → Type 0
 RunsDeliver {R} {I} {O} feed drain offers inlets dests =
-    (old new : WorldState) (plan : RunPlan) (routers : List R) (rounds : ℕ) (ending : Ending) (reached : Reached) → IsRunnable plan
-    → RunsWith feed drain offers inlets dests old new plan routers rounds ending reached → Delivers offers plan routers reached reached.core
+    (old new : WorldState) (plan : RunPlan) (routers : List R) (rounds : ℕ) (ending : Ending)
+    (reached : Reached) → IsRunnable plan
+    → RunsWith feed drain offers inlets dests old new plan routers rounds ending reached
+    → Delivers offers plan routers reached reached.core

@@ -35,7 +35,8 @@ reliable_words = codes "reliable" ∷ []
 abbrev pub own_buffer_faults : Call → List Placed
 own_buffer_faults call =
     missing_unless (last_option reliable_words (options_of call)) call
-    ++ (missing_unless (last_option size_words (options_of call)) call ++ bad_values buffer_checks (options_of call))
+    ++ (missing_unless (last_option size_words (options_of call)) call
+    ++ bad_values buffer_checks (options_of call))
 
 abbrev pub buffer_option_faults : Call → List Placed
 buffer_option_faults call = if is_called buffer_words call then own_buffer_faults call else []
@@ -58,7 +59,8 @@ abbrev pub directory_of : Call → List ℕ
 directory_of buffer = text_or (last_value (codes "dir" ∷ []) (options_of buffer)) (codes ".")
 
 abbrev pub store_of_buffer : Call → Call → List ℕ
-store_of_buffer call buffer = buffer_name (directory_of buffer) (destination_text (driver_kind call) (name_of call) (port_of call))
+store_of_buffer call buffer = buffer_name (directory_of buffer)
+    (destination_text (driver_kind call) (name_of call) (port_of call))
 
 -- the disk-buffer that counts
 abbrev pub counting_buffer : Call → Option Call
@@ -72,7 +74,8 @@ abbrev pub raised_capacity : ℕ → ℕ
 raised_capacity n = if nat_lt n 1048576 then 1048576 else n
 
 abbrev pub capacity_of : Call → ℕ
-capacity_of buffer = raised_capacity (number_or (last_value size_words (options_of buffer)) buffer_size 1048576)
+capacity_of buffer = raised_capacity
+    (number_or (last_value size_words (options_of buffer)) buffer_size 1048576)
 
 abbrev pub buffer_at : Call → Call → DiskBuffer
 buffer_at call buffer = record { store = store_of_buffer call buffer; capacity = capacity_of buffer }

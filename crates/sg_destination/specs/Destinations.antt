@@ -40,11 +40,13 @@ further_faults Network call = host_faults call
 further_faults Syslog call = host_faults call
 
 abbrev pub value_faults : Call → List Placed
-value_faults call = further_faults (driver_kind call) call ++ bad_values destination_checks (options_of call)
+value_faults call = further_faults (driver_kind call) call
+    ++ bad_values destination_checks (options_of call)
 
 abbrev pub store_faults : Call → List Placed
 store_faults call = buffer_faults (options_of call) ++ long_names call (store_of_destination call)
 
 -- what is wrong with a driver of a destination
 abbrev pub destination_faults : Texts → Call → List Placed
-destination_faults texts call = value_faults call ++ (store_faults call ++ template_faults texts (options_of call))
+destination_faults texts call = value_faults call
+    ++ (store_faults call ++ template_faults texts (options_of call))

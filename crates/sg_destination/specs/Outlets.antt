@@ -42,7 +42,8 @@ pub record HasEnv (defaults : Defaults) (call : Call) (env : Env) : Type 0 where
 -- what is opened, and what is sent
 pub record IsPlan (defaults : Defaults) (texts : Texts) (call : Call) (plan : OutletPlan) : Type 0 where
   pub spec : plan.spec ≡ spec_by (driver_kind call) defaults call
-  pub shape : HasShape texts (driver_kind call) (last_value template_words (options_of call)) plan.shape
+  pub shape : HasShape texts (driver_kind call) (last_value template_words (options_of call))
+      plan.shape
   pub env : HasEnv defaults call plan.env
 
 -- what the options of a driver make, with these defaults and templates

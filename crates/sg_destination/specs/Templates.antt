@@ -59,4 +59,5 @@ IsText kind (Err fault) shape = IsDefault kind shape
 
 abbrev pub HasShape : Texts → DriverKind → Option Spot → Shape → Type 0
 HasShape texts kind None shape = IsDefault kind shape
-HasShape texts kind (Some spot) shape = IsText kind (parts_of (text_named (texts spot.token.text) spot)) shape
+HasShape texts kind (Some spot) shape = IsText kind
+    (parts_of (text_named (texts spot.token.text) spot)) shape

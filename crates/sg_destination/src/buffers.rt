@@ -92,7 +92,8 @@ pub(crate) fn port_of(call: &Call) -> u16
 
 // What a destination is, as its word says: the word, a comma, the host, a comma and the port.
 fn host_text(alloc: Global, word: &[u8], host: &[u8], port: u16) -> Result<Vec<u8>, NoMemory>
-    ensures { IfOk result (λ text. text.items ≡ word.now ++ (host.now ++ (codes "," ++ decimal port))) }
+    ensures { IfOk result
+        (λ text. text.items ≡ word.now ++ (host.now ++ (codes "," ++ decimal port))) }
 {
     let mut buffer = Buffer::new();
     let mut text = word.to_vec(alloc)?;

@@ -93,7 +93,8 @@ pub fn destination_fault<T: Templates>(
     call: &Call,
     templates: &T,
 ) -> Result<Option<Placed>, NoMemory>
-    ensures { IfOk result (λ fault. fault ≡ least (spec.destination_faults (T.texts templates.now) call.now)) }
+    ensures { IfOk result
+        (λ fault. fault ≡ least (spec.destination_faults (T.texts templates.now) call.now)) }
 {
     let store = store_fault(alloc, call)?;
     let template = template_fault(alloc, templates, args_of(call))?;

@@ -66,7 +66,8 @@ fn host_of(alloc: Global, defaults: &Defaults, call: &Call) -> Result<OutletSpec
 
 fn spec_of(alloc: Global, defaults: &Defaults, call: &Call) -> Result<OutletSpec, NoMemory>
     requires { AreDefaults defaults.now }
-    ensures { IfOk result (λ outlet. outlet ≡ spec.spec_by (driver_kind call.now) defaults.now call.now) }
+    ensures { IfOk result
+        (λ outlet. outlet ≡ spec.spec_by (driver_kind call.now) defaults.now call.now) }
 {
     match driver_kind(call) {
         DriverKind::File => Ok(file_of(alloc, defaults, call)?),

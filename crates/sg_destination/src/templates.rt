@@ -66,7 +66,8 @@ fn reference_fault<T: Templates>(
     templates: &T,
     value: Option<&Spot>,
 ) -> Result<Option<Placed>, NoMemory>
-    ensures { IfOk result (λ fault. fault ≡ least (spec.reference_faults (T.texts templates.now) (option_copied value.entry))) }
+    ensures { IfOk result (λ fault. fault
+        ≡ least (spec.reference_faults (T.texts templates.now) (option_copied value.entry))) }
 {
     let Some(spot) = value else {
         return Ok(None);
@@ -82,7 +83,8 @@ fn option_fault<T: Templates>(
     templates: &T,
     call: &Call,
 ) -> Result<Option<Placed>, NoMemory>
-    ensures { IfOk result (λ fault. fault ≡ least (spec.template_option_faults (T.texts templates.now) call.now)) }
+    ensures { IfOk result
+        (λ fault. fault ≡ least (spec.template_option_faults (T.texts templates.now) call.now)) }
 {
     if is_called(&[b"template"], call) {
         Ok(reference_fault(alloc, templates, value_of(call))?)
@@ -97,7 +99,8 @@ fn argument_fault<T: Templates>(
     templates: &T,
     arg: &Arg,
 ) -> Result<Option<Placed>, NoMemory>
-    ensures { IfOk result (λ fault. fault ≡ least (spec.template_faults (T.texts templates.now) (calls_of (arg.now ∷ [])))) }
+    ensures { IfOk result (λ fault. fault
+        ≡ least (spec.template_faults (T.texts templates.now) (calls_of (arg.now ∷ [])))) }
 {
     match nested_of(arg) {
         Some(call) => Ok(option_fault(alloc, templates, call)?),
@@ -112,7 +115,8 @@ pub(crate) fn template_fault<T: Templates>(
     templates: &T,
     args: &[Arg],
 ) -> Result<Option<Placed>, NoMemory>
-    ensures { IfOk result (λ fault. fault ≡ least (spec.template_faults (T.texts templates.now) (calls_of args.now))) }
+    ensures { IfOk result (λ fault. fault
+        ≡ least (spec.template_faults (T.texts templates.now) (calls_of args.now))) }
 {
     let mut found = None;
     for arg in args {

@@ -40,11 +40,13 @@ number_if number one owner = if same_owner one owner then number ∷ [] else []
 -- the numbers of those of one statement, where the first of the list has this number
 abbrev pub numbers_from : ℕ → List Owner → Owner → List ℕ
 numbers_from number [] owner = []
-numbers_from number (one ∷ owners) owner = number_if number one owner ++ numbers_from (number + 1) owners owner
+numbers_from number (one ∷ owners) owner = number_if number one owner
+    ++ numbers_from (number + 1) owners owner
 
 abbrev pub numbers_of : List Owner → Owner → List ℕ
 numbers_of owners owner = numbers_from 0 owners owner
 
 -- each number is that of one of them
 abbrev pub NumbersAreWithin : Type 0
-NumbersAreWithin = (owners : List Owner) (owner : Owner) → AllByRecursion (λ number. number < length owners) (numbers_of owners owner)
+NumbersAreWithin = (owners : List Owner) (owner : Owner)
+    → AllByRecursion (λ number. number < length owners) (numbers_of owners owner)

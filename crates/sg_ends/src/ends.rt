@@ -21,7 +21,8 @@ fn push_if(
     owner: &Owner,
     reference: &RawRef,
 ) -> Result<(), NoMemory>
-    ensures { OnOk result (numbers.new.items ≡ numbers.old.items ++ number_if number owner.now (owner_of reference.now)) }
+    ensures { OnOk result (numbers.new.items
+        ≡ numbers.old.items ++ number_if number owner.now (owner_of reference.now)) }
 {
     if !owner.is_of(reference) {
         return Ok(());
@@ -33,7 +34,8 @@ fn push_if(
 /// The numbers of those that belong to what an element of a log statement refers to, in ascending order.
 pub fn numbers_of(alloc: Global, owners: &[Owner], reference: &RawRef) -> Result<Vec<u32>, NoMemory>
     requires { length owners.now < 2 ^ 32 }
-    ensures { IfOk result (λ numbers. numbers.items ≡ numbers_of owners.now (owner_of reference.now)) }
+    ensures { IfOk result
+        (λ numbers. numbers.items ≡ numbers_of owners.now (owner_of reference.now)) }
 {
     let mut numbers = Vec::new(alloc);
     for (number, owner) in owners.iter().enumerate() {

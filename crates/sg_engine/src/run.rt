@@ -42,8 +42,11 @@ pub fn serve<T: Wait, R: Router, I: Inlet, O: Outlet, D: Disk>(
     requires few_dests { length dests.items ≤ 64 }
     requires sources { AreSources I.state R.inlets R.dests (setup_of core) sources.items }
     requires dests { AreDests O.state (setup_of core) dests.items }
-    ensures serves { Serves (SourceTook I.state R.offers R.inlets R.dests) (DestTook O.state) CoreServes core result.core sources.items result.sources.items dests.items result.dests.items rounds result.ended }
-    ensures sources { AreSources I.state R.inlets R.dests (setup_of result.core) result.sources.items }
+    ensures serves { Serves (SourceTook I.state R.offers R.inlets R.dests) (DestTook O.state)
+        CoreServes core result.core sources.items result.sources.items dests.items
+        result.dests.items rounds result.ended }
+    ensures sources { AreSources I.state R.inlets R.dests (setup_of result.core)
+        result.sources.items }
     ensures dests { AreDests O.state (setup_of result.core) result.dests.items }
     ensures setup { setup_of result.core ≡ setup_of core }
 {

@@ -80,7 +80,8 @@ charged size line state later = if nat_le (state.total + size) 1048576 then late
 
 -- tokens come out, each of which is counted
 abbrev pub emitted_by : Bool → List Token → List Token → State → Result ℕ Line → Step
-emitted_by fresh rest tokens state (Ok total) = Moves fresh rest (record state { total = total; out = state.out ++ tokens })
+emitted_by fresh rest tokens state (Ok total) = Moves fresh rest
+    (record state { total = total; out = state.out ++ tokens })
 emitted_by fresh rest tokens state (Err line) = Faults TooLong line
 
 abbrev pub emitted : Bool → List Token → List Token → State → Step
@@ -108,7 +109,8 @@ retold (Some token) text = with_text token text ∷ []
 
 abbrev pub plain_text : List Token → State → Option (List ℕ) → Step
 plain_text tokens state None = Faults UnknownVariable (line_at tokens 0)
-plain_text tokens state (Some text) = emitted (passes_at tokens 0 is_front) (drop 1 tokens) (retold (slice_get tokens 0) text) state
+plain_text tokens state (Some text) = emitted (passes_at tokens 0 is_front) (drop 1 tokens)
+    (retold (slice_get tokens 0) text) state
 
 abbrev pub variable_tokens : List Token → State → Option (List Token) → Step
 variable_tokens tokens state None = Faults UnknownVariable (line_at tokens 0)
@@ -156,12 +158,14 @@ with_block defined state =
 
 abbrev pub definition_or_word : Context → Bool → List Token → State → Option Definition → Step
 definition_or_word context fresh tokens state None = word_or_use context fresh tokens state
-definition_or_word context fresh tokens state (Some defined) = Moves true defined.behind (with_block defined state)
+definition_or_word context fresh tokens state (Some defined) = Moves true defined.behind
+    (with_block defined state)
 
 -- `4.` and one or more digits
 abbrev pub is_version : List ℕ → Bool
 is_version word =
-    nat_le 3 (length word) && ((slice_index word 0 == 52) && ((slice_index word 1 == 46) && list_all is_ascii_digit (drop 2 word)))
+    nat_le 3 (length word) && ((slice_index word 0 == 52)
+    && ((slice_index word 1 == 46) && list_all is_ascii_digit (drop 2 word)))
 
 -- `@version : WORD`, `@define WORD NAME`, `@include STR`, `@module WORD` and `@requires WORD`
 abbrev pub begins_version : List Token → Bool
@@ -187,7 +191,8 @@ with_variable name value state = record state { variables = map.insert state.var
 abbrev pub define_read : Bool → List Token → State → Option (List ℕ) → Step
 define_read fresh tokens state None = Faults UnknownVariable (line_at tokens 2)
 define_read fresh tokens state (Some text) =
-    charged (length text + 1) (line_at tokens 0) state (λ next. Moves fresh (drop 3 tokens) (with_variable (text_at tokens 1) (retold (slice_get tokens 2) text) next))
+    charged (length text + 1) (line_at tokens 0) state (λ next. Moves fresh (drop 3 tokens)
+    (with_variable (text_at tokens 1) (retold (slice_get tokens 2) text) next))
 
 abbrev pub has_wildcard : List ℕ → Bool
 has_wildcard name = list_any (λ b. (b == 42) || (b == 63)) name
@@ -204,7 +209,8 @@ named_file tokens name state =
 
 abbrev pub included : List Token → State → Option (List ℕ) → Step
 included tokens state None = Faults UnknownVariable (line_at tokens 1)
-included tokens state (Some name) = charged (length name + 1) (line_at tokens 0) state (named_file tokens name)
+included tokens state (Some name) = charged (length name + 1) (line_at tokens 0) state
+    (named_file tokens name)
 
 abbrev pub include_read : Context → List Token → State → Step
 include_read context tokens state =
@@ -262,66 +268,97 @@ with_out out state = record state { out = out }
 
 -- the job, in a state of the expansion and of the machine, comes to this outcome
 pub data Runs : Job → State → WorldState → Outcome → Type 0 where
-  ends : (context : Context) (fresh : Bool) (tokens : List Token) (state : State) (world : WorldState)
+  ends : (context : Context) (fresh : Bool) (tokens : List Token) (state : State)
+      (world : WorldState)
       → step context fresh tokens state ≡ Ends
       → Runs (Tokens context fresh tokens) state world (Goes state world)
-  moves : (context : Context) (fresh : Bool) (tokens : List Token) (state : State) (world : WorldState) (again : Bool) (rest : List Token) (next : State) (outcome : Outcome)
-      → step context fresh tokens state ≡ Moves again rest next → Runs (Tokens context again rest) next world outcome
+  moves : (context : Context) (fresh : Bool) (tokens : List Token) (state : State)
+      (world : WorldState) (again : Bool) (rest : List Token) (next : State) (outcome : Outcome)
+      → step context fresh tokens state ≡ Moves again rest next
+      → Runs (Tokens context again rest) next world outcome
       → Runs (Tokens context fresh tokens) state world outcome
-  faults : (context : Context) (fresh : Bool) (tokens : List Token) (state : State) (world : WorldState) (kind : ConfigKind) (line : Line)
+  faults : (context : Context) (fresh : Bool) (tokens : List Token) (state : State)
+      (world : WorldState) (kind : ConfigKind) (line : Line)
       → step context fresh tokens state ≡ Faults kind line
-      → Runs (Tokens context fresh tokens) state world (Stops (Faulty (fault_at kind line)) state.names world)
+      → Runs (Tokens context fresh tokens) state world
+      (Stops (Faulty (fault_at kind line)) state.names world)
   -- a file is read, and its tokens are expanded before those behind the `@include`
-  includes : (context : Context) (fresh : Bool) (tokens : List Token) (state : State) (world : WorldState) (line : Line) (name : List ℕ) (rest : List Token) (next : State)
-      (read : WorldState) (bytes : Vec ℕ Global) (found : List Token) (middle : State) (later : WorldState) (outcome : Outcome)
-      → step context fresh tokens state ≡ Includes line name rest next → Reads world read name 1048576 (Ok bytes)
+  includes : (context : Context) (fresh : Bool) (tokens : List Token) (state : State)
+      (world : WorldState) (line : Line) (name : List ℕ) (rest : List Token) (next : State)
+      (read : WorldState) (bytes : Vec ℕ Global) (found : List Token) (middle : State)
+      (later : WorldState) (outcome : Outcome)
+      → step context fresh tokens state ≡ Includes line name rest next
+      → Reads world read name 1048576 (Ok bytes)
       → file_tokens line next bytes.items ≡ Ok found
-      → Runs (Tokens (file_context context) true found) (with_file name bytes.items next) read (Goes middle later)
+      → Runs (Tokens (file_context context) true found) (with_file name bytes.items next) read
+      (Goes middle later)
       → Runs (Tokens context fresh rest) middle later outcome
       → Runs (Tokens context fresh tokens) state world outcome
-  included_stops : (context : Context) (fresh : Bool) (tokens : List Token) (state : State) (world : WorldState) (line : Line) (name : List ℕ) (rest : List Token) (next : State)
-      (read : WorldState) (bytes : Vec ℕ Global) (found : List Token) (refusal : Refusal) (names : List (List ℕ)) (later : WorldState)
-      → step context fresh tokens state ≡ Includes line name rest next → Reads world read name 1048576 (Ok bytes)
+  included_stops : (context : Context) (fresh : Bool) (tokens : List Token) (state : State)
+      (world : WorldState) (line : Line) (name : List ℕ) (rest : List Token) (next : State)
+      (read : WorldState) (bytes : Vec ℕ Global) (found : List Token) (refusal : Refusal)
+      (names : List (List ℕ)) (later : WorldState)
+      → step context fresh tokens state ≡ Includes line name rest next
+      → Reads world read name 1048576 (Ok bytes)
       → file_tokens line next bytes.items ≡ Ok found
-      → Runs (Tokens (file_context context) true found) (with_file name bytes.items next) read (Stops refusal names later)
+      → Runs (Tokens (file_context context) true found) (with_file name bytes.items next) read
+      (Stops refusal names later)
       → Runs (Tokens context fresh tokens) state world (Stops refusal names later)
-  file_faults : (context : Context) (fresh : Bool) (tokens : List Token) (state : State) (world : WorldState) (line : Line) (name : List ℕ) (rest : List Token) (next : State)
+  file_faults : (context : Context) (fresh : Bool) (tokens : List Token) (state : State)
+      (world : WorldState) (line : Line) (name : List ℕ) (rest : List Token) (next : State)
       (read : WorldState) (bytes : Vec ℕ Global) (fault : ConfigFault)
-      → step context fresh tokens state ≡ Includes line name rest next → Reads world read name 1048576 (Ok bytes)
+      → step context fresh tokens state ≡ Includes line name rest next
+      → Reads world read name 1048576 (Ok bytes)
       → file_tokens line next bytes.items ≡ Err fault
-      → Runs (Tokens context fresh tokens) state world (Stops (Faulty fault) (next.names ++ name ∷ []) read)
-  file_too_long : (context : Context) (fresh : Bool) (tokens : List Token) (state : State) (world : WorldState) (line : Line) (name : List ℕ) (rest : List Token) (next : State)
+      → Runs (Tokens context fresh tokens) state world
+      (Stops (Faulty fault) (next.names ++ name ∷ []) read)
+  file_too_long : (context : Context) (fresh : Bool) (tokens : List Token) (state : State)
+      (world : WorldState) (line : Line) (name : List ℕ) (rest : List Token) (next : State)
       (read : WorldState)
-      → step context fresh tokens state ≡ Includes line name rest next → Reads world read name 1048576 (Err FileTooLong)
-      → Runs (Tokens context fresh tokens) state world (Stops (Faulty (fault_at TooLong line)) next.names read)
-  file_unread : (context : Context) (fresh : Bool) (tokens : List Token) (state : State) (world : WorldState) (line : Line) (name : List ℕ) (rest : List Token) (next : State)
+      → step context fresh tokens state ≡ Includes line name rest next
+      → Reads world read name 1048576 (Err FileTooLong)
+      → Runs (Tokens context fresh tokens) state world
+      (Stops (Faulty (fault_at TooLong line)) next.names read)
+  file_unread : (context : Context) (fresh : Bool) (tokens : List Token) (state : State)
+      (world : WorldState) (line : Line) (name : List ℕ) (rest : List Token) (next : State)
       (read : WorldState)
-      → step context fresh tokens state ≡ Includes line name rest next → Reads world read name 1048576 (Err Failed)
+      → step context fresh tokens state ≡ Includes line name rest next
+      → Reads world read name 1048576 (Err Failed)
       → Runs (Tokens context fresh tokens) state world (Stops (Unread name) next.names read)
   -- a use's values and body are expanded before the tokens behind it
-  uses : (context : Context) (fresh : Bool) (tokens : List Token) (state : State) (world : WorldState) (block : Block) (given : List Argument) (rest : List Token)
+  uses : (context : Context) (fresh : Bool) (tokens : List Token) (state : State)
+      (world : WorldState) (block : Block) (given : List Argument) (rest : List Token)
       (next : State) (middle : State) (later : WorldState) (outcome : Outcome)
       → step context fresh tokens state ≡ Uses block given rest next
-      → Runs (Binding context block.serial block.body (bindings block.parameters given) map.empty) next world (Goes middle later)
+      → Runs (Binding context block.serial block.body (bindings block.parameters given) map.empty)
+      next world (Goes middle later)
       → Runs (Tokens context false rest) middle later outcome
       → Runs (Tokens context fresh tokens) state world outcome
-  use_stops : (context : Context) (fresh : Bool) (tokens : List Token) (state : State) (world : WorldState) (block : Block) (given : List Argument) (rest : List Token)
+  use_stops : (context : Context) (fresh : Bool) (tokens : List Token) (state : State)
+      (world : WorldState) (block : Block) (given : List Argument) (rest : List Token)
       (next : State) (refusal : Refusal) (names : List (List ℕ)) (later : WorldState)
       → step context fresh tokens state ≡ Uses block given rest next
-      → Runs (Binding context block.serial block.body (bindings block.parameters given) map.empty) next world (Stops refusal names later)
+      → Runs (Binding context block.serial block.body (bindings block.parameters given) map.empty)
+      next world (Stops refusal names later)
       → Runs (Tokens context fresh tokens) state world (Stops refusal names later)
   -- a value is expanded by itself, and bound
-  binds : (context : Context) (serial : ℕ) (body : List Token) (argument : Argument) (left : List Argument) (bound : Values) (state : State) (world : WorldState)
+  binds : (context : Context) (serial : ℕ) (body : List Token) (argument : Argument)
+      (left : List Argument) (bound : Values) (state : State) (world : WorldState)
       (whole : State) (later : WorldState) (outcome : Outcome)
       → Runs (Tokens context false argument.tokens) (with_out [] state) world (Goes whole later)
-      → Runs (Binding context serial body left (map.insert bound argument.name whole.out)) (with_out state.out whole) later outcome
+      → Runs (Binding context serial body left (map.insert bound argument.name whole.out))
+      (with_out state.out whole) later outcome
       → Runs (Binding context serial body (argument ∷ left) bound) state world outcome
-  value_stops : (context : Context) (serial : ℕ) (body : List Token) (argument : Argument) (left : List Argument) (bound : Values) (state : State) (world : WorldState)
+  value_stops : (context : Context) (serial : ℕ) (body : List Token) (argument : Argument)
+      (left : List Argument) (bound : Values) (state : State) (world : WorldState)
       (refusal : Refusal) (names : List (List ℕ)) (later : WorldState)
-      → Runs (Tokens context false argument.tokens) (with_out [] state) world (Stops refusal names later)
-      → Runs (Binding context serial body (argument ∷ left) bound) state world (Stops refusal names later)
+      → Runs (Tokens context false argument.tokens) (with_out [] state) world
+      (Stops refusal names later)
+      → Runs (Binding context serial body (argument ∷ left) bound) state world
+      (Stops refusal names later)
   -- then the body, in which the values are in reach
-  body_runs : (context : Context) (serial : ℕ) (body : List Token) (bound : Values) (state : State) (world : WorldState) (outcome : Outcome)
+  body_runs : (context : Context) (serial : ℕ) (body : List Token) (bound : Values) (state : State)
+      (world : WorldState) (outcome : Outcome)
       → Runs (Tokens (body_context context bound serial) true (trimmed body)) state world outcome
       → Runs (Binding context serial body [] bound) state world outcome
 
@@ -332,7 +369,8 @@ abbrev pub first_context : Context
 first_context = record { depth = 0; scope = map.empty; limit = None }
 
 abbrev pub first_line : List Token → Line
-first_line tokens = option_map_or (λ token. record { file = token.file; line = token.line }) (slice_get tokens 0) (record { file = 0; line = 1 })
+first_line tokens = option_map_or (λ token. record { file = token.file; line = token.line })
+    (slice_get tokens 0) (record { file = 0; line = 1 })
 
 -- the main file's tokens behind its version, or what is wrong with them
 abbrev pub behind_version : List Token → Result (List Token) ConfigFault
@@ -349,7 +387,8 @@ main_tokens text =
     if nat_le (length text) 1048576 then versioned (lexed 0 text (tokens_of 0 text)) else Err (record { kind = TooLong; file = 0; line = 1 })
 
 abbrev pub RunsTokens : Result (List Token) ConfigFault → State → WorldState → Outcome → Type 0
-RunsTokens (Ok tokens) state world outcome = Runs (Tokens first_context true tokens) state world outcome
+RunsTokens (Ok tokens) state world outcome = Runs (Tokens first_context true tokens) state world
+    outcome
 RunsTokens (Err fault) state world outcome = outcome ≡ Stops (Faulty fault) state.names world
 
 -- the main file's text, of this name, comes to this outcome
@@ -357,10 +396,14 @@ abbrev pub RunsMain : List ℕ → List ℕ → WorldState → Outcome → Type 
 RunsMain name text world outcome = RunsTokens (main_tokens text) (first_state name) world outcome
 
 -- what an expansion answers is what the text comes to, but for want of memory. A file isn't read only where its reading failed
-abbrev pub IsExpanded : WorldState → WorldState → List ℕ → List ℕ → Result Expanded ExpandRefusal → Type 0
+abbrev pub IsExpanded : WorldState → WorldState → List ℕ → List ℕ → Result Expanded ExpandRefusal
+    → Type 0
 IsExpanded old new name text (Ok expanded) =
-    (last : State) × (RunsMain name text old (Goes last new) × ((expanded.tokens ≡ last.out) × (expanded.names ≡ last.names)))
-IsExpanded old new name text (Err (Bad fault names)) = RunsMain name text old (Stops (Faulty fault) names new)
+    (last : State) × (RunsMain name text old (Goes last new)
+    × ((expanded.tokens ≡ last.out) × (expanded.names ≡ last.names)))
+IsExpanded old new name text (Err (Bad fault names)) = RunsMain name text old
+    (Stops (Faulty fault) names new)
 IsExpanded old new name text (Err (ReadFault file)) =
-    (names : List (List ℕ)) × (RunsMain name text old (Stops (Unread file) names new) × (Rose old.read_faults new.read_faults × (new.unread ≡ Some file)))
+    (names : List (List ℕ)) × (RunsMain name text old (Stops (Unread file) names new)
+    × (Rose old.read_faults new.read_faults × (new.unread ≡ Some file)))
 IsExpanded old new name text (Err NoMemory) = Unit {0}

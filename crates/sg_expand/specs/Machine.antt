@@ -39,18 +39,21 @@ state_of expander = record {
 
 -- these tokens are expanded next
 abbrev pub tokens_frame : Context → Bool → List Token → Frame
-tokens_frame context fresh tokens = Expands (record { context = context; fresh = fresh; tokens = tokens })
+tokens_frame context fresh tokens = Expands
+    (record { context = context; fresh = fresh; tokens = tokens })
 
 -- frames stand on those before, the first of them to be done the last
 abbrev pub Pushes : List Frame → Expander → Expander → Result Unit Stop → Type 0
-Pushes frames old new (Ok done) = (new ≡ record old { frames = new.frames }) × (new.frames.items ≡ old.frames.items ++ frames)
+Pushes frames old new (Ok done) = (new ≡ record old { frames = new.frames })
+    × (new.frames.items ≡ old.frames.items ++ frames)
 Pushes frames old new (Err (Fault fault)) = ⊥
 Pushes frames old new (Err (ReadFault name)) = ⊥
 Pushes frames old new (Err NoMemory) = Unit {0}
 
 -- the frames with which the binding of a use goes on, and what comes out then
 abbrev pub call_frames : Call → List Argument → List Token → List Frame
-call_frames call [] out = tokens_frame (body_context call.context call.bound call.serial) true (trimmed call.body) ∷ []
+call_frames call [] out =
+    tokens_frame (body_context call.context call.bound call.serial) true (trimmed call.body) ∷ []
 call_frames call (argument ∷ left) out =
     Binds (record { call = record call { left = left }; name = argument.name; out = out })
     ∷ tokens_frame call.context false argument.tokens ∷ []
@@ -70,7 +73,9 @@ Calls call old new (Err NoMemory) = Unit {0}
 
 -- the value that is whole now is bound, and what came out before it stands in its place
 abbrev pub DoesBind : Wait → Expander → Expander → Result Unit Stop → Type 0
-DoesBind wait old new result = Calls (record wait.call { bound = map.insert wait.call.bound wait.name old.out }) (record old { out = wait.out }) new result
+DoesBind wait old new result =
+    Calls (record wait.call { bound = map.insert wait.call.bound wait.name old.out })
+    (record old { out = wait.out }) new result
 
 -- a use begins: the tokens behind it wait
 abbrev pub call_of : Context → Block → List Argument → Call
@@ -82,7 +87,8 @@ call_of context block given = record {
   bound = map.empty;
 }
 
-abbrev pub DoesUse : Context → Call → List Token → State → Expander → Expander → Result Unit Stop → Type 0
+abbrev pub DoesUse : Context → Call → List Token → State → Expander → Expander → Result Unit Stop
+    → Type 0
 DoesUse context call rest next old new (Ok done) =
     (middle : Expander) × ((state_of middle ≡ next)
     × ((middle.frames.items ≡ old.frames.items ++ tokens_frame context false rest ∷ []) × Calls call middle new (Ok done)))
@@ -103,16 +109,19 @@ IsNoMemory (Err (Fault fault)) = ⊥
 IsNoMemory (Err (ReadFault name)) = ⊥
 IsNoMemory (Err NoMemory) = Unit {0}
 
-abbrev pub DoesMove : Context → Bool → List Token → State → Expander → Expander → Result Unit Stop → Type 0
+abbrev pub DoesMove : Context → Bool → List Token → State → Expander → Expander → Result Unit Stop
+    → Type 0
 DoesMove context fresh rest next old new (Ok done) =
-    (state_of new ≡ next) × (new.frames.items ≡ old.frames.items ++ tokens_frame context fresh rest ∷ [])
+    (state_of new ≡ next)
+    × (new.frames.items ≡ old.frames.items ++ tokens_frame context fresh rest ∷ [])
 DoesMove context fresh rest next old new (Err (Fault fault)) = ⊥
 DoesMove context fresh rest next old new (Err (ReadFault name)) = ⊥
 DoesMove context fresh rest next old new (Err NoMemory) = Unit {0}
 
 abbrev pub DoesFault : ConfigKind → Line → Expander → Expander → Result Unit Stop → Type 0
 DoesFault kind line old new (Ok done) = ⊥
-DoesFault kind line old new (Err (Fault fault)) = (fault ≡ fault_at kind line) × (new.names ≡ old.names)
+DoesFault kind line old new (Err (Fault fault)) = (fault ≡ fault_at kind line)
+    × (new.names ≡ old.names)
 DoesFault kind line old new (Err (ReadFault name)) = ⊥
 DoesFault kind line old new (Err NoMemory) = Unit {0}
 
@@ -120,15 +129,18 @@ DoesFault kind line old new (Err NoMemory) = Unit {0}
 abbrev pub EmitsToken : Option (List Token) → Line → Expander → Expander → Result Unit Stop → Type 0
 EmitsToken None line old new result = DoesFault UnknownVariable line old new result
 EmitsToken (Some tokens) line old new result =
-    (new ≡ record old { total = new.total; out = new.out }) × Emits tokens old.out old.total new.out new.total result
+    (new ≡ record old { total = new.total; out = new.out })
+    × Emits tokens old.out old.total new.out new.total result
 
 -- a step that reads no file does what is asked for
 abbrev pub Does : Step → Context → Expander → Expander → Result Unit Stop → Type 0
 Does Ends context old new result = DoesNothing old new result
-Does (Moves fresh rest next) context old new result = DoesMove context fresh rest next old new result
+Does (Moves fresh rest next) context old new result = DoesMove context fresh rest next old new
+    result
 Does (Faults kind line) context old new result = DoesFault kind line old new result
 Does (Includes line name rest next) context old new result = IsNoMemory result
-Does (Uses block given rest next) context old new result = DoesUse context (call_of context block given) rest next old new result
+Does (Uses block given rest next) context old new result = DoesUse context
+    (call_of context block given) rest next old new result
 
 -- what a use asks for is the block's
 pub record IsAskedFor (asked : Asked) (size : ℕ) (block : Block) (given : List Argument) : Type 0 where
@@ -140,34 +152,45 @@ pub record IsAskedFor (asked : Asked) (size : ℕ) (block : Block) (given : List
 -- a use that gives these arguments, or what is wrong with it
 abbrev pub IsAsked : List Token → Block → List Argument → Result Asked Stop → Type 0
 IsAsked tokens block given (Ok asked) =
-    (is_missing block.parameters given ≡ false) × ((is_unknown block.parameters given ≡ false) × IsAskedFor asked (use_size tokens block) block given)
+    (is_missing block.parameters given ≡ false) × ((is_unknown block.parameters given ≡ false)
+    × IsAskedFor asked (use_size tokens block) block given)
 IsAsked tokens block given (Err (Fault fault)) =
-    ((is_missing block.parameters given ≡ true) × (fault ≡ fault_at MissingArgument (line_at tokens 0)))
-    ⊎ ((is_missing block.parameters given ≡ false) × ((is_unknown block.parameters given ≡ true) × (fault ≡ fault_at UnknownArgument (line_at tokens 0))))
+    ((is_missing block.parameters given ≡ true)
+    × (fault ≡ fault_at MissingArgument (line_at tokens 0)))
+    ⊎ ((is_missing block.parameters given ≡ false) × ((is_unknown block.parameters given ≡ true)
+    × (fault ≡ fault_at UnknownArgument (line_at tokens 0))))
 IsAsked tokens block given (Err (ReadFault name)) = ⊥
 IsAsked tokens block given (Err NoMemory) = Unit {0}
 
 -- the use at the front, if one stands there, or what is wrong with it
-abbrev pub FindsUse : Context → Bool → List Token → State → Result (Option (Asked × List Token)) Stop → Type 0
-FindsUse context fresh tokens state (Ok None) = word_or_use context fresh tokens state ≡ plain context tokens state
+abbrev pub FindsUse : Context → Bool → List Token → State
+    → Result (Option (Asked × List Token)) Stop → Type 0
+FindsUse context fresh tokens state (Ok None) = word_or_use context fresh tokens state
+    ≡ plain context tokens state
 FindsUse context fresh tokens state (Ok (Some found)) =
     (block : Block) × ((given : List Argument) × (IsAskedFor found.0 (use_size tokens block) block given
     × (word_or_use context fresh tokens state ≡ charged (use_size tokens block) (line_at tokens 0) state (Uses block given found.1))))
 FindsUse context fresh tokens state (Err (Fault fault)) =
-    (kind : ConfigKind) × ((word_or_use context fresh tokens state ≡ Faults kind (line_at tokens 0)) × (fault ≡ fault_at kind (line_at tokens 0)))
+    (kind : ConfigKind) × ((word_or_use context fresh tokens state ≡ Faults kind (line_at tokens 0))
+    × (fault ≡ fault_at kind (line_at tokens 0)))
 FindsUse context fresh tokens state (Err (ReadFault name)) = ⊥
 FindsUse context fresh tokens state (Err NoMemory) = Unit {0}
 
 -- the use of a block begins, whichever block it is that asks so
-abbrev pub BeginsUse : Context → Line → Asked → List Token → Expander → Expander → Result Unit Stop → Type 0
+abbrev pub BeginsUse : Context → Line → Asked → List Token → Expander → Expander → Result Unit Stop
+    → Type 0
 BeginsUse context line asked rest old new result =
     (size : ℕ) (block : Block) (given : List Argument) → IsAskedFor asked size block given
     → Does (charged size line (state_of old) (Uses block given rest)) context old new result
 
 -- the name of the file that an `@include` asks for, which is counted, or what is wrong with it
-abbrev pub NamesFile : Step → Line → List Token → Expander → Expander → Result (List ℕ) Stop → Type 0
-NamesFile step line rest old new (Ok name) = (step ≡ Includes line name rest (state_of new)) × (new.frames.items ≡ old.frames.items)
-NamesFile step line rest old new (Err (Fault fault)) = (kind : ConfigKind) × ((place : Line) × ((step ≡ Faults kind place) × ((fault ≡ fault_at kind place) × (new.names ≡ old.names))))
+abbrev pub NamesFile : Step → Line → List Token → Expander → Expander → Result (List ℕ) Stop
+    → Type 0
+NamesFile step line rest old new (Ok name) = (step ≡ Includes line name rest (state_of new))
+    × (new.frames.items ≡ old.frames.items)
+NamesFile step line rest old new (Err (Fault fault)) = (kind : ConfigKind)
+    × ((place : Line)
+    × ((step ≡ Faults kind place) × ((fault ≡ fault_at kind place) × (new.names ≡ old.names))))
 NamesFile step line rest old new (Err (ReadFault name)) = ⊥
 NamesFile step line rest old new (Err NoMemory) = Unit {0}
 
@@ -181,7 +204,8 @@ ChecksName names name line (Err (ReadFault other)) = ⊥
 ChecksName names name line (Err NoMemory) = ⊥
 
 -- a file was read, and its tokens are expanded before those behind the `@include`
-abbrev pub TakesFile : Context → Bool → Line → List ℕ → List Token → List ℕ → Expander → Expander → Result Unit Stop → Type 0
+abbrev pub TakesFile : Context → Bool → Line → List ℕ → List Token → List ℕ → Expander → Expander
+    → Result Unit Stop → Type 0
 TakesFile context fresh line name rest text old new (Ok done) =
     (found : List Token) × ((file_tokens line (state_of old) text ≡ Ok found) × ((state_of new ≡ with_file name text (state_of old))
     × (new.frames.items ≡ old.frames.items ++ tokens_frame context fresh rest ∷ tokens_frame (file_context context) true found ∷ [])))
@@ -191,16 +215,21 @@ TakesFile context fresh line name rest text old new (Err (ReadFault other)) = �
 TakesFile context fresh line name rest text old new (Err NoMemory) = Unit {0}
 
 -- what an `@include` of a name that may be read does, from where its name was counted
-abbrev pub DoesInclude : Context → Bool → Line → List ℕ → List Token → State → Expander → WorldState → Expander → WorldState → Result Unit Stop → Type 0
+abbrev pub DoesInclude : Context → Bool → Line → List ℕ → List Token → State → Expander → WorldState
+    → Expander → WorldState → Result Unit Stop → Type 0
 DoesInclude context fresh line name rest next old world new world' (Err NoMemory) = Unit {0}
 DoesInclude context fresh line name rest next old world new world' (Err (ReadFault other)) =
     (other ≡ name) × (Reads world world' name 1048576 (Err Failed) × (new.names ≡ next.names))
 DoesInclude context fresh line name rest next old world new world' result =
     ((bytes : Vec ℕ Global) × (Reads world world' name 1048576 (Ok bytes)
     × ((middle : Expander) × ((state_of middle ≡ next) × ((middle.frames.items ≡ old.frames.items) × TakesFile context fresh line name rest bytes.items middle new result)))))
-    ⊎ (Reads world world' name 1048576 (Err FileTooLong) × ((result ≡ Err (Fault (fault_at TooLong line))) × (new.names ≡ next.names)))
+    ⊎ (Reads world world' name 1048576 (Err FileTooLong)
+    × ((result ≡ Err (Fault (fault_at TooLong line))) × (new.names ≡ next.names)))
 
 -- a step does what is asked for
-abbrev pub DoesStep : Step → Context → Bool → Expander → WorldState → Expander → WorldState → Result Unit Stop → Type 0
-DoesStep (Includes line name rest next) context fresh old world new world' result = DoesInclude context fresh line name rest next old world new world' result
-DoesStep step context fresh old world new world' result = (world' ≡ world) × Does step context old new result
+abbrev pub DoesStep : Step → Context → Bool → Expander → WorldState → Expander → WorldState
+    → Result Unit Stop → Type 0
+DoesStep (Includes line name rest next) context fresh old world new world' result =
+    DoesInclude context fresh line name rest next old world new world' result
+DoesStep step context fresh old world new world' result = (world' ≡ world)
+    × Does step context old new result

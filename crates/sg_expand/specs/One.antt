@@ -8,6 +8,7 @@ AreAlike (Goes one world) (Goes other world') = other ≡ one
 AreAlike (Goes one world) (Stops (Faulty fault) names world') = ⊥
 AreAlike (Goes one world) (Stops (Unread name) names world') = Unit {0}
 AreAlike (Stops (Faulty fault) names world) (Goes other world') = ⊥
-AreAlike (Stops (Faulty fault) names world) (Stops (Faulty fault') names' world') = (fault' ≡ fault) × (names' ≡ names)
+AreAlike (Stops (Faulty fault) names world) (Stops (Faulty fault') names' world') = (fault' ≡ fault)
+    × (names' ≡ names)
 AreAlike (Stops (Faulty fault) names world) (Stops (Unread name) names' world') = Unit {0}
 AreAlike (Stops (Unread name) names world) other = Unit {0}

@@ -17,16 +17,19 @@ Follows (Goes middle world) later outcome = later middle world outcome
 Follows (Stops refusal names world) later outcome = outcome ≡ Stops refusal names world
 
 abbrev pub RunsThen : Job → State → WorldState → Later → Outcome → Type 0
-RunsThen job state world later outcome = (first : Outcome) × (Runs job state world first × Follows first later outcome)
+RunsThen job state world later outcome = (first : Outcome)
+    × (Runs job state world first × Follows first later outcome)
 
 abbrev pub job_of : Call → Job
 job_of call = Binding call.context call.serial call.body call.left call.bound
 
 -- the value that is whole now is bound
 abbrev pub FrameThen : Frame → State → WorldState → Later → Outcome → Type 0
-FrameThen (Expands rest) state world later outcome = RunsThen (Tokens rest.context rest.fresh rest.tokens) state world later outcome
+FrameThen (Expands rest) state world later outcome =
+    RunsThen (Tokens rest.context rest.fresh rest.tokens) state world later outcome
 FrameThen (Binds wait) state world later outcome =
-    RunsThen (job_of (record wait.call { bound = map.insert wait.call.bound wait.name state.out })) (with_out wait.out state) world later outcome
+    RunsThen (job_of (record wait.call { bound = map.insert wait.call.bound wait.name state.out }))
+    (with_out wait.out state) world later outcome
 
 -- the frames that wait, the first to be done first, come to this outcome
 abbrev pub Leads : List Frame → State → WorldState → Outcome → Type 0

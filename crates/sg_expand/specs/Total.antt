@@ -15,14 +15,17 @@ counted total (token ∷ tokens) = if nat_le (total + token_size token) 1048576 
 
 abbrev pub Charges : ℕ → Line → ℕ → ℕ → Result Unit Stop → Type 0
 Charges size line old new (Ok done) = (new ≡ old + size) × (old + size ≤ 1048576)
-Charges size line old new (Err (Fault fault)) = (fault ≡ fault_at TooLong line) × (1048576 < old + size) × (new ≡ old)
+Charges size line old new (Err (Fault fault)) = (fault ≡ fault_at TooLong line)
+    × (1048576 < old + size) × (new ≡ old)
 Charges size line old new (Err (ReadFault name)) = ⊥
 Charges size line old new (Err NoMemory) = ⊥
 
 -- the tokens came out behind the others
 abbrev pub Emits : List Token → List Token → ℕ → List Token → ℕ → Result Unit Stop → Type 0
-Emits tokens out total out' total' (Ok done) = (counted total tokens ≡ Ok total') × (out' ≡ out ++ tokens)
-Emits tokens out total out' total' (Err (Fault fault)) = (line : Line) × (counted total tokens ≡ Err line) × (fault ≡ fault_at TooLong line)
+Emits tokens out total out' total' (Ok done) = (counted total tokens ≡ Ok total')
+    × (out' ≡ out ++ tokens)
+Emits tokens out total out' total' (Err (Fault fault)) = (line : Line)
+    × (counted total tokens ≡ Err line) × (fault ≡ fault_at TooLong line)
 Emits tokens out total out' total' (Err (ReadFault name)) = ⊥
 Emits tokens out total out' total' (Err NoMemory) = Unit {0}
 

@@ -26,27 +26,37 @@ Gives wanted (Err NoMemory) = Unit {0}
 abbrev pub Answers : Expander → WorldState → Result Unit Stop → (Outcome → Type 0) → Type 0
 Answers expander world (Ok done) comes = comes (Goes (state_of expander) world)
 Answers expander world (Err (Fault fault)) comes = comes (Stops (Faulty fault) expander.names world)
-Answers expander world (Err (ReadFault name)) comes = comes (Stops (Unread name) expander.names world)
+Answers expander world (Err (ReadFault name)) comes = comes
+    (Stops (Unread name) expander.names world)
 Answers expander world (Err NoMemory) comes = Unit {0}
 
 -- what was to be done first is done: what waits then leads to what it led to before
-abbrev pub DoesFrame : Frame → Expander → WorldState → Expander → WorldState → Result Unit Stop → Type 0
+abbrev pub DoesFrame : Frame → Expander → WorldState → Expander → WorldState → Result Unit Stop
+    → Type 0
 DoesFrame frame old world new world' (Ok done) =
-    (outcome : Outcome) → Leads (reverse new.frames.items) (state_of new) world' outcome → Leads (frame ∷ reverse old.frames.items) (state_of old) world outcome
-DoesFrame frame old world new world' (Err stop) = Answers new world' (Err stop) (Leads (frame ∷ reverse old.frames.items) (state_of old) world)
+    (outcome : Outcome) → Leads (reverse new.frames.items) (state_of new) world' outcome
+    → Leads (frame ∷ reverse old.frames.items) (state_of old) world outcome
+DoesFrame frame old world new world' (Err stop) = Answers new world' (Err stop)
+    (Leads (frame ∷ reverse old.frames.items) (state_of old) world)
 
 -- what waits is done
 abbrev pub Works : Expander → WorldState → Expander → WorldState → Result Unit Stop → Type 0
-Works old world new world' result = Answers new world' result (Leads (reverse old.frames.items) (state_of old) world)
+Works old world new world' result = Answers new world' result
+    (Leads (reverse old.frames.items) (state_of old) world)
 
 -- the main file's text is begun: its tokens are expanded next
 abbrev pub BeginsText : List ℕ → Expander → Expander → Result Unit Stop → Type 0
 BeginsText text old new (Ok done) =
-    (tokens : List Token) × ((main_tokens text ≡ Ok tokens) × ((state_of new ≡ state_of old) × (new.frames.items ≡ tokens_frame first_context true tokens ∷ [])))
-BeginsText text old new (Err (Fault fault)) = (main_tokens text ≡ Err fault) × (new.names ≡ old.names)
+    (tokens : List Token) × ((main_tokens text ≡ Ok tokens) ×
+    ((state_of new ≡ state_of old)
+    × (new.frames.items ≡ tokens_frame first_context true tokens ∷ [])))
+BeginsText text old new (Err (Fault fault)) = (main_tokens text ≡ Err fault)
+    × (new.names ≡ old.names)
 BeginsText text old new (Err (ReadFault name)) = ⊥
 BeginsText text old new (Err NoMemory) = Unit {0}
 
 -- the main file's text is expanded
-abbrev pub RunsWhole : List ℕ → Expander → WorldState → Expander → WorldState → Result Unit Stop → Type 0
-RunsWhole text old world new world' result = Answers new world' result (RunsTokens (main_tokens text) (state_of old) world)
+abbrev pub RunsWhole : List ℕ → Expander → WorldState → Expander → WorldState → Result Unit Stop
+    → Type 0
+RunsWhole text old world new world' result = Answers new world' result
+    (RunsTokens (main_tokens text) (state_of old) world)

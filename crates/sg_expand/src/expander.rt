@@ -138,7 +138,8 @@ impl Expander {
     fn do_frame<F: Files>(&mut self, files: &mut F, frame: Frame) -> Result<(), Stop>
         requires bounded { IsBounded (frame ∷ self.old.frames.items) self.old }
         ensures bounded { OnOk result (IsBounded self.new.frames.items self.new) }
-        ensures does { DoesFrame frame self.old (F.state files.old) self.new (F.state files.new) result }
+        ensures does { DoesFrame frame self.old (F.state files.old) self.new (F.state files.new)
+            result }
         ensures reads { OnlyReads (F.state files.old) (F.state files.new) }
     {
         match frame {
@@ -169,7 +170,8 @@ impl Expander {
     fn run<F: Files>(&mut self, files: &mut F, text: &[u8]) -> Result<(), Stop>
         requires empty { self.old.frames.items ≡ [] }
         requires bounded { IsBounded [] self.old }
-        ensures does { RunsWhole text.now self.old (F.state files.old) self.new (F.state files.new) result }
+        ensures does { RunsWhole text.now self.old (F.state files.old) self.new (F.state files.new)
+            result }
         ensures reads { OnlyReads (F.state files.old) (F.state files.new) }
     {
         self.begin(text)?;

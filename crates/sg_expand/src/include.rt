@@ -93,7 +93,8 @@ impl Expander {
         requires depth { rest.context.depth < 15 }
         requires names { length self.old.names < 65536 }
         requires text { length text.now ≤ 1048576 }
-        ensures { TakesFile rest.context rest.fresh line name (drop 2 rest.tokens) text.now self.old self.new result }
+        ensures { TakesFile rest.context rest.fresh line name (drop 2 rest.tokens) text.now self.old
+            self.new result }
     {
         let number = self.names.len() as u32;
         self.names.push(name)?;

@@ -68,7 +68,8 @@ impl Expander {
     }
 
     fn step_without_files(&mut self, rest: Rest) -> Result<(), Stop>
-        ensures { Does (front rest.context rest.fresh rest.tokens (state_of self.old)) rest.context self.old self.new result }
+        ensures { Does (front rest.context rest.fresh rest.tokens (state_of self.old)) rest.context
+            self.old self.new result }
     {
         if rest.tokens.is_empty() {
             return Ok(());
@@ -103,7 +104,8 @@ impl Expander {
 
     fn read_version(&mut self, rest: Rest) -> Result<(), Stop>
         requires { 2 < length rest.tokens }
-        ensures { Does (version_read rest.fresh rest.tokens (state_of self.old)) rest.context self.old self.new result }
+        ensures { Does (version_read rest.fresh rest.tokens (state_of self.old)) rest.context
+            self.old self.new result }
     {
         let word = rest.tokens.text(2);
         if is_version(word) || word == b"current".as_slice() {
@@ -175,7 +177,8 @@ impl Expander {
     }
 
     fn define_block(&mut self, context: Context, defined: Definition) -> Result<(), Stop>
-        ensures { Does (Moves true defined.behind (with_block defined (state_of self.old))) context self.old self.new result }
+        ensures { Does (Moves true defined.behind (with_block defined (state_of self.old))) context
+            self.old self.new result }
     {
         let block = Block {
             serial: self.serial,
@@ -191,7 +194,8 @@ impl Expander {
     /// Puts out the token at the front, with variables replaced.
     pub fn emit(&mut self, rest: Rest) -> Result<(), Stop>
         requires { 0 < length rest.tokens }
-        ensures { Does (plain rest.context rest.tokens (state_of self.old)) rest.context self.old self.new result }
+        ensures { Does (plain rest.context rest.tokens (state_of self.old)) rest.context self.old
+            self.new result }
     {
         if is_tick_at(&rest.tokens, 0) {
             self.emit_variable(&rest)?;

@@ -77,7 +77,8 @@ impl Expander {
     /// What the use at the front asks for, and the tokens behind it: none where none stands there.
     fn find_use(&self, rest: &Rest) -> Result<Option<(Asked, Part)>, Stop>
         requires { 0 < length rest.now.tokens }
-        ensures { FindsUse rest.now.context rest.now.fresh rest.now.tokens (state_of self.now) result }
+        ensures { FindsUse rest.now.context rest.now.fresh rest.now.tokens (state_of self.now)
+            result }
     {
         if !rest.fresh || !rest.tokens.is_word_at(0) {
             return Ok(None);
@@ -111,7 +112,8 @@ impl Expander {
 
     fn begin_use(&mut self, rest: Rest, asked: Asked, behind: Part) -> Result<(), Stop>
         requires { 0 < length rest.tokens }
-        ensures { BeginsUse rest.context (line_at rest.tokens 0) asked behind self.old self.new result }
+        ensures { BeginsUse rest.context (line_at rest.tokens 0) asked behind self.old self.new
+            result }
     {
         let line = rest.tokens.line(0);
         self.total.charge(asked.size, line)?;

@@ -6,7 +6,8 @@ ghost use Rattle.sg_fault.specs.Faults.{number, rank, earlier, least};
 /// A fault ranks below another one exactly where it stands at an earlier token, or at the same token
 /// and its kind has the lower number.
 pub fn earlier_is_by_place()
-    ensures { (p q : Placed) → rank p < rank q ↔ ((p.line.at < q.line.at) ⊎ ((p.line.at ≡ q.line.at) × (number p.kind < number q.kind))) }
+    ensures { (p q : Placed) → rank p < rank q ↔
+        ((p.line.at < q.line.at) ⊎ ((p.line.at ≡ q.line.at) × (number p.kind < number q.kind))) }
 {}
 
 /// The first of two lists of faults together is the earlier one of the first of each, and it doesn't

@@ -73,7 +73,8 @@ impl InletCounts {
 
     /// Whether so many bytes more can be counted.
     pub fn has_room(&self, len: usize) -> bool
-        ensures { IsTrue result → (self.now.place + len < 2 ^ 63) × (self.now.bytes + len < 2 ^ 64) }
+        ensures { IsTrue result
+            → (self.now.place + len < 2 ^ 63) × (self.now.bytes + len < 2 ^ 64) }
     {
         if self.place >= PLACES || len as u64 >= PLACES - self.place {
             return false;
@@ -107,7 +108,8 @@ impl InletCounts {
     }
 
     fn fail(&mut self) -> Result<Pull, InletFault>
-        ensures { (got : Result AnyPull AnyFault) → IsAnswered (inlet_state self.old) (inlet_state self.new) got result }
+        ensures { (got : Result AnyPull AnyFault)
+            → IsAnswered (inlet_state self.old) (inlet_state self.new) got result }
     {
         self.faults = self.faults.saturating_add(1);
         Err(InletFault)
@@ -115,7 +117,8 @@ impl InletCounts {
 
     fn give(&mut self, len: usize, at: i64) -> Result<Pull, InletFault>
         requires { self.old.pulls < 2 ^ 64 - 1 }
-        ensures { IsAnswered (inlet_state self.old) (inlet_state self.new) (Ok (Bytes len at)) result }
+        ensures { IsAnswered (inlet_state self.old) (inlet_state self.new) (Ok (Bytes len at))
+            result }
     {
         if self.ended || self.hung || !self.has_room(len) {
             return self.fail();
@@ -189,8 +192,10 @@ impl OutletCounts {
     /// refused where those are fewer than all, or too many to be counted.
     pub fn sent(&mut self, whole: usize, all: usize) -> Result<(), SendRefusal>
         ensures done { all ≤ whole → self.old.taken + all < 2 ^ 64 → IsOk result }
-        ensures taken { whole < all → self.old.taken + all < 2 ^ 64 → self.new.taken ≡ self.old.taken + whole }
-        ensures counted { (frames : List (List ℕ)) → length frames ≡ all → Sends (outlet_state self.old) (outlet_state self.new) frames result }
+        ensures taken { whole < all → self.old.taken + all < 2 ^ 64
+            → self.new.taken ≡ self.old.taken + whole }
+        ensures counted { (frames : List (List ℕ)) → length frames ≡ all
+            → Sends (outlet_state self.old) (outlet_state self.new) frames result }
     {
         if !self.has_room(all) {
             self.fail();
@@ -228,7 +233,8 @@ impl OutletCounts {
     }
 
     fn fail(&mut self)
-        ensures { self.new ≡ record self.old { faults = one_more self.old.faults; failing = one_more self.old.failing } }
+        ensures { self.new ≡ record self.old
+            { faults = one_more self.old.faults; failing = one_more self.old.failing } }
     {
         self.faults = self.faults.saturating_add(1);
         self.failing = self.failing.saturating_add(1);

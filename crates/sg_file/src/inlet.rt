@@ -66,7 +66,8 @@ impl FileInlet {
         from: u64,
         rest: Rest,
     ) -> Result<FileInlet, OpenRefusal>
-        ensures opened { IfOk result (λ inlet. inlet_of inlet ≡ new_inlet (codes "localhost") (inlet_of inlet).from true) }
+        ensures opened { IfOk result
+            (λ inlet. inlet_of inlet ≡ new_inlet (codes "localhost") (inlet_of inlet).from true) }
         ensures place { IfOk result (λ inlet. StartsAt from (inlet_of inlet).from) }
         ensures once { IfOk result (λ inlet. inlet.once ≡ once) }
     {

@@ -9,7 +9,8 @@ use std::path::Path;
 
 /// A name as text. Files are opened by names in UTF-8 alone.
 pub fn path_text(name: &[u8]) -> io::Result<&str>
-    ensures { MatchResult result (λ text. (text.now ≡ name.now) × IsUtf8 name.now) (λ _. ¬ (IsUtf8 name.now)) }
+    ensures { MatchResult result (λ text. (text.now ≡ name.now) × IsUtf8 name.now)
+        (λ _. ¬ (IsUtf8 name.now)) }
 {
     match str::from_utf8(name) {
         Ok(text) => Ok(text),

@@ -35,7 +35,8 @@ is_so cmp.Ge order = is_ge order
 
 -- the texts of two templates, compared byte by byte
 abbrev pub compares : List Part → Cmp → List Part → Content → Bool
-compares left cmp right m = is_so cmp (byte_order (render_of left m (own_env None)) (render_of right m (own_env None)))
+compares left cmp right m = is_so cmp
+    (byte_order (render_of left m (own_env None)) (render_of right m (own_env None)))
 
 -- A range holds for the facility or severity of the PRI; a field without a value is the empty text.
 unfoldable pub check_holds : Check → Content → Bool

@@ -29,7 +29,8 @@ abbrev first : List Decision → Decision
 first [] = answer false
 first (d ∷ ds) = d
 
-all_taken-append : (xs ys : List Word) (seen : List Decision) → all_taken (xs ++ ys) seen ≡ all_taken ys (all_taken xs seen)
+all_taken-append : (xs ys : List Word) (seen : List Decision)
+    → all_taken (xs ++ ys) seen ≡ all_taken ys (all_taken xs seen)
 all_taken-append [] ys seen = refl
 all_taken-append (x ∷ xs) ys seen = all_taken-append xs ys (taken x seen)
 
@@ -43,4 +44,5 @@ words-taken (ask check pass fail) seen =
 
 -- it is stored as that list
 abbrev pub decision_code : Coded Decision
-decision_code = code_by (List Word) (coded_list (coded⊎ coded_bool row.the_row.coded)) words (λ ws. first (all_taken ws [])) (λ d. ap first (words-taken d []))
+decision_code = code_by (List Word) (coded_list (coded⊎ coded_bool row.the_row.coded)) words
+    (λ ws. first (all_taken ws [])) (λ d. ap first (words-taken d []))

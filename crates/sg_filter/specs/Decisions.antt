@@ -35,7 +35,8 @@ any_fork (f ∷ fs) pass fail = f pass (any_fork fs pass fail)
 abbrev pub fork_step : (ℕ → Fork) → Expr-F Fork → Fork
 fork_step names (Expr-F.Facility ranges) = ask (check.Facility ranges)
 fork_step names (Expr-F.Level ranges) = ask (check.Level ranges)
-fork_step names (Expr-F.Field name pattern) = ask (check.Field (record { name = name; matcher = pattern_of pattern }))
+fork_step names (Expr-F.Field name pattern) = ask
+    (check.Field (record { name = name; matcher = pattern_of pattern }))
 fork_step names (Expr-F.Tags tags) = ask (check.Tags tags)
 fork_step names (Expr-F.Compare left cmp right) = ask (check.Compare left cmp right)
 fork_step names (Expr-F.Named i) = names i
@@ -48,7 +49,8 @@ no_fork pass fail = fail
 
 abbrev pub name_fork : ℕ → List Expr → ℕ → Fork
 name_fork zero named i = no_fork
-name_fork (suc depth) named i = of_named no_fork (fold-Expr Fork (fork_step (name_fork depth named))) (slice_get named i)
+name_fork (suc depth) named i = of_named no_fork
+    (fold-Expr Fork (fork_step (name_fork depth named))) (slice_get named i)
 
 -- the expression, with its names replaced so many deep
 unfoldable pub forks : ℕ → List Expr → Expr → Fork

@@ -14,7 +14,8 @@ use Rattle.sg_filter.specs.Names.{of_named}
 abbrev pub holds_step : (ℕ → Bool) → Content → Expr-F Bool → Bool
 holds_step names m (Expr-F.Facility ranges) = check_holds (check.Facility ranges) m
 holds_step names m (Expr-F.Level ranges) = check_holds (check.Level ranges) m
-holds_step names m (Expr-F.Field name pattern) = check_holds (check.Field (record { name = name; matcher = pattern_of pattern })) m
+holds_step names m (Expr-F.Field name pattern) =
+    check_holds (check.Field (record { name = name; matcher = pattern_of pattern })) m
 holds_step names m (Expr-F.Tags tags) = check_holds (check.Tags tags) m
 holds_step names m (Expr-F.Compare left cmp right) = check_holds (check.Compare left cmp right) m
 holds_step names m (Expr-F.Named i) = names i
@@ -24,7 +25,8 @@ holds_step names m (Expr-F.Not term) = not term
 
 abbrev pub name_holds : ℕ → List Expr → Content → ℕ → Bool
 name_holds zero named m i = false
-name_holds (suc depth) named m i = of_named false (fold-Expr Bool (holds_step (name_holds depth named m) m)) (slice_get named i)
+name_holds (suc depth) named m i = of_named false
+    (fold-Expr Bool (holds_step (name_holds depth named m) m)) (slice_get named i)
 
 -- with its names replaced so many deep
 unfoldable pub holds_within : ℕ → List Expr → Content → Expr → Bool

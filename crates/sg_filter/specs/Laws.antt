@@ -7,4 +7,5 @@ use Rattle.sg_filter.specs.Holds.{holds}
 
 -- what the expression's decision answers is whether it holds
 abbrev pub FiltersHold : Type 0
-FiltersHold = (named : List Expr) (expr : Expr) (message : Content) → decides (decision_of named expr) message ≡ holds named expr message
+FiltersHold = (named : List Expr) (expr : Expr) (message : Content)
+    → decides (decision_of named expr) message ≡ holds named expr message

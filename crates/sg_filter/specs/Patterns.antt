@@ -31,11 +31,13 @@ patterns_step names (Expr-F.Not term) = term
 
 abbrev pub name_patterns : ℕ → List Expr → ℕ → List PatternText
 name_patterns zero named i = []
-name_patterns (suc depth) named i = of_named [] (fold-Expr (List PatternText) (patterns_step (name_patterns depth named))) (slice_get named i)
+name_patterns (suc depth) named i = of_named []
+    (fold-Expr (List PatternText) (patterns_step (name_patterns depth named))) (slice_get named i)
 
 -- with its names replaced so many deep
 unfoldable pub patterns_within : ℕ → List Expr → Expr → List PatternText
-patterns_within depth named = fold-Expr (List PatternText) (patterns_step (name_patterns depth named))
+patterns_within depth named = fold-Expr (List PatternText)
+    (patterns_step (name_patterns depth named))
 
 -- the patterns that a filter searches for, those of its names too
 abbrev pub patterns_of : List Expr → Expr → List PatternText

@@ -50,7 +50,8 @@ pub record Comes (named : List Expr) (made : Decision) (patterns : List PatternT
   pub grows : here → Grows old.nodes.items new.nodes.items
   pub more : List Frame
   pub frames : new.frames.items ≡ old.frames.items ++ more
-  pub inside : here → AreIn (length new.nodes.items + 2) more × (new.last < length new.nodes.items + 2)
+  pub inside : here
+      → AreIn (length new.nodes.items + 2) more × (new.last < length new.nodes.items + 2)
   pub means : here → run named new.nodes.items more (decision_at new.nodes.items new.last) ≡ made
   pub done : List PatternText
   pub is : patterns ≡ waiting_patterns named more ++ done
@@ -59,7 +60,8 @@ pub record Comes (named : List Expr) (made : Decision) (patterns : List PatternT
 -- what one frame comes to, where its places and that of what was made last stand in the table
 abbrev pub Turns : List Expr → Frame → Work → Work → Type 0
 Turns named one old new =
-    Comes named (does named old.nodes.items one (decision_at old.nodes.items old.last)) (frame_patterns named one)
+    Comes named (does named old.nodes.items one (decision_at old.nodes.items old.last))
+    (frame_patterns named one)
     (IsIn (length old.nodes.items + 2) one × (old.last < length old.nodes.items + 2)) old new
 
 -- the work is on its way to what an expression comes to
@@ -67,7 +69,8 @@ pub record Leads (named : List Expr) (expr : Expr) (work : Work) : Type 0 where
   pub table : IsTable work.nodes.items
   pub inside : AreIn (length work.nodes.items + 2) work.frames.items
   pub within : work.last < length work.nodes.items + 2
-  pub means : run named work.nodes.items work.frames.items (decision_at work.nodes.items work.last) ≡ decision_of named expr
+  pub means : run named work.nodes.items work.frames.items (decision_at work.nodes.items work.last)
+      ≡ decision_of named expr
   pub done : List PatternText
   pub is : patterns_of named expr ≡ waiting_patterns named work.frames.items ++ done
   pub valid : AreValid done

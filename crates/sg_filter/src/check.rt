@@ -120,7 +120,8 @@ fn compares(
 
 impl Search {
     fn finds(&mut self, message: &Message) -> Result<bool, AllocError>
-        ensures value { IfOk result (λ b. b ≡ is_found self.old.matcher (text_of self.old.name message.now.pairs)) }
+        ensures value { IfOk result
+            (λ b. b ≡ is_found self.old.matcher (text_of self.old.name message.now.pairs)) }
         ensures same { self.new ≡ self.old }
     {
         self.matcher.finds(text_of(message, self.name.bytes()))

@@ -38,9 +38,11 @@ pub(crate) fn field<B: Builder>(
     name: &Name,
     pattern: &PatternText,
 ) -> Result<Check, BuildRefusal>
-    ensures ok { IfOk result (λ made. made ≡ check.Field (record { name = name.now; matcher = pattern_of pattern.now })) }
+    ensures ok { IfOk result (λ made. made
+        ≡ check.Field (record { name = name.now; matcher = pattern_of pattern.now })) }
     ensures valid { IfOk result (λ _. IsValid (pattern_of pattern.now)) }
-    ensures refused { IfErr result (RefusesText (B.state builder.old) (B.state builder.new) pattern.now) }
+    ensures refused { IfErr result
+        (RefusesText (B.state builder.old) (B.state builder.new) pattern.now) }
     ensures only { OnlyBuilds (B.state builder.old) (B.state builder.new) }
 {
     let name = name.copy()?;

@@ -49,7 +49,8 @@ impl Filter {
     ) -> Result<Filter, BuildRefusal>
         ensures ok { IfOk result (λ filter. filter ≡ decision_of named.now expr.now) }
         ensures valid { IfOk result (λ _. AreValid (patterns_of named.now expr.now)) }
-        ensures refused { IfErr result (RefusesExpr (B.state builder.old) (B.state builder.new) named.now expr.now) }
+        ensures refused { IfErr result
+            (RefusesExpr (B.state builder.old) (B.state builder.new) named.now expr.now) }
         ensures only { OnlyBuilds (B.state builder.old) (B.state builder.new) }
     {
         match made(alloc, builder, expr, named) {

@@ -19,7 +19,8 @@ pub(crate) struct Node {
 
 impl Node {
     fn next(&mut self, room: &mut Room, message: &Message) -> Result<u32, AllocError>
-        ensures value { IfOk result (λ at. at ≡ (if check_holds self.old.check message.now then self.old.yes else self.old.no)) }
+        ensures value { IfOk result (λ at. at
+            ≡ (if check_holds self.old.check message.now then self.old.yes else self.old.no)) }
         ensures same { self.new ≡ self.old }
     {
         if self.check.holds(room, message)? {

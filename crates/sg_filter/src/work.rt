@@ -49,14 +49,17 @@ pub(crate) struct Work<'e> {
 
 impl<'e> Work<'e> {
     fn push(&mut self, frame: Frame<'e>) -> Result<(), AllocError>
-        ensures { OnOk result ((self.new.frames.items ≡ self.old.frames.items ++ frame.entry ∷ []) × (self.new.nodes ≡ self.old.nodes) × (self.new.last ≡ self.old.last)) }
+        ensures { OnOk result ((self.new.frames.items ≡ self.old.frames.items ++ frame.entry ∷ [])
+            × (self.new.nodes ≡ self.old.nodes) × (self.new.last ≡ self.old.last)) }
     {
         self.frames.push(frame)?;
         Ok(())
     }
 
     fn push_both(&mut self, below: Frame<'e>, frame: Frame<'e>) -> Result<(), AllocError>
-        ensures { OnOk result ((self.new.frames.items ≡ self.old.frames.items ++ below.entry ∷ frame.entry ∷ []) × (self.new.nodes ≡ self.old.nodes) × (self.new.last ≡ self.old.last)) }
+        ensures { OnOk result (
+            (self.new.frames.items ≡ self.old.frames.items ++ below.entry ∷ frame.entry ∷ [])
+            × (self.new.nodes ≡ self.old.nodes) × (self.new.last ≡ self.old.last)) }
     {
         self.push(below)?;
         self.push(frame)?;
@@ -64,7 +67,10 @@ impl<'e> Work<'e> {
     }
 
     fn ask(&mut self, check: Check, yes: u32, no: u32) -> Result<(), AllocError>
-        ensures { OnOk result ((self.new.nodes.items ≡ self.old.nodes.items ++ (record { check = check; yes = yes; no = no }) ∷ []) × (self.new.last ≡ length self.old.nodes.items + 2) × (self.new.frames ≡ self.old.frames)) }
+        ensures { OnOk result ((self.new.nodes.items
+            ≡ self.old.nodes.items ++ (record { check = check; yes = yes; no = no }) ∷ [])
+            × (self.new.last ≡ length self.old.nodes.items + 2)
+            × (self.new.frames ≡ self.old.frames)) }
     {
         let count = self.nodes.len();
         if count >= u32::MAX as usize - 2 {
@@ -83,7 +89,8 @@ impl<'e> Work<'e> {
         frame: Frame<'e>,
     ) -> Result<(), BuildRefusal>
         ensures turns { OnOk result (Turns named.now frame.entry self.old self.new) }
-        ensures refused { IfErr result (RefusesAny (B.state builder.old) (B.state builder.new) (frame_patterns named.now frame.entry)) }
+        ensures refused { IfErr result (RefusesAny (B.state builder.old) (B.state builder.new)
+            (frame_patterns named.now frame.entry)) }
         ensures only { OnlyBuilds (B.state builder.old) (B.state builder.new) }
     {
         match frame {
@@ -204,7 +211,8 @@ impl<'e> Work<'e> {
 
 // The last one, and those before it.
 fn last_of(terms: &[Expr]) -> Option<(&[Expr], &Expr)>
-    ensures { MatchOption result (terms.now ≡ []) (λ found. terms.now ≡ found.0.now ++ found.1.now ∷ []) }
+    ensures { MatchOption result (terms.now ≡ [])
+        (λ found. terms.now ≡ found.0.now ++ found.1.now ∷ []) }
 {
     match terms.split_last() {
         Some((last, front)) => Some((front, last)),
@@ -220,7 +228,8 @@ pub(crate) fn made<'e, B: Builder>(
     named: &'e [Expr],
 ) -> Result<Work<'e>, BuildRefusal>
     ensures leads { IfOk result (λ work. Leads named.now expr.now work × (work.frames.items ≡ [])) }
-    ensures refused { IfErr result (RefusesExpr (B.state builder.old) (B.state builder.new) named.now expr.now) }
+    ensures refused { IfErr result
+        (RefusesExpr (B.state builder.old) (B.state builder.new) named.now expr.now) }
     ensures only { OnlyBuilds (B.state builder.old) (B.state builder.new) }
 {
     let mut work = Work {

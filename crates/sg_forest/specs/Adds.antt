@@ -24,25 +24,33 @@ use Rattle.sg_forest.specs.Patterns.{element_patterns, branch_patterns, log_patt
 
 -- behind the old elements stand those that mean these steps and have these patterns
 pub record Adds (named : List Expr) (old new : List Element) (steps : Steps → Steps) (patterns : Patterns) : Type 0 where
-  pub steps_are : (rest : Steps) → in_front (map (element_view named) new) rest ≡ in_front (map (element_view named) old) (steps rest)
+  pub steps_are : (rest : Steps) → in_front (map (element_view named) new) rest
+      ≡ in_front (map (element_view named) old) (steps rest)
   pub patterns_are : table.list_patterns named new ≡ table.list_patterns named old ++ patterns
 
 -- whatever the list of named filters
-abbrev pub AddsElement : Names → List Owner → List (List Call) → RawElement → List Element → List Element → Type 0
+abbrev pub AddsElement : Names → List Owner → List (List Call) → RawElement → List Element
+    → List Element → Type 0
 AddsElement names outlets rewrites element old new =
-    (named : List Expr) → Adds named old new (element_steps names outlets rewrites named element) (element_patterns names rewrites named element)
+    (named : List Expr) → Adds named old new (element_steps names outlets rewrites named element)
+    (element_patterns names rewrites named element)
 
-abbrev pub AreElements : Names → List Owner → List (List Call) → List RawElement → List Element → Type 0
+abbrev pub AreElements : Names → List Owner → List (List Call) → List RawElement → List Element
+    → Type 0
 AreElements names outlets rewrites elements made =
-    (named : List Expr) → Adds named [] made (elements_steps names outlets rewrites named elements) (elements_patterns names rewrites named elements)
+    (named : List Expr) → Adds named [] made (elements_steps names outlets rewrites named elements)
+    (elements_patterns names rewrites named elements)
 
-abbrev pub IsBranch : Names → List Owner → List (List Call) → RawBranch → Expr × Vec Element Global → Type 0
+abbrev pub IsBranch : Names → List Owner → List (List Call) → RawBranch → Expr × Vec Element Global
+    → Type 0
 IsBranch names outlets rewrites branch made =
     (named : List Expr)
-    → ((decision_of named made.0, steps_view named made.1.items []) ≡ branch_steps names outlets rewrites named branch)
+    → ((decision_of named made.0, steps_view named made.1.items [])
+    ≡ branch_steps names outlets rewrites named branch)
     × (table.branch_patterns named made ≡ branch_patterns names rewrites named branch)
 
-abbrev pub AreBranches : Names → List Owner → List (List Call) → List RawBranch → List (Expr × Vec Element Global) → Type 0
+abbrev pub AreBranches : Names → List Owner → List (List Call) → List RawBranch
+    → List (Expr × Vec Element Global) → Type 0
 AreBranches names outlets rewrites branches made =
     (named : List Expr)
     → (choices named made ≡ map (branch_steps names outlets rewrites named) branches)
@@ -63,11 +71,14 @@ AreLogs names outlets rewrites logs made =
 -- a top-level statement
 pub record IsTop (names : Names) (ends : Ends) (rewrites : List (List Call)) (log : RawLog) (path : Path) : Type 0 where
   pub top : (named : List Expr) → top_view named path ≡ top_in names ends rewrites named log
-  pub patterns : (named : List Expr) → table.path_patterns named path ≡ log_patterns names rewrites named log
+  pub patterns : (named : List Expr)
+      → table.path_patterns named path ≡ log_patterns names rewrites named log
   pub line : line_of path ≡ line_in log
 
 -- behind the old statements stand these
 pub record AddsTops (names : Names) (ends : Ends) (rewrites : List (List Call)) (logs : List RawLog) (old new : List Path) : Type 0 where
-  pub tops : (named : List Expr) → map (top_view named) new ≡ map (top_view named) old ++ map (top_in names ends rewrites named) logs
-  pub patterns : (named : List Expr) → table.siblings_patterns named new ≡ table.siblings_patterns named old ++ logs_patterns names rewrites named logs
+  pub tops : (named : List Expr) → map (top_view named) new
+      ≡ map (top_view named) old ++ map (top_in names ends rewrites named) logs
+  pub patterns : (named : List Expr) → table.siblings_patterns named new
+      ≡ table.siblings_patterns named old ++ logs_patterns names rewrites named logs
   pub lines : map line_of new ≡ map line_of old ++ map line_in logs

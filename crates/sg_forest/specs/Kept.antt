@@ -14,4 +14,5 @@ HasValue call = (option : Call) → last_option (codes "value" ∷ []) (calls_of
 
 abbrev pub RewritesAreKept : Type 0
 RewritesAreKept = (names : Names) (call : Call) → HasValue call → rewrite_faults call ≡ []
-    → written_in names call ≡ (record { condition = condition names (args_of call); operation = meant_by call }) ∷ []
+    → written_in names call
+    ≡ (record { condition = condition names (args_of call); operation = meant_by call }) ∷ []

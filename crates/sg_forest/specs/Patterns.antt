@@ -24,34 +24,44 @@ joined_if None = []
 joined_if (Some elements) = joined elements
 
 -- one layer, with the patterns of what it holds in its place
-abbrev pub element_step : Names → List (List Call) → List Expr → RawElement-F Patterns Patterns Patterns → Patterns
+abbrev pub element_step : Names → List (List Call) → List Expr
+    → RawElement-F Patterns Patterns Patterns → Patterns
 element_step names rewrites named (RawElement-F.Source word source) = []
 element_step names rewrites named (RawElement-F.Destination destination) = []
-element_step names rewrites named (RawElement-F.Filter reference) = patterns_of named (filter_meant names reference)
-element_step names rewrites named (RawElement-F.Rewrite reference) = rewrite_patterns names named (calls_meant names rewrites reference)
+element_step names rewrites named (RawElement-F.Filter reference) = patterns_of named
+    (filter_meant names reference)
+element_step names rewrites named (RawElement-F.Rewrite reference) = rewrite_patterns names named
+    (calls_meant names rewrites reference)
 element_step names rewrites named (RawElement-F.Junction channels) = joined channels
-element_step names rewrites named (RawElement-F.If branches other) = joined branches ++ joined_if other
+element_step names rewrites named (RawElement-F.If branches other) = joined branches
+    ++ joined_if other
 
 abbrev pub branch_step : Names → List Expr → RawBranch-F Patterns Patterns Patterns → Patterns
-branch_step names named branch = patterns_of named (expression names branch.test) ++ joined branch.elements
+branch_step names named branch = patterns_of named (expression names branch.test)
+    ++ joined branch.elements
 
 abbrev pub log_step : RawLog-F Patterns Patterns Patterns → Patterns
 log_step log = joined log.elements ++ joined log.embedded
 
 unfoldable pub element_patterns : Names → List (List Call) → List Expr → RawElement → Patterns
-element_patterns names rewrites named = fold-RawElement Patterns Patterns Patterns (element_step names rewrites named) (branch_step names named) log_step
+element_patterns names rewrites named = fold-RawElement Patterns Patterns Patterns
+    (element_step names rewrites named) (branch_step names named) log_step
 
 unfoldable pub branch_patterns : Names → List (List Call) → List Expr → RawBranch → Patterns
-branch_patterns names rewrites named = fold-RawBranch Patterns Patterns Patterns (element_step names rewrites named) (branch_step names named) log_step
+branch_patterns names rewrites named = fold-RawBranch Patterns Patterns Patterns
+    (element_step names rewrites named) (branch_step names named) log_step
 
 unfoldable pub log_patterns : Names → List (List Call) → List Expr → RawLog → Patterns
-log_patterns names rewrites named = fold-RawLog Patterns Patterns Patterns (element_step names rewrites named) (branch_step names named) log_step
+log_patterns names rewrites named = fold-RawLog Patterns Patterns Patterns
+    (element_step names rewrites named) (branch_step names named) log_step
 
 abbrev pub elements_patterns : Names → List (List Call) → List Expr → List RawElement → Patterns
-elements_patterns names rewrites named elements = joined (map (element_patterns names rewrites named) elements)
+elements_patterns names rewrites named elements = joined
+    (map (element_patterns names rewrites named) elements)
 
 abbrev pub branches_patterns : Names → List (List Call) → List Expr → List RawBranch → Patterns
-branches_patterns names rewrites named branches = joined (map (branch_patterns names rewrites named) branches)
+branches_patterns names rewrites named branches = joined
+    (map (branch_patterns names rewrites named) branches)
 
 abbrev pub logs_patterns : Names → List (List Call) → List Expr → List RawLog → Patterns
 logs_patterns names rewrites named logs = joined (map (log_patterns names rewrites named) logs)

@@ -40,7 +40,8 @@ calls_at rewrites (Some place) = unwrap_or (slice_get rewrites place) []
 
 -- of the rewrite statements' calls, each at its number, those of the statement of that name: none where no statement has it
 abbrev pub calls_meant : Names → List (List Call) → RawRef → List Call
-calls_meant names rewrites (ref.Named spot) = calls_at rewrites (place_in names kind.Rewrite spot.token.text)
+calls_meant names rewrites (ref.Named spot) = calls_at rewrites
+    (place_in names kind.Rewrite spot.token.text)
 calls_meant names rewrites (ref.Inline object) = rewrite_calls object
 
 abbrev pub source_at : List Owner → RawElement-F RawElement RawBranch RawLog → List ℕ

@@ -84,7 +84,9 @@ top_in names ends rewrites named log = record {
 }
 
 abbrev pub tops_in : Names → Ends → List Statement → List Top
-tops_in names ends statements = map (top_in names ends (rewrites_of statements) (filters_in names statements)) (logs_of statements)
+tops_in names ends statements =
+    map (top_in names ends (rewrites_of statements) (filters_in names statements))
+    (logs_of statements)
 
 -- what all of them mean over these inlets
 abbrev pub woods_in : Names → Ends → List InletRule → List Statement → Woods

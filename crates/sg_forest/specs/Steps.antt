@@ -26,7 +26,8 @@ Onward = Steps → Steps
 
 -- a rewrite, where it stands for one
 abbrev pub call_steps : Names → List Expr → Call → Onward
-call_steps names named call = in_front (map (λ written. walk.rewrite (rule_by named written)) (written_in names call))
+call_steps names named call = in_front
+    (map (λ written. walk.rewrite (rule_by named written)) (written_in names call))
 
 -- those of a statement or an element, one after another
 abbrev pub rewrite_steps : Names → List Expr → List Call → Onward
@@ -51,32 +52,48 @@ marks_of flags = record {
 
 -- One layer, with what it holds in its place. Destinations are numbered by their drivers, of which `outlets` has the statements; a source
 -- stands for nothing here.
-abbrev pub element_step : Names → List Owner → List (List Call) → List Expr → RawElement-F Onward (Decision × Steps) (Marks × Steps) → Onward
+abbrev pub element_step : Names → List Owner → List (List Call) → List Expr
+    → RawElement-F Onward (Decision × Steps) (Marks × Steps) → Onward
 element_step names outlets rewrites named (RawElement-F.Source word source) rest = rest
-element_step names outlets rewrites named (RawElement-F.Destination destination) rest = walk.deliver (numbers_of outlets (owner_of destination)) rest
-element_step names outlets rewrites named (RawElement-F.Filter reference) rest = walk.filter (decision_of named (filter_meant names reference)) rest
-element_step names outlets rewrites named (RawElement-F.Rewrite reference) rest = rewrite_steps names named (calls_meant names rewrites reference) rest
-element_step names outlets rewrites named (RawElement-F.Junction channels) rest = walk.junction (siblings_of channels) rest
-element_step names outlets rewrites named (RawElement-F.If branches other) rest = walk.choose (choice_of branches (other_branch other)) rest
+element_step names outlets rewrites named (RawElement-F.Destination destination) rest =
+    walk.deliver (numbers_of outlets (owner_of destination)) rest
+element_step names outlets rewrites named (RawElement-F.Filter reference) rest =
+    walk.filter (decision_of named (filter_meant names reference)) rest
+element_step names outlets rewrites named (RawElement-F.Rewrite reference) rest =
+    rewrite_steps names named (calls_meant names rewrites reference) rest
+element_step names outlets rewrites named (RawElement-F.Junction channels) rest =
+    walk.junction (siblings_of channels) rest
+element_step names outlets rewrites named (RawElement-F.If branches other) rest =
+    walk.choose (choice_of branches (other_branch other)) rest
 
-abbrev pub branch_step : Names → List Expr → RawBranch-F Onward (Decision × Steps) (Marks × Steps) → Decision × Steps
-branch_step names named branch = (decision_of named (expression names branch.test), in_front branch.elements none_left)
+abbrev pub branch_step : Names → List Expr → RawBranch-F Onward (Decision × Steps) (Marks × Steps)
+    → Decision × Steps
+branch_step names named branch = (
+  decision_of named (expression names branch.test),
+  in_front
+      branch.elements none_left,
+)
 
 abbrev pub log_step : RawLog-F Onward (Decision × Steps) (Marks × Steps) → Marks × Steps
 log_step log = (marks_of log.flags, in_front log.elements (embedded_logs log.embedded))
 
 unfoldable pub element_steps : Names → List Owner → List (List Call) → List Expr → RawElement → Onward
 element_steps names outlets rewrites named =
-    fold-RawElement Onward (Decision × Steps) (Marks × Steps) (element_step names outlets rewrites named) (branch_step names named) log_step
+    fold-RawElement Onward (Decision × Steps) (Marks × Steps)
+    (element_step names outlets rewrites named) (branch_step names named) log_step
 
 unfoldable pub branch_steps : Names → List Owner → List (List Call) → List Expr → RawBranch → Decision × Steps
 branch_steps names outlets rewrites named =
-    fold-RawBranch Onward (Decision × Steps) (Marks × Steps) (element_step names outlets rewrites named) (branch_step names named) log_step
+    fold-RawBranch Onward (Decision × Steps) (Marks × Steps)
+    (element_step names outlets rewrites named) (branch_step names named) log_step
 
 -- a statement or channel: its flags, and its elements
 unfoldable pub log_steps : Names → List Owner → List (List Call) → List Expr → RawLog → Marks × Steps
 log_steps names outlets rewrites named =
-    fold-RawLog Onward (Decision × Steps) (Marks × Steps) (element_step names outlets rewrites named) (branch_step names named) log_step
+    fold-RawLog Onward (Decision × Steps) (Marks × Steps)
+    (element_step names outlets rewrites named) (branch_step names named) log_step
 
-abbrev pub elements_steps : Names → List Owner → List (List Call) → List Expr → List RawElement → Onward
-elements_steps names outlets rewrites named elements = in_front (map (element_steps names outlets rewrites named) elements)
+abbrev pub elements_steps : Names → List Owner → List (List Call) → List Expr → List RawElement
+    → Onward
+elements_steps names outlets rewrites named elements = in_front
+    (map (element_steps names outlets rewrites named) elements)

@@ -39,7 +39,8 @@ written_in names call = if is_sound (meant_by call) then (record { condition = c
 abbrev pub change_by : Meant → Change
 change_by (set name text) = change.Set name text
 change_by (unset name) = change.Unset name
-change_by (subst_by name pattern text) = change.Subst (record { name = name; matcher = pattern_of pattern; text = text })
+change_by (subst_by name pattern text) = change.Subst
+    (record { name = name; matcher = pattern_of pattern; text = text })
 change_by (group_set globs text) = change.GroupSet globs text
 change_by (group_unset globs) = change.GroupUnset globs
 change_by (set_tag tag) = change.SetTag tag
@@ -58,4 +59,5 @@ pattern_in (set_tag tag) = []
 pattern_in (clear_tag tag) = []
 
 abbrev pub written_patterns : List Expr → Written → Patterns
-written_patterns named written = condition_patterns named written.condition ++ pattern_in written.operation
+written_patterns named written = condition_patterns named written.condition
+    ++ pattern_in written.operation

@@ -30,7 +30,8 @@ fn push_element(
     found: &mut Vec<Element>,
 ) -> Result<(), NoMemory>
     requires { length outlets.now < 2 ^ 32 }
-    ensures { OnOk result (AddsElement names.now outlets.now (map (λ calls. calls.now) rewrites.now) element.now found.old.items found.new.items) }
+    ensures { OnOk result (AddsElement names.now outlets.now (map (λ calls. calls.now) rewrites.now)
+        element.now found.old.items found.new.items) }
 {
     match element {
         RawElement::Source(_, _) => Ok(()),
@@ -97,7 +98,8 @@ fn lower_elements(
     elements: &[RawElement],
 ) -> Result<Vec<Element>, NoMemory>
     requires { length outlets.now < 2 ^ 32 }
-    ensures { IfOk result (λ made. AreElements names.now outlets.now (map (λ calls. calls.now) rewrites.now) elements.now made.items) }
+    ensures { IfOk result (λ made. AreElements names.now outlets.now
+        (map (λ calls. calls.now) rewrites.now) elements.now made.items) }
 {
     let mut found = Vec::new(alloc);
     for element in elements {
@@ -115,7 +117,8 @@ fn lower_branch(
     branch: &RawBranch,
 ) -> Result<(Expr, Vec<Element>), NoMemory>
     requires { length outlets.now < 2 ^ 32 }
-    ensures { IfOk result (λ made. IsBranch names.now outlets.now (map (λ calls. calls.now) rewrites.now) branch.now made) }
+    ensures { IfOk result (λ made. IsBranch names.now outlets.now
+        (map (λ calls. calls.now) rewrites.now) branch.now made) }
 {
     let test = lower_expression(alloc, names, &branch.test)?;
     let elements = lower_elements(alloc, names, outlets, rewrites, branch.elements.as_slice())?;
@@ -131,7 +134,8 @@ fn lower_branches(
     branches: &[RawBranch],
 ) -> Result<Vec<(Expr, Vec<Element>)>, NoMemory>
     requires { length outlets.now < 2 ^ 32 }
-    ensures { IfOk result (λ made. AreBranches names.now outlets.now (map (λ calls. calls.now) rewrites.now) branches.now made.items) }
+    ensures { IfOk result (λ made. AreBranches names.now outlets.now
+        (map (λ calls. calls.now) rewrites.now) branches.now made.items) }
 {
     let mut made = Vec::new(alloc);
     for branch in branches {
@@ -150,7 +154,8 @@ fn lower_logs(
     logs: &[RawLog],
 ) -> Result<Vec<Path>, NoMemory>
     requires { length outlets.now < 2 ^ 32 }
-    ensures { IfOk result (λ made. AreLogs names.now outlets.now (map (λ calls. calls.now) rewrites.now) logs.now made.items) }
+    ensures { IfOk result (λ made. AreLogs names.now outlets.now
+        (map (λ calls. calls.now) rewrites.now) logs.now made.items) }
 {
     let mut made = Vec::new(alloc);
     for log in logs {
@@ -171,9 +176,11 @@ pub fn lower_log(
     log: &RawLog,
 ) -> Result<Path, NoMemory>
     requires { length outlets.now < 2 ^ 32 }
-    ensures means { IfOk result (λ path. IsLog names.now outlets.now (map (λ calls. calls.now) rewrites.now) log.now path) }
+    ensures means { IfOk result
+        (λ path. IsLog names.now outlets.now (map (λ calls. calls.now) rewrites.now) log.now path) }
     ensures sources { IfOk result (λ path. (out-Path path).sources.items ≡ sources.items) }
-    ensures catchall { IfOk result (λ path. (out-Path path).catchall ≡ has_word (codes "catchall") (flags_of log.now)) }
+    ensures catchall { IfOk result
+        (λ path. (out-Path path).catchall ≡ has_word (codes "catchall") (flags_of log.now)) }
     ensures line { IfOk result (λ path. (out-Path path).line ≡ line_in log.now) }
 {
     let elements = lower_elements(alloc, names, outlets, rewrites, log.elements.as_slice())?;

@@ -74,7 +74,8 @@ fn calls_at<'a>(rewrites: &[&'a [Call]], place: Option<u32>) -> &'a [Call]
 
 /// The calls that a rewrite element means. Those of the rewrite statements stand at their numbers.
 pub fn calls_meant<'a>(names: &Names, rewrites: &[&'a [Call]], reference: &'a RawRef) -> &'a [Call]
-    ensures { result.now ≡ calls_meant names.now (map (λ calls. calls.now) rewrites.now) reference.now }
+    ensures { result.now
+        ≡ calls_meant names.now (map (λ calls. calls.now) rewrites.now) reference.now }
 {
     match reference {
         RawRef::Named(spot) => calls_at(

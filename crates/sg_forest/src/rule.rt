@@ -18,7 +18,8 @@ use std::alloc::{AllocError, Global};
 /// The rewrite that a call stands for: none where the name that it sets, unsets or searches is none that a pair
 /// may have.
 fn rule_of(alloc: Global, names: &Names, call: &Call) -> Result<Option<RewriteRule>, NoMemory>
-    ensures { IfOk result (λ rule. map written_of (option_to_list rule) ≡ written_in names.now call.now) }
+    ensures { IfOk result
+        (λ rule. map written_of (option_to_list rule) ≡ written_in names.now call.now) }
 {
     let (op, condition) = lower_rewrite(alloc, names, call)?;
     if !is_sound(&op) {
@@ -28,7 +29,8 @@ fn rule_of(alloc: Global, names: &Names, call: &Call) -> Result<Option<RewriteRu
 }
 
 fn append_rule(rules: &mut Vec<RewriteRule>, rule: RewriteRule) -> Result<(), AllocError>
-    ensures { OnOk result (map written_of rules.new.items ≡ map written_of rules.old.items ++ map written_of (option_to_list (Some rule))) }
+    ensures { OnOk result (map written_of rules.new.items
+        ≡ map written_of rules.old.items ++ map written_of (option_to_list (Some rule))) }
 {
     rules.push(rule)?;
     Ok(())
@@ -40,7 +42,8 @@ fn push_rule(
     call: &Call,
     rules: &mut Vec<RewriteRule>,
 ) -> Result<(), NoMemory>
-    ensures { OnOk result (map written_of rules.new.items ≡ map written_of rules.old.items ++ written_in names.now call.now) }
+    ensures { OnOk result (map written_of rules.new.items
+        ≡ map written_of rules.old.items ++ written_in names.now call.now) }
 {
     match rule_of(alloc, names, call)? {
         Some(rule) => {
@@ -58,7 +61,8 @@ pub fn push_rules(
     calls: &[Call],
     rules: &mut Vec<RewriteRule>,
 ) -> Result<(), NoMemory>
-    ensures { OnOk result (map written_of rules.new.items ≡ map written_of rules.old.items ++ flat_map (written_in names.now) calls.now) }
+    ensures { OnOk result (map written_of rules.new.items
+        ≡ map written_of rules.old.items ++ flat_map (written_in names.now) calls.now) }
 {
     for call in calls {
         push_rule(alloc, names, call, rules)?;
@@ -72,7 +76,8 @@ fn push_call(
     call: &Call,
     elements: &mut Vec<Element>,
 ) -> Result<(), NoMemory>
-    ensures { OnOk result ((named : List Filter) → Adds named elements.old.items elements.new.items (call_steps names.now named call.now) (call_patterns names.now named call.now)) }
+    ensures { OnOk result ((named : List Filter) → Adds named elements.old.items elements.new.items
+        (call_steps names.now named call.now) (call_patterns names.now named call.now)) }
 {
     match rule_of(alloc, names, call)? {
         Some(rule) => {
@@ -98,7 +103,8 @@ pub fn push_calls(
     calls: &[Call],
     elements: &mut Vec<Element>,
 ) -> Result<(), NoMemory>
-    ensures { OnOk result ((named : List Filter) → Adds named elements.old.items elements.new.items (rewrite_steps names.now named calls.now) (rewrite_patterns names.now named calls.now)) }
+    ensures { OnOk result ((named : List Filter) → Adds named elements.old.items elements.new.items
+        (rewrite_steps names.now named calls.now) (rewrite_patterns names.now named calls.now)) }
 {
     for call in calls {
         push_call(alloc, names, call, elements)?;

@@ -35,7 +35,8 @@ pub fn sources_of(
     elements: &[RawElement],
 ) -> Result<Vec<u32>, NoMemory>
     requires { length inlets.now < 2 ^ 32 }
-    ensures { IfOk result (λ sources. sources.items ≡ flat_map (source_in inlets.now) elements.now) }
+    ensures { IfOk result
+        (λ sources. sources.items ≡ flat_map (source_in inlets.now) elements.now) }
 {
     let mut found = Vec::new(alloc);
     for element in elements {

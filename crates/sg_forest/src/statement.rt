@@ -26,7 +26,8 @@ fn push_filter(
     statement: &Statement,
     found: &mut Vec<Expr>,
 ) -> Result<(), NoMemory>
-    ensures { OnOk result (found.new.items ≡ found.old.items ++ filters_at names.now statement.now) }
+    ensures { OnOk result
+        (found.new.items ≡ found.old.items ++ filters_at names.now statement.now) }
 {
     match statement {
         Statement::Object(Object::Filter { expr, .. }) => {
@@ -54,7 +55,8 @@ pub fn filters_of(
 }
 
 fn push_calls<'a>(statement: &'a Statement, found: &mut Vec<&'a [Call]>) -> Result<(), NoMemory>
-    ensures { OnOk result (map (λ calls. calls.now) found.new.items ≡ map (λ calls. calls.now) found.old.items ++ rewrites_at statement.now) }
+    ensures { OnOk result (map (λ calls. calls.now) found.new.items
+        ≡ map (λ calls. calls.now) found.old.items ++ rewrites_at statement.now) }
 {
     match statement {
         Statement::Object(Object::Rewrite { calls, .. }) => {
@@ -70,7 +72,8 @@ pub fn calls_by_place<'a>(
     alloc: Global,
     statements: &'a [Statement],
 ) -> Result<Vec<&'a [Call]>, NoMemory>
-    ensures { IfOk result (λ found. map (λ calls. calls.now) found.items ≡ rewrites_of statements.now) }
+    ensures { IfOk result
+        (λ found. map (λ calls. calls.now) found.items ≡ rewrites_of statements.now) }
 {
     let mut found = Vec::new(alloc);
     for statement in statements {
@@ -85,7 +88,8 @@ pub fn rules_of(
     names: &Names,
     rewrites: &[&[Call]],
 ) -> Result<Vec<RewriteRule>, NoMemory>
-    ensures { IfOk result (λ rules. map written_of rules.items ≡ flat_map (written_at names.now) (map (λ calls. calls.now) rewrites.now)) }
+    ensures { IfOk result (λ rules. map written_of rules.items
+        ≡ flat_map (written_at names.now) (map (λ calls. calls.now) rewrites.now)) }
 {
     let mut found = Vec::new(alloc);
     for calls in rewrites {
@@ -104,7 +108,8 @@ fn lower_top(
 ) -> Result<Path, NoMemory>
     requires inlets { length ends.now.inlets < 2 ^ 32 }
     requires outlets { length ends.now.outlets < 2 ^ 32 }
-    ensures { IfOk result (IsTop names.now ends.now (map (λ calls. calls.now) rewrites.now) log.now) }
+    ensures { IfOk result
+        (IsTop names.now ends.now (map (λ calls. calls.now) rewrites.now) log.now) }
 {
     let sources = sources_of(alloc, ends.inlets.as_slice(), log.elements.as_slice())?;
     let outlets = ends.outlets.as_slice();
@@ -122,7 +127,8 @@ fn push_top(
 ) -> Result<(), NoMemory>
     requires inlets { length ends.now.inlets < 2 ^ 32 }
     requires outlets { length ends.now.outlets < 2 ^ 32 }
-    ensures { OnOk result (AddsTops names.now ends.now (map (λ calls. calls.now) rewrites.now) (logs_at statement.now) found.old.items found.new.items) }
+    ensures { OnOk result (AddsTops names.now ends.now (map (λ calls. calls.now) rewrites.now)
+        (logs_at statement.now) found.old.items found.new.items) }
 {
     match statement {
         Statement::Log(log) => {
@@ -144,7 +150,8 @@ pub fn tops_of(
 ) -> Result<Vec<Path>, NoMemory>
     requires inlets { length ends.now.inlets < 2 ^ 32 }
     requires outlets { length ends.now.outlets < 2 ^ 32 }
-    ensures { IfOk result (λ paths. AddsTops names.now ends.now (map (λ calls. calls.now) rewrites.now) (logs_of statements.now) [] paths.items) }
+    ensures { IfOk result (λ paths. AddsTops names.now ends.now
+        (map (λ calls. calls.now) rewrites.now) (logs_of statements.now) [] paths.items) }
 {
     let mut found = Vec::new(alloc);
     for statement in statements {

@@ -47,7 +47,8 @@ pub record HasFramed (bytes : List Stamped) (given : List Item) (f : Framing) : 
 -- a call that took these bytes and gave these items
 abbrev pub Goes : Framing → Framing → List Stamped → List Item → Type 0
 Goes old new more taken =
-    (bytes : List Stamped) (given : List Item) → HasFramed bytes given old → HasFramed (bytes ++ more) (given ++ taken) new
+    (bytes : List Stamped) (given : List Item) → HasFramed bytes given old
+    → HasFramed (bytes ++ more) (given ++ taken) new
 
 -- the first item left is given, and the rest is left
 pub record Gives (old new : Framing) (item : Item) : Type 0 where
@@ -61,7 +62,9 @@ pub record Gives (old new : Framing) (item : Item) : Type 0 where
   pub history : Goes old new [] (item ∷ [])
 
 abbrev pub NextTells : Framing → Framing → Result Framed AllocError → Type 0
-NextTells old new (Ok (Given bytes end at)) = Gives old new (record { text = bytes; at = at; end = end })
+NextTells old new (Ok (Given bytes end at)) = Gives old new
+    (record { text = bytes; at = at; end = end })
 NextTells old new (Ok More) = (new ≡ old) × (items_left old ≡ []) × IsSound (open_left old)
-NextTells old new (Ok (BadFrame place)) = (new ≡ old) × (items_left old ≡ []) × (open_left old ≡ Bad place)
+NextTells old new (Ok (BadFrame place)) = (new ≡ old) × (items_left old ≡ [])
+    × (open_left old ≡ Bad place)
 NextTells old new (Err e) = new ≡ old

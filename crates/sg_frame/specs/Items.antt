@@ -80,7 +80,8 @@ items limit place form (b ∷ bytes) =
 -- what stands open behind these bytes
 abbrev pub open_after : (limit place : ℕ) → Form → List Stamped → Form
 open_after limit place form [] = form
-open_after limit place form (b ∷ bytes) = open_after limit (place + 1) (open_at limit place form b.0) bytes
+open_after limit place form (b ∷ bytes) = open_after limit (place + 1)
+    (open_at limit place form b.0) bytes
 
 -- what stands open where an item may begin
 abbrev pub beginning : FrameKind → Form

@@ -22,7 +22,8 @@ records_of kind limit from part = map (record_of from part.peer) (items_of kind 
 -- the records of parts, part after part, where reading each part began at the place `from`
 abbrev pub records : FrameKind → (limit from : ℕ) → List Part → List Record
 records kind limit from [] = []
-records kind limit from (part ∷ parts) = records_of kind limit from part ++ records kind limit from parts
+records kind limit from (part ∷ parts) = records_of kind limit from part
+    ++ records kind limit from parts
 
 -- what stands open at the end of the last part
 abbrev pub open_at_end : FrameKind → (limit : ℕ) → List Part → Form

@@ -22,7 +22,8 @@ pub record Continues (kind : FrameKind) (limit place : ℕ) (held : List Stamped
 -- whatever their moments and place, so many of these bytes are no item, and leave this form open
 abbrev pub Reaches : FrameKind → (limit : ℕ) → List ℕ → (count : ℕ) → Form → Type 0
 Reaches kind limit bytes count form =
-    (place : ℕ) (held : List Stamped) → plain held ≡ bytes → Continues kind limit place held [] (place + count) form (drop count held)
+    (place : ℕ) (held : List Stamped) → plain held ≡ bytes
+    → Continues kind limit place held [] (place + count) form (drop count held)
 
 -- a span of these bytes is their first item
 pub record IsItem (kind : FrameKind) (limit : ℕ) (bytes : List ℕ) (span : Span) : Type 0 where
@@ -33,14 +34,17 @@ pub record IsItem (kind : FrameKind) (limit : ℕ) (bytes : List ℕ) (span : Sp
   pub taken : (span.last ≤ span.taken) × (span.taken ≤ length bytes)
   pub first : (place : ℕ) (held : List Stamped) → plain held ≡ bytes
       → Continues kind limit place held
-      ((record { text = slice_range bytes span.from span.to; at = (slice_index_or held span.last (0, pos 0)).1; end = place + span.taken }) ∷ [])
+      ((record
+      { text = slice_range bytes span.from span.to; at = (slice_index_or held span.last (0, pos 0)).1; end = place + span.taken })
+      ∷ [])
       (place + span.taken) (beginning kind) (drop span.taken held)
 
 -- whatever their moments and place, these bytes have no whole item, and no bad byte
 abbrev pub HasNone : FrameKind → (limit : ℕ) → List ℕ → Type 0
 HasNone kind limit bytes =
     (place : ℕ) (held : List Stamped) → plain held ≡ bytes
-    → (items limit place (beginning kind) held ≡ []) × IsSound (open_after limit place (beginning kind) held)
+    → (items limit place (beginning kind) held ≡ [])
+    × IsSound (open_after limit place (beginning kind) held)
 
 -- they have no whole item, and the byte so far ahead is bad
 abbrev pub HasBad : FrameKind → (limit : ℕ) → List ℕ → ℕ → Type 0

@@ -65,7 +65,8 @@ fn cut(
     requires to { span.to ≤ span.taken }
     requires last { span.last < length kept.old.items }
     requires taken { (span.last ≤ span.taken) × (span.taken ≤ length kept.old.items) }
-    ensures cut { IfOk result (λ r. Cuts place span kept.old.items kept.new.items runs.old.items runs.new.items r.0 r.1) }
+    ensures cut { IfOk result
+        (λ r. Cuts place span kept.old.items kept.new.items runs.old.items runs.new.items r.0 r.1) }
     ensures refused { OnErr result ((kept.new ≡ kept.old) × (runs.new ≡ runs.old)) }
 {
     let mut bytes = kept.freeze_to(span.taken)?;

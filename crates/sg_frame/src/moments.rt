@@ -17,8 +17,10 @@ pub struct Run {
 pub fn moment_at(runs: &mut VecDeque<Run>, place: u64) -> i64
     requires { place < runs_end place runs.old.items }
     ensures moment { (rest : List ℤ) × (moments place runs.old.items ≡ result ∷ rest) }
-    ensures moments { (from : ℕ) → place ≤ from → moments from runs.new.items ≡ moments from runs.old.items }
-    ensures end { (from : ℕ) → place ≤ from → runs_end from runs.new.items ≡ runs_end from runs.old.items }
+    ensures moments { (from : ℕ) → place ≤ from
+        → moments from runs.new.items ≡ moments from runs.old.items }
+    ensures end { (from : ℕ) → place ≤ from
+        → runs_end from runs.new.items ≡ runs_end from runs.old.items }
 {
     while let Some(&Run { end, at }) = runs.front() {
         if place < end {

@@ -6,7 +6,8 @@ use Rattle.sg_graph.specs.Graph.{row_of}
 -- its own size and that of each node that it names, as often as it names it; names so many deep count
 unfoldable pub size_within : ℕ → List (List ℕ) → List ℕ → ℕ → ℕ
 size_within zero links own i = 0
-size_within (suc depth) links own i = slice_index own i + sum_by (size_within depth links own) (row_of links i)
+size_within (suc depth) links own i = slice_index own i
+    + sum_by (size_within depth links own) (row_of links i)
 
 -- Without a cycle names go no deeper than there are nodes.
 abbrev pub size_of : List (List ℕ) → List ℕ → ℕ → ℕ
@@ -14,12 +15,16 @@ size_of links own i = size_within (length links) links own i
 
 -- the sizes of the nodes that are done, none counted higher than `most`: nodes that are done name no deeper than so many
 abbrev pub AreSizes : List (List ℕ) → List ℕ → ℕ → List Bool → List ℕ → Type 0
-AreSizes links own most done sizes = (i depth : ℕ) → slice_index_or done i true ≡ true → count_by (λ mark. mark) done ≤ depth → slice_index sizes i ≡ min most (size_within depth links own i)
+AreSizes links own most done sizes = (i depth : ℕ) → slice_index_or done i true ≡ true
+    → count_by (λ mark. mark) done ≤ depth
+    → slice_index sizes i ≡ min most (size_within depth links own i)
 
 -- all that it names is done, and it isn't
 abbrev pub IsReady : List (List ℕ) → List Bool → ℕ → Type 0
-IsReady links done i = (slice_index_or done i true ≡ false) × ((j : ℕ) → Contains (row_of links i) j → slice_index_or done j true ≡ true)
+IsReady links done i = (slice_index_or done i true ≡ false)
+    × ((j : ℕ) → Contains (row_of links i) j → slice_index_or done j true ≡ true)
 
 -- it is done, or names one that isn't
 abbrev pub IsHeld : List (List ℕ) → List Bool → ℕ → Type 0
-IsHeld links done i = (slice_index_or done i true ≡ true) ⊎ ((j : ℕ) × Contains (row_of links i) j × (slice_index_or done j true ≡ false))
+IsHeld links done i = (slice_index_or done i true ≡ true)
+    ⊎ ((j : ℕ) × Contains (row_of links i) j × (slice_index_or done j true ≡ false))

@@ -11,7 +11,8 @@ pub record Visits (nodes : List ℕ) (seen : List Bool) (waiting : List ℕ) (af
   pub size : length after ≡ length seen
   pub all : (i : ℕ) → Contains nodes i → slice_index_or after i true ≡ true
   pub stays : (i : ℕ) → slice_index_or seen i true ≡ true → slice_index_or after i true ≡ true
-  pub only : (i : ℕ) → slice_index_or after i true ≡ true → (slice_index_or seen i true ≡ true) ⊎ (Contains nodes i × Contains waits i)
+  pub only : (i : ℕ) → slice_index_or after i true ≡ true
+      → (slice_index_or seen i true ≡ true) ⊎ (Contains nodes i × Contains waits i)
   pub waited : (i : ℕ) → Contains waiting i → Contains waits i
   pub given : (i : ℕ) → Contains waits i → Contains waiting i ⊎ Contains nodes i
   pub count : unseen after + length waits ≡ unseen seen + length waiting

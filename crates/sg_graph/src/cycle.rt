@@ -10,7 +10,8 @@ use std::alloc::{AllocError, Global};
 
 fn is_on_cycle(alloc: Global, links: &[Items<u32>], node: u32) -> Result<bool, AllocError>
     requires { node < length links.now }
-    ensures { IfOk result (λ yes. MatchBool yes (IsOnCycle links.now node) (IsOnCycle links.now node → ⊥)) }
+    ensures { IfOk result
+        (λ yes. MatchBool yes (IsOnCycle links.now node) (IsOnCycle links.now node → ⊥)) }
 {
     let seen = reached(alloc, links, node)?;
     Ok(is_marked(&seen, node))

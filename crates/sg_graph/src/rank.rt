@@ -107,7 +107,8 @@ fn are_below(ranks: &[u32], nodes: &[u32], rank: u64) -> bool
 
 /// Whether this node names nodes of lower ranks alone.
 pub fn falls(links: &[Items<u32>], ranks: &[u32], node: u32) -> bool
-    ensures { OnTrue result ((j : ℕ) → Contains (row_of links.now node) j → slice_index ranks.now j < slice_index ranks.now node) }
+    ensures { OnTrue result ((j : ℕ) → Contains (row_of links.now node) j
+        → slice_index ranks.now j < slice_index ranks.now node) }
 {
     are_below(ranks, row(links, node), rank_of(ranks, node) as u64)
 }
@@ -115,7 +116,8 @@ pub fn falls(links: &[Items<u32>], ranks: &[u32], node: u32) -> bool
 /// Whether no node names one of a higher rank.
 pub fn never_rises(links: &[Items<u32>], ranks: &[u32]) -> bool
     requires { length links.now < 2 ^ 32 }
-    ensures { OnTrue result ((i j : ℕ) → Contains (row_of links.now i) j → slice_index ranks.now j ≤ slice_index ranks.now i) }
+    ensures { OnTrue result ((i j : ℕ) → Contains (row_of links.now i) j
+        → slice_index ranks.now j ≤ slice_index ranks.now i) }
 {
     for node in 0..links.len() {
         let node = node as u32;

@@ -9,7 +9,8 @@ use std::alloc::{AllocError, Global};
 
 /// Marks a node where it isn't marked yet, and puts it behind those that wait.
 pub fn visit_one(seen: &mut [bool], waiting: &mut Vec<u32>, node: u32) -> Result<(), AllocError>
-    ensures { OnOk result (Visits (node ∷ []) seen.old waiting.old.items seen.new waiting.new.items) }
+    ensures { OnOk result
+        (Visits (node ∷ []) seen.old waiting.old.items seen.new waiting.new.items) }
 {
     if !is_marked(seen, node) {
         mark(seen, node);
@@ -37,8 +38,10 @@ fn search(
 ) -> Result<(), AllocError>
     requires none { seen.old ≡ replicate (length links.now) false }
     requires one { waiting.old.items ≡ from ∷ [] }
-    ensures found { OnOk result ((node : ℕ) → node < length links.now → slice_index_or seen.new node true ≡ true → Reaches links.now from node) }
-    ensures all { OnOk result ((node : ℕ) → Reaches links.now from node → slice_index_or seen.new node true ≡ true) }
+    ensures found { OnOk result ((node : ℕ) → node < length links.now
+        → slice_index_or seen.new node true ≡ true → Reaches links.now from node) }
+    ensures all { OnOk result
+        ((node : ℕ) → Reaches links.now from node → slice_index_or seen.new node true ≡ true) }
 {
     while let Some(node) = waiting.pop() {
         visit(seen, waiting, row(links, node))?;
@@ -48,8 +51,10 @@ fn search(
 
 /// A mark at each node that this one reaches, itself where it names itself through others.
 pub fn reached(alloc: Global, links: &[Items<u32>], from: u32) -> Result<Vec<bool>, AllocError>
-    ensures found { IfOk result (λ seen. (node : ℕ) → node < length links.now → slice_index_or seen.items node true ≡ true → Reaches links.now from node) }
-    ensures all { IfOk result (λ seen. (node : ℕ) → Reaches links.now from node → slice_index_or seen.items node true ≡ true) }
+    ensures found { IfOk result (λ seen. (node : ℕ) → node < length links.now
+        → slice_index_or seen.items node true ≡ true → Reaches links.now from node) }
+    ensures all { IfOk result (λ seen. (node : ℕ) → Reaches links.now from node
+        → slice_index_or seen.items node true ≡ true) }
 {
     let mut seen = no_marks(alloc, links.len())?;
     let mut waiting = vec![in alloc; from]?;

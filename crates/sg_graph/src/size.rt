@@ -21,7 +21,8 @@ fn number_at(numbers: &[u64], place: u32) -> u64
 
 /// What a node comes to where the sizes of all that it names are known: `most` where it is more.
 fn size_now(links: &[Items<u32>], own: &[u64], sizes: &[u64], most: u64, node: u32) -> u64
-    ensures { result ≡ min most (slice_index own.now node + sum_by (slice_index sizes.now) (row_of links.now node)) }
+    ensures { result ≡ min most
+        (slice_index own.now node + sum_by (slice_index sizes.now) (row_of links.now node)) }
 {
     let mut sum = number_at(own, node).min(most);
     for next in row(links, node) {
@@ -64,7 +65,8 @@ fn is_ready(links: &[Items<u32>], done: &[bool], node: u32) -> bool
 
 fn next_ready(links: &[Items<u32>], done: &[bool]) -> Option<u32>
     requires { length links.now < 2 ^ 32 }
-    ensures { MatchOption result ((i : ℕ) → i < length links.now → IsHeld links.now done.now i) (IsReady links.now done.now) }
+    ensures { MatchOption result ((i : ℕ) → i < length links.now → IsHeld links.now done.now i)
+        (IsReady links.now done.now) }
 {
     for node in 0..links.len() {
         if is_ready(links, done, node as u32) {
@@ -85,7 +87,8 @@ fn settle(
 )
     requires ready { IsReady links.now done.old node }
     requires sized { length sizes.old ≡ length done.old }
-    ensures known { AreSizes links.now own.now most done.old sizes.old → AreSizes links.now own.now most done.new sizes.new }
+    ensures known { AreSizes links.now own.now most done.old sizes.old
+        → AreSizes links.now own.now most done.new sizes.new }
     ensures fewer { unseen done.new + 1 ≡ unseen done.old }
 {
     let size = size_now(links, own, sizes, most, node);
@@ -103,7 +106,8 @@ fn settle_in_order(
     sizes: &mut [u64],
 )
     requires sized { length sizes.old ≡ length done.old }
-    ensures known { AreSizes links.now own.now most done.old sizes.old → AreSizes links.now own.now most done.new sizes.new }
+    ensures known { AreSizes links.now own.now most done.old sizes.old
+        → AreSizes links.now own.now most done.new sizes.new }
 {
     for node in order {
         if is_ready(links, done, *node) {
@@ -151,7 +155,8 @@ pub fn sizes(
     requires count { length links.now < 2 ^ 32 }
     requires own { length own.now ≡ length links.now }
     requires acyclic { HasNoCycle links.now }
-    ensures each { IfOk result (λ sizes. (i : ℕ) → slice_index sizes.items i ≡ min most (size_of links.now own.now i)) }
+    ensures each { IfOk result
+        (λ sizes. (i : ℕ) → slice_index sizes.items i ≡ min most (size_of links.now own.now i)) }
     ensures count { IfOk result (λ sizes. length sizes.items ≡ length links.now) }
 {
     let order = finishing_order(alloc, links)?;

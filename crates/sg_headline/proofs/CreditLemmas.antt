@@ -81,7 +81,7 @@ NoLess s i t = credit_left s i ≤ credit_left t i
 same-left : (s : State) (i : ℕ) (failed : List ℕ) → NoLess s i (after_act s Look failed)
 same-left s i failed = omega arith
 
-others-credit : (old new : CoreState) (call : CoreCall) (reply : CoreReply) (s : State) (i : ℕ) → Serves old call reply new → IsAt old s → same_caller (OfSource i) (caller_of call) ≡ false → Gone new s (NoLess s i)
+pub others-credit : (old new : CoreState) (call : CoreCall) (reply : CoreReply) (s : State) (i : ℕ) → Serves old call reply new → IsAt old s → same_caller (OfSource i) (caller_of call) ≡ false → Gone new s (NoLess s i)
 others-credit old new (Credit j) (CreditReply n) s i serves at not = record { state = s; at = subst (λ (c : CoreState). IsAt c s) (sym serves.same) at; holds = omega arith }
 others-credit old new (Admit j records) (Admitted (Ok vs)) s i serves at not =
     gone-one old new (AdmitAct j records vs) s (NoLess s i) serves.does at (λ failed.

@@ -13,13 +13,17 @@ use Rattle.sg_core.specs.Answers.{is_no_credit}
 use Rattle.sg_headline.specs.Calls.{Ran}
 
 -- two calls, one behind the other: the source was told its credit, and brought records
-abbrev pub asked_then_brought : (i credit : ℕ) → List Admission → Result (List Verdict) Refused → List Exchange
+abbrev pub asked_then_brought : (i credit : ℕ) → List Admission → Result (List Verdict) Refused
+    → List Exchange
 asked_then_brought i credit records answer =
     record { call = Credit i; reply = CreditReply credit } ∷ record { call = Admit i records; reply = Admitted answer } ∷ []
 
 -- whatever others call in between, a source that brings no more records than it was told isn't refused for want of credit
 abbrev pub CreditLasts : Type 0
 CreditLasts =
-    (old new : CoreState) (made : List Exchange) (start : State) (before events : List Event) (i : ℕ) → Ran old new made start before events
-    → (earlier later : List Exchange) (credit : ℕ) (records : List Admission) (answer : Result (List Verdict) Refused) → calls_by (OfSource i) made ≡ earlier ++ (asked_then_brought i credit records answer ++ later)
+    (old new : CoreState) (made : List Exchange) (start : State) (before events : List Event)
+    (i : ℕ) → Ran old new made start before events
+    → (earlier later : List Exchange) (credit : ℕ) (records : List Admission)
+    (answer : Result (List Verdict) Refused)
+    → calls_by (OfSource i) made ≡ earlier ++ (asked_then_brought i credit records answer ++ later)
     → length records ≤ credit → is_no_credit answer ≡ false

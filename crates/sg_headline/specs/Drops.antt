@@ -20,7 +20,8 @@ use Rattle.sg_machine.specs.Verdicts.{Claim, claims_of, is_listed, take_claim}
 -- waits, or this message doesn't fit.
 abbrev pub IsFull : Option BufferSetup → ℕ → List Entry → Content → Type 0
 IsFull None fifo left message = fifo ≤ unflowed left
-IsFull (Some buffer) fifo left message = (any_waits left ≡ true) ⊎ (fits buffer.capacity left message ≡ false)
+IsFull (Some buffer) fifo left message = (any_waits left ≡ true)
+    ⊎ (fits buffer.capacity left message ≡ false)
 
 -- the store of the disk-buffer is one of those that have failed
 abbrev pub HasFailed : Option BufferSetup → List ℕ → Type 0
@@ -41,10 +42,16 @@ IsDueAt (Some dest) failed o v = IsDue dest.setup.buffer dest.setup.fifo dest.le
 abbrev pub AreDue : (i next : ℕ) → List Dest → List ℕ → List Claim → List Verdict → Type 0
 AreDue i next dests failed [] vs = Unit {0}
 AreDue i next dests failed (c ∷ cs) [] = Unit {0}
-AreDue i next dests failed (c ∷ cs) (v ∷ vs) = IsDueAt (slice_get dests c.offer.dest) failed c.offer v × AreDue i next (take_claim i next dests c v) failed cs vs
+AreDue i next dests failed (c ∷ cs) (v ∷ vs) =
+    IsDueAt (slice_get dests c.offer.dest) failed c.offer v
+    × AreDue i next (take_claim i next dests c v) failed cs vs
 
 -- so it is with each drop of legal events
 abbrev pub DropsAreDue : Type 0
 DropsAreDue =
-    (start : State) (before later : List Event) (i : ℕ) (records : List Admission) (verdicts : List Verdict) (failed : List ℕ) → are_legal start (before ++ record { act = Admit i records verdicts; failed = failed } ∷ later) ≡ true
-    → AreDue i (next_of (after_all start before) i) (after_all start before).dests ((after_all start before).failed ++ failed) (claims_of records) verdicts
+    (start : State) (before later : List Event) (i : ℕ) (records : List Admission)
+    (verdicts : List Verdict) (failed : List ℕ)
+    → are_legal start (before ++ record { act = Admit i records verdicts; failed = failed } ∷ later)
+    ≡ true
+    → AreDue i (next_of (after_all start before) i) (after_all start before).dests
+    ((after_all start before).failed ++ failed) (claims_of records) verdicts

@@ -19,12 +19,16 @@ use Rattle.sg_headline.specs.Turns.{Sending, AreSendings, calls_in, shown_then_s
 -- They are settled, and where the store of the disk-buffer tells its bytes they are those that were shown.
 pub record SettlesShown (stores : List StoreState) (first last : Dest) (place n : ℕ) (messages : List Content) (answer : Settled) : Type 0 where
   pub settles : answer ≢ NotFront
-  pub shown : IsTold stores first.setup.buffer → map (λ e. e.message) (take n (drop place last.settled)) ≡ take n messages
+  pub shown : IsTold stores first.setup.buffer
+      → map (λ e. e.message) (take n (drop place last.settled)) ≡ take n messages
 
 -- The outlet took as many frames as entries were settled; and where the store of the disk-buffer tells its bytes, just the frames of these.
 pub record TakesSettled (frame : Content → List ℕ) (stores : List StoreState) (first last : Dest) (drain drain' : OutletState) : Type 0 where
   pub count : drain'.count + length first.settled ≡ drain.count + length last.settled
-  pub told : IsTold stores first.setup.buffer → drain'.taken ≡ option_map (λ before. before ++ map (λ e. frame e.message) (drop (length first.settled) last.settled)) drain.taken
+  pub told : IsTold stores first.setup.buffer → drain'.taken
+      ≡ option_map
+      (λ before. before ++ map (λ e. frame e.message) (drop (length first.settled) last.settled))
+      drain.taken
 
 -- d before the events and behind them
 pub record IsDest (start : State) (before events : List Event) (d : ℕ) (first last : Dest) : Type 0 where
@@ -34,13 +38,20 @@ pub record IsDest (start : State) (before events : List Event) (d : ℕ) (first 
 -- whatever others call in between, what d settles is what its front showed
 abbrev pub FrontsAreNext : Type 0
 FrontsAreNext =
-    (old new : CoreState) (made : List Exchange) (start : State) (before events : List Event) (d : ℕ) (first last : Dest) → Ran old new made start before events → IsDest start before events d first last
-    → (earlier later : List Exchange) (most place n : ℕ) (messages : List Content) (answer : Settled) → calls_by (OfDest d) made ≡ earlier ++ (shown_then_settled d most place n messages answer ++ later)
+    (old new : CoreState) (made : List Exchange) (start : State) (before events : List Event)
+    (d : ℕ) (first last : Dest) → Ran old new made start before events
+    → IsDest start before events d first last
+    → (earlier later : List Exchange) (most place n : ℕ) (messages : List Content)
+    (answer : Settled) → calls_by (OfDest d) made
+    ≡ earlier ++ (shown_then_settled d most place n messages answer ++ later)
     → n ≤ length messages → SettlesShown old.stores first last place n messages answer
 
 -- the frames that the outlet took in all turns of d are those of the entries that it settled, no more and no fewer
 abbrev pub FramesAreSettled : Type 0
 FramesAreSettled =
-    (old new : CoreState) (made : List Exchange) (start : State) (before events : List Event) (d : ℕ) (first last : Dest) → Ran old new made start before events → IsDest start before events d first last
-    → (frame : Content → List ℕ) (turns : List Sending) (drain drain' : OutletState) → calls_by (OfDest d) made ≡ calls_in turns → AreSendings frame d turns drain drain'
+    (old new : CoreState) (made : List Exchange) (start : State) (before events : List Event)
+    (d : ℕ) (first last : Dest) → Ran old new made start before events
+    → IsDest start before events d first last
+    → (frame : Content → List ℕ) (turns : List Sending) (drain drain' : OutletState)
+    → calls_by (OfDest d) made ≡ calls_in turns → AreSendings frame d turns drain drain'
     → TakesSettled frame old.stores first last drain drain'

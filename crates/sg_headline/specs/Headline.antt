@@ -33,10 +33,13 @@ abbrev pub texts_to : (ℕ → Content → List ℕ) → ℕ → List Offer → 
 texts_to frame d offers = map (text_of frame) (filter (λ o. o.dest == d) offers)
 
 -- the texts that the log statements give d for these records of inlet i, each record alone
-abbrev pub GivesTexts : (ℕ → Record → List Offer → Type 0) → (ℕ → Content → List ℕ) → (i d : ℕ) → List Record → List Text → Type 0
+abbrev pub GivesTexts : (ℕ → Record → List Offer → Type 0) → (ℕ → Content → List ℕ) → (i d : ℕ)
+    → List Record → List Text → Type 0
 GivesTexts offers frame i d [] texts = texts ≡ []
 GivesTexts offers frame i d (r ∷ rs) texts =
-    (given : List Offer) × ((later : List Text) × (offers i (record_at r.peer r.item.text r.item.at) given × (GivesTexts offers frame i d rs later × (texts ≡ texts_to frame d given ++ later))))
+    (given : List Offer) × ((later : List Text) × (
+    offers i (record_at r.peer r.item.text r.item.at) given
+    × (GivesTexts offers frame i d rs later × (texts ≡ texts_to frame d given ++ later))))
 
 -- the texts without those that are marked
 abbrev pub less : List Bool → List Text → List Text
@@ -66,7 +69,8 @@ settled_behind old new = drop (length (old.settled ++ old.left)) new.settled
 
 -- those of inlet i, as frames
 abbrev pub taken_from : (ℕ → Content → List ℕ) → (i d : ℕ) → Dest → Dest → List (List ℕ)
-taken_from frame i d old new = map (λ e. frame d e.message) (filter (λ e. e.inlet == i) (settled_behind old new))
+taken_from frame i d old new = map (λ e. frame d e.message)
+    (filter (λ e. e.inlet == i) (settled_behind old new))
 
 -- the records of i that came in, in order
 abbrev pub admissions_by : ℕ → Act → List Admission

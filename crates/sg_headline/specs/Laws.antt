@@ -21,18 +21,26 @@ use Rattle.sg_headline.specs.Headline.{admissions_of, taken_from, records_given,
 -- exactly their texts, less the dropped ones
 abbrev pub TextsAreTaken : (ℕ → Record → List Offer → Type 0) → Type 0
 TextsAreTaken offers =
-    (frame : ℕ → Content → List ℕ) (start : State) (events : List Event) (spec : SourceSpec) (done : List Record) (d : ℕ) (old : Dest) → are_legal start events ≡ true
+    (frame : ℕ → Content → List ℕ) (start : State) (events : List Event) (spec : SourceSpec)
+    (done : List Record) (d : ℕ) (old : Dest) → are_legal start events ≡ true
     → AreOf offers spec done (admissions_of spec.inlet events) → slice_get start.dests d ≡ Some old
-    → (new : Dest) × ((slice_get (after_all start events).dests d ≡ Some new) × TakesTexts offers frame spec.inlet d done events (taken_from frame spec.inlet d old new) new.left)
+    → (new : Dest) × ((slice_get (after_all start events).dests d ≡ Some new)
+    × TakesTexts offers frame spec.inlet d done events (taken_from frame spec.inlet d old new)
+    new.left)
 
 -- In a run of the core each destination takes of each source, in order, a prefix of exactly the texts of the first records that its inlet
 -- gave, each record alone, less the dropped ones: the source brought these records itself, and what it has read is behind them.
 abbrev pub TextsAreFirst : (ℕ → Record → List Offer → Type 0) → Type 0
 TextsAreFirst offers =
-    (old new : CoreState) (made : List Exchange) (start : State) (before events : List Event) (d : ℕ) (first last : Dest) → Ran old new made start before events → IsDest start before events d first last
-    → (frame : ℕ → Content → List ℕ) (spec : SourceSpec) (done : List Record) (dests ups : ℕ) (s : SourceState) → AreOf offers spec done (admitted_in (calls_by (OfSource spec.inlet) made))
-    → IsReady dests spec s → HasRead offers spec s done ups → TakesFirst offers frame spec.inlet d (records_given spec s.feed) events (taken_from frame spec.inlet d first last) last.left
+    (old new : CoreState) (made : List Exchange) (start : State) (before events : List Event)
+    (d : ℕ) (first last : Dest) → Ran old new made start before events
+    → IsDest start before events d first last
+    → (frame : ℕ → Content → List ℕ) (spec : SourceSpec) (done : List Record) (dests ups : ℕ)
+    (s : SourceState) → AreOf offers spec done (admitted_in (calls_by (OfSource spec.inlet) made))
+    → IsReady dests spec s → HasRead offers spec s done ups → TakesFirst offers frame spec.inlet d
+    (records_given spec s.feed) events (taken_from frame spec.inlet d first last) last.left
 
 -- after every prefix of the events no more records are outstanding than the windows have
 abbrev pub StayWithin : State → List Event → Type 0
-StayWithin start events = (before later : List Event) → events ≡ before ++ later → WithinWindows (after_all start before)
+StayWithin start events = (before later : List Event) → events ≡ before ++ later
+    → WithinWindows (after_all start before)

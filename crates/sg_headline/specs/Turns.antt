@@ -25,7 +25,8 @@ pub record IsSending (frame : Content → List ℕ) (d : ℕ) (s : Sending) (dra
 -- turns one after another
 abbrev pub AreSendings : (Content → List ℕ) → ℕ → List Sending → OutletState → OutletState → Type 0
 AreSendings frame d [] drain drain' = drain' ≡ drain
-AreSendings frame d (s ∷ rest) drain drain' = (between : OutletState) × (IsSending frame d s drain between × AreSendings frame d rest between drain')
+AreSendings frame d (s ∷ rest) drain drain' = (between : OutletState)
+    × (IsSending frame d s drain between × AreSendings frame d rest between drain')
 
 abbrev pub calls_in : List Sending → List Exchange
 calls_in [] = []

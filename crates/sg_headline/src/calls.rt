@@ -13,8 +13,11 @@ ghost use Rattle.sg_headline.specs.Credits.{CreditLasts};
 /// those of its own calls that were answered Ok, in order; and what a destination settled are those of its own calls
 /// that were answered Done or DiskFailed.
 pub fn calls_admit()
-    ensures run { (old new : CoreState) (made : List Exchange) (start : State) (before : List Event) → Makes Serves old made new → StandsFor old start before → (events : List Event) × (Ran old new made start before events × AreOwn made events) }
-    ensures own { (made : List Exchange) (events : List Event) → map (λ (e : Event). e.act) events ≡ acts_of made → AreOwn made events }
+    ensures run { (old new : CoreState) (made : List Exchange) (start : State) (before : List Event)
+        → Makes Serves old made new → StandsFor old start before
+        → (events : List Event) × (Ran old new made start before events × AreOwn made events) }
+    ensures own { (made : List Exchange) (events : List Event)
+        → map (λ (e : Event). e.act) events ≡ acts_of made → AreOwn made events }
 {}
 
 /// Between a source's question for its credit and its own next admit others may call; a source that brings no more

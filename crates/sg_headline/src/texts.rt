@@ -29,6 +29,9 @@ pub fn drops_are_due()
 /// After every prefix of legal events no more records are outstanding than the windows have, from each opening on,
 /// and from each state in which this holds.
 pub fn windows_stay()
-    ensures opened { (setup : Setup) (opening : Opening) (events : List Event) → are_legal (opened setup opening) events ≡ true → StayWithin (opened setup opening) events }
-    ensures kept { (start : State) (events : List Event) → WithinWindows start → are_legal start events ≡ true → StayWithin start events }
+    ensures opened { (setup : Setup) (opening : Opening) (events : List Event)
+        → are_legal (opened setup opening) events ≡ true
+        → StayWithin (opened setup opening) events }
+    ensures kept { (start : State) (events : List Event) → WithinWindows start
+        → are_legal start events ≡ true → StayWithin start events }
 {}

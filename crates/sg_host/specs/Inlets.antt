@@ -36,7 +36,10 @@ IsOpenedFor spec from inlet = IsFresh inlet × StandsIn None spec from inlet
 
 -- the inlet stands at its place, and nothing was given yet
 abbrev pub InletsOpen : HostInlets → HostInlets → InletSpec → ℕ → InletState → ℕ → Type 0
-InletsOpen old new spec from feed place = LedgerOpens (inlets_of old) (inlets_of new) old.faults new.faults spec feed × IsFresh feed × (feed.place ≡ place) × StandsIn None spec from feed
+InletsOpen old new spec from feed place =
+    LedgerOpens (inlets_of old) (inlets_of new) old.faults new.faults spec feed × IsFresh feed
+    × (feed.place ≡ place) × StandsIn None spec from feed
 
 abbrev pub InletsRefuse : HostInlets → HostInlets → OpenRefusal → Type 0
-InletsRefuse old new refusal = LedgerRefuses (inlets_of old) (inlets_of new) old.faults new.faults refusal
+InletsRefuse old new refusal = LedgerRefuses (inlets_of old) (inlets_of new) old.faults new.faults
+    refusal

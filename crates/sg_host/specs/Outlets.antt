@@ -31,7 +31,9 @@ outlets_of outlets = record { opened = map opened_outlet outlets.opened.items; c
 
 -- the outlet took nothing yet
 abbrev pub OutletsOpen : HostOutlets → HostOutlets → OutletSpec → OutletState → Type 0
-OutletsOpen old new spec drain = LedgerOpens (outlets_of old) (outlets_of new) old.faults new.faults spec drain × IsNew drain
+OutletsOpen old new spec drain =
+    LedgerOpens (outlets_of old) (outlets_of new) old.faults new.faults spec drain × IsNew drain
 
 abbrev pub OutletsRefuse : HostOutlets → HostOutlets → OpenRefusal → Type 0
-OutletsRefuse old new refusal = LedgerRefuses (outlets_of old) (outlets_of new) old.faults new.faults refusal
+OutletsRefuse old new refusal = LedgerRefuses (outlets_of old) (outlets_of new) old.faults
+    new.faults refusal

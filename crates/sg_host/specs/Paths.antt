@@ -23,7 +23,9 @@ paths_of paths = record { opened = map opened_paths paths.opened.items; closed =
 
 -- the opener has opened nothing yet
 abbrev pub PathsOpen : HostPaths → HostPaths → OutletSpec → PathsState → Type 0
-PathsOpen old new spec opener = LedgerOpens (paths_of old) (paths_of new) old.faults new.faults spec opener × IsNewOpener opener
+PathsOpen old new spec opener =
+    LedgerOpens (paths_of old) (paths_of new) old.faults new.faults spec opener × IsNewOpener opener
 
 abbrev pub PathsRefuse : HostPaths → HostPaths → OpenRefusal → Type 0
-PathsRefuse old new refusal = LedgerRefuses (paths_of old) (paths_of new) old.faults new.faults refusal
+PathsRefuse old new refusal = LedgerRefuses (paths_of old) (paths_of new) old.faults new.faults
+    refusal

@@ -157,7 +157,8 @@ impl HostInlets {
     ) -> Result<Source, OpenRefusal>
         ensures lists { inlets_of self.new ≡ inlets_of self.old }
         ensures faults { self.new.faults ≡ self.old.faults }
-        ensures opened { MatchResult result (λ source. IsOpenedFor spec.now from (source_of source)) (λ _. Unit {0}) }
+        ensures opened { MatchResult result (λ source. IsOpenedFor spec.now from (source_of source))
+            (λ _. Unit {0}) }
     {
         let rest = self.rest.share()?;
         match spec {
@@ -237,7 +238,9 @@ fn remember(
     spec: &InletSpec,
     counts: &InletCounts,
 ) -> Result<(OpenedInlet, u64), NoMemory>
-    ensures { MatchResult result (λ kept. (kept.0.spec ≡ spec.now) × (inlet_state kept.0.counts ≡ inlet_state counts.now) × (kept.1 ≡ counts.now.place)) (λ _. Unit {0}) }
+    ensures { MatchResult result (λ kept. (kept.0.spec ≡ spec.now)
+        × (inlet_state kept.0.counts ≡ inlet_state counts.now) × (kept.1 ≡ counts.now.place))
+        (λ _. Unit {0}) }
 {
     Ok((
         OpenedInlet {

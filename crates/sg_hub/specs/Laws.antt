@@ -21,22 +21,30 @@ use Rattle.sg_hub.specs.Seats.{HubState, SeatState, SeatStep}
 
 -- the core stands for more events, which are those of this history
 abbrev pub StandsThen : List Called → CoreState → State → List Event → Type 0
-StandsThen history core start events = (more : List Event) × (map (λ (event : Event). event.act) more ≡ acts_of (exchanges_of history)) × StandsFor core start (events ++ more)
+StandsThen history core start events = (more : List Event)
+    × (map (λ (event : Event). event.act) more ≡ acts_of (exchanges_of history))
+    × StandsFor core start (events ++ more)
 
 -- a history is legal: a core that it gives stands for its events
 abbrev pub HistoriesStand : Type 0
 HistoriesStand = (old new : CoreState) (history : List Called) (start : State) (events : List Event)
-    → MakesAll Serves old history new → StandsFor old start events → StandsThen history new start events
+    → MakesAll Serves old history new → StandsFor old start events
+    → StandsThen history new start events
 
 -- no call changes the setup
 abbrev pub HistoriesKeepSetup : Type 0
-HistoriesKeepSetup = (old new : CoreState) (history : List Called) → MakesAll Serves old history new → setup_of new ≡ setup_of old
+HistoriesKeepSetup = (old new : CoreState) (history : List Called) → MakesAll Serves old history new
+    → setup_of new ≡ setup_of old
 
 -- at each moment at which a core lies in the slot of its hub it stands for the events of the history, whose length is the second word
 abbrev pub LiesStanding : Type 0
-LiesStanding = (made : CoreState) (turns : ℕ) (s : TableState (Option (Held CoreState CoreCall CoreReply)) (Notes CoreState CoreCall CoreReply)) (held : Held CoreState CoreCall CoreReply)
-    (start : State) (events : List Event) → IsKept Serves MayServe room_of made turns s → s.homes ≡ some (Some held) ∷ [] → StandsFor made start events
-    → (history : List Called) × (slice_index s.words 1 ≡ length history) × StandsThen history held.office start events
+LiesStanding = (made : CoreState) (turns : ℕ) (s : TableState
+    (Option (Held CoreState CoreCall CoreReply)) (Notes CoreState CoreCall CoreReply))
+    (held : Held CoreState CoreCall CoreReply)
+    (start : State) (events : List Event) → IsKept Serves MayServe room_of made turns s
+    → s.homes ≡ some (Some held) ∷ [] → StandsFor made start events
+    → (history : List Called) × (slice_index s.words 1 ≡ length history)
+    × StandsThen history held.office start events
 
 -- Calls at a seat, one after another: it stays a seat of its hub, has seen more, and these calls, in order, stand in the history behind
 -- its own calls before.
@@ -44,8 +52,10 @@ pub record GoesOn (hub : HubState) (old : SeatState) (made : List Exchange) (new
   pub of_hub : IsDeskOf hub old → IsDeskOf hub new
   pub left : new.left ≡ old.left - length made
   pub seen : StartsWith new.seen old.seen
-  pub calls : exchanges_of (entries_at new.seen new.own) ≡ exchanges_of (entries_at old.seen old.own) ++ made
+  pub calls : exchanges_of (entries_at new.seen new.own)
+      ≡ exchanges_of (entries_at old.seen old.own) ++ made
   pub joined : new.joined ≡ old.joined
 
 abbrev pub SeatsGoOn : Type 0
-SeatsGoOn = (hub : HubState) (old new : SeatState) (made : List Exchange) → Makes (SeatStep hub) old made new → GoesOn hub old made new
+SeatsGoOn = (hub : HubState) (old new : SeatState) (made : List Exchange)
+    → Makes (SeatStep hub) old made new → GoesOn hub old made new

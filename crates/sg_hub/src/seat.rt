@@ -27,7 +27,8 @@ fn credit_at<T: Wait, D: Disk>(hub: &Hub<D>, rt: &T, seat: &mut Seat<D>, i: u32)
     requires seat { IsDeskOf hub.now seat.old }
     requires left { 0 < seat.old.left }
     requires may { MayServe hub.now.made (ACall.Credit i) }
-    ensures step { SeatStep hub.entry.now seat.old (ACall.Credit i) (AReply.Credit result) seat.new }
+    ensures step { SeatStep hub.entry.now seat.old (ACall.Credit i) (AReply.Credit result)
+        seat.new }
 {
     match hub.turn(rt, seat, CoreCall::Credit(i)) {
         CoreReply::Credit(credit) => credit,
@@ -45,7 +46,10 @@ fn admit_at<T: Wait, D: Disk>(
     requires seat { IsDeskOf hub.now seat.old }
     requires left { 0 < seat.old.left }
     requires may { MayServe hub.now.made (ACall.Admit inlet records.items) }
-    ensures step { MatchResult result (λ verdicts. SeatStep hub.entry.now seat.old (ACall.Admit inlet records.items) (AReply.Admitted (Ok verdicts.items)) seat.new) (λ refused. SeatStep hub.entry.now seat.old (ACall.Admit inlet records.items) (AReply.Admitted (Err refused)) seat.new) }
+    ensures step { MatchResult result (λ verdicts. SeatStep hub.entry.now seat.old
+        (ACall.Admit inlet records.items) (AReply.Admitted (Ok verdicts.items)) seat.new)
+        (λ refused. SeatStep hub.entry.now seat.old (ACall.Admit inlet records.items)
+        (AReply.Admitted (Err refused)) seat.new) }
     ensures back { IfErr result (λ refused. records_back refused ≡ records.items) }
 {
     let call = CoreCall::Admit {
@@ -69,7 +73,8 @@ fn front_at<T: Wait, D: Disk>(
     requires seat { IsDeskOf hub.now seat.old }
     requires left { 0 < seat.old.left }
     requires may { MayServe hub.now.made (ACall.Front dest most) }
-    ensures step { SeatStep hub.entry.now seat.old (ACall.Front dest most) (AReply.Front result) seat.new }
+    ensures step { SeatStep hub.entry.now seat.old (ACall.Front dest most) (AReply.Front result)
+        seat.new }
 {
     match hub.turn(rt, seat, CoreCall::Front { dest, most }) {
         CoreReply::Front(front) => front,
@@ -88,7 +93,8 @@ fn settle_at<T: Wait, D: Disk>(
     requires seat { IsDeskOf hub.now seat.old }
     requires left { 0 < seat.old.left }
     requires may { MayServe hub.now.made (ACall.Settle dest place n) }
-    ensures step { SeatStep hub.entry.now seat.old (ACall.Settle dest place n) (AReply.Settled result) seat.new }
+    ensures step { SeatStep hub.entry.now seat.old (ACall.Settle dest place n)
+        (AReply.Settled result) seat.new }
 {
     match hub.turn(rt, seat, CoreCall::Settle { dest, place, n }) {
         CoreReply::Settled(settled) => settled,
@@ -100,7 +106,8 @@ fn refill_at<T: Wait, D: Disk>(hub: &Hub<D>, rt: &T, seat: &mut Seat<D>, d: u32)
     requires seat { IsDeskOf hub.now seat.old }
     requires left { 0 < seat.old.left }
     requires may { MayServe hub.now.made (ACall.Refill d) }
-    ensures step { SeatStep hub.entry.now seat.old (ACall.Refill d) (AReply.Refilled result) seat.new }
+    ensures step { SeatStep hub.entry.now seat.old (ACall.Refill d) (AReply.Refilled result)
+        seat.new }
 {
     match hub.turn(rt, seat, CoreCall::Refill(d)) {
         CoreReply::Refilled(refill) => refill,

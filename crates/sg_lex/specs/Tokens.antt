@@ -34,7 +34,8 @@ begins_with c (b ∷ bytes) = b == c
 
 -- whether a byte between the one before and those behind it may stand in a word: a dot may where it has no dot beside it
 abbrev pub is_word_at : ℕ → ℕ → List ℕ → Bool
-is_word_at before b bytes = is_word_byte b || ((b == 46) && (not (before == 46) && not (begins_with 46 bytes)))
+is_word_at before b bytes = is_word_byte b
+    || ((b == 46) && (not (before == 46) && not (begins_with 46 bytes)))
 
 -- the bytes of the longest word at the front, behind the byte before
 abbrev pub word_length : ℕ → List ℕ → ℕ
@@ -105,7 +106,8 @@ variable count bytes =
 
 -- one of `{` `}` `(` `)` `;` `,` `:`
 abbrev pub is_symbol : ℕ → Bool
-is_symbol b = ((b == 123) || (b == 125)) || ((b == 40) || (b == 41)) || ((b == 59) || (b == 44) || (b == 58))
+is_symbol b = ((b == 123) || (b == 125)) || ((b == 40) || (b == 41))
+    || ((b == 59) || (b == 44) || (b == 58))
 
 -- `..` and the operators, which may be one byte, or two where `=` stands behind
 abbrev pub operator : ℕ → List ℕ → Piece
@@ -172,7 +174,8 @@ abbrev pub tokens_from : ℕ → Spot → ℕ → List ℕ → Lexed
 tokens_from file spot skip [] = Ok []
 tokens_from file spot (suc skip) (b ∷ bytes) = tokens_from file (spot_behind spot b) skip bytes
 tokens_from file spot zero (b ∷ bytes) =
-    with_piece file spot (piece spot.before (b ∷ bytes)) (tokens_from file (spot_behind spot b) (piece_length (piece spot.before (b ∷ bytes)) - 1) bytes)
+    with_piece file spot (piece spot.before (b ∷ bytes))
+    (tokens_from file (spot_behind spot b) (piece_length (piece spot.before (b ∷ bytes)) - 1) bytes)
 
 -- the tokens of a file's text, or what is wrong at the first place where something is: no token begins there, or a string isn't closed.
 -- The byte before a text counts as an LF.

@@ -48,7 +48,8 @@ fn directive(alloc: Global, text: &[u8]) -> Result<Piece, NoMemory>
 }
 
 fn variable(alloc: Global, text: &[u8]) -> Result<Piece, NoMemory>
-    ensures value { IfOk result (λ found. found ≡ variable (prefix_len is_name_byte text.now) text.now) }
+    ensures value { IfOk result
+        (λ found. found ≡ variable (prefix_len is_name_byte text.now) text.now) }
     ensures bound { IfOk result (IsWithin (length text.now + 1)) }
 {
     let length = name_length(text);

@@ -101,7 +101,8 @@ fn read_escape(behind: &[u8]) -> Escape
 /// The string in double quotes whose first quote stands before the text, if it is closed.
 pub fn double_quoted(alloc: Global, text: &[u8]) -> Result<Option<Quoted>, NoMemory>
     ensures value { IfOk result (λ quoted. quoted ≡ double_quoted 0 text.now) }
-    ensures bound { IfOk result (λ quoted. ForSome quoted (λ found. found.count ≤ length text.now)) }
+    ensures bound { IfOk result
+        (λ quoted. ForSome quoted (λ found. found.count ≤ length text.now)) }
 {
     let mut content = Vec::new(alloc);
     let mut place = 0;
@@ -128,7 +129,8 @@ pub fn double_quoted(alloc: Global, text: &[u8]) -> Result<Option<Quoted>, NoMem
 /// The string in single quotes whose first quote stands before the text, if it is closed.
 pub fn single_quoted(alloc: Global, text: &[u8]) -> Result<Option<Quoted>, NoMemory>
     ensures value { IfOk result (λ quoted. quoted ≡ single_quoted text.now) }
-    ensures bound { IfOk result (λ quoted. ForSome quoted (λ found. found.count ≤ length text.now)) }
+    ensures bound { IfOk result
+        (λ quoted. ForSome quoted (λ found. found.count ≤ length text.now)) }
 {
     let length = length_before(b'\'', text);
     if length == text.len() {

@@ -41,11 +41,15 @@ IsPathFault LacksMemory fault = ⊥
 
 -- what is wrong with its log paths
 abbrev pub IsUncompiled : WorldState → WorldState → Config → ConfigFault → Type 0
-IsUncompiled old new config fault = (refusal : PathRefusal) × RefusesForest old new config.forest refusal × IsPathFault refusal fault
+IsUncompiled old new config fault = (refusal : PathRefusal)
+    × RefusesForest old new config.forest refusal × IsPathFault refusal fault
 
 -- the configuration with its table, or what is wrong, in the files of these names
-abbrev pub BuildsTable : WorldState → WorldState → Config → List (List ℕ) → Result Loaded Unloaded → Type 0
-BuildsTable old new config names (Ok loaded) = (loaded.config ≡ config) × Compiles config loaded.table
-BuildsTable old new config names (Err (Bad fault files)) = (files ≡ names) × IsUncompiled old new config fault
+abbrev pub BuildsTable : WorldState → WorldState → Config → List (List ℕ) → Result Loaded Unloaded
+    → Type 0
+BuildsTable old new config names (Ok loaded) = (loaded.config ≡ config)
+    × Compiles config loaded.table
+BuildsTable old new config names (Err (Bad fault files)) = (files ≡ names)
+    × IsUncompiled old new config fault
 BuildsTable old new config names (Err (Unread name)) = ⊥
 BuildsTable old new config names (Err NoMemory) = Unit {0}

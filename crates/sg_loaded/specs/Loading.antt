@@ -17,7 +17,8 @@ use Rattle.sg_loaded.specs.Compiling.{Compiles, IsUncompiled}
 -- the failed readings
 abbrev pub OnlyLoads : WorldState → WorldState → Type 0
 OnlyLoads old new =
-    (new ≡ record old { read_faults = new.read_faults; unread = new.unread; build_faults = new.build_faults })
+    (new ≡ record old
+    { read_faults = new.read_faults; unread = new.unread; build_faults = new.build_faults })
     × (old.read_faults ≤ new.read_faults) × (old.build_faults ≤ new.build_faults)
 
 -- the file is expanded to tokens that mean this configuration
@@ -52,11 +53,13 @@ pub record IsRefused (world new : WorldState) (file : List ℕ) (fault : ConfigF
 -- what is wrong with a file, and the names of its files by number
 abbrev pub IsFaultOf : WorldState → WorldState → List ℕ → ConfigFault → List (List ℕ) → Type 0
 IsFaultOf world new file fault names =
-    IsTooLong world file fault names ⊎ (IsFaulty world file fault names ⊎ (IsMeaningless world file fault names ⊎ IsRefused world new file fault names))
+    IsTooLong world file fault names ⊎ (IsFaulty world file fault names
+    ⊎ (IsMeaningless world file fault names ⊎ IsRefused world new file fault names))
 
 -- the file that couldn't be read: the main one, or one that was asked for by `@include`
 abbrev pub IsUnread : WorldState → WorldState → List ℕ → List ℕ → Type 0
-IsUnread world new file name = Rose world.read_faults new.read_faults × (new.unread ≡ Some name) × ((name ≡ file) ⊎ IsUnreadFile world file name)
+IsUnread world new file name = Rose world.read_faults new.read_faults × (new.unread ≡ Some name)
+    × ((name ≡ file) ⊎ IsUnreadFile world file name)
 
 -- the configuration of a file, or why there is none, unless memory runs out
 abbrev pub LoadsFile : WorldState → WorldState → List ℕ → Result Loaded Unloaded → Type 0
@@ -68,10 +71,13 @@ LoadsFile world new file (Err NoMemory) = Unit {0}
 -- ---- its parts
 
 -- the configuration of tokens, compiled, or what is wrong, in the files of these names
-abbrev pub LoadsTokens : WorldState → WorldState → List Token → List (List ℕ) → Result Loaded Unloaded → Type 0
-LoadsTokens old new tokens names (Ok loaded) = Means tokens loaded.config × Compiles loaded.config loaded.table
+abbrev pub LoadsTokens : WorldState → WorldState → List Token → List (List ℕ)
+    → Result Loaded Unloaded → Type 0
+LoadsTokens old new tokens names (Ok loaded) = Means tokens loaded.config
+    × Compiles loaded.config loaded.table
 LoadsTokens old new tokens names (Err (Bad fault files)) =
-    (files ≡ names) × (IsFirstFault tokens fault ⊎ ((config : Config) × Means tokens config × IsUncompiled old new config fault))
+    (files ≡ names) × (IsFirstFault tokens fault
+    ⊎ ((config : Config) × Means tokens config × IsUncompiled old new config fault))
 LoadsTokens old new tokens names (Err (Unread name)) = ⊥
 LoadsTokens old new tokens names (Err NoMemory) = Unit {0}
 

@@ -10,7 +10,8 @@ use Rattle.sg_expand.specs.Expansion.{State, Outcome, Goes, Stops, Faulty, Unrea
 -- The text of the file of this name comes to this outcome. It is the file's content, where the machine tells it; and the
 -- included files are read once it was read.
 abbrev pub ComesTo : WorldState → List ℕ → Outcome → Type 0
-ComesTo world file outcome = (text : List ℕ) × (IsContent world.files file text × ((start : WorldState) × (OnlyReads world start × RunsMain file text start outcome)))
+ComesTo world file outcome = (text : List ℕ) × (IsContent world.files file text
+    × ((start : WorldState) × (OnlyReads world start × RunsMain file text start outcome)))
 
 -- it is expanded to these tokens, of files of these names; then the machine is this one, of which nothing but readings was asked
 pub record Expands (world : WorldState) (file : List ℕ) (tokens : List Token) (names : List (List ℕ)) (read : WorldState) : Type 0 where
@@ -26,12 +27,15 @@ at_main kind = record { kind = kind; file = 0; line = 1 }
 
 -- the file is too long
 abbrev pub IsTooLong : WorldState → List ℕ → ConfigFault → List (List ℕ) → Type 0
-IsTooLong world file fault names = IsBeyond world.files file 1048576 × (fault ≡ at_main TooLong) × (names ≡ file ∷ [])
+IsTooLong world file fault names = IsBeyond world.files file 1048576 × (fault ≡ at_main TooLong)
+    × (names ≡ file ∷ [])
 
 -- it isn't expanded
 abbrev pub IsFaulty : WorldState → List ℕ → ConfigFault → List (List ℕ) → Type 0
-IsFaulty world file fault names = (read : WorldState) × ComesTo world file (Stops (Faulty fault) names read)
+IsFaulty world file fault names = (read : WorldState)
+    × ComesTo world file (Stops (Faulty fault) names read)
 
 -- the file that couldn't be read is one that was asked for by `@include`
 abbrev pub IsUnreadFile : WorldState → List ℕ → List ℕ → Type 0
-IsUnreadFile world file name = (names : List (List ℕ)) × ((read : WorldState) × ComesTo world file (Stops (Unread name) names read))
+IsUnreadFile world file name = (names : List (List ℕ))
+    × ((read : WorldState) × ComesTo world file (Stops (Unread name) names read))

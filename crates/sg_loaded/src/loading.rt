@@ -60,7 +60,8 @@ fn load_expanded<W: Files + Builder>(
     world: &mut W,
 ) -> Result<Loaded, Unloaded>
     requires { length expanded.tokens < 2 ^ 32 }
-    ensures loads { LoadsTokens (W.state world.old) (W.state world.new) expanded.tokens expanded.names result }
+    ensures loads { LoadsTokens (W.state world.old) (W.state world.new) expanded.tokens
+        expanded.names result }
     ensures only { OnlyBuilds (W.state world.old) (W.state world.new) }
 {
     let Expanded { tokens, names } = expanded;

@@ -17,7 +17,8 @@ Layer = RawExpr-F (Arg × Unit {0}) (RawExpr × Expr) (Call × Unit {0})
 
 abbrev pub expr_step : Names → Layer → Expr
 expr_step names (RawExpr-F.Call call) = filter_expr names call.0
-expr_step names (RawExpr-F.Compare left cmp right) = x.Compare (template_of left.token.text) cmp (template_of right.token.text)
+expr_step names (RawExpr-F.Compare left cmp right) = x.Compare (template_of left.token.text) cmp
+    (template_of right.token.text)
 expr_step names (RawExpr-F.And terms) = x.And (map (λ t. t.1) terms)
 expr_step names (RawExpr-F.Or terms) = x.Or (map (λ t. t.1) terms)
 expr_step names (RawExpr-F.Not term) = x.Not term.1

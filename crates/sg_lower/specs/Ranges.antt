@@ -18,8 +18,10 @@ abbrev pub range_of : ℕ → ℕ → ℕ × ℕ
 range_of one other = (min one other, max one other)
 
 abbrev pub ranges_at : Scale → Arg-F Arg RawExpr Call → List (ℕ × ℕ)
-ranges_at scale (Arg-F.Item spot) = (number_of scale spot.token.text, number_of scale spot.token.text) ∷ []
-ranges_at scale (Arg-F.Range low high) = range_of (number_of scale low.token.text) (number_of scale high.token.text) ∷ []
+ranges_at scale (Arg-F.Item spot) =
+    (number_of scale spot.token.text, number_of scale spot.token.text) ∷ []
+ranges_at scale (Arg-F.Range low high) =
+    range_of (number_of scale low.token.text) (number_of scale high.token.text) ∷ []
 ranges_at scale _ = []
 
 unfoldable pub ranges_in : Scale → Arg → List (ℕ × ℕ)

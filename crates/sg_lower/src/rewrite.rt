@@ -54,7 +54,8 @@ fn push_text(texts: &mut Vec<Name>, arg: &Arg) -> Result<(), NoMemory>
 }
 
 fn texts_in(alloc: Global, args: &[Arg]) -> Result<Vec<Name>, NoMemory>
-    ensures { IfOk result (λ texts. texts.items ≡ flat_map (λ arg. text_if (item_of arg)) args.now) }
+    ensures { IfOk result
+        (λ texts. texts.items ≡ flat_map (λ arg. text_if (item_of arg)) args.now) }
 {
     let mut texts = Vec::new(alloc);
     for arg in args {
@@ -175,7 +176,8 @@ pub fn lower_rewrite(
     call: &Call,
 ) -> Result<(Op, Option<Expr>), NoMemory>
     ensures op { IfOk result (λ rewrite. meant rewrite.0 ≡ meant_by call.now) }
-    ensures condition { IfOk result (λ rewrite. rewrite.1 ≡ condition names.now (args_of call.now)) }
+    ensures condition { IfOk result
+        (λ rewrite. rewrite.1 ≡ condition names.now (args_of call.now)) }
 {
     let op = lower_op(alloc, call)?;
     let condition = lower_condition(alloc, names, args_of(call))?;

@@ -30,21 +30,25 @@ claimed_offers d i next [] vs = []
 claimed_offers d i next (c ∷ cs) [] = []
 claimed_offers d i next (c ∷ cs) (v ∷ vs) =
     if is_kept_at d c.offer v
-    then record { inlet = i; number = Some (next + c.place); flow = c.offer.flow } ∷ claimed_offers d i next cs vs
+    then record { inlet = i; number = Some (next + c.place); flow = c.offer.flow }
+    ∷ claimed_offers d i next cs vs
     else claimed_offers d i next cs vs
 
 abbrev pub claims_at : (ℕ → ℕ) → ℕ → Act → List Claimed
-claims_at next d (Admit i records verdicts) = claimed_offers d i (next i) (claims_of records) verdicts
+claims_at next d (Admit i records verdicts) = claimed_offers d i (next i) (claims_of records)
+    verdicts
 claims_at next d _ = []
 
 -- of all events, where the next record of each inlet has this number at first
 abbrev pub claimed_from : (ℕ → ℕ) → ℕ → List Event → List Claimed
 claimed_from next d [] = []
-claimed_from next d (e ∷ es) = claims_at next d e.act ++ claimed_from (λ i. next i + length (ends_by i e.act)) d es
+claimed_from next d (e ∷ es) = claims_at next d e.act
+    ++ claimed_from (λ i. next i + length (ends_by i e.act)) d es
 
 -- it is of this record, with flow-control, and not spooled
 abbrev pub is_owing : ℕ → ℕ → Claimed → Bool → Bool
-is_owing i n c spooled = c.inlet == i && option_map_or (λ m. m == n) c.number false && c.flow && not spooled
+is_owing i n c spooled = c.inlet == i && option_map_or (λ m. m == n) c.number false && c.flow
+    && not spooled
 
 -- one of these is, each with its mark
 abbrev pub any_owing : ℕ → ℕ → List Claimed → List Bool → Bool
@@ -57,13 +61,15 @@ abbrev pub owes_none : ℕ → ℕ → State → List Event → ℕ → Dest →
 owes_none i n start events d dest =
     let gone = length dest.settled + settled_count d events in
     not (any_owing i n
-    (drop gone (map claimed_by (dest.settled ++ dest.left) ++ claimed_from (next_of start) d events))
+    (drop gone
+    (map claimed_by (dest.settled ++ dest.left) ++ claimed_from (next_of start) d events))
     (drop gone (spooled_marks d (length dest.settled) (map is_spooled (dest.settled ++ dest.left)) events)))
 
 -- at all these destinations, which have the numbers from d on
 abbrev pub all_acked : ℕ → ℕ → State → List Event → ℕ → List Dest → Bool
 all_acked i n start events d [] = true
-all_acked i n start events d (dest ∷ dests) = owes_none i n start events d dest && all_acked i n start events (d + 1) dests
+all_acked i n start events d (dest ∷ dests) = owes_none i n start events d dest
+    && all_acked i n start events (d + 1) dests
 
 -- record n of i is acknowledged: each of its offers with flow-control is settled or spooled
 abbrev pub is_acked_by : State → List Event → ℕ → ℕ → Bool
@@ -82,5 +88,7 @@ marked_by acked number from (end ∷ ends) = if acked number then marked_by acke
 
 -- an inlet before and after events, which read this of it
 pub record CountsMark (start : State) (old new : Inlet) (i : ℕ) (events : List Event) : Type 0 where
-  pub mark : mark_of (after_all start events).dests i new ≡ marked_by (is_acked_by start events i) 0 (opening_from i old.opening events) (old.ends ++ ends_admitted i events)
-  pub outstanding : outstanding_of (after_all start events).dests i new ≡ outstanding_by (is_acked_by start events i) 0 (old.ends ++ ends_admitted i events)
+  pub mark : mark_of (after_all start events).dests i new ≡ marked_by (is_acked_by start events i) 0
+      (opening_from i old.opening events) (old.ends ++ ends_admitted i events)
+  pub outstanding : outstanding_of (after_all start events).dests i new
+      ≡ outstanding_by (is_acked_by start events i) 0 (old.ends ++ ends_admitted i events)

@@ -14,7 +14,8 @@ store_number dest = option_map_or (λ buffer. Some buffer.store) dest.setup.buff
 
 abbrev pub is_runs_store : Run → ℕ → Bool
 is_runs_store run s =
-    list_any (λ source. is_this s source.setup.store) run.sources || list_any (λ dest. is_this s (store_number dest)) run.dests
+    list_any (λ source. is_this s source.setup.store) run.sources
+    || list_any (λ dest. is_this s (store_number dest)) run.dests
 
 abbrev pub fails_one_run : Run → List ℕ → Bool
 fails_one_run run [] = true
@@ -23,13 +24,17 @@ fails_one_run run (s ∷ (t ∷ ss)) = false
 
 abbrev pub may_admit_run : List Admission → SourceRun → Bool
 may_admit_run records source =
-    nat_lt 0 (length records) && nat_le (length records) 1000 && nat_le (length source.records - source.acked + length records) source.setup.window && list_all is_admissible records
+    nat_lt 0 (length records) && nat_le (length records) 1000
+    && nat_le (length source.records - source.acked + length records) source.setup.window
+    && list_all is_admissible records
 
 abbrev pub may_settle_run : ℕ → DestRun → Bool
 may_settle_run n dest = nat_lt 0 n && nat_le n (length dest.kept - dest.taken)
 
 abbrev pub may_store_run : List ℕ → ℕ → SourceRun → Bool
-may_store_run failed w source = works failed source.setup.store && w == source.mark && not (w == source.stored)
+may_store_run failed w source = works failed source.setup.store && w == source.mark
+    && not (w == source.stored)
 
 abbrev pub may_rewind_run : List ℕ → SourceRun → Bool
-may_rewind_run failed source = works failed source.setup.store && is_nil source.records && not (source.stored == 0)
+may_rewind_run failed source = works failed source.setup.store && is_nil source.records
+    && not (source.stored == 0)

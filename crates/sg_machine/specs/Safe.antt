@@ -45,7 +45,8 @@ failing_position state event i inlet =
 abbrev pub failed_position : State → List Event → ℕ → Option ℕ
 failed_position state [] i = None
 failed_position state (e ∷ es) i =
-    first_of (option_and_then (failing_position state e i) (slice_get state.inlets i)) (failed_position (after state e) es i)
+    first_of (option_and_then (failing_position state e i) (slice_get state.inlets i))
+    (failed_position (after state e) es i)
 
 -- the position that the act is writing
 abbrev pub running_position : Act → ℕ → Option ℕ
@@ -93,7 +94,9 @@ would_spool d i next buffer dest (c ∷ cs) =
 -- the entries that an act in which the store of d fails tried to append: an Admit's offers that would
 -- be spooled if it worked, and at a Look all that waited
 abbrev pub tried_by : State → Act → ℕ → Dest → List Kept
-tried_by state (Admit i records verdicts) d dest = option_map_or (λ buffer. would_spool d i (next_of state i) buffer dest (claims_of records)) dest.setup.buffer []
+tried_by state (Admit i records verdicts) d dest =
+    option_map_or (λ buffer. would_spool d i (next_of state i) buffer dest (claims_of records))
+    dest.setup.buffer []
 tried_by state Look d dest = waiting dest.left
 tried_by state _ d dest = []
 
@@ -104,7 +107,8 @@ failing_entries state event d dest = if has_failed event.failed (store_of dest) 
 abbrev pub failed_append : State → List Event → ℕ → Option (List Kept)
 failed_append state [] d = None
 failed_append state (e ∷ es) d =
-    first_of (option_and_then (failing_entries state e d) (slice_get state.dests d)) (failed_append (after state e) es d)
+    first_of (option_and_then (failing_entries state e d) (slice_get state.dests d))
+    (failed_append (after state e) es d)
 
 abbrev pub failed_entries : State → List Event → ℕ → List Kept
 failed_entries state events d = option_map_or (λ ks. ks) (failed_append state events d) []
@@ -129,9 +133,11 @@ is_settle _ d = false
 pub record IsSafeList (dest : Dest) (d : ℕ) (act : Act) (failed : List ℕ) (tried : List Kept) (list : List Kept) : Type 0 where
   pub gone : ℕ
   pub added : ℕ
-  pub parts : list ≡ drop gone (spooled_of (dest.settled ++ dest.left)) ++ take added (if has_failed failed (store_of dest) then tried else appends act d dest)
+  pub parts : list ≡ drop gone (spooled_of (dest.settled ++ dest.left))
+      ++ take added (if has_failed failed (store_of dest) then tried else appends act d dest)
   pub settled : gone ≤ length (spooled_of (settled_by act d dest))
-  pub all_settled : has_failed failed (store_of dest) ≡ false → is_settle act d ≡ false → gone ≡ length (spooled_of dest.settled)
+  pub all_settled : has_failed failed (store_of dest) ≡ false → is_settle act d ≡ false
+      → gone ≡ length (spooled_of dest.settled)
 
 -- Records.
 
@@ -147,7 +153,8 @@ is_below i position e = e.inlet == i && is_some e.number && e.flow && nat_le e.e
 -- each such entry that is left is in the list
 abbrev pub AreHeld : ℕ → ℕ → List Entry → List Kept → Type 0
 AreHeld i position [] list = Unit {0}
-AreHeld i position (e ∷ es) list = (is_below i position e ≡ true → Contains list (as_kept e)) × AreHeld i position es list
+AreHeld i position (e ∷ es) list = (is_below i position e ≡ true → Contains list (as_kept e))
+    × AreHeld i position es list
 
 -- what a list holds of a destination: nothing where there is no disk-buffer
 abbrev pub held_in : List Kept → Dest → List Kept
@@ -158,22 +165,30 @@ held_in list dest = if is_some dest.setup.buffer then list else []
 pub record AreImages (state : State) (event : Event) (tried_positions : ℕ → Option ℕ) (tried_entries : ℕ → List Kept) (images : Images) : Type 0 where
   pub every_position : length images.positions ≡ length state.inlets
   pub every_list : length images.lists ≡ length state.dests
-  pub stored : (i : ℕ) (inlet : Inlet) (position : ℕ) → slice_get state.inlets i ≡ Some inlet → is_some inlet.setup.store ≡ true → slice_get images.positions i ≡ Some position
-      → is_listed position (inlet.stored ∷ option_to_list (running_position event.act i) ++ option_to_list (tried_positions i)) ≡ true
-  pub safe_lists : (d : ℕ) (dest : Dest) (list : List Kept) → slice_get state.dests d ≡ Some dest → is_some dest.setup.buffer ≡ true → slice_get images.lists d ≡ Some list
+  pub stored : (i : ℕ) (inlet : Inlet) (position : ℕ) → slice_get state.inlets i ≡ Some inlet
+      → is_some inlet.setup.store ≡ true → slice_get images.positions i ≡ Some position
+      → is_listed position (inlet.stored ∷ option_to_list (running_position event.act i)
+      ++ option_to_list (tried_positions i)) ≡ true
+  pub safe_lists : (d : ℕ) (dest : Dest) (list : List Kept) → slice_get state.dests d ≡ Some dest
+      → is_some dest.setup.buffer ≡ true → slice_get images.lists d ≡ Some list
       → IsSafeList dest d event.act (state.failed ++ event.failed) (tried_entries d) list
 
 -- of each inlet with a store whose ends rise from its opening place, the offers with flow-control of
 -- records that end at or below the image's position are settled, or stand in the images
 abbrev pub CoversRecords : State → Event → Images → Type 0
 CoversRecords state event images =
-    (i : ℕ) (inlet : Inlet) (position d : ℕ) (dest : Dest) (list : List Kept) → slice_get state.inlets i ≡ Some inlet → is_some inlet.setup.store ≡ true → rises inlet.opening inlet.ends ≡ true
-    → slice_get images.positions i ≡ Some position → slice_get state.dests d ≡ Some dest → slice_get images.lists d ≡ Some list → AreHeld i position (left_by event.act d dest) (held_in list dest)
+    (i : ℕ) (inlet : Inlet) (position d : ℕ) (dest : Dest) (list : List Kept)
+    → slice_get state.inlets i ≡ Some inlet → is_some inlet.setup.store ≡ true
+    → rises inlet.opening inlet.ends ≡ true
+    → slice_get images.positions i ≡ Some position → slice_get state.dests d ≡ Some dest
+    → slice_get images.lists d ≡ Some list
+    → AreHeld i position (left_by event.act d dest) (held_in list dest)
 
 -- the images after these events, with the one that follows on
 abbrev pub ImagesAt : State → List Event → Event → Images → Type 0
 ImagesAt start events event images =
-    AreImages (after_all start events) event (failed_position start (events ++ event ∷ [])) (failed_entries start (events ++ event ∷ [])) images
+    AreImages (after_all start events) event (failed_position start (events ++ event ∷ []))
+    (failed_entries start (events ++ event ∷ [])) images
 
 -- they are safe
 pub record Safe (start : State) (events : List Event) (event : Event) (images : Images) : Type 0 where

@@ -30,7 +30,8 @@ settle_step d n failed run =
 
 -- the entries are moved into this disk-buffer
 abbrev pub refill_into : ℕ → ℕ → Run → Option BufferSetup → Option Run
-refill_into d n run buffer = option_and_then (λ (b : BufferSetup). move_turns n b.capacity d run) buffer
+refill_into d n run buffer = option_and_then (λ (b : BufferSetup). move_turns n b.capacity d run)
+    buffer
 
 abbrev pub refill_at : ℕ → ℕ → List ℕ → Run → DestRun → Option Run
 refill_at d n failed run dest =

@@ -28,7 +28,8 @@ abbrev pub acked_one : ℕ → SourceRun → SourceRun
 acked_one n source = trimmed (record source { records = change source.records n one_less })
 
 abbrev pub begun_one : ℕ → ℕ → SourceRun → SourceRun
-begun_one end left source = trimmed (record source { records = source.records ++ record { end = end; left = left } ∷ [] })
+begun_one end left source = trimmed
+    (record source { records = source.records ++ record { end = end; left = left } ∷ [] })
 
 -- an entry that its record waited for is settled or spooled
 abbrev pub acks : Slip → List SourceRun → List SourceRun
@@ -80,7 +81,8 @@ abbrev pub moved_run : DestRun → DestRun
 moved_run dest = option_map_or (moved_slip dest) (slice_get dest.kept dest.moved) dest
 
 abbrev pub move_acks : List SourceRun → DestRun → List SourceRun
-move_acks sources dest = option_map_or (λ slip. acks slip sources) (slice_get dest.kept dest.moved) sources
+move_acks sources dest = option_map_or (λ slip. acks slip sources) (slice_get dest.kept dest.moved)
+    sources
 
 abbrev pub move_turn : ℕ → Run → Run
 move_turn d run = record run {
@@ -94,7 +96,8 @@ has_space capacity dest message = nat_le (dest.used + (5 + encoded_len message +
 
 -- an entry waits, and fits
 abbrev pub can_move : ℕ → DestRun → Bool
-can_move capacity dest = option_map_or (λ (slip : Slip). has_space capacity dest slip.message) (slice_get dest.kept dest.moved) false
+can_move capacity dest = option_map_or (λ (slip : Slip). has_space capacity dest slip.message)
+    (slice_get dest.kept dest.moved) false
 
 -- so many of them, each after the ones before; None where one doesn't fit
 abbrev pub move_turns : ℕ → ℕ → ℕ → Run → Option Run
@@ -110,24 +113,31 @@ queue_turn dest offer = if offer.flow || nat_lt dest.unflowed dest.setup.fifo th
 abbrev pub disk_turn : BufferSetup → DestRun → Bool → Offer → Verdict
 disk_turn buffer dest broken offer =
     if broken then (if offer.flow then Waits else DroppedDisk)
-    else if nat_lt dest.moved (length dest.kept) || not (has_space buffer.capacity dest offer.message) then (if offer.flow then Waits else DroppedFull)
+    else if nat_lt dest.moved (length dest.kept)
+    || not (has_space buffer.capacity dest offer.message) then
+    (if offer.flow then Waits else DroppedFull)
     else Spooled
 
 abbrev pub fails_turn : BufferSetup → DestRun → List ℕ → List ℕ → Offer → Bool
-fails_turn buffer dest failing failed offer = is_listed buffer.store failing && same_verdict Spooled (disk_turn buffer dest (is_listed buffer.store failed) offer)
+fails_turn buffer dest failing failed offer = is_listed buffer.store failing
+    && same_verdict Spooled (disk_turn buffer dest (is_listed buffer.store failed) offer)
 
 -- the stores that have failed once this offer has this verdict, None where it is wrong
-abbrev pub judged_turn : Option BufferSetup → DestRun → List ℕ → List ℕ → Offer → Verdict → Option (List ℕ)
+abbrev pub judged_turn : Option BufferSetup → DestRun → List ℕ → List ℕ → Offer → Verdict
+    → Option (List ℕ)
 judged_turn None dest failing failed offer verdict =
     if same_verdict verdict (queue_turn dest offer) then Some failed else None
 judged_turn (Some buffer) dest failing failed offer verdict =
     if fails_turn buffer dest failing failed offer
-    then (if same_verdict verdict (disk_turn buffer dest true offer) then Some (failed ++ buffer.store ∷ []) else None)
-    else (if same_verdict verdict (disk_turn buffer dest (is_listed buffer.store failed) offer) then Some failed else None)
+    then (if same_verdict verdict (disk_turn buffer dest true offer) then Some
+    (failed ++ buffer.store ∷ []) else None)
+    else (if same_verdict verdict (disk_turn buffer dest (is_listed buffer.store failed) offer) then
+    Some failed else None)
 
 abbrev pub judged_run : Option DestRun → List ℕ → List ℕ → Offer → Verdict → Option (List ℕ)
 judged_run None failing failed offer verdict = None
-judged_run (Some dest) failing failed offer verdict = judged_turn dest.setup.buffer dest failing failed offer verdict
+judged_run (Some dest) failing failed offer verdict = judged_turn dest.setup.buffer dest failing
+    failed offer verdict
 
 abbrev pub slip_from : ℕ → ℕ → Offer → Slip
 slip_from i number offer = record { inlet = i; number = Some number; flow = offer.flow; message = offer.message }
@@ -147,14 +157,18 @@ offered_run i number offer DroppedFull dest = record dest { dropped_full = dest.
 offered_run i number offer DroppedDisk dest = record dest { dropped_disk = dest.dropped_disk + 1 }
 
 abbrev pub offered_runs : ℕ → ℕ → List DestRun → List Offer → List Verdict → List DestRun
-offered_runs i number dests (o ∷ os) (v ∷ vs) = offered_runs i number (change dests o.dest (offered_run i number o v)) os vs
+offered_runs i number dests (o ∷ os) (v ∷ vs) = offered_runs i number
+    (change dests o.dest (offered_run i number o v)) os vs
 offered_runs i number dests [] vs = dests
 offered_runs i number dests (o ∷ os) [] = dests
 
-abbrev pub judged_runs : ℕ → ℕ → List ℕ → List DestRun → List ℕ → List Offer → List Verdict → Option (List ℕ)
+abbrev pub judged_runs : ℕ → ℕ → List ℕ → List DestRun → List ℕ → List Offer → List Verdict
+    → Option (List ℕ)
 judged_runs i number failing dests failed [] [] = Some failed
 judged_runs i number failing dests failed (o ∷ os) (v ∷ vs) =
-    option_and_then (λ failed_then. judged_runs i number failing (change dests o.dest (offered_run i number o v)) failed_then os vs) (judged_run (slice_get dests o.dest) failing failed o v)
+    option_and_then (λ failed_then. judged_runs i number failing
+    (change dests o.dest (offered_run i number o v)) failed_then os vs)
+    (judged_run (slice_get dests o.dest) failing failed o v)
 judged_runs i number failing dests failed [] (v ∷ vs) = None
 judged_runs i number failing dests failed (o ∷ os) [] = None
 
@@ -174,7 +188,8 @@ owing (o ∷ os) (v ∷ vs) = (if owes_by o.flow v then 1 else 0) + owing os vs
 -- Records.
 
 abbrev pub begun_in : List SourceRun → ℕ → ℕ
-begun_in sources i = option_map_or (λ (source : SourceRun). length source.records) (slice_get sources i) 0
+begun_in sources i = option_map_or (λ (source : SourceRun). length source.records)
+    (slice_get sources i) 0
 
 -- the record is begun, and its offers, of which these have failed stores, are taken
 abbrev pub record_taken : ℕ → Run → Admission → List Verdict → List ℕ → Run
@@ -185,13 +200,15 @@ record_taken i run r vs failed = record {
 }
 
 abbrev pub record_turn : ℕ → List ℕ → Run → Admission → List Verdict → Option Run
-record_turn i failing run r vs = option_map (record_taken i run r vs) (judged_runs i (begun_in run.sources i) failing run.dests run.failed r.offers vs)
+record_turn i failing run r vs = option_map (record_taken i run r vs)
+    (judged_runs i (begun_in run.sources i) failing run.dests run.failed r.offers vs)
 
 -- records in order, each with the verdicts of its offers; None where one is wrong, or their number
 abbrev pub record_turns : ℕ → List ℕ → Run → List Admission → List Verdict → Option Run
 record_turns i failing run [] vs = if length vs == 0 then Some run else None
 record_turns i failing run (r ∷ rs) vs =
-    option_and_then (λ run_then. record_turns i failing run_then rs (drop (length r.offers) vs)) (record_turn i failing run r (take (length r.offers) vs))
+    option_and_then (λ run_then. record_turns i failing run_then rs (drop (length r.offers) vs))
+    (record_turn i failing run r (take (length r.offers) vs))
 
 -- The greatest number of dropped offers that a destination counts.
 abbrev pub most_run : List DestRun → ℕ

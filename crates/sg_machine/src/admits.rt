@@ -21,7 +21,8 @@ fn admit_record(
     requires there { i < length run.old.sources }
     requires few { length admission.now.offers ≤ 1024 }
     requires dropped { most_run run.old.dests + 1024 < 2 ^ 64 }
-    ensures turn { IfOk result (λ ok. record_turn i failing.now run.old admission.now verdicts.now ≡ (if ok then Some run.new else None)) }
+    ensures turn { IfOk result (λ ok. record_turn i failing.now run.old admission.now verdicts.now
+        ≡ (if ok then Some run.new else None)) }
     ensures same { result ≡ Ok true → length run.new.sources ≡ length run.old.sources }
     ensures dropped { result ≡ Ok true → most_run run.new.dests ≤ most_run run.old.dests + 1024 }
 {
@@ -56,8 +57,10 @@ pub(crate) fn admit_records(
     requires there { i < length run.old.sources }
     requires few { list_all is_admissible records.now ≡ true }
     requires dropped { most_run run.old.dests + 1024 * length records.now < 2 ^ 64 }
-    ensures turns { IfOk result (λ ok. record_turns i failing.now run.old records.now verdicts.now ≡ (if ok then Some run.new else None)) }
-    ensures dropped { result ≡ Ok true → most_run run.new.dests ≤ most_run run.old.dests + 1024 * length records.now }
+    ensures turns { IfOk result (λ ok. record_turns i failing.now run.old records.now verdicts.now
+        ≡ (if ok then Some run.new else None)) }
+    ensures dropped { result ≡ Ok true
+        → most_run run.new.dests ≤ most_run run.old.dests + 1024 * length records.now }
 {
     let mut rest = verdicts;
     for admission in records {

@@ -11,14 +11,17 @@ use sg_msg::{Message, less_entry};
 
 // What is left of the room behind this many bytes and the message's entry.
 fn less_spooled(room: u64, bytes: u64, message: &Message) -> Option<u64>
-    ensures { MatchOption result (room < bytes + encoded_len message.now) (λ n. n + bytes + encoded_len message.now ≡ room) }
+    ensures { MatchOption result (room < bytes + encoded_len message.now)
+        (λ n. n + bytes + encoded_len message.now ≡ room) }
 {
     less_entry(room.checked_sub(bytes)?, message)
 }
 
 /// The bytes of a disk-buffer that are taken once the message's entry is, where it fits.
 pub(crate) fn used_with(capacity: u64, used: u64, message: &Message) -> Option<u64>
-    ensures { MatchOption result (capacity < used + (5 + encoded_len message.now + 1)) (λ n. (n ≡ used + (5 + encoded_len message.now)) × (used + (5 + encoded_len message.now + 1) ≤ capacity)) }
+    ensures { MatchOption result (capacity < used + (5 + encoded_len message.now + 1))
+        (λ n. (n ≡ used + (5 + encoded_len message.now))
+        × (used + (5 + encoded_len message.now + 1) ≤ capacity)) }
 {
     let room = less_spooled(capacity.checked_sub(used)?, 6, message)?;
     Some(capacity - room - 1)
@@ -26,7 +29,8 @@ pub(crate) fn used_with(capacity: u64, used: u64, message: &Message) -> Option<u
 
 // The record of the entry at that place waits for one acknowledgement less.
 fn ack_at(sources: &mut Seq<SourceRun>, dest: &DestRun, place: usize)
-    ensures { sources.new ≡ option_map_or (λ slip. acks slip sources.old) (slice_get dest.now.kept place) sources.old }
+    ensures { sources.new ≡ option_map_or (λ slip. acks slip sources.old)
+        (slice_get dest.now.kept place) sources.old }
 {
     if let Some(slip) = dest.kept.get(place) {
         acknowledge(sources, slip);

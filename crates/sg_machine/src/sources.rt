@@ -40,7 +40,8 @@ fn take_ack(source: &mut SourceRun, number: u64)
 }
 
 fn ack_record(sources: &mut Seq<SourceRun>, slip: &Slip, number: u64)
-    ensures { slip.now.flow ≡ true → slip.now.number ≡ Some number → sources.new ≡ acks slip.now sources.old }
+    ensures { slip.now.flow ≡ true → slip.now.number ≡ Some number
+        → sources.new ≡ acks slip.now sources.old }
 {
     let place = slip.inlet as usize;
     if place < sources.len() {

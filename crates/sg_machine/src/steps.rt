@@ -33,7 +33,8 @@ fn admit(
     failed: &[u32],
 ) -> Result<bool, AllocError>
     requires { most_run run.old.dests + 1024000 < 2 ^ 64 }
-    ensures { IfOk result (λ ok. admit_step i records.now verdicts.now failed.now run.old ≡ (if ok then Some run.new else None)) }
+    ensures { IfOk result (λ ok. admit_step i records.now verdicts.now failed.now run.old
+        ≡ (if ok then Some run.new else None)) }
 {
     if !is_admit_open(run, i, records) {
         return Ok(false);
@@ -50,7 +51,8 @@ fn admit(
 }
 
 fn is_settle_legal(run: &Run, d: u32, n: u32, failed: &[u32]) -> bool
-    ensures { result ≡ passes_at run.now.dests d (λ dest. may_settle_run n dest && at_most_this run.now.failed (store_number dest) failed.now) }
+    ensures { result ≡ passes_at run.now.dests d (λ dest. may_settle_run n dest
+        && at_most_this run.now.failed (store_number dest) failed.now) }
 {
     match run.dests.get(d as usize) {
         Some(dest) => {
@@ -61,7 +63,8 @@ fn is_settle_legal(run: &Run, d: u32, n: u32, failed: &[u32]) -> bool
 }
 
 fn settle(run: &mut Run, d: u32, n: u32, failed: &[u32]) -> Result<bool, AllocError>
-    ensures { IfOk result (λ ok. settle_step d n failed.now run.old ≡ (if ok then Some run.new else None)) }
+    ensures { IfOk result
+        (λ ok. settle_step d n failed.now run.old ≡ (if ok then Some run.new else None)) }
 {
     if !is_settle_legal(run, d, n, failed) {
         return Ok(false);
@@ -90,7 +93,8 @@ fn refill(run: &mut Run, d: u32, n: u32, failed: &[u32]) -> bool
 }
 
 fn is_store_legal(run: &Run, i: u32, w: u64, failed: &[u32]) -> bool
-    ensures { result ≡ (passes_at run.now.sources i (may_store_run run.now.failed w) && is_nil failed.now) }
+    ensures { result
+        ≡ (passes_at run.now.sources i (may_store_run run.now.failed w) && is_nil failed.now) }
 {
     match run.sources.get(i as usize) {
         Some(source) => may_store(run.failed.as_slice(), w, source) && failed.is_empty(),
@@ -109,7 +113,8 @@ fn store(run: &mut Run, i: u32, w: u64, failed: &[u32]) -> bool
 }
 
 fn is_rewind_legal(run: &Run, i: u32, failed: &[u32]) -> bool
-    ensures { result ≡ (passes_at run.now.sources i (may_rewind_run run.now.failed) && is_nil failed.now) }
+    ensures { result
+        ≡ (passes_at run.now.sources i (may_rewind_run run.now.failed) && is_nil failed.now) }
 {
     match run.sources.get(i as usize) {
         Some(source) => may_rewind(run.failed.as_slice(), source) && failed.is_empty(),
@@ -130,7 +135,8 @@ fn rewind(run: &mut Run, i: u32, failed: &[u32]) -> bool
 }
 
 fn look(run: &mut Run, failed: &[u32]) -> Result<bool, AllocError>
-    ensures { IfOk result (λ ok. look_step failed.now run.old ≡ (if ok then Some run.new else None)) }
+    ensures { IfOk result
+        (λ ok. look_step failed.now run.old ≡ (if ok then Some run.new else None)) }
 {
     if !fails_one(run, failed) {
         return Ok(false);
@@ -142,7 +148,8 @@ fn look(run: &mut Run, failed: &[u32]) -> Result<bool, AllocError>
 /// Whether the event is legal; where it is, what is kept is that of the state after it.
 pub(crate) fn step(run: &mut Run, event: &Event) -> Result<bool, AllocError>
     requires { most_run run.old.dests + 1024000 < 2 ^ 64 }
-    ensures { IfOk result (λ ok. act_step event.now.act event.now.failed run.old ≡ (if ok then Some run.new else None)) }
+    ensures { IfOk result (λ ok. act_step event.now.act event.now.failed run.old
+        ≡ (if ok then Some run.new else None)) }
 {
     let failed = event.failed.as_slice();
     match &event.act {

@@ -92,7 +92,9 @@ fn judge(
     offer: &Offer,
     verdict: Verdict,
 ) -> Result<bool, AllocError>
-    ensures { IfOk result (λ ok. judged_turn dest.now.setup.buffer dest.now failing.now failed.old offer.now verdict ≡ (if ok then Some failed.new else None)) }
+    ensures { IfOk result (
+        λ ok. judged_turn dest.now.setup.buffer dest.now failing.now failed.old offer.now verdict
+        ≡ (if ok then Some failed.new else None)) }
 {
     match dest.setup.buffer {
         None => Ok(are_same(verdict, by_queue(dest, offer))),
@@ -204,8 +206,10 @@ fn admit_one(
     verdict: Verdict,
 ) -> Result<bool, AllocError>
     requires { most_run dests.old + 1 < 2 ^ 64 }
-    ensures judged { IfOk result (λ ok. judged_run (slice_get dests.old offer.now.dest) failing.now failed.old offer.now verdict ≡ (if ok then Some failed.new else None)) }
-    ensures kept { result ≡ Ok true → dests.new ≡ change dests.old offer.now.dest (offered_run inlet number offer.now verdict) }
+    ensures judged { IfOk result (λ ok. judged_run (slice_get dests.old offer.now.dest) failing.now
+        failed.old offer.now verdict ≡ (if ok then Some failed.new else None)) }
+    ensures kept { result ≡ Ok true
+        → dests.new ≡ change dests.old offer.now.dest (offered_run inlet number offer.now verdict) }
     ensures dropped { result ≡ Ok true → most_run dests.new ≤ most_run dests.old + 1 }
 {
     let place = offer.dest as usize;
@@ -228,9 +232,13 @@ pub(crate) fn admit_offers(
     verdicts: &[Verdict],
 ) -> Result<bool, AllocError>
     requires { most_run dests.old + length offers.now < 2 ^ 64 }
-    ensures judged { IfOk result (λ ok. judged_runs inlet number failing.now dests.old failed.old offers.now verdicts.now ≡ (if ok then Some failed.new else None)) }
-    ensures kept { result ≡ Ok true → dests.new ≡ offered_runs inlet number dests.old offers.now verdicts.now }
-    ensures dropped { result ≡ Ok true → most_run dests.new ≤ most_run dests.old + length offers.now }
+    ensures judged { IfOk result (
+        λ ok. judged_runs inlet number failing.now dests.old failed.old offers.now verdicts.now
+        ≡ (if ok then Some failed.new else None)) }
+    ensures kept { result ≡ Ok true
+        → dests.new ≡ offered_runs inlet number dests.old offers.now verdicts.now }
+    ensures dropped { result ≡ Ok true
+        → most_run dests.new ≤ most_run dests.old + length offers.now }
 {
     if offers.len() != verdicts.len() {
         return Ok(false);

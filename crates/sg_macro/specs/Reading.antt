@@ -73,7 +73,8 @@ length_behind (Ok found) = found.len - 1
 length_behind (Err fault) = 0
 
 -- the part before those that follow, or the first fault
-abbrev pub with_cut : Result Cut TemplateFault → Result (List Part) TemplateFault → Result (List Part) TemplateFault
+abbrev pub with_cut : Result Cut TemplateFault → Result (List Part) TemplateFault
+    → Result (List Part) TemplateFault
 with_cut (Err fault) parts = Err fault
 with_cut (Ok found) (Ok parts) = Ok (found.part ∷ parts)
 with_cut (Ok found) (Err fault) = Err fault
@@ -82,7 +83,8 @@ with_cut (Ok found) (Err fault) = Err fault
 abbrev pub parts_behind : ℕ → List ℕ → Result (List Part) TemplateFault
 parts_behind skip [] = Ok []
 parts_behind (suc skip) (b ∷ bytes) = parts_behind skip bytes
-parts_behind zero (b ∷ bytes) = with_cut (first_cut (b ∷ bytes)) (parts_behind (length_behind (first_cut (b ∷ bytes))) bytes)
+parts_behind zero (b ∷ bytes) = with_cut (first_cut (b ∷ bytes))
+    (parts_behind (length_behind (first_cut (b ∷ bytes))) bytes)
 
 -- the parts of a text, or its first fault
 unfoldable pub parts_of : List ℕ → Result (List Part) TemplateFault

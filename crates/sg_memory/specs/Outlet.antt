@@ -25,6 +25,10 @@ SendFails fails (Err NoMemory) = fails ≡ false
 
 -- a reopening fails, or is too early, exactly where the plan says so, and fails where the count of those stands at its end
 abbrev pub ReopenFails : MemoryOutlet → Result Reopened OutletFault → Type 0
-ReopenFails outlet (Ok Ready) = (fails_now outlet.plan.fails ≡ false) × (fails_now outlet.plan.laters ≡ false)
-ReopenFails outlet (Ok Later) = (fails_now outlet.plan.fails ≡ false) × (fails_now outlet.plan.laters ≡ true)
-ReopenFails outlet (Err e) = fails_now outlet.plan.fails || (fails_now outlet.plan.laters && (outlet.laters == 2 ^ 64 - 1)) ≡ true
+ReopenFails outlet (Ok Ready) = (fails_now outlet.plan.fails ≡ false)
+    × (fails_now outlet.plan.laters ≡ false)
+ReopenFails outlet (Ok Later) = (fails_now outlet.plan.fails ≡ false)
+    × (fails_now outlet.plan.laters ≡ true)
+ReopenFails outlet (Err e) =
+    fails_now outlet.plan.fails || (fails_now outlet.plan.laters && (outlet.laters == 2 ^ 64 - 1))
+    ≡ true

@@ -40,5 +40,6 @@ SendFails fails (Err NoMemory) = fails ≡ false
 
 abbrev pub ReopenFails : MemoryPaths → Result Reopened OutletFault → Type 0
 ReopenFails opener (Ok Ready) = fails_now opener.plan.fails ≡ false
-ReopenFails opener (Ok Later) = (fails_now opener.plan.fails ≡ false) × (fails_now opener.plan.laters ≡ true)
+ReopenFails opener (Ok Later) = (fails_now opener.plan.fails ≡ false)
+    × (fails_now opener.plan.laters ≡ true)
 ReopenFails opener (Err e) = fails_now opener.plan.fails ≡ true

@@ -91,7 +91,8 @@ lacks_file files (Slot ip port slot once) = false
 -- where the file is there, the place at which it is read and what is left of it behind that
 abbrev pub IsRest : Option (List ℕ) → ℕ → ℕ → OpenedInlet → Type 0
 IsRest None limit from opened = Unit {0}
-IsRest (Some bytes) limit from opened = (opened.from ≡ place_in limit bytes from) × (opened.left.items ≡ drop (place_in limit bytes from) bytes)
+IsRest (Some bytes) limit from opened = (opened.from ≡ place_in limit bytes from)
+    × (opened.left.items ≡ drop (place_in limit bytes from) bytes)
 
 -- what an inlet is opened for
 abbrev pub IsSource : List MemoryFile → InletSpec → ℕ → OpenedInlet → Type 0

@@ -26,8 +26,10 @@ impl MemoryConnection {
         peer: &[u8],
         bytes: &[u8],
     ) -> Result<MemoryConnection, NoMemory>
-        ensures address { IfOk result (λ connection. (connection.ip ≡ ip.now) × (connection.port ≡ port) × (connection.slot ≡ 0)) }
-        ensures sent { IfOk result (λ connection. (connection.peer ≡ peer.now) × (connection.bytes.items ≡ bytes.now)) }
+        ensures address { IfOk result (λ connection. (connection.ip ≡ ip.now)
+            × (connection.port ≡ port) × (connection.slot ≡ 0)) }
+        ensures sent { IfOk result
+            (λ connection. (connection.peer ≡ peer.now) × (connection.bytes.items ≡ bytes.now)) }
     {
         Ok(MemoryConnection {
             ip: Name::new(alloc, ip)?,
@@ -47,7 +49,8 @@ pub fn parts_for(
     port: u16,
     slot: u16,
 ) -> Result<VecDeque<MemoryPart>, NoMemory>
-    ensures { IfOk result (λ parts. map sent parts.items ≡ made_to ip.now port slot connections.now) }
+    ensures { IfOk result
+        (λ parts. map sent parts.items ≡ made_to ip.now port slot connections.now) }
 {
     let mut parts = VecDeque::new(alloc);
     for connection in connections {
@@ -64,7 +67,8 @@ fn add_part(
     parts: &mut VecDeque<MemoryPart>,
     connection: &MemoryConnection,
 ) -> Result<(), NoMemory>
-    ensures { OnOk result (map sent parts.new.items ≡ map sent parts.old.items ++ (connection.now.peer, connection.now.bytes.items) ∷ []) }
+    ensures { OnOk result (map sent parts.new.items
+        ≡ map sent parts.old.items ++ (connection.now.peer, connection.now.bytes.items) ∷ []) }
 {
     let bytes = connection.bytes.to_vec(alloc)?;
     parts.push_back(MemoryPart::new(alloc, connection.peer.bytes(), bytes)?)?;

@@ -33,7 +33,8 @@ impl Inlet for MemoryFeed {
         ensures left { PullLeaves (feed_of self.old) (feed_of self.new) into.new result }
         ensures counts { PullCounts (feed_of self.old) (feed_of self.new) result }
         ensures faults { PullFaults (feed_of self.old) (feed_of self.new) result }
-        ensures pulls { Pulls (pull_fails self.old.inlet) (pull_gives self.old.inlet (length into.old)) result }
+        ensures pulls { Pulls (pull_fails self.old.inlet)
+            (pull_gives self.old.inlet (length into.old)) result }
         ensures plan { self.new.inlet.plan ≡ after_call self.old.inlet.plan }
     {
         self.inlet.pull(into)
@@ -62,7 +63,8 @@ impl Outlet for MemoryDrain {
         requires { frames.now ≢ [] }
         ensures sends { Sends (drain_of self.old) (drain_of self.new) frames.now result }
         ensures fails { SendFails (fails_now self.old.outlet.plan.fails) result }
-        ensures plan { self.new.outlet.plan ≡ record self.old.outlet.plan { fails = after_call self.old.outlet.plan.fails } }
+        ensures plan { self.new.outlet.plan
+            ≡ record self.old.outlet.plan { fails = after_call self.old.outlet.plan.fails } }
     {
         self.outlet.send(frames)
     }

@@ -52,7 +52,8 @@ impl Outlet for MemoryOutlet {
         requires { frames.now ≢ [] }
         ensures sends { Sends (outlet_of self.old) (outlet_of self.new) frames.now result }
         ensures fails { SendFails (fails_now self.old.plan.fails) result }
-        ensures plan { self.new.plan ≡ record self.old.plan { fails = after_call self.old.plan.fails } }
+        ensures plan { self.new.plan
+            ≡ record self.old.plan { fails = after_call self.old.plan.fails } }
     {
         let fails = self.plan.fails.next();
         let wanted = if fails {

@@ -33,7 +33,8 @@ impl MemoryPart {
     pub fn give(&mut self, piece: usize, into: &mut [u8]) -> usize
         requires { self.old.given ≤ length self.old.bytes.items }
         ensures size { length into.new ≡ length into.old }
-        ensures value { result ≡ min (min (length (left_of (Some self.old))) piece) (length into.old) }
+        ensures value { result
+            ≡ min (min (length (left_of (Some self.old))) piece) (length into.old) }
         ensures front { take result into.new ≡ take result (left_of (Some self.old)) }
         ensures more { self.new ≡ more result self.old }
     {

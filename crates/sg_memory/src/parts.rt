@@ -79,7 +79,8 @@ impl MemoryParts {
     /// Gives at most a piece of the present part, and says how many bytes.
     pub fn give(&mut self, piece: usize, into: &mut [u8]) -> usize
         ensures size { length into.new ≡ length into.old }
-        ensures value { result ≡ min (min (length (left_of self.old.present)) piece) (length into.old) }
+        ensures value { result
+            ≡ min (min (length (left_of self.old.present)) piece) (length into.old) }
         ensures front { take result into.new ≡ take result (left_of self.old.present) }
         ensures present { self.new.present ≡ option_map (more result) self.old.present }
         ensures past { self.new.past ≡ self.old.past }

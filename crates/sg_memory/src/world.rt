@@ -146,8 +146,11 @@ impl MemoryWorld {
         limit: u64,
     ) -> Result<Vec<u8>, FileRefusal>
         ensures reads { Reads (world_of self.old) (world_of self.new) name.now limit result }
-        ensures fails { ReadFails (fails_now self.old.plans.reads || is_none (file_of self.old.files.items name.now)) result }
-        ensures plans { self.new.plans ≡ record self.old.plans { reads = after_call self.old.plans.reads } }
+        ensures fails { ReadFails
+            (fails_now self.old.plans.reads || is_none (file_of self.old.files.items name.now))
+            result }
+        ensures plans { self.new.plans
+            ≡ record self.old.plans { reads = after_call self.old.plans.reads } }
         ensures quiet { AreQuiet self.old.plans → AreQuiet self.new.plans }
     {
         let fails = self.plans.reads.next();
@@ -176,10 +179,14 @@ impl MemoryWorld {
         ensures opens { MatchResult result
             (λ opened. InletOpens (world_of self.old) (world_of self.new) spec.now from (feed_of opened.0) opened.1)
             (λ refusal. InletRefused (world_of self.old) (world_of self.new) refusal) }
-        ensures fails { OpenFails (fails_now self.old.plans.inlet_opens || lacks_file self.old.files.items spec.now) result }
-        ensures goes { IfOk result (λ opened. GoesBy opened.0.inlet self.old.pace (once_of spec.now) (first_failing self.old.plans.inlets.items)) }
+        ensures fails { OpenFails
+            (fails_now self.old.plans.inlet_opens || lacks_file self.old.files.items spec.now)
+            result }
+        ensures goes { IfOk result (λ opened. GoesBy opened.0.inlet self.old.pace (once_of spec.now)
+            (first_failing self.old.plans.inlets.items)) }
         ensures quiet { AreQuiet self.old.plans → AreQuiet self.new.plans }
-        ensures quiet_inlet { IfOk result (λ opened. AreQuiet self.old.plans → IsQuiet opened.0.inlet.plan) }
+        ensures quiet_inlet { IfOk result
+            (λ opened. AreQuiet self.old.plans → IsQuiet opened.0.inlet.plan) }
     {
         if self.plans.inlet_opens.next() || self.lacks_file(spec) {
             self.inlet_faults = self.inlet_faults.saturating_add(1);
@@ -227,7 +234,8 @@ impl MemoryWorld {
     // An inlet at its opening, of which no call fails.
     fn inlet_for(&self, alloc: Global, opened: &OpenedInlet) -> Result<MemoryInlet, NoMemory>
         ensures state { IfOk result (λ inlet. inlet_of inlet ≡ opened_state opened.now) }
-        ensures goes { IfOk result (λ inlet. GoesBy inlet self.now.pace (once_of opened.now.spec) []) }
+        ensures goes { IfOk result
+            (λ inlet. GoesBy inlet self.now.pace (once_of opened.now.spec) []) }
     {
         let plan = Plan::never(alloc);
         match &opened.spec {
@@ -258,10 +266,13 @@ impl MemoryWorld {
         ensures opens { MatchResult result
             (λ feed. (world_of self.new ≡ with_inlet (world_of self.old) opened) × (feed_of feed.0 ≡ inlet_of inlet) × (feed.1 ≡ opened.from))
             (λ _. world_of self.new ≡ world_of self.old) }
-        ensures plan { IfOk result (λ feed. failing feed.0.inlet.plan ≡ first_failing self.old.plans.inlets.items) }
-        ensures paced { IfOk result (λ feed. feed.0.inlet ≡ record inlet { plan = feed.0.inlet.plan }) }
+        ensures plan { IfOk result
+            (λ feed. failing feed.0.inlet.plan ≡ first_failing self.old.plans.inlets.items) }
+        ensures paced { IfOk result
+            (λ feed. feed.0.inlet ≡ record inlet { plan = feed.0.inlet.plan }) }
         ensures quiet { AreQuiet self.old.plans → AreQuiet self.new.plans }
-        ensures quiet_inlet { IfOk result (λ feed. AreQuiet self.old.plans → IsQuiet feed.0.inlet.plan) }
+        ensures quiet_inlet { IfOk result
+            (λ feed. AreQuiet self.old.plans → IsQuiet feed.0.inlet.plan) }
     {
         let from = opened.from;
         let cell = inlet_cell(alloc)?;
@@ -280,9 +291,11 @@ impl MemoryWorld {
             (λ drain. OutletOpens (world_of self.old) (world_of self.new) spec.now (drain_of drain))
             (λ refusal. OutletRefused (world_of self.old) (world_of self.new) refusal) }
         ensures fails { OpenFails (fails_now self.old.plans.outlet_opens) result }
-        ensures goes { IfOk result (λ drain. IsFirstOutlet self.old.plans.outlets.items drain.outlet.plan) }
+        ensures goes { IfOk result
+            (λ drain. IsFirstOutlet self.old.plans.outlets.items drain.outlet.plan) }
         ensures quiet { AreQuiet self.old.plans → AreQuiet self.new.plans }
-        ensures quiet_outlet { IfOk result (λ drain. AreQuiet self.old.plans → IsOutletQuiet drain.outlet.plan) }
+        ensures quiet_outlet { IfOk result
+            (λ drain. AreQuiet self.old.plans → IsOutletQuiet drain.outlet.plan) }
     {
         if fails_to_open(&mut self.plans.outlet_opens, &mut self.outlet_faults) {
             return Err(OpenRefusal::Failed);
@@ -306,9 +319,11 @@ impl MemoryWorld {
             (λ opener. PathsOpen (world_of self.old) (world_of self.new) spec.now (opener_of opener))
             (λ refusal. PathsRefused (world_of self.old) (world_of self.new) refusal) }
         ensures fails { OpenFails (fails_now self.old.plans.paths_opens) result }
-        ensures goes { IfOk result (λ opener. IsFirstPaths self.old.plans.paths.items opener.paths.plan) }
+        ensures goes { IfOk result
+            (λ opener. IsFirstPaths self.old.plans.paths.items opener.paths.plan) }
         ensures quiet { AreQuiet self.old.plans → AreQuiet self.new.plans }
-        ensures quiet_paths { IfOk result (λ opener. AreQuiet self.old.plans → IsPathsQuiet opener.paths.plan) }
+        ensures quiet_paths { IfOk result
+            (λ opener. AreQuiet self.old.plans → IsPathsQuiet opener.paths.plan) }
     {
         if fails_to_open(&mut self.plans.paths_opens, &mut self.paths_faults) {
             return Err(OpenRefusal::Failed);
@@ -332,7 +347,8 @@ impl MemoryWorld {
         ensures opens { MatchResult result
             (λ store. StoreOpens (world_of self.old) (world_of self.new) spec.now (store_of store))
             (λ refusal. StoreRefused (world_of self.old) (world_of self.new) refusal) }
-        ensures state { IfOk result (λ store. store_of store ≡ store_at_opening self.old.stores spec.now) }
+        ensures state { IfOk result
+            (λ store. store_of store ≡ store_at_opening self.old.stores spec.now) }
         ensures fails { OpensAsPlanned self.old.stores spec.now result }
         ensures plans { self.new.plans ≡ self.old.plans }
     {
@@ -386,7 +402,8 @@ impl MemoryWorld {
         ensures only { OnlyBuilds (world_of self.old) (world_of self.new) }
         ensures rose { OnTrue result (Rose self.old.build_faults self.new.build_faults) }
         ensures fails { result ≡ fails_now self.old.plans.builds }
-        ensures plans { self.new.plans ≡ record self.old.plans { builds = after_call self.old.plans.builds } }
+        ensures plans { self.new.plans
+            ≡ record self.old.plans { builds = after_call self.old.plans.builds } }
         ensures quiet { AreQuiet self.old.plans → AreQuiet self.new.plans }
     {
         let fails = self.plans.builds.next();
@@ -409,7 +426,8 @@ impl MemoryWorld {
     pub fn say(&mut self, bytes: &[u8]) -> Result<(), SayRefusal>
         ensures says { Says (world_of self.old) (world_of self.new) bytes.now result }
         ensures fails { SayFails (fails_now self.old.plans.says) result }
-        ensures plans { self.new.plans ≡ record self.old.plans { says = after_call self.old.plans.says } }
+        ensures plans { self.new.plans
+            ≡ record self.old.plans { says = after_call self.old.plans.says } }
         ensures quiet { AreQuiet self.old.plans → AreQuiet self.new.plans }
     {
         if self.plans.says.next() {

@@ -55,4 +55,6 @@ FailsAsPlanned old new (Err e) = (refuses old.plan ≡ true) × (new ≡ after_n
 -- A call fails where the plan says so, where a write would end too far, and else where memory ran out.
 abbrev pub Fails : DiskCalls → DiskCalls → ℕ → Result Unit DiskFault → Type 0
 Fails old new end (Ok done) = (refuses old.plan ≡ false) × (new ≡ after_next old)
-Fails old new end (Err e) = ((refuses old.plan ≡ true) × (new ≡ after_next old)) ⊎ (((refuses old.plan ≡ false) × (2 ^ 63 ≤ end) × (new ≡ with_fault (after_next old))) ⊎ (new ≡ with_starved (after_next old)))
+Fails old new end (Err e) = ((refuses old.plan ≡ true) × (new ≡ after_next old))
+    ⊎ (((refuses old.plan ≡ false) × (2 ^ 63 ≤ end) × (new ≡ with_fault (after_next old)))
+    ⊎ (new ≡ with_starved (after_next old)))

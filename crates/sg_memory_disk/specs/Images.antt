@@ -27,8 +27,10 @@ NoneLost (Lost left ∷ earlier) = ⊥
 
 -- there are bytes for each write since the last sync, whose picks give this image
 abbrev pub IsPicked : List ℕ → List DiskEvent → List ℕ → Type 0
-IsPicked first events image = (put : ℕ → List ℕ) × ((picks : List Pick) → PutAll picks (unsynced events) put → picked picks first events ≡ image)
+IsPicked first events image = (put : ℕ → List ℕ)
+    × ((picks : List Pick) → PutAll picks (unsynced events) put → picked picks first events ≡ image)
 
 -- each image can be picked
 abbrev pub AllPicked : Type 0
-AllPicked = (first image : List ℕ) (events : List DiskEvent) → NoneLost events → IsLeft first events image → IsPicked first events image
+AllPicked = (first image : List ℕ) (events : List DiskEvent) → NoneLost events
+    → IsLeft first events image → IsPicked first events image

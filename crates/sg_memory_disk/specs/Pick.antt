@@ -11,7 +11,8 @@ pick_at picks number = unwrap_or (slice_get picks (min number (length picks - 1)
 
 -- these bytes in the range of a write of n bytes, and in the gap before it
 abbrev pub spliced : ℕ → ℕ → List ℕ → List ℕ → List ℕ
-spliced at n torn old = overlaid 0 (min at (length old)) (take (at + n - min at (length old)) torn) old
+spliced at n torn old = overlaid 0 (min at (length old)) (take (at + n - min at (length old)) torn)
+    old
 
 -- what a write of n bytes, or as many as there are, leaves by a pick
 abbrev pub laid : Pick → ℕ → ℕ → List ℕ → List ℕ → List ℕ
@@ -32,8 +33,10 @@ unsynced (Lost left ∷ earlier) = unsynced earlier
 -- what these events leave, by picks
 abbrev pub picked : List Pick → List ℕ → List DiskEvent → List ℕ
 picked picks first [] = first
-picked picks first (Wrote at bytes ∷ earlier) = laid (pick_at picks (unsynced earlier)) at (length bytes) bytes (picked picks first earlier)
-picked picks first (Tore at n bytes ∷ earlier) = laid (pick_at picks (unsynced earlier)) at n (take n bytes) (picked picks first earlier)
+picked picks first (Wrote at bytes ∷ earlier) = laid (pick_at picks (unsynced earlier)) at
+    (length bytes) bytes (picked picks first earlier)
+picked picks first (Tore at n bytes ∷ earlier) = laid (pick_at picks (unsynced earlier)) at n
+    (take n bytes) (picked picks first earlier)
 picked picks first (Synced ∷ earlier) = bytes_after first earlier
 picked picks first (Lost left ∷ earlier) = picked picks first earlier
 

@@ -99,21 +99,29 @@ abbrev pub AreStoresQuiet : MemoryStores → Type 0
 AreStoresQuiet stores = IsQuiet stores.opens × AreDisksQuiet stores.plans.items
 
 abbrev pub StoresOpen : MemoryStores → MemoryStores → StoreSpec → DiskState → Type 0
-StoresOpen old new spec store = (stores_of new ≡ with_opened (stores_of old) spec store) × (new.faults ≡ old.faults) × (store ≡ at_opening old spec)
+StoresOpen old new spec store = (stores_of new ≡ with_opened (stores_of old) spec store)
+    × (new.faults ≡ old.faults) × (store ≡ at_opening old spec)
 
 -- a failure is counted
 abbrev pub StoresRefuse : MemoryStores → MemoryStores → OpenRefusal → Type 0
-StoresRefuse old new Failed = (stores_of new ≡ stores_of old) × (new.names.items ≡ old.names.items) × (old.faults ≤ new.faults) × Rose old.faults new.faults
-StoresRefuse old new NoMemory = (stores_of new ≡ stores_of old) × (new.names.items ≡ old.names.items) × (new.faults ≡ old.faults)
+StoresRefuse old new Failed = (stores_of new ≡ stores_of old) × (new.names.items ≡ old.names.items)
+    × (old.faults ≤ new.faults) × Rose old.faults new.faults
+StoresRefuse old new NoMemory = (stores_of new ≡ stores_of old)
+    × (new.names.items ≡ old.names.items) × (new.faults ≡ old.faults)
 
 -- A store is opened over a disk of this state, and is there from then on.
-abbrev pub Begins : MemoryStores → MemoryStores → StoreSpec → Bool → DiskState → Result MemoryStore AllocError → Type 0
-Begins old new spec there disk (Ok store) = (stores_of new ≡ with_opened (stores_of old) spec disk) × (new.faults ≡ old.faults) × (new.opens ≡ old.opens) × (store_of store ≡ disk) × (new.names.items ≡ (if there then old.names.items else spec.name ∷ old.names.items))
-Begins old new spec there disk (Err e) = (stores_of new ≡ stores_of old) × (new.faults ≡ old.faults) × (new.opens ≡ old.opens) × (new.names.items ≡ old.names.items)
+abbrev pub Begins : MemoryStores → MemoryStores → StoreSpec → Bool → DiskState
+    → Result MemoryStore AllocError → Type 0
+Begins old new spec there disk (Ok store) = (stores_of new ≡ with_opened (stores_of old) spec disk)
+    × (new.faults ≡ old.faults) × (new.opens ≡ old.opens) × (store_of store ≡ disk)
+    × (new.names.items ≡ (if there then old.names.items else spec.name ∷ old.names.items))
+Begins old new spec there disk (Err e) = (stores_of new ≡ stores_of old) × (new.faults ≡ old.faults)
+    × (new.opens ≡ old.opens) × (new.names.items ≡ old.names.items)
 
 -- An opening fails where the plan says so, where a store is missing that isn't to be made, and where one is open.
 abbrev pub is_refused : MemoryStores → StoreSpec → Bool
-is_refused stores spec = fails_now stores.opens || (is_none (found stores spec) && (is_shelved stores.names.items spec.name || not spec.create))
+is_refused stores spec = fails_now stores.opens
+    || (is_none (found stores spec) && (is_shelved stores.names.items spec.name || not spec.create))
 
 abbrev pub OpensAsPlanned : MemoryStores → StoreSpec → Result MemoryStore OpenRefusal → Type 0
 OpensAsPlanned old spec (Ok store) = is_refused old spec ≡ false

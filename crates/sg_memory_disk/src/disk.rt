@@ -54,7 +54,8 @@ impl MemoryDisk {
 
     /// From now on so many calls pass, but for those that fail anyway, and every later one fails.
     pub fn stop_after(&mut self, calls: u64)
-        ensures left { self.new.calls ≡ record self.old.calls { plan = record self.old.calls.plan { left = Some calls } } }
+        ensures left { self.new.calls
+            ≡ record self.old.calls { plan = record self.old.calls.plan { left = Some calls } } }
         ensures state { disk_of self.new ≡ disk_of self.old }
     {
         self.calls.plan.left = Some(calls);
@@ -176,8 +177,12 @@ fn write(
     from: &[u8],
 ) -> Result<(), AllocError>
     requires { at + length from.now < 2 ^ 63 }
-    ensures bytes { MatchResult result (λ _. bytes.new.items ≡ overwritten at from.now bytes.old.items) (λ _. bytes.new.items ≡ bytes.old.items) }
-    ensures events { MatchResult result (λ _. events_of [] changes.new.items ≡ Wrote at from.now ∷ events_of [] changes.old.items) (λ _. changes.new.items ≡ changes.old.items) }
+    ensures bytes { MatchResult result
+        (λ _. bytes.new.items ≡ overwritten at from.now bytes.old.items)
+        (λ _. bytes.new.items ≡ bytes.old.items) }
+    ensures events { MatchResult result
+        (λ _. events_of [] changes.new.items ≡ Wrote at from.now ∷ events_of [] changes.old.items)
+        (λ _. changes.new.items ≡ changes.old.items) }
 {
     let change = DiskChange::Wrote(Written {
         at,
@@ -196,8 +201,12 @@ pub(crate) fn put(
     from: &[u8],
 ) -> Result<(), AllocError>
     requires { at + length from.now < 2 ^ 63 }
-    ensures bytes { MatchResult result (λ _. bytes.new.items ≡ overwritten at from.now bytes.old.items) (λ _. bytes.new.items ≡ bytes.old.items) }
-    ensures events { MatchResult result (λ _. events_of [] changes.new.items ≡ event_of change ∷ events_of [] changes.old.items) (λ _. changes.new.items ≡ changes.old.items) }
+    ensures bytes { MatchResult result
+        (λ _. bytes.new.items ≡ overwritten at from.now bytes.old.items)
+        (λ _. bytes.new.items ≡ bytes.old.items) }
+    ensures events { MatchResult result
+        (λ _. events_of [] changes.new.items ≡ event_of change ∷ events_of [] changes.old.items)
+        (λ _. changes.new.items ≡ changes.old.items) }
 {
     let size = bytes.len();
     let start = at as usize;
@@ -212,7 +221,9 @@ pub(crate) fn put(
 
 // One change more, where there is memory for it.
 pub(crate) fn add(changes: &mut Vec<DiskChange>, change: DiskChange) -> Result<(), AllocError>
-    ensures { MatchResult result (λ _. events_of [] changes.new.items ≡ event_of change ∷ events_of [] changes.old.items) (λ _. changes.new.items ≡ changes.old.items) }
+    ensures { MatchResult result
+        (λ _. events_of [] changes.new.items ≡ event_of change ∷ events_of [] changes.old.items)
+        (λ _. changes.new.items ≡ changes.old.items) }
 {
     changes.push(change)?;
     Ok(())

@@ -14,7 +14,8 @@ impl MemoryDisk {
     /// The image that a crash now may leave by a pick for each write since the last sync, in order; the
     /// last pick counts for those behind it too, and where there is none nothing was written.
     pub fn image(&self, picks: &[Pick]) -> Result<Vec<u8>, NoMemory>
-        ensures picked { IfOk result (λ bytes. bytes.items ≡ picked picks.now self.now.first.items (events_of [] self.now.changes.items)) }
+        ensures picked { IfOk result (λ bytes. bytes.items
+            ≡ picked picks.now self.now.first.items (events_of [] self.now.changes.items)) }
         ensures image { IfOk result (λ bytes. IsImage (disk_of self.now) bytes.items) }
     {
         let mut bytes = self.first.to_vec(self.alloc)?;
@@ -49,7 +50,8 @@ fn replay(
     alloc: Global,
     change: &DiskChange,
 ) -> Result<(), AllocError>
-    ensures { OnOk result (image.new.items ≡ replayed (pick_at picks.now number) (event_of change.now) bytes.now image.old.items) }
+    ensures { OnOk result (image.new.items
+        ≡ replayed (pick_at picks.now number) (event_of change.now) bytes.now image.old.items) }
 {
     match change {
         DiskChange::Wrote(written) => {

@@ -14,7 +14,8 @@ impl MemoryDisk {
     // What a write that fails leaves.
     pub(crate) fn tear(&mut self, at: u64, from: &[u8])
         ensures told { Tears self.old self.new at (length from.now) }
-        ensures calls { (self.new.calls ≡ self.old.calls) ⊎ (self.new.calls ≡ with_starved self.old.calls) }
+        ensures calls { (self.new.calls ≡ self.old.calls)
+            ⊎ (self.new.calls ≡ with_starved self.old.calls) }
     {
         if at >= 1 << 63 || from.len() as u64 >= (1 << 63) - at {
             return;
@@ -51,7 +52,8 @@ impl MemoryDisk {
     // What a sync that fails leaves to be read.
     pub(crate) fn lose(&mut self)
         ensures told { Loses self.old self.new }
-        ensures calls { (self.new.calls ≡ self.old.calls) ⊎ (self.new.calls ≡ with_starved self.old.calls) }
+        ensures calls { (self.new.calls ≡ self.old.calls)
+            ⊎ (self.new.calls ≡ with_starved self.old.calls) }
     {
         if self.calls.plan.tears.is_empty() {
             return;
@@ -95,8 +97,12 @@ fn tear_over(
 ) -> Result<(), AllocError>
     requires whole { at + size < 2 ^ 63 }
     requires fits { length torn.now ≤ size }
-    ensures bytes { MatchResult result (λ _. bytes.new.items ≡ overwritten at torn.now bytes.old.items) (λ _. bytes.new.items ≡ bytes.old.items) }
-    ensures events { MatchResult result (λ _. events_of [] changes.new.items ≡ Tore at size torn.now ∷ events_of [] changes.old.items) (λ _. changes.new.items ≡ changes.old.items) }
+    ensures bytes { MatchResult result
+        (λ _. bytes.new.items ≡ overwritten at torn.now bytes.old.items)
+        (λ _. bytes.new.items ≡ bytes.old.items) }
+    ensures events { MatchResult result (λ _. events_of [] changes.new.items
+        ≡ Tore at size torn.now ∷ events_of [] changes.old.items)
+        (λ _. changes.new.items ≡ changes.old.items) }
 {
     let change = DiskChange::Tore(TornWrite {
         at,
@@ -114,8 +120,11 @@ fn lose_to(
     changes: &mut Vec<DiskChange>,
     left: Vec<u8>,
 ) -> Result<(), AllocError>
-    ensures bytes { MatchResult result (λ _. bytes.new.items ≡ left.items) (λ _. bytes.new.items ≡ bytes.old.items) }
-    ensures events { MatchResult result (λ _. events_of [] changes.new.items ≡ Lost left.items ∷ events_of [] changes.old.items) (λ _. changes.new.items ≡ changes.old.items) }
+    ensures bytes { MatchResult result (λ _. bytes.new.items ≡ left.items)
+        (λ _. bytes.new.items ≡ bytes.old.items) }
+    ensures events { MatchResult result
+        (λ _. events_of [] changes.new.items ≡ Lost left.items ∷ events_of [] changes.old.items)
+        (λ _. changes.new.items ≡ changes.old.items) }
 {
     let copy = left.to_vec(alloc)?;
     add(changes, DiskChange::Lost(copy))?;

@@ -8,7 +8,9 @@ use std::alloc::AllocError;
 
 /// Makes the bytes reach this end, where they don't, by bytes of this kind.
 pub fn grow(bytes: &mut Vec<u8>, end: usize, byte: u8) -> Result<(), AllocError>
-    ensures { MatchResult result (λ _. bytes.new.items ≡ bytes.old.items ++ replicate (end - length bytes.old.items) byte) (λ _. bytes.new.items ≡ bytes.old.items) }
+    ensures { MatchResult result
+        (λ _. bytes.new.items ≡ bytes.old.items ++ replicate (end - length bytes.old.items) byte)
+        (λ _. bytes.new.items ≡ bytes.old.items) }
 {
     let size = bytes.len();
     if end <= size {
@@ -21,7 +23,8 @@ pub fn grow(bytes: &mut Vec<u8>, end: usize, byte: u8) -> Result<(), AllocError>
 /// Copies over the bytes at this place.
 pub fn copy_over(bytes: &mut [u8], start: usize, from: &[u8])
     requires { start + length from.now ≤ length bytes.old }
-    ensures { bytes.new ≡ take start bytes.old ++ from.now ++ drop (start + length from.now) bytes.old }
+    ensures { bytes.new
+        ≡ take start bytes.old ++ from.now ++ drop (start + length from.now) bytes.old }
 {
     bytes[start..start + from.len()].copy_from_slice(from);
 }
@@ -37,7 +40,8 @@ pub fn lay(
 ) -> Result<(), AllocError>
     requires whole { at + size < 2 ^ 63 }
     requires fits { length from.now ≤ size }
-    ensures { OnOk result (into.new.items ≡ laid (pick_at picks.now number) at size from.now into.old.items) }
+    ensures { OnOk result
+        (into.new.items ≡ laid (pick_at picks.now number) at size from.now into.old.items) }
 {
     let start = at as usize;
     let count = size as usize;
@@ -64,7 +68,8 @@ pub fn overlay(into: &mut Vec<u8>, start: usize, from: &[u8]) -> Result<(), Allo
 // Writes this byte so many times, and into a gap behind the old end.
 fn fill(into: &mut Vec<u8>, start: usize, count: usize, byte: u8) -> Result<(), AllocError>
     requires { start + count < 2 ^ 63 }
-    ensures { OnOk result (into.new.items ≡ overlaid byte start (replicate count byte) into.old.items) }
+    ensures { OnOk result
+        (into.new.items ≡ overlaid byte start (replicate count byte) into.old.items) }
 {
     grow(into, start + count, byte)?;
     fill_over(into, start, count, byte);
@@ -74,7 +79,8 @@ fn fill(into: &mut Vec<u8>, start: usize, count: usize, byte: u8) -> Result<(), 
 // Writes this byte over the bytes at this place.
 fn fill_over(bytes: &mut [u8], start: usize, count: usize, byte: u8)
     requires { start + count ≤ length bytes.old }
-    ensures { bytes.new ≡ take start bytes.old ++ replicate count byte ++ drop (start + count) bytes.old }
+    ensures { bytes.new
+        ≡ take start bytes.old ++ replicate count byte ++ drop (start + count) bytes.old }
 {
     bytes[start..start + count].fill(byte);
 }

@@ -112,9 +112,11 @@ impl MemoryStores {
 
     /// Puts a closed store there, as an earlier run may have left it.
     pub fn put(&mut self, alloc: Global, name: &[u8], disk: MemoryDisk) -> Result<(), NoMemory>
-        ensures closed { OnOk result (stores_of self.new ≡ with_closed (stores_of self.old) (disk_of disk)) }
+        ensures closed { OnOk result
+            (stores_of self.new ≡ with_closed (stores_of self.old) (disk_of disk)) }
         ensures shelf { OnOk result (self.new.names.items ≡ name.now ∷ self.old.names.items) }
-        ensures err { OnErr result ((stores_of self.new ≡ stores_of self.old) × (self.new.names.items ≡ self.old.names.items)) }
+        ensures err { OnErr result ((stores_of self.new ≡ stores_of self.old)
+            × (self.new.names.items ≡ self.old.names.items)) }
         ensures faults { self.new.faults ≡ self.old.faults }
         ensures opens { self.new.opens ≡ self.old.opens }
         ensures plans { self.new.plans ≡ self.old.plans }
@@ -133,10 +135,12 @@ impl MemoryStores {
         ensures opened { MatchResult result
             (λ store. StoresOpen self.old self.new spec.now (store_of store))
             (λ refusal. StoresRefuse self.old self.new refusal) }
-        ensures shelf { IfOk result (λ store. IsShelved self.old.names.items spec.now (store_of store) self.new.names.items) }
+        ensures shelf { IfOk result (λ store. IsShelved self.old.names.items spec.now
+            (store_of store) self.new.names.items) }
         ensures fails { OpensAsPlanned self.old spec.now result }
         ensures opens { self.new.opens ≡ after_call self.old.opens }
-        ensures plan { IfOk result (λ store. first_plan self.old.plans.items store.disk.calls.plan) }
+        ensures plan { IfOk result
+            (λ store. first_plan self.old.plans.items store.disk.calls.plan) }
         ensures quiet { AreDisksQuiet self.old.plans.items → AreDisksQuiet self.new.plans.items }
     {
         let fails = self.opens.next();
@@ -155,7 +159,8 @@ impl MemoryStores {
 
     // The disk of a store that is there, as it was closed last.
     fn last(&self, there: bool, name: &Name) -> Option<&MemoryDisk>
-        ensures { option_map (λ disk. disk_of disk.now) result ≡ (if there then latest_state self.now.closed name.now else None) }
+        ensures { option_map (λ disk. disk_of disk.now) result
+            ≡ (if there then latest_state self.now.closed name.now else None) }
     {
         if !there {
             return None;
@@ -175,7 +180,8 @@ impl MemoryStores {
         there: bool,
     ) -> Result<MemoryStore, NoMemory>
         ensures begun { Begins self.old self.new spec.now there (disk_of disk) result }
-        ensures plan { IfOk result (λ store. first_plan self.old.plans.items store.disk.calls.plan) }
+        ensures plan { IfOk result
+            (λ store. first_plan self.old.plans.items store.disk.calls.plan) }
         ensures quiet { AreDisksQuiet self.old.plans.items → AreDisksQuiet self.new.plans.items }
     {
         let opened = OpenedStore {

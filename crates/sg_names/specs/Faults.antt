@@ -20,7 +20,8 @@ use Rattle.sg_names.specs.Limits.{part_limits, total_faults}
 
 -- the size of each filter statement's expression, with those of the filters that it names
 abbrev pub AreSizes : Filters → List ℕ → Type 0
-AreSizes filters sizes = (length sizes ≡ length filters.links) × ((i : ℕ) → slice_index sizes i ≡ min most (size_of filters.links filters.own i))
+AreSizes filters sizes = (length sizes ≡ length filters.links)
+    × ((i : ℕ) → slice_index sizes i ≡ min most (size_of filters.links filters.own i))
 
 abbrev pub cycle_at : Option Line → Option Placed
 cycle_at None = None
@@ -28,20 +29,25 @@ cycle_at (Some line) = Some (record { kind = FilterCycle; line = line })
 
 -- an expression that is too large, or with which all become so
 abbrev pub limits : Names → List ℕ → List Statement → List Part → Option Placed
-limits names sizes statements parts = earlier (least (flat_map (part_limits sizes) parts)) (least (total_faults sizes (rewrite_sizes names sizes statements) 0 parts))
+limits names sizes statements parts = earlier (least (flat_map (part_limits sizes) parts))
+    (least (total_faults sizes (rewrite_sizes names sizes statements) 0 parts))
 
 -- Sizes are looked at where no filter refers to itself.
-abbrev pub HasRest : Names → Filters → List Statement → List Part → Option ℕ → Option Placed → Type 0
+abbrev pub HasRest : Names → Filters → List Statement → List Part → Option ℕ → Option Placed
+    → Type 0
 HasRest names filters statements parts (Some i) fault = fault ≡ cycle_at (slice_get filters.lines i)
-HasRest names filters statements parts None fault = (sizes : List ℕ) × AreSizes filters sizes × (fault ≡ limits names sizes statements parts)
+HasRest names filters statements parts None fault = (sizes : List ℕ) × AreSizes filters sizes
+    × (fault ≡ limits names sizes statements parts)
 
 -- the first filter statement that refers to itself, if any, and what else is wrong then
 abbrev pub IsRest : Names → Filters → List Statement → List Part → Option Placed → Type 0
-IsRest names filters statements parts fault = (cycle : Option ℕ) × IsFirstOnCycle filters.links cycle × HasRest names filters statements parts cycle fault
+IsRest names filters statements parts fault = (cycle : Option ℕ)
+    × IsFirstOnCycle filters.links cycle × HasRest names filters statements parts cycle fault
 
 -- the first of all that is wrong
 abbrev pub IsNamesFault : List Statement → Option Placed → Type 0
 IsNamesFault statements fault =
     let names = names_of statements in
     let parts = parts_of names statements in
-    (rest : Option Placed) × IsRest names (filters_of names statements) statements parts rest × (fault ≡ earlier (earlier (repeated statements) (least (unknown parts))) rest)
+    (rest : Option Placed) × IsRest names (filters_of names statements) statements parts rest
+    × (fault ≡ earlier (earlier (repeated statements) (least (unknown parts))) rest)

@@ -36,7 +36,8 @@ unfoldable pub conditions_in : Names → Arg → List (List Term)
 conditions_in names arg = options_at names (out-Arg arg)
 
 unfoldable pub rewrite_part : Names → Call → Part
-rewrite_part names call = part.Rewrite (spot_line (out-Call call).word) (flat_map (conditions_in names) (out-Call call).args)
+rewrite_part names call = part.Rewrite (spot_line (out-Call call).word)
+    (flat_map (conditions_in names) (out-Call call).args)
 
 abbrev pub object_parts : Names → Object → List Part
 object_parts names (object.Filter name expr) = part.Expression (terms_of names expr) ∷ []

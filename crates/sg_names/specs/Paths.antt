@@ -27,7 +27,8 @@ parts_if (Some parts) = all_parts parts
 -- one layer, with the parts of what it holds in its place
 abbrev pub element_step : Names → RawElement-F Parts Parts Parts → Parts
 element_step names (RawElement-F.Source word source) = reference_parts names kind.Source source
-element_step names (RawElement-F.Destination destination) = reference_parts names kind.Destination destination
+element_step names (RawElement-F.Destination destination) = reference_parts names kind.Destination
+    destination
 element_step names (RawElement-F.Filter filter) = reference_parts names kind.Filter filter
 element_step names (RawElement-F.Rewrite rewrite) = reference_parts names kind.Rewrite rewrite
 element_step names (RawElement-F.Junction channels) = all_parts channels
@@ -40,13 +41,15 @@ abbrev pub branch_step : Names → RawBranch-F Parts Parts Parts → Parts
 branch_step names branch = part.Expression (terms_of names branch.test) ∷ all_parts branch.elements
 
 unfoldable pub element_parts : Names → RawElement → Parts
-element_parts names = fold-RawElement Parts Parts Parts (element_step names) (branch_step names) log_step
+element_parts names = fold-RawElement Parts Parts Parts (element_step names) (branch_step names)
+    log_step
 
 unfoldable pub log_parts : Names → RawLog → Parts
 log_parts names = fold-RawLog Parts Parts Parts (element_step names) (branch_step names) log_step
 
 unfoldable pub branch_parts : Names → RawBranch → Parts
-branch_parts names = fold-RawBranch Parts Parts Parts (element_step names) (branch_step names) log_step
+branch_parts names = fold-RawBranch Parts Parts Parts (element_step names) (branch_step names)
+    log_step
 
 abbrev pub other_parts : Names → Option (List RawElement) → Parts
 other_parts names None = []

@@ -30,7 +30,8 @@ entered_if register (Some spot) = entered register spot
 -- with all statements of a kind
 abbrev pub registered : NameKind → Register → List Statement → Register
 registered kind register [] = register
-registered kind register (statement ∷ statements) = registered kind (entered_if register (name_of kind statement)) statements
+registered kind register (statement ∷ statements) = registered kind
+    (entered_if register (name_of kind statement)) statements
 
 -- "name defined twice": at the name of a statement where one before has it
 abbrev pub repeat_of : Register → Spot → List Placed
@@ -44,7 +45,8 @@ repeat_if register (Some spot) = repeat_of register spot
 abbrev pub repeats : NameKind → Register → List Statement → List Placed
 repeats kind register [] = []
 repeats kind register (statement ∷ statements) =
-    repeat_if register (name_of kind statement) ++ repeats kind (entered_if register (name_of kind statement)) statements
+    repeat_if register (name_of kind statement)
+    ++ repeats kind (entered_if register (name_of kind statement)) statements
 
 -- ---- all kinds
 
@@ -64,7 +66,9 @@ first_repeat statements kind = least (repeats kind empty_register statements)
 unfoldable pub repeated : List Statement → Option Placed
 repeated statements =
     earlier
-    (earlier (earlier (first_repeat statements kind.Source) (first_repeat statements kind.Destination)) (earlier (first_repeat statements kind.Filter) (first_repeat statements kind.Rewrite)))
+    (earlier
+    (earlier (first_repeat statements kind.Source) (first_repeat statements kind.Destination))
+    (earlier (first_repeat statements kind.Filter) (first_repeat statements kind.Rewrite)))
     (first_repeat statements kind.Template)
 
 abbrev pub register_of : Names → NameKind → Register

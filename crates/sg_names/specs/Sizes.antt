@@ -40,7 +40,8 @@ part_size sizes rewrites (part.Rewrites reference) = size_at rewrites reference.
 part_size sizes rewrites (part.End reference) = 0
 
 abbrev pub object_sizes : Names → List ℕ → List ℕ → Object → List ℕ
-object_sizes names sizes found (object.Rewrite name calls) = found ++ capped (sum_by (part_size sizes []) (map (rewrite_part names) calls)) ∷ []
+object_sizes names sizes found (object.Rewrite name calls) = found
+    ++ capped (sum_by (part_size sizes []) (map (rewrite_part names) calls)) ∷ []
 object_sizes names sizes found _ = found
 
 abbrev pub statement_sizes : Names → List ℕ → List ℕ → Statement → List ℕ

@@ -35,7 +35,8 @@ plain_term spot = record { line = spot_line spot; filter = None }
 unfoldable pub call_term : Names → Call → Term
 call_term names call =
     if is_keyword (codes "filter") (out-Call call).word.token
-    then record { line = spot_line (out-Call call).word; filter = filter_in names (out-Call call).args }
+    then record
+    { line = spot_line (out-Call call).word; filter = filter_in names (out-Call call).args }
     else plain_term (out-Call call).word
 
 -- one layer, with each part beside its terms
@@ -51,4 +52,5 @@ terms_step names (RawExpr-F.Not term) = term.1
 
 -- in the order of the text
 unfoldable pub terms_of : Names → RawExpr → List Term
-terms_of names = para-RawExpr (Unit {0}) (List Term) (Unit {0}) (λ a. tt) (terms_step names) (λ c. tt)
+terms_of names = para-RawExpr (Unit {0}) (List Term) (Unit {0}) (λ a. tt) (terms_step names)
+    (λ c. tt)

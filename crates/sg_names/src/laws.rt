@@ -6,5 +6,6 @@ ghost use Rattle.sg_names.specs.Faults.{IsNamesFault};
 
 /// What is wrong with the names of a configuration is one thing at most.
 pub fn names_have_one_fault()
-    ensures { (statements : List Statement) (fault other : Option Placed) → IsNamesFault statements fault → IsNamesFault statements other → fault ≡ other }
+    ensures { (statements : List Statement) (fault other : Option Placed)
+        → IsNamesFault statements fault → IsNamesFault statements other → fault ≡ other }
 {}

@@ -85,7 +85,8 @@ fn push_elements(
     elements: &[RawElement],
     found: &mut Items<Part>,
 ) -> Result<(), AllocError>
-    ensures { OnOk result (found.new ≡ found.old ++ flat_map (element_parts names.now) elements.now) }
+    ensures { OnOk result
+        (found.new ≡ found.old ++ flat_map (element_parts names.now) elements.now) }
 {
     for element in elements {
         push_element(alloc, names, element, found)?;
@@ -100,7 +101,8 @@ fn push_branches(
     branches: &[RawBranch],
     found: &mut Items<Part>,
 ) -> Result<(), AllocError>
-    ensures { OnOk result (found.new ≡ found.old ++ flat_map (branch_parts names.now) branches.now) }
+    ensures { OnOk result
+        (found.new ≡ found.old ++ flat_map (branch_parts names.now) branches.now) }
 {
     for branch in branches {
         push_branch(alloc, names, branch, found)?;

@@ -60,8 +60,10 @@ fn enter_if(
     name: Option<&Spot>,
 ) -> Result<Option<Placed>, AllocError>
     requires { register.old.count + 1 < 2 ^ 32 }
-    ensures entered { OnOk result (register.new ≡ entered_if register.old (option_copied name.entry)) }
-    ensures repeats { IfOk result (λ fault. fault ≡ least (repeat_if register.old (option_copied name.entry))) }
+    ensures entered { OnOk result
+        (register.new ≡ entered_if register.old (option_copied name.entry)) }
+    ensures repeats { IfOk result
+        (λ fault. fault ≡ least (repeat_if register.old (option_copied name.entry))) }
 {
     match name {
         Some(spot) => {

@@ -99,7 +99,8 @@ fn push_size(
     calls: &[Call],
     found: &mut Items<u64>,
 ) -> Result<(), AllocError>
-    ensures { OnOk result (found.new ≡ found.old ++ capped (sum_by (part_size sizes.now []) (map (rewrite_part names.now) calls.now)) ∷ []) }
+    ensures { OnOk result (found.new ≡ found.old
+        ++ capped (sum_by (part_size sizes.now []) (map (rewrite_part names.now) calls.now)) ∷ []) }
 {
     let parts = rewrites_of(alloc, names, calls)?;
     found.push(parts_size(sizes, parts.as_slice()))?;
@@ -113,7 +114,8 @@ fn push_statement(
     statement: &Statement,
     found: &mut Items<u64>,
 ) -> Result<(), AllocError>
-    ensures { OnOk result (found.new ≡ statement_sizes names.now sizes.now found.old statement.now) }
+    ensures { OnOk result
+        (found.new ≡ statement_sizes names.now sizes.now found.old statement.now) }
 {
     match statement {
         Statement::Object(Object::Rewrite { calls, .. }) => {

@@ -22,13 +22,16 @@ fails_at fails d = option_map_or (λ b. b) (slice_get fails d) false
 
 -- the verdict of an offer, which is to a destination that is there
 abbrev pub verdict_at : List Bool → List SinkState → Offer → Verdict
-verdict_at fails sinks offer = option_map_or (λ sink. verdict_of (fails_at fails offer.dest) sink offer) (slice_get sinks offer.dest) DroppedFull
+verdict_at fails sinks offer =
+    option_map_or (λ sink. verdict_of (fails_at fails offer.dest) sink offer)
+    (slice_get sinks offer.dest) DroppedFull
 
 -- its destination behind it
 abbrev pub offered_by : List Bool → ℕ → ℕ → Claim → SinkState → SinkState
 offered_by fails i next c sink =
     let fail = fails_at fails c.offer.dest in
-    offered fail i (next + c.place) c.offer (block_of_offer sink.setup.buffer i c.end c.offer) (verdict_of fail sink c.offer) sink
+    offered fail i (next + c.place) c.offer (block_of_offer sink.setup.buffer i c.end c.offer)
+    (verdict_of fail sink c.offer) sink
 
 abbrev pub sinks_then : List Bool → ℕ → ℕ → List SinkState → Claim → List SinkState
 sinks_then fails i next sinks c = change sinks c.offer.dest (offered_by fails i next c)
@@ -36,12 +39,14 @@ sinks_then fails i next sinks c = change sinks c.offer.dest (offered_by fails i 
 -- the destinations behind all these offers
 abbrev pub sinks_after : List Bool → ℕ → ℕ → List SinkState → List Claim → List SinkState
 sinks_after fails i next sinks [] = sinks
-sinks_after fails i next sinks (c ∷ cs) = sinks_after fails i next (sinks_then fails i next sinks c) cs
+sinks_after fails i next sinks (c ∷ cs) = sinks_after fails i next (sinks_then fails i next sinks c)
+    cs
 
 -- the verdicts of all these offers, each judged after the ones before
 abbrev pub verdicts_from : List Bool → ℕ → ℕ → List SinkState → List Claim → List Verdict
 verdicts_from fails i next sinks [] = []
-verdicts_from fails i next sinks (c ∷ cs) = verdict_at fails sinks c.offer ∷ verdicts_from fails i next (sinks_then fails i next sinks c) cs
+verdicts_from fails i next sinks (c ∷ cs) = verdict_at fails sinks c.offer
+    ∷ verdicts_from fails i next (sinks_then fails i next sinks c) cs
 
 -- the store that fails at an offer to this destination
 abbrev pub failing_by : Option BufferSetup → Bool → List ℕ
@@ -49,12 +54,15 @@ failing_by None fails = []
 failing_by (Some buffer) fails = if fails then buffer.store ∷ [] else []
 
 abbrev pub failing_at : List Bool → List SinkState → Offer → List ℕ
-failing_at fails sinks offer = option_map_or (λ sink. failing_by sink.setup.buffer (fails_at fails offer.dest && would_spool sink offer)) (slice_get sinks offer.dest) []
+failing_at fails sinks offer = option_map_or
+    (λ sink. failing_by sink.setup.buffer (fails_at fails offer.dest && would_spool sink offer))
+    (slice_get sinks offer.dest) []
 
 -- the stores that fail, each at the first offer that it would spool
 abbrev pub failing_in : List Bool → ℕ → ℕ → List SinkState → List Claim → List ℕ
 failing_in fails i next sinks [] = []
-failing_in fails i next sinks (c ∷ cs) = failing_at fails sinks c.offer ++ failing_in fails i next (sinks_then fails i next sinks c) cs
+failing_in fails i next sinks (c ∷ cs) = failing_at fails sinks c.offer
+    ++ failing_in fails i next (sinks_then fails i next sinks c) cs
 
 -- a destination with its room behind an offer with this block and verdict, or behind one of a batch
 abbrev pub spent : Bool → ℕ → ℕ → Offer → Option (List ℕ) → Verdict → Sunk → Sunk
@@ -68,7 +76,8 @@ spent_then fails i next sinks c = change sinks c.offer.dest (spent_by fails i ne
 
 abbrev pub spent_after : List Bool → ℕ → ℕ → List Sunk → List Claim → List Sunk
 spent_after fails i next sinks [] = sinks
-spent_after fails i next sinks (c ∷ cs) = spent_after fails i next (spent_then fails i next sinks c) cs
+spent_after fails i next sinks (c ∷ cs) = spent_after fails i next (spent_then fails i next sinks c)
+    cs
 
 -- records with these verdicts of their offers, each with the acknowledgements that it needs
 abbrev pub begun_of : List Admission → List Verdict → List Record
@@ -79,7 +88,9 @@ begun_of (r ∷ rs) vs = record { end = r.end; left = owing r.offers (take (leng
 abbrev pub AreBlocks : ℕ → List (Option BufferSetup) → List Claim → List Payload → Type 0
 AreBlocks i buffers [] ps = Unit {0}
 AreBlocks i buffers (c ∷ cs) [] = ⊥
-AreBlocks i buffers (c ∷ cs) (p ∷ ps) = (p.block ≡ block_of_offer (buffer_at buffers c.offer.dest) i c.end c.offer) × AreBlocks i buffers cs ps
+AreBlocks i buffers (c ∷ cs) (p ∷ ps) =
+    (p.block ≡ block_of_offer (buffer_at buffers c.offer.dest) i c.end c.offer)
+    × AreBlocks i buffers cs ps
 
 abbrev pub first_block : List Payload → Option (List ℕ)
 first_block [] = None

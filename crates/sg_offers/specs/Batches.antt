@@ -22,7 +22,8 @@ buffer_in dests d = option_and_then (λ dest. store_of dest) (slice_get dests d)
 
 -- no store is that of two disk-buffers
 abbrev pub AreBuffersApart : List Dest → Type 0
-AreBuffersApart dests = (d e s : ℕ) → buffer_in dests d ≡ Some s → buffer_in dests e ≡ Some s → d ≡ e
+AreBuffersApart dests = (d e s : ℕ) → buffer_in dests d ≡ Some s → buffer_in dests e ≡ Some s
+    → d ≡ e
 
 -- d has a disk-buffer, whose store works, and which takes an offer of the batch, so that the store may fail
 pub record WouldFail (i : ℕ) (sinks : List SinkState) (claims : List Claim) (d : ℕ) : Type 0 where

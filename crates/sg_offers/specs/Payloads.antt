@@ -59,9 +59,11 @@ payload_of i end buffers trials offer = record {
   taken = takes_offer offer (trial_at trials offer.dest);
 }
 
-abbrev pub payloads_from : ℕ → List (Option BufferSetup) → List (Option Trial) → List Claim → List Payload
+abbrev pub payloads_from : ℕ → List (Option BufferSetup) → List (Option Trial) → List Claim
+    → List Payload
 payloads_from i buffers trials [] = []
-payloads_from i buffers trials (c ∷ cs) = payload_of i c.end buffers trials c.offer ∷ payloads_from i buffers (trials_then trials c.offer) cs
+payloads_from i buffers trials (c ∷ cs) = payload_of i c.end buffers trials c.offer
+    ∷ payloads_from i buffers (trials_then trials c.offer) cs
 
 -- the payloads of all offers of a batch, in order, each tried after the ones before
 abbrev pub payloads_of : ℕ → List SinkState → List Claim → List Payload
@@ -76,20 +78,25 @@ taken_at d i (c ∷ cs) (p ∷ ps) = if p.dest == d && p.taken then kept_from i 
 -- each of these entries fits behind the ones before, where so much is taken before the first
 abbrev pub FitAll : ℕ → ℕ → List Kept → Type 0
 FitAll capacity used [] = Unit {0}
-FitAll capacity used (k ∷ ks) = (has_space capacity used (encoded_len k.message) ≡ true) × FitAll capacity (used + (5 + encoded_len k.message)) ks
+FitAll capacity used (k ∷ ks) = (has_space capacity used (encoded_len k.message) ≡ true)
+    × FitAll capacity (used + (5 + encoded_len k.message)) ks
 
 -- an offer's entry that has a block can be spelled
 abbrev pub AllKept : ℕ → List (Option BufferSetup) → List Claim → Type 0
 AllKept i buffers [] = Unit {0}
-AllKept i buffers (c ∷ cs) = (IsSome (block_of_offer (buffer_at buffers c.offer.dest) i c.end c.offer) → IsKept (kept_of_offer i c.end c.offer)) × AllKept i buffers cs
+AllKept i buffers (c ∷ cs) = (
+    IsSome (block_of_offer (buffer_at buffers c.offer.dest) i c.end c.offer)
+    → IsKept (kept_of_offer i c.end c.offer)) × AllKept i buffers cs
 
 -- no disk-buffer has a capacity above 2^30
 abbrev pub AreSmall : List (Option BufferSetup) → Type 0
-AreSmall buffers = (d : ℕ) (buffer : BufferSetup) → buffer_at buffers d ≡ Some buffer → buffer.capacity ≤ 2 ^ 30
+AreSmall buffers = (d : ℕ) (buffer : BufferSetup) → buffer_at buffers d ≡ Some buffer
+    → buffer.capacity ≤ 2 ^ 30
 
 -- where the payload is taken, its block is that of the offer's entry
 abbrev pub IsSpelled : ℕ → Claim → Payload → Type 0
-IsSpelled i c p = p.taken ≡ true → (p.block ≡ Some (spelling2 (kept_of_offer i c.end c.offer))) × IsKept (kept_of_offer i c.end c.offer)
+IsSpelled i c p = p.taken ≡ true → (p.block ≡ Some (spelling2 (kept_of_offer i c.end c.offer)))
+    × IsKept (kept_of_offer i c.end c.offer)
 
 abbrev pub AreSpelled : ℕ → List Claim → List Payload → Type 0
 AreSpelled i [] ps = Unit {0}

@@ -26,7 +26,8 @@ AreTo count (p ∷ ps) = (p.dest < count) × AreTo count ps
 
 -- each destination has room for those that go there
 abbrev pub HaveRoom : List Sunk → List Claim → Type 0
-HaveRoom sinks claims = (d : ℕ) (sink : Sunk) → slice_get sinks d ≡ Some sink → given_to d claims ≤ sink.room
+HaveRoom sinks claims = (d : ℕ) (sink : Sunk) → slice_get sinks d ≡ Some sink
+    → given_to d claims ≤ sink.room
 
 -- there is no answer yet, and room for that of each record and of each offer
 pub record IsReady (records : List Admission) (sinks : List Sunk) (answers : Answers) : Type 0 where

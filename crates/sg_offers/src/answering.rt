@@ -66,7 +66,8 @@ fn offer_at(
     requires there { offer.dest < length sinks.old }
     requires room { (sink : Sunk) → slice_get sinks.old offer.dest ≡ Some sink → 0 < sink.room }
     ensures verdict { result ≡ verdict_at fails.now (seen_in sinks.old) offer }
-    ensures spent { sinks.new ≡ change sinks.old offer.dest (spent (fails_at fails.now offer.dest) inlet number offer block result) }
+    ensures spent { sinks.new ≡ change sinks.old offer.dest
+        (spent (fails_at fails.now offer.dest) inlet number offer block result) }
 {
     let fail = is_failing(fails, offer.dest);
     let sink = sinks.at_mut(offer.dest as usize);
@@ -87,14 +88,21 @@ fn offer_record(
 ) -> Record
     requires number { next + place < 2 ^ 64 }
     requires few { length admission.offers ≤ 1024 }
-    requires within { AreWithin (length sinks.old) (claims_in place admission.end admission.offers) }
+    requires within { AreWithin (length sinks.old)
+        (claims_in place admission.end admission.offers) }
     requires room { HaveRoom sinks.old (claims_in place admission.end admission.offers) }
-    requires blocks { AreBlocks inlet (buffers_of (seen_in sinks.old)) (claims_in place admission.end admission.offers) payloads.old.items }
-    requires capacity { length verdicts.old.items + length admission.offers ≤ vec_capacity verdicts.old }
-    ensures spent { sinks.new ≡ spent_after fails.now inlet next sinks.old (claims_in place admission.end admission.offers) }
-    ensures verdicts { verdicts.new.items ≡ verdicts.old.items ++ verdicts_from fails.now inlet next (seen_in sinks.old) (claims_in place admission.end admission.offers) }
+    requires blocks { AreBlocks inlet (buffers_of (seen_in sinks.old))
+        (claims_in place admission.end admission.offers) payloads.old.items }
+    requires capacity { length verdicts.old.items + length admission.offers
+        ≤ vec_capacity verdicts.old }
+    ensures spent { sinks.new ≡ spent_after fails.now inlet next sinks.old
+        (claims_in place admission.end admission.offers) }
+    ensures verdicts { verdicts.new.items ≡ verdicts.old.items
+        ++ verdicts_from fails.now inlet next (seen_in sinks.old)
+        (claims_in place admission.end admission.offers) }
     ensures end { result.end ≡ admission.end }
-    ensures left { result.left ≡ owing admission.offers (verdicts_from fails.now inlet next (seen_in sinks.old) (claims_in place admission.end admission.offers)) }
+    ensures left { result.left ≡ owing admission.offers (verdicts_from fails.now inlet next
+        (seen_in sinks.old) (claims_in place admission.end admission.offers)) }
     ensures payloads { payloads.new.items ≡ drop (length admission.offers) payloads.old.items }
     ensures capacity { vec_capacity verdicts.new ≡ vec_capacity verdicts.old }
 {
@@ -125,11 +133,15 @@ pub fn offer_all(
 ) -> Answers
     requires enter { AllMayEnter (length sinks.old) records.items }
     requires number { next + length records.items < 2 ^ 64 }
-    requires payloads { batch.payloads.items ≡ payloads_of inlet (seen_in sinks.old) (claims_of records.items) }
+    requires payloads { batch.payloads.items
+        ≡ payloads_of inlet (seen_in sinks.old) (claims_of records.items) }
     requires ready { IsReady records.items sinks.old batch.answers }
-    ensures sinks { seen_in sinks.new ≡ sinks_after batch.fails.items inlet next (seen_in sinks.old) (claims_of records.items) }
-    ensures verdicts { result.verdicts.items ≡ verdicts_from batch.fails.items inlet next (seen_in sinks.old) (claims_of records.items) }
-    ensures begun { result.begun.items ≡ begun_of records.items (verdicts_from batch.fails.items inlet next (seen_in sinks.old) (claims_of records.items)) }
+    ensures sinks { seen_in sinks.new
+        ≡ sinks_after batch.fails.items inlet next (seen_in sinks.old) (claims_of records.items) }
+    ensures verdicts { result.verdicts.items
+        ≡ verdicts_from batch.fails.items inlet next (seen_in sinks.old) (claims_of records.items) }
+    ensures begun { result.begun.items ≡ begun_of records.items
+        (verdicts_from batch.fails.items inlet next (seen_in sinks.old) (claims_of records.items)) }
 {
     let Batch {
         payloads,

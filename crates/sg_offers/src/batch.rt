@@ -63,9 +63,12 @@ pub fn prepare(
 ) -> Result<Batch, NoMemory>
     requires { AllMayEnter (length sinks.old) records.now }
     ensures same { seen_in sinks.new ≡ seen_in sinks.old }
-    ensures payloads { IfOk result (λ batch. batch.payloads.items ≡ payloads_of inlet (seen_in sinks.old) (claims_of records.now)) }
-    ensures spelled { AreSmall (buffers_of (seen_in sinks.old)) → IfOk result (λ batch. AreSpelled inlet (claims_of records.now) batch.payloads.items) }
-    ensures kept { IfOk result (λ _. AllKept inlet (buffers_of (seen_in sinks.old)) (claims_of records.now)) }
+    ensures payloads { IfOk result (λ batch. batch.payloads.items
+        ≡ payloads_of inlet (seen_in sinks.old) (claims_of records.now)) }
+    ensures spelled { AreSmall (buffers_of (seen_in sinks.old))
+        → IfOk result (λ batch. AreSpelled inlet (claims_of records.now) batch.payloads.items) }
+    ensures kept { IfOk result
+        (λ _. AllKept inlet (buffers_of (seen_in sinks.old)) (claims_of records.now)) }
     ensures fails { IfOk result (λ batch. batch.fails.items ≡ map (λ _. false) sinks.old) }
     ensures ready { IfOk result (λ batch. IsReady records.now sinks.new batch.answers) }
 {

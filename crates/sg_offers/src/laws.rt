@@ -16,16 +16,26 @@ ghost use Rattle.sg_offers.specs.Laws.{JudgedAll, Tried, Begun};
 /// Where the stores that fail are those of some destinations at which an offer would be spooled, the
 /// verdicts are those that the machine judges right, and what is kept then is what the machine has.
 pub fn judged_hold()
-    ensures { (fails : List Bool) (i next : ℕ) (dests : List Dest) (failed : List ℕ) (records : List Admission) → AreSplit dests → AreBuffersApart dests → AllMayEnter (length dests) records → ((d : ℕ) → fails_at fails d ≡ true → WouldFail i (sinks_at failed dests) (claims_of records) d) → JudgedAll fails i next dests failed (claims_of records) }
+    ensures { (fails : List Bool) (i next : ℕ) (dests : List Dest) (failed : List ℕ)
+        (records : List Admission) → AreSplit dests → AreBuffersApart dests
+        → AllMayEnter (length dests) records → ((d : ℕ) → fails_at fails d ≡ true
+        → WouldFail i (sinks_at failed dests) (claims_of records) d)
+        → JudgedAll fails i next dests failed (claims_of records) }
 {}
 
 /// What the disk-buffer of a destination takes of the offers is what the machine would spool there.
 pub fn tried_hold()
-    ensures { (i next : ℕ) (dests : List Dest) (failed : List ℕ) (records : List Admission) (d : ℕ) (dest : Dest) (buffer : BufferSetup) → slice_get dests d ≡ Some dest → dest.setup.buffer ≡ Some buffer → is_listed buffer.store failed ≡ false → IsSplit dest → Tried i next dests failed (claims_of records) d dest buffer }
+    ensures { (i next : ℕ) (dests : List Dest) (failed : List ℕ) (records : List Admission) (d : ℕ)
+        (dest : Dest) (buffer : BufferSetup) → slice_get dests d ≡ Some dest
+        → dest.setup.buffer ≡ Some buffer → is_listed buffer.store failed ≡ false → IsSplit dest
+        → Tried i next dests failed (claims_of records) d dest buffer }
 {}
 
 /// Each record of the batch needs an acknowledgement for each of its entries that waits with
 /// flow-control; what other records need stays.
 pub fn begun_hold()
-    ensures { (i next : ℕ) (failing : List ℕ) (dests : List Dest) (failed : List ℕ) (records : List Admission) (vs : List Verdict) (z : List ℕ) → are_split dests ≡ true → judged i next failing dests failed (claims_of records) vs ≡ Some z → Begun i next dests records vs }
+    ensures { (i next : ℕ) (failing : List ℕ) (dests : List Dest) (failed : List ℕ)
+        (records : List Admission) (vs : List Verdict) (z : List ℕ) → are_split dests ≡ true
+        → judged i next failing dests failed (claims_of records) vs ≡ Some z
+        → Begun i next dests records vs }
 {}

@@ -58,8 +58,10 @@ fn payload_for(
     requires sink { offer.now.dest < length sinks.now }
     requires trial { offer.now.dest < length trials.old }
     requires end { end < 2 ^ 63 }
-    ensures payload { IfOk result (λ payload. payload ≡ payload_of inlet end (buffers_of (seen_in sinks.now)) trials.old offer.now) }
-    ensures kept { IfOk result (λ payload. IsSome payload.block → IsKept (kept_of_offer inlet end offer.now)) }
+    ensures payload { IfOk result (λ payload. payload
+        ≡ payload_of inlet end (buffers_of (seen_in sinks.now)) trials.old offer.now) }
+    ensures kept { IfOk result
+        (λ payload. IsSome payload.block → IsKept (kept_of_offer inlet end offer.now)) }
     ensures trials { OnOk result (trials.new ≡ trials_then trials.old offer.now) }
 {
     let d = offer.dest as usize;
@@ -90,9 +92,13 @@ fn record_payloads(
 ) -> Result<(), NoMemory>
     requires enter { MayEnter (length sinks.now) admission.now }
     requires trials { length trials.old ≡ length sinks.now }
-    ensures payloads { (place : ℕ) → OnOk result (payloads.new.items ≡ payloads.old.items ++ payloads_from inlet (buffers_of (seen_in sinks.now)) trials.old (claims_in place admission.now.end admission.now.offers)) }
-    ensures kept { (place : ℕ) → OnOk result (AllKept inlet (buffers_of (seen_in sinks.now)) (claims_in place admission.now.end admission.now.offers)) }
-    ensures trials { (place : ℕ) → OnOk result (trials.new ≡ trials_after trials.old (claims_in place admission.now.end admission.now.offers)) }
+    ensures payloads { (place : ℕ) → OnOk result (payloads.new.items
+        ≡ payloads.old.items ++ payloads_from inlet (buffers_of (seen_in sinks.now)) trials.old
+        (claims_in place admission.now.end admission.now.offers)) }
+    ensures kept { (place : ℕ) → OnOk result (AllKept inlet (buffers_of (seen_in sinks.now))
+        (claims_in place admission.now.end admission.now.offers)) }
+    ensures trials { (place : ℕ) → OnOk result (trials.new
+        ≡ trials_after trials.old (claims_in place admission.now.end admission.now.offers)) }
 {
     for offer in admission.offers.as_slice() {
         let payload = payload_for(alloc, sinks, trials, inlet, admission.end, offer)?;
@@ -109,8 +115,10 @@ pub(crate) fn payloads_for(
     records: &[Admission],
 ) -> Result<Vec<Payload>, NoMemory>
     requires { AllMayEnter (length sinks.now) records.now }
-    ensures payloads { IfOk result (λ payloads. payloads.items ≡ payloads_of inlet (seen_in sinks.now) (claims_of records.now)) }
-    ensures kept { IfOk result (λ _. AllKept inlet (buffers_of (seen_in sinks.now)) (claims_of records.now)) }
+    ensures payloads { IfOk result (λ payloads. payloads.items
+        ≡ payloads_of inlet (seen_in sinks.now) (claims_of records.now)) }
+    ensures kept { IfOk result
+        (λ _. AllKept inlet (buffers_of (seen_in sinks.now)) (claims_of records.now)) }
 {
     let mut trials = trials_of(alloc, sinks)?;
     let mut payloads = Vec::with_capacity(alloc, records.len())?;

@@ -12,7 +12,8 @@ use std::alloc::{AllocError, Global};
 fn counts_of(alloc: Global, dests: usize, payloads: &[Payload]) -> Result<Vec<usize>, AllocError>
     requires { AreTo dests payloads.now }
     ensures len { IfOk result (λ counts. length counts.items ≡ dests) }
-    ensures count { IfOk result (λ counts. (d : ℕ) → d < dests → slice_index counts.items d ≡ counted_to d payloads.now) }
+    ensures count { IfOk result
+        (λ counts. (d : ℕ) → d < dests → slice_index counts.items d ≡ counted_to d payloads.now) }
 {
     let mut counts = vec![in alloc; 0usize; dests]?;
     for payload in payloads {
@@ -25,7 +26,8 @@ fn counts_of(alloc: Global, dests: usize, payloads: &[Payload]) -> Result<Vec<us
 fn reserve_all(sinks: &mut Seq<Sink>, counts: &[usize]) -> Result<(), AllocError>
     requires { length counts.now ≡ length sinks.old }
     ensures same { seen_in sinks.new ≡ seen_in sinks.old }
-    ensures room { OnOk result ((d : ℕ) (sink : Sunk) → slice_get sinks.new d ≡ Some sink → slice_index counts.now d ≤ sink.room) }
+    ensures room { OnOk result ((d : ℕ) (sink : Sunk) → slice_get sinks.new d ≡ Some sink
+        → slice_index counts.now d ≤ sink.room) }
 {
     for d in 0..counts.len() {
         sinks.at_mut(d).reserve(counts[d])?;
@@ -41,7 +43,8 @@ pub(crate) fn room_for(
 ) -> Result<(), AllocError>
     requires { AreTo (length sinks.old) payloads.now }
     ensures same { seen_in sinks.new ≡ seen_in sinks.old }
-    ensures room { OnOk result ((d : ℕ) (sink : Sunk) → slice_get sinks.new d ≡ Some sink → counted_to d payloads.now ≤ sink.room) }
+    ensures room { OnOk result ((d : ℕ) (sink : Sunk) → slice_get sinks.new d ≡ Some sink
+        → counted_to d payloads.now ≤ sink.room) }
 {
     let counts = counts_of(alloc, sinks.len(), payloads)?;
     reserve_all(sinks, &counts)

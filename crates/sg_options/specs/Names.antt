@@ -27,4 +27,5 @@ older_level text =
 
 -- a name, or a number up to 7
 abbrev pub level_number : List ℕ → Option ℕ
-level_number text = either (place_from 0 severity_names text) (either (older_level text) (number_to 10 7 text))
+level_number text = either (place_from 0 severity_names text)
+    (either (older_level text) (number_to 10 7 text))

@@ -10,7 +10,8 @@ number_behind base high n b =
 abbrev pub digits_behind : ℕ → ℕ → Option ℕ → List ℕ → Option ℕ
 digits_behind base high None text = None
 digits_behind base high (Some n) [] = Some n
-digits_behind base high (Some n) (b ∷ text) = digits_behind base high (number_behind base high n b) text
+digits_behind base high (Some n) (b ∷ text) = digits_behind base high (number_behind base high n b)
+    text
 
 -- the number that these digits spell
 abbrev pub number_to : ℕ → ℕ → List ℕ → Option ℕ

@@ -66,7 +66,8 @@ later None before = before
 -- of several options with one of these words the last counts
 abbrev pub last_option : List (List ℕ) → List Call → Option Call
 last_option words [] = None
-last_option words (call ∷ calls) = later (last_option words calls) (if is_called words call then Some call else None)
+last_option words (call ∷ calls) = later (last_option words calls)
+    (if is_called words call then Some call else None)
 
 abbrev pub value_behind : Option Call → Option Spot
 value_behind None = None

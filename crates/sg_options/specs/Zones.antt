@@ -15,5 +15,6 @@ clock_offset sign (Some hours) (Some minutes) = offset_of sign (hours * 60 + min
 abbrev pub zone_of : List ℕ → Option ℤ
 zone_of text =
     if (length text == 6) && (slice_index text 3 == 58)
-    then clock_offset (slice_index text 0) (number_to 10 23 (take 2 (drop 1 text))) (number_to 10 59 (take 2 (drop 4 text)))
+    then clock_offset (slice_index text 0) (number_to 10 23 (take 2 (drop 1 text)))
+    (number_to 10 59 (take 2 (drop 4 text)))
     else None

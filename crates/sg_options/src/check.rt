@@ -62,7 +62,8 @@ fn value_fault(check: Check, value: Option<&Spot>) -> Option<Placed>
 // What is wrong with an option, by the row of its word.
 #[tactic(auto, unfolding(crate::specs::Settings::word_of))]
 fn option_fault(rows: &[(&[u8], Check)], call: &Call) -> Option<Placed>
-    ensures { result ≡ least (spec.option_faults (map (λ row. (row.0.now, row.1)) rows.now) call.now) }
+    ensures { result
+        ≡ least (spec.option_faults (map (λ row. (row.0.now, row.1)) rows.now) call.now) }
 {
     match row_of(rows, call.word.token.text.bytes()) {
         Some(check) => value_fault(check, value_of(call)),
@@ -73,7 +74,8 @@ fn option_fault(rows: &[(&[u8], Check)], call: &Call) -> Option<Placed>
 // What is wrong with an argument that is an option.
 #[tactic(auto, using(sg_fault::proofs::Least::least_append, sg_fault::proofs::Least::earlier_none))]
 fn argument_fault(rows: &[(&[u8], Check)], arg: &Arg) -> Option<Placed>
-    ensures { result ≡ least (spec.bad_values (map (λ row. (row.0.now, row.1)) rows.now) (calls_of (arg.now ∷ []))) }
+    ensures { result ≡ least
+        (spec.bad_values (map (λ row. (row.0.now, row.1)) rows.now) (calls_of (arg.now ∷ []))) }
 {
     match nested_of(arg) {
         Some(call) => option_fault(rows, call),
@@ -84,7 +86,8 @@ fn argument_fault(rows: &[(&[u8], Check)], arg: &Arg) -> Option<Placed>
 /// The first fault of the options among the arguments of a driver: `BadValue` at a value that isn't
 /// what the row of its option's word asks for.
 pub fn first_bad_argument(rows: &[(&[u8], Check)], args: &[Arg]) -> Option<Placed>
-    ensures { result ≡ least (spec.bad_values (map (λ row. (row.0.now, row.1)) rows.now) (calls_of args.now)) }
+    ensures { result
+        ≡ least (spec.bad_values (map (λ row. (row.0.now, row.1)) rows.now) (calls_of args.now)) }
 {
     let mut found = None;
     for arg in args {
@@ -96,7 +99,8 @@ pub fn first_bad_argument(rows: &[(&[u8], Check)], args: &[Arg]) -> Option<Place
 /// The first fault of options: `BadValue` at a value that isn't what the row of its option's word asks
 /// for.
 pub fn first_bad_option(rows: &[(&[u8], Check)], calls: &[Call]) -> Option<Placed>
-    ensures { result ≡ least (spec.bad_values (map (λ row. (row.0.now, row.1)) rows.now) calls.now) }
+    ensures { result
+        ≡ least (spec.bad_values (map (λ row. (row.0.now, row.1)) rows.now) calls.now) }
 {
     let mut found = None;
     for call in calls {

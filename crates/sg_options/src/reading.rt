@@ -58,7 +58,8 @@ pub fn truth_or(value: Option<&Spot>, default: bool) -> bool
 
 /// Whether the value is one of these words, which are written with dashes, or the default.
 pub fn one_of_or(value: Option<&Spot>, words: &[&[u8]], default: bool) -> bool
-    ensures { result ≡ spec.one_of_or (option_copied value.entry) (map (λ word. word.now) words.now) default }
+    ensures { result
+        ≡ spec.one_of_or (option_copied value.entry) (map (λ word. word.now) words.now) default }
 {
     match value {
         Some(spot) => is_one_of(spot.token.text.bytes(), words),

@@ -69,7 +69,8 @@ pub fn is_called(words: &[&[u8]], call: &Call) -> bool
 
 /// The last option of one of these words among the arguments of a driver.
 pub fn last_argument<'a>(words: &[&[u8]], args: &'a [Arg]) -> Option<&'a Call>
-    ensures { option_copied result ≡ spec.last_option (map (λ word. word.now) words.now) (spec.calls_of args.now) }
+    ensures { option_copied result
+        ≡ spec.last_option (map (λ word. word.now) words.now) (spec.calls_of args.now) }
 {
     let mut last = None;
     for arg in args {
@@ -107,7 +108,8 @@ pub fn value_behind(call: Option<&Call>) -> Option<&Spot>
 
 /// The value of the last option of one of these words among the arguments of a driver.
 pub fn last_argument_value<'a>(words: &[&[u8]], args: &'a [Arg]) -> Option<&'a Spot>
-    ensures { option_copied result ≡ spec.last_value (map (λ word. word.now) words.now) (spec.calls_of args.now) }
+    ensures { option_copied result
+        ≡ spec.last_value (map (λ word. word.now) words.now) (spec.calls_of args.now) }
 {
     value_behind(last_argument(words, args))
 }

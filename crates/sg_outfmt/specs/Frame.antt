@@ -16,4 +16,5 @@ counted line = decimal (length line) ++ codes " " ++ line
 abbrev pub frame_of : Shape → Content → Env → List ℕ
 frame_of (Text template) content env = render_of template content env
 frame_of Counted5424 content env = counted (line_text content env)
-frame_of (ByPath path text) content env = packed (path_of path content env) (render_of text content env)
+frame_of (ByPath path text) content env = packed (path_of path content env)
+    (render_of text content env)

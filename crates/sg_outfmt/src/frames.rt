@@ -19,7 +19,8 @@ pub fn frame(
     env: &Env,
     out: &mut Vec<u8>,
 ) -> Result<(), AllocError>
-    ensures ok { OnOk result (out.new.items ≡ out.old.items ++ frame_of shape.now message.now env.now) }
+    ensures ok { OnOk result
+        (out.new.items ≡ out.old.items ++ frame_of shape.now message.now env.now) }
     ensures err { OnErr result (out.new.items ≡ out.old.items) }
 {
     match shape {
@@ -30,7 +31,8 @@ pub fn frame(
 }
 
 fn counted_line(message: &Message, env: &Env, out: &mut Vec<u8>) -> Result<(), AllocError>
-    ensures ok { OnOk result (out.new.items ≡ out.old.items ++ counted (line_text message.now env.now)) }
+    ensures ok { OnOk result
+        (out.new.items ≡ out.old.items ++ counted (line_text message.now env.now)) }
     ensures err { OnErr result (out.new.items ≡ out.old.items) }
 {
     let before = out.len();

@@ -71,22 +71,27 @@ IsContent (Some files) name bytes = files name ≡ Some bytes
 -- the file has more bytes than this
 abbrev pub IsBeyond : Option Files → List ℕ → ℕ → Type 0
 IsBeyond None name limit = Unit {0}
-IsBeyond (Some files) name limit = (bytes : List ℕ) × ((files name ≡ Some bytes) × (limit < length bytes))
+IsBeyond (Some files) name limit = (bytes : List ℕ)
+    × ((files name ≡ Some bytes) × (limit < length bytes))
 
 -- the state but for the count of failed readings, which doesn't fall, and the name at the last of them
 abbrev pub OnlyReads : WorldState → WorldState → Type 0
-OnlyReads old new = (new ≡ record old { read_faults = new.read_faults; unread = new.unread }) × (old.read_faults ≤ new.read_faults)
+OnlyReads old new = (new ≡ record old { read_faults = new.read_faults; unread = new.unread })
+    × (old.read_faults ≤ new.read_faults)
 
 -- a reading gives the whole file
 abbrev pub Reads : WorldState → WorldState → List ℕ → ℕ → Result (Vec ℕ Global) FileRefusal → Type 0
-Reads old new name limit (Ok bytes) = OnlyReads old new × IsContent old.files name bytes.items × (length bytes.items ≤ limit)
-Reads old new name limit (Err Failed) = OnlyReads old new × Rose old.read_faults new.read_faults × (new.unread ≡ Some name)
+Reads old new name limit (Ok bytes) = OnlyReads old new × IsContent old.files name bytes.items
+    × (length bytes.items ≤ limit)
+Reads old new name limit (Err Failed) = OnlyReads old new × Rose old.read_faults new.read_faults
+    × (new.unread ≡ Some name)
 Reads old new name limit (Err TooLong) = OnlyReads old new × IsBeyond old.files name limit
 Reads old new name limit (Err NoMemory) = OnlyReads old new
 
 -- the state but for the count of patterns refused as too large, which doesn't fall
 abbrev pub OnlyBuilds : WorldState → WorldState → Type 0
-OnlyBuilds old new = (new ≡ record old { build_faults = new.build_faults }) × (old.build_faults ≤ new.build_faults)
+OnlyBuilds old new = (new ≡ record old { build_faults = new.build_faults })
+    × (old.build_faults ≤ new.build_faults)
 
 -- the ledger with one more device opened, or closed
 abbrev pub with_opened : {P S : Type 0} → Ledger P S → P → S → Ledger P S
@@ -99,7 +104,8 @@ with_closed ledger state = record ledger { closed = ledger.closed ++ state ∷ [
 -- many bytes that hold no LF.
 abbrev pub is_record_end : ℕ → List ℕ → ℕ → Bool
 is_record_end limit bytes place =
-    (place == 0) || ((slice_index bytes (place - 1) == 10) || (nat_le limit place && list_all (λ byte. not (byte == 10)) (part (place - limit) limit bytes)))
+    (place == 0) || ((slice_index bytes (place - 1) == 10) ||
+    (nat_le limit place && list_all (λ byte. not (byte == 10)) (part (place - limit) limit bytes)))
 
 -- The place at which a file is read, for the place that was asked for. It is the file's beginning where no record can have
 -- ended there, as when another file stands in its place by now.
@@ -109,46 +115,65 @@ place_in limit bytes from = if nat_le from (length bytes) && (nat_lt from (2 ^ 6
 -- the place and the bytes left of an inlet over a file, where the machine tells its files
 abbrev pub LeavesFile : Option Files → List ℕ → ℕ → ℕ → InletState → Type 0
 LeavesFile None path limit from feed = (feed.place ≡ from) ⊎ (feed.place ≡ 0)
-LeavesFile (Some files) path limit from feed = (bytes : List ℕ) × ((files path ≡ Some bytes) × ((feed.place ≡ place_in limit bytes from) × (feed.left ≡ Some (drop (place_in limit bytes from) bytes))))
+LeavesFile (Some files) path limit from feed = (bytes : List ℕ)
+    × ((files path ≡ Some bytes) × ((feed.place ≡ place_in limit bytes from)
+    × (feed.left ≡ Some (drop (place_in limit bytes from) bytes))))
 
 -- a file is one part, which is there from the start; a slot has none before its first Next
 abbrev pub StandsIn : Option Files → InletSpec → ℕ → InletState → Type 0
-StandsIn files (File path once limit) from feed = LeavesFile files path limit from feed × (feed.parts ≡ 1) × (feed.single ≡ true)
-StandsIn files (Slot ip port slot once) from feed = (feed.place ≡ 0) × (feed.parts ≡ 0) × (feed.single ≡ false)
+StandsIn files (File path once limit) from feed = LeavesFile files path limit from feed
+    × (feed.parts ≡ 1) × (feed.single ≡ true)
+StandsIn files (Slot ip port slot once) from feed = (feed.place ≡ 0) × (feed.parts ≡ 0)
+    × (feed.single ≡ false)
 
 -- the inlet stands at its place, and nothing was given yet
 abbrev pub InletOpens : WorldState → WorldState → InletSpec → ℕ → InletState → ℕ → Type 0
-InletOpens old new spec from feed place = (new ≡ record old { inlet_faults = new.inlet_faults; inlets = with_opened old.inlets spec feed }) × (old.inlet_faults ≤ new.inlet_faults) × IsFresh feed × (feed.place ≡ place) × StandsIn old.files spec from feed
+InletOpens old new spec from feed place = (new
+    ≡ record old { inlet_faults = new.inlet_faults; inlets = with_opened old.inlets spec feed })
+    × (old.inlet_faults ≤ new.inlet_faults) × IsFresh feed × (feed.place ≡ place)
+    × StandsIn old.files spec from feed
 
 abbrev pub InletRefused : WorldState → WorldState → OpenRefusal → Type 0
-InletRefused old new OpenFailed = (new ≡ record old { inlet_faults = new.inlet_faults }) × (old.inlet_faults ≤ new.inlet_faults) × Rose old.inlet_faults new.inlet_faults
-InletRefused old new OpenNoMemory = (new ≡ record old { inlet_faults = new.inlet_faults }) × (old.inlet_faults ≤ new.inlet_faults)
+InletRefused old new OpenFailed = (new ≡ record old { inlet_faults = new.inlet_faults })
+    × (old.inlet_faults ≤ new.inlet_faults) × Rose old.inlet_faults new.inlet_faults
+InletRefused old new OpenNoMemory = (new ≡ record old { inlet_faults = new.inlet_faults })
+    × (old.inlet_faults ≤ new.inlet_faults)
 
 abbrev pub OutletOpens : WorldState → WorldState → OutletSpec → OutletState → Type 0
-OutletOpens old new spec drain = (new ≡ record old { outlet_faults = new.outlet_faults; outlets = with_opened old.outlets spec drain }) × (old.outlet_faults ≤ new.outlet_faults) × IsNew drain
+OutletOpens old new spec drain = (new ≡ record old
+    { outlet_faults = new.outlet_faults; outlets = with_opened old.outlets spec drain })
+    × (old.outlet_faults ≤ new.outlet_faults) × IsNew drain
 
 abbrev pub OutletRefused : WorldState → WorldState → OpenRefusal → Type 0
-OutletRefused old new OpenFailed = (new ≡ record old { outlet_faults = new.outlet_faults }) × (old.outlet_faults ≤ new.outlet_faults) × Rose old.outlet_faults new.outlet_faults
-OutletRefused old new OpenNoMemory = (new ≡ record old { outlet_faults = new.outlet_faults }) × (old.outlet_faults ≤ new.outlet_faults)
+OutletRefused old new OpenFailed = (new ≡ record old { outlet_faults = new.outlet_faults })
+    × (old.outlet_faults ≤ new.outlet_faults) × Rose old.outlet_faults new.outlet_faults
+OutletRefused old new OpenNoMemory = (new ≡ record old { outlet_faults = new.outlet_faults })
+    × (old.outlet_faults ≤ new.outlet_faults)
 
 -- A store of this name is there; or it was made, as 128 stable zero bytes.
 abbrev pub IsShelved : List (List ℕ) → StoreSpec → DiskState → List (List ℕ) → Type 0
 IsShelved names spec store after =
     (Contains names spec.name × (after ≡ names))
-    ⊎ ((spec.create ≡ true) × IfSome store.told (λ log. log ≡ fresh_log (replicate 128 0)) × (after ≡ spec.name ∷ names))
+    ⊎ ((spec.create ≡ true) × IfSome store.told (λ log. log ≡ fresh_log (replicate 128 0))
+    × (after ≡ spec.name ∷ names))
 
 -- the same, where the machine tells its stores
-abbrev pub StandsShelved : Option (List (List ℕ)) → StoreSpec → DiskState → Option (List (List ℕ)) → Type 0
+abbrev pub StandsShelved : Option (List (List ℕ)) → StoreSpec → DiskState → Option (List (List ℕ))
+    → Type 0
 StandsShelved None spec store after = after ≡ None
 StandsShelved (Some names) spec store None = ⊥
 StandsShelved (Some names) spec store (Some after) = IsShelved names spec store after
 
 abbrev pub StoreOpens : WorldState → WorldState → StoreSpec → DiskState → Type 0
-StoreOpens old new spec store = (new ≡ record old { store_faults = new.store_faults; shelf = new.shelf; stores = with_opened old.stores spec store }) × (old.store_faults ≤ new.store_faults) × StandsShelved old.shelf spec store new.shelf
+StoreOpens old new spec store = (new ≡ record old
+    { store_faults = new.store_faults; shelf = new.shelf; stores = with_opened old.stores spec store })
+    × (old.store_faults ≤ new.store_faults) × StandsShelved old.shelf spec store new.shelf
 
 abbrev pub StoreRefused : WorldState → WorldState → OpenRefusal → Type 0
-StoreRefused old new OpenFailed = (new ≡ record old { store_faults = new.store_faults }) × (old.store_faults ≤ new.store_faults) × Rose old.store_faults new.store_faults
-StoreRefused old new OpenNoMemory = (new ≡ record old { store_faults = new.store_faults }) × (old.store_faults ≤ new.store_faults)
+StoreRefused old new OpenFailed = (new ≡ record old { store_faults = new.store_faults })
+    × (old.store_faults ≤ new.store_faults) × Rose old.store_faults new.store_faults
+StoreRefused old new OpenNoMemory = (new ≡ record old { store_faults = new.store_faults })
+    × (old.store_faults ≤ new.store_faults)
 
 -- the paths of the files come with their texts
 abbrev pub IsByPath : OutletSpec → Type 0
@@ -157,11 +182,15 @@ IsByPath (Tcp host port reopen) = ⊥
 IsByPath (ByPath fsync mode reopen) = Unit {0}
 
 abbrev pub PathsOpen : WorldState → WorldState → OutletSpec → PathsState → Type 0
-PathsOpen old new spec opener = (new ≡ record old { paths_faults = new.paths_faults; paths = with_opened old.paths spec opener }) × (old.paths_faults ≤ new.paths_faults) × IsNewOpener opener
+PathsOpen old new spec opener = (new
+    ≡ record old { paths_faults = new.paths_faults; paths = with_opened old.paths spec opener })
+    × (old.paths_faults ≤ new.paths_faults) × IsNewOpener opener
 
 abbrev pub PathsRefused : WorldState → WorldState → OpenRefusal → Type 0
-PathsRefused old new OpenFailed = (new ≡ record old { paths_faults = new.paths_faults }) × (old.paths_faults ≤ new.paths_faults) × Rose old.paths_faults new.paths_faults
-PathsRefused old new OpenNoMemory = (new ≡ record old { paths_faults = new.paths_faults }) × (old.paths_faults ≤ new.paths_faults)
+PathsRefused old new OpenFailed = (new ≡ record old { paths_faults = new.paths_faults })
+    × (old.paths_faults ≤ new.paths_faults) × Rose old.paths_faults new.paths_faults
+PathsRefused old new OpenNoMemory = (new ≡ record old { paths_faults = new.paths_faults })
+    × (old.paths_faults ≤ new.paths_faults)
 
 abbrev pub ClosesInlet : WorldState → WorldState → InletState → Type 0
 ClosesInlet old new feed = new ≡ record old { inlets = with_closed old.inlets feed }
@@ -177,6 +206,11 @@ ClosesPaths old new opener = new ≡ record old { paths = with_closed old.paths 
 
 -- all bytes were said, or nothing that is claimed
 abbrev pub Says : WorldState → WorldState → List ℕ → Result Unit SayRefusal → Type 0
-Says old new bytes (Ok done) = (new ≡ record old { say_faults = new.say_faults; said = option_map (λ said. said ++ bytes) old.said }) × (old.say_faults ≤ new.say_faults)
-Says old new bytes (Err Fault) = (new ≡ record old { say_faults = new.say_faults; said = new.said }) × (old.say_faults ≤ new.say_faults) × Rose old.say_faults new.say_faults
-Says old new bytes (Err SayNoMemory) = (new ≡ record old { say_faults = new.say_faults; said = new.said }) × (old.say_faults ≤ new.say_faults)
+Says old new bytes (Ok done) = (new ≡ record old
+    { say_faults = new.say_faults; said = option_map (λ said. said ++ bytes) old.said })
+    × (old.say_faults ≤ new.say_faults)
+Says old new bytes (Err Fault) = (new ≡ record old { say_faults = new.say_faults; said = new.said })
+    × (old.say_faults ≤ new.say_faults) × Rose old.say_faults new.say_faults
+Says old new bytes (Err SayNoMemory) =
+    (new ≡ record old { say_faults = new.say_faults; said = new.said })
+    × (old.say_faults ≤ new.say_faults)

@@ -39,7 +39,8 @@ module _ {A : Type 0} (One : Stands A) where
   -- { [commas] one } ")"
   pub data Rest : List Spot → List A → List Spot → Type 0 where
     closed : (s r : List Spot) → Symbol 41 s r → Rest s [] r
-    more : (s m n r : List Spot) (x : A) (xs : List A) → Commas s m → One m x n → Rest n xs r → Rest s (x ∷ xs) r
+    more : (s m n r : List Spot) (x : A) (xs : List A) → Commas s m → One m x n → Rest n xs r
+        → Rest s (x ∷ xs) r
 
   -- [ one { [commas] one } ] ")"
   abbrev pub Items : Stands (List A)
@@ -55,7 +56,8 @@ module _ {A : Type 0} (One : Stands A) where
     closed : (s r : List Spot) → Symbol 125 s r → Body s [] r
     extra : (s m r : List Spot) (xs : List A) → Symbol 59 s m → Body m xs r → Body s xs r
     last : (s m r : List Spot) (x : A) → One s x m → Symbol 125 m r → Body s (x ∷ []) r
-    more : (s m n r : List Spot) (x : A) (xs : List A) → One s x m → Symbol 59 m n → Body n xs r → Body s (x ∷ xs) r
+    more : (s m n r : List Spot) (x : A) (xs : List A) → One s x m → Symbol 59 m n → Body n xs r
+        → Body s (x ∷ xs) r
 
   abbrev pub Braced : Stands (List A)
   Braced s xs r = (m : List Spot) × Symbol 123 s m × Body m xs r
@@ -63,7 +65,8 @@ module _ {A : Type 0} (One : Stands A) where
   -- { word one }
   pub data Links (word : List ℕ) : List Spot → List A → List Spot → Type 0 where
     done : (s : List Spot) → Links word s [] s
-    more : (s m n r : List Spot) (x : A) (xs : List A) → Keyword word s m → One m x n → Links word n xs r → Links word s (x ∷ xs) r
+    more : (s m n r : List Spot) (x : A) (xs : List A) → Keyword word s m → One m x n
+        → Links word n xs r → Links word s (x ∷ xs) r
 
   -- one { word one }
   abbrev pub Chain : List ℕ → Stands (List A)
@@ -73,9 +76,12 @@ module _ {A : Type 0} (One : Stands A) where
 -- balanced = { token that is no bracket | "(" balanced ")" | "{" balanced "}" }
 pub data Balanced : List Spot → List Spot → Type 0 where
   none : (s : List Spot) → Balanced s s
-  plain : (spot : Spot) (s r : List Spot) → bracket spot.token ≡ Neither → Balanced s r → Balanced (spot ∷ s) r
-  round : (s m n k r : List Spot) → Symbol 40 s m → Balanced m n → Symbol 41 n k → Balanced k r → Balanced s r
-  braced : (s m n k r : List Spot) → Symbol 123 s m → Balanced m n → Symbol 125 n k → Balanced k r → Balanced s r
+  plain : (spot : Spot) (s r : List Spot) → bracket spot.token ≡ Neither → Balanced s r
+      → Balanced (spot ∷ s) r
+  round : (s m n k r : List Spot) → Symbol 40 s m → Balanced m n → Symbol 41 n k → Balanced k r
+      → Balanced s r
+  braced : (s m n k r : List Spot) → Symbol 123 s m → Balanced m n → Symbol 125 n k → Balanced k r
+      → Balanced s r
 
 -- "(" balanced ")"
 abbrev pub Skipped : List Spot → List Spot → Type 0

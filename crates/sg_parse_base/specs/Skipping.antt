@@ -42,7 +42,8 @@ skipped_behind (Some (c ∷ open_ones)) later spots = later (c ∷ open_ones)
 -- the tokens behind the one that closes the outermost bracket; a number bounds the turns, of which each takes a token
 unfoldable pub skipped_from : ℕ → List ℕ → Parser (Unit {0})
 skipped_from zero open_ones spots = Err (fault_at Unexpected spots)
-skipped_from (suc n) open_ones spots = skipped_behind (open_behind (next_bracket spots) open_ones) (λ later. skipped_from n later (behind spots)) spots
+skipped_from (suc n) open_ones spots = skipped_behind (open_behind (next_bracket spots) open_ones)
+    (λ later. skipped_from n later (behind spots)) spots
 
 -- "(" balanced ")"
 unfoldable pub skipped : Parser (Unit {0})

@@ -153,7 +153,8 @@ pub fn next_is_dots(cursor: &Cursor<'_>) -> bool
 /// The next token, where it passes.
 #[tactic(auto, unfolding(crate::specs::Input::expected))]
 fn expected(cursor: &mut Cursor<'_>, passes: bool) -> Result<Spot, Stop>
-    ensures { (p : Token → Bool) → next_is p cursor.old ≡ passes → Reads (expected p cursor.old) result cursor.new }
+    ensures { (p : Token → Bool) → next_is p cursor.old ≡ passes
+        → Reads (expected p cursor.old) result cursor.new }
 {
     if !passes {
         return Err(cursor.fault(ConfigKind::Unexpected));

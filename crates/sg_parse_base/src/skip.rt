@@ -49,7 +49,8 @@ fn next_bracket(cursor: &Cursor<'_>) -> Bracket
 
 /// Changes the open brackets, the innermost last, by a token, and says whether it may stand there.
 fn pass(open_ones: &mut Items<u8>, bracket: Bracket) -> Result<bool, AllocError>
-    ensures { IfOk result (λ b. IsBehind (open_behind bracket (reverse open_ones.old)) (reverse open_ones.new) b) }
+    ensures { IfOk result
+        (λ b. IsBehind (open_behind bracket (reverse open_ones.old)) (reverse open_ones.new) b) }
 {
     match bracket {
         Bracket::Opens(byte) => {

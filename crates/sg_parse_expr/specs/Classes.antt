@@ -87,8 +87,10 @@ name_verdict class.Text token = None
 name_verdict class.Number token = None
 name_verdict class.Truth token = None
 name_verdict class.Yes token = None
-name_verdict class.Facility token = supported (is_same_as token.text facilities || (is_word token && are_digits token.text))
-name_verdict class.Level token = supported (is_same_as token.text levels || (is_word token && are_digits token.text))
+name_verdict class.Facility token = supported
+    (is_same_as token.text facilities || (is_word token && are_digits token.text))
+name_verdict class.Level token = supported
+    (is_same_as token.text levels || (is_word token && are_digits token.text))
 name_verdict class.FileName token = supported (not (has_dollar token.text))
 name_verdict (class.Word choice) token = supported (is_one_of token.text (words_of choice))
 

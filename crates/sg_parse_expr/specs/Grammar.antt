@@ -163,7 +163,8 @@ module _ (Group : Stands RawExpr) where
 -- "(" expr ")", with groups in it nested less deep
 abbrev pub Group : ℕ → List Spot → RawExpr → List Spot → Type 0
 Group zero s x r = ⊥
-Group (suc depth) s x r = (m : List Spot) × (n : List Spot) × Symbol 40 s m × Disjunction (Group depth) m x n × Symbol 41 n r
+Group (suc depth) s x r = (m : List Spot) × (n : List Spot) × Symbol 40 s m
+    × Disjunction (Group depth) m x n × Symbol 41 n r
 
 abbrev pub Expr : ℕ → Stands RawExpr
 Expr depth = Disjunction (Group depth)
@@ -172,7 +173,8 @@ Expr depth = Disjunction (Group depth)
 
 -- "(" expr ")", the parentheses being the option's own
 abbrev pub Condition : ℕ → Stands (List Arg)
-Condition depth s args r = (m : List Spot) × (n : List Spot) × (x : RawExpr) × Symbol 40 s m × Expr depth m x n × Symbol 41 n r × (args ≡ Test x ∷ [])
+Condition depth s args r = (m : List Spot) × (n : List Spot) × (x : RawExpr) × Symbol 40 s m
+    × Expr depth m x n × Symbol 41 n r × (args ≡ Test x ∷ [])
 
 abbrev pub OptionArgs : ℕ → RewriteOption → Stands (List Arg)
 OptionArgs depth (option.Flat form) = FlatArgs form

@@ -123,7 +123,8 @@ pub fn paired<R: Rule<Item = Arg>>(
     classes: (Class, Class),
     option: &R,
 ) -> Result<Items<Arg>, Stop>
-    ensures { Reads (spec.paired classes.0 classes.1 (R.parser option.now) cursor.old) result cursor.new }
+    ensures { Reads (spec.paired classes.0 classes.1 (R.parser option.now) cursor.old) result
+        cursor.new }
 {
     let mut found = Items::new(alloc);
     symbol(cursor, b'(')?;

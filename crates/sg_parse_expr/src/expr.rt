@@ -132,7 +132,8 @@ fn negation(alloc: Global, cursor: &mut Cursor<'_>, depth: usize) -> Result<RawE
 
 #[cycle(expr)]
 fn conjuncts(alloc: Global, cursor: &mut Cursor<'_>, depth: usize) -> Result<Items<RawExpr>, Stop>
-    ensures { Reads (chain (spec.negation (spec.group depth)) (codes "and") cursor.old) result cursor.new }
+    ensures { Reads (chain (spec.negation (spec.group depth)) (codes "and") cursor.old) result
+        cursor.new }
 {
     let mut found = Items::new(alloc);
     found.push(negation(alloc, cursor, depth)?)?;
@@ -156,7 +157,8 @@ fn conjunction(alloc: Global, cursor: &mut Cursor<'_>, depth: usize) -> Result<R
 
 #[cycle(expr)]
 fn disjuncts(alloc: Global, cursor: &mut Cursor<'_>, depth: usize) -> Result<Items<RawExpr>, Stop>
-    ensures { Reads (chain (spec.conjunction (spec.group depth)) (codes "or") cursor.old) result cursor.new }
+    ensures { Reads (chain (spec.conjunction (spec.group depth)) (codes "or") cursor.old) result
+        cursor.new }
 {
     let mut found = Items::new(alloc);
     found.push(conjunction(alloc, cursor, depth)?)?;

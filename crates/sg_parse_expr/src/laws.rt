@@ -11,12 +11,16 @@ ghost use Rattle.sg_parse_expr.specs.Ends.{Ends};
 /// What is read as an expression is of the grammar, and what is of the grammar is read where neither
 /// `and` nor `or` stands behind it.
 pub fn expressions_are_of_the_grammar()
-    ensures read { (depth : ℕ) (s r : List Spot) (x : RawExpr) → expr_at depth s ≡ Ok (x, r) → Expr depth s x r }
-    ensures again { (depth : ℕ) (s r : List Spot) (x : RawExpr) → Expr depth s x r → Ends r → expr_at depth s ≡ Ok (x, r) }
+    ensures read { (depth : ℕ) (s r : List Spot) (x : RawExpr) → expr_at depth s ≡ Ok (x, r)
+        → Expr depth s x r }
+    ensures again { (depth : ℕ) (s r : List Spot) (x : RawExpr) → Expr depth s x r → Ends r
+        → expr_at depth s ≡ Ok (x, r) }
 {}
 
 /// What is read as a rewrite is of the grammar, and what is of the grammar is read.
 pub fn rewrites_are_of_the_grammar()
-    ensures read { (depth : ℕ) (s r : List Spot) (x : Call) → rewrite_at depth s ≡ Ok (x, r) → RewriteCall depth s x r }
-    ensures again { (depth : ℕ) (s r : List Spot) (x : Call) → RewriteCall depth s x r → rewrite_at depth s ≡ Ok (x, r) }
+    ensures read { (depth : ℕ) (s r : List Spot) (x : Call) → rewrite_at depth s ≡ Ok (x, r)
+        → RewriteCall depth s x r }
+    ensures again { (depth : ℕ) (s r : List Spot) (x : Call) → RewriteCall depth s x r
+        → rewrite_at depth s ≡ Ok (x, r) }
 {}

@@ -20,7 +20,8 @@ abbrev pub fault_of : Fault → Token → ConfigFault
 fault_of fault last = fault_on fault.kind fault.at last
 
 abbrev pub Refuses : List Token → Outcome Object → ParseRefusal → Type 0
-Refuses tokens outcome (Bad fault) = (first : Fault) × (last : Token) × (outcome ≡ Err first) × (slice_get tokens (length tokens - 1) ≡ Some last) × (fault ≡ fault_of first last)
+Refuses tokens outcome (Bad fault) = (first : Fault) × (last : Token) × (outcome ≡ Err first)
+    × (slice_get tokens (length tokens - 1) ≡ Some last) × (fault ≡ fault_of first last)
 Refuses tokens outcome NoMemory = Unit {0}
 
 -- the statement and the place behind it, or the first fault, unless memory runs out

@@ -188,7 +188,8 @@ unfoldable pub own_form : Table → List ℕ → Option OptionForm
 own_form table.FileSource text = row_of source text
 own_form table.NetworkSource text = either (row_of listener text) (row_of source text)
 own_form table.FileDestination text = either (row_of writer text) (row_of destination text)
-own_form table.NetworkDestination text = either (row_of framed text) (either (row_of sender text) (row_of destination text))
+own_form table.NetworkDestination text = either (row_of framed text)
+    (either (row_of sender text) (row_of destination text))
 own_form table.SyslogDestination text = either (row_of sender text) (row_of destination text)
 
 abbrev pub as_flat : Option Flat → Option OptionForm

@@ -63,9 +63,11 @@ pub fn statement(
     requires place { at < length tokens.now }
     requires count { length tokens.now < 2 ^ 32 }
     // What is read is of the grammar, up to the place that is answered.
-    ensures found { IfOk result (λ x. IsObject spec.depth_limit (spec.spots_at tokens.now at) x.0 (spec.spots_at tokens.now x.1)) }
+    ensures found { IfOk result (λ x. IsObject spec.depth_limit (spec.spots_at tokens.now at) x.0
+        (spec.spots_at tokens.now x.1)) }
     // Where a fault is answered no statement stands there.
-    ensures none { IsRefused result → (tree : Tree) (rest : List Spot) → IsObject spec.depth_limit (spec.spots_at tokens.now at) tree rest → ⊥ }
+    ensures none { IsRefused result → (tree : Tree) (rest : List Spot)
+        → IsObject spec.depth_limit (spec.spots_at tokens.now at) tree rest → ⊥ }
     // The statement or the first fault.
     ensures exact { Answers tokens.now (spec.object_at (spec.spots_at tokens.now at)) result }
 {

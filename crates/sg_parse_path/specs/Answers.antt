@@ -10,7 +10,8 @@ use Rattle.sg_parse_obj.specs.Objects.{spots_at}
 use Rattle.sg_parse_obj.specs.Answers.{fault_of, IsBad}
 
 abbrev pub Refuses : List Token → Outcome RawLog → ParseRefusal → Type 0
-Refuses tokens outcome (Bad fault) = (first : Fault) × (last : Token) × (outcome ≡ Err first) × (slice_get tokens (length tokens - 1) ≡ Some last) × (fault ≡ fault_of first last)
+Refuses tokens outcome (Bad fault) = (first : Fault) × (last : Token) × (outcome ≡ Err first)
+    × (slice_get tokens (length tokens - 1) ≡ Some last) × (fault ≡ fault_of first last)
 Refuses tokens outcome NoMemory = Unit {0}
 
 -- the log statement and the place behind it, or the first fault, unless memory runs out

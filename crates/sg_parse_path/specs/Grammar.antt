@@ -37,14 +37,18 @@ Mapped {A} f One s y r = (x : A) × One s x r × (y ≡ f x)
 -- the body of a statement of this kind, under this name
 abbrev pub BodyOf : ℕ → Kind → Spot → Stands Object
 BodyOf depth kind.Source called = Mapped (λ found. object.Source called found) (Drivers side.Source)
-BodyOf depth kind.Destination called = Mapped (λ found. object.Destination called found) (Drivers side.Destination)
+BodyOf depth kind.Destination called = Mapped (λ found. object.Destination called found)
+    (Drivers side.Destination)
 BodyOf depth kind.Filter called = Mapped (λ found. object.Filter called found) (FilterBody depth)
 BodyOf depth kind.Rewrite called = Mapped (λ found. object.Rewrite called found) (Rewrites depth)
 
 -- ref = "(" NAME ")" | the body of such a statement, whose name is the brace that opens it
 pub data Refers (depth : ℕ) (kind : Kind) : List Spot → RawRef → List Spot → Type 0 where
-  named : (s m n r : List Spot) (called : Spot) (x : RawRef) → Symbol 40 s m → Takes is_name m called n → Symbol 41 n r → x ≡ Named called → Refers depth kind s x r
-  inline : (s m r : List Spot) (brace : Spot) (found : Object) (x : RawRef) → s ≡ brace ∷ m → sees 123 s ≡ true → BodyOf depth kind brace s found r → x ≡ Inline found → Refers depth kind s x r
+  named : (s m n r : List Spot) (called : Spot) (x : RawRef) → Symbol 40 s m
+      → Takes is_name m called n → Symbol 41 n r → x ≡ Named called → Refers depth kind s x r
+  inline : (s m r : List Spot) (brace : Spot) (found : Object) (x : RawRef) → s ≡ brace ∷ m
+      → sees 123 s ≡ true → BodyOf depth kind brace s found r → x ≡ Inline found
+      → Refers depth kind s x r
 
 -- a word and a ref
 pub record Referring (depth : ℕ) (kind : Kind) (s : List Spot) (x : RawElement) (r : List Spot) : Type 0 where
@@ -103,7 +107,8 @@ module _ (depth : ℕ) (Block : Stage → Stands Path) where
 
   pub data Element : List Spot → RawElement → List Spot → Type 0 where
     -- "source" ref | "destination" ref | "filter" ref | "rewrite" ref
-    refers : (s r : List Spot) (x : RawElement) (kind : Kind) → Referring depth kind s x r → Element s x r
+    refers : (s r : List Spot) (x : RawElement) (kind : Kind) → Referring depth kind s x r
+        → Element s x r
     -- "junction" "{" { "channel" "{" path "}" ";" } "}"
     junction : (s m r : List Spot) (xs : List RawLog) (x : RawElement) → Keyword (codes "junction") s m → Braced (Worded Block (codes "channel")) m xs r → x ≡ Junction xs → Element s x r
     -- "if" "(" expr ")" "{" .. "}" { "elif" .. } [ "else" .. ]
@@ -111,7 +116,8 @@ module _ (depth : ℕ) (Block : Stage → Stands Path) where
 
   -- one thing, where it may stand
   pub data Part (at : Stage) : List Spot → Piece → List Spot → Type 0 where
-    element : (s r : List Spot) (x : RawElement) (y : Piece) → takes_elements at ≡ true → Element s x r → y ≡ piece.Element x → Part at s y r
+    element : (s r : List Spot) (x : RawElement) (y : Piece) → takes_elements at ≡ true
+        → Element s x r → y ≡ piece.Element x → Part at s y r
     -- "log" "{" path "}"
     embedded : (s r : List Spot) (x : RawLog) (y : Piece) → takes_ends at ≡ true → Worded Block (codes "log") s x r → y ≡ piece.Embedded x → Part at s y r
     -- "flags" "(" { NAME } ")"
@@ -120,13 +126,16 @@ module _ (depth : ℕ) (Block : Stage → Stands Path) where
   -- path "}", where path = { element ";" } { "log" "{" path "}" ";" } [ "flags" "(" { NAME } ")" ";" ]: what may stand at a place is its stage
   pub data Parts : Stage → List Spot → List Piece → List Spot → Type 0 where
     closed : (at : Stage) (s r : List Spot) → Symbol 125 s r → Parts at s [] r
-    extra : (at : Stage) (s m r : List Spot) (xs : List Piece) → Symbol 59 s m → Parts at m xs r → Parts at s xs r
-    more : (at : Stage) (s m n r : List Spot) (x : Piece) (xs : List Piece) → Part at s x m → Ended m n → Parts (stage_behind at x) n xs r → Parts at s (x ∷ xs) r
+    extra : (at : Stage) (s m r : List Spot) (xs : List Piece) → Symbol 59 s m → Parts at m xs r
+        → Parts at s xs r
+    more : (at : Stage) (s m n r : List Spot) (x : Piece) (xs : List Piece) → Part at s x m
+        → Ended m n → Parts (stage_behind at x) n xs r → Parts at s (x ∷ xs) r
 
 -- "{" path "}", with what stands in it nested less deep
 abbrev pub Block : ℕ → Stage → List Spot → Path → List Spot → Type 0
 Block zero at s x r = ⊥
-Block (suc depth) at s x r = (m : List Spot) × (xs : List Piece) × Symbol 123 s m × Parts depth (Block depth) at m xs r × (x ≡ path_of empty_path xs)
+Block (suc depth) at s x r = (m : List Spot) × (xs : List Piece) × Symbol 123 s m
+    × Parts depth (Block depth) at m xs r × (x ≡ path_of empty_path xs)
 
 -- "log" "{" path "}"
 abbrev pub IsLog : ℕ → Stands RawLog

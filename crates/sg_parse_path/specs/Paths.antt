@@ -49,7 +49,8 @@ takes_ends stage.Embedded = true
 takes_ends stage.Nothing = false
 
 unfoldable pub log_of : Spot → Path → RawLog
-log_of word path = roll-RawLog (record { word = word; elements = path.elements; embedded = path.embedded; flags = path.flags })
+log_of word path = roll-RawLog
+    (record { word = word; elements = path.elements; embedded = path.embedded; flags = path.flags })
 
 unfoldable pub branch_of : RawExpr → Path → RawBranch
 branch_of test path = roll-RawBranch (record { test = test; elements = path.elements })

@@ -21,8 +21,10 @@ mapped f parse spots = parse spots >>= λ x. Ok (f x.0, x.1)
 
 -- the body of a statement of this kind, in braces, under this name
 unfoldable pub body_of : ℕ → Kind → Spot → Parser Object
-body_of depth kind.Source called = mapped (λ found. object.Source called found) (drivers side.Source)
-body_of depth kind.Destination called = mapped (λ found. object.Destination called found) (drivers side.Destination)
+body_of depth kind.Source called = mapped (λ found. object.Source called found)
+    (drivers side.Source)
+body_of depth kind.Destination called = mapped (λ found. object.Destination called found)
+    (drivers side.Destination)
 body_of depth kind.Filter called = mapped (λ found. object.Filter called found) (filter_body depth)
 body_of depth kind.Rewrite called = mapped (λ found. object.Rewrite called found) (rewrites depth)
 

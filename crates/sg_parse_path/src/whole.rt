@@ -56,9 +56,11 @@ pub fn log_statement(
     requires place { at < length tokens.now }
     requires count { length tokens.now < 2 ^ 32 }
     // What is read is of the grammar, up to the place that is answered.
-    ensures found { IfOk result (λ x. IsLog depth_limit (spots_at tokens.now at) x.0 (spots_at tokens.now x.1)) }
+    ensures found { IfOk result
+        (λ x. IsLog depth_limit (spots_at tokens.now at) x.0 (spots_at tokens.now x.1)) }
     // Where a fault is answered no log statement stands there.
-    ensures none { IsRefused result → (tree : Tree) (rest : List Spot) → IsLog depth_limit (spots_at tokens.now at) tree rest → ⊥ }
+    ensures none { IsRefused result → (tree : Tree) (rest : List Spot)
+        → IsLog depth_limit (spots_at tokens.now at) tree rest → ⊥ }
     // The log statement or the first fault.
     ensures exact { Answers tokens.now (log_in depth_limit (spots_at tokens.now at)) result }
 {

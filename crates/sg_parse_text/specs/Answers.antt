@@ -16,10 +16,12 @@ unexpected_on token = record { kind = Unexpected; file = token.file; line = toke
 
 -- nothing goes on at that place
 abbrev pub IsUnexpected : List Token → ℕ → ConfigFault → Type 0
-IsUnexpected tokens at fault = (last : Token) × (slice_get tokens (length tokens - 1) ≡ Some last) × (fault ≡ fault_of (fault_at Unexpected (spots_at tokens at)) last)
+IsUnexpected tokens at fault = (last : Token) × (slice_get tokens (length tokens - 1) ≡ Some last)
+    × (fault ≡ fault_of (fault_at Unexpected (spots_at tokens at)) last)
 
 abbrev pub Refuses : {A : Type 0} → List Token → Outcome A → ParseRefusal → Type 0
-Refuses tokens outcome (Bad fault) = (first : Fault) × (last : Token) × (outcome ≡ Err first) × (slice_get tokens (length tokens - 1) ≡ Some last) × (fault ≡ fault_of first last)
+Refuses tokens outcome (Bad fault) = (first : Fault) × (last : Token) × (outcome ≡ Err first)
+    × (slice_get tokens (length tokens - 1) ≡ Some last) × (fault ≡ fault_of first last)
 Refuses tokens outcome NoMemory = Unit {0}
 
 -- what stands at a place, and the place behind it, or the first fault, unless memory runs out
@@ -33,7 +35,8 @@ AnswersPlace tokens outcome (Ok next) = outcome ≡ Ok (tt, spots_at tokens next
 AnswersPlace tokens outcome (Err refusal) = Refuses tokens outcome refusal
 
 -- and where nothing is left
-abbrev pub AnswersAll : List Token → Outcome (List Statement) → Result (List Statement) ParseRefusal → Type 0
+abbrev pub AnswersAll : List Token → Outcome (List Statement) → Result (List Statement) ParseRefusal
+    → Type 0
 AnswersAll tokens outcome (Ok found) = outcome ≡ Ok (found, [])
 AnswersAll tokens outcome (Err refusal) = Refuses tokens outcome refusal
 

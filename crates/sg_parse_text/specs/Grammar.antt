@@ -16,4 +16,5 @@ IsStatement s (statement.Log log) r = IsLog depth_limit s log r
 pub data IsText : List Spot → List Statement → Type 0 where
   none : IsText [] []
   extra : (s m : List Spot) (xs : List Statement) → Symbol 59 s m → IsText m xs → IsText s xs
-  more : (s m n : List Spot) (x : Statement) (xs : List Statement) → IsStatement s x m → Symbol 59 m n → IsText n xs → IsText s (x ∷ xs)
+  more : (s m n : List Spot) (x : Statement) (xs : List Statement) → IsStatement s x m
+      → Symbol 59 m n → IsText n xs → IsText s (x ∷ xs)

@@ -80,7 +80,8 @@ pub fn statements(alloc: Global, tokens: &[Token]) -> Result<Items<Statement>, P
     // What is read is of the grammar.
     ensures found { IfOk result (λ found. IsText (spots_at tokens.now 0) found) }
     // Where a fault is answered the tokens are no configuration.
-    ensures none { IsRefused result → (found : List Parsed) → IsText (spots_at tokens.now 0) found → ⊥ }
+    ensures none { IsRefused result → (found : List Parsed) → IsText (spots_at tokens.now 0) found
+        → ⊥ }
     // The statements or the first fault.
     ensures exact { AnswersAll tokens.now (text_at (spots_at tokens.now 0)) result }
 {

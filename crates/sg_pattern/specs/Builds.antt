@@ -40,19 +40,24 @@ abbrev pub MatchesAs : Bool → List ℕ → Re → Type 0
 MatchesAs ignore_case text re = IsSomeAnd (regex_of ignore_case text) (SameCaptures re)
 
 abbrev pub Builds : WorldState → WorldState → List ℕ → Bool → Result kit.Regex BuildFault → Type 0
-Builds old new text ignore_case (Ok regex) = OnlyBuilds old new × MatchesAs ignore_case text (regex_pattern regex)
-Builds old new text ignore_case (Err Syntax) = OnlyBuilds old new × (regex_of ignore_case text ≡ None)
-Builds old new text ignore_case (Err TooLarge) = OnlyBuilds old new × Rose old.build_faults new.build_faults
+Builds old new text ignore_case (Ok regex) = OnlyBuilds old new
+    × MatchesAs ignore_case text (regex_pattern regex)
+Builds old new text ignore_case (Err Syntax) = OnlyBuilds old new
+    × (regex_of ignore_case text ≡ None)
+Builds old new text ignore_case (Err TooLarge) = OnlyBuilds old new
+    × Rose old.build_faults new.build_faults
 Builds old new text ignore_case (Err NoMemory) = OnlyBuilds old new
 
 -- why a pattern was refused
 abbrev pub RefusesPattern : WorldState → WorldState → Pattern → PatternRefusal → Type 0
 RefusesPattern old new p refusal.Syntax = IsNoPattern p
-RefusesPattern old new p refusal.TooLarge = (p.kind ≡ Regex) × Rose old.build_faults new.build_faults
+RefusesPattern old new p refusal.TooLarge = (p.kind ≡ Regex)
+    × Rose old.build_faults new.build_faults
 RefusesPattern old new p refusal.NoMemory = Unit {0}
 
 -- why nothing was made of a pattern that a configuration writes
 abbrev pub RefusesText : WorldState → WorldState → PatternText → BuildRefusal → Type 0
 RefusesText old new p (build.BadPattern line) = (line ≡ p.line) × IsNoPattern (pattern_of p)
-RefusesText old new p (build.TooLarge line) = (line ≡ p.line) × (p.kind ≡ Regex) × Rose old.build_faults new.build_faults
+RefusesText old new p (build.TooLarge line) = (line ≡ p.line) × (p.kind ≡ Regex)
+    × Rose old.build_faults new.build_faults
 RefusesText old new p build.NoMemory = Unit {0}

@@ -35,7 +35,8 @@ only_deliveries now = record { deliveries = now.deliveries; out = []; processed 
 -- from these siblings of a round on
 abbrev pub trying : Bool → Walked → Siblings → Siblings → Content → Bool → Walked
 trying true so_far rest all m f = both so_far (round rest true m f)
-trying false so_far rest all m f = two_rounds (both so_far (round rest false m f)) (round all true m f)
+trying false so_far rest all m f = two_rounds (both so_far (round rest false m f))
+    (round all true m f)
 
 module _ (pipes : List Pipe) (offered : List Branch) where
   abbrev pub from : Group → ℕ → Siblings

@@ -35,7 +35,8 @@ mutual
 
 TopsStayWithin-prop : (dests : ℕ) (tops : List Top) → IsProp (TopsStayWithin dests tops)
 TopsStayWithin-prop dests [] = Unit-prop
-TopsStayWithin-prop dests (top ∷ tops) = ×_prop (StaysWithin-prop dests top.steps) (TopsStayWithin-prop dests tops)
+TopsStayWithin-prop dests (top ∷ tops) = ×_prop (StaysWithin-prop dests top.steps)
+    (TopsStayWithin-prop dests tops)
 
 pub IsWithin-prop : (woods : Woods) → IsProp (IsWithin woods)
 IsWithin-prop woods = ×_prop (TopsStayWithin-prop woods.dests woods.tops) le_prop

@@ -25,7 +25,9 @@ impl Gone {
 
     /// What the other left too.
     pub(crate) fn join(&mut self, alloc: Global, other: Gone) -> Result<(), AllocError>
-        ensures { OnOk result ((messages_of self.new.out ≡ messages_of self.old.out ++ messages_of other.out) × (self.new.processed ≡ (self.old.processed || other.processed))) }
+        ensures { OnOk result (
+            (messages_of self.new.out ≡ messages_of self.old.out ++ messages_of other.out)
+            × (self.new.processed ≡ (self.old.processed || other.processed))) }
     {
         let first = std::mem::replace(&mut self.out, Messages::Empty);
         self.out = joined(alloc, first, other.out)?;

@@ -85,7 +85,8 @@ pub(crate) fn reversed(messages: Messages) -> Messages
 
 /// Takes the last.
 pub(crate) fn take_last(messages: &mut Messages) -> Option<Message>
-    ensures some { IfSome result (λ last. messages_of messages.old ≡ messages_of messages.new ++ last ∷ []) }
+    ensures some { IfSome result
+        (λ last. messages_of messages.old ≡ messages_of messages.new ++ last ∷ []) }
     ensures none { IfNone result (messages_of messages.old ≡ []) }
 {
     match std::mem::replace(messages, Messages::Empty) {

@@ -31,7 +31,8 @@ fn offers_of(
     inlet: u32,
     message: Message,
 ) -> Result<Vec<Offer>, AllocError>
-    ensures offers { IfOk result (λ offers. offers.items ≡ deliveries_of (forest_of table.old) inlet message) }
+    ensures offers { IfOk result
+        (λ offers. offers.items ≡ deliveries_of (forest_of table.old) inlet message) }
     ensures stays { forest_of table.new ≡ forest_of table.old }
     ensures rules { (table.new.inlets ≡ table.old.inlets) × (table.new.dests ≡ table.old.dests) }
 {
@@ -61,7 +62,8 @@ fn routed(
 ) -> Result<Vec<Offer>, AllocError>
     requires inlet { inlet < length table.old.inlets.items }
     requires moment { (pos 0 ≤ℤ at) × (at ≤ℤ pos 250_000_000_000_000_000) }
-    ensures offers { IfOk result (λ found. AreOffers (forest_of table.old) inlet (record_at peer.now item at) found.items) }
+    ensures offers { IfOk result
+        (λ found. AreOffers (forest_of table.old) inlet (record_at peer.now item at) found.items) }
     ensures stays { forest_of table.new ≡ forest_of table.old }
     ensures rules { (table.new.inlets ≡ table.old.inlets) × (table.new.dests ≡ table.old.dests) }
 {

@@ -40,7 +40,8 @@ fn pipes_name_there(pipes: &[Pipe], dests: usize) -> bool
 /// Whether each destination that the pipes of the table name is there.
 pub fn names_within(table: &Table) -> bool
     ensures is { result ≡ pipes_name_there (length table.now.dests.items) table.now.pipes.items }
-    ensures within { result ≡ true → TopsStayWithin (forest_of table.now).dests (forest_of table.now).tops }
+    ensures within { result ≡ true
+        → TopsStayWithin (forest_of table.now).dests (forest_of table.now).tops }
 {
     pipes_name_there(&table.pipes, table.dests.len())
 }

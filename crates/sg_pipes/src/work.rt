@@ -65,7 +65,8 @@ impl Work {
 
     /// Forgets what was done, for a message that these statements are offered from an inlet.
     pub(crate) fn clear(&mut self, tops: &[Top], inlet: u32) -> Result<(), AllocError>
-        ensures { OnOk result ((self.new.offered.items ≡ branches_for inlet tops.now) × (self.new.frames.items ≡ []) × (self.new.offers.items ≡ [])) }
+        ensures { OnOk result ((self.new.offered.items ≡ branches_for inlet tops.now)
+            × (self.new.frames.items ≡ []) × (self.new.offers.items ≡ [])) }
     {
         self.frames.clear();
         self.offers.clear();
@@ -76,7 +77,8 @@ impl Work {
 
     /// The message comes out.
     fn leave(&mut self, message: Message)
-        ensures { (pipes : List APipe) → Comes pipes (after_deliveries (now self.old).deliveries (record { deliveries = []; out = message ∷ []; processed = true })) self.old self.new }
+        ensures { (pipes : List APipe) → Comes pipes (after_deliveries (now self.old).deliveries
+            (record { deliveries = []; out = message ∷ []; processed = true })) self.old self.new }
     {
         self.back = Gone {
             out: Messages::One(message),
@@ -86,13 +88,16 @@ impl Work {
 
     /// Nothing comes out.
     fn stop(&mut self)
-        ensures { (pipes : List APipe) → Comes pipes (after_deliveries (now self.old).deliveries stopped) self.old self.new }
+        ensures { (pipes : List APipe)
+            → Comes pipes (after_deliveries (now self.old).deliveries stopped) self.old self.new }
     {
         self.back = Gone::nothing();
     }
 
     fn go(&mut self, at: u32, message: Message, flow: bool) -> Result<(), AllocError>
-        ensures { OnOk result ((pipes : List APipe) → Comes pipes (after_deliveries (now self.old).deliveries (walk (steps_at pipes at) message flow)) self.old self.new) }
+        ensures { OnOk result ((pipes : List APipe) → Comes pipes
+            (after_deliveries (now self.old).deliveries (walk (steps_at pipes at) message flow))
+            self.old self.new) }
     {
         self.frames.push(Frame::Walk { at, message, flow })?;
         Ok(())
@@ -105,7 +110,10 @@ impl Work {
         message: Message,
         flow: bool,
     ) -> Result<(), AllocError>
-        ensures { OnOk result ((pipes : List APipe) → Comes pipes (after_deliveries (now self.old).deliveries (branches (from pipes self.old.offered.items group 0) message flow)) self.old self.new) }
+        ensures { OnOk result ((pipes : List APipe) → Comes pipes
+            (after_deliveries (now self.old).deliveries
+            (branches (from pipes self.old.offered.items group 0) message flow)) self.old
+            self.new) }
     {
         self.frames.push(Frame::Try(Trial {
             group,
@@ -154,7 +162,9 @@ impl Work {
 
     fn take_back(&mut self) -> Gone
         ensures taken { result ≡ self.old.back }
-        ensures rest { (self.new.offers ≡ self.old.offers) × (self.new.frames ≡ self.old.frames) × (self.new.offered ≡ self.old.offered) × (messages_of self.new.back.out ≡ []) × (self.new.back.processed ≡ false) }
+        ensures rest { (self.new.offers ≡ self.old.offers) × (self.new.frames ≡ self.old.frames)
+            × (self.new.offered ≡ self.old.offered) × (messages_of self.new.back.out ≡ [])
+            × (self.new.back.processed ≡ false) }
     {
         std::mem::replace(&mut self.back, Gone::nothing())
     }
@@ -165,7 +175,8 @@ impl Work {
         is_final: bool,
         drop_unmatched: bool,
     ) -> Result<(), AllocError>
-        ensures { OnOk result ((pipes : List APipe) → Turns pipes (frame.Tried trial is_final drop_unmatched) self.old self.new) }
+        ensures { OnOk result ((pipes : List APipe)
+            → Turns pipes (frame.Tried trial is_final drop_unmatched) self.old self.new) }
     {
         let mut trial = trial;
         let mut mine = self.take_back();
@@ -181,7 +192,8 @@ impl Work {
     }
 
     fn rest(&mut self, next: u32, flow: bool) -> Result<(), AllocError>
-        ensures { OnOk result ((pipes : List APipe) → Turns pipes (frame.Rest next flow) self.old self.new) }
+        ensures { OnOk result
+            ((pipes : List APipe) → Turns pipes (frame.Rest next flow) self.old self.new) }
     {
         let first = self.take_back();
         self.frames.push(Frame::Each(Wait {
@@ -195,7 +207,8 @@ impl Work {
     }
 
     fn each(&mut self, wait: Wait) -> Result<(), AllocError>
-        ensures { OnOk result ((pipes : List APipe) → Turns pipes (frame.Each wait) self.old self.new) }
+        ensures { OnOk result
+            ((pipes : List APipe) → Turns pipes (frame.Each wait) self.old self.new) }
     {
         let mut wait = wait;
         let last = self.take_back();
@@ -223,7 +236,8 @@ impl Work {
         flow: bool,
     ) -> Result<(), AllocError>
         requires { IsTable pipes.old.items }
-        ensures turns { OnOk result (Turns pipes.old.items (frame.Walk at message flow) self.old self.new) }
+        ensures turns { OnOk result
+            (Turns pipes.old.items (frame.Walk at message flow) self.old self.new) }
         ensures stays { pipes.new.items ≡ pipes.old.items }
     {
         let place = at as usize;

@@ -14,18 +14,23 @@ inlet_store setups i = option_and_then (λ setup. setup.store) (slice_get setups
 
 -- the number of the store of a destination's disk-buffer
 abbrev pub outlet_store : List DestSetup → ℕ → Option ℕ
-outlet_store setups d = option_and_then (λ setup. option_map_or (λ (buffer : BufferSetup). Some buffer.store) setup.buffer None) (slice_get setups d)
+outlet_store setups d = option_and_then
+    (λ setup. option_map_or (λ (buffer : BufferSetup). Some buffer.store) setup.buffer None)
+    (slice_get setups d)
 
 -- an inlet or a destination has the store of this number
 abbrev pub IsUsed : List SourceSetup → List DestSetup → ℕ → Type 0
-IsUsed inlets outlets s = ((i : ℕ) × (inlet_store inlets i ≡ Some s)) ⊎ ((d : ℕ) × (outlet_store outlets d ≡ Some s))
+IsUsed inlets outlets s = ((i : ℕ) × (inlet_store inlets i ≡ Some s))
+    ⊎ ((d : ℕ) × (outlet_store outlets d ≡ Some s))
 
 -- the stores are so many, each is used, and none is that of two inlets, of two destinations, or of one of each
 pub record NumbersStores (inlets : List SourceSetup) (outlets : List DestSetup) (count : ℕ) : Type 0 where
   pub positions : (i s : ℕ) → inlet_store inlets i ≡ Some s → s < count
   pub buffers : (d s : ℕ) → outlet_store outlets d ≡ Some s → s < count
-  pub inlets_apart : (i j s : ℕ) → inlet_store inlets i ≡ Some s → inlet_store inlets j ≡ Some s → i ≡ j
-  pub dests_apart : (d e s : ℕ) → outlet_store outlets d ≡ Some s → outlet_store outlets e ≡ Some s → d ≡ e
+  pub inlets_apart : (i j s : ℕ) → inlet_store inlets i ≡ Some s → inlet_store inlets j ≡ Some s
+      → i ≡ j
+  pub dests_apart : (d e s : ℕ) → outlet_store outlets d ≡ Some s → outlet_store outlets e ≡ Some s
+      → d ≡ e
   pub apart : (i d s : ℕ) → inlet_store inlets i ≡ Some s → outlet_store outlets d ≡ Some s → ⊥
   pub used : (s : ℕ) → s < count → IsUsed inlets outlets s
 
@@ -37,7 +42,8 @@ HasWindow setup = (100 ≤ setup.window) × (setup.window ≤ 100000)
 pub record HasRoom (setup : DestSetup) : Type 0 where
   pub some : 1 ≤ setup.fifo
   pub most : setup.fifo ≤ 1000000
-  pub least_capacity : (buffer : BufferSetup) → setup.buffer ≡ Some buffer → 2 ^ 20 ≤ buffer.capacity
+  pub least_capacity : (buffer : BufferSetup) → setup.buffer ≡ Some buffer
+      → 2 ^ 20 ≤ buffer.capacity
   pub most_capacity : (buffer : BufferSetup) → setup.buffer ≡ Some buffer → buffer.capacity ≤ 2 ^ 30
 
 -- an inlet of one of so many drivers: 1 to 1,048,576 bytes a record, 1 to 1,000 records a turn
@@ -57,9 +63,12 @@ pub record AreWithin (parts : Parts) : Type 0 where
   pub inlet_owners : length parts.inlet_owners ≡ length parts.inlets
   pub outlet_owners : length parts.outlet_owners ≡ length parts.outlets
   pub numbers : NumbersStores parts.inlet_setups parts.outlet_setups (length parts.stores)
-  pub windows : (i : ℕ) (setup : SourceSetup) → slice_get parts.inlet_setups i ≡ Some setup → HasWindow setup
-  pub rooms : (d : ℕ) (setup : DestSetup) → slice_get parts.outlet_setups d ≡ Some setup → HasRoom setup
-  pub each : (i : ℕ) (inlet : InletPlan) → slice_get parts.inlets i ≡ Some inlet → IsInlet (length parts.sources) inlet
+  pub windows : (i : ℕ) (setup : SourceSetup) → slice_get parts.inlet_setups i ≡ Some setup
+      → HasWindow setup
+  pub rooms : (d : ℕ) (setup : DestSetup) → slice_get parts.outlet_setups d ≡ Some setup
+      → HasRoom setup
+  pub each : (i : ℕ) (inlet : InletPlan) → slice_get parts.inlets i ≡ Some inlet
+      → IsInlet (length parts.sources) inlet
 
 abbrev pub IsWithin : Plan → Type 0
 IsWithin plan = AreWithin (parts_of plan)

@@ -78,7 +78,8 @@ setup_of count source = record { window = source.window; store = number_by count
 
 -- the inlets of the driver of this number, one for each slot
 abbrev pub inlets_of : ℕ → Owner → SourceDriver → List InletPlan
-inlets_of number owner source = map (λ slot. plan_of source slot number (name_in owner)) (range_with_len 0 (slots_at source.place))
+inlets_of number owner source = map (λ slot. plan_of source slot number (name_in owner))
+    (range_with_len 0 (slots_at source.place))
 
 abbrev pub with_source : Parts → Owner → SourceDriver → Parts
 with_source parts owner source = record {

@@ -14,7 +14,8 @@ use Rattle.sg_plan.specs.Owned.{Owned}
 
 abbrev pub IsRead : Globals → Side → Call → Driver → Type 0
 IsRead globals side.Source call (driver.Source source) = IsSource globals.defaults call source
-IsRead globals side.Destination call (driver.Destination dest) = IsDestination globals.defaults (text_in globals.texts) call dest
+IsRead globals side.Destination call (driver.Destination dest) = IsDestination globals.defaults
+    (text_in globals.texts) call dest
 IsRead globals side.Source call (driver.Destination dest) = ⊥
 IsRead globals side.Destination call (driver.Source source) = ⊥
 
@@ -24,7 +25,8 @@ AreRead globals [] [] = Unit {0}
 AreRead globals [] (driver ∷ drivers) = ⊥
 AreRead globals (written ∷ others) [] = ⊥
 AreRead globals (written ∷ others) (driver ∷ drivers) =
-    (driver.owner ≡ written.0) × IsRead globals written.1.0 written.1.1 driver.driver × AreRead globals others drivers
+    (driver.owner ≡ written.0) × IsRead globals written.1.0 written.1.1 driver.driver
+    × AreRead globals others drivers
 
 -- these drivers come behind those that were read before
 pub record Reads (globals : Globals) (written : Owned) (old new : List OwnedDriver) : Type 0 where

@@ -63,7 +63,8 @@ pub fn add_inlets(
     owner: &Owner,
     source: &SourceDriver,
 ) -> Result<(), NoMemory>
-    ensures { OnOk result (inlets.new.items ≡ inlets.old.items ++ inlets_of number owner.now source.now) }
+    ensures { OnOk result
+        (inlets.new.items ≡ inlets.old.items ++ inlets_of number owner.now source.now) }
 {
     for slot in 0..source.slots() {
         inlets.push(source.plan(slot, number, name_in(owner))?)?;
@@ -102,7 +103,8 @@ pub fn add_buffer(
     buffer: Option<DiskBuffer>,
 ) -> Result<Option<BufferSetup>, NoMemory>
     requires { length stores.old.items < 2 ^ 32 }
-    ensures stores { OnOk result (stores.new.items ≡ stores.old.items ++ stores_by (option_map (λ (buffer : DiskBuffer). buffer.store) buffer)) }
+    ensures stores { OnOk result (stores.new.items ≡ stores.old.items
+        ++ stores_by (option_map (λ (buffer : DiskBuffer). buffer.store) buffer)) }
     ensures setup { IfOk result (λ setup. setup ≡ buffer_by (length stores.old.items) buffer) }
 {
     match buffer {

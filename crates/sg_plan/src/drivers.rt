@@ -25,7 +25,8 @@ fn read_calls(
     calls: &[Call],
 ) -> Result<(), NoMemory>
     requires { AreDefaults globals.now.defaults }
-    ensures { OnOk result (Reads globals.now (calls_at inline name.now side calls.now) found.old.items found.new.items) }
+    ensures { OnOk result (Reads globals.now (calls_at inline name.now side calls.now)
+        found.old.items found.new.items) }
 {
     for call in calls {
         read_driver(alloc, globals, found, inline, name, side, call)?;
@@ -41,7 +42,8 @@ fn read_object(
     object: &Object,
 ) -> Result<(), NoMemory>
     requires { AreDefaults globals.now.defaults }
-    ensures { OnOk result (Reads globals.now (object_owned inline object.now) found.old.items found.new.items) }
+    ensures { OnOk result
+        (Reads globals.now (object_owned inline object.now) found.old.items found.new.items) }
 {
     match object {
         Object::Source { name, drivers } => {
@@ -73,7 +75,8 @@ fn read_reference(
     reference: &RawRef,
 ) -> Result<(), NoMemory>
     requires { AreDefaults globals.now.defaults }
-    ensures { OnOk result (Reads globals.now (reference_owned reference.now) found.old.items found.new.items) }
+    ensures { OnOk result
+        (Reads globals.now (reference_owned reference.now) found.old.items found.new.items) }
 {
     match reference {
         RawRef::Named(_) => Ok(()),
@@ -92,7 +95,8 @@ fn read_element(
     element: &RawElement,
 ) -> Result<(), NoMemory>
     requires { AreDefaults globals.now.defaults }
-    ensures { OnOk result (Reads globals.now (element_owned element.now) found.old.items found.new.items) }
+    ensures { OnOk result
+        (Reads globals.now (element_owned element.now) found.old.items found.new.items) }
 {
     match element {
         RawElement::Source(_, source) => {
@@ -130,7 +134,8 @@ fn read_elements(
     elements: &[RawElement],
 ) -> Result<(), NoMemory>
     requires { AreDefaults globals.now.defaults }
-    ensures { OnOk result (Reads globals.now (flat_map element_owned elements.now) found.old.items found.new.items) }
+    ensures { OnOk result
+        (Reads globals.now (flat_map element_owned elements.now) found.old.items found.new.items) }
 {
     for element in elements {
         read_element(alloc, globals, found, element)?;
@@ -146,7 +151,8 @@ fn read_branches(
     branches: &[RawBranch],
 ) -> Result<(), NoMemory>
     requires { AreDefaults globals.now.defaults }
-    ensures { OnOk result (Reads globals.now (flat_map branch_owned branches.now) found.old.items found.new.items) }
+    ensures { OnOk result
+        (Reads globals.now (flat_map branch_owned branches.now) found.old.items found.new.items) }
 {
     for branch in branches {
         read_branch(alloc, globals, found, branch)?;
@@ -162,7 +168,8 @@ fn read_branch(
     branch: &RawBranch,
 ) -> Result<(), NoMemory>
     requires { AreDefaults globals.now.defaults }
-    ensures { OnOk result (Reads globals.now (branch_owned branch.now) found.old.items found.new.items) }
+    ensures { OnOk result
+        (Reads globals.now (branch_owned branch.now) found.old.items found.new.items) }
 {
     read_elements(alloc, globals, found, branch.elements.as_slice())?;
     Ok(())
@@ -176,7 +183,8 @@ fn read_logs(
     logs: &[RawLog],
 ) -> Result<(), NoMemory>
     requires { AreDefaults globals.now.defaults }
-    ensures { OnOk result (Reads globals.now (flat_map log_owned logs.now) found.old.items found.new.items) }
+    ensures { OnOk result
+        (Reads globals.now (flat_map log_owned logs.now) found.old.items found.new.items) }
 {
     for log in logs {
         read_log(alloc, globals, found, log)?;
@@ -206,7 +214,8 @@ fn read_statement(
     statement: &Statement,
 ) -> Result<(), NoMemory>
     requires { AreDefaults globals.now.defaults }
-    ensures { OnOk result (Reads globals.now (statement_owned statement.now) found.old.items found.new.items) }
+    ensures { OnOk result
+        (Reads globals.now (statement_owned statement.now) found.old.items found.new.items) }
 {
     match statement {
         Statement::Object(object) => {
@@ -227,7 +236,8 @@ pub fn read_drivers(
     statements: &[Statement],
 ) -> Result<Vec<OwnedDriver>, NoMemory>
     requires { AreDefaults globals.now.defaults }
-    ensures { IfOk result (λ found. AreRead globals.now (owned_drivers statements.now) found.items) }
+    ensures { IfOk result
+        (λ found. AreRead globals.now (owned_drivers statements.now) found.items) }
 {
     let mut found = Vec::new(alloc);
     for statement in statements {

@@ -9,15 +9,18 @@ ghost use Rattle.sg_plan.specs.Limits.{IsWithin};
 
 /// The drivers of statements come to one plan.
 pub fn plans_are_one()
-    ensures { (statements : List Statement) (a b : Plan) → IsPlan statements a → IsPlan statements b → AreAlike a b }
+    ensures { (statements : List Statement) (a b : Plan) → IsPlan statements a → IsPlan statements b
+        → AreAlike a b }
 {}
 
 /// Where nothing is wrong with statements, their plan is within the limits, and each store is used once.
 pub fn plans_are_within()
-    ensures { (statements : List Statement) (plan : Plan) → IsFirstFault statements None → IsPlan statements plan → IsWithin plan }
+    ensures { (statements : List Statement) (plan : Plan) → IsFirstFault statements None
+        → IsPlan statements plan → IsWithin plan }
 {}
 
 /// The paths of a plan's outlets don't come with their texts.
 pub fn outlets_are_direct()
-    ensures { (statements : List Statement) (plan : Plan) → IsPlan statements plan → AreDirect plan.outlets.items }
+    ensures { (statements : List Statement) (plan : Plan) → IsPlan statements plan
+        → AreDirect plan.outlets.items }
 {}

@@ -86,7 +86,8 @@ fn add_destination(
     destination: DestinationDriver,
 ) -> Result<(), NoMemory>
     requires { length plan.old.stores.items < 2 ^ 32 }
-    ensures { OnOk result (parts_of plan.new ≡ with_destination (parts_of plan.old) owner destination) }
+    ensures { OnOk result
+        (parts_of plan.new ≡ with_destination (parts_of plan.old) owner destination) }
 {
     let DestinationDriver {
         plan: outlet,

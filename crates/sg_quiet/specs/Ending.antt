@@ -39,18 +39,30 @@ pub record IsEnded (offers : ℕ → Record → List Offer → Type 0) (plan : I
 -- these calls were made in the rounds, and leave this
 pub record Ends {R : Type 0} (offers : R → ℕ → Record → List Offer → Type 0) (plan : RunPlan) (routers : List R) (reached : Reached) (run : CoreRun) (made : List Exchange) : Type 0 where
   pub makes : Makes Serves run.begun made run.last
-  pub inlets : (i : ℕ) (inlet : InletPlan) (setup : SourceSetup) (router : R) (closed : InletState) → slice_get plan.inlets.items i ≡ Some inlet → slice_get plan.setup.sources i ≡ Some setup → slice_get routers i ≡ Some router
-      → slice_get reached.inlets_closed i ≡ Some closed → IsEnded (offers router) inlet setup i closed made
+  pub inlets : (i : ℕ) (inlet : InletPlan) (setup : SourceSetup) (router : R) (closed : InletState)
+      → slice_get plan.inlets.items i ≡ Some inlet → slice_get plan.setup.sources i ≡ Some setup
+      → slice_get routers i ≡ Some router
+      → slice_get reached.inlets_closed i ≡ Some closed
+      → IsEnded (offers router) inlet setup i closed made
   -- all that is kept is settled
-  pub dests : (d : ℕ) (state : State) (dest : Dest) → IsAt run.last state → slice_get state.dests d ≡ Some dest → dest.left ≡ []
+  pub dests : (d : ℕ) (state : State) (dest : Dest) → IsAt run.last state
+      → slice_get state.dests d ≡ Some dest → dest.left ≡ []
   -- each image of a disk-buffer has no entry
-  pub lists : (d : ℕ) (setup : DestSetup) (buffer : BufferSetup) (disk : DiskState) → slice_get plan.setup.dests d ≡ Some setup → setup.buffer ≡ Some buffer → slice_get reached.stores_closed buffer.store ≡ Some disk → EachNow disk (IsListOf [])
+  pub lists : (d : ℕ) (setup : DestSetup) (buffer : BufferSetup) (disk : DiskState)
+      → slice_get plan.setup.dests d ≡ Some setup → setup.buffer ≡ Some buffer
+      → slice_get reached.stores_closed buffer.store ≡ Some disk → EachNow disk (IsListOf [])
   -- each image of a position store has the end of the last record that came in, the position at which reading began where none did
-  pub positions : (i : ℕ) (setup : SourceSetup) (s : ℕ) (disk : DiskState) → slice_get plan.setup.sources i ≡ Some setup → setup.store ≡ Some s → slice_get reached.stores_closed s ≡ Some disk
+  pub positions : (i : ℕ) (setup : SourceSetup) (s : ℕ) (disk : DiskState)
+      → slice_get plan.setup.sources i ≡ Some setup → setup.store ≡ Some s
+      → slice_get reached.stores_closed s ≡ Some disk
       → EachNow disk (IsPosition (last_end (position_at run.begun i) (brought_by i made)))
 
 -- so it is where the rounds ended quietly and nothing is counted as failed
-abbrev pub CleanRunsEnd : {R I O : Type 0} → (I → InletState) → (O → OutletState) → (R → ℕ → Record → List Offer → Type 0) → (R → ℕ) → (R → ℕ) → Type 0
+abbrev pub CleanRunsEnd : {R I O : Type 0} → (I → InletState) → (O → OutletState)
+    → (R → ℕ → Record → List Offer → Type 0) → (R → ℕ) → (R → ℕ) → Type 0
 CleanRunsEnd {R} {I} {O} feed drain offers inlets dests =
-    (old new : WorldState) (plan : RunPlan) (routers : List R) (rounds : ℕ) (counts : Counts) (reached : Reached) (run : CoreRun) → IsRunnable plan → reached.core ≡ Some run → first_fault counts.sinks counts.stores counts.inlets ≡ None
-    → RunsWith feed drain offers inlets dests old new plan routers rounds (Ran Quiet (Some counts)) reached → (made : List Exchange) × Ends offers plan routers reached run made
+    (old new : WorldState) (plan : RunPlan) (routers : List R) (rounds : ℕ) (counts : Counts)
+    (reached : Reached) (run : CoreRun) → IsRunnable plan → reached.core ≡ Some run
+    → first_fault counts.sinks counts.stores counts.inlets ≡ None
+    → RunsWith feed drain offers inlets dests old new plan routers rounds (Ran Quiet (Some counts))
+    reached → (made : List Exchange) × Ends offers plan routers reached run made

@@ -41,9 +41,11 @@ abbrev pub spec_for : InletPlan → Option ℕ → ℕ → ℕ → SourceSpec
 spec_for plan store i from = record { inlet = i; kind = plan.kind; limit = plan.limit; fetch = plan.fetch; from = from; stored = is_some store }
 
 -- The records that came in are all that the inlet gave, in order, each with its end and its offers, where the inlet tells what it gave.
-abbrev pub IsWhole : (ℕ → Record → List Offer → Type 0) → InletPlan → Option ℕ → ℕ → InletState → List Admission → Type 0
+abbrev pub IsWhole : (ℕ → Record → List Offer → Type 0) → InletPlan → Option ℕ → ℕ → InletState
+    → List Admission → Type 0
 IsWhole offers plan store i closed brought =
-    IfSome (option_map (records plan.kind plan.limit closed.from) closed.told) (λ given. AreOf offers (spec_for plan store i closed.from) given brought)
+    IfSome (option_map (records plan.kind plan.limit closed.from) closed.told)
+    (λ given. AreOf offers (spec_for plan store i closed.from) given brought)
 
 -- The inlet has ended or failed, and all its whole items came in.
 pub record IsDone (offers : ℕ → Record → List Offer → Type 0) (plan : InletPlan) (store : Option ℕ) (i : ℕ) (opened closed : InletState) (brought : List Admission) : Type 0 where
@@ -57,30 +59,42 @@ HasNoCredit core i = (state : State) → IsAt core state → credit_left state i
 -- The inlet is done, or there is no credit. The stored position is the mark, where the store works.
 pub record SourceRests (offers : ℕ → Record → List Offer → Type 0) (plan : InletPlan) (setup : SourceSetup) (core : CoreState) (i : ℕ) (opened closed : InletState) (made : List Exchange) : Type 0 where
   pub over : IsDone offers plan setup.store i opened closed (brought_by i made) ⊎ HasNoCredit core i
-  pub stored : (state : State) (inlet : Inlet) (s : ℕ) → IsAt core state → slice_get state.inlets i ≡ Some inlet → setup.store ≡ Some s → is_listed s state.failed ≡ false → inlet.stored ≡ mark_of state.dests i inlet
+  pub stored : (state : State) (inlet : Inlet) (s : ℕ) → IsAt core state
+      → slice_get state.inlets i ≡ Some inlet → setup.store ≡ Some s
+      → is_listed s state.failed ≡ false → inlet.stored ≡ mark_of state.dests i inlet
 
 -- Destinations.
 
 -- With `--once` three sends or reopenings of the outlet failed, and no frame was taken since; or the store of the disk-buffer has failed.
 abbrev pub IsGivenUp : Bool → OutletState → List ℕ → Dest → Type 0
-IsGivenUp once closed failed dest = ((once ≡ true) × (3 ≤ closed.failing)) ⊎ (is_broken failed dest ≡ true)
+IsGivenUp once closed failed dest = ((once ≡ true) × (3 ≤ closed.failing))
+    ⊎ (is_broken failed dest ≡ true)
 
 -- no entry is left, or the destination is given up
 abbrev pub DestRests : Bool → CoreState → ℕ → OutletState → Type 0
 DestRests once core d closed =
-    (state : State) (dest : Dest) → IsAt core state → slice_get state.dests d ≡ Some dest → (dest.left ≡ []) ⊎ IsGivenUp once closed state.failed dest
+    (state : State) (dest : Dest) → IsAt core state → slice_get state.dests d ≡ Some dest
+    → (dest.left ≡ []) ⊎ IsGivenUp once closed state.failed dest
 
 -- The whole.
 
 -- these calls were made in the rounds, and leave this
 pub record Rests {R : Type 0} (offers : R → ℕ → Record → List Offer → Type 0) (plan : RunPlan) (routers : List R) (reached : Reached) (run : CoreRun) (made : List Exchange) : Type 0 where
   pub makes : Makes Serves run.begun made run.last
-  pub sources : (i : ℕ) (inlet : InletPlan) (setup : SourceSetup) (router : R) (opened closed : InletState) → slice_get plan.inlets.items i ≡ Some inlet → slice_get plan.setup.sources i ≡ Some setup → slice_get routers i ≡ Some router
-      → slice_get reached.inlets i ≡ Some opened → slice_get reached.inlets_closed i ≡ Some closed → SourceRests (offers router) inlet setup run.last i opened closed made
-  pub dests : (d : ℕ) (closed : OutletState) → slice_get reached.outlets_closed d ≡ Some closed → DestRests plan.once run.last d closed
+  pub sources :
+      (i : ℕ) (inlet : InletPlan) (setup : SourceSetup) (router : R) (opened closed : InletState)
+      → slice_get plan.inlets.items i ≡ Some inlet → slice_get plan.setup.sources i ≡ Some setup
+      → slice_get routers i ≡ Some router
+      → slice_get reached.inlets i ≡ Some opened → slice_get reached.inlets_closed i ≡ Some closed
+      → SourceRests (offers router) inlet setup run.last i opened closed made
+  pub dests : (d : ℕ) (closed : OutletState) → slice_get reached.outlets_closed d ≡ Some closed
+      → DestRests plan.once run.last d closed
 
 -- so it is where the rounds ended quietly
-abbrev pub QuietRunsRest : {R I O : Type 0} → (I → InletState) → (O → OutletState) → (R → ℕ → Record → List Offer → Type 0) → (R → ℕ) → (R → ℕ) → Type 0
+abbrev pub QuietRunsRest : {R I O : Type 0} → (I → InletState) → (O → OutletState)
+    → (R → ℕ → Record → List Offer → Type 0) → (R → ℕ) → (R → ℕ) → Type 0
 QuietRunsRest {R} {I} {O} feed drain offers inlets dests =
-    (old new : WorldState) (plan : RunPlan) (routers : List R) (rounds : ℕ) (counts : Option Counts) (reached : Reached) (run : CoreRun) → IsRunnable plan → reached.core ≡ Some run
-    → RunsWith feed drain offers inlets dests old new plan routers rounds (Ran Quiet counts) reached → (made : List Exchange) × Rests offers plan routers reached run made
+    (old new : WorldState) (plan : RunPlan) (routers : List R) (rounds : ℕ) (counts : Option Counts)
+    (reached : Reached) (run : CoreRun) → IsRunnable plan → reached.core ≡ Some run
+    → RunsWith feed drain offers inlets dests old new plan routers rounds (Ran Quiet counts) reached
+    → (made : List Exchange) × Rests offers plan routers reached run made

@@ -28,7 +28,8 @@ is_pid_byte b = is_print b && not (b == 93)
 
 -- the tag behind a program's name of this length: a colon and maybe a space
 abbrev pub plain_tag : List ℕ → ℕ → Option Tag
-plain_tag text program = Some (record { program = program; pid = None; len = past text (program + 1) 32 })
+plain_tag text program = Some
+    (record { program = program; pid = None; len = past text (program + 1) 32 })
 
 -- or a process id in brackets, and maybe a colon and a space
 abbrev pub pid_tag : List ℕ → ℕ → Option Tag
@@ -36,7 +37,8 @@ pid_tag text program =
     let pid = prefix_len is_pid_byte (drop (program + 1) text) in
     let end = program + 1 + pid in
     if nat_lt 0 pid && has_at text end 93
-    then Some (record { program = program; pid = Some pid; len = past text (past text (end + 1) 58) 32 })
+    then Some
+    (record { program = program; pid = Some pid; len = past text (past text (end + 1) 58) 32 })
     else None
 
 -- the tag, with the program's name and the process id (sections 4.1.3 and 5.3)
@@ -54,7 +56,8 @@ program_of (Some tag) text = Some (slice_range text 0 tag.program)
 
 abbrev pub pid_of : Option Tag → List ℕ → Option (List ℕ)
 pid_of None text = None
-pid_of (Some tag) text = option_map (λ pid. slice_range text (tag.program + 1) (tag.program + 1 + pid)) tag.pid
+pid_of (Some tag) text =
+    option_map (λ pid. slice_range text (tag.program + 1) (tag.program + 1 + pid)) tag.pid
 
 abbrev pub behind_tag : Option Tag → List ℕ → List ℕ
 behind_tag None text = text

@@ -16,7 +16,8 @@ is_end text place = place == length text || has_at text place 32
 
 -- a stamp of so many bytes at the front, which the text's end or a space follows: of RFC 3164's form, or of ISO 8601's
 abbrev pub HasBsd : List ℕ → Stamp → Stamp → ℕ → Type 0
-HasBsd text received stamp len = IsBsd text (local_time received) received.offset stamp len × (is_end text len ≡ true)
+HasBsd text received stamp len = IsBsd text (local_time received) received.offset stamp len
+    × (is_end text len ≡ true)
 
 abbrev pub HasIso : List ℕ → Stamp → ℕ → Type 0
 HasIso text stamp len = IsIso text stamp len × (is_end text len ≡ true)
@@ -73,7 +74,8 @@ unparsed opts received peer item = record {
 
 -- The fourth and fifth steps: the tag, and what is left is MESSAGE
 abbrev pub parts_of : List ℕ → List ℕ → List Pair
-parts_of host text = parts host (program_of (tag text) text) (pid_of (tag text) text) (behind_tag (tag text) text)
+parts_of host text = parts host (program_of (tag text) text) (pid_of (tag text) text)
+    (behind_tag (tag text) text)
 
 abbrev pub pairs_behind_stamp : ReadOpts → List ℕ → Bool → List ℕ → List Pair
 pairs_behind_stamp opts peer stamped text =
@@ -93,7 +95,8 @@ parsed opts received peer item found = record {
 -- the message that an item is read as, parsed or not
 abbrev pub ReadsAs : Bool → ReadOpts → Stamp → List ℕ → List ℕ → Content → Type 0
 ReadsAs true opts received peer item content =
-    (found : Option (Stamp × ℕ)) × (FindsStamp (behind_pri (priority item) item) received found × (content ≡ parsed opts received peer item found))
+    (found : Option (Stamp × ℕ)) × (FindsStamp (behind_pri (priority item) item) received found
+    × (content ≡ parsed opts received peer item found))
 ReadsAs false opts received peer item content = content ≡ unparsed opts received peer item
 
 -- the item, its moment, its peer and the source's options give this message

@@ -87,7 +87,8 @@ fn pid_tag(text: &[u8], program: usize) -> Option<Tag>
     requires { program < length text.now }
     ensures value { result ≡ pid_tag text.now program }
     ensures program { IfSome result (λ tag. tag.program ≡ program) }
-    ensures pid { IfSome result (λ tag. ForSome tag.pid (λ pid. program + 1 + pid ≤ length text.now)) }
+    ensures pid { IfSome result
+        (λ tag. ForSome tag.pid (λ pid. program + 1 + pid ≤ length text.now)) }
     ensures len { IfSome result (λ tag. tag.len ≤ length text.now) }
 {
     let pid = pid_run(&text[program + 1..]);
@@ -107,7 +108,8 @@ fn pid_tag(text: &[u8], program: usize) -> Option<Tag>
 pub(crate) fn find_tag(text: &[u8]) -> Option<Tag>
     ensures value { result ≡ tag text.now }
     ensures program { IfSome result (λ tag. tag.program ≤ length text.now) }
-    ensures pid { IfSome result (λ tag. ForSome tag.pid (λ pid. tag.program + 1 + pid ≤ length text.now)) }
+    ensures pid { IfSome result
+        (λ tag. ForSome tag.pid (λ pid. tag.program + 1 + pid ≤ length text.now)) }
     ensures len { IfSome result (λ tag. tag.len ≤ length text.now) }
 {
     let program = program_run(text);

@@ -36,7 +36,8 @@ data_pairs pairs = filter is_data pairs
 -- their names are of the grammar
 abbrev pub AreNamed : List Pair → Type 0
 AreNamed [] = Unit {0}
-AreNamed (pair ∷ pairs) = (is_data pair ≡ true → is_some (sd_name pair.name) ≡ true) × AreNamed pairs
+AreNamed (pair ∷ pairs) = (is_data pair ≡ true → is_some (sd_name pair.name) ≡ true)
+    × AreNamed pairs
 
 -- whether an element of this ID is open, and whether the items begin with one of it
 abbrev pub is_open : Option (List ℕ) → List ℕ → Bool
@@ -59,7 +60,8 @@ HasPlace before id (Some name) value behind = Unit {0}
 
 abbrev pub HavePlaces : Option (List ℕ) → List Item → Type 0
 HavePlaces before [] = Unit {0}
-HavePlaces before (item ∷ items) = HasPlace before item.id item.param item.value items × HavePlaces (Some item.id) items
+HavePlaces before (item ∷ items) = HasPlace before item.id item.param item.value items
+    × HavePlaces (Some item.id) items
 
 -- structured data that a line has a place for
 pub record KeepsData (pairs : List Pair) : Type 0 where

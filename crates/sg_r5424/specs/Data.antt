@@ -30,7 +30,8 @@ pub record IsParam (text : List ℕ) (param : Param) (rest : List ℕ) : Type 0 
 -- the parameters of an element, and the bracket that closes it
 pub data Params : List ℕ → List Param → List ℕ → Type 0 where
   closed : (rest : List ℕ) → Params (93 ∷ rest) [] rest
-  more : (text middle rest : List ℕ) (param : Param) (params : List Param) → IsParam text param middle → Params middle params rest → Params text (param ∷ params) rest
+  more : (text middle rest : List ℕ) (param : Param) (params : List Param)
+      → IsParam text param middle → Params middle params rest → Params text (param ∷ params) rest
 
 -- the names of the pairs that an element gives
 abbrev pub element_name : List ℕ → List ℕ
@@ -61,13 +62,16 @@ pub record IsElement (text : List ℕ) (pairs : List Pair) (rest : List ℕ) : T
 -- elements, up to where none begins
 pub data Elements : List ℕ → List Pair → List ℕ → Type 0 where
   none : (text : List ℕ) → Stops (λ b. b == 91) text → Elements text [] text
-  more : (text middle rest : List ℕ) (first pairs : List Pair) → IsElement text first middle → Elements middle pairs rest → Elements text (first ++ pairs) rest
+  more : (text middle rest : List ℕ) (first pairs : List Pair) → IsElement text first middle
+      → Elements middle pairs rest → Elements text (first ++ pairs) rest
 
 -- STRUCTURED-DATA: nil, or one or more elements
 abbrev pub IsData : List ℕ → List Pair → List ℕ → Type 0
 IsData [] pairs rest = ⊥
-IsData (b ∷ text) pairs rest = ((b ≡ 45) × (pairs ≡ []) × (rest ≡ text)) ⊎ ((b ≡ 91) × Elements (b ∷ text) pairs rest)
+IsData (b ∷ text) pairs rest = ((b ≡ 45) × (pairs ≡ []) × (rest ≡ text))
+    ⊎ ((b ≡ 91) × Elements (b ∷ text) pairs rest)
 
 -- the pairs of parameters that a text has, up to the closing bracket
 abbrev pub HasParams : List ℕ → List ℕ → List Pair → List ℕ → Type 0
-HasParams id text pairs rest = (params : List Param) × (Params text params rest × (pairs ≡ map (param_pair id) params))
+HasParams id text pairs rest = (params : List Param)
+    × (Params text params rest × (pairs ≡ map (param_pair id) params))

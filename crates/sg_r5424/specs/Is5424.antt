@@ -75,16 +75,20 @@ Is5424 item at peer opts content = Reads (received_at at opts) peer opts (withou
 
 -- why an item has no message: nothing is related to it, and the place is at most its length; or memory lacks
 abbrev pub IsRefusal : List ℕ → ℤ → List ℕ → ReadOpts → R5424Refusal → Type 0
-IsRefusal item at peer opts (Syntax place) = (place ≤ length item) × ((content : Content) → ¬ Is5424 item at peer opts content)
+IsRefusal item at peer opts (Syntax place) = (place ≤ length item)
+    × ((content : Content) → ¬ Is5424 item at peer opts content)
 IsRefusal item at peer opts NoMemory = Unit {0}
 
 abbrev pub Answers5424 : List ℕ → ℤ → List ℕ → ReadOpts → Result Content R5424Refusal → Type 0
-Answers5424 item at peer opts result = MatchResult result (λ content. Is5424 item at peer opts content) (λ refusal. IsRefusal item at peer opts refusal)
+Answers5424 item at peer opts result = MatchResult result
+    (λ content. Is5424 item at peer opts content) (λ refusal. IsRefusal item at peer opts refusal)
 
 -- a text is related to the message found, or to none, and what is left of it is no longer
-abbrev pub TryReads : (Content → Type 0) → List ℕ → List ℕ → Result (Option Content) AllocError → Type 0
+abbrev pub TryReads : (Content → Type 0) → List ℕ → List ℕ → Result (Option Content) AllocError
+    → Type 0
 TryReads Is old new result =
-    IfOk result (λ found. MatchOption found (((content : Content) → ¬ Is content) × (length new ≤ length old)) (λ content. Is content))
+    IfOk result (λ found. MatchOption found
+    (((content : Content) → ¬ Is content) × (length new ≤ length old)) (λ content. Is content))
 
 -- what a record that isn't so becomes
 abbrev pub refusal_pairs : List ℕ → List ℕ → List Pair

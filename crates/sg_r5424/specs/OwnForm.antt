@@ -18,17 +18,23 @@ pub record Element : Type 0 where
   pub params : List Param
 
 -- the elements of a record, in their order
-abbrev pub elements_of : (text : List ℕ) (pairs : List Pair) (rest : List ℕ) → Elements text pairs rest → List Element
+abbrev pub elements_of : (text : List ℕ) (pairs : List Pair) (rest : List ℕ)
+    → Elements text pairs rest → List Element
 elements_of _ _ _ (none text stops) = []
-elements_of _ _ _ (more text middle rest first pairs one others) = (record { id = one.id; params = one.params }) ∷ elements_of middle pairs rest others
+elements_of _ _ _ (more text middle rest first pairs one others) =
+    (record { id = one.id; params = one.params }) ∷ elements_of middle pairs rest others
 
-abbrev pub data_elements : (text : List ℕ) (pairs : List Pair) (rest : List ℕ) → IsData text pairs rest → List Element
+abbrev pub data_elements : (text : List ℕ) (pairs : List Pair) (rest : List ℕ)
+    → IsData text pairs rest → List Element
 data_elements [] pairs rest is = []
 data_elements (b ∷ text) pairs rest (inl nil) = []
 data_elements (b ∷ text) pairs rest (inr some) = elements_of (b ∷ text) pairs rest some.1
 
-abbrev pub record_elements : (received : Stamp) (peer : List ℕ) (opts : ReadOpts) (item : List ℕ) (content : Content) → Reads received peer opts item content → List Element
-record_elements received peer opts item content read = data_elements read.behind_names read.behind.pairs read.behind.rest read.behind.is_data
+abbrev pub record_elements :
+    (received : Stamp) (peer : List ℕ) (opts : ReadOpts) (item : List ℕ) (content : Content)
+    → Reads received peer opts item content → List Element
+record_elements received peer opts item content read = data_elements read.behind_names
+    read.behind.pairs read.behind.rest read.behind.is_data
 
 -- no `@` in the ID, as in those that IANA registers, and no dot; and none in the parameters' names
 pub record IsRegistered (element : Element) : Type 0 where
@@ -59,10 +65,12 @@ has_none [] = true
 has_none (param ∷ params) = false
 
 abbrev pub stands_alone : List ℕ → List Element → Bool
-stands_alone id elements = list_any (λ element. bytes_eq element.id id && has_none element.params) elements
+stands_alone id elements = list_any (λ element. bytes_eq element.id id && has_none element.params)
+    elements
 
 abbrev pub has_params : List ℕ → List Element → Bool
-has_params id elements = list_any (λ element. bytes_eq element.id id && not (has_none element.params)) elements
+has_params id elements =
+    list_any (λ element. bytes_eq element.id id && not (has_none element.params)) elements
 
 -- each element is told, and no ID stands both with parameters and without; so where each ID stands once (section 6.3.2)
 pub record HasOwnForm (elements : List Element) : Type 0 where
@@ -72,4 +80,5 @@ pub record HasOwnForm (elements : List Element) : Type 0 where
 -- the item is related to this message, and its elements have that form
 abbrev pub ReadsOwnForm : List ℕ → ℤ → List ℕ → ReadOpts → Content → Type 0
 ReadsOwnForm item at peer opts content =
-    (read : Is5424 item at peer opts content) × HasOwnForm (record_elements (received_at at opts) peer opts (without_end item) content read)
+    (read : Is5424 item at peer opts content)
+    × HasOwnForm (record_elements (received_at at opts) peer opts (without_end item) content read)

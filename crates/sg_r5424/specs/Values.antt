@@ -6,9 +6,12 @@ use Rattle.sg_msg.specs.Sets.{is_escaped}
 -- bracket. Before another byte a backslash is itself. The three bytes stand in no other way.
 pub data Spells : List ℕ → List ℕ → Type 0 where
   none : Spells [] []
-  escaped : (b : ℕ) (text value : List ℕ) → is_escaped b ≡ true → Spells text value → Spells (92 ∷ b ∷ text) (b ∷ value)
-  backslash : (b : ℕ) (text value : List ℕ) → is_escaped b ≡ false → Spells text value → Spells (92 ∷ b ∷ text) (92 ∷ b ∷ value)
-  plain : (b : ℕ) (text value : List ℕ) → is_escaped b ≡ false → Spells text value → Spells (b ∷ text) (b ∷ value)
+  escaped : (b : ℕ) (text value : List ℕ) → is_escaped b ≡ true → Spells text value
+      → Spells (92 ∷ b ∷ text) (b ∷ value)
+  backslash : (b : ℕ) (text value : List ℕ) → is_escaped b ≡ false → Spells text value
+      → Spells (92 ∷ b ∷ text) (92 ∷ b ∷ value)
+  plain : (b : ℕ) (text value : List ℕ) → is_escaped b ≡ false → Spells text value
+      → Spells (b ∷ text) (b ∷ value)
 
 -- a value at the front, up to the quote that closes it
 pub record IsValue (text value rest : List ℕ) : Type 0 where
@@ -35,4 +38,5 @@ unescaped_byte false b = if b == 92 then [] else b ∷ []
 -- what a text spells, where a backslash may stand before it
 abbrev pub unescaped_from : Bool → List ℕ → List ℕ
 unescaped_from behind [] = []
-unescaped_from behind (b ∷ text) = unescaped_byte behind b ++ unescaped_from (is_bare behind b 92) text
+unescaped_from behind (b ∷ text) = unescaped_byte behind b
+    ++ unescaped_from (is_bare behind b 92) text

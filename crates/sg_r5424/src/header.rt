@@ -48,7 +48,8 @@ fn take_start(text: &mut Bytes) -> Option<u8>
 // Takes a TIMESTAMP that isn't nil, and the space behind it.
 #[tactic(none)]
 fn take_iso(text: &mut Bytes) -> Option<Stamp>
-    ensures stamp { Takes (λ text stamp rest. IsStamp text (Some stamp) rest) text.old text.new result }
+    ensures stamp { Takes (λ text stamp rest. IsStamp text (Some stamp) rest) text.old text.new
+        result }
     ensures valid { IfSome result IsValid }
 {
     let Some((stamp, len)) = read_iso(text.as_slice()) else {
@@ -129,7 +130,8 @@ pub(crate) fn start_message(
     requires pri { front.pri ≤ 191 }
     requires sent { ForSome front.stamp IsValid }
     requires received { IsValid received }
-    ensures { IfOk result (λ builder. builder ≡ header_build received peer.now opts.now front names) }
+    ensures { IfOk result
+        (λ builder. builder ≡ header_build received peer.now opts.now front names) }
 {
     let sent = opts.sent(front.stamp, received);
     let host = opts.host(unless_nil(names.host), peer)?;

@@ -10,7 +10,8 @@ ghost use Rattle.sg_r5424.specs.OwnForm.{ReadsOwnForm};
 
 /// A record is related to at most one message.
 pub fn records_say_one_message()
-    ensures { (item : List ℕ) (at : ℤ) (peer : List ℕ) (opts : ReadOpts) (a b : Content) → Is5424 item at peer opts a → Is5424 item at peer opts b → a ≡ b }
+    ensures { (item : List ℕ) (at : ℤ) (peer : List ℕ) (opts : ReadOpts) (a b : Content)
+        → Is5424 item at peer opts a → Is5424 item at peer opts b → a ≡ b }
 {}
 
 /// What `write` appends is a record, for every moment, peer and options, where the year of its stamp is

@@ -43,7 +43,8 @@ fn drop_end(text: &mut Bytes)
 
 // What MSG says, where a text is at its end or goes on with it.
 fn message_in(mut text: Bytes) -> Option<Bytes>
-    ensures { MatchOption result ((message : List ℕ) → ¬ IsMessage text message) (λ message. IsMessage text message) }
+    ensures { MatchOption result ((message : List ℕ) → ¬ IsMessage text message)
+        (λ message. IsMessage text message) }
 {
     if text.is_empty() {
         return Some(text);
@@ -59,7 +60,8 @@ fn message_in(mut text: Bytes) -> Option<Bytes>
 
 // The message with this MESSAGE.
 fn finish(mut builder: MessageBuilder, said: Bytes) -> Result<Message, AllocError>
-    ensures { IfOk result (λ message. message ≡ built (record builder { put = builder.put ++ message_pair said ∷ [] })) }
+    ensures { IfOk result (λ message. message
+        ≡ built (record builder { put = builder.put ++ message_pair said ∷ [] })) }
 {
     builder.put(PairName::Message, said)?;
     let message = builder.message()?;

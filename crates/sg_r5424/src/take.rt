@@ -13,7 +13,8 @@ use std::alloc::AllocError;
 
 // Whether the byte stands at the front.
 pub(crate) fn first_is(text: &[u8], byte: u8) -> bool
-    ensures { MatchBool result (text.now ≡ byte ∷ drop 1 text.now) ((rest : List ℕ) → ¬ (text.now ≡ byte ∷ rest)) }
+    ensures { MatchBool result (text.now ≡ byte ∷ drop 1 text.now)
+        ((rest : List ℕ) → ¬ (text.now ≡ byte ∷ rest)) }
 {
     match text {
         [first, ..] => *first == byte,
@@ -23,7 +24,8 @@ pub(crate) fn first_is(text: &[u8], byte: u8) -> bool
 
 // Takes these bytes, where they stand at the front.
 pub(crate) fn take_text(text: &mut Bytes, front: &[u8]) -> bool
-    ensures taken { MatchBool result (text.old ≡ front.now ++ text.new) ((rest : List ℕ) → ¬ (text.old ≡ front.now ++ rest)) }
+    ensures taken { MatchBool result (text.old ≡ front.now ++ text.new)
+        ((rest : List ℕ) → ¬ (text.old ≡ front.now ++ rest)) }
     ensures kept { OnFalse result (text.new ≡ text.old) }
     ensures shorter { length text.new ≤ length text.old }
 {

@@ -81,7 +81,8 @@ fn append_fields(message: &Message, out: &mut Vec<u8>) -> Result<(), AllocError>
 // A space, and a field of at most so many bytes.
 #[tactic(auto, using(sg_template::proofs::Appending::appending))]
 fn append_field(most: usize, value: &[u8], out: &mut Vec<u8>) -> Result<(), AllocError>
-    ensures ok { OnOk result (out.new.items ≡ out.old.items ++ (codes " " ++ field_text most value.now)) }
+    ensures ok { OnOk result
+        (out.new.items ≡ out.old.items ++ (codes " " ++ field_text most value.now)) }
     ensures err { OnErr result (BeginsWith out.old.items out.new.items) }
 {
     append(b" ", out)?;
@@ -104,7 +105,8 @@ fn print_length(value: &[u8]) -> usize
 #[tactic(auto, using(sg_template::proofs::Appending::appending))]
 fn append_run<'v>(value: &'v [u8], out: &mut Vec<u8>) -> Result<&'v [u8], AllocError>
     requires { 0 < length value.now }
-    ensures ok { IfOk result (λ rest. out.new.items ++ map printed rest.now ≡ out.old.items ++ map printed value.now) }
+    ensures ok { IfOk result
+        (λ rest. out.new.items ++ map printed rest.now ≡ out.old.items ++ map printed value.now) }
     ensures shorter { IfOk result (λ rest. length rest.now < length value.now) }
     ensures begins { BeginsWith out.old.items out.new.items }
 {

@@ -14,11 +14,13 @@ use Rattle.sg_core.specs.Opening.{buffer_store_in, IsOpen, IsUnopened}
 
 -- each disk tells its bytes, which are the image of its store
 abbrev pub TellImages : List DiskState → List (List ℕ) → Type 0
-TellImages disks images = (s : ℕ) (disk : DiskState) → slice_get disks s ≡ Some disk → (bytes : List ℕ) × (slice_get images s ≡ Some bytes) × (content disk ≡ Some bytes)
+TellImages disks images = (s : ℕ) (disk : DiskState) → slice_get disks s ≡ Some disk
+    → (bytes : List ℕ) × (slice_get images s ≡ Some bytes) × (content disk ≡ Some bytes)
 
 -- the store is that of a source or of a disk-buffer
 abbrev pub IsUsed : Setup → ℕ → Type 0
-IsUsed setup s = ((i : ℕ) × (store_in setup.sources i ≡ Some s)) ⊎ ((d : ℕ) × (buffer_store_in setup.dests d ≡ Some s))
+IsUsed setup s = ((i : ℕ) × (store_in setup.sources i ≡ Some s))
+    ⊎ ((d : ℕ) × (buffer_store_in setup.dests d ≡ Some s))
 
 -- an opening has the positions and the lists that stand in these images of a core's stores
 pub record BeginsWith (core : CoreState) (images : List (List ℕ)) (opening : Opening) : Type 0 where
@@ -27,10 +29,14 @@ pub record BeginsWith (core : CoreState) (images : List (List ℕ)) (opening : O
 
 -- A core opened over these disks with the same setup begins with what stands in the images, and none of its stores is damaged.
 pub record OpensAgain (core : CoreState) (images : List (List ℕ)) (disks : List DiskState) : Type 0 where
-  pub begins : (again : CoreState) (opens : IsOpen (setup_of core) disks again) → BeginsWith core images opens.opening
-  pub whole : (news : List DiskState) (s at : ℕ) → IsUsed (setup_of core) s → IsUnopened (setup_of core) disks news (Damage s at) → ⊥
+  pub begins : (again : CoreState) (opens : IsOpen (setup_of core) disks again)
+      → BeginsWith core images opens.opening
+  pub whole : (news : List DiskState) (s at : ℕ) → IsUsed (setup_of core) s
+      → IsUnopened (setup_of core) disks news (Damage s at) → ⊥
 
 -- What it begins with is safe for these events and the one that was under way.
 abbrev pub BeginsSafe : CoreState → List DiskState → State → List Event → Event → Type 0
 BeginsSafe core disks start events event =
-    (again : CoreState) (opens : IsOpen (setup_of core) disks again) → Safe start events event (record { positions = opens.opening.places; lists = opens.opening.entries })
+    (again : CoreState) (opens : IsOpen (setup_of core) disks again)
+    → Safe start events event
+    (record { positions = opens.opening.places; lists = opens.opening.entries })

@@ -30,7 +30,8 @@ summed driver inlets = record {
 -- a line for each of so many drivers, from this one on
 abbrev pub driver_texts : (driver count : ℕ) → List Line → List ℕ
 driver_texts driver zero inlets = []
-driver_texts driver (suc n) inlets = line_text (summed driver (inlets_of driver inlets)) ++ driver_texts (driver + 1) n inlets
+driver_texts driver (suc n) inlets = line_text (summed driver (inlets_of driver inlets))
+    ++ driver_texts (driver + 1) n inlets
 
 -- the inlets ascend by their drivers: behind those of this one stand those of so many more, one inlet of each at least
 abbrev pub Ascend : (driver more : ℕ) → List Line → Type 0
@@ -38,14 +39,17 @@ Ascend driver zero [] = Unit {0}
 Ascend driver (suc n) [] = ⊥
 Ascend driver zero (inlet ∷ inlets) = (inlet.driver ≡ driver) × Ascend driver zero inlets
 Ascend driver (suc n) (inlet ∷ inlets) =
-    ((inlet.driver ≡ driver) × Ascend driver (suc n) inlets) ⊎ ((inlet.driver ≡ driver + 1) × Ascend (driver + 1) n inlets)
+    ((inlet.driver ≡ driver) × Ascend driver (suc n) inlets)
+    ⊎ ((inlet.driver ≡ driver + 1) × Ascend (driver + 1) n inlets)
 
 abbrev pub AreCounts : List Line → Type 0
 AreCounts [] = Unit {0}
-AreCounts (inlet ∷ inlets) = (inlet.records < 2 ^ 64) × (inlet.bad_frames < 2 ^ 64) × AreCounts inlets
+AreCounts (inlet ∷ inlets) = (inlet.records < 2 ^ 64) × (inlet.bad_frames < 2 ^ 64)
+    × AreCounts inlets
 
 -- each driver has one line, with the sums over its inlets
 abbrev pub SumsUp : Type 0
 SumsUp =
-    (more : ℕ) (inlet : Line) (inlets : List Line) → inlet.driver ≡ 0 → Ascend 0 more inlets → AreCounts (inlet ∷ inlets)
+    (more : ℕ) (inlet : Line) (inlets : List Line) → inlet.driver ≡ 0 → Ascend 0 more inlets
+    → AreCounts (inlet ∷ inlets)
     → source_lines (inlet ∷ inlets) ≡ driver_texts 0 (suc more) (inlet ∷ inlets)

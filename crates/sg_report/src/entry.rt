@@ -22,7 +22,8 @@ pub fn entry_text(
     length: u64,
     out: &mut Vec<u8>,
 ) -> Result<(), AllocError>
-    ensures ok { OnOk result (out.new.items ≡ out.old.items ++ entry_line number source end flow length) }
+    ensures ok { OnOk result
+        (out.new.items ≡ out.old.items ++ entry_line number source end flow length) }
     ensures err { OnErr result (out.new.items ≡ out.old.items) }
 {
     let flow = flow_text(flow);

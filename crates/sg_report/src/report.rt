@@ -69,7 +69,8 @@ fn append_next(
     inlet: Line,
     text: &mut Vec<u8>,
 ) -> Result<Line, AllocError>
-    ensures { IfOk result (λ next. (rest : List Line) → text.new.items ++ driver_lines next rest ≡ text.old.items ++ driver_lines sum (inlet ∷ rest)) }
+    ensures { IfOk result (λ next. (rest : List Line) → text.new.items ++ driver_lines next rest
+        ≡ text.old.items ++ driver_lines sum (inlet ∷ rest)) }
 {
     if inlet.driver == sum.driver {
         return Ok(sum.join(inlet));
@@ -85,7 +86,8 @@ fn append_sources(
     text: &mut Vec<u8>,
 ) -> Result<(), AllocError>
     requires { HasAll tally.now shown.now }
-    ensures { OnOk result (text.new.items ≡ text.old.items ++ source_lines (lines tally.now shown.now)) }
+    ensures { OnOk result
+        (text.new.items ≡ text.old.items ++ source_lines (lines tally.now shown.now)) }
 {
     if tally.sources.is_empty() {
         return Ok(());

@@ -64,7 +64,9 @@ with_store stores (Some name) = fin.insert stores name 0
 -- the first fault with that of a driver more
 abbrev pub first_with : TemplateTexts → Count → ℕ → ℕ → Side → Call → Option Placed
 first_with texts count inlets destinations side call =
-    earlier count.first (earlier (least (own_faults texts side call)) (earlier (least (limit_faults inlets destinations side call)) (least (repeats count.stores (store_of side call) call))))
+    earlier count.first (earlier (least (own_faults texts side call))
+    (earlier (least (limit_faults inlets destinations side call))
+    (least (repeats count.stores (store_of side call) call))))
 
 -- with a driver more
 unfoldable pub with_driver : TemplateTexts → Count → Side × Call → Count

@@ -40,7 +40,8 @@ element_step (RawElement-F.Junction channels) = all_faults channels
 element_step (RawElement-F.If branches other) = all_faults branches ++ faults_if other
 
 abbrev pub log_step : RawLog-F Faults Faults Faults → Faults
-log_step log = (all_faults log.elements ++ all_faults log.embedded) ++ flat_map flag_faults log.flags
+log_step log = (all_faults log.elements ++ all_faults log.embedded)
+    ++ flat_map flag_faults log.flags
 
 abbrev pub branch_step : RawBranch-F Faults Faults Faults → Faults
 branch_step branch = all_faults branch.elements
@@ -67,7 +68,8 @@ unfoldable pub top_element_faults : RawElement → Faults
 top_element_faults element = top_at (element_faults element) (out-RawElement element)
 
 unfoldable pub top_faults : RawLog → Faults
-top_faults log = flat_map top_element_faults (out-RawLog log).elements ++ flat_map log_faults (out-RawLog log).embedded
+top_faults log = flat_map top_element_faults (out-RawLog log).elements
+    ++ flat_map log_faults (out-RawLog log).embedded
 
 abbrev pub statement_faults : Statement → Faults
 statement_faults (statement.Object object) = []

@@ -20,7 +20,8 @@ fn count_calls(
     side: Side,
     calls: &[Call],
 ) -> Result<(), NoMemory>
-    ensures { OnOk result (count.new ≡ fold (with_driver texts.now) count.old (map (λ call. (side, call)) calls.now)) }
+    ensures { OnOk result (count.new
+        ≡ fold (with_driver texts.now) count.old (map (λ call. (side, call)) calls.now)) }
 {
     for call in calls {
         count_driver(alloc, texts, count, side, call)?;
@@ -34,7 +35,8 @@ fn count_object(
     count: &mut Count,
     object: &Object,
 ) -> Result<(), NoMemory>
-    ensures { OnOk result (count.new ≡ fold (with_driver texts.now) count.old (object_drivers object.now)) }
+    ensures { OnOk result
+        (count.new ≡ fold (with_driver texts.now) count.old (object_drivers object.now)) }
 {
     match object {
         Object::Source { drivers, .. } => {
@@ -55,7 +57,8 @@ fn count_reference(
     count: &mut Count,
     reference: &RawRef,
 ) -> Result<(), NoMemory>
-    ensures { OnOk result (count.new ≡ fold (with_driver texts.now) count.old (reference_drivers reference.now)) }
+    ensures { OnOk result
+        (count.new ≡ fold (with_driver texts.now) count.old (reference_drivers reference.now)) }
 {
     match reference {
         RawRef::Named(_) => Ok(()),
@@ -74,7 +77,8 @@ fn count_element(
     count: &mut Count,
     element: &RawElement,
 ) -> Result<(), NoMemory>
-    ensures { OnOk result (count.new ≡ fold (with_driver texts.now) count.old (element_drivers element.now)) }
+    ensures { OnOk result
+        (count.new ≡ fold (with_driver texts.now) count.old (element_drivers element.now)) }
 {
     match element {
         RawElement::Source(_, source) => {
@@ -111,7 +115,8 @@ fn count_elements(
     count: &mut Count,
     elements: &[RawElement],
 ) -> Result<(), NoMemory>
-    ensures { OnOk result (count.new ≡ fold (with_driver texts.now) count.old (flat_map element_drivers elements.now)) }
+    ensures { OnOk result (count.new
+        ≡ fold (with_driver texts.now) count.old (flat_map element_drivers elements.now)) }
 {
     for element in elements {
         count_element(alloc, texts, count, element)?;
@@ -126,7 +131,8 @@ fn count_branches(
     count: &mut Count,
     branches: &[RawBranch],
 ) -> Result<(), NoMemory>
-    ensures { OnOk result (count.new ≡ fold (with_driver texts.now) count.old (flat_map branch_drivers branches.now)) }
+    ensures { OnOk result (count.new
+        ≡ fold (with_driver texts.now) count.old (flat_map branch_drivers branches.now)) }
 {
     for branch in branches {
         count_branch(alloc, texts, count, branch)?;
@@ -141,7 +147,8 @@ fn count_branch(
     count: &mut Count,
     branch: &RawBranch,
 ) -> Result<(), NoMemory>
-    ensures { OnOk result (count.new ≡ fold (with_driver texts.now) count.old (branch_drivers branch.now)) }
+    ensures { OnOk result
+        (count.new ≡ fold (with_driver texts.now) count.old (branch_drivers branch.now)) }
 {
     count_elements(alloc, texts, count, branch.elements.as_slice())?;
     Ok(())
@@ -154,7 +161,8 @@ fn count_logs(
     count: &mut Count,
     logs: &[RawLog],
 ) -> Result<(), NoMemory>
-    ensures { OnOk result (count.new ≡ fold (with_driver texts.now) count.old (flat_map log_drivers logs.now)) }
+    ensures { OnOk result
+        (count.new ≡ fold (with_driver texts.now) count.old (flat_map log_drivers logs.now)) }
 {
     for log in logs {
         count_log(alloc, texts, count, log)?;
@@ -169,7 +177,8 @@ fn count_log(
     count: &mut Count,
     log: &RawLog,
 ) -> Result<(), NoMemory>
-    ensures { OnOk result (count.new ≡ fold (with_driver texts.now) count.old (log_drivers log.now)) }
+    ensures { OnOk result
+        (count.new ≡ fold (with_driver texts.now) count.old (log_drivers log.now)) }
 {
     count_elements(alloc, texts, count, log.elements.as_slice())?;
     count_logs(alloc, texts, count, log.embedded.as_slice())?;
@@ -182,7 +191,8 @@ fn count_statement(
     count: &mut Count,
     statement: &Statement,
 ) -> Result<(), NoMemory>
-    ensures { OnOk result (count.new ≡ fold (with_driver texts.now) count.old (statement_drivers statement.now)) }
+    ensures { OnOk result
+        (count.new ≡ fold (with_driver texts.now) count.old (statement_drivers statement.now)) }
 {
     match statement {
         Statement::Object(object) => {

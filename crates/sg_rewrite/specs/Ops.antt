@@ -25,7 +25,8 @@ IsOp (ClearTag tag) = Unit {0}
 abbrev pub change_of : Op → Change
 change_of (Set name text) = change.Set name text
 change_of (Unset name) = change.Unset name
-change_of (Subst name pattern text) = change.Subst (record { name = name; matcher = pattern_of pattern; text = text })
+change_of (Subst name pattern text) = change.Subst
+    (record { name = name; matcher = pattern_of pattern; text = text })
 change_of (GroupSet globs text) = change.GroupSet globs.items text
 change_of (GroupUnset globs) = change.GroupUnset globs.items
 change_of (SetTag tag) = change.SetTag tag

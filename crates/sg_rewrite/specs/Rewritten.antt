@@ -14,12 +14,14 @@ use Rattle.sg_rewrite.specs.declared.change.Change.TheVariants.{Set, Unset, Subs
 -- message stays as it is.
 abbrev pub with_replaced : List ℕ → List Part → List ℕ → List (ℕ × ℕ) → Content → Content
 with_replaced name parts bytes [] content = content
-with_replaced name parts bytes (s ∷ ss) content = with_value name (replaced (s ∷ ss) bytes (text_over parts None content) 0) content
+with_replaced name parts bytes (s ∷ ss) content = with_value name
+    (replaced (s ∷ ss) bytes (text_over parts None content) 0) content
 
 -- the value that the name has is searched; a name that isn't set stays so
 abbrev pub substituted : Search → Option (List ℕ) → Content → Content
 substituted search None content = content
-substituted search (Some bytes) content = with_replaced search.name search.text bytes (spans_of search.matcher bytes) content
+substituted search (Some bytes) content = with_replaced search.name search.text bytes
+    (spans_of search.matcher bytes) content
 
 -- one of the globs matches the name
 abbrev pub is_picked : List (List ℕ) → List ℕ → Bool
@@ -27,13 +29,15 @@ is_picked globs name = list_any (λ glob. is_glob_match glob name) globs
 
 -- the name has the template's text over the message as it stands; `$_` is the value that it has there
 abbrev pub with_text : List Part → List ℕ → Content → Content
-with_text parts name content = with_value name (text_over parts (value_of name content.pairs) content) content
+with_text parts name content = with_value name
+    (text_over parts (value_of name content.pairs) content) content
 
 -- the names of these pairs that are picked are set, one after another
 abbrev pub set_each : List (List ℕ) → List Part → List Pair → Content → Content
 set_each globs parts [] content = content
 set_each globs parts (pair ∷ pairs) content =
-    set_each globs parts pairs (if is_picked globs pair.name then with_text parts pair.name content else content)
+    set_each globs parts pairs
+    (if is_picked globs pair.name then with_text parts pair.name content else content)
 
 -- the names of these pairs that are picked are unset, the last one first
 abbrev pub unset_each : List (List ℕ) → List Pair → Content → Content

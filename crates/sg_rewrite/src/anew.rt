@@ -38,7 +38,8 @@ fn keep_pairs(
     builder: &mut MessageBuilder,
 ) -> Result<(), NoMemory>
     requires { builder.old.put ≡ [] }
-    ensures { OnOk result (builder.new ≡ record builder.old { put = unpicked globs.now message.now.pairs }) }
+    ensures { OnOk result
+        (builder.new ≡ record builder.old { put = unpicked globs.now message.now.pairs }) }
 {
     let _pri = message.pri();
     for place in 0..message.pair_count() {

@@ -87,7 +87,8 @@ pub(crate) fn set_group(
     message: &mut Message,
     buffers: &mut Buffers,
 ) -> Result<(), NoMemory>
-    ensures ok { OnOk result (message.new ≡ set_each globs.now text.now message.old.pairs message.old) }
+    ensures ok { OnOk result
+        (message.new ≡ set_each globs.now text.now message.old.pairs message.old) }
     ensures err { OnErr result (message.new ≡ message.old) }
 {
     let mut changed = message.share()?;

@@ -10,7 +10,8 @@ use sg_device::NoMemory;
 #[tactic(auto, using(crate::proofs::Cuts::cut_append))]
 fn append(value: &mut Vec<u8>, bytes: &[u8]) -> Result<(), NoMemory>
     requires { length value.old.items ≤ 1048576 }
-    ensures behind { OnOk result ((rest : List ℕ) → cut (value.new.items ++ rest) ≡ cut (value.old.items ++ (bytes.now ++ rest))) }
+    ensures behind { OnOk result ((rest : List ℕ)
+        → cut (value.new.items ++ rest) ≡ cut (value.old.items ++ (bytes.now ++ rest))) }
     ensures short { OnOk result (length value.new.items ≤ 1048576) }
 {
     let room = VALUE_LIMIT - value.len();

@@ -63,7 +63,8 @@ impl Rewrite {
         requires { IsOp op.now }
         ensures ok { IfOk result (λ rewrite. rewrite ≡ change_of op.now) }
         ensures valid { IfOk result HasPattern }
-        ensures refused { IfErr result (RefusesOp (B.state builder.old) (B.state builder.new) op.now) }
+        ensures refused { IfErr result
+            (RefusesOp (B.state builder.old) (B.state builder.new) op.now) }
         ensures only { OnlyBuilds (B.state builder.old) (B.state builder.new) }
     {
         Ok(Rewrite {

@@ -21,7 +21,8 @@ pub(crate) fn set_text(
     buffers: &mut Buffers,
 ) -> Result<(), NoMemory>
     requires { IsName name.now }
-    ensures ok { OnOk result (message.new ≡ with_value name.now (text_over text.now None message.old) message.old) }
+    ensures ok { OnOk result
+        (message.new ≡ with_value name.now (text_over text.now None message.old) message.old) }
     ensures err { OnErr result (message.new ≡ message.old) }
 {
     render(text, message, &own_env(None), &mut buffers.text)?;
@@ -36,7 +37,8 @@ pub(crate) fn substitute(
     buffers: &mut Buffers,
 ) -> Result<(), NoMemory>
     requires { IsName search.old.name }
-    ensures ok { OnOk result (message.new ≡ substituted search.old (value_of search.old.name message.old.pairs) message.old) }
+    ensures ok { OnOk result (message.new
+        ≡ substituted search.old (value_of search.old.name message.old.pairs) message.old) }
     ensures err { OnErr result (message.new ≡ message.old) }
     ensures same { search.new ≡ search.old }
 {

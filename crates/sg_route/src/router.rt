@@ -34,11 +34,14 @@ pub trait Router {
     ) -> Result<Vec<Offer>, AllocError>
         requires inlet { inlet < inlets self.old }
         requires moment { (pos 0 ≤ℤ at) × (at ≤ℤ pos 250_000_000_000_000_000) }
-        ensures offers { IfOk result (λ found. offers self.old inlet (record_at peer.now item at) found.items) }
+        ensures offers { IfOk result
+            (λ found. offers self.old inlet (record_at peer.now item at) found.items) }
         ensures bound { IfOk result (λ found. length found.items ≤ 1024) }
         ensures within { IfOk result (λ found. AllWithin (dests self.old) found.items) }
-        ensures stays { (i : ℕ) (record_of : Record) (found : List AnOffer) → offers self.old i record_of found → offers self.new i record_of found }
-        ensures back { (i : ℕ) (record_of : Record) (found : List AnOffer) → offers self.new i record_of found → offers self.old i record_of found }
+        ensures stays { (i : ℕ) (record_of : Record) (found : List AnOffer)
+            → offers self.old i record_of found → offers self.new i record_of found }
+        ensures back { (i : ℕ) (record_of : Record) (found : List AnOffer)
+            → offers self.new i record_of found → offers self.old i record_of found }
         ensures inlets { inlets self.new ≡ inlets self.old }
         ensures dests { dests self.new ≡ dests self.old };
 }

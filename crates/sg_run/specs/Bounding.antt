@@ -16,7 +16,8 @@ use Rattle.sg_run.specs.declared.end.Outcome.{Outcome}
 
 -- each store tells its bytes, which are a position, or at a disk-buffer a list of entries
 abbrev pub AreSpelled : List DestSetup → List DiskState → Type 0
-AreSpelled dests disks = (s : ℕ) (disk : DiskState) → slice_get disks s ≡ Some disk → (bytes : List ℕ) × ((content disk ≡ Some bytes) × IsStore (kind_of dests s) bytes)
+AreSpelled dests disks = (s : ℕ) (disk : DiskState) → slice_get disks s ≡ Some disk
+    → (bytes : List ℕ) × ((content disk ≡ Some bytes) × IsStore (kind_of dests s) bytes)
 
 -- The stores are spellings, and no count of faults rose: of the openings of each kind, and of each store, inlet and outlet that was opened.
 -- No inlet was idle, and it was never too early to reopen an outlet.
@@ -36,5 +37,7 @@ EndsClean (Err (Unread name)) = ⊥
 EndsClean (Err NoMemory) = Unit {0}
 
 -- With four rounds for each byte, part, inlet, offer and recovered entry, and four more, a run in which all goes well ends clean.
-abbrev pub Completes : WorldState → WorldState → RunPlan → (recovered offered rounds : ℕ) → Reached → Result Outcome Unloaded → Type 0
-Completes old new plan recovered offered rounds reached result = GoesWell old new plan reached → 4 * given_rounds recovered offered reached ≤ rounds → EndsClean result
+abbrev pub Completes : WorldState → WorldState → RunPlan → (recovered offered rounds : ℕ) → Reached
+    → Result Outcome Unloaded → Type 0
+Completes old new plan recovered offered rounds reached result = GoesWell old new plan reached
+    → 4 * given_rounds recovered offered reached ≤ rounds → EndsClean result

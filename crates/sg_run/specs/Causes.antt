@@ -29,9 +29,12 @@ pub record RoseIn (opened closed : List InletState) (i : ℕ) : Type 0 where
 
 -- each destination that is told to have been given up, each store and each inlet that is told to have failed
 pub record FaultsAreDue (plan : RunPlan) (reached : Reached) (counts : Counts) : Type 0 where
-  pub sinks : (k d : ℕ) → slice_get counts.sinks k ≡ Some d → FailsThrice plan reached.outlets reached.outlets_closed d
-  pub stores : (k s : ℕ) → slice_get counts.stores k ≡ Some s → RoseAt reached.stores reached.stores_closed s
-  pub inlets : (k i : ℕ) → slice_get counts.inlets k ≡ Some i → RoseIn reached.inlets reached.inlets_closed i
+  pub sinks : (k d : ℕ) → slice_get counts.sinks k ≡ Some d
+      → FailsThrice plan reached.outlets reached.outlets_closed d
+  pub stores : (k s : ℕ) → slice_get counts.stores k ≡ Some s
+      → RoseAt reached.stores reached.stores_closed s
+  pub inlets : (k i : ℕ) → slice_get counts.inlets k ≡ Some i
+      → RoseIn reached.inlets reached.inlets_closed i
 
 abbrev pub AreDue : RunPlan → Reached → Ending → Type 0
 AreDue plan reached (Before early) = Unit {0}

@@ -19,7 +19,9 @@ abbrev pub CleanSo : RunPlan → Reached → Ending → (ℕ → List ℕ) → T
 CleanSo plan reached (Before early) bytes = Unit {0}
 CleanSo plan reached (Ran Quiet None) bytes = Unit {0}
 CleanSo plan reached (Ran Quiet (Some counts)) bytes =
-    first_fault counts.sinks counts.stores counts.inlets ≡ None → AreLines plan reached bytes → EachChoice plan.setup reached.stores_closed (EndsClean plan.setup (files_of plan.inlets.items bytes))
+    first_fault counts.sinks counts.stores counts.inlets ≡ None → AreLines plan reached bytes
+    → EachChoice plan.setup reached.stores_closed
+    (EndsClean plan.setup (files_of plan.inlets.items bytes))
 CleanSo plan reached (Ran Spent counts) bytes = Unit {0}
 CleanSo plan reached (Ran NoMemory counts) bytes = Unit {0}
 
@@ -30,9 +32,15 @@ pub record StaysCovered {R : Type 0} (offers : R → ℕ → Record → List Off
 -- What is covered stays so, over stores that tell their bytes and files of these bytes: at the return, and at every moment before it.
 pub record Covers {R : Type 0} (offers : R → ℕ → Record → List Offer → Type 0) (plan : RunPlan) (routers : List R) (reached : Reached) (ending : Ending) : Type 0 where
   -- without a core nothing was taken, and no record came in
-  pub unopened : (bytes : ℕ → List ℕ) (taken : List Taken) (passes : List Pass) (places : ℕ → ℕ) → reached.core ≡ None
-      → EachChoice plan.setup reached.stores (Covered plan.setup (offers_in offers routers) (files_of plan.inlets.items bytes) taken passes places)
-      → EachChoice plan.setup reached.stores_closed (Covered plan.setup (offers_in offers routers) (files_of plan.inlets.items bytes) taken passes places)
-  pub opened : (run : CoreRun) (bytes : ℕ → List ℕ) (taken : List Taken) (passes : List Pass) (places : ℕ → ℕ) → reached.core ≡ Some run → AllTell reached.stores → GaveFiles plan.setup reached.inlets_closed bytes
-      → EachChoice plan.setup reached.stores (Covered plan.setup (offers_in offers routers) (files_of plan.inlets.items bytes) taken passes places)
+  pub unopened : (bytes : ℕ → List ℕ) (taken : List Taken) (passes : List Pass) (places : ℕ → ℕ)
+      → reached.core ≡ None
+      → EachChoice plan.setup reached.stores (Covered plan.setup (offers_in offers routers)
+      (files_of plan.inlets.items bytes) taken passes places)
+      → EachChoice plan.setup reached.stores_closed (Covered plan.setup (offers_in offers routers)
+      (files_of plan.inlets.items bytes) taken passes places)
+  pub opened : (run : CoreRun) (bytes : ℕ → List ℕ) (taken : List Taken) (passes : List Pass)
+      (places : ℕ → ℕ) → reached.core ≡ Some run → AllTell reached.stores
+      → GaveFiles plan.setup reached.inlets_closed bytes
+      → EachChoice plan.setup reached.stores (Covered plan.setup (offers_in offers routers)
+      (files_of plan.inlets.items bytes) taken passes places)
       → StaysCovered offers plan routers reached ending run bytes taken passes places

@@ -34,13 +34,15 @@ shown_of drivers files counts end = record {
 -- before the rounds
 abbrev pub EndsBefore : Early → Option Outcome → Type 0
 EndsBefore early None = Unit {0}
-EndsBefore early (Some outcome) = (early_end early ≡ Some outcome.end) × (outcome.text.items ≡ early_text early)
+EndsBefore early (Some outcome) = (early_end early ≡ Some outcome.end)
+    × (outcome.text.items ≡ early_text early)
 
 -- after them
 abbrev pub ReportsBy : List ℕ → List Bool → Ended → Counts → Option Outcome → Type 0
 ReportsBy drivers files ended counts None = Unit {0}
 ReportsBy drivers files ended counts (Some outcome) =
-    (end_after ended (first_fault counts.sinks counts.stores counts.inlets) ≡ Some outcome.end) × (outcome.text.items ≡ report_text counts.tally (shown_of drivers files counts outcome.end))
+    (end_after ended (first_fault counts.sinks counts.stores counts.inlets) ≡ Some outcome.end)
+    × (outcome.text.items ≡ report_text counts.tally (shown_of drivers files counts outcome.end))
 
 -- what nothing is known of: there is no outcome, since memory ran out
 abbrev pub IsNone : Option Outcome → Type 0
@@ -50,12 +52,14 @@ IsNone (Some outcome) = ⊥
 abbrev pub EndsBy : List ℕ → List Bool → Ending → Option Outcome → Type 0
 EndsBy drivers files (Before early) outcome = EndsBefore early outcome
 EndsBy drivers files (Ran ended None) outcome = IsNone outcome
-EndsBy drivers files (Ran ended (Some counts)) outcome = ReportsBy drivers files ended counts outcome
+EndsBy drivers files (Ran ended (Some counts)) outcome = ReportsBy drivers files ended counts
+    outcome
 
 -- The run of a plan ended so, which is told, and its text is the report, or the line on what kept its rounds from beginning. Want of memory
 -- is free.
 abbrev pub Tells : RunPlan → Ending → Result Outcome Unloaded → Type 0
-Tells plan ending (Ok outcome) = EndsBy (drivers_in plan.inlets.items) (files_in plan.setup.sources) ending (Some outcome)
+Tells plan ending (Ok outcome) = EndsBy (drivers_in plan.inlets.items) (files_in plan.setup.sources)
+    ending (Some outcome)
 Tells plan ending (Err (Bad fault names)) = ⊥
 Tells plan ending (Err (Unread name)) = ⊥
 Tells plan ending (Err NoMemory) = Unit {0}
@@ -63,7 +67,8 @@ Tells plan ending (Err NoMemory) = Unit {0}
 -- ---- the parts
 
 abbrev pub Drawn : Lines → Counts → End → List ℕ → Type 0
-Drawn lines counts end text = text ≡ report_text counts.tally (shown_of lines.drivers lines.files counts end)
+Drawn lines counts end text = text
+    ≡ report_text counts.tally (shown_of lines.drivers lines.files counts end)
 
 abbrev pub EndsAfter : Lines → Ended → Counts → Option Outcome → Type 0
 EndsAfter lines ended counts outcome = ReportsBy lines.drivers lines.files ended counts outcome
@@ -83,4 +88,5 @@ HasLinesAt lines (Ran ended None) = Unit {0}
 HasLinesAt lines (Ran ended (Some counts)) = HasLines lines counts
 
 abbrev pub AreLines : Config → Lines → Type 0
-AreLines config lines = (lines.drivers ≡ drivers_in config.inlets.items) × (lines.files ≡ files_in config.setup.sources)
+AreLines config lines = (lines.drivers ≡ drivers_in config.inlets.items)
+    × (lines.files ≡ files_in config.setup.sources)

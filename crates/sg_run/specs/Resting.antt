@@ -16,10 +16,13 @@ use Rattle.sg_quiet.specs.Ending.{Ends}
 -- Behind a quiet round nothing is left to do; and where nothing failed either, all input was taken, and all that was kept was delivered.
 pub record IsQuiet {R : Type 0} (offers : R → ℕ → Record → List Offer → Type 0) (plan : RunPlan) (routers : List R) (reached : Reached) (counts : Option Counts) (run : CoreRun) : Type 0 where
   pub rests : (made : List Exchange) × Rests offers plan routers reached run made
-  pub clean : IfSome counts (λ (c : Counts). first_fault c.sinks c.stores c.inlets ≡ None → (made : List Exchange) × Ends offers plan routers reached run made)
+  pub clean : IfSome counts (λ (c : Counts). first_fault c.sinks c.stores c.inlets ≡ None
+      → (made : List Exchange) × Ends offers plan routers reached run made)
 
-abbrev pub RestsSo : {R : Type 0} → (R → ℕ → Record → List Offer → Type 0) → RunPlan → List R → Reached → Ending → Type 0
+abbrev pub RestsSo : {R : Type 0} → (R → ℕ → Record → List Offer → Type 0) → RunPlan → List R
+    → Reached → Ending → Type 0
 RestsSo offers plan routers reached (Before early) = Unit {0}
-RestsSo offers plan routers reached (Ran Quiet counts) = (run : CoreRun) → reached.core ≡ Some run → IsQuiet offers plan routers reached counts run
+RestsSo offers plan routers reached (Ran Quiet counts) = (run : CoreRun) → reached.core ≡ Some run
+    → IsQuiet offers plan routers reached counts run
 RestsSo offers plan routers reached (Ran Spent counts) = Unit {0}
 RestsSo offers plan routers reached (Ran NoMemory counts) = Unit {0}

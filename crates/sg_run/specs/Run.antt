@@ -41,7 +41,8 @@ pub record RunsBy {I O : Type 0} (feed : I → InletState) (drain : O → Outlet
   pub are_routers : AreRouters config routers
   pub ending : Ending
   pub reached : Reached
-  pub runs : RunsWith feed drain offers_by inlets_by dests_by loaded new (planned config once) routers rounds ending reached
+  pub runs : RunsWith feed drain offers_by inlets_by dests_by loaded new (planned config once)
+      routers rounds ending reached
   -- each destination takes from each source what the log paths of the configuration give for its records
   pub headline : Delivers AreOffers (planned config once) (paths_in config) reached reached.core
   pub tells : Tells (planned config once) ending result
@@ -52,7 +53,8 @@ pub record RunsBy {I O : Type 0} (feed : I → InletState) (drain : O → Outlet
   -- where all rounds were run and the last one wasn't quiet, as `runs` says of such an end, what came in and failed pays for so many
   pub few : IsFew (recovered_by runs) (offered_by runs) rounds reached ending
   -- a run in which all goes well, with rounds enough, ends clean
-  pub completes : Completes loaded new (planned config once) (recovered_by runs) (offered_by runs) rounds reached result
+  pub completes : Completes loaded new (planned config once) (recovered_by runs) (offered_by runs)
+      rounds reached result
   -- no record of a file is lost between the stores as they were found and as they are left
   pub covers : Covers offers_by (planned config once) routers reached ending
 
@@ -68,10 +70,16 @@ IsStarved (Err (Unread name)) = ⊥
 IsStarved (Err NoMemory) = Unit {0}
 
 -- a configuration was run, or memory ran out before that
-abbrev pub RunsConfig : {I O : Type 0} → (I → InletState) → (O → OutletState) → WorldState → WorldState → Config → Bool → ℕ → Result Outcome Unloaded → Type 0
-RunsConfig feed drain loaded new config once rounds result = ((new ≡ loaded) × IsStarved result) ⊎ RunsBy feed drain loaded new config once rounds result
+abbrev pub RunsConfig : {I O : Type 0} → (I → InletState) → (O → OutletState) → WorldState
+    → WorldState → Config → Bool → ℕ → Result Outcome Unloaded → Type 0
+RunsConfig feed drain loaded new config once rounds result = ((new ≡ loaded) × IsStarved result)
+    ⊎ RunsBy feed drain loaded new config once rounds result
 
 -- FILE was loaded, and its configuration run; or it isn't one, or couldn't be read, and nothing was opened
-abbrev pub RunsFile : {I O : Type 0} → (I → InletState) → (O → OutletState) → WorldState → WorldState → List ℕ → Bool → ℕ → Result Outcome Unloaded → Type 0
+abbrev pub RunsFile : {I O : Type 0} → (I → InletState) → (O → OutletState) → WorldState
+    → WorldState → List ℕ → Bool → ℕ → Result Outcome Unloaded → Type 0
 RunsFile feed drain old new file once rounds result =
-    (loaded : WorldState) × (OnlyLoads old loaded × (((new ≡ loaded) × IsLeft old loaded file result) ⊎ ((of_file : Loaded) × (IsConfigured old file of_file × RunsBy feed drain loaded new of_file.config once rounds result))))
+    (loaded : WorldState) × (OnlyLoads old loaded × (
+    ((new ≡ loaded) × IsLeft old loaded file result) ⊎ ((of_file : Loaded)
+    × (IsConfigured old file of_file
+    × RunsBy feed drain loaded new of_file.config once rounds result))))

@@ -37,7 +37,8 @@ pub(crate) fn plan_of(config: Config, once: bool) -> RunPlan
 /// So many routers, all by the same table.
 pub(crate) fn routers_of(alloc: Global, table: Table, count: usize) -> Result<Vec<Pipes>, NoMemory>
     requires { IsWithin (forest_of table) }
-    ensures { IfOk result (λ routers. map paths_of routers.items ≡ replicate count (forest_of table)) }
+    ensures { IfOk result
+        (λ routers. map paths_of routers.items ≡ replicate count (forest_of table)) }
 {
     let first = Pipes::new(alloc, table);
     let mut routers = Vec::new(alloc);

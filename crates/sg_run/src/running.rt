@@ -50,7 +50,8 @@ fn run_by<T: Wait, W: World>(
     requires lines { AreLines config lines }
     requires some { 0 < rounds }
     requires rounds { rounds ≤ 2 ^ 36 }
-    ensures { RunsBy W.Feed.state W.Drain.state (W.state world.old) (W.state world.new) config once rounds result }
+    ensures { RunsBy W.Feed.state W.Drain.state (W.state world.old) (W.state world.new) config once
+        rounds result }
 {
     runs_deliver(world, routers.as_slice());
     failed_stores_count(world, routers.as_slice());
@@ -83,7 +84,8 @@ fn run_config<T: Wait, W: World>(
     requires compiles { Compiles loaded.config loaded.table }
     requires some { 0 < rounds }
     requires rounds { rounds ≤ 2 ^ 36 }
-    ensures { RunsConfig W.Feed.state W.Drain.state (W.state world.old) (W.state world.new) loaded.config once rounds result }
+    ensures { RunsConfig W.Feed.state W.Drain.state (W.state world.old) (W.state world.new)
+        loaded.config once rounds result }
 {
     let Loaded { config, table } = loaded;
     let Ok(lines) = lines_of(alloc, &config) else {
@@ -111,7 +113,8 @@ pub fn run_file<T: Wait, W: World>(
     requires rounds { rounds ≤ 2 ^ 36 }
     // The configuration was run, or why it wasn't; the headline; what is told; the causes of failures; what
     // the end means; how many rounds there are at most; and that a run in which all goes well ends clean.
-    ensures { RunsFile W.Feed.state W.Drain.state (W.state world.old) (W.state world.new) file.now once rounds result }
+    ensures { RunsFile W.Feed.state W.Drain.state (W.state world.old) (W.state world.new) file.now
+        once rounds result }
 {
     texts_mean_one();
     outlets_are_direct();

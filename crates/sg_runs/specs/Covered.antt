@@ -75,11 +75,13 @@ list_at setup images d = listed (slice_get setup.dests d) (slice_get images.list
 
 -- the offer was taken, or stands in its destination's image
 abbrev pub IsHeld : Setup → List Taken → Images → Pass → Offer → Type 0
-IsHeld setup taken images pass offer = Contains taken (taking_of offer) ⊎ Contains (list_at setup images offer.dest) (entry_of pass offer)
+IsHeld setup taken images pass offer = Contains taken (taking_of offer)
+    ⊎ Contains (list_at setup images offer.dest) (entry_of pass offer)
 
 -- the same, or, of a record that ends at or below this place, of its stored form
 abbrev pub IsKeptSafe : Setup → List Taken → Images → (old : ℕ) → Pass → Offer → Type 0
-IsKeptSafe setup taken images old pass offer = IsHeld setup taken images pass offer ⊎ ((pass.end ≤ old) × IsHeld setup taken images pass (as_stored offer))
+IsKeptSafe setup taken images old pass offer = IsHeld setup taken images pass offer
+    ⊎ ((pass.end ≤ old) × IsHeld setup taken images pass (as_stored offer))
 
 -- the item has a pass for which so much holds of each offer with flow-control
 pub record IsPassed (offers : Offers) (Owed : Pass → Offer → Type 0) (passes : List Pass) (i : ℕ) (piece : Piece) : Type 0 where
@@ -103,15 +105,20 @@ pub record IsOfferOf (form : Offer → Offer) (offers : Offers) (passes : List P
 
 -- it is that of an offer, or of its stored form
 abbrev pub IsOffered : Offers → List Pass → ℕ → Kept → Type 0
-IsOffered offers passes d kept = IsOfferOf as_given offers passes d kept ⊎ IsOfferOf as_stored offers passes d kept
+IsOffered offers passes d kept = IsOfferOf as_given offers passes d kept
+    ⊎ IsOfferOf as_stored offers passes d kept
 
 -- What was taken, the passes that there were and what the stores hold cover the files, whose items these are: `old` are places up to
 -- which stored forms count.
 pub record Covered (setup : Setup) (offers : Offers) (files : ℕ → List Piece) (taken : List Taken) (passes : List Pass) (old : ℕ → ℕ) (images : Images) : Type 0 where
   -- the position of a file is 0, or the end of an item of it
-  pub positions : (i position : ℕ) → IsFile setup i → slice_get images.positions i ≡ Some position → (position ≡ 0) ⊎ ((piece : Piece) × (Contains (files i) piece × (piece.end ≡ position)))
+  pub positions : (i position : ℕ) → IsFile setup i → slice_get images.positions i ≡ Some position
+      → (position ≡ 0) ⊎ ((piece : Piece) × (Contains (files i) piece × (piece.end ≡ position)))
   -- each item up to it has a pass whose offers with flow-control were taken, or stand in their destinations' images
-  pub items : (i position : ℕ) (piece : Piece) → IsFile setup i → slice_get images.positions i ≡ Some position → Contains (files i) piece → piece.end ≤ position
+  pub items : (i position : ℕ) (piece : Piece) → IsFile setup i
+      → slice_get images.positions i ≡ Some position → Contains (files i) piece
+      → piece.end ≤ position
       → IsPassed offers (IsKeptSafe setup taken images (old i)) passes i piece
   -- each entry of an image is an offer of a pass, or its stored form
-  pub entries : (d : ℕ) (kept : Kept) → Contains (list_at setup images d) kept → IsOffered offers passes d kept
+  pub entries : (d : ℕ) (kept : Kept) → Contains (list_at setup images d) kept
+      → IsOffered offers passes d kept

@@ -12,7 +12,9 @@ use Rattle.sg_runs.specs.Passes.{Stopped, taken_in, IsStopped}
 
 -- what the log statements may give for a pass: the offers of the router of its inlet
 abbrev pub offers_in : {R : Type 0} → (R → ℕ → Record → List Offer → Type 0) → List R → Offers
-offers_in {R} offers routers pass given = (router : R) × ((slice_get routers pass.inlet ≡ Some router) × offers router pass.inlet (record_at pass.peer pass.text pass.at) given)
+offers_in {R} offers routers pass given = (router : R) × (
+    (slice_get routers pass.inlet ≡ Some router)
+    × offers router pass.inlet (record_at pass.peer pass.text pass.at) given)
 
 -- files only grow
 abbrev pub Grow : (ℕ → List Piece) → (ℕ → List Piece) → Type 0
@@ -23,15 +25,19 @@ Grow old new = (i : ℕ) → (more : List Piece) × (new i ≡ old i ++ more)
 -- Where what stood in the stores was covered, what is left in them is, with what the run took and the passes of what came in.
 abbrev pub OneRunCovers : Offers → Type 0
 OneRunCovers offers =
-    (setup : Setup) (files : ℕ → List Piece) (taken : List Taken) (passes : List Pass) (old : ℕ → ℕ) (before : Images) (run : Stopped) → Covered setup offers files taken passes old before → Grow files run.files
-    → IsStopped setup offers before run → Covered setup offers run.files (taken ++ taken_in setup run) (passes ++ run.passes) old run.images
+    (setup : Setup) (files : ℕ → List Piece) (taken : List Taken) (passes : List Pass) (old : ℕ → ℕ)
+    (before : Images) (run : Stopped) → Covered setup offers files taken passes old before
+    → Grow files run.files
+    → IsStopped setup offers before run → Covered setup offers run.files
+    (taken ++ taken_in setup run) (passes ++ run.passes) old run.images
 
 -- All runs.
 
 -- each run begins with what the one before it left, over files that have only grown
 abbrev pub Follow : Setup → Offers → (ℕ → List Piece) → Images → List Stopped → Type 0
 Follow setup offers files images [] = Unit {0}
-Follow setup offers files images (run ∷ runs) = Grow files run.files × IsStopped setup offers images run × Follow setup offers run.files run.images runs
+Follow setup offers files images (run ∷ runs) = Grow files run.files
+    × IsStopped setup offers images run × Follow setup offers run.files run.images runs
 
 abbrev pub all_taken : Setup → List Stopped → List Taken
 all_taken setup [] = []
@@ -48,11 +54,14 @@ position_in images i = slice_index_or images.positions i 0
 -- A run ends clean: no entry is left in a disk-buffer, and each position is behind the last item of its file.
 pub record EndsClean (setup : Setup) (files : ℕ → List Piece) (images : Images) : Type 0 where
   pub lists : (d : ℕ) → list_at setup images d ≡ []
-  pub positions : (i position : ℕ) (piece : Piece) → IsFile setup i → slice_get images.positions i ≡ Some position → Contains (files i) piece → piece.end ≤ position
+  pub positions : (i position : ℕ) (piece : Piece) → IsFile setup i
+      → slice_get images.positions i ≡ Some position → Contains (files i) piece
+      → piece.end ≤ position
 
 -- the offer was taken, or, of a record that ends at or below this place, its stored form
 abbrev pub IsTaken : List Taken → (old : ℕ) → Pass → Offer → Type 0
-IsTaken taken old pass offer = Contains taken (taking_of offer) ⊎ ((pass.end ≤ old) × Contains taken (taking_of (as_stored offer)))
+IsTaken taken old pass offer = Contains taken (taking_of offer)
+    ⊎ ((pass.end ≤ old) × Contains taken (taking_of (as_stored offer)))
 
 -- what was taken is an offer of a pass, in this form
 pub record IsTakingOf (form : Offer → Offer) (offers : Offers) (passes : List Pass) (taken : Taken) : Type 0 where
@@ -66,27 +75,36 @@ pub record IsTakingOf (form : Offer → Offer) (offers : Offers) (passes : List 
 
 -- it is the message of an entry in these images
 abbrev pub IsEntryIn : Setup → Images → Taken → Type 0
-IsEntryIn setup images taken = (kept : Kept) × (Contains (list_at setup images taken.dest) kept × (taken ≡ record { dest = taken.dest; message = kept.message }))
+IsEntryIn setup images taken = (kept : Kept) × (Contains (list_at setup images taken.dest) kept
+    × (taken ≡ record { dest = taken.dest; message = kept.message }))
 
 -- What each run took is an offer of a record that came in then or before, or, of an entry that stood in the stores at the start, an offer
 -- of a pass that there was, in stored form.
-abbrev pub TakeOffers : Setup → Offers → (started : Images) → (first passes : List Pass) → List Stopped → Type 0
+abbrev pub TakeOffers : Setup → Offers → (started : Images) → (first passes : List Pass)
+    → List Stopped → Type 0
 TakeOffers setup offers started first passes [] = Unit {0}
 TakeOffers setup offers started first passes (run ∷ runs) =
-    ((taken : Taken) → Contains (taken_in setup run) taken → IsTakingOf as_given offers (passes ++ run.passes) taken ⊎ (IsTakingOf as_stored offers first taken × IsEntryIn setup started taken))
+    ((taken : Taken) → Contains (taken_in setup run) taken
+    → IsTakingOf as_given offers (passes ++ run.passes) taken
+    ⊎ (IsTakingOf as_stored offers first taken × IsEntryIn setup started taken))
     × TakeOffers setup offers started first (passes ++ run.passes) runs
 
 -- What the stores held was covered, and the last run ends clean: each record of each file has a pass of which each offer with flow-control was
 -- taken at least once, and nothing else was taken than offers.
 pub record AddUp (setup : Setup) (offers : Offers) (taken : List Taken) (passes : List Pass) (before : Images) (runs : List Stopped) (last : Stopped) : Type 0 where
   pub every : (i : ℕ) (piece : Piece) → IsFile setup i → Contains (last.files i) piece
-      → IsPassed offers (IsTaken (taken ++ all_taken setup (runs ++ last ∷ [])) (position_in before i)) (passes ++ all_passes (runs ++ last ∷ [])) i piece
+      → IsPassed offers
+      (IsTaken (taken ++ all_taken setup (runs ++ last ∷ [])) (position_in before i))
+      (passes ++ all_passes (runs ++ last ∷ [])) i piece
   pub no_other : TakeOffers setup offers before passes passes (runs ++ last ∷ [])
 
 abbrev pub AllRunsAddUp : Offers → Type 0
 AllRunsAddUp offers =
-    (setup : Setup) (files : ℕ → List Piece) (taken : List Taken) (passes : List Pass) (before : Images) (runs : List Stopped) (last : Stopped) → Covered setup offers files taken passes (position_in before) before
-    → Follow setup offers files before (runs ++ last ∷ []) → EndsClean setup last.files last.images → AddUp setup offers taken passes before runs last
+    (setup : Setup) (files : ℕ → List Piece) (taken : List Taken) (passes : List Pass)
+    (before : Images) (runs : List Stopped) (last : Stopped)
+    → Covered setup offers files taken passes (position_in before) before
+    → Follow setup offers files before (runs ++ last ∷ []) → EndsClean setup last.files last.images
+    → AddUp setup offers taken passes before runs last
 
 -- Fresh stores, of whose files nothing was read, are covered by nothing.
 pub record AreFresh (setup : Setup) (images : Images) : Type 0 where
@@ -95,4 +113,6 @@ pub record AreFresh (setup : Setup) (images : Images) : Type 0 where
 
 abbrev pub FreshAreCovered : Offers → Type 0
 FreshAreCovered offers =
-    (setup : Setup) (files : ℕ → List Piece) (old : ℕ → ℕ) (images : Images) → ((i : ℕ) → Rise 0 (files i)) → AreFresh setup images → Covered setup offers files [] [] old images
+    (setup : Setup) (files : ℕ → List Piece) (old : ℕ → ℕ) (images : Images)
+    → ((i : ℕ) → Rise 0 (files i)) → AreFresh setup images
+    → Covered setup offers files [] [] old images

@@ -21,7 +21,8 @@ abbrev pub AreRead : Offers → ℕ → List Admission → List Pass → Type 0
 AreRead offers i [] [] = Unit {0}
 AreRead offers i [] (p ∷ ps) = ⊥
 AreRead offers i (r ∷ rs) [] = ⊥
-AreRead offers i (r ∷ rs) (p ∷ ps) = (p.inlet ≡ i) × (p.end ≡ r.end) × offers p r.offers × AreRead offers i rs ps
+AreRead offers i (r ∷ rs) (p ∷ ps) = (p.inlet ≡ i) × (p.end ≡ r.end) × offers p r.offers
+    × AreRead offers i rs ps
 
 abbrev pub ReadsBy : Offers → Act → List Pass → Type 0
 ReadsBy offers (Admit i records verdicts) passes = AreRead offers i records passes
@@ -30,7 +31,8 @@ ReadsBy offers _ passes = passes ≡ []
 -- the passes of all records that came in, in order
 abbrev pub AreAdmitted : Offers → List Event → List Pass → Type 0
 AreAdmitted offers [] passes = passes ≡ []
-AreAdmitted offers (e ∷ es) passes = (now : List Pass) × ((later : List Pass) × ((passes ≡ now ++ later) × ReadsBy offers e.act now × AreAdmitted offers es later))
+AreAdmitted offers (e ∷ es) passes = (now : List Pass) × ((later : List Pass)
+    × ((passes ≡ now ++ later) × ReadsBy offers e.act now × AreAdmitted offers es later))
 
 -- those of inlet i, as items of its file
 abbrev pub pass_piece : Pass → Piece
@@ -42,7 +44,9 @@ pieces_of i passes = map pass_piece (filter (λ (p : Pass). p.inlet == i) passes
 -- What was taken: the entries that are settled, those of the act that is on included.
 abbrev pub taken_at : Act → ℕ → List Dest → List Taken
 taken_at act d [] = []
-taken_at act d (dest ∷ dests) = map (λ e. record { dest = d; message = e.message }) (settled_by act d dest) ++ taken_at act (d + 1) dests
+taken_at act d (dest ∷ dests) =
+    map (λ e. record { dest = d; message = e.message }) (settled_by act d dest)
+    ++ taken_at act (d + 1) dests
 
 -- Runs.
 
@@ -67,9 +71,13 @@ taken_in setup run = taken_at run.event.act 0 (state_at setup run).dests
 pub record BeginsWith (setup : Setup) (images : Images) (opening : Opening) : Type 0 where
   pub every_position : length images.positions ≡ length setup.sources
   pub every_list : length images.lists ≡ length setup.dests
-  pub places : (i position : ℕ) → IsFile setup i → slice_get images.positions i ≡ Some position → slice_get opening.places i ≡ Some position
-  pub lists : (d : ℕ) (dest : DestSetup) (list : List Kept) → slice_get setup.dests d ≡ Some dest → is_some dest.buffer ≡ true → slice_get images.lists d ≡ Some list → slice_get opening.entries d ≡ Some list
-  pub bare : (d : ℕ) (dest : DestSetup) (list : List Kept) → slice_get setup.dests d ≡ Some dest → dest.buffer ≡ None → slice_get opening.entries d ≡ Some list → list ≡ []
+  pub places : (i position : ℕ) → IsFile setup i → slice_get images.positions i ≡ Some position
+      → slice_get opening.places i ≡ Some position
+  pub lists : (d : ℕ) (dest : DestSetup) (list : List Kept) → slice_get setup.dests d ≡ Some dest
+      → is_some dest.buffer ≡ true → slice_get images.lists d ≡ Some list
+      → slice_get opening.entries d ≡ Some list
+  pub bare : (d : ℕ) (dest : DestSetup) (list : List Kept) → slice_get setup.dests d ≡ Some dest
+      → dest.buffer ≡ None → slice_get opening.entries d ≡ Some list → list ≡ []
 
 -- The run began with what these images hold, and was stopped at what is safe. Of each file it read the first of the items behind the
 -- inlet's opening place, which is 0 where that began anew.
@@ -79,4 +87,7 @@ pub record IsStopped (setup : Setup) (offers : Offers) (before : Images) (run : 
   pub safe : Safe (opened setup run.opening) run.events run.event run.images
   pub admits : AreAdmitted offers (run.events ++ run.event ∷ []) run.passes
   pub rising : (i : ℕ) → Rise 0 (run.files i)
-  pub reads : (i : ℕ) (inlet : Inlet) → IsFile setup i → slice_get (state_at setup run).inlets i ≡ Some inlet → (later : List Piece) × (behind inlet.opening (run.files i) ≡ pieces_of i run.passes ++ later)
+  pub reads : (i : ℕ) (inlet : Inlet) → IsFile setup i
+      → slice_get (state_at setup run).inlets i ≡ Some inlet
+      → (later : List Piece)
+      × (behind inlet.opening (run.files i) ≡ pieces_of i run.passes ++ later)

@@ -30,7 +30,8 @@ pub record IsDestFor (once : Bool) (d : ℕ) (plan : OutletPlan) (view : DestVie
   pub untaken : IsNew view.drain
 
 abbrev pub AreDestsFor : Bool → List OutletPlan → List DestView → Type 0
-AreDestsFor once plans views = (d : ℕ) (plan : OutletPlan) (view : DestView) → slice_get plans d ≡ Some plan → slice_get views d ≡ Some view → IsDestFor once d plan view
+AreDestsFor once plans views = (d : ℕ) (plan : OutletPlan) (view : DestView)
+    → slice_get plans d ≡ Some plan → slice_get views d ≡ Some view → IsDestFor once d plan view
 
 -- Sources.
 
@@ -48,12 +49,15 @@ feed_of view = view.state.source.feed
 
 -- It is the source of the inlet of that number of a plan. It has read nothing.
 pub record IsSourceFor (i : ℕ) (plan : InletPlan) (store : Option ℕ) (view : SourceView) : Type 0 where
-  pub spec_is : view.spec ≡ record { inlet = i; kind = plan.kind; limit = plan.limit; fetch = plan.fetch; from = (feed_of view).from; stored = is_some store }
+  pub spec_is : view.spec ≡ record
+      { inlet = i; kind = plan.kind; limit = plan.limit; fetch = plan.fetch; from = (feed_of view).from; stored = is_some store }
   pub is : IsNewSource (λ j r offers. Unit {0}) view.dests view.spec view.state
 
 abbrev pub AreSourcesFor : List InletPlan → List SourceSetup → List SourceView → Type 0
 AreSourcesFor plans setups views =
-    (i : ℕ) (plan : InletPlan) (setup : SourceSetup) (view : SourceView) → slice_get plans i ≡ Some plan → slice_get setups i ≡ Some setup → slice_get views i ≡ Some view
+    (i : ℕ) (plan : InletPlan) (setup : SourceSetup) (view : SourceView)
+    → slice_get plans i ≡ Some plan → slice_get setups i ≡ Some setup
+    → slice_get views i ≡ Some view
     → IsSourceFor i plan setup.store view
 
 -- The inlet gives from the stored position on, from its beginning where no record of the file can have ended there.
@@ -63,4 +67,5 @@ pub record BeginsAt (files : Option Files) (spec : InletSpec) (position : ℕ) (
 
 abbrev pub AllBeginAt : Option Files → (ℕ → ℕ) → List InletSpec → List InletState → Type 0
 AllBeginAt files positions specs feeds =
-    (i : ℕ) (spec : InletSpec) (feed : InletState) → slice_get specs i ≡ Some spec → slice_get feeds i ≡ Some feed → BeginsAt files spec (positions i) feed
+    (i : ℕ) (spec : InletSpec) (feed : InletState) → slice_get specs i ≡ Some spec
+    → slice_get feeds i ≡ Some feed → BeginsAt files spec (positions i) feed

@@ -34,6 +34,8 @@ first_fault [] [] [] = None
 pub record IsCounted {R I O : Type 0} (core : CoreState) (sources : List (SourceActor R I)) (dests : List (DestActor O)) (counts : Counts) : Type 0 where
   pub tally : Tallies core counts.tally
   pub bad_frames : counts.bad_frames ≡ map (λ (a : SourceActor R I). a.bad_frames) sources
-  pub sinks : counts.sinks ≡ numbers_from 0 (map (λ (a : DestActor O). gave_up_outlet a.outage.given_up) dests)
+  pub sinks : counts.sinks
+      ≡ numbers_from 0 (map (λ (a : DestActor O). gave_up_outlet a.outage.given_up) dests)
   pub stores : counts.stores ≡ numbers_from 0 (map (λ (s : StoreState). s.failed) core.stores)
-  pub inlets : counts.inlets ≡ numbers_from 0 (map (λ (a : SourceActor R I). a.reader.failed) sources)
+  pub inlets : counts.inlets
+      ≡ numbers_from 0 (map (λ (a : SourceActor R I). a.reader.failed) sources)

@@ -25,7 +25,8 @@ reopen_asked false reopen = reopen
 
 -- With `--once` an outlet is tried again at once.
 abbrev pub outlet_asked : Bool → OutletSpec → OutletSpec
-outlet_asked once (FileTo path fsync mode reopen) = FileTo path fsync mode (reopen_asked once reopen)
+outlet_asked once (FileTo path fsync mode reopen) = FileTo path fsync mode
+    (reopen_asked once reopen)
 outlet_asked once (Tcp host port reopen) = Tcp host port (reopen_asked once reopen)
 outlet_asked once (ByPath fsync mode reopen) = ByPath fsync mode (reopen_asked once reopen)
 
@@ -56,7 +57,8 @@ AreFetching (plan ∷ plans) = IsFetching plan × AreFetching plans
 abbrev pub opened_for : {P S : Type 0} → List P → List S → List (Opened P S)
 opened_for specs [] = []
 opened_for [] (state ∷ states) = []
-opened_for (spec ∷ specs) (state ∷ states) = (record { spec = spec; state = state }) ∷ opened_for specs states
+opened_for (spec ∷ specs) (state ∷ states) = (record { spec = spec; state = state })
+    ∷ opened_for specs states
 
 -- the ledger with more devices opened, or closed, in this order
 abbrev pub with_all_opened : {P S : Type 0} → Ledger P S → List (Opened P S) → Ledger P S
@@ -68,14 +70,17 @@ with_all_closed ledger states = record ledger { closed = ledger.closed ++ states
 -- Stores.
 
 -- each store was there, or it was made, one after another
-abbrev pub AreShelved : Option (List (List ℕ)) → List (Opened StoreSpec DiskState) → Option (List (List ℕ)) → Type 0
+abbrev pub AreShelved : Option (List (List ℕ)) → List (Opened StoreSpec DiskState)
+    → Option (List (List ℕ)) → Type 0
 AreShelved before [] after = after ≡ before
-AreShelved before (o ∷ os) after = (between : Option (List (List ℕ))) × StandsShelved before o.spec o.state between × AreShelved between os after
+AreShelved before (o ∷ os) after = (between : Option (List (List ℕ)))
+    × StandsShelved before o.spec o.state between × AreShelved between os after
 
 -- these were opened on the first of the requests, in order, and nothing else changed but the count of faults
 pub record OpensStores (old new : WorldState) (specs : List StoreSpec) (disks : List DiskState) : Type 0 where
   pub count : length disks ≤ length specs
-  pub state : new ≡ record old { store_faults = new.store_faults; shelf = new.shelf; stores = with_all_opened old.stores (opened_for specs disks) }
+  pub state : new ≡ record old
+      { store_faults = new.store_faults; shelf = new.shelf; stores = with_all_opened old.stores (opened_for specs disks) }
   pub faults : old.store_faults ≤ new.store_faults
   pub shelved : AreShelved old.shelf (opened_for specs disks) new.shelf
 
@@ -86,7 +91,8 @@ ClosesStores old new disks = new ≡ record old { stores = with_all_closed old.s
 
 pub record OpensInlets (old new : WorldState) (specs : List InletSpec) (feeds : List InletState) : Type 0 where
   pub count : length feeds ≤ length specs
-  pub state : new ≡ record old { inlet_faults = new.inlet_faults; inlets = with_all_opened old.inlets (opened_for specs feeds) }
+  pub state : new ≡ record old
+      { inlet_faults = new.inlet_faults; inlets = with_all_opened old.inlets (opened_for specs feeds) }
   pub faults : old.inlet_faults ≤ new.inlet_faults
 
 abbrev pub ClosesInlets : WorldState → WorldState → List InletState → Type 0
@@ -102,7 +108,8 @@ AllAreNew (drain ∷ drains) = IsNew drain × AllAreNew drains
 pub record OpensOutlets (old new : WorldState) (specs : List OutletSpec) (drains : List OutletState) : Type 0 where
   pub count : length drains ≤ length specs
   pub are_new : AllAreNew drains
-  pub state : new ≡ record old { outlet_faults = new.outlet_faults; outlets = with_all_opened old.outlets (opened_for specs drains) }
+  pub state : new ≡ record old
+      { outlet_faults = new.outlet_faults; outlets = with_all_opened old.outlets (opened_for specs drains) }
   pub faults : old.outlet_faults ≤ new.outlet_faults
 
 abbrev pub ClosesOutlets : WorldState → WorldState → List OutletState → Type 0

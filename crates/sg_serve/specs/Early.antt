@@ -15,13 +15,15 @@ use Rattle.sg_serve.specs.declared.ending.Early.TheVariants.{OpenFault, DiskFaul
 
 -- the store behind so many couldn't be opened
 abbrev pub StoresFail : WorldState → WorldState → ℕ → Early → Type 0
-StoresFail old new count (OpenFault (Store n)) = (n ≡ count) × Rose old.store_faults new.store_faults
+StoresFail old new count (OpenFault (Store n)) = (n ≡ count)
+    × Rose old.store_faults new.store_faults
 StoresFail old new count NoMemory = Unit {0}
 StoresFail old new count early = ⊥
 
 -- the outlet behind so many couldn't be opened
 abbrev pub OutletsFail : WorldState → WorldState → ℕ → Early → Type 0
-OutletsFail old new count (OpenFault (Dest n)) = (n ≡ count) × Rose old.outlet_faults new.outlet_faults
+OutletsFail old new count (OpenFault (Dest n)) = (n ≡ count)
+    × Rose old.outlet_faults new.outlet_faults
 OutletsFail old new count NoMemory = Unit {0}
 OutletsFail old new count early = ⊥
 
@@ -31,7 +33,8 @@ outlet_refusal d OpenNoMemory = NoMemory
 
 -- the inlet behind so many couldn't be opened
 abbrev pub InletsFail : WorldState → WorldState → ℕ → Early → Type 0
-InletsFail old new count (OpenFault (Inlet n)) = (n ≡ count) × Rose old.inlet_faults new.inlet_faults
+InletsFail old new count (OpenFault (Inlet n)) = (n ≡ count)
+    × Rose old.inlet_faults new.inlet_faults
 InletsFail old new count NoMemory = Unit {0}
 InletsFail old new count early = ⊥
 
@@ -40,15 +43,23 @@ inlet_refusal i OpenFailed = OpenFault (Inlet i)
 inlet_refusal i OpenNoMemory = NoMemory
 
 -- Why a source isn't ready, with its inlet where that was opened: it couldn't be, or the store failed as the source was to begin anew.
-abbrev pub SourceFails : WorldState → WorldState → CoreState → CoreState → ℕ → Option ℕ → Option InletState → Early → Type 0
+abbrev pub SourceFails : WorldState → WorldState → CoreState → CoreState → ℕ → Option ℕ
+    → Option InletState → Early → Type 0
 SourceFails old new core core' i store None early = (core' ≡ core) × InletsFail old new i early
-SourceFails old new core core' i store (Some feed) NoMemory = Begins core core' i (position_at core i) feed.place true
-SourceFails old new core core' i store (Some feed) (DiskFault s) = (store ≡ Some s) × Begins core core' i (position_at core i) feed.place false
+SourceFails old new core core' i store (Some feed) NoMemory = Begins core core' i
+    (position_at core i) feed.place true
+SourceFails old new core core' i store (Some feed) (DiskFault s) = (store ≡ Some s)
+    × Begins core core' i (position_at core i) feed.place false
 SourceFails old new core core' i store (Some feed) early = ⊥
 
 -- So many sources are ready, from the first on, and the next isn't, with its inlet where that was opened.
-abbrev pub SourcesFail : WorldState → WorldState → CoreState → CoreState → List SourceSetup → List InletState → Option InletState → Early → Type 0
-SourcesFail old new first now setups feeds None early = HasBegun first now (rewinds_from (position_at first) 0 (places_of feeds)) × InletsFail old new (length feeds) early
-SourcesFail old new first now setups feeds (Some feed) NoMemory = HasBegun first now (rewinds_from (position_at first) 0 (places_of (feeds ++ feed ∷ [])))
-SourcesFail old new first now setups feeds (Some feed) (DiskFault s) = FailsBehind first now (places_of feeds) s × (store_in setups (length feeds) ≡ Some s)
+abbrev pub SourcesFail : WorldState → WorldState → CoreState → CoreState → List SourceSetup
+    → List InletState → Option InletState → Early → Type 0
+SourcesFail old new first now setups feeds None early =
+    HasBegun first now (rewinds_from (position_at first) 0 (places_of feeds))
+    × InletsFail old new (length feeds) early
+SourcesFail old new first now setups feeds (Some feed) NoMemory = HasBegun first now
+    (rewinds_from (position_at first) 0 (places_of (feeds ++ feed ∷ [])))
+SourcesFail old new first now setups feeds (Some feed) (DiskFault s) =
+    FailsBehind first now (places_of feeds) s × (store_in setups (length feeds) ≡ Some s)
 SourcesFail old new first now setups feeds (Some feed) early = ⊥

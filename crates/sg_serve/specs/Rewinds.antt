@@ -28,7 +28,8 @@ rewinds_at i (suc position) zero = (record { act = Rewind i; failed = [] }) ∷ 
 -- the same of inlets that give from these places, one after another from this number on
 abbrev pub rewinds_from : (ℕ → ℕ) → ℕ → List ℕ → List Event
 rewinds_from positions i [] = []
-rewinds_from positions i (place ∷ places) = rewinds_at i (positions i) place ++ rewinds_from positions (i + 1) places
+rewinds_from positions i (place ∷ places) = rewinds_at i (positions i) place
+    ++ rewinds_from positions (i + 1) places
 
 -- the places of inlets
 abbrev pub places_of : List InletState → List ℕ
@@ -64,7 +65,8 @@ Begins old new i (suc position) zero false = FailsAnew old new i
 
 -- What the events before the rounds leave of a core that was opened.
 pub record HasBegun (first now : CoreState) (events : List Event) : Type 0 where
-  pub stands : (setup : Setup) (opening : Opening) → StandsFor first (opened setup opening) [] → StandsFor now (opened setup opening) events
+  pub stands : (setup : Setup) (opening : Opening) → StandsFor first (opened setup opening) []
+      → StandsFor now (opened setup opening) events
   pub goes : AllGo first.stores now.stores
   pub setup : setup_of now ≡ setup_of first
   pub calls : now.calls ≡ first.calls + length events
@@ -73,11 +75,14 @@ pub record HasBegun (first now : CoreState) (events : List Event) : Type 0 where
 -- Behind these rewinds the store of that number failed, as the next source was to begin anew.
 pub record FailsBehind (first now : CoreState) (places : List ℕ) (s : ℕ) : Type 0 where
   pub failed : List ℕ
-  pub begun : HasBegun first now (rewinds_from (position_at first) 0 places ++ (record { act = Look; failed = failed }) ∷ [])
-  pub rose : (old new : StoreState) → slice_get first.stores s ≡ Some old → slice_get now.stores s ≡ Some new → Rose old.disk.faults new.disk.faults
+  pub begun : HasBegun first now
+      (rewinds_from (position_at first) 0 places ++ (record { act = Look; failed = failed }) ∷ [])
+  pub rose : (old new : StoreState) → slice_get first.stores s ≡ Some old
+      → slice_get now.stores s ≡ Some new → Rose old.disk.faults new.disk.faults
 
 abbrev pub AllWork : List StoreState → Type 0
-AllWork stores = (s : ℕ) (store : StoreState) → slice_get stores s ≡ Some store → store.failed ≡ false
+AllWork stores = (s : ℕ) (store : StoreState) → slice_get stores s ≡ Some store
+    → store.failed ≡ false
 
 -- The sources from this number on are as they were, none has records, and no store has failed.
 pub record AwaitsFrom (first now : CoreState) (n : ℕ) : Type 0 where

@@ -57,7 +57,8 @@ pub record Reached : Type 0 where
   pub outlets_closed : List OutletState
   pub core : Option CoreRun
 
-abbrev pub reached_by : List DiskState → List DiskState → List InletState → List InletState → List OutletState → List OutletState → Option CoreRun → Reached
+abbrev pub reached_by : List DiskState → List DiskState → List InletState → List InletState
+    → List OutletState → List OutletState → Option CoreRun → Reached
 reached_by stores stores_closed inlets inlets_closed outlets outlets_closed core = record {
   stores = stores;
   stores_closed = stores_closed;
@@ -71,9 +72,11 @@ reached_by stores stores_closed inlets inlets_closed outlets outlets_closed core
 -- Devices.
 
 -- these were closed, each kind in this order, and nothing else changed
-abbrev pub ClosesAll : WorldState → WorldState → List DiskState → List InletState → List OutletState → Type 0
+abbrev pub ClosesAll : WorldState → WorldState → List DiskState → List InletState → List OutletState
+    → Type 0
 ClosesAll old new disks feeds drains =
-    new ≡ record old { stores = with_all_closed old.stores disks; inlets = with_all_closed old.inlets feeds; outlets = with_all_closed old.outlets drains }
+    new ≡ record old
+    { stores = with_all_closed old.stores disks; inlets = with_all_closed old.inlets feeds; outlets = with_all_closed old.outlets drains }
 
 -- These devices were opened, in the order of the plan, first stores, then inlets, then outlets, and closed; nothing else of the world
 -- changed but its counts of faults.
@@ -82,9 +85,12 @@ pub record UsesDevices (old new : WorldState) (plan : RunPlan) (reached : Reache
   pub with_inlets : WorldState
   pub with_outlets : WorldState
   pub stores : OpensStores old with_stores plan.stores.items reached.stores
-  pub inlets : OpensInlets with_stores with_inlets (inlets_asked plan.once plan.inlets.items) reached.inlets
-  pub outlets : OpensOutlets with_inlets with_outlets (outlets_asked plan.once plan.outlets.items) reached.outlets
-  pub closes : ClosesAll with_outlets new reached.stores_closed reached.inlets_closed reached.outlets_closed
+  pub inlets : OpensInlets with_stores with_inlets (inlets_asked plan.once plan.inlets.items)
+      reached.inlets
+  pub outlets : OpensOutlets with_inlets with_outlets (outlets_asked plan.once plan.outlets.items)
+      reached.outlets
+  pub closes : ClosesAll with_outlets new reached.stores_closed reached.inlets_closed
+      reached.outlets_closed
 
 -- The core.
 
@@ -94,7 +100,8 @@ pub record FailsLast (first : CoreState) (feeds : List InletState) (prelude : Li
   pub last : InletState
   pub failed : List ℕ
   pub feeds_are : feeds ≡ front ++ last ∷ []
-  pub prelude_is : prelude ≡ rewinds_from (position_at first) 0 (places_of front) ++ (record { act = Look; failed = failed }) ∷ []
+  pub prelude_is : prelude ≡ rewinds_from (position_at first) 0 (places_of front)
+      ++ (record { act = Look; failed = failed }) ∷ []
 
 -- The core was opened over the stores, and stands for the events that its sources' beginnings were; its stores come back at the end.
 pub record HoldsCore (setup : Setup) (reached : Reached) (run : CoreRun) : Type 0 where
@@ -105,7 +112,8 @@ pub record HoldsCore (setup : Setup) (reached : Reached) (run : CoreRun) : Type 
 -- no core was opened: the stores are closed as they were opened, or as the opening of the core left them
 abbrev pub RestsWithout : Setup → Reached → Type 0
 RestsWithout setup reached =
-    (reached.stores_closed ≡ reached.stores) ⊎ ((refusal : CoreRefusal) × IsUnopened setup reached.stores reached.stores_closed refusal)
+    (reached.stores_closed ≡ reached.stores)
+    ⊎ ((refusal : CoreRefusal) × IsUnopened setup reached.stores reached.stores_closed refusal)
 
 -- The rounds.
 
@@ -116,11 +124,16 @@ pub record RunsRounds {R I O : Type 0} (feed : I → InletState) (drain : O → 
   pub sources_then : List (SourceActor R I)
   pub dests_first : List (DestActor O)
   pub dests_then : List (DestActor O)
-  pub serves : Serves (SourceTook feed offers inlets dests) (DestTook drain) CoreServes run.begun run.last sources sources_then dests_first dests_then rounds ended
+  pub serves : Serves (SourceTook feed offers inlets dests) (DestTook drain) CoreServes run.begun
+      run.last sources sources_then dests_first dests_then rounds ended
   pub counted : IfSome counts (IsCounted run.last sources_then dests_then)
   pub same_routers : map (λ (a : SourceActor R I). a.router) sources ≡ routers
-  pub are_sources : AreSourcesFor plan.inlets.items plan.setup.sources (map (λ (a : SourceActor R I). source_view a.spec (actor (feed a.inlet) a.reader a.buffer.items a.position a.bad_frames) (dests a.router)) sources)
-  pub are_dests : AreDestsFor plan.once plan.outlets.items (map (λ (a : DestActor O). dest_view a.spec a.outage (drain a.outlet)) dests_first)
+  pub are_sources : AreSourcesFor plan.inlets.items plan.setup.sources
+      (map (λ (a : SourceActor R I). source_view a.spec
+      (actor (feed a.inlet) a.reader a.buffer.items a.position a.bad_frames) (dests a.router))
+      sources)
+  pub are_dests : AreDestsFor plan.once plan.outlets.items
+      (map (λ (a : DestActor O). dest_view a.spec a.outage (drain a.outlet)) dests_first)
   pub inlets_opened : map (λ (a : SourceActor R I). feed a.inlet) sources ≡ opened
   pub inlets_closed : map (λ (a : SourceActor R I). feed a.inlet) sources_then ≡ closed
   pub outlets_opened : map (λ (a : DestActor O). drain a.outlet) dests_first ≡ new
@@ -128,7 +141,8 @@ pub record RunsRounds {R I O : Type 0} (feed : I → InletState) (drain : O → 
 
 -- Before the rounds all stays. The sources that had to begin anew did so, or a store failed. An outlet was opened only once all inlets were.
 pub record StaysUnserved (plan : RunPlan) (reached : Reached) (run : CoreRun) : Type 0 where
-  pub rewinds : (run.prelude ≡ rewinds_from (position_at run.first) 0 (places_of reached.inlets)) ⊎ FailsLast run.first reached.inlets run.prelude
+  pub rewinds : (run.prelude ≡ rewinds_from (position_at run.first) 0 (places_of reached.inlets))
+      ⊎ FailsLast run.first reached.inlets run.prelude
   pub core_stays : run.last ≡ run.begun
   pub inlets_stay : reached.inlets_closed ≡ reached.inlets
   pub outlets_stay : reached.outlets_closed ≡ reached.outlets
@@ -138,7 +152,8 @@ pub record StaysUnserved (plan : RunPlan) (reached : Reached) (run : CoreRun) : 
 pub record IsServed {R I O : Type 0} (feed : I → InletState) (drain : O → OutletState) (offers : R → ℕ → Record → List Offer → Type 0) (inlets dests : R → ℕ)
     (plan : RunPlan) (routers : List R) (rounds : ℕ) (reached : Reached) (run : CoreRun) (ended : Ended) (counts : Option Counts) : Type 0 where
   pub rewinds : run.prelude ≡ rewinds_from (position_at run.first) 0 (places_of reached.inlets)
-  pub runs : RunsRounds feed drain offers inlets dests plan routers rounds run reached.inlets reached.inlets_closed reached.outlets reached.outlets_closed ended counts
+  pub runs : RunsRounds feed drain offers inlets dests plan routers rounds run reached.inlets
+      reached.inlets_closed reached.outlets reached.outlets_closed ended counts
   pub all_inlets : length reached.inlets ≡ length plan.inlets.items
   pub all_outlets : length reached.outlets ≡ length plan.outlets.items
 
@@ -146,7 +161,8 @@ pub record IsServed {R I O : Type 0} (feed : I → InletState) (drain : O → Ou
 pub record HoldsRun (files : Option Files) (plan : RunPlan) (reached : Reached) (run : CoreRun) : Type 0 where
   pub core : HoldsCore plan.setup reached run
   pub all_stores : length reached.stores ≡ length plan.stores.items
-  pub begin_at : AllBeginAt files (position_at run.first) (inlets_asked plan.once plan.inlets.items) reached.inlets
+  pub begin_at : AllBeginAt files (position_at run.first) (inlets_asked plan.once plan.inlets.items)
+      reached.inlets
 
 -- without one
 pub record HoldsNone (plan : RunPlan) (reached : Reached) : Type 0 where
@@ -154,16 +170,23 @@ pub record HoldsNone (plan : RunPlan) (reached : Reached) : Type 0 where
   pub no_inlets : (reached.inlets ≡ []) × (reached.inlets_closed ≡ [])
   pub no_outlets : (reached.outlets ≡ []) × (reached.outlets_closed ≡ [])
 
-abbrev pub Holds : {R I O : Type 0} → (I → InletState) → (O → OutletState) → (R → ℕ → Record → List Offer → Type 0) → (R → ℕ) → (R → ℕ) → Option Files → RunPlan → List R → ℕ → Reached → Option CoreRun → Ending → Type 0
-Holds feed drain offers inlets dests files plan routers rounds reached None (Before early) = HoldsNone plan reached
+abbrev pub Holds : {R I O : Type 0} → (I → InletState) → (O → OutletState)
+    → (R → ℕ → Record → List Offer → Type 0) → (R → ℕ) → (R → ℕ) → Option Files → RunPlan → List R
+    → ℕ → Reached → Option CoreRun → Ending → Type 0
+Holds feed drain offers inlets dests files plan routers rounds reached None (Before early) =
+    HoldsNone plan reached
 Holds feed drain offers inlets dests files plan routers rounds reached None (Ran ended counts) = ⊥
-Holds feed drain offers inlets dests files plan routers rounds reached (Some run) (Before early) = HoldsRun files plan reached run × StaysUnserved plan reached run
-Holds feed drain offers inlets dests files plan routers rounds reached (Some run) (Ran ended counts) = HoldsRun files plan reached run × IsServed feed drain offers inlets dests plan routers rounds reached run ended counts
+Holds feed drain offers inlets dests files plan routers rounds reached (Some run) (Before early) =
+    HoldsRun files plan reached run × StaysUnserved plan reached run
+Holds feed drain offers inlets dests files plan routers rounds reached (Some run) (Ran ended counts) =
+    HoldsRun files plan reached run
+    × IsServed feed drain offers inlets dests plan routers rounds reached run ended counts
 
 -- Causes.
 
 abbrev pub RoseAt : List DiskState → List DiskState → ℕ → Type 0
-RoseAt olds news s = (old : DiskState) × ((new : DiskState) × ((slice_get olds s ≡ Some old) × (slice_get news s ≡ Some new) × Rose old.faults new.faults))
+RoseAt olds news s = (old : DiskState) × ((new : DiskState)
+    × ((slice_get olds s ≡ Some old) × (slice_get news s ≡ Some new) × Rose old.faults new.faults))
 
 -- the place where the bytes of a store are damaged
 pub record IsDamagedIn (setup : Setup) (disks : List DiskState) (s at : ℕ) : Type 0 where
@@ -173,10 +196,14 @@ pub record IsDamagedIn (setup : Setup) (disks : List DiskState) (s at : ℕ) : T
 
 -- Why the rounds didn't begin: each device by its number, behind those that were opened. Want of memory is free.
 abbrev pub HasCause : WorldState → WorldState → RunPlan → Reached → Early → Type 0
-HasCause old new plan reached (OpenFault (Store n)) = (n ≡ length reached.stores) × (reached.core ≡ None) × Rose old.store_faults new.store_faults
-HasCause old new plan reached (OpenFault (Inlet n)) = (n ≡ length reached.inlets) × Rose old.inlet_faults new.inlet_faults
-HasCause old new plan reached (OpenFault (Dest n)) = (n ≡ length reached.outlets) × Rose old.outlet_faults new.outlet_faults
-HasCause old new plan reached (Damage s at) = (reached.core ≡ None) × IsDamagedIn plan.setup reached.stores s at
+HasCause old new plan reached (OpenFault (Store n)) = (n ≡ length reached.stores)
+    × (reached.core ≡ None) × Rose old.store_faults new.store_faults
+HasCause old new plan reached (OpenFault (Inlet n)) = (n ≡ length reached.inlets)
+    × Rose old.inlet_faults new.inlet_faults
+HasCause old new plan reached (OpenFault (Dest n)) = (n ≡ length reached.outlets)
+    × Rose old.outlet_faults new.outlet_faults
+HasCause old new plan reached (Damage s at) = (reached.core ≡ None)
+    × IsDamagedIn plan.setup reached.stores s at
 HasCause old new plan reached (DiskFault s) = RoseAt reached.stores reached.stores_closed s
 HasCause old new plan reached NoMemory = Unit {0}
 
@@ -195,11 +222,15 @@ early_of CoreNoMemory = NoMemory
 pub record RunsWith {R I O : Type 0} (feed : I → InletState) (drain : O → OutletState) (offers : R → ℕ → Record → List Offer → Type 0) (inlets dests : R → ℕ)
     (old new : WorldState) (plan : RunPlan) (routers : List R) (rounds : ℕ) (ending : Ending) (reached : Reached) : Type 0 where
   pub devices : UsesDevices old new plan reached
-  pub holds : Holds feed drain offers inlets dests old.files plan routers rounds reached reached.core ending
+  pub holds : Holds feed drain offers inlets dests old.files plan routers rounds reached
+      reached.core ending
   pub ends : HasEnding old new plan reached ending
 
-abbrev pub RunsPlan : {R I O : Type 0} → (I → InletState) → (O → OutletState) → (R → ℕ → Record → List Offer → Type 0) → (R → ℕ) → (R → ℕ) → WorldState → WorldState → RunPlan → List R → ℕ → Ending → Type 0
-RunsPlan feed drain offers inlets dests old new plan routers rounds ending = (reached : Reached) × RunsWith feed drain offers inlets dests old new plan routers rounds ending reached
+abbrev pub RunsPlan : {R I O : Type 0} → (I → InletState) → (O → OutletState)
+    → (R → ℕ → Record → List Offer → Type 0) → (R → ℕ) → (R → ℕ) → WorldState → WorldState → RunPlan
+    → List R → ℕ → Ending → Type 0
+RunsPlan feed drain offers inlets dests old new plan routers rounds ending = (reached : Reached)
+    × RunsWith feed drain offers inlets dests old new plan routers rounds ending reached
 
 -- The parts.
 
@@ -210,10 +241,15 @@ pub record RunsOver {R I O : Type 0} (feed : I → InletState) (drain : O → Ou
   pub outlets_opened : List OutletState
   pub core : Option CoreRun
   pub between : WorldState
-  pub opens_inlets : OpensInlets old between (inlets_asked plan.once plan.inlets.items) inlets_opened
-  pub opens_outlets : OpensOutlets between new (outlets_asked plan.once plan.outlets.items) outlets_opened
-  pub holds : Holds feed drain offers inlets dests old.files plan routers rounds (reached_by stores stores_closed inlets_opened inlets_closed outlets_opened outlets_closed core) core ending
-  pub ends : HasEnding old new plan (reached_by stores stores_closed inlets_opened inlets_closed outlets_opened outlets_closed core) ending
+  pub opens_inlets : OpensInlets old between (inlets_asked plan.once plan.inlets.items)
+      inlets_opened
+  pub opens_outlets : OpensOutlets between new (outlets_asked plan.once plan.outlets.items)
+      outlets_opened
+  pub holds : Holds feed drain offers inlets dests old.files plan routers rounds
+      (reached_by stores stores_closed inlets_opened inlets_closed outlets_opened outlets_closed
+      core) core ending
+  pub ends : HasEnding old new plan (reached_by stores stores_closed inlets_opened inlets_closed
+      outlets_opened outlets_closed core) ending
 
 -- The rounds were run over these destinations, those of the plan.
 pub record ServesDests {R I O : Type 0} (feed : I → InletState) (drain : O → OutletState) (offers : R → ℕ → Record → List Offer → Type 0) (inlets dests : R → ℕ)
@@ -221,9 +257,11 @@ pub record ServesDests {R I O : Type 0} (feed : I → InletState) (drain : O →
   pub sources_then : List (SourceActor R I)
   pub dests_first : List (DestActor O)
   pub dests_then : List (DestActor O)
-  pub serves : Serves (SourceTook feed offers inlets dests) (DestTook drain) CoreServes begun last sources sources_then dests_first dests_then rounds ended
+  pub serves : Serves (SourceTook feed offers inlets dests) (DestTook drain) CoreServes begun last
+      sources sources_then dests_first dests_then rounds ended
   pub counted : IfSome counts (IsCounted last sources_then dests_then)
-  pub are_dests : AreDestsFor once plans (map (λ (a : DestActor O). dest_view a.spec a.outage (drain a.outlet)) dests_first)
+  pub are_dests : AreDestsFor once plans
+      (map (λ (a : DestActor O). dest_view a.spec a.outage (drain a.outlet)) dests_first)
   pub all : length opened ≡ length plans
   pub closes_inlets : map (λ (a : SourceActor R I). feed a.inlet) sources_then ≡ inlets_closed
   pub outlets_opened : map (λ (a : DestActor O). drain a.outlet) dests_first ≡ opened
@@ -236,17 +274,25 @@ pub record MissesDests {R I : Type 0} (feed : I → InletState) (old new : World
   pub closes_outlets : closed ≡ opened
   pub cause : OutletsFail old new (length opened) early
 
-abbrev pub DestsEnd : {R I O : Type 0} → (I → InletState) → (O → OutletState) → (R → ℕ → Record → List Offer → Type 0) → (R → ℕ) → (R → ℕ) → WorldState → WorldState → Bool → List OutletPlan → ℕ → CoreState → CoreState
-    → List (SourceActor R I) → List InletState → List OutletState → List OutletState → Ending → Type 0
-DestsEnd feed drain offers inlets dests old new once plans rounds begun last sources inlets_closed opened closed (Before early) = MissesDests feed old new begun last sources inlets_closed opened closed early
-DestsEnd feed drain offers inlets dests old new once plans rounds begun last sources inlets_closed opened closed (Ran ended counts) = ServesDests feed drain offers inlets dests once plans rounds begun last sources inlets_closed opened closed ended counts
+abbrev pub DestsEnd : {R I O : Type 0} → (I → InletState) → (O → OutletState)
+    → (R → ℕ → Record → List Offer → Type 0) → (R → ℕ) → (R → ℕ) → WorldState → WorldState → Bool
+    → List OutletPlan → ℕ → CoreState → CoreState
+    → List (SourceActor R I) → List InletState → List OutletState → List OutletState → Ending
+    → Type 0
+DestsEnd feed drain offers inlets dests old new once plans rounds begun last sources inlets_closed opened closed (Before early) =
+    MissesDests feed old new begun last sources inlets_closed opened closed early
+DestsEnd feed drain offers inlets dests old new once plans rounds begun last sources inlets_closed opened closed (Ran ended counts) =
+    ServesDests feed drain offers inlets dests once plans rounds begun last sources inlets_closed
+    opened closed ended counts
 
 -- With the inlets open too: the outlets are opened, and the rounds run.
 pub record RunsDests {R I O : Type 0} (feed : I → InletState) (drain : O → OutletState) (offers : R → ℕ → Record → List Offer → Type 0) (inlets dests : R → ℕ)
-    (old new : WorldState) (once : Bool) (plans : List OutletPlan) (rounds : ℕ) (begun : CoreState) (sources : List (SourceActor R I))
+    (old new : WorldState) (once : Bool) (plans : List OutletPlan) (rounds : ℕ) (begun : CoreState)
+    (sources : List (SourceActor R I))
     (stores_closed : List DiskState) (inlets_closed : List InletState) (outlets_closed : List OutletState) (ending : Ending) : Type 0 where
   pub outlets_opened : List OutletState
   pub opens : OpensOutlets old new (outlets_asked once plans) outlets_opened
   pub last : CoreState
   pub closes_stores : stores_closed ≡ map (λ (store : StoreState). store.disk) last.stores
-  pub ends : DestsEnd feed drain offers inlets dests old new once plans rounds begun last sources inlets_closed outlets_opened outlets_closed ending
+  pub ends : DestsEnd feed drain offers inlets dests old new once plans rounds begun last sources
+      inlets_closed outlets_opened outlets_closed ending

@@ -83,7 +83,8 @@ fn failed_inlets<R: Router + Drop, I: Inlet>(
     sources: &[SourceActor<R, I>],
 ) -> Result<Seq<u32>, NoMemory>
     requires few { length sources.now < 2 ^ 32 }
-    ensures { IfOk result (λ numbers. numbers ≡ numbers_from 0 (map (λ a. a.reader.failed) sources.now)) }
+    ensures { IfOk result
+        (λ numbers. numbers ≡ numbers_from 0 (map (λ a. a.reader.failed) sources.now)) }
 {
     let mut numbers = Seq::empty(alloc);
     for i in 0..sources.len() {
@@ -104,7 +105,8 @@ fn gave_up<O: Outlet>(dest: &DestActor<O>) -> bool
 
 fn failed_sinks<O: Outlet>(alloc: Global, dests: &[DestActor<O>]) -> Result<Seq<u32>, NoMemory>
     requires few { length dests.now < 2 ^ 32 }
-    ensures { IfOk result (λ numbers. numbers ≡ numbers_from 0 (map (λ a. gave_up_outlet a.outage.given_up) dests.now)) }
+    ensures { IfOk result (λ numbers. numbers
+        ≡ numbers_from 0 (map (λ a. gave_up_outlet a.outage.given_up) dests.now)) }
 {
     let mut numbers = Seq::empty(alloc);
     for d in 0..dests.len() {
@@ -115,7 +117,8 @@ fn failed_sinks<O: Outlet>(alloc: Global, dests: &[DestActor<O>]) -> Result<Seq<
 
 fn failed_stores<D: Disk>(alloc: Global, core: &Core<D>, count: u32) -> Result<Seq<u32>, NoMemory>
     requires { count ≡ length core.now.stores }
-    ensures { IfOk result (λ numbers. numbers ≡ numbers_from 0 (map (λ s. s.failed) core.now.stores)) }
+    ensures { IfOk result
+        (λ numbers. numbers ≡ numbers_from 0 (map (λ s. s.failed) core.now.stores)) }
 {
     let mut numbers = Seq::empty(alloc);
     for s in 0..count {

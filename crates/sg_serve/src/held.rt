@@ -42,7 +42,11 @@ pub(crate) fn close_all<W: World, R: Router + Drop>(
     held: Held<W::Store, R, W::Feed, W::Drain>,
     world: &mut W,
 )
-    ensures { ClosesAll (W.state world.old) (W.state world.new) (map W.Store.state held.stores.items) (map (λ a. W.Feed.state a.inlet) held.sources.items ++ option_to_list (option_map W.Feed.state held.feed)) (map (λ a. W.Drain.state a.outlet) held.dests.items ++ option_to_list (option_map W.Drain.state held.drain)) }
+    ensures { ClosesAll (W.state world.old) (W.state world.new)
+        (map W.Store.state held.stores.items) (map (λ a. W.Feed.state a.inlet) held.sources.items
+        ++ option_to_list (option_map W.Feed.state held.feed))
+        (map (λ a. W.Drain.state a.outlet) held.dests.items
+        ++ option_to_list (option_map W.Drain.state held.drain)) }
 {
     let Held {
         stores,

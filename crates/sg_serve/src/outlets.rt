@@ -73,10 +73,14 @@ fn open_dest<W: World>(
     world: &mut W,
 ) -> Result<DestActor<W::Drain>, (Option<W::Drain>, Early)>
     requires path { IsByPath plan.spec → ⊥ }
-    ensures opened { IfOk result (λ made. OpensOutlets (W.state world.old) (W.state world.new) (outlet_asked once plan.spec ∷ []) (W.Drain.state made.outlet ∷ [])) }
-    ensures new { IfOk result (λ made. IsDestFor once d plan (dest_view made.spec made.outage (W.Drain.state made.outlet))) }
-    ensures refused { IfErr result (λ e. OpensOutlets (W.state world.old) (W.state world.new) (outlet_asked once plan.spec ∷ []) (option_to_list (option_map W.Drain.state e.0))) }
-    ensures cause { IfErr result (λ e. OutletsFail (W.state world.old) (W.state world.new) (d + length (option_to_list (option_map W.Drain.state e.0))) e.1) }
+    ensures opened { IfOk result (λ made. OpensOutlets (W.state world.old) (W.state world.new)
+        (outlet_asked once plan.spec ∷ []) (W.Drain.state made.outlet ∷ [])) }
+    ensures new { IfOk result (λ made. IsDestFor once d plan
+        (dest_view made.spec made.outage (W.Drain.state made.outlet))) }
+    ensures refused { IfErr result (λ e. OpensOutlets (W.state world.old) (W.state world.new)
+        (outlet_asked once plan.spec ∷ []) (option_to_list (option_map W.Drain.state e.0))) }
+    ensures cause { IfErr result (λ e. OutletsFail (W.state world.old) (W.state world.new)
+        (d + length (option_to_list (option_map W.Drain.state e.0))) e.1) }
 {
     let OutletPlan { spec, shape, env } = plan;
     let spec = asked(spec, once);
@@ -100,11 +104,17 @@ pub fn open_dests<W: World>(
 ) -> Result<Vec<DestActor<W::Drain>>, (Vec<DestActor<W::Drain>>, Option<W::Drain>, Early)>
     requires few { length plans.items < 2 ^ 32 }
     requires paths { AreNotByPath plans.items }
-    ensures opened { IfOk result (λ dests. OpensOutlets (W.state world.old) (W.state world.new) (outlets_asked once plans.items) (map (λ a. W.Drain.state a.outlet) dests.items)) }
+    ensures opened { IfOk result (λ dests. OpensOutlets (W.state world.old) (W.state world.new)
+        (outlets_asked once plans.items) (map (λ a. W.Drain.state a.outlet) dests.items)) }
     ensures all { IfOk result (λ dests. length dests.items ≡ length plans.items) }
-    ensures new { IfOk result (λ dests. AreDestsFor once plans.items (map (λ a. dest_view a.spec a.outage (W.Drain.state a.outlet)) dests.items)) }
-    ensures refused { IfErr result (λ e. OpensOutlets (W.state world.old) (W.state world.new) (outlets_asked once plans.items) (map (λ a. W.Drain.state a.outlet) e.0.items ++ option_to_list (option_map W.Drain.state e.1))) }
-    ensures cause { IfErr result (λ e. OutletsFail (W.state world.old) (W.state world.new) (length (map (λ a. W.Drain.state a.outlet) e.0.items ++ option_to_list (option_map W.Drain.state e.1))) e.2) }
+    ensures new { IfOk result (λ dests. AreDestsFor once plans.items
+        (map (λ a. dest_view a.spec a.outage (W.Drain.state a.outlet)) dests.items)) }
+    ensures refused { IfErr result (λ e. OpensOutlets (W.state world.old) (W.state world.new)
+        (outlets_asked once plans.items) (map (λ a. W.Drain.state a.outlet) e.0.items
+        ++ option_to_list (option_map W.Drain.state e.1))) }
+    ensures cause { IfErr result (λ e. OutletsFail (W.state world.old) (W.state world.new)
+        (length (map (λ a. W.Drain.state a.outlet) e.0.items
+        ++ option_to_list (option_map W.Drain.state e.1))) e.2) }
 {
     let mut dests = match Vec::with_capacity(alloc, plans.len()) {
         Ok(dests) => dests,
@@ -122,7 +132,9 @@ pub fn open_dests<W: World>(
 
 /// Closes the outlets of these destinations, in order, and then the last one.
 pub fn close_dests<W: World>(dests: Vec<DestActor<W::Drain>>, last: Option<W::Drain>, world: &mut W)
-    ensures { ClosesOutlets (W.state world.old) (W.state world.new) (map (λ a. W.Drain.state a.outlet) dests.items ++ option_to_list (option_map W.Drain.state last)) }
+    ensures { ClosesOutlets (W.state world.old) (W.state world.new)
+        (map (λ a. W.Drain.state a.outlet) dests.items
+        ++ option_to_list (option_map W.Drain.state last)) }
 {
     let mut rest = VecDeque::from(dests);
     while let Some(dest) = rest.pop_front() {

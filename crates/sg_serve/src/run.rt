@@ -178,7 +178,8 @@ pub fn run_plan<T: Wait, W: World, R: Router + Drop>(
     requires rounds { rounds ≤ 2 ^ 36 }
     requires plan { IsRunnable plan }
     requires routers { AllKnow R.inlets R.dests plan routers.items }
-    ensures { RunsPlan W.Feed.state W.Drain.state R.offers R.inlets R.dests (W.state world.old) (W.state world.new) plan routers.items rounds result }
+    ensures { RunsPlan W.Feed.state W.Drain.state R.offers R.inlets R.dests (W.state world.old)
+        (W.state world.new) plan routers.items rounds result }
 {
     let (held, ending) = run_stores(rt, alloc, plan, routers, rounds, world);
     close_all(held, world);

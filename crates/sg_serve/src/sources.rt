@@ -83,7 +83,10 @@ fn source_of<R: Router + Drop, I: Inlet>(
     requires fresh { IsFresh (I.state feed) }
     requires place { place ≡ (I.state feed).from }
     requires fetches { IsFetching plan.now }
-    ensures source { IfOk result (λ made. IsSourceFor i plan.now setup.store (source_view made.spec (actor (I.state made.inlet) made.reader made.buffer.items made.position made.bad_frames) (R.dests made.router))) }
+    ensures source { IfOk result (λ made. IsSourceFor i plan.now setup.store
+        (source_view made.spec
+        (actor (I.state made.inlet) made.reader made.buffer.items made.position made.bad_frames)
+        (R.dests made.router))) }
     ensures inlet { IfOk result (λ made. made.inlet ≡ feed) }
     ensures router { IfOk result (λ made. made.router ≡ router) }
     ensures back { IfErr result (λ e. e.0 ≡ feed) }
@@ -119,14 +122,23 @@ fn open_source<W: World, R: Router + Drop>(
     requires none { begun_in core.old.sources i ≡ 0 }
     requires few { core.old.calls + 1 < 2 ^ 54 }
     requires fetches { IsFetching plan.now }
-    ensures opened { IfOk result (λ made. OpensInlets (W.state world.old) (W.state world.new) (inlet_asked once plan.now.spec ∷ []) (W.Feed.state made.inlet ∷ [])) }
-    ensures at { IfOk result (λ made. BeginsAt (W.state world.old).files (inlet_asked once plan.now.spec) (position_at core.old i) (W.Feed.state made.inlet)) }
-    ensures begins { IfOk result (λ made. Begins core.old core.new i (position_at core.old i) (W.Feed.state made.inlet).place true) }
-    ensures source { IfOk result (λ made. IsSourceFor i plan.now setup.store (source_view made.spec (actor (W.Feed.state made.inlet) made.reader made.buffer.items made.position made.bad_frames) (R.dests made.router))) }
+    ensures opened { IfOk result (λ made. OpensInlets (W.state world.old) (W.state world.new)
+        (inlet_asked once plan.now.spec ∷ []) (W.Feed.state made.inlet ∷ [])) }
+    ensures at { IfOk result (λ made. BeginsAt (W.state world.old).files
+        (inlet_asked once plan.now.spec) (position_at core.old i) (W.Feed.state made.inlet)) }
+    ensures begins { IfOk result (λ made. Begins core.old core.new i (position_at core.old i)
+        (W.Feed.state made.inlet).place true) }
+    ensures source { IfOk result (λ made. IsSourceFor i plan.now setup.store
+        (source_view made.spec (actor (W.Feed.state made.inlet) made.reader made.buffer.items
+        made.position made.bad_frames) (R.dests made.router))) }
     ensures router { IfOk result (λ made. made.router ≡ router) }
-    ensures refused { IfErr result (λ e. OpensInlets (W.state world.old) (W.state world.new) (inlet_asked once plan.now.spec ∷ []) (option_to_list (option_map W.Feed.state e.0))) }
-    ensures back { IfErr result (λ e. AllBeginAt (W.state world.old).files (λ _. position_at core.old i) (inlet_asked once plan.now.spec ∷ []) (option_to_list (option_map W.Feed.state e.0))) }
-    ensures cause { IfErr result (λ e. SourceFails (W.state world.old) (W.state world.new) core.old core.new i setup.store (option_map W.Feed.state e.0) e.1) }
+    ensures refused { IfErr result (λ e. OpensInlets (W.state world.old) (W.state world.new)
+        (inlet_asked once plan.now.spec ∷ []) (option_to_list (option_map W.Feed.state e.0))) }
+    ensures back { IfErr result (λ e. AllBeginAt (W.state world.old).files
+        (λ _. position_at core.old i) (inlet_asked once plan.now.spec ∷ [])
+        (option_to_list (option_map W.Feed.state e.0))) }
+    ensures cause { IfErr result (λ e. SourceFails (W.state world.old) (W.state world.new) core.old
+        core.new i setup.store (option_map W.Feed.state e.0) e.1) }
 {
     let Ok(spec) = asked(&plan.spec, once) else {
         return Err((None, Early::NoMemory));
@@ -171,15 +183,28 @@ pub fn open_sources<W: World, R: Router + Drop>(
     requires few { length plans.now ≤ 128 }
     requires fetches { AreFetching plans.now }
     requires apart { AreApartIn setups.now }
-    ensures opened { IfOk result (λ sources. OpensInlets (W.state world.old) (W.state world.new) (inlets_asked once plans.now) (map (λ a. W.Feed.state a.inlet) sources.items)) }
+    ensures opened { IfOk result (λ sources. OpensInlets (W.state world.old) (W.state world.new)
+        (inlets_asked once plans.now) (map (λ a. W.Feed.state a.inlet) sources.items)) }
     ensures all { IfOk result (λ sources. length sources.items ≡ length plans.now) }
-    ensures at { IfOk result (λ sources. AllBeginAt (W.state world.old).files (position_at core.old) (inlets_asked once plans.now) (map (λ a. W.Feed.state a.inlet) sources.items)) }
-    ensures begun { IfOk result (λ sources. HasBegun core.old core.new (rewinds_from (position_at core.old) 0 (places_of (map (λ a. W.Feed.state a.inlet) sources.items)))) }
-    ensures sources { IfOk result (λ sources. AreSourcesFor plans.now setups.now (map (λ a. source_view a.spec (actor (W.Feed.state a.inlet) a.reader a.buffer.items a.position a.bad_frames) (R.dests a.router)) sources.items)) }
+    ensures at { IfOk result (λ sources. AllBeginAt (W.state world.old).files (position_at core.old)
+        (inlets_asked once plans.now) (map (λ a. W.Feed.state a.inlet) sources.items)) }
+    ensures begun { IfOk result (λ sources. HasBegun core.old core.new
+        (rewinds_from (position_at core.old) 0
+        (places_of (map (λ a. W.Feed.state a.inlet) sources.items)))) }
+    ensures sources { IfOk result (λ sources. AreSourcesFor plans.now setups.now
+        (map (λ a. source_view a.spec
+        (actor (W.Feed.state a.inlet) a.reader a.buffer.items a.position a.bad_frames)
+        (R.dests a.router)) sources.items)) }
     ensures routers { IfOk result (λ sources. map (λ a. a.router) sources.items ≡ routers.items) }
-    ensures refused { IfErr result (λ e. OpensInlets (W.state world.old) (W.state world.new) (inlets_asked once plans.now) (map (λ a. W.Feed.state a.inlet) e.0.items ++ option_to_list (option_map W.Feed.state e.1))) }
-    ensures back { IfErr result (λ e. AllBeginAt (W.state world.old).files (position_at core.old) (inlets_asked once plans.now) (map (λ a. W.Feed.state a.inlet) e.0.items ++ option_to_list (option_map W.Feed.state e.1))) }
-    ensures cause { IfErr result (λ e. SourcesFail (W.state world.old) (W.state world.new) core.old core.new setups.now (map (λ a. W.Feed.state a.inlet) e.0.items) (option_map W.Feed.state e.1) e.2) }
+    ensures refused { IfErr result (λ e. OpensInlets (W.state world.old) (W.state world.new)
+        (inlets_asked once plans.now) (map (λ a. W.Feed.state a.inlet) e.0.items
+        ++ option_to_list (option_map W.Feed.state e.1))) }
+    ensures back { IfErr result (λ e. AllBeginAt (W.state world.old).files (position_at core.old)
+        (inlets_asked once plans.now) (map (λ a. W.Feed.state a.inlet) e.0.items
+        ++ option_to_list (option_map W.Feed.state e.1))) }
+    ensures cause { IfErr result (λ e. SourcesFail (W.state world.old) (W.state world.new) core.old
+        core.new setups.now (map (λ a. W.Feed.state a.inlet) e.0.items)
+        (option_map W.Feed.state e.1) e.2) }
 {
     let mut sources = match Vec::with_capacity(alloc, plans.len()) {
         Ok(sources) => sources,
@@ -213,7 +238,9 @@ pub fn close_sources<W: World, R: Router + Drop>(
     last: Option<W::Feed>,
     world: &mut W,
 )
-    ensures { ClosesInlets (W.state world.old) (W.state world.new) (map (λ a. W.Feed.state a.inlet) sources.items ++ option_to_list (option_map W.Feed.state last)) }
+    ensures { ClosesInlets (W.state world.old) (W.state world.new)
+        (map (λ a. W.Feed.state a.inlet) sources.items
+        ++ option_to_list (option_map W.Feed.state last)) }
 {
     let mut rest = VecDeque::from(sources);
     while let Some(source) = rest.pop_front() {

@@ -17,10 +17,13 @@ pub fn open_stores<W: World>(
     world: &mut W,
 ) -> Result<Vec<W::Store>, (Vec<W::Store>, Early)>
     requires few { length specs.now < 2 ^ 32 }
-    ensures opened { IfOk result (λ stores. OpensStores (W.state world.old) (W.state world.new) specs.now (map W.Store.state stores.items)) }
+    ensures opened { IfOk result (λ stores. OpensStores (W.state world.old) (W.state world.new)
+        specs.now (map W.Store.state stores.items)) }
     ensures all { IfOk result (λ stores. length stores.items ≡ length specs.now) }
-    ensures refused { IfErr result (λ e. OpensStores (W.state world.old) (W.state world.new) specs.now (map W.Store.state e.0.items)) }
-    ensures cause { IfErr result (λ e. StoresFail (W.state world.old) (W.state world.new) (length e.0.items) e.1) }
+    ensures refused { IfErr result (λ e. OpensStores (W.state world.old) (W.state world.new)
+        specs.now (map W.Store.state e.0.items)) }
+    ensures cause { IfErr result
+        (λ e. StoresFail (W.state world.old) (W.state world.new) (length e.0.items) e.1) }
 {
     let mut stores = match Vec::with_capacity(alloc, specs.len()) {
         Ok(stores) => stores,
@@ -41,7 +44,8 @@ pub fn open_stores<W: World>(
 
 /// Closes the stores, in order.
 pub fn close_stores<W: World>(stores: Vec<W::Store>, world: &mut W)
-    ensures { ClosesStores (W.state world.old) (W.state world.new) (map W.Store.state stores.items) }
+    ensures { ClosesStores (W.state world.old) (W.state world.new)
+        (map W.Store.state stores.items) }
 {
     let mut rest = VecDeque::from(stores);
     while let Some(store) = rest.pop_front() {

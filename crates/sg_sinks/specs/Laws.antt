@@ -33,13 +33,18 @@ abbrev pub Judging : Dest → List ℕ → List ℕ → Offer → Type 0
 Judging dest failing failed offer =
     let sink = sink_of (is_listed_in dest.setup.buffer failed) dest in
     let fails = is_listed_in dest.setup.buffer failing in
-    judged_by dest.setup.buffer dest.setup.fifo dest.left failing failed offer (verdict_of fails sink offer) ≡ Some (failed_by dest.setup.buffer failed (fails && would_spool sink offer))
+    judged_by dest.setup.buffer dest.setup.fifo dest.left failing failed offer
+    (verdict_of fails sink offer)
+    ≡ Some (failed_by dest.setup.buffer failed (fails && would_spool sink offer))
 
 -- what an offer with that verdict leaves
 pub record Offering (dest : Dest) (broken fails : Bool) (origin : Origin) (offer : Offer) : Type 0 where
   pub split : IsSplit (take_offer origin offer (verdict_of fails (sink_of broken dest) offer) dest)
-  pub seen : sink_of (broken_then fails (sink_of broken dest) offer) (take_offer origin offer (verdict_of fails (sink_of broken dest) offer) dest)
-      ≡ offered fails origin.inlet origin.number offer (block_of_offer dest.setup.buffer origin.inlet origin.end offer) (verdict_of fails (sink_of broken dest) offer) (sink_of broken dest)
+  pub seen : sink_of (broken_then fails (sink_of broken dest) offer)
+      (take_offer origin offer (verdict_of fails (sink_of broken dest) offer) dest)
+      ≡ offered fails origin.inlet origin.number offer
+      (block_of_offer dest.setup.buffer origin.inlet origin.end offer)
+      (verdict_of fails (sink_of broken dest) offer) (sink_of broken dest)
 
 -- what is left once the first n are settled
 pub record Settling (dest : Dest) (broken : Bool) (n : ℕ) : Type 0 where
@@ -48,11 +53,16 @@ pub record Settling (dest : Dest) (broken : Bool) (n : ℕ) : Type 0 where
 
 -- the first that waits fits, and what is left once it goes to the disk
 pub record Moving (dest : Dest) (buffer : BufferSetup) (broken : Bool) : Type 0 where
-  pub fits : first_fits buffer.capacity dest.left dest.left ≡ option_map_or (λ e. has_space buffer.capacity (space (sink_of broken dest).lengths) (encoded_len e.message)) (slice_get (sink_of broken dest).entries 0) false
+  pub fits : first_fits buffer.capacity dest.left dest.left ≡ option_map_or
+      (λ e. has_space buffer.capacity (space (sink_of broken dest).lengths) (encoded_len e.message))
+      (slice_get (sink_of broken dest).entries 0) false
   pub split : IsSplit (record dest { left = spool_first dest.left })
-  pub seen : sink_of broken (record dest { left = spool_first dest.left }) ≡ moved_first (sink_of broken dest)
+  pub seen : sink_of broken (record dest { left = spool_first dest.left })
+      ≡ moved_first (sink_of broken dest)
 
 -- a trial goes along with the offers, while the store works
 pub record Trying (buffer : BufferSetup) (sink : SinkState) (inlet number : ℕ) (offer : Offer) (block : Option (List ℕ)) : Type 0 where
   pub takes : takes_in (encoded_len offer.message) (trial_of buffer sink) ≡ would_spool sink offer
-  pub after : trial_of buffer (offered false inlet number offer block (verdict_of false sink offer) sink) ≡ tried offer.flow (encoded_len offer.message) (trial_of buffer sink)
+  pub after :
+      trial_of buffer (offered false inlet number offer block (verdict_of false sink offer) sink)
+      ≡ tried offer.flow (encoded_len offer.message) (trial_of buffer sink)

@@ -15,7 +15,8 @@ moved_first sink = option_map_or (moved_entry sink) (slice_get sink.entries 0) s
 
 -- it fits
 abbrev pub FitsFirst : ℕ → SinkState → Type 0
-FitsFirst capacity sink = (e : Entry) → slice_get sink.entries 0 ≡ Some e → has_space capacity (space sink.lengths) (encoded_len e.message) ≡ true
+FitsFirst capacity sink = (e : Entry) → slice_get sink.entries 0 ≡ Some e
+    → has_space capacity (space sink.lengths) (encoded_len e.message) ≡ true
 
 -- the payload of the entry at a place among those that wait, where it has one
 abbrev pub block_at : List (Option (List ℕ)) → ℕ → Option (List ℕ)

@@ -13,7 +13,8 @@ use Rattle.sg_sinks.specs.States.{SinkState}
 -- no entry waits, and the message's entry fits
 abbrev pub spools_in : Option BufferSetup → SinkState → Offer → Bool
 spools_in None sink offer = false
-spools_in (Some buffer) sink offer = length sink.entries == 0 && has_space buffer.capacity (space sink.lengths) (encoded_len offer.message)
+spools_in (Some buffer) sink offer = length sink.entries == 0
+    && has_space buffer.capacity (space sink.lengths) (encoded_len offer.message)
 
 -- the store works before the offer, and would spool it
 abbrev pub would_spool : SinkState → Offer → Bool
@@ -69,4 +70,5 @@ offered fails inlet number offer block verdict sink = record (takes inlet number
 
 -- how many offers it was given at most
 abbrev pub given : SinkState → ℕ
-given sink = sink.taken + length sink.lengths + length sink.entries + sink.dropped_full + sink.dropped_disk
+given sink = sink.taken + length sink.lengths + length sink.entries + sink.dropped_full
+    + sink.dropped_disk

@@ -28,7 +28,8 @@ pub fn offer_block(
 ) -> Result<Option<Block>, NoMemory>
     requires { end < 2 ^ 63 }
     ensures block { IfOk result (λ block. block ≡ block_of_offer buffer inlet end offer.now) }
-    ensures kept { IfOk result (λ block. IsSome block → IsKept (kept_of_offer inlet end offer.now)) }
+    ensures kept { IfOk result
+        (λ block. IsSome block → IsKept (kept_of_offer inlet end offer.now)) }
 {
     if buffer.is_none() || !is_short(&offer.message) {
         return Ok(None);

@@ -11,25 +11,31 @@ ghost use Rattle.sg_sinks.specs.Laws.{Judging, Offering, Settling, Moving, Tryin
 
 /// The verdict of an offer is the one that the machine judges right.
 pub fn verdicts_hold()
-    ensures { (dest : Dest) (failing failed : List ℕ) (offer : Offer) → IsSplit dest → Judging dest failing failed offer }
+    ensures { (dest : Dest) (failing failed : List ℕ) (offer : Offer) → IsSplit dest
+        → Judging dest failing failed offer }
 {}
 
 /// What an offer leaves is what is kept of what the machine has then.
 pub fn offers_hold()
-    ensures { (dest : Dest) (broken fails : Bool) (origin : Origin) (offer : Offer) → IsSplit dest → Offering dest broken fails origin offer }
+    ensures { (dest : Dest) (broken fails : Bool) (origin : Origin) (offer : Offer) → IsSplit dest
+        → Offering dest broken fails origin offer }
 {}
 
 /// So it is of entries that are settled.
 pub fn settles_hold()
-    ensures { (dest : Dest) (broken : Bool) (n : ℕ) → n ≤ length dest.left → IsSplit dest → Settling dest broken n }
+    ensures { (dest : Dest) (broken : Bool) (n : ℕ) → n ≤ length dest.left → IsSplit dest
+        → Settling dest broken n }
 {}
 
 /// And of one that goes to the disk.
 pub fn moves_hold()
-    ensures { (dest : Dest) (buffer : BufferSetup) (broken : Bool) → dest.setup.buffer ≡ Some buffer → IsSplit dest → Moving dest buffer broken }
+    ensures { (dest : Dest) (buffer : BufferSetup) (broken : Bool) → dest.setup.buffer ≡ Some buffer
+        → IsSplit dest → Moving dest buffer broken }
 {}
 
 /// A trial of offers to a disk-buffer takes those that it spools while its store works.
 pub fn trials_hold()
-    ensures { (buffer : BufferSetup) (sink : SinkState) (inlet number : ℕ) (offer : Offer) (block : Option (List ℕ)) → sink.setup.buffer ≡ Some buffer → sink.broken ≡ false → Trying buffer sink inlet number offer block }
+    ensures { (buffer : BufferSetup) (sink : SinkState) (inlet number : ℕ) (offer : Offer)
+        (block : Option (List ℕ)) → sink.setup.buffer ≡ Some buffer → sink.broken ≡ false
+        → Trying buffer sink inlet number offer block }
 {}

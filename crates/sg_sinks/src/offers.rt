@@ -39,7 +39,10 @@ impl Sink {
 
     // The length of the offer's entry, where no entry waits and it fits.
     fn length_of(&self, buffer: BufferSetup, offer: &Offer) -> Option<u64>
-        ensures { MatchOption result (spools_in (Some buffer) self.now.seen offer.now ≡ false) (λ n. (n ≡ encoded_len offer.now.message) × (spools_in (Some buffer) self.now.seen offer.now ≡ true) × (has_space buffer.capacity (space self.now.seen.lengths) n ≡ true)) }
+        ensures { MatchOption result (spools_in (Some buffer) self.now.seen offer.now ≡ false)
+            (λ n. (n ≡ encoded_len offer.now.message)
+            × (spools_in (Some buffer) self.now.seen offer.now ≡ true)
+            × (has_space buffer.capacity (space self.now.seen.lengths) n ≡ true)) }
     {
         if self.queue.len() != 0 {
             return None;
@@ -132,8 +135,10 @@ impl Sink {
     ) -> Verdict
         requires room { 0 < self.old.room }
         requires works { self.old.seen.broken ≡ false }
-        ensures verdict { result ≡ working_verdict (spools_in (Some buffer) self.old.seen offer) fails offer.flow }
-        ensures seen { self.new.seen ≡ record (takes inlet number offer block result self.old.seen) { broken = fails && spools_in (Some buffer) self.old.seen offer } }
+        ensures verdict { result
+            ≡ working_verdict (spools_in (Some buffer) self.old.seen offer) fails offer.flow }
+        ensures seen { self.new.seen ≡ record (takes inlet number offer block result self.old.seen)
+            { broken = fails && spools_in (Some buffer) self.old.seen offer } }
         ensures room { self.new.room + 1 ≡ self.old.room }
     {
         let Some(length) = self.length_of(buffer, &offer) else {
@@ -159,7 +164,8 @@ impl Sink {
     ) -> Verdict
         requires room { 0 < self.old.room }
         requires buffer { self.old.seen.setup.buffer ≡ Some buffer }
-        ensures verdict { result ≡ disk_verdict (broken_then fails self.old.seen offer) self.old.seen offer }
+        ensures verdict { result
+            ≡ disk_verdict (broken_then fails self.old.seen offer) self.old.seen offer }
         ensures seen { self.new.seen ≡ offered fails inlet number offer block result self.old.seen }
         ensures room { self.new.room + 1 ≡ self.old.room }
     {

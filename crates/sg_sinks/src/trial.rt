@@ -19,14 +19,17 @@ pub struct Trial {
 
 // What is left of the room behind a gate, a length, a closed gate and the message's entry.
 fn room_behind(room: u64, message: &Message) -> Option<u64>
-    ensures { MatchOption result (room < 6 + encoded_len message.now) (λ n. n + 6 + encoded_len message.now ≡ room) }
+    ensures { MatchOption result (room < 6 + encoded_len message.now)
+        (λ n. n + 6 + encoded_len message.now ≡ room) }
 {
     less_entry(room.checked_sub(6)?, message)
 }
 
 /// The length of the message's entry, where it fits into a disk-buffer of which so much is taken.
 pub(crate) fn length_within(capacity: u64, used: u64, message: &Message) -> Option<u64>
-    ensures { MatchOption result (has_space capacity used (encoded_len message.now) ≡ false) (λ n. (n ≡ encoded_len message.now) × (has_space capacity used (encoded_len message.now) ≡ true)) }
+    ensures { MatchOption result (has_space capacity used (encoded_len message.now) ≡ false)
+        (λ n. (n ≡ encoded_len message.now)
+        × (has_space capacity used (encoded_len message.now) ≡ true)) }
 {
     let room = capacity.checked_sub(used)?;
     let left = room_behind(room, message)?;

@@ -85,7 +85,8 @@ default_facility call =
 -- notice is the default severity
 abbrev pub pri_of : Call → ℕ
 pri_of call =
-    facility_or (last_value facility_words (options_of call)) (default_facility call) * 8 + level_or (last_value level_words (options_of call)) 5
+    facility_or (last_value facility_words (options_of call)) (default_facility call) * 8
+    + level_or (last_value level_words (options_of call)) 5
 
 abbrev pub is_syslog : DriverKind → Bool
 is_syslog File = false

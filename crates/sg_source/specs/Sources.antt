@@ -53,7 +53,8 @@ store_of_source call = position_of (driver_kind call) (name_of call)
 
 -- a port must be given
 abbrev pub listening_faults : Call → List Placed
-listening_faults call = missing_unless (last_option port_words (options_of call)) call ++ bad_values listener_checks (options_of call)
+listening_faults call = missing_unless (last_option port_words (options_of call)) call
+    ++ bad_values listener_checks (options_of call)
 
 abbrev pub listener_faults : DriverKind → Call → List Placed
 listener_faults File call = []
@@ -62,7 +63,8 @@ listener_faults Syslog call = listening_faults call
 
 -- what is wrong with a driver of a source
 abbrev pub source_faults : Call → List Placed
-source_faults call = listener_faults (driver_kind call) call ++ (bad_values source_checks (options_of call) ++ long_names call (store_of_source call))
+source_faults call = listener_faults (driver_kind call) call
+    ++ (bad_values source_checks (options_of call) ++ long_names call (store_of_source call))
 
 abbrev pub connection_count : Option Spot → ℕ
 connection_count None = 10

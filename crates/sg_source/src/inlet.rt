@@ -287,7 +287,8 @@ impl SourceDriver {
 
     /// The inlet of this slot, in the source of this name. The number is that of this driver.
     pub fn plan(&self, slot: u16, driver: u32, source: Option<&Name>) -> Result<InletPlan, NoMemory>
-        ensures { IfOk result (λ plan. plan ≡ spec.plan_of self.now slot driver (option_copied source.entry)) }
+        ensures { IfOk result
+            (λ plan. plan ≡ spec.plan_of self.now slot driver (option_copied source.entry)) }
     {
         Ok(InletPlan {
             spec: self.spec_at(slot)?,

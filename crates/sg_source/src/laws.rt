@@ -7,5 +7,6 @@ ghost use Rattle.sg_source.specs.Inlets.{IsSource};
 
 /// With the same defaults the options of a driver make one driver of a source.
 pub fn sources_are_one()
-    ensures { (defaults : Defaults) (call : Call) (a b : SourceDriver) → IsSource defaults call a → IsSource defaults call b → a ≡ b }
+    ensures { (defaults : Defaults) (call : Call) (a b : SourceDriver) → IsSource defaults call a
+        → IsSource defaults call b → a ≡ b }
 {}

@@ -35,8 +35,10 @@ IsReadyAt places entries bytes = IsReady places.jump places.head places.end entr
 pub record IsShrunk (places : Places) (entries : Entries) (bytes : List ℕ) : Type 0 where
   pub next : Places
   pub laid : IsLaid next.jump next.head next.end entries bytes
-  pub compact : (capacity : ℕ) → AreCompact capacity places.jump places.head places.end → AreCompact capacity next.jump next.head next.end
+  pub compact : (capacity : ℕ) → AreCompact capacity places.jump places.head places.end
+      → AreCompact capacity next.jump next.head next.end
 
 -- the ring, or the ring without its first entries
 abbrev pub IsAdvanced : Places → ℕ → Entries → List ℕ → Type 0
-IsAdvanced places n entries bytes = IsLaid places.jump places.head places.end entries bytes ⊎ IsShrunk places (drop n entries) bytes
+IsAdvanced places n entries bytes = IsLaid places.jump places.head places.end entries bytes
+    ⊎ IsShrunk places (drop n entries) bytes

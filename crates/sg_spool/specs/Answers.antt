@@ -30,13 +30,15 @@ Refuses old new payload = (old.closed ≡ false) × (FitsBehind old payload → 
 
 -- the disk failed earlier, or the payload fits and the disk failed now; it is closed, and nothing is staged
 abbrev pub Drops : {D : Type 0} → (D → DiskState) → View D → View D → List ℕ → Type 0
-Drops state old new payload = ((old.closed ≡ true) ⊎ (FitsBehind old payload × Rose (state old.disk).faults (state new.disk).faults))
+Drops state old new payload = ((old.closed ≡ true)
+    ⊎ (FitsBehind old payload × Rose (state old.disk).faults (state new.disk).faults))
     × (new.closed ≡ true) × (new.rows.staged ≡ 0)
 
 -- Done: it was open, and the payload fits; it is staged, and where there was no room behind the others, the list has taken
 -- those.
 abbrev pub Stages : {D : Type 0} → (D → DiskState) → View D → View D → List ℕ → Appended → Type 0
-Stages state old new payload Done = (old.closed ≡ false) × FitsBehind old payload × (new.closed ≡ false)
+Stages state old new payload Done = (old.closed ≡ false) × FitsBehind old payload
+    × (new.closed ≡ false)
     × (live new.rows.ahead ≡ live old.rows.ahead + 5 + length payload)
     × (total new.rows ≡ min (total old.rows + 1) (2 ^ 64 - 1))
     × ((list staged : Entries) → Holds state old list staged
@@ -47,7 +49,8 @@ Stages state old new payload DiskFailed = Drops state old new payload
 
 -- the same of staging and committing, where nothing was staged
 abbrev pub Appends : {D : Type 0} → (D → DiskState) → View D → View D → List ℕ → Appended → Type 0
-Appends state old new payload Done = (old.closed ≡ false) × FitsBehind old payload × (new.closed ≡ false)
+Appends state old new payload Done = (old.closed ≡ false) × FitsBehind old payload
+    × (new.closed ≡ false)
     × (live new.rows.list ≡ live old.rows.ahead + 5 + length payload)
     × (new.rows ≡ listed new.rows.list (min (old.rows.count + 1) (2 ^ 64 - 1)))
     × ((list : Entries) → Holds state old list [] → Holds state new (list ++ payload ∷ []) [])
@@ -55,27 +58,33 @@ Appends state old new payload NoRoom = Refuses old new payload
 Appends state old new payload DiskFailed = Drops state old new payload
 
 -- Ok: it was open, and the list has taken what was staged. A fault: the disk failed, it is closed, and nothing is staged.
-abbrev pub Commits : {D : Type 0} → (D → DiskState) → View D → View D → Result Unit DeviceFault → Type 0
-Commits state old new (Ok done) = (old.closed ≡ false) × (new.closed ≡ false) × (new.rows ≡ committed old.rows)
+abbrev pub Commits : {D : Type 0} → (D → DiskState) → View D → View D → Result Unit DeviceFault
+    → Type 0
+Commits state old new (Ok done) = (old.closed ≡ false) × (new.closed ≡ false)
+    × (new.rows ≡ committed old.rows)
     × ((list staged : Entries) → Holds state old list staged → Holds state new (list ++ staged) [])
 Commits state old new (Err e) = HasFailed old.closed (state old.disk).faults (state new.disk).faults
     × (new.closed ≡ true) × (new.rows.staged ≡ 0)
 
 -- Ok: it was open, and the list is without its first entries. A fault: the disk failed, and it is closed.
-abbrev pub Advances : {D : Type 0} → (D → DiskState) → View D → View D → ℕ → Result Unit DeviceFault → Type 0
+abbrev pub Advances : {D : Type 0} → (D → DiskState) → View D → View D → ℕ → Result Unit DeviceFault
+    → Type 0
 Advances state old new n (Ok done) = (old.closed ≡ false) × (new.closed ≡ false)
     × (new.rows ≡ listed new.rows.list (old.rows.count - n)) × (new.front ≡ None)
     × ((list : Entries) → Holds state old list [] → Holds state new (drop n list) [])
-Advances state old new n (Err e) = HasFailed old.closed (state old.disk).faults (state new.disk).faults
+Advances state old new n (Err e) = HasFailed old.closed (state old.disk).faults
+    (state new.disk).faults
     × (new.closed ≡ true) × (new.rows ≡ old.rows)
 
 -- Ok: it was open, and each entry is spelled anew. DiskFault: the disk failed, and it is closed. NoMemory: it is open, and has
 -- the same list.
-abbrev pub Respells : {D : Type 0} → (D → DiskState) → View D → View D → (List ℕ → List ℕ) → Result Unit RewriteRefusal → Type 0
+abbrev pub Respells : {D : Type 0} → (D → DiskState) → View D → View D → (List ℕ → List ℕ)
+    → Result Unit RewriteRefusal → Type 0
 Respells state old new meaning (Ok done) = (old.closed ≡ false) × (new.closed ≡ false)
     × (new.rows ≡ listed new.rows.list old.rows.count)
     × ((list : Entries) → Holds state old list [] → Holds state new (map meaning list) [])
-Respells state old new meaning (Err DiskFault) = HasFailed old.closed (state old.disk).faults (state new.disk).faults
+Respells state old new meaning (Err DiskFault) = HasFailed old.closed (state old.disk).faults
+    (state new.disk).faults
     × (new.closed ≡ true) × (new.rows ≡ old.rows)
 Respells state old new meaning (Err NoMemory) = (old.closed ≡ false) × (new.closed ≡ false)
     × (new.rows ≡ old.rows) × (new.front ≡ old.front)
@@ -84,31 +93,40 @@ Respells state old new meaning (Err NoMemory) = (old.closed ≡ false) × (new.c
 -- Item: it is open, has an entry, and keeps the payload. Empty: it is open and has no entry. DiskFailed: the disk failed, and
 -- it is closed.
 abbrev pub IsFronted : {D : Type 0} → View D → View D → ℕ → ℕ → Front → Type 0
-IsFronted old new before now (Item payload) = (old.closed ≡ false) × (1 ≤ old.rows.count) × (new.closed ≡ false) × (new.front ≡ Some payload.items)
-IsFronted old new before now Empty = (old.closed ≡ false) × (old.rows.count ≡ 0) × (new.closed ≡ false) × (new.front ≡ old.front)
+IsFronted old new before now (Item payload) = (old.closed ≡ false) × (1 ≤ old.rows.count)
+    × (new.closed ≡ false) × (new.front ≡ Some payload.items)
+IsFronted old new before now Empty = (old.closed ≡ false) × (old.rows.count ≡ 0)
+    × (new.closed ≡ false) × (new.front ≡ old.front)
 IsFronted old new before now FrontFailed = HasFailed old.closed before now × (new.closed ≡ true)
 
 -- the payload is that of the first entry, where the disk tells its bytes
 abbrev pub IsFirst : DiskState → Front → Type 0
-IsFirst disk (Item payload) = WhereTold (content disk) (λ bytes. (entries : Entries) → IsList entries bytes → (rest : Entries) × (entries ≡ payload.items ∷ rest))
+IsFirst disk (Item payload) = WhereTold (content disk) (λ bytes. (entries : Entries)
+    → IsList entries bytes → (rest : Entries) × (entries ≡ payload.items ∷ rest))
 IsFirst disk Empty = Unit {0}
 IsFirst disk FrontFailed = Unit {0}
 
 -- Item: it is open, and this is no end. Empty: it is open, and this is the end. DiskFailed: the disk failed, and it is closed.
 abbrev pub IsWalked : {D : Type 0} → View D → View D → ℕ → ℕ → ℕ → Walked → Type 0
-IsWalked old new gate before now (WalkedItem payload next) = (old.closed ≡ false) × (gate ≡ old.rows.list.end → ⊥) × (new.closed ≡ false)
-IsWalked old new gate before now WalkedEmpty = (old.closed ≡ false) × (gate ≡ old.rows.list.end) × (new.closed ≡ false)
-IsWalked old new gate before now WalkedFailed = HasFailed old.closed before now × (new.closed ≡ true)
+IsWalked old new gate before now (WalkedItem payload next) = (old.closed ≡ false)
+    × (gate ≡ old.rows.list.end → ⊥) × (new.closed ≡ false)
+IsWalked old new gate before now WalkedEmpty = (old.closed ≡ false) × (gate ≡ old.rows.list.end)
+    × (new.closed ≡ false)
+IsWalked old new gate before now WalkedFailed = HasFailed old.closed before now
+    × (new.closed ≡ true)
 
 -- of the entries that are left from the gate on, an item is the first, and the others are left from the next gate on
 abbrev pub IsNext : {D : Type 0} → View D → List ℕ → Entries → Walked → Type 0
-IsNext old bytes entries (WalkedItem payload next) = (rest : Entries) × (entries ≡ payload.items ∷ rest) × Remains bytes old.rows.list.jump next rest old.rows.list.end
+IsNext old bytes entries (WalkedItem payload next) = (rest : Entries)
+    × (entries ≡ payload.items ∷ rest)
+    × Remains bytes old.rows.list.jump next rest old.rows.list.end
 IsNext old bytes entries WalkedEmpty = entries ≡ []
 IsNext old bytes entries WalkedFailed = Unit {0}
 
 -- behind an item the next gate is the one behind its payload, over the jump
 abbrev pub IsBehind : Option ℕ → ℕ → Walked → Type 0
-IsBehind jump gate (WalkedItem payload next) = next ≡ gate_past jump (gate + 5 + length payload.items)
+IsBehind jump gate (WalkedItem payload next) = next
+    ≡ gate_past jump (gate + 5 + length payload.items)
 IsBehind jump gate WalkedEmpty = Unit {0}
 IsBehind jump gate WalkedFailed = Unit {0}
 

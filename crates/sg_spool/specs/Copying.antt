@@ -10,4 +10,5 @@ pub record Beyond (at : ℕ) (old new : List ℕ) : Type 0 where
 -- place was no further than its end.
 pub record Copies (source at size : ℕ) (old new : List ℕ) : Type 0 where
   pub beyond : Beyond at old new
-  pub copied : source + size ≤ length old → at ≤ length old → (at + size ≤ length new) × ((k : ℕ) → k < size → slice_index new (at + k) ≡ slice_index old (source + k))
+  pub copied : source + size ≤ length old → at ≤ length old → (at + size ≤ length new)
+      × ((k : ℕ) → k < size → slice_index new (at + k) ≡ slice_index old (source + k))

@@ -11,7 +11,8 @@ use Rattle.sg_stable.specs.declared.fault.StoreRefusal.TheVariants.{Damage, Disk
 pub record IsBadGate (jump : Option ℕ) (head gate : ℕ) (bytes : List ℕ) : Type 0 where
   pub inside : gate < length bytes
   pub opened : slice_index bytes gate ≢ 0
-  pub no_entry : (payload : List ℕ) → IsEntry bytes gate payload → IsBelow jump head (gate + 5 + length payload) → ⊥
+  pub no_entry : (payload : List ℕ) → IsEntry bytes gate payload
+      → IsBelow jump head (gate + 5 + length payload) → ⊥
   pub no_jump : jump ≡ None → IsJump bytes gate → ⊥
 
 -- a walk comes to this gate: behind a jump only to the front itself, and to gates below the head

@@ -28,7 +28,8 @@ gate_past (Some jump) place = if jump == place then 64 else place
 -- from this gate on these entries are left
 abbrev pub Remains : List ℕ → Option ℕ → ℕ → Entries → ℕ → Type 0
 Remains bytes jump gate [] end = gate ≡ end
-Remains bytes jump gate (payload ∷ payloads) end = IsEntry bytes gate payload × Remains bytes jump (gate_past jump (gate + 5 + length payload)) payloads end
+Remains bytes jump gate (payload ∷ payloads) end = IsEntry bytes gate payload
+    × Remains bytes jump (gate_past jump (gate + 5 + length payload)) payloads end
 
 -- a payload of n bytes is within the capacity
 abbrev pub Fits : ℕ → Places → ℕ → Type 0
@@ -46,7 +47,8 @@ bound capacity = max 128 (68 + 2 * capacity)
 -- the places that such a ring has: what is appended in one row ends by 64 + 2 * capacity, and a jump leaves the capacity free
 abbrev pub AreCompact : ℕ → Option ℕ → ℕ → ℕ → Type 0
 AreCompact capacity None head end = end < 64 + max 1 (2 * capacity)
-AreCompact capacity (Some jump) head end = (64 + capacity < head) × (jump < 64 + max 1 (2 * capacity))
+AreCompact capacity (Some jump) head end = (64 + capacity < head)
+    × (jump < 64 + max 1 (2 * capacity))
 
 -- the places once so many bytes of entries are off the front
 abbrev pub skipped : Option ℕ → ℕ → ℕ → ℕ → Places

@@ -29,7 +29,8 @@ pub record HasPayload (bytes : List ℕ) (gate : ℕ) (payload : List ℕ) : Typ
 -- these entries stand one behind another, from the first gate on; the next would be at the end
 abbrev pub Stand : List ℕ → ℕ → Entries → ℕ → Type 0
 Stand bytes gate [] end = gate ≡ end
-Stand bytes gate (payload ∷ payloads) end = HasPayload bytes gate payload × Stand bytes (gate + 5 + length payload) payloads end
+Stand bytes gate (payload ∷ payloads) end = HasPayload bytes gate payload
+    × Stand bytes (gate + 5 + length payload) payloads end
 
 -- behind the last one a gate is closed
 abbrev pub IsShutAt : Bool → List ℕ → ℕ → Type 0
@@ -39,9 +40,11 @@ IsShutAt false bytes gate = Unit {0}
 -- an entry more at this place, and behind the last one a closed gate
 pub record Adds (at : ℕ) (payload : List ℕ) (last : Bool) (old new : List ℕ) : Type 0 where
   pub beyond : Beyond at old new
-  pub added : at ≤ length old → HasPayload new at payload × IsShutAt last new (at + 5 + length payload)
+  pub added : at ≤ length old
+      → HasPayload new at payload × IsShutAt last new (at + 5 + length payload)
 
 -- the entries of the list, spelled anew behind all that it uses
 pub record Spells (meaning : List ℕ → List ℕ) (places : Places) (count end : ℕ) (old new : List ℕ) : Type 0 where
   pub beyond : Beyond (past places) old new
-  pub spelled : (entries : Entries) → IsLaid places.jump places.head places.end entries old → count ≡ length entries → Stand new (past places) (map meaning entries) end × IsEnd new end
+  pub spelled : (entries : Entries) → IsLaid places.jump places.head places.end entries old
+      → count ≡ length entries → Stand new (past places) (map meaning entries) end × IsEnd new end

@@ -38,7 +38,8 @@ pub record IsEntry (bytes : List ℕ) (gate : ℕ) (payload : List ℕ) : Type 0
 -- these entries stand one behind another, from the first gate up to the last
 abbrev pub Run : List ℕ → ℕ → Entries → ℕ → Type 0
 Run bytes gate [] end = gate ≡ end
-Run bytes gate (payload ∷ payloads) end = IsEntry bytes gate payload × Run bytes (gate + 5 + length payload) payloads end
+Run bytes gate (payload ∷ payloads) end = IsEntry bytes gate payload
+    × Run bytes (gate + 5 + length payload) payloads end
 
 -- a gate that ends the list
 pub record IsEnd (bytes : List ℕ) (gate : ℕ) : Type 0 where

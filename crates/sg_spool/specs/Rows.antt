@@ -26,7 +26,8 @@ IsPast (Some jump) end (Some other) last = (other ≡ jump) × (end < last)
 -- so many entries are staged behind the list
 abbrev pub IsAhead : ℕ → Places → Places → Type 0
 IsAhead zero list ahead = ahead ≡ list
-IsAhead (suc staged) list ahead = (ahead.head ≡ list.head) × IsPast list.jump list.end ahead.jump ahead.end
+IsAhead (suc staged) list ahead = (ahead.head ≡ list.head)
+    × IsPast list.jump list.end ahead.jump ahead.end
 
 -- both places are in order
 pub record AreRows (rows : Rows) : Type 0 where

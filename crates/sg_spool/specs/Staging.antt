@@ -10,7 +10,8 @@ use Rattle.sg_spool.specs.declared.places.Places.{Places}
 abbrev pub OpensTo : Pair → ℕ → Option ℕ → ℕ → ℕ → Entries → Entries → List ℕ → Type 0
 OpensTo cell end longer first last list [] bytes = Unit {0}
 OpensTo cell end longer first last list (payload ∷ payloads) bytes =
-    (new : List ℕ) → Torn end 1 bytes new → slice_index new end ≢ 0 → RingAt cell longer first last (list ++ payload ∷ payloads) new
+    (new : List ℕ) → Torn end 1 bytes new → slice_index new end ≢ 0
+    → RingAt cell longer first last (list ++ payload ∷ payloads) new
 
 -- the bytes are the ring of the list, with these payloads staged behind it
 pub record StagedAt (cell : Pair) (jump : Option ℕ) (head end : ℕ) (longer : Option ℕ) (first last : ℕ) (list staged : Entries) (bytes : List ℕ) : Type 0 where
@@ -18,7 +19,8 @@ pub record StagedAt (cell : Pair) (jump : Option ℕ) (head end : ℕ) (longer :
   pub opens : OpensTo cell end longer first last list staged bytes
 
 abbrev pub IsStaged : Pair → Places → Places → Entries → Entries → List ℕ → Type 0
-IsStaged cell list ahead entries staged bytes = StagedAt cell list.jump list.head list.end ahead.jump ahead.head ahead.end entries staged bytes
+IsStaged cell list ahead entries staged bytes = StagedAt cell list.jump list.head list.end
+    ahead.jump ahead.head ahead.end entries staged bytes
 
 -- bytes are written from a gate on, but the gate at the list's end isn't
 abbrev pub Lays : Bool → ℕ → List ℕ → List ℕ → List ℕ → Type 0

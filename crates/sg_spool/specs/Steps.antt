@@ -27,7 +27,8 @@ IsUsed (Some jump) head end k = (k < 64) ⊎ ((k ≤ end) ⊎ ((head ≤ k) × (
 -- the bytes that the ring uses stay
 pub record Spares (jump : Option ℕ) (head end : ℕ) (old new : List ℕ) : Type 0 where
   pub longer : length old ≤ length new
-  pub same : (k : ℕ) → IsUsed jump head end k → k < length old → slice_index new k ≡ slice_index old k
+  pub same : (k : ℕ) → IsUsed jump head end k → k < length old
+      → slice_index new k ≡ slice_index old k
 
 -- no file grows past this length
 abbrev pub Grows : ℕ → List ℕ → List ℕ → Type 0

@@ -23,7 +23,8 @@ pub record View (D : Type 0) : Type 0 where
 -- once the gate at this place is open, the bytes stand for the list and these payloads behind it
 abbrev pub Awaits : ℕ → Entries → Entries → List ℕ → Type 0
 Awaits end list [] bytes = Unit {0}
-Awaits end list (payload ∷ payloads) bytes = IsList (list ++ payload ∷ payloads) (overwritten end (1 ∷ []) bytes)
+Awaits end list (payload ∷ payloads) bytes = IsList (list ++ payload ∷ payloads)
+    (overwritten end (1 ∷ []) bytes)
 
 -- A crash leaves this list, and these payloads are staged behind it.
 pub record HoldsAt (disk : DiskState) (rows : Rows) (list staged : Entries) : Type 0 where
@@ -37,7 +38,8 @@ Holds state view list staged = HoldsAt (state view.disk) view.rows list staged
 -- the bytes are no longer than the bound, and the ring's places are within the capacity
 pub record IsCompactIn (capacity : ℕ) (bytes : List ℕ) : Type 0 where
   pub short : length bytes ≤ bound capacity
-  pub placed : (jump : Option ℕ) (head end : ℕ) (entries : Entries) → IsLaid jump head end entries bytes → AreCompact capacity jump head end
+  pub placed : (jump : Option ℕ) (head end : ℕ) (entries : Entries)
+      → IsLaid jump head end entries bytes → AreCompact capacity jump head end
 
 -- each image is within the bound of this capacity, and so will be what is staged
 pub record IsCompactAt (disk : DiskState) (capacity : ℕ) (rows : Rows) : Type 0 where
@@ -56,12 +58,14 @@ IsRing cell places entries bytes = RingAt cell places.jump places.head places.en
 -- the images are the ring of this list, and these payloads are staged behind it
 pub record AreHeld (disk : DiskState) (cell : Pair) (rows : Rows) (list staged : Entries) : Type 0 where
   pub rings : EachNow disk (IsRing cell rows.list list)
-  pub opens : WhereTold (content disk) (OpensTo cell rows.list.end rows.ahead.jump rows.ahead.head rows.ahead.end list staged)
+  pub opens : WhereTold (content disk)
+      (OpensTo cell rows.list.end rows.ahead.jump rows.ahead.head rows.ahead.end list staged)
   pub waits : rows.staged ≡ length staged
 
 -- More payloads are staged, behind the others or behind a list that has taken those.
 abbrev pub AreHeldAfter : DiskState → Pair → Rows → Rows → Entries → Entries → Entries → Type 0
-AreHeldAfter disk cell old new list staged more = (AreHeld disk cell new list (staged ++ more) × (new.count ≡ old.count))
+AreHeldAfter disk cell old new list staged more = (AreHeld disk cell new list (staged ++ more)
+    × (new.count ≡ old.count))
     ⊎ (AreHeld disk cell new (list ++ staged) more × (new.count ≡ total old))
 
 -- the first payload, where it was read
@@ -81,7 +85,8 @@ pub record IsWhole (disk : DiskState) (cell : Pair) (rows : Rows) (front : Optio
   pub entries : Entries
   pub staged : Entries
   pub each : EachNow disk (IsHeld cell rows.list rows.count front entries)
-  pub opens : WhereTold (content disk) (OpensTo cell rows.list.end rows.ahead.jump rows.ahead.head rows.ahead.end entries staged)
+  pub opens : WhereTold (content disk)
+      (OpensTo cell rows.list.end rows.ahead.jump rows.ahead.head rows.ahead.end entries staged)
   pub waits : rows.staged ≡ length staged
 
 -- what is true of every disk-buffer: its places are in order, and until a fault closes it each image is the ring

@@ -21,7 +21,8 @@ abbrev pub IsGate : List ℕ → ℕ → Gate → Type 0
 IsGate bytes gate Shut = IsEnd bytes gate
 IsGate bytes gate (Entry size) = HasSize bytes gate size
 IsGate bytes gate Jump = IsJump bytes gate
-IsGate bytes gate Broken = (slice_index bytes gate ≢ 0) × ((payload : List ℕ) → IsEntry bytes gate payload → ⊥) × (IsJump bytes gate → ⊥)
+IsGate bytes gate Broken = (slice_index bytes gate ≢ 0)
+    × ((payload : List ℕ) → IsEntry bytes gate payload → ⊥) × (IsJump bytes gate → ⊥)
 
 -- an entry's next gate, and what stands behind a jump's, is in a file of this length
 abbrev pub FitsIn : ℕ → ℕ → Gate → Type 0
@@ -38,7 +39,8 @@ ahead len (Some jump) gate = len - gate
 -- the place's gate is in the file, and in order behind the head
 abbrev pub IsAmongPlaces : ℕ → ℕ → Option ℕ → ℕ → Type 0
 IsAmongPlaces len head None gate = (head ≤ gate) × (gate < len)
-IsAmongPlaces len head (Some jump) gate = (64 ≤ gate) × (gate < head) × (head ≤ jump) × (jump + 5 ≤ len)
+IsAmongPlaces len head (Some jump) gate = (64 ≤ gate) × (gate < head) × (head ≤ jump)
+    × (jump + 5 ≤ len)
 
 abbrev pub IsAmong : ℕ → ℕ → Place → Type 0
 IsAmong len head place = IsAmongPlaces len head place.jump place.gate
@@ -59,6 +61,7 @@ Leads bytes head place (Damaged at) = IsDamagedWalk head at bytes
 
 -- a step goes on within the file
 abbrev pub GoesOn : ℕ → ℕ → Place → Step → Type 0
-GoesOn len head place (On next) = IsAmong len head next × (ahead len next.jump next.gate < ahead len place.jump place.gate)
+GoesOn len head place (On next) = IsAmong len head next
+    × (ahead len next.jump next.gate < ahead len place.jump place.gate)
 GoesOn len head place End = Unit {0}
 GoesOn len head place (Damaged at) = Unit {0}

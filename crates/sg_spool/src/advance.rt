@@ -32,8 +32,11 @@ pub(crate) fn advance_past<D: Disk>(
 
     ensures ordered { IfOk result (λ next. IsOrdered next) }
     ensures live { IfOk result (λ next. live next + size ≡ live places) }
-    ensures compact { IfOk result (λ next. (capacity : ℕ) → AreCompact capacity places.jump places.head places.end → AreCompact capacity next.jump next.head next.end) }
-    ensures short { (most : ℕ) → EachNow (D.state disk.old) (λ bytes. length bytes ≤ most) → Within (D.state disk.old) (D.state disk.new) (λ bytes. length bytes ≤ most) }
+    ensures compact { IfOk result (λ next. (capacity : ℕ)
+        → AreCompact capacity places.jump places.head places.end
+        → AreCompact capacity next.jump next.head next.end) }
+    ensures short { (most : ℕ) → EachNow (D.state disk.old) (λ bytes. length bytes ≤ most)
+        → Within (D.state disk.old) (D.state disk.new) (λ bytes. length bytes ≤ most) }
     ensures cell_open { OnOk result (cell.new.closed ≡ false) }
     ensures cause { HasCause (D.state disk.old).faults (D.state disk.new).faults result }
 {
@@ -82,7 +85,9 @@ fn past(size: u64, length: u64, most: u64) -> u64
 
 // The length of the entry's payload at this gate, which may be known.
 fn first_size<D: Disk>(disk: &mut D, gate: u64, known: Option<u64>) -> Result<u64, DiskFault>
-    ensures size { IfOk result (λ n. WhereTold (content (D.state disk.old)) (λ b. (payload : List ℕ) → (known ≡ None ⊎ known ≡ Some (length payload)) → IsEntry b gate payload → n ≡ length payload)) }
+    ensures size { IfOk result (λ n. WhereTold (content (D.state disk.old))
+        (λ b. (payload : List ℕ) → (known ≡ None ⊎ known ≡ Some (length payload))
+        → IsEntry b gate payload → n ≡ length payload)) }
     ensures told { (D.state disk.new).told ≡ (D.state disk.old).told }
     ensures cause { HasCause (D.state disk.old).faults (D.state disk.new).faults result }
 {

@@ -50,7 +50,9 @@ fn open_gate<D: Disk>(disk: &mut D, gate: u64) -> Result<(), DiskFault>
         → EachNow (D.state disk.new) (RingAt cell longer first last (list ++ payload ∷ payloads))) }
 
     // It syncs twice, however much was written.
-    ensures calls { OnOk result ((D.state disk.new).told ≡ option_map (with_event Synced) (option_map (with_event (Wrote gate (1 ∷ []))) (option_map (with_event Synced) (D.state disk.old).told))) }
+    ensures calls { OnOk result ((D.state disk.new).told ≡ option_map (with_event Synced)
+        (option_map (with_event (Wrote gate (1 ∷ [])))
+        (option_map (with_event Synced) (D.state disk.old).told))) }
     ensures images { Elapses (Torn gate 1) (D.state disk.old) (D.state disk.new) }
     ensures cause { HasCause (D.state disk.old).faults (D.state disk.new).faults result }
 {

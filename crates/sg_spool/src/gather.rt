@@ -58,7 +58,8 @@ pub(crate) fn gather<D: Disk>(
 fn copy<D: Disk>(disk: &mut D, from: u64, to: u64, size: u64) -> Result<(), DiskFault>
     requires apart { from + size ≤ to }
     requires small { to + size < 2 ^ 64 }
-    ensures copied { OnOk result (Changes (Copies from to size) (content (D.state disk.old)) (content (D.state disk.new))) }
+    ensures copied { OnOk result
+        (Changes (Copies from to size) (content (D.state disk.old)) (content (D.state disk.new))) }
     ensures images { Elapses (Beyond to) (D.state disk.old) (D.state disk.new) }
     ensures inside { OnOk result (0 < size → to + size < 2 ^ 63) }
     ensures cause { HasCause (D.state disk.old).faults (D.state disk.new).faults result }
@@ -76,7 +77,8 @@ fn copy<D: Disk>(disk: &mut D, from: u64, to: u64, size: u64) -> Result<(), Disk
 fn copy_piece<D: Disk>(disk: &mut D, from: u64, to: u64, size: usize) -> Result<(), DiskFault>
     requires piece { size ≤ 4096 }
     requires apart { from + size ≤ to }
-    ensures copied { OnOk result (Changes (Copies from to size) (content (D.state disk.old)) (content (D.state disk.new))) }
+    ensures copied { OnOk result
+        (Changes (Copies from to size) (content (D.state disk.old)) (content (D.state disk.new))) }
     ensures images { Elapses (Beyond to) (D.state disk.old) (D.state disk.new) }
     ensures inside { OnOk result (to + size < 2 ^ 63) }
     ensures cause { HasCause (D.state disk.old).faults (D.state disk.new).faults result }
@@ -93,7 +95,8 @@ fn copy_through<D: Disk>(
     to: u64,
     buffer: &mut [u8],
 ) -> Result<(), DiskFault>
-    ensures copied { OnOk result (Changes (Copies from to (length buffer.old)) (content (D.state disk.old)) (content (D.state disk.new))) }
+    ensures copied { OnOk result (Changes (Copies from to (length buffer.old))
+        (content (D.state disk.old)) (content (D.state disk.new))) }
     ensures images { Elapses (Beyond to) (D.state disk.old) (D.state disk.new) }
     ensures inside { OnOk result (to + length buffer.old < 2 ^ 63) }
     ensures cause { HasCause (D.state disk.old).faults (D.state disk.new).faults result }

@@ -7,8 +7,11 @@ ghost use Rattle.sg_spool.specs.View.{IsCompactIn};
 /// Bytes stand for one list, or they are damaged at one place, and never both. A fresh store, 128 zero
 /// bytes, is within the bound of every capacity.
 pub fn bytes_have_one_meaning()
-    ensures one { (entries others : Entries) (bytes : List ℕ) → IsList entries bytes → IsList others bytes → entries ≡ others }
-    ensures whole { (entries : Entries) (at : ℕ) (bytes : List ℕ) → IsList entries bytes → IsDamagedAt at bytes → ⊥ }
-    ensures place { (at other : ℕ) (bytes : List ℕ) → IsDamagedAt at bytes → IsDamagedAt other bytes → at ≡ other }
+    ensures one { (entries others : Entries) (bytes : List ℕ) → IsList entries bytes
+        → IsList others bytes → entries ≡ others }
+    ensures whole { (entries : Entries) (at : ℕ) (bytes : List ℕ) → IsList entries bytes
+        → IsDamagedAt at bytes → ⊥ }
+    ensures place { (at other : ℕ) (bytes : List ℕ) → IsDamagedAt at bytes → IsDamagedAt other bytes
+        → at ≡ other }
     ensures fresh { (capacity : ℕ) → IsCompactIn capacity (replicate 128 0) }
 {}

@@ -21,7 +21,8 @@ pub struct Found {
 
 // What a store that is whole holds. It is made stable first, and each byte is read once.
 pub(crate) fn look<D: Disk>(disk: &mut D) -> Result<Found, StoreRefusal>
-    ensures held { IfOk result (λ f. WhereTold (content (D.state disk.old)) (λ b. (es : Entries) × IsHeld f.cell f.places f.count None es b)) }
+    ensures held { IfOk result (λ f. WhereTold (content (D.state disk.old))
+        (λ b. (es : Entries) × IsHeld f.cell f.places f.count None es b)) }
     ensures ordered { IfOk result (λ f. IsOrdered f.places) }
     ensures opened { IfOk result (λ f. f.cell.closed ≡ false) }
     ensures durable { OnOk result (Durable (D.state disk.new)) }
@@ -36,7 +37,8 @@ pub(crate) fn look<D: Disk>(disk: &mut D) -> Result<Found, StoreRefusal>
 
 // What a store that is whole holds.
 fn inspect<D: Disk>(disk: &mut D) -> Result<Found, StoreRefusal>
-    ensures held { IfOk result (λ f. WhereTold (content (D.state disk.old)) (λ b. (es : Entries) × IsHeld f.cell f.places f.count None es b)) }
+    ensures held { IfOk result (λ f. WhereTold (content (D.state disk.old))
+        (λ b. (es : Entries) × IsHeld f.cell f.places f.count None es b)) }
     ensures ordered { IfOk result (λ f. IsOrdered f.places) }
     ensures opened { IfOk result (λ f. f.cell.closed ≡ false) }
     ensures told { (D.state disk.new).told ≡ (D.state disk.old).told }

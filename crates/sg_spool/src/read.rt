@@ -13,7 +13,8 @@ const LONGEST: u32 = (1 << 30) + 64;
 
 // The length of the payload of the entry at this gate.
 pub(crate) fn read_size<D: Disk>(disk: &mut D, gate: u64) -> Result<u64, DiskFault>
-    ensures size { IfOk result (λ n. WhereTold (content (D.state disk.old)) (λ b. (payload : List ℕ) → IsEntry b gate payload → n ≡ length payload)) }
+    ensures size { IfOk result (λ n. WhereTold (content (D.state disk.old))
+        (λ b. (payload : List ℕ) → IsEntry b gate payload → n ≡ length payload)) }
     ensures some { IfOk result (λ n. 1 ≤ n) }
     ensures limit { IfOk result (λ n. n ≤ 2 ^ 30 + 64) }
     ensures told { (D.state disk.new).told ≡ (D.state disk.old).told }
@@ -30,11 +31,13 @@ pub(crate) fn read_entry<D: Disk>(
     disk: &mut D,
     gate: u64,
 ) -> Result<Vec<u8>, RewriteRefusal>
-    ensures payload { IfOk result (λ v. WhereTold (content (D.state disk.old)) (λ b. (payload : List ℕ) → IsEntry b gate payload → v.items ≡ payload)) }
+    ensures payload { IfOk result (λ v. WhereTold (content (D.state disk.old))
+        (λ b. (payload : List ℕ) → IsEntry b gate payload → v.items ≡ payload)) }
     ensures fits { IfOk result (λ v. IsPayload v.items) }
     ensures told { (D.state disk.new).told ≡ (D.state disk.old).told }
     ensures later { (D.state disk.old).faults ≤ (D.state disk.new).faults }
-    ensures cause { IfErr result (HasReadCause (D.state disk.old).faults (D.state disk.new).faults) }
+    ensures cause { IfErr result
+        (HasReadCause (D.state disk.old).faults (D.state disk.new).faults) }
 {
     let size = read_size(disk, gate)?;
     let mut payload = zeros(alloc, size as usize)?;

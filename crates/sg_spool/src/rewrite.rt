@@ -59,7 +59,8 @@ pub(crate) fn rewrite_list<D: Disk, M: Recode>(
     ensures ordered { IfOk result (λ next. IsOrdered next) }
     ensures cell_open { OnOk result (cell.new.closed ≡ false) }
     ensures later { (D.state disk.old).faults ≤ (D.state disk.new).faults }
-    ensures cause { IfErr result (HasReadCause (D.state disk.old).faults (D.state disk.new).faults) }
+    ensures cause { IfErr result
+        (HasReadCause (D.state disk.old).faults (D.state disk.new).faults) }
 {
     let head = past(places);
     let end = write_anew(alloc, disk, recode, places, count)?;
@@ -97,12 +98,14 @@ fn write_anew<D: Disk, M: Recode>(
     requires ordered { IsOrdered places }
     requires some { 1 ≤ count }
 
-    ensures spelled { IfOk result (λ end. Changes (Spells (M.meaning recode.old) places count end) (content (D.state disk.old)) (content (D.state disk.new))) }
+    ensures spelled { IfOk result (λ end. Changes (Spells (M.meaning recode.old) places count end)
+        (content (D.state disk.old)) (content (D.state disk.new))) }
     ensures images { Elapses (Beyond (past places)) (D.state disk.old) (D.state disk.new) }
     ensures after { IfOk result (λ end. past places ≤ end) }
     ensures inside { IfOk result (λ end. end < 2 ^ 63) }
     ensures later { (D.state disk.old).faults ≤ (D.state disk.new).faults }
-    ensures cause { IfErr result (HasReadCause (D.state disk.old).faults (D.state disk.new).faults) }
+    ensures cause { IfErr result
+        (HasReadCause (D.state disk.old).faults (D.state disk.new).faults) }
 {
     let mut gate = places.gate_past(places.head);
     let mut at = past(places);
@@ -135,13 +138,15 @@ fn write_one<D: Disk, M: Recode>(
 ) -> Result<u64, RewriteRefusal>
     requires fits { IsPayload payload.now }
     requires small { at ≤ 2 ^ 63 }
-    ensures added { IfOk result (λ next. Changes (Adds at (M.meaning recode.old payload.now) last) (content (D.state disk.old)) (content (D.state disk.new))) }
+    ensures added { IfOk result (λ next. Changes (Adds at (M.meaning recode.old payload.now) last)
+        (content (D.state disk.old)) (content (D.state disk.new))) }
     ensures images { Elapses (Beyond at) (D.state disk.old) (D.state disk.new) }
     ensures next { IfOk result (λ next. next ≡ at + 5 + length (M.meaning recode.old payload.now)) }
     ensures inside { IfOk result (λ next. next < 2 ^ 63) }
     ensures stays { (bytes : List ℕ) → M.meaning recode.new bytes ≡ M.meaning recode.old bytes }
     ensures later { (D.state disk.old).faults ≤ (D.state disk.new).faults }
-    ensures cause { IfErr result (HasReadCause (D.state disk.old).faults (D.state disk.new).faults) }
+    ensures cause { IfErr result
+        (HasReadCause (D.state disk.old).faults (D.state disk.new).faults) }
 {
     let spelled = recode.recode(alloc, payload)?;
     let block = Block::new(alloc, spelled)?;
@@ -152,7 +157,8 @@ fn write_one<D: Disk, M: Recode>(
 // Writes a block with its gate open, and behind the last one a closed gate.
 fn write_block<D: Disk>(disk: &mut D, at: u64, block: &Block, last: bool) -> Result<(), DiskFault>
     requires { at ≤ 2 ^ 63 }
-    ensures added { OnOk result (Changes (Adds at block.now last) (content (D.state disk.old)) (content (D.state disk.new))) }
+    ensures added { OnOk result (Changes (Adds at block.now last) (content (D.state disk.old))
+        (content (D.state disk.new))) }
     ensures images { Elapses (Beyond at) (D.state disk.old) (D.state disk.new) }
     ensures inside { OnOk result (at + 5 + length block.now < 2 ^ 63) }
     ensures cause { HasCause (D.state disk.old).faults (D.state disk.new).faults result }

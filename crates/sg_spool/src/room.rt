@@ -51,10 +51,16 @@ pub(crate) fn stage_block<D: Disk>(
     ensures live { IfOk result (λ next. live next.ahead ≡ live rows.ahead + 5 + length block.now) }
 
     // Where there is room, the images keep the ring, and nothing grows past the bound.
-    ensures images { HasRoom rows.ahead.jump rows.ahead.head rows.ahead.end (length block.now) → Elapses (Spares rows.list.jump rows.list.head rows.list.end) (D.state disk.old) (D.state disk.new) }
-    ensures list { HasRoom rows.ahead.jump rows.ahead.head rows.ahead.end (length block.now) → IfOk result (λ next. next.list ≡ rows.list) }
-    ensures compact { IfOk result (λ next. AreCompact capacity rows.ahead.jump rows.ahead.head rows.ahead.end → AreCompact capacity next.ahead.jump next.ahead.head next.ahead.end) }
-    ensures short { AreCompact capacity rows.ahead.jump rows.ahead.head rows.ahead.end → Elapses (Grows (bound capacity)) (D.state disk.old) (D.state disk.new) }
+    ensures images { HasRoom rows.ahead.jump rows.ahead.head rows.ahead.end (length block.now)
+        → Elapses (Spares rows.list.jump rows.list.head rows.list.end) (D.state disk.old)
+        (D.state disk.new) }
+    ensures list { HasRoom rows.ahead.jump rows.ahead.head rows.ahead.end (length block.now)
+        → IfOk result (λ next. next.list ≡ rows.list) }
+    ensures compact { IfOk result (
+        λ next. AreCompact capacity rows.ahead.jump rows.ahead.head rows.ahead.end
+        → AreCompact capacity next.ahead.jump next.ahead.head next.ahead.end) }
+    ensures short { AreCompact capacity rows.ahead.jump rows.ahead.head rows.ahead.end
+        → Elapses (Grows (bound capacity)) (D.state disk.old) (D.state disk.new) }
 
     ensures cell_open { OnOk result (cell.new.closed ≡ false) }
     ensures cause { HasCause (D.state disk.old).faults (D.state disk.new).faults result }
@@ -90,10 +96,13 @@ fn make_room<D: Disk>(
 
     ensures rows { IfOk result (λ next. AreRows next) }
     ensures total { IfOk result (λ next. total next ≡ total rows) }
-    ensures room { IfOk result (λ next. HasRoom next.ahead.jump next.ahead.head next.ahead.end size) }
+    ensures room { IfOk result
+        (λ next. HasRoom next.ahead.jump next.ahead.head next.ahead.end size) }
     ensures live { IfOk result (λ next. live next.ahead ≡ live rows.ahead) }
-    ensures untouched { HasRoom rows.ahead.jump rows.ahead.head rows.ahead.end size → disk.new ≡ disk.old }
-    ensures stays { IfOk result (λ next. HasRoom rows.ahead.jump rows.ahead.head rows.ahead.end size → next ≡ rows) }
+    ensures untouched { HasRoom rows.ahead.jump rows.ahead.head rows.ahead.end size
+        → disk.new ≡ disk.old }
+    ensures stays { IfOk result
+        (λ next. HasRoom rows.ahead.jump rows.ahead.head rows.ahead.end size → next ≡ rows) }
     ensures cell_open { OnOk result (cell.new.closed ≡ false) }
     ensures cause { HasCause (D.state disk.old).faults (D.state disk.new).faults result }
 {

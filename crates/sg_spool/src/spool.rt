@@ -55,7 +55,9 @@ impl<D: Disk> Spool<D> {
     /// with a sync, changes nothing, and takes no memory; but where that sync fails, a read may give another
     /// of the images since. A refusal gives the disk back.
     pub fn open(disk: D, capacity: u64) -> Result<Spool<D>, (D, StoreRefusal)>
-        ensures list { IfOk result (λ spool. WhereTold (content (D.state disk)) (λ bytes. (list : Entries) × IsList list bytes × Holds D.state spool list [] × (spool.rows.count ≡ length list))) }
+        ensures list { IfOk result (λ spool. WhereTold (content (D.state disk))
+            (λ bytes. (list : Entries) × IsList list bytes × Holds D.state spool list []
+            × (spool.rows.count ≡ length list))) }
         ensures opened { IfOk result (λ spool. spool.closed ≡ false) }
         ensures capacity { IfOk result (λ spool. spool.capacity ≡ capacity) }
         ensures rows { IfOk result (λ spool. spool.rows ≡ listed spool.rows.list spool.rows.count) }
@@ -65,7 +67,9 @@ impl<D: Disk> Spool<D> {
         ensures later { IfOk result (λ spool. (D.state disk).faults ≤ (D.state spool.disk).faults) }
 
         // The bound on the file's length, taken up again: any image of one within its bound is, and so is a fresh store.
-        ensures compact { IfOk result (λ spool. (bytes : List ℕ) → content (D.state disk) ≡ Some bytes → IsCompactIn capacity bytes → IsCompact D.state spool) }
+        ensures compact { IfOk result (λ spool. (bytes : List ℕ)
+            → content (D.state disk) ≡ Some bytes → IsCompactIn capacity bytes
+            → IsCompact D.state spool) }
 
         ensures err_rests { IfErr result (λ e. Rests (D.state disk) (D.state e.0)) }
         ensures err_later { IfErr result (λ e. (D.state disk).faults ≤ (D.state e.0).faults) }
@@ -90,7 +94,9 @@ impl<D: Disk> Spool<D> {
     pub fn fits(&self, length: u64) -> bool
         requires { length ≤ 2 ^ 62 }
         ensures fits { IsTrue result ↔ Fits self.now.capacity self.now.rows.ahead length }
-        ensures space { self.now.closed ≡ false → WhereTold (content (D.state self.now.disk)) (λ bytes. (list staged : Entries) → Holds D.state self.now list staged → live self.now.rows.ahead ≡ space (list ++ staged)) }
+        ensures space { self.now.closed ≡ false → WhereTold (content (D.state self.now.disk))
+            (λ bytes. (list staged : Entries) → Holds D.state self.now list staged
+            → live self.now.rows.ahead ≡ space (list ++ staged)) }
     {
         fits(self.rows.ahead, self.capacity, length)
     }
@@ -171,11 +177,13 @@ impl<D: Disk> Spool<D> {
     pub fn front(&mut self, alloc: Global) -> Result<Front, NoMemory>
         requires { self.old.rows.staged ≡ 0 }
         ensures reads { Reads D.state self.old self.new }
-        ensures answer { IfOk result (IsFronted self.old self.new (D.state self.old.disk).faults (D.state self.new.disk).faults) }
+        ensures answer { IfOk result (IsFronted self.old self.new (D.state self.old.disk).faults
+            (D.state self.new.disk).faults) }
         ensures first { IfOk result (IsFirst (D.state self.old.disk)) }
         ensures no_memory { OnErr result (self.new.closed ≡ false) }
         ensures unread { OnErr result (self.new.front ≡ self.old.front) }
-        ensures again { (payload : List ℕ) → self.old.front ≡ Some payload → self.new.disk ≡ self.old.disk }
+        ensures again { (payload : List ℕ) → self.old.front ≡ Some payload
+            → self.new.disk ≡ self.old.disk }
     {
         if self.closed {
             return Ok(Front::DiskFailed);
@@ -231,7 +239,8 @@ impl<D: Disk> Spool<D> {
         requires enough { n ≤ self.old.rows.count }
         requires unstaged { self.old.rows.staged ≡ 0 }
         requires inside { size ≤ live self.old.rows.list }
-        requires sized { self.old.closed ≡ false → WhereTold (content (D.state self.old.disk)) (λ bytes. (list : Entries) → IsList list bytes → size ≡ space (take n list)) }
+        requires sized { self.old.closed ≡ false → WhereTold (content (D.state self.old.disk))
+            (λ bytes. (list : Entries) → IsList list bytes → size ≡ space (take n list)) }
         ensures lasts { Lasts D.state self.old self.new }
         ensures leaves { Leaves D.state self.old self.new (λ list staged. drop n list) }
         ensures answer { Advances D.state self.old self.new n result }
@@ -254,7 +263,9 @@ impl<D: Disk> Spool<D> {
         ensures live { result ≡ live self.now.rows.ahead }
         ensures list { self.now.rows.staged ≡ 0 → result ≡ live self.now.rows.list }
         ensures small { result < 2 ^ 63 }
-        ensures space { self.now.closed ≡ false → self.now.rows.staged ≡ 0 → WhereTold (content (D.state self.now.disk)) (λ bytes. (list : Entries) → IsList list bytes → result ≡ space list) }
+        ensures space { self.now.closed ≡ false → self.now.rows.staged ≡ 0
+            → WhereTold (content (D.state self.now.disk))
+            (λ bytes. (list : Entries) → IsList list bytes → result ≡ space list) }
     {
         self.rows.ahead.live()
     }
@@ -262,7 +273,8 @@ impl<D: Disk> Spool<D> {
     /// The number of entries of the list.
     pub fn count(&self) -> u64
         ensures count { result ≡ self.now.rows.count }
-        ensures list { self.now.closed ≡ false → EachNow (D.state self.now.disk) (λ bytes. (list : Entries) → IsList list bytes → result ≡ length list) }
+        ensures list { self.now.closed ≡ false → EachNow (D.state self.now.disk)
+            (λ bytes. (list : Entries) → IsList list bytes → result ≡ length list) }
     {
         self.rows.count
     }
@@ -277,9 +289,15 @@ impl<D: Disk> Spool<D> {
     /// The place of the first entry's gate, or of the end's where there is no entry.
     pub fn head(&self) -> u64
         ensures head { result ≡ gate_past self.now.rows.list.jump self.now.rows.list.head }
-        ensures laid { self.now.closed ≡ false → WhereTold (content (D.state self.now.disk)) (λ bytes. (entries : Entries) × IsLaid self.now.rows.list.jump self.now.rows.list.head self.now.rows.list.end entries bytes) }
-        ensures here { self.now.closed ≡ false → WhereTold (content (D.state self.now.disk)) (λ bytes. (entries : Entries) × IsList entries bytes × Remains bytes self.now.rows.list.jump result entries self.now.rows.list.end) }
-        ensures remains { self.now.closed ≡ false → EachNow (D.state self.now.disk) (λ bytes. (entries : Entries) → IsList entries bytes → Remains bytes self.now.rows.list.jump result entries self.now.rows.list.end) }
+        ensures laid { self.now.closed ≡ false → WhereTold (content (D.state self.now.disk))
+            (λ bytes. (entries : Entries) × IsLaid self.now.rows.list.jump self.now.rows.list.head
+            self.now.rows.list.end entries bytes) }
+        ensures here { self.now.closed ≡ false → WhereTold (content (D.state self.now.disk))
+            (λ bytes. (entries : Entries) × IsList entries bytes
+            × Remains bytes self.now.rows.list.jump result entries self.now.rows.list.end) }
+        ensures remains { self.now.closed ≡ false → EachNow (D.state self.now.disk)
+            (λ bytes. (entries : Entries) → IsList entries bytes
+            → Remains bytes self.now.rows.list.jump result entries self.now.rows.list.end) }
     {
         self.rows.list.gate_past(self.rows.list.head)
     }
@@ -287,11 +305,20 @@ impl<D: Disk> Spool<D> {
     /// What stands at the gate of an entry of the list, or of its end. Nothing on the disk changes.
     pub fn item(&mut self, alloc: Global, gate: u64) -> Result<Walked, NoMemory>
         requires unstaged { self.old.rows.staged ≡ 0 }
-        requires left { self.old.closed ≡ false → WhereTold (content (D.state self.old.disk)) (λ bytes. (entries : Entries) × Remains bytes self.old.rows.list.jump gate entries self.old.rows.list.end) }
+        requires left { self.old.closed ≡ false → WhereTold (content (D.state self.old.disk))
+            (λ bytes. (entries : Entries)
+            × Remains bytes self.old.rows.list.jump gate entries self.old.rows.list.end) }
         ensures reads { Reads D.state self.old self.new }
-        ensures answer { IfOk result (IsWalked self.old self.new gate (D.state self.old.disk).faults (D.state self.new.disk).faults) }
-        ensures next { IfOk result (λ walked. WhereTold (content (D.state self.old.disk)) (λ bytes. (entries : Entries) → Remains bytes self.old.rows.list.jump gate entries self.old.rows.list.end → IsNext self.old bytes entries walked)) }
-        ensures behind { IfOk result (λ walked. WhereTold (content (D.state self.old.disk)) (λ bytes. (entries : Entries) → Remains bytes self.old.rows.list.jump gate entries self.old.rows.list.end → IsBehind self.old.rows.list.jump gate walked)) }
+        ensures answer { IfOk result (IsWalked self.old self.new gate (D.state self.old.disk).faults
+            (D.state self.new.disk).faults) }
+        ensures next { IfOk result (λ walked. WhereTold (content (D.state self.old.disk))
+            (λ bytes. (entries : Entries)
+            → Remains bytes self.old.rows.list.jump gate entries self.old.rows.list.end
+            → IsNext self.old bytes entries walked)) }
+        ensures behind { IfOk result (λ walked. WhereTold (content (D.state self.old.disk))
+            (λ bytes. (entries : Entries)
+            → Remains bytes self.old.rows.list.jump gate entries self.old.rows.list.end
+            → IsBehind self.old.rows.list.jump gate walked)) }
         ensures whole { IfOk result IsWholeItem }
         ensures no_memory { OnErr result (self.new.closed ≡ false) }
         ensures front { self.new.front ≡ self.old.front }
@@ -327,7 +354,9 @@ impl<D: Disk> Spool<D> {
     ) -> Result<(), RewriteRefusal>
         requires { self.old.rows.staged ≡ 0 }
         ensures lasts { Lasts D.state self.old self.new }
-        ensures within { (list : Entries) → Holds D.state self.old list [] → Within (D.state self.old.disk) (D.state self.new.disk) (IsOneOf list (map (M.meaning recode.old) list)) }
+        ensures within { (list : Entries) → Holds D.state self.old list []
+            → Within (D.state self.old.disk) (D.state self.new.disk)
+            (IsOneOf list (map (M.meaning recode.old) list)) }
         ensures answer { Respells D.state self.old self.new (M.meaning recode.old) result }
         ensures empty { self.old.rows.count ≡ 0 → self.new ≡ self.old }
     {

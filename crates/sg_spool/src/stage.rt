@@ -25,7 +25,8 @@ pub(crate) fn stage_entry<D: Disk>(
     requires room { HasRoom rows.ahead.jump rows.ahead.head rows.ahead.end (length block.now) }
 
     // Nothing that the list uses is written.
-    ensures images { Elapses (Spares rows.list.jump rows.list.head rows.list.end) (D.state disk.old) (D.state disk.new) }
+    ensures images { Elapses (Spares rows.list.jump rows.list.head rows.list.end) (D.state disk.old)
+        (D.state disk.new) }
     ensures staged { IfOk result (λ ahead. (cell : Pair) (list staged : Entries) → rows.staged ≡ length staged → WhereTold (content (D.state disk.old)) (IsStaged cell rows.list rows.ahead list staged)
         → WhereTold (content (D.state disk.new)) (IsStaged cell rows.list ahead list (staged ++ block.now ∷ []))) }
 
@@ -35,8 +36,11 @@ pub(crate) fn stage_entry<D: Disk>(
     ensures live { IfOk result (λ ahead. live ahead ≡ live rows.ahead + 5 + length block.now) }
 
     // The bound on the file's length goes on.
-    ensures compact { IfOk result (λ ahead. AreCompact capacity rows.ahead.jump rows.ahead.head rows.ahead.end → AreCompact capacity ahead.jump ahead.head ahead.end) }
-    ensures short { AreCompact capacity rows.ahead.jump rows.ahead.head rows.ahead.end → Elapses (Grows (bound capacity)) (D.state disk.old) (D.state disk.new) }
+    ensures compact { IfOk result (
+        λ ahead. AreCompact capacity rows.ahead.jump rows.ahead.head rows.ahead.end
+        → AreCompact capacity ahead.jump ahead.head ahead.end) }
+    ensures short { AreCompact capacity rows.ahead.jump rows.ahead.head rows.ahead.end
+        → Elapses (Grows (bound capacity)) (D.state disk.old) (D.state disk.new) }
 
     ensures cause { HasCause (D.state disk.old).faults (D.state disk.new).faults result }
 {
@@ -63,10 +67,12 @@ fn stage_in_front<D: Disk>(disk: &mut D, rows: Rows, block: &Block) -> Result<()
     requires rows { AreRows rows }
     requires row { rows.ahead.jump ≡ None }
     requires room { 64 + length block.now + 6 ≤ rows.ahead.head }
-    ensures images { Elapses (Spares rows.list.jump rows.list.head rows.list.end) (D.state disk.old) (D.state disk.new) }
+    ensures images { Elapses (Spares rows.list.jump rows.list.head rows.list.end) (D.state disk.old)
+        (D.state disk.new) }
     ensures staged { OnOk result ((cell : Pair) (list staged : Entries) → rows.staged ≡ length staged → WhereTold (content (D.state disk.old)) (IsStaged cell rows.list rows.ahead list staged)
         → WhereTold (content (D.state disk.new)) (IsStaged cell rows.list (record { jump = Some rows.ahead.end; head = rows.ahead.head; end = 69 + length block.now }) list (staged ++ block.now ∷ []))) }
-    ensures short { (most : ℕ) → 64 + length block.now + 6 ≤ most → rows.ahead.end + 5 ≤ most → Elapses (Grows most) (D.state disk.old) (D.state disk.new) }
+    ensures short { (most : ℕ) → 64 + length block.now + 6 ≤ most → rows.ahead.end + 5 ≤ most
+        → Elapses (Grows most) (D.state disk.old) (D.state disk.new) }
     ensures inside { OnOk result (rows.ahead.end + 5 < 2 ^ 63) }
     ensures cause { HasCause (D.state disk.old).faults (D.state disk.new).faults result }
 {
@@ -79,10 +85,12 @@ fn stage_in_front<D: Disk>(disk: &mut D, rows: Rows, block: &Block) -> Result<()
 fn stage_behind<D: Disk>(disk: &mut D, rows: Rows, block: &Block) -> Result<(), DiskFault>
     requires rows { AreRows rows }
     requires room { HasRoom rows.ahead.jump rows.ahead.head rows.ahead.end (length block.now) }
-    ensures images { Elapses (Spares rows.list.jump rows.list.head rows.list.end) (D.state disk.old) (D.state disk.new) }
+    ensures images { Elapses (Spares rows.list.jump rows.list.head rows.list.end) (D.state disk.old)
+        (D.state disk.new) }
     ensures staged { OnOk result ((cell : Pair) (list staged : Entries) → rows.staged ≡ length staged → WhereTold (content (D.state disk.old)) (IsStaged cell rows.list rows.ahead list staged)
         → WhereTold (content (D.state disk.new)) (IsStaged cell rows.list (record { jump = rows.ahead.jump; head = rows.ahead.head; end = rows.ahead.end + 5 + length block.now }) list (staged ++ block.now ∷ []))) }
-    ensures short { (most : ℕ) → rows.ahead.end + length block.now + 6 ≤ most → Elapses (Grows most) (D.state disk.old) (D.state disk.new) }
+    ensures short { (most : ℕ) → rows.ahead.end + length block.now + 6 ≤ most
+        → Elapses (Grows most) (D.state disk.old) (D.state disk.new) }
     ensures inside { OnOk result (rows.ahead.end + length block.now + 6 < 2 ^ 63) }
     ensures cause { HasCause (D.state disk.old).faults (D.state disk.new).faults result }
 {
@@ -95,8 +103,10 @@ fn stage_behind<D: Disk>(disk: &mut D, rows: Rows, block: &Block) -> Result<(), 
 fn lay<D: Disk>(disk: &mut D, first: bool, gate: u64, bytes: &[u8]) -> Result<(), DiskFault>
     requires small { gate < 2 ^ 63 }
     requires some { 1 ≤ length bytes.now }
-    ensures written { OnOk result (Changes (Lays first gate bytes.now) (content (D.state disk.old)) (content (D.state disk.new))) }
-    ensures images { Elapses (LaysTorn first gate (length bytes.now)) (D.state disk.old) (D.state disk.new) }
+    ensures written { OnOk result (Changes (Lays first gate bytes.now) (content (D.state disk.old))
+        (content (D.state disk.new))) }
+    ensures images { Elapses (LaysTorn first gate (length bytes.now)) (D.state disk.old)
+        (D.state disk.new) }
     ensures inside { OnOk result (gate + length bytes.now < 2 ^ 63) }
     ensures cause { HasCause (D.state disk.old).faults (D.state disk.new).faults result }
 {
@@ -119,7 +129,8 @@ fn is_past(place: u64, capacity: u64) -> bool
 // Whether an entry behind the end would come past the end of the ring.
 fn wraps(places: Places, capacity: u64, size: u64) -> bool
     requires { places.end + size + 6 < 2 ^ 64 - 1 }
-    ensures yes { result ≡ true → (places.jump ≡ None) × (64 + 2 * capacity < places.end + size + 6) }
+    ensures yes { result ≡ true
+        → (places.jump ≡ None) × (64 + 2 * capacity < places.end + size + 6) }
     ensures no { result ≡ false → places.jump ≡ None → places.end + size + 6 ≤ 64 + 2 * capacity }
 {
     match places.jump {

@@ -39,7 +39,8 @@ fn gate_at<D: Disk>(disk: &mut D, gate: u64, len: u64) -> Result<Gate, DiskFault
     requires inside { gate < len }
     requires small { len < 2 ^ 63 }
     requires whole { WhereTold (content (D.state disk.old)) (λ b. length b ≡ len) }
-    ensures found { IfOk result (λ g. WhereTold (content (D.state disk.old)) (λ b. IsGate b gate g)) }
+    ensures found { IfOk result
+        (λ g. WhereTold (content (D.state disk.old)) (λ b. IsGate b gate g)) }
     ensures fits { IfOk result (FitsIn len gate) }
     ensures told { (D.state disk.new).told ≡ (D.state disk.old).told }
     ensures cause { HasCause (D.state disk.old).faults (D.state disk.new).faults result }
@@ -78,7 +79,8 @@ fn next_step(place: Place, gate: Gate, head: u64, len: u64) -> Step
     requires small { len < 2 ^ 63 }
     requires among { IsAmong len head place }
     requires fits { FitsIn len place.gate gate }
-    ensures leads { (b : List ℕ) → length b ≡ len → IsAt b head place → IsGate b place.gate gate → Leads b head place result }
+    ensures leads { (b : List ℕ) → length b ≡ len → IsAt b head place → IsGate b place.gate gate
+        → Leads b head place result }
     ensures goes { GoesOn len head place result }
 {
     match gate {
@@ -118,7 +120,8 @@ pub(crate) fn walk_from<D: Disk>(disk: &mut D, head: u64, len: u64) -> Result<Pl
     requires size { 128 ≤ len }
     requires small { len < 2 ^ 63 }
     requires whole { WhereTold (content (D.state disk.old)) (λ b. length b ≡ len) }
-    ensures found { IfOk result (λ place. WhereTold (content (D.state disk.old)) (λ b. IsAt b head place × IsEnd b place.gate)) }
+    ensures found { IfOk result (λ place. WhereTold (content (D.state disk.old))
+        (λ b. IsAt b head place × IsEnd b place.gate)) }
     ensures ordered { IfOk result (λ place. AreOrdered place.jump head place.gate) }
     ensures told { (D.state disk.new).told ≡ (D.state disk.old).told }
     ensures later { (D.state disk.old).faults ≤ (D.state disk.new).faults }

@@ -42,7 +42,8 @@ payloads_of rows = map payload_in rows
 
 -- the line of an entry of this number
 abbrev pub row_line : ℕ → Row → List ℕ
-row_line number row = entry_line number row.kept.source row.kept.end row.kept.flow (length row.payload)
+row_line number row = entry_line number row.kept.source row.kept.end row.kept.flow
+    (length row.payload)
 
 -- the lines of entries from this number on
 abbrev pub row_lines : ℕ → List Row → List ℕ

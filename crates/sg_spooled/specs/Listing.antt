@@ -28,7 +28,8 @@ spec_of file = record { name = file; create = false }
 -- the ledger with that store opened and closed, where it was
 abbrev pub shelved : Ledger StoreSpec DiskState → List ℕ → Option Shelf → Ledger StoreSpec DiskState
 shelved ledger file None = ledger
-shelved ledger file (Some shelf) = with_closed (with_opened ledger (spec_of file) shelf.opened) shelf.closed
+shelved ledger file (Some shelf) = with_closed (with_opened ledger (spec_of file) shelf.opened)
+    shelf.closed
 
 abbrev pub IfOpened : Option Shelf → (Shelf → Type 0) → Type 0
 IfOpened None P = Unit {0}
@@ -53,11 +54,16 @@ abbrev pub IsDamaged : ℕ → List Row → List ℕ → Type 0
 IsDamaged at rows bytes = ((rows ≡ []) × IsDamagedAt at bytes) ⊎ IsFirstBad at rows bytes
 
 -- When each answer comes, behind these entries. Want of memory is free.
-abbrev pub HasCause : WorldState → WorldState → Option Shelf → List Row → Result Unit Unlisted → Type 0
-HasCause old new shelf rows (Ok done) = IsOpenedAnd shelf (λ s. WhereTold (content s.opened) (IsList (payloads_of rows)))
-HasCause old new shelf rows (Err NotOpened) = (shelf ≡ None) × (rows ≡ []) × Rose old.store_faults new.store_faults
-HasCause old new shelf rows (Err (Damage at)) = IsOpenedAnd shelf (λ s. WhereTold (content s.opened) (IsDamaged at rows))
-HasCause old new shelf rows (Err DiskFault) = IsOpenedAnd shelf (λ s. Rose s.opened.faults s.closed.faults × WhereTold (content s.opened) (IsBegun rows))
+abbrev pub HasCause : WorldState → WorldState → Option Shelf → List Row → Result Unit Unlisted
+    → Type 0
+HasCause old new shelf rows (Ok done) = IsOpenedAnd shelf
+    (λ s. WhereTold (content s.opened) (IsList (payloads_of rows)))
+HasCause old new shelf rows (Err NotOpened) = (shelf ≡ None) × (rows ≡ [])
+    × Rose old.store_faults new.store_faults
+HasCause old new shelf rows (Err (Damage at)) = IsOpenedAnd shelf
+    (λ s. WhereTold (content s.opened) (IsDamaged at rows))
+HasCause old new shelf rows (Err DiskFault) = IsOpenedAnd shelf
+    (λ s. Rose s.opened.faults s.closed.faults × WhereTold (content s.opened) (IsBegun rows))
 HasCause old new shelf rows (Err SayFault) = Rose old.say_faults new.say_faults
 HasCause old new shelf rows (Err NoMemory) = Unit {0}
 
@@ -108,22 +114,27 @@ pub record ListsBy (old new : WorldState) (opened closed : DiskState) (result : 
   pub cause : HasCause old new (Some (record { opened = opened; closed = closed })) rows result
   pub said : SaysList old new rows result
 
-abbrev pub Lists : WorldState → WorldState → (opened closed : DiskState) → Result Unit Unlisted → Type 0
+abbrev pub Lists : WorldState → WorldState → (opened closed : DiskState) → Result Unit Unlisted
+    → Type 0
 Lists old new opened closed result = (rows : List Row) × ListsBy old new opened closed result rows
 
 -- the store of FILE was listed up to these entries
 pub record SpoolsBy (old new : WorldState) (file : List ℕ) (result : Result Unit Unlisted) (shelf : Option Shelf) (rows : List Row) : Type 0 where
   -- nothing but that store was opened, and it was closed; no store was made, and no file changed
-  pub state : new ≡ record old { stores = shelved old.stores file shelf; store_faults = new.store_faults; say_faults = new.say_faults; said = new.said }
+  pub state : new ≡ record old
+      { stores = shelved old.stores file shelf; store_faults = new.store_faults; say_faults = new.say_faults; said = new.said }
   pub store_later : old.store_faults ≤ new.store_faults
   pub say_later : old.say_faults ≤ new.say_faults
   pub there : IfOpened shelf (λ s. IsThere old.shelf file)
-  pub kept : IfOpened shelf (λ s. IsKept result s.opened s.closed × (s.opened.faults ≤ s.closed.faults))
+  pub kept : IfOpened shelf
+      (λ s. IsKept result s.opened s.closed × (s.opened.faults ≤ s.closed.faults))
   pub stored : AreStored rows
   pub cause : HasCause old new shelf rows result
   pub said : SaysList old new rows result
   -- a store of entries and no trouble give success, where memory is there
-  pub complete : IsUntroubled old new shelf → IfOpened shelf (λ s. IsSpelled s.opened) → IsComplete result
+  pub complete : IsUntroubled old new shelf → IfOpened shelf (λ s. IsSpelled s.opened)
+      → IsComplete result
 
 abbrev pub Spools : WorldState → WorldState → List ℕ → Result Unit Unlisted → Type 0
-Spools old new file result = (shelf : Option Shelf) × ((rows : List Row) × SpoolsBy old new file result shelf rows)
+Spools old new file result = (shelf : Option Shelf)
+    × ((rows : List Row) × SpoolsBy old new file result shelf rows)

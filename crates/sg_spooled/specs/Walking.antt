@@ -17,27 +17,37 @@ use Rattle.sg_spooled.specs.declared.unlisted.Unlisted.TheVariants.{NotOpened, D
 
 -- a line was appended where the payload is an entry, and else nothing
 abbrev pub Appends : ℕ → List ℕ → (text text' : List ℕ) → Bool → Type 0
-Appends number payload text text' true = (kept : Kept) × (IsStored kept payload × (text' ≡ text ++ row_line number (record { kept = kept; payload = payload })))
+Appends number payload text text' true = (kept : Kept) × (IsStored kept payload
+    × (text' ≡ text ++ row_line number (record { kept = kept; payload = payload })))
 Appends number payload text text' false = IsNoEntry payload × (text' ≡ text)
 
 -- the entry at a gate of a list at these places: of the entries that are left from the gate on it is the first, and the others are left
 -- from the next gate on, which is the one behind it
 abbrev pub IsHere : Places → List ℕ → ℕ → Row → ℕ → Type 0
-IsHere list bytes gate row next = (entries : Entries) → Remains bytes list.jump gate entries list.end
-    → (rest : Entries) × ((entries ≡ row.payload ∷ rest) × ((next ≡ gate_past list.jump (gate + 5 + length row.payload)) × Remains bytes list.jump next rest list.end))
+IsHere list bytes gate row next = (entries : Entries)
+    → Remains bytes list.jump gate entries list.end
+    → (rest : Entries) × ((entries ≡ row.payload ∷ rest) × (
+    (next ≡ gate_past list.jump (gate + 5 + length row.payload))
+    × Remains bytes list.jump next rest list.end))
 
 -- none is left, or the first of them is no entry
 abbrev pub IsNoneHere : Places → List ℕ → ℕ → Type 0
 IsNoneHere list bytes gate = (entries : Entries) → Remains bytes list.jump gate entries list.end
-    → (entries ≡ []) ⊎ ((payload : List ℕ) × ((rest : Entries) × ((entries ≡ payload ∷ rest) × IsNoEntry payload)))
+    → (entries ≡ [])
+    ⊎ ((payload : List ℕ) × ((rest : Entries) × ((entries ≡ payload ∷ rest) × IsNoEntry payload)))
 
 -- the entry at this gate was listed, and the next gate is answered; or why not
-abbrev pub ListsEntry : {D : Type 0} → (D → DiskState) → View D → View D → (gate number : ℕ) → (text text' : List ℕ) → Result ℕ Unlisted → Type 0
+abbrev pub ListsEntry : {D : Type 0} → (D → DiskState) → View D → View D → (gate number : ℕ)
+    → (text text' : List ℕ) → Result ℕ Unlisted → Type 0
 ListsEntry state old new gate number text text' (Ok next) =
-    (row : Row) × (IsStored row.kept row.payload × ((text' ≡ text ++ row_line number row) × ((new.closed ≡ false) × WhereTold (content (state old.disk)) (λ bytes. IsHere old.rows.list bytes gate row next))))
+    (row : Row) × (IsStored row.kept row.payload × ((text' ≡ text ++ row_line number row)
+    × ((new.closed ≡ false)
+    × WhereTold (content (state old.disk)) (λ bytes. IsHere old.rows.list bytes gate row next))))
 ListsEntry state old new gate number text text' (Err (Damage at)) =
-    (at ≡ gate) × (text' ≡ text) × WhereTold (content (state old.disk)) (λ bytes. IsNoneHere old.rows.list bytes gate)
-ListsEntry state old new gate number text text' (Err DiskFault) = (text' ≡ text) × Rose (state old.disk).faults (state new.disk).faults
+    (at ≡ gate) × (text' ≡ text)
+    × WhereTold (content (state old.disk)) (λ bytes. IsNoneHere old.rows.list bytes gate)
+ListsEntry state old new gate number text text' (Err DiskFault) = (text' ≡ text)
+    × Rose (state old.disk).faults (state new.disk).faults
 ListsEntry state old new gate number text text' (Err NoMemory) = Unit {0}
 ListsEntry state old new gate number text text' (Err NotOpened) = ⊥
 ListsEntry state old new gate number text text' (Err SayFault) = ⊥
@@ -74,7 +84,8 @@ SaysAll old new text text' (Err (Damage at)) = ⊥
 SaysAll old new text text' (Err DiskFault) = ⊥
 
 -- the same of a call that may say some of it
-abbrev pub SaysSome : WorldState → WorldState → (text text' : List ℕ) → Result Unit Unlisted → Type 0
+abbrev pub SaysSome : WorldState → WorldState → (text text' : List ℕ) → Result Unit Unlisted
+    → Type 0
 SaysSome old new text text' (Ok done) = SaidSome old new text text'
 SaysSome old new text text' (Err SayFault) = Rose old.say_faults new.say_faults
 SaysSome old new text text' (Err NoMemory) = Unit {0}
@@ -83,10 +94,15 @@ SaysSome old new text text' (Err (Damage at)) = ⊥
 SaysSome old new text text' (Err DiskFault) = ⊥
 
 -- why a walk ended, behind these entries: the list is these, or it begins with them
-abbrev pub WalkEnds : {D : Type 0} → (D → DiskState) → View D → View D → WorldState → WorldState → List Row → Result ℕ Unlisted → Type 0
-WalkEnds state old new world world' rows (Ok count) = (count ≡ length rows) × WhereTold (content (state old.disk)) (IsList (payloads_of rows))
-WalkEnds state old new world world' rows (Err (Damage at)) = WhereTold (content (state old.disk)) (IsFirstBad at rows)
-WalkEnds state old new world world' rows (Err DiskFault) = Rose (state old.disk).faults (state new.disk).faults × WhereTold (content (state old.disk)) (IsBegun rows)
+abbrev pub WalkEnds : {D : Type 0} → (D → DiskState) → View D → View D → WorldState → WorldState
+    → List Row → Result ℕ Unlisted → Type 0
+WalkEnds state old new world world' rows (Ok count) = (count ≡ length rows)
+    × WhereTold (content (state old.disk)) (IsList (payloads_of rows))
+WalkEnds state old new world world' rows (Err (Damage at)) = WhereTold (content (state old.disk))
+    (IsFirstBad at rows)
+WalkEnds state old new world world' rows (Err DiskFault) =
+    Rose (state old.disk).faults (state new.disk).faults
+    × WhereTold (content (state old.disk)) (IsBegun rows)
 WalkEnds state old new world world' rows (Err SayFault) = Rose world.say_faults world'.say_faults
 WalkEnds state old new world world' rows (Err NoMemory) = Unit {0}
 WalkEnds state old new world world' rows (Err NotOpened) = ⊥
@@ -100,8 +116,10 @@ pub record WalksBy {D : Type 0} (state : D → DiskState) (old new : View D) (wo
   pub said : UnlessUnsaid result (SaidSome world world' (row_lines 0 rows) text)
   pub ends : WalkEnds state old new world world' rows result
 
-abbrev pub Walks : {D : Type 0} → (D → DiskState) → View D → View D → WorldState → WorldState → List ℕ → Result ℕ Unlisted → Type 0
-Walks state old new world world' text result = (rows : List Row) × WalksBy state old new world world' text result rows
+abbrev pub Walks : {D : Type 0} → (D → DiskState) → View D → View D → WorldState → WorldState
+    → List ℕ → Result ℕ Unlisted → Type 0
+Walks state old new world world' text result = (rows : List Row)
+    × WalksBy state old new world world' text result rows
 
 -- what is said at the end
 abbrev pub end_text : Result ℕ Unlisted → List ℕ
@@ -119,5 +137,6 @@ answer_of (Err unlisted) = Err unlisted
 -- The text and the end were said, but where saying had failed before; or saying failed now, or memory ran out.
 pub record Ends (old new : WorldState) (text : List ℕ) (walked : Result ℕ Unlisted) (result : Result Unit Unlisted) : Type 0 where
   pub says : OnlySays old new
-  pub ends : ((result ≡ answer_of walked) × UnlessUnsaid walked (SaidText old new (text ++ end_text walked)))
+  pub ends : ((result ≡ answer_of walked)
+      × UnlessUnsaid walked (SaidText old new (text ++ end_text walked)))
       ⊎ (((result ≡ Err SayFault) × Rose old.say_faults new.say_faults) ⊎ (result ≡ Err NoMemory))

@@ -51,9 +51,12 @@ pub(crate) fn list_entry<D: Disk>(
 ) -> Result<u64, Unlisted>
     requires unstaged { spool.old.rows.staged ≡ 0 }
     requires opened { spool.old.closed ≡ false }
-    requires left { WhereTold (content (D.state spool.old.disk)) (λ bytes. (entries : Entries) × Remains bytes spool.old.rows.list.jump gate entries spool.old.rows.list.end) }
+    requires left { WhereTold (content (D.state spool.old.disk))
+        (λ bytes. (entries : Entries)
+        × Remains bytes spool.old.rows.list.jump gate entries spool.old.rows.list.end) }
     ensures reads { Reads D.state spool.old spool.new }
-    ensures lists { ListsEntry D.state spool.old spool.new gate number text.old.items text.new.items result }
+    ensures lists { ListsEntry D.state spool.old spool.new gate number text.old.items text.new.items
+        result }
 {
     match spool.item(alloc, gate)? {
         Walked::Item { payload, next } => {

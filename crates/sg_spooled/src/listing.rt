@@ -29,7 +29,8 @@ fn list_opened<W: World>(
     store: W::Store,
     world: &mut W,
 ) -> (W::Store, Result<(), Unlisted>)
-    ensures { Lists (W.state world.old) (W.state world.new) (W.Store.state store) (W.Store.state result.0) result.1 }
+    ensures { Lists (W.state world.old) (W.state world.new) (W.Store.state store)
+        (W.Store.state result.0) result.1 }
 {
     let mut text = Vec::new(alloc);
     match Spool::open(store, 0) {

@@ -14,7 +14,8 @@ const PIECE: usize = 16_384;
 // Says the text, and empties it.
 fn say<W: World>(alloc: Global, text: &mut Vec<u8>, world: &mut W) -> Result<(), Unlisted>
     ensures says { OnlySays (W.state world.old) (W.state world.new) }
-    ensures all { SaysAll (W.state world.old) (W.state world.new) text.old.items text.new.items result }
+    ensures all { SaysAll (W.state world.old) (W.state world.new) text.old.items text.new.items
+        result }
 {
     match world.say(alloc, text) {
         Ok(()) => {
@@ -33,7 +34,8 @@ pub(crate) fn say_piece<W: World>(
     world: &mut W,
 ) -> Result<(), Unlisted>
     ensures says { OnlySays (W.state world.old) (W.state world.new) }
-    ensures some { SaysSome (W.state world.old) (W.state world.new) text.old.items text.new.items result }
+    ensures some { SaysSome (W.state world.old) (W.state world.new) text.old.items text.new.items
+        result }
 {
     if text.len() < PIECE {
         return Ok(());

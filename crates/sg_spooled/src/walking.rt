@@ -19,7 +19,8 @@ pub(crate) fn walk<W: World>(
     requires unstaged { spool.old.rows.staged ≡ 0 }
     requires opened { spool.old.closed ≡ false }
     requires empty { text.old.items ≡ [] }
-    ensures { Walks W.Store.state spool.old spool.new (W.state world.old) (W.state world.new) text.new.items result }
+    ensures { Walks W.Store.state spool.old spool.new (W.state world.old) (W.state world.new)
+        text.new.items result }
 {
     let count = spool.count();
     let mut gate = spool.head();

@@ -38,7 +38,8 @@ impl Pair {
     /// The cell on this disk, and its number.
     pub fn read<D: Disk>(disk: &mut D) -> Result<(Pair, u64), DiskFault>
         requires { WhereTold (content (D.state disk.old)) (λ bytes. 40 ≤ length bytes) }
-        ensures cell { IfOk result (λ r. WhereTold (content (D.state disk.old)) (HasCell r.0.selector r.0.value)) }
+        ensures cell { IfOk result
+            (λ r. WhereTold (content (D.state disk.old)) (HasCell r.0.selector r.0.value)) }
         ensures value { IfOk result (λ r. r.1 ≡ r.0.value) }
         ensures opened { IfOk result (λ r. r.0.closed ≡ false) }
         ensures told { (D.state disk.new).told ≡ (D.state disk.old).told }
@@ -53,19 +54,24 @@ impl Pair {
     /// Puts another number into the cell: it is written to the slot that isn't selected and made
     /// stable, and then the selector is. A closed cell refuses, and leaves the disk as it is.
     pub fn put<D: Disk>(&mut self, disk: &mut D, value: u64) -> Result<(), DiskFault>
-        requires { self.old.closed ≡ false → EachNow (D.state disk.old) (HasCell self.old.selector self.old.value) }
+        requires { self.old.closed ≡ false
+            → EachNow (D.state disk.old) (HasCell self.old.selector self.old.value) }
 
-        ensures cell { self.new.closed ≡ false → EachNow (D.state disk.new) (HasCell self.new.selector self.new.value) }
+        ensures cell { self.new.closed ≡ false
+            → EachNow (D.state disk.new) (HasCell self.new.selector self.new.value) }
         ensures ok { OnOk result (self.new.value ≡ value) }
         ensures err { OnErr result (self.new.value ≡ self.old.value) }
         ensures closed { self.new.closed ≡ is_err result }
         ensures selector { OnOk result (self.new.selector ≡ (self.old.selector + 1) % 256) }
 
         // Within the call each image is one from before it with the old number or the new one in its cell.
-        ensures within { self.old.closed ≡ false → Within (D.state disk.old) (D.state disk.new) (Puts (IsImage (D.state disk.old)) self.old.value value) }
-        ensures outside { OnOk result (Changes SameOutside (content (D.state disk.old)) (content (D.state disk.new))) }
+        ensures within { self.old.closed ≡ false → Within (D.state disk.old) (D.state disk.new)
+            (Puts (IsImage (D.state disk.old)) self.old.value value) }
+        ensures outside { OnOk result
+            (Changes SameOutside (content (D.state disk.old)) (content (D.state disk.new))) }
 
-        ensures cause { self.old.closed ≡ false → HasCause (D.state disk.old).faults (D.state disk.new).faults result }
+        ensures cause { self.old.closed ≡ false
+            → HasCause (D.state disk.old).faults (D.state disk.new).faults result }
         ensures stays { self.old.closed ≡ true → is_err result ≡ true }
         ensures untouched { self.old.closed ≡ true → disk.new ≡ disk.old }
     {
@@ -85,7 +91,8 @@ impl Pair {
 
 // Makes the slot of this selector hold a number.
 fn write_slot<D: Disk>(disk: &mut D, selector: u8, value: u64) -> Result<(), DiskFault>
-    ensures written { OnOk result (Changes (Written (slot selector) (to_be_bytes w64 value)) (content (D.state disk.old)) (content (D.state disk.new))) }
+    ensures written { OnOk result (Changes (Written (slot selector) (to_be_bytes w64 value))
+        (content (D.state disk.old)) (content (D.state disk.new))) }
     ensures durable { OnOk result (Durable (D.state disk.new)) }
     ensures images { Elapses (Torn (slot selector) 8) (D.state disk.old) (D.state disk.new) }
     ensures cause { HasCause (D.state disk.old).faults (D.state disk.new).faults result }
@@ -97,7 +104,8 @@ fn write_slot<D: Disk>(disk: &mut D, selector: u8, value: u64) -> Result<(), Dis
 
 // Makes the selector this one.
 fn write_selector<D: Disk>(disk: &mut D, selector: u8) -> Result<(), DiskFault>
-    ensures written { OnOk result (Changes (Written 0 (selector ∷ [])) (content (D.state disk.old)) (content (D.state disk.new))) }
+    ensures written { OnOk result (Changes (Written 0 (selector ∷ [])) (content (D.state disk.old))
+        (content (D.state disk.new))) }
     ensures durable { OnOk result (Durable (D.state disk.new)) }
     ensures images { Elapses (Torn 0 1) (D.state disk.old) (D.state disk.new) }
     ensures cause { HasCause (D.state disk.old).faults (D.state disk.new).faults result }

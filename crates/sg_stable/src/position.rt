@@ -26,12 +26,14 @@ impl<D: Disk> Stable<D> {
     /// Opens a store. It begins with a sync, and changes nothing; but where that sync fails, a read may
     /// give another of the images since. A refusal gives the disk back.
     pub fn open(disk: D) -> Result<Stable<D>, (D, StoreRefusal)>
-        ensures position { IfOk result (λ stable. WhereTold (content (D.state disk)) (IsPosition stable.cell.value)) }
+        ensures position { IfOk result
+            (λ stable. WhereTold (content (D.state disk)) (IsPosition stable.cell.value)) }
         ensures opened { IfOk result (λ stable. stable.cell.closed ≡ false) }
         ensures tried { IfOk result (λ stable. stable.tried ≡ stable.cell.value) }
         ensures durable { IfOk result (λ stable. Durable (D.state stable.disk)) }
         ensures preserves { IfOk result (λ stable. Preserves (D.state disk) (D.state stable.disk)) }
-        ensures later { IfOk result (λ stable. (D.state disk).faults ≤ (D.state stable.disk).faults) }
+        ensures later { IfOk result
+            (λ stable. (D.state disk).faults ≤ (D.state stable.disk).faults) }
 
         ensures err_rests { IfErr result (λ e. Rests (D.state disk) (D.state e.0)) }
         ensures err_later { IfErr result (λ e. (D.state disk).faults ≤ (D.state e.0).faults) }
@@ -63,17 +65,22 @@ impl<D: Disk> Stable<D> {
         ensures tried { self.old.cell.closed ≡ false → self.new.tried ≡ value }
 
         // Within the call each image is a store of the old position or of the new one, and after it of the new one.
-        ensures within { self.old.cell.closed ≡ false → Within (D.state self.old.disk) (D.state self.new.disk) (λ bytes. IsPosition self.old.cell.value bytes ⊎ IsPosition value bytes) }
+        ensures within { self.old.cell.closed ≡ false → Within (D.state self.old.disk)
+            (D.state self.new.disk)
+            (λ bytes. IsPosition self.old.cell.value bytes ⊎ IsPosition value bytes) }
         ensures position { OnOk result (EachNow (D.state self.new.disk) (IsPosition value)) }
         ensures moves { Moves (D.state self.old.disk) (D.state self.new.disk) }
 
         ensures stays { self.old.cell.closed ≡ true → is_err result ≡ true }
         ensures untouched { self.old.cell.closed ≡ true → self.new ≡ self.old }
-        ensures cause { self.old.cell.closed ≡ false → HasCause (D.state self.old.disk).faults (D.state self.new.disk).faults result }
+        ensures cause { self.old.cell.closed ≡ false
+            → HasCause (D.state self.old.disk).faults (D.state self.new.disk).faults result }
         ensures later { (D.state self.old.disk).faults ≤ (D.state self.new.disk).faults }
 
         // A closed store has its cause: the count rose since any moment at which the store was open.
-        ensures blames { (f : ℕ) → f ≤ (D.state self.old.disk).faults → (self.old.cell.closed ≡ true → Rose f (D.state self.old.disk).faults) → self.new.cell.closed ≡ true → Rose f (D.state self.new.disk).faults }
+        ensures blames { (f : ℕ) → f ≤ (D.state self.old.disk).faults
+            → (self.old.cell.closed ≡ true → Rose f (D.state self.old.disk).faults)
+            → self.new.cell.closed ≡ true → Rose f (D.state self.new.disk).faults }
     {
         if self.cell.closed {
             return Err(DiskFault);
@@ -99,8 +106,10 @@ impl<D: Disk> Stable<D> {
 
 // The cell of a store that is whole, made stable first.
 fn look<D: Disk>(disk: &mut D) -> Result<Pair, StoreRefusal>
-    ensures position { IfOk result (λ cell. WhereTold (content (D.state disk.old)) (IsPosition cell.value)) }
-    ensures cell { IfOk result (λ cell. WhereTold (content (D.state disk.old)) (HasCell cell.selector cell.value)) }
+    ensures position { IfOk result
+        (λ cell. WhereTold (content (D.state disk.old)) (IsPosition cell.value)) }
+    ensures cell { IfOk result
+        (λ cell. WhereTold (content (D.state disk.old)) (HasCell cell.selector cell.value)) }
     ensures opened { IfOk result (λ cell. cell.closed ≡ false) }
     ensures durable { OnOk result (Durable (D.state disk.new)) }
     ensures preserves { OnOk result (Preserves (D.state disk.old) (D.state disk.new)) }
@@ -114,8 +123,10 @@ fn look<D: Disk>(disk: &mut D) -> Result<Pair, StoreRefusal>
 
 // The cell of a store that is whole.
 fn inspect<D: Disk>(disk: &mut D) -> Result<Pair, StoreRefusal>
-    ensures position { IfOk result (λ cell. WhereTold (content (D.state disk.old)) (IsPosition cell.value)) }
-    ensures cell { IfOk result (λ cell. WhereTold (content (D.state disk.old)) (HasCell cell.selector cell.value)) }
+    ensures position { IfOk result
+        (λ cell. WhereTold (content (D.state disk.old)) (IsPosition cell.value)) }
+    ensures cell { IfOk result
+        (λ cell. WhereTold (content (D.state disk.old)) (HasCell cell.selector cell.value)) }
     ensures opened { IfOk result (λ cell. cell.closed ≡ false) }
     ensures told { (D.state disk.new).told ≡ (D.state disk.old).told }
     ensures later { (D.state disk.old).faults ≤ (D.state disk.new).faults }

@@ -34,13 +34,15 @@ store_at sources i = option_and_then (λ source. source.setup.store) (slice_get 
 -- so many more records may come in
 abbrev pub HasCredit : Option Source → ℕ → Type 0
 HasCredit None n = ⊥
-HasCredit (Some source) n = (length source.tracker.waiting + n ≤ source.tracker.limit) × (source.tracker.begun + n ≤ 2 ^ 63)
+HasCredit (Some source) n = (length source.tracker.waiting + n ≤ source.tracker.limit)
+    × (source.tracker.begun + n ≤ 2 ^ 63)
 
 -- the record of that number is outstanding, and needs an acknowledgement
 abbrev pub CanAck : Option Source → ℕ → Type 0
 CanAck None number = ⊥
 CanAck (Some source) number =
-    (first_waiting source.tracker ≤ number) × (0 < left_at source.tracker.waiting (number - first_waiting source.tracker))
+    (first_waiting source.tracker ≤ number)
+    × (0 < left_at source.tracker.waiting (number - first_waiting source.tracker))
 
 -- with one more record, which needs so many acknowledgements
 abbrev pub begun_at : ℕ → ℕ → Source → Source

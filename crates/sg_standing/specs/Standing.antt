@@ -65,10 +65,12 @@ HoldsPosition (Some store) place broken = IsPlaced store place broken
 -- the store of an inlet has its stored position, and has failed where it is listed
 abbrev pub IsStored : List StoreState → List ℕ → Option ℕ → ℕ → Type 0
 IsStored stores failed None place = place ≡ 0
-IsStored stores failed (Some s) place = HoldsPosition (slice_get stores s) place (is_listed s failed)
+IsStored stores failed (Some s) place = HoldsPosition (slice_get stores s) place
+    (is_listed s failed)
 
 abbrev pub AreStored : List StoreState → List ℕ → List Inlet → Type 0
-AreStored stores failed inlets = (i : ℕ) (inlet : Inlet) → slice_get inlets i ≡ Some inlet → IsStored stores failed inlet.setup.store inlet.stored
+AreStored stores failed inlets = (i : ℕ) (inlet : Inlet) → slice_get inlets i ≡ Some inlet
+    → IsStored stores failed inlet.setup.store inlet.stored
 
 -- a disk-buffer, which has failed or works; while it works its places are those of the spooled entries that are left, and each image
 -- has these
@@ -85,7 +87,8 @@ pub record IsBacked (stores : List StoreState) (failed : List ℕ) (buffer : Buf
 
 abbrev pub AreBacked : List StoreState → List ℕ → List Dest → Type 0
 AreBacked stores failed dests =
-    (d : ℕ) (dest : Dest) (buffer : BufferSetup) → slice_get dests d ≡ Some dest → dest.setup.buffer ≡ Some buffer → IsBacked stores failed buffer dest
+    (d : ℕ) (dest : Dest) (buffer : BufferSetup) → slice_get dests d ≡ Some dest
+    → dest.setup.buffer ≡ Some buffer → IsBacked stores failed buffer dest
 
 -- What holds of each state that a core comes to.
 
@@ -98,21 +101,27 @@ buffer_in dests d = option_and_then store_of (slice_get dests d)
 
 -- no store is that of two inlets, of two destinations, or of one of each
 pub record AreApart (state : State) : Type 0 where
-  pub inlets : (i j s : ℕ) → store_in (setups_of state.inlets) i ≡ Some s → store_in (setups_of state.inlets) j ≡ Some s → i ≡ j
-  pub dests : (d e s : ℕ) → buffer_in state.dests d ≡ Some s → buffer_in state.dests e ≡ Some s → d ≡ e
-  pub both : (i d s : ℕ) → store_in (setups_of state.inlets) i ≡ Some s → buffer_in state.dests d ≡ Some s → ⊥
+  pub inlets : (i j s : ℕ) → store_in (setups_of state.inlets) i ≡ Some s
+      → store_in (setups_of state.inlets) j ≡ Some s → i ≡ j
+  pub dests : (d e s : ℕ) → buffer_in state.dests d ≡ Some s → buffer_in state.dests e ≡ Some s
+      → d ≡ e
+  pub both : (i d s : ℕ) → store_in (setups_of state.inlets) i ≡ Some s
+      → buffer_in state.dests d ≡ Some s → ⊥
 
 -- each of these entries that has a block can be spelled
 abbrev pub AreSpellable : Option BufferSetup → List Entry → Type 0
 AreSpellable buffer [] = Unit {0}
-AreSpellable buffer (e ∷ es) = (IsSome (block_of buffer (kept_of e)) → IsKept (kept_of e)) × AreSpellable buffer es
+AreSpellable buffer (e ∷ es) = (IsSome (block_of buffer (kept_of e)) → IsKept (kept_of e))
+    × AreSpellable buffer es
 
 pub record IsSound (state : State) : Type 0 where
   pub replayed : IsReplayed state
   pub split : (d : ℕ) (dest : Dest) → slice_get state.dests d ≡ Some dest → IsSplit dest
-  pub spellable : (d : ℕ) (dest : Dest) → slice_get state.dests d ≡ Some dest → AreSpellable dest.setup.buffer dest.left
+  pub spellable : (d : ℕ) (dest : Dest) → slice_get state.dests d ≡ Some dest
+      → AreSpellable dest.setup.buffer dest.left
   -- before its first record the stored position of an inlet is its opening place
-  pub unmoved : (i : ℕ) (inlet : Inlet) → slice_get state.inlets i ≡ Some inlet → inlet.ends ≡ [] → inlet.stored ≡ inlet.opening
+  pub unmoved : (i : ℕ) (inlet : Inlet) → slice_get state.inlets i ≡ Some inlet → inlet.ends ≡ []
+      → inlet.stored ≡ inlet.opening
   pub apart : AreApart state
 
 -- the core keeps this of the state
@@ -138,19 +147,25 @@ positions_now start events i inlet = inlet.stored ∷ option_to_list (failed_pos
 -- the same within the event that follows: also the one that it writes
 abbrev pub positions_within : State → List Event → Event → ℕ → Inlet → List ℕ
 positions_within start events event i inlet =
-    inlet.stored ∷ option_to_list (running_position event.act i) ++ option_to_list (failed_position start (events ++ event ∷ []) i)
+    inlet.stored ∷ option_to_list (running_position event.act i)
+    ++ option_to_list (failed_position start (events ++ event ∷ []) i)
 
 -- each image now of an inlet's store that has failed has one of its positions
 abbrev pub HavePositions : List StoreState → State → List Event → Type 0
 HavePositions stores start events =
-    (i : ℕ) (inlet : Inlet) (s : ℕ) (store : StoreState) → slice_get (after_all start events).inlets i ≡ Some inlet → inlet.setup.store ≡ Some s
-    → slice_get stores s ≡ Some store → store.failed ≡ true → EachNow store.disk (IsOneOf (positions_now start events i inlet))
+    (i : ℕ) (inlet : Inlet) (s : ℕ) (store : StoreState)
+    → slice_get (after_all start events).inlets i ≡ Some inlet → inlet.setup.store ≡ Some s
+    → slice_get stores s ≡ Some store → store.failed ≡ true
+    → EachNow store.disk (IsOneOf (positions_now start events i inlet))
 
 -- each image of an inlet's store since the event began has one of its positions
-abbrev pub HavePositionsWithin : List StoreState → List StoreState → State → List Event → Event → Type 0
+abbrev pub HavePositionsWithin : List StoreState → List StoreState → State → List Event → Event
+    → Type 0
 HavePositionsWithin olds news start events event =
-    (i : ℕ) (inlet : Inlet) (s : ℕ) (old new : StoreState) → slice_get (after_all start events).inlets i ≡ Some inlet → inlet.setup.store ≡ Some s
-    → slice_get olds s ≡ Some old → slice_get news s ≡ Some new → Within old.disk new.disk (IsOneOf (positions_within start events event i inlet))
+    (i : ℕ) (inlet : Inlet) (s : ℕ) (old new : StoreState)
+    → slice_get (after_all start events).inlets i ≡ Some inlet → inlet.setup.store ≡ Some s
+    → slice_get olds s ≡ Some old → slice_get news s ≡ Some new
+    → Within old.disk new.disk (IsOneOf (positions_within start events event i inlet))
 
 -- the bytes stand for a list that is safe within the act
 pub record IsSafeStore (dest : Dest) (d : ℕ) (act : Act) (failed : List ℕ) (tried : List Kept) (bytes : List ℕ) : Type 0 where
@@ -165,39 +180,55 @@ failed_then start events event = (after_all start events).failed ++ event.failed
 -- each image now of a disk-buffer that has failed has a safe list
 abbrev pub HaveLists : List StoreState → State → List Event → Type 0
 HaveLists stores start events =
-    (d : ℕ) (dest : Dest) (buffer : BufferSetup) (store : StoreState) → slice_get (after_all start events).dests d ≡ Some dest → dest.setup.buffer ≡ Some buffer
-    → slice_get stores buffer.store ≡ Some store → store.failed ≡ true → EachNow store.disk (IsSafeStore dest d Look (after_all start events).failed (failed_entries start events d))
+    (d : ℕ) (dest : Dest) (buffer : BufferSetup) (store : StoreState)
+    → slice_get (after_all start events).dests d ≡ Some dest → dest.setup.buffer ≡ Some buffer
+    → slice_get stores buffer.store ≡ Some store → store.failed ≡ true
+    → EachNow store.disk
+    (IsSafeStore dest d Look (after_all start events).failed (failed_entries start events d))
 
 -- each image of a disk-buffer since the event began has a safe list
 abbrev pub HaveListsWithin : List StoreState → List StoreState → State → List Event → Event → Type 0
 HaveListsWithin olds news start events event =
-    (d : ℕ) (dest : Dest) (buffer : BufferSetup) (old new : StoreState) → slice_get (after_all start events).dests d ≡ Some dest → dest.setup.buffer ≡ Some buffer
+    (d : ℕ) (dest : Dest) (buffer : BufferSetup) (old new : StoreState)
+    → slice_get (after_all start events).dests d ≡ Some dest → dest.setup.buffer ≡ Some buffer
     → slice_get olds buffer.store ≡ Some old → slice_get news buffer.store ≡ Some new
-    → Within old.disk new.disk (IsSafeStore dest d event.act (failed_then start events event) (failed_entries start (events ++ event ∷ []) d))
+    → Within old.disk new.disk (IsSafeStore dest d event.act (failed_then start events event)
+    (failed_entries start (events ++ event ∷ []) d))
 
 -- Moments.
 
 -- one of each inlet's store between these moments has one of its positions
-abbrev pub PositionsBetween : List StoreState → (ℕ → ℕ) → (ℕ → ℕ) → State → List Event → Event → Type 0
+abbrev pub PositionsBetween : List StoreState → (ℕ → ℕ) → (ℕ → ℕ) → State → List Event → Event
+    → Type 0
 PositionsBetween stores from until start events event =
-    (i : ℕ) (inlet : Inlet) (s : ℕ) (store : StoreState) (moment : ℕ) (bytes : List ℕ) → slice_get (after_all start events).inlets i ≡ Some inlet → inlet.setup.store ≡ Some s
-    → slice_get stores s ≡ Some store → from s ≤ moment → moment ≤ until s → IsImageAt store.disk moment bytes → IsOneOf (positions_within start events event i inlet) bytes
+    (i : ℕ) (inlet : Inlet) (s : ℕ) (store : StoreState) (moment : ℕ) (bytes : List ℕ)
+    → slice_get (after_all start events).inlets i ≡ Some inlet → inlet.setup.store ≡ Some s
+    → slice_get stores s ≡ Some store → from s ≤ moment → moment ≤ until s
+    → IsImageAt store.disk moment bytes
+    → IsOneOf (positions_within start events event i inlet) bytes
 
 -- one of each disk-buffer has a safe list
 abbrev pub ListsBetween : List StoreState → (ℕ → ℕ) → (ℕ → ℕ) → State → List Event → Event → Type 0
 ListsBetween stores from until start events event =
-    (d : ℕ) (dest : Dest) (buffer : BufferSetup) (store : StoreState) (moment : ℕ) (bytes : List ℕ) → slice_get (after_all start events).dests d ≡ Some dest
-    → dest.setup.buffer ≡ Some buffer → slice_get stores buffer.store ≡ Some store → from buffer.store ≤ moment → moment ≤ until buffer.store → IsImageAt store.disk moment bytes
-    → IsSafeStore dest d event.act (failed_then start events event) (failed_entries start (events ++ event ∷ []) d) bytes
+    (d : ℕ) (dest : Dest) (buffer : BufferSetup) (store : StoreState) (moment : ℕ) (bytes : List ℕ)
+    → slice_get (after_all start events).dests d ≡ Some dest
+    → dest.setup.buffer ≡ Some buffer → slice_get stores buffer.store ≡ Some store
+    → from buffer.store ≤ moment → moment ≤ until buffer.store → IsImageAt store.disk moment bytes
+    → IsSafeStore dest d event.act (failed_then start events event)
+    (failed_entries start (events ++ event ∷ []) d) bytes
 
 -- A timetable of the events: one row more than events, a row a moment of each store. No moment falls from a row to the next, and
 -- the last row is now. Images between two rows are safe for the events before the first and the one between.
 pub record IsTimetable (stores : List StoreState) (start : State) (events : List Event) : Type 0 where
   pub rows : ℕ → ℕ → ℕ
-  pub ascend : (k s : ℕ) (store : StoreState) → slice_get stores s ≡ Some store → k < length events → rows k s ≤ rows (k + 1) s
-  pub last : (s : ℕ) (store : StoreState) → slice_get stores s ≡ Some store → rows (length events) s ≡ clock store.disk
-  pub positions : (k : ℕ) (event : Event) → slice_get events k ≡ Some event → PositionsBetween stores (rows k) (rows (k + 1)) start (take k events) event
-  pub lists : (k : ℕ) (event : Event) → slice_get events k ≡ Some event → ListsBetween stores (rows k) (rows (k + 1)) start (take k events) event
+  pub ascend : (k s : ℕ) (store : StoreState) → slice_get stores s ≡ Some store → k < length events
+      → rows k s ≤ rows (k + 1) s
+  pub last : (s : ℕ) (store : StoreState) → slice_get stores s ≡ Some store
+      → rows (length events) s ≡ clock store.disk
+  pub positions : (k : ℕ) (event : Event) → slice_get events k ≡ Some event
+      → PositionsBetween stores (rows k) (rows (k + 1)) start (take k events) event
+  pub lists : (k : ℕ) (event : Event) → slice_get events k ≡ Some event
+      → ListsBetween stores (rows k) (rows (k + 1)) start (take k events) event
 
 -- The core stands for these events from that state on: they are legal, it keeps what the state after them has, the images of its
 -- stores are what they may leave, and so were those of each moment since.
@@ -213,7 +244,8 @@ pub record StandsFor (core : CoreState) (start : State) (events : List Event) : 
 -- the stores that failed are those whose count of faults rose
 abbrev pub HaveRisen : List StoreState → List StoreState → List ℕ → Type 0
 HaveRisen olds news failed =
-    (s : ℕ) (old new : StoreState) → is_listed s failed ≡ true → slice_get olds s ≡ Some old → slice_get news s ≡ Some new
+    (s : ℕ) (old new : StoreState) → is_listed s failed ≡ true → slice_get olds s ≡ Some old
+    → slice_get news s ≡ Some new
     → Rose old.disk.faults new.disk.faults
 
 -- what a core that stands for the events before it needs to stand for one more
@@ -233,9 +265,14 @@ pub record Does (old new : CoreState) (act : Act) : Type 0 where
   pub calls : new.calls ≡ old.calls + 1
   pub setup : setup_of new ≡ setup_of old
   -- from each state that the core may be at
-  pub step : (state : State) → IsAt old state → (is_legal_act state act failed ≡ true) × IsAt new (after_act state act failed)
+  pub step : (state : State) → IsAt old state
+      → (is_legal_act state act failed ≡ true) × IsAt new (after_act state act failed)
   -- within it each image is safe
-  pub positions : (start : State) (events : List Event) → StandsFor old start events → HavePositionsWithin old.stores new.stores start events (record { act = act; failed = failed })
-  pub lists : (start : State) (events : List Event) → StandsFor old start events → HaveListsWithin old.stores new.stores start events (record { act = act; failed = failed })
+  pub positions : (start : State) (events : List Event) → StandsFor old start events
+      → HavePositionsWithin old.stores new.stores start events
+      (record { act = act; failed = failed })
+  pub lists : (start : State) (events : List Event) → StandsFor old start events
+      → HaveListsWithin old.stores new.stores start events (record { act = act; failed = failed })
   -- so it stands for one event more
-  pub stands : (start : State) (events : List Event) → StandsFor old start events → StandsFor new start (events ++ record { act = act; failed = failed } ∷ [])
+  pub stands : (start : State) (events : List Event) → StandsFor old start events
+      → StandsFor new start (events ++ record { act = act; failed = failed } ∷ [])

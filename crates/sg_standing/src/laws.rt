@@ -16,13 +16,19 @@ use sg_buffer::lists_are_one;
 /// A core that stands for events stands for one more where that is legal, the core keeps what the state
 /// after it has, and each image within it is safe.
 pub fn more_stands()
-    ensures { (old new : CoreState) (start : State) (events : List Event) (event : Event) → StandsFor old start events → Adds old new start events event → StandsFor new start (events ++ event ∷ []) }
+    ensures { (old new : CoreState) (start : State) (events : List Event) (event : Event)
+        → StandsFor old start events → Adds old new start events event
+        → StandsFor new start (events ++ event ∷ []) }
 {}
 
 /// Between two calls a crash leaves positions and lists in the stores that are safe after the events that
 /// the core stands for.
 pub fn images_are_safe()
-    ensures { (setup : Setup) (opening : Opening) (events : List Event) (core : CoreState) (images : List (List ℕ)) (lists : List (List Kept)) → StandsFor core (opened setup opening) events → AreImages core.stores images → AreListsIn core.sinks images lists → Safe (opened setup opening) events nothing (record { positions = positions_in core.sources images; lists = lists }) }
+    ensures { (setup : Setup) (opening : Opening) (events : List Event) (core : CoreState)
+        (images : List (List ℕ)) (lists : List (List Kept))
+        → StandsFor core (opened setup opening) events → AreImages core.stores images
+        → AreListsIn core.sinks images lists → Safe (opened setup opening) events nothing
+        (record { positions = positions_in core.sources images; lists = lists }) }
 {
     lists_are_one();
 }
@@ -30,7 +36,12 @@ pub fn images_are_safe()
 /// Within a call, at whatever moment for each store, a crash leaves what is safe for the events before it
 /// and its own.
 pub fn images_within_are_safe()
-    ensures { (setup : Setup) (opening : Opening) (events : List Event) (old new : CoreState) (act : Act) (does : Does old new act) (images : List (List ℕ)) (lists : List (List Kept)) → StandsFor old (opened setup opening) events → AreImagesWithin old.stores new.stores images → AreListsIn old.sinks images lists → Safe (opened setup opening) events (record { act = act; failed = does.failed }) (record { positions = positions_in old.sources images; lists = lists }) }
+    ensures { (setup : Setup) (opening : Opening) (events : List Event) (old new : CoreState)
+        (act : Act) (does : Does old new act) (images : List (List ℕ)) (lists : List (List Kept))
+        → StandsFor old (opened setup opening) events → AreImagesWithin old.stores new.stores images
+        → AreListsIn old.sinks images lists → Safe (opened setup opening) events
+        (record { act = act; failed = does.failed })
+        (record { positions = positions_in old.sources images; lists = lists }) }
 {
     lists_are_one();
 }
@@ -38,7 +49,12 @@ pub fn images_within_are_safe()
 /// And so it did at every earlier moment: where the image of each store is of a moment between the same
 /// two rows of the timetable, they are safe for the events before the first row and the one between.
 pub fn images_between_are_safe()
-    ensures { (setup : Setup) (opening : Opening) (events : List Event) (core : CoreState) (stands : StandsFor core (opened setup opening) events) (k : ℕ) (event : Event) (images : List (List ℕ)) (lists : List (List Kept)) → slice_get events k ≡ Some event → AreImagesBetween core.stores (stands.moments.rows k) (stands.moments.rows (k + 1)) images → AreListsIn core.sinks images lists → Safe (opened setup opening) (take k events) event (record { positions = positions_in core.sources images; lists = lists }) }
+    ensures { (setup : Setup) (opening : Opening) (events : List Event) (core : CoreState)
+        (stands : StandsFor core (opened setup opening) events) (k : ℕ) (event : Event)
+        (images : List (List ℕ)) (lists : List (List Kept)) → slice_get events k ≡ Some event
+        → AreImagesBetween core.stores (stands.moments.rows k) (stands.moments.rows (k + 1)) images
+        → AreListsIn core.sinks images lists → Safe (opened setup opening) (take k events) event
+        (record { positions = positions_in core.sources images; lists = lists }) }
 {
     lists_are_one();
 }
@@ -46,7 +62,14 @@ pub fn images_between_are_safe()
 /// Each of these images is a position store, or has a list of entries, so that a core opens over them
 /// again.
 pub fn images_open_again()
-    ensures now { (core : CoreState) (start : State) (events : List Event) (images : List (List ℕ)) → StandsFor core start events → AreImages core.stores images → AreStores core images }
-    ensures within { (old new : CoreState) (start : State) (events : List Event) (act : Act) (does : Does old new act) (images : List (List ℕ)) → StandsFor old start events → AreImagesWithin old.stores new.stores images → AreStores old images }
-    ensures between { (core : CoreState) (start : State) (events : List Event) (stands : StandsFor core start events) (k : ℕ) (event : Event) (images : List (List ℕ)) → slice_get events k ≡ Some event → AreImagesBetween core.stores (stands.moments.rows k) (stands.moments.rows (k + 1)) images → AreStores core images }
+    ensures now { (core : CoreState) (start : State) (events : List Event) (images : List (List ℕ))
+        → StandsFor core start events → AreImages core.stores images → AreStores core images }
+    ensures within { (old new : CoreState) (start : State) (events : List Event) (act : Act)
+        (does : Does old new act) (images : List (List ℕ)) → StandsFor old start events
+        → AreImagesWithin old.stores new.stores images → AreStores old images }
+    ensures between { (core : CoreState) (start : State) (events : List Event)
+        (stands : StandsFor core start events) (k : ℕ) (event : Event) (images : List (List ℕ))
+        → slice_get events k ≡ Some event
+        → AreImagesBetween core.stores (stands.moments.rows k) (stands.moments.rows (k + 1)) images
+        → AreStores core images }
 {}

@@ -61,7 +61,8 @@ fn ack_at(sources: &mut Seq<Source>, i: u32, number: u64)
 
 /// Acknowledges the record of an entry that is settled or moved, where the record waits for it.
 pub fn acknowledge(sources: &mut Seq<Source>, entry: &Entry)
-    requires { entry.now.flow ≡ true → CanAck (slice_get sources.old entry.now.inlet) entry.now.number }
+    requires { entry.now.flow ≡ true
+        → CanAck (slice_get sources.old entry.now.inlet) entry.now.number }
     ensures { sources.new ≡ acks sources.old entry.now }
 {
     if entry.flow {

@@ -25,7 +25,8 @@ CanAdvance (Some store) n size = store.failed ≡ false → HasFirst store n siz
 
 -- the bytes have the list, or it without the first n
 abbrev pub IsListOrRest : ℕ → List Kept → List ℕ → Type 0
-IsListOrRest n list bytes = IsListOf (map coded list) bytes ⊎ IsListOf (map coded (drop n list)) bytes
+IsListOrRest n list bytes = IsListOf (map coded list) bytes
+    ⊎ IsListOf (map coded (drop n list)) bytes
 
 -- The first n entries are off the list, where the store works. One that has failed stays as it is.
 pub record Advances (old new : StoreState) (n size : ℕ) : Type 0 where
@@ -33,9 +34,13 @@ pub record Advances (old new : StoreState) (n size : ℕ) : Type 0 where
   pub goes : Goes old new
   pub before : old.failed ≡ true → new ≡ old
   pub cause : old.failed ≡ false → new.failed ≡ true → Rose old.disk.faults new.disk.faults
-  pub within : (list : List Kept) → HoldsEntries old list [] → Within old.disk new.disk (IsListOrRest n list)
-  pub holds : new.failed ≡ false → (list : List Kept) → HoldsEntries old list [] → HoldsEntries new (drop n list) []
-  pub sized : new.failed ≡ false → (capacity : ℕ) (lengths : List ℕ) → HasSize capacity lengths old.buffer → size ≡ space (take n lengths) → HasSize capacity (drop n lengths) new.buffer
+  pub within : (list : List Kept) → HoldsEntries old list []
+      → Within old.disk new.disk (IsListOrRest n list)
+  pub holds : new.failed ≡ false → (list : List Kept) → HoldsEntries old list []
+      → HoldsEntries new (drop n list) []
+  pub sized : new.failed ≡ false → (capacity : ℕ) (lengths : List ℕ)
+      → HasSize capacity lengths old.buffer → size ≡ space (take n lengths)
+      → HasSize capacity (drop n lengths) new.buffer
 
 -- the same of the store of that number, and whether it works; the others stay as they are
 pub record AdvancesAt (olds news : List StoreState) (s n size : ℕ) (works : Bool) : Type 0 where

@@ -25,9 +25,13 @@ pub record IsAppending (start now : StoreState) (tried : List Kept) : Type 0 whe
   pub worked : start.failed ≡ false
   pub cause : now.failed ≡ true → Rose start.disk.faults now.disk.faults
   pub goes : Goes start now
-  pub within : (list : List Kept) → HoldsEntries start list [] → Within start.disk now.disk (IsListWithSome list tried)
-  pub holds : now.failed ≡ false → (list : List Kept) → HoldsEntries start list [] → HoldsSome now list tried
-  pub sized : now.failed ≡ false → (capacity : ℕ) (lengths : List ℕ) → HasSize capacity lengths start.buffer → HasAhead capacity (lengths ++ map length_of tried) now.buffer
+  pub within : (list : List Kept) → HoldsEntries start list []
+      → Within start.disk now.disk (IsListWithSome list tried)
+  pub holds : now.failed ≡ false → (list : List Kept) → HoldsEntries start list []
+      → HoldsSome now list tried
+  pub sized : now.failed ≡ false → (capacity : ℕ) (lengths : List ℕ)
+      → HasSize capacity lengths start.buffer
+      → HasAhead capacity (lengths ++ map length_of tried) now.buffer
 
 -- The same once it is committed: where the store works, all of it is in the list.
 pub record IsAppended (start now : StoreState) (tried : List Kept) : Type 0 where
@@ -35,9 +39,13 @@ pub record IsAppended (start now : StoreState) (tried : List Kept) : Type 0 wher
   pub worked : start.failed ≡ false
   pub cause : now.failed ≡ true → Rose start.disk.faults now.disk.faults
   pub goes : Goes start now
-  pub within : (list : List Kept) → HoldsEntries start list [] → Within start.disk now.disk (IsListWithSome list tried)
-  pub holds : now.failed ≡ false → (list : List Kept) → HoldsEntries start list [] → HoldsEntries now (list ++ tried) []
-  pub sized : now.failed ≡ false → (capacity : ℕ) (lengths : List ℕ) → HasSize capacity lengths start.buffer → HasSize capacity (lengths ++ map length_of tried) now.buffer
+  pub within : (list : List Kept) → HoldsEntries start list []
+      → Within start.disk now.disk (IsListWithSome list tried)
+  pub holds : now.failed ≡ false → (list : List Kept) → HoldsEntries start list []
+      → HoldsEntries now (list ++ tried) []
+  pub sized : now.failed ≡ false → (capacity : ℕ) (lengths : List ℕ)
+      → HasSize capacity lengths start.buffer
+      → HasSize capacity (lengths ++ map length_of tried) now.buffer
 
 -- the payload spells this entry, which fits behind all that the call has tried before
 pub record IsNext (start : StoreState) (tried : List Kept) (payload : List ℕ) (kept : Kept) : Type 0 where
@@ -52,13 +60,16 @@ pub record IsNext (start : StoreState) (tried : List Kept) (payload : List ℕ) 
 pub record Stages (old new : StoreState) (payload : List ℕ) : Type 0 where
   pub goes : Goes old new
   pub before : old.failed ≡ true → new ≡ old
-  pub stages : (start : StoreState) (tried : List Kept) (kept : Kept) → IsNext start tried payload kept → IsAppending start old tried → IsAppending start new (tried ++ kept ∷ [])
+  pub stages : (start : StoreState) (tried : List Kept) (kept : Kept)
+      → IsNext start tried payload kept → IsAppending start old tried
+      → IsAppending start new (tried ++ kept ∷ [])
 
 -- what was staged is committed; a store that has failed stays as it is
 pub record Commits (old new : StoreState) : Type 0 where
   pub goes : Goes old new
   pub before : old.failed ≡ true → new ≡ old
-  pub commits : (start : StoreState) (tried : List Kept) → IsAppending start old tried → IsAppended start new tried
+  pub commits : (start : StoreState) (tried : List Kept) → IsAppending start old tried
+      → IsAppended start new tried
 
 -- the same of the store of that number, and whether it works; the others stay as they are
 pub record StagesAt (olds news : List StoreState) (s : ℕ) (payload : List ℕ) (works : Bool) : Type 0 where

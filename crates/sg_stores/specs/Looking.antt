@@ -77,8 +77,10 @@ CanRenew (Some store) = (store.failed ≡ false) × IsUnstaged store.buffer
 
 -- Ok: the store is open. Else it isn't, and its disk holds what it held.
 abbrev pub Renews : StoreState → StoreState → Found → Result Unit StoreRefusal → Type 0
-Renews old new found (Ok done) = (kind : StoreKind) (disk : DiskState) → IsLookedAs kind disk found old → IsOpenedAs kind disk found new
-Renews old new found (Err refusal) = (kind : StoreKind) (disk : DiskState) → IsLookedAs kind disk found old → IsUnrenewed kind disk new.disk refusal
+Renews old new found (Ok done) = (kind : StoreKind) (disk : DiskState)
+    → IsLookedAs kind disk found old → IsOpenedAs kind disk found new
+Renews old new found (Err refusal) = (kind : StoreKind) (disk : DiskState)
+    → IsLookedAs kind disk found old → IsUnrenewed kind disk new.disk refusal
 
 -- the same of the store of that number; the others stay as they are
 pub record RenewsAt (olds news : List StoreState) (s : ℕ) (found : Found) (result : Result Unit StoreRefusal) : Type 0 where
@@ -89,14 +91,19 @@ pub record RenewsAt (olds news : List StoreState) (s : ℕ) (found : Found) (res
   pub renews : Renews old new found result
 
 abbrev pub CanRenewAll : List StoreState → Type 0
-CanRenewAll stores = (s : ℕ) (store : StoreState) → slice_get stores s ≡ Some store → CanRenew (Some store)
+CanRenewAll stores = (s : ℕ) (store : StoreState) → slice_get stores s ≡ Some store
+    → CanRenew (Some store)
 
 -- of these stores so many are open, and the others were looked through
 pub record AreOpening (count : ℕ) (kinds : List StoreKind) (disks : List DiskState) (founds : List Found) (stores : List StoreState) : Type 0 where
   pub many : length stores ≡ length disks
   pub looked : length founds ≡ length disks
   pub known : length kinds ≡ length disks
-  pub opened : (s : ℕ) (kind : StoreKind) (disk : DiskState) (found : Found) (store : StoreState) → s < count → slice_get kinds s ≡ Some kind → slice_get disks s ≡ Some disk
-      → slice_get founds s ≡ Some found → slice_get stores s ≡ Some store → IsOpenedAs kind disk found store
-  pub left : (s : ℕ) (kind : StoreKind) (disk : DiskState) (found : Found) (store : StoreState) → count ≤ s → slice_get kinds s ≡ Some kind → slice_get disks s ≡ Some disk
-      → slice_get founds s ≡ Some found → slice_get stores s ≡ Some store → IsLookedAs kind disk found store
+  pub opened : (s : ℕ) (kind : StoreKind) (disk : DiskState) (found : Found) (store : StoreState)
+      → s < count → slice_get kinds s ≡ Some kind → slice_get disks s ≡ Some disk
+      → slice_get founds s ≡ Some found → slice_get stores s ≡ Some store
+      → IsOpenedAs kind disk found store
+  pub left : (s : ℕ) (kind : StoreKind) (disk : DiskState) (found : Found) (store : StoreState)
+      → count ≤ s → slice_get kinds s ≡ Some kind → slice_get disks s ≡ Some disk
+      → slice_get founds s ≡ Some found → slice_get stores s ≡ Some store
+      → IsLookedAs kind disk found store

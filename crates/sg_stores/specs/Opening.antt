@@ -74,8 +74,10 @@ IsOpenedAs (Buffer capacity) disk found store = IsRecovered disk capacity found 
 pub record AreOpened (kinds : List StoreKind) (disks : List DiskState) (founds : List Found) (stores : List StoreState) : Type 0 where
   pub count : length stores ≡ length disks
   pub looked : length founds ≡ length disks
-  pub each : (s : ℕ) (kind : StoreKind) (disk : DiskState) (found : Found) (store : StoreState) → slice_get kinds s ≡ Some kind → slice_get disks s ≡ Some disk
-      → slice_get founds s ≡ Some found → slice_get stores s ≡ Some store → IsOpenedAs kind disk found store
+  pub each : (s : ℕ) (kind : StoreKind) (disk : DiskState) (found : Found) (store : StoreState)
+      → slice_get kinds s ≡ Some kind → slice_get disks s ≡ Some disk
+      → slice_get founds s ≡ Some found → slice_get stores s ≡ Some store
+      → IsOpenedAs kind disk found store
 
 -- Stores that weren't.
 
@@ -101,13 +103,16 @@ Keeps (Buffer capacity) old new = RestsInList old new
 -- the disks come back in order, and hold what they held
 pub record ArePreserved (kinds : List StoreKind) (olds news : List DiskState) : Type 0 where
   pub count : length news ≡ length olds
-  pub keeps : (s : ℕ) (kind : StoreKind) (old new : DiskState) → slice_get kinds s ≡ Some kind → slice_get olds s ≡ Some old → slice_get news s ≡ Some new → Keeps kind old new
-  pub later : (s : ℕ) (old new : DiskState) → slice_get olds s ≡ Some old → slice_get news s ≡ Some new → old.faults ≤ new.faults
+  pub keeps : (s : ℕ) (kind : StoreKind) (old new : DiskState) → slice_get kinds s ≡ Some kind
+      → slice_get olds s ≡ Some old → slice_get news s ≡ Some new → Keeps kind old new
+  pub later : (s : ℕ) (old new : DiskState) → slice_get olds s ≡ Some old
+      → slice_get news s ≡ Some new → old.faults ≤ new.faults
 
 -- those before this number hold stores of their kinds
 abbrev pub AreStoresBefore : ℕ → List StoreKind → List DiskState → Type 0
 AreStoresBefore count kinds disks =
-    (s : ℕ) (kind : StoreKind) (disk : DiskState) → s < count → slice_get kinds s ≡ Some kind → slice_get disks s ≡ Some disk → WhereTold (content disk) (IsStore kind)
+    (s : ℕ) (kind : StoreKind) (disk : DiskState) → s < count → slice_get kinds s ≡ Some kind
+    → slice_get disks s ≡ Some disk → WhereTold (content disk) (IsStore kind)
 
 -- the lowest damaged store: this one, at this place
 pub record IsDamaged (kinds : List StoreKind) (disks : List DiskState) (s at : ℕ) : Type 0 where

@@ -35,7 +35,8 @@ pub record FailsToWrite (old new : StoreState) (position : ℕ) : Type 0 where
 
 -- what the write of a position comes to, by its answer
 abbrev pub Writes : StoreState → StoreState → ℕ → Stored → Type 0
-Writes old new position (Wrote w) = (old.position ≢ position) × (w ≡ position) × WritesPosition old new position
+Writes old new position (Wrote w) = (old.position ≢ position) × (w ≡ position)
+    × WritesPosition old new position
 Writes old new position Unchanged = (old.position ≡ position) × (new ≡ old)
 Writes old new position Broken = (old.position ≢ position) × FailsToWrite old new position
 

@@ -32,7 +32,8 @@ pub record Stays (old new : StoreState) : Type 0 where
 -- Want of memory is free.
 abbrev pub Reads : StoreState → StoreState → ℕ → Result (List Content) RewriteRefusal → Type 0
 Reads old new n (Ok messages) = (new.failed ≡ false) × (length messages ≡ n)
-    × WhereTold (content old.disk) (λ bytes. (list : List Kept) → HoldsEntries old list [] → messages ≡ map (λ (kept : Kept). kept.message) (take n list))
+    × WhereTold (content old.disk) (λ bytes. (list : List Kept) → HoldsEntries old list []
+    → messages ≡ map (λ (kept : Kept). kept.message) (take n list))
 Reads old new n (Err DiskFault) = (new.failed ≡ true) × Rose old.disk.faults new.disk.faults
 Reads old new n (Err NoMemory) = new.failed ≡ false
 

@@ -47,7 +47,8 @@ length_of kept = encoded_len kept.message
 -- each image has these entries, and those are staged behind them
 abbrev pub HoldsIn : Option BufferState → DiskState → List Kept → List Kept → Type 0
 HoldsIn None disk list staged = ⊥
-HoldsIn (Some buffer) disk list staged = HoldsAt disk buffer.rows (spelled (map coded list)) (spelled (map coded staged))
+HoldsIn (Some buffer) disk list staged = HoldsAt disk buffer.rows (spelled (map coded list))
+    (spelled (map coded staged))
 
 pub record HoldsEntries (store : StoreState) (list staged : List Kept) : Type 0 where
   pub holds : HoldsIn store.buffer store.disk list staged
@@ -84,4 +85,5 @@ pub record Goes (old new : StoreState) : Type 0 where
 -- the stores are as many, and time goes on for each
 pub record AllGo (olds news : List StoreState) : Type 0 where
   pub count : length news ≡ length olds
-  pub each : (s : ℕ) (old new : StoreState) → slice_get olds s ≡ Some old → slice_get news s ≡ Some new → Goes old new
+  pub each : (s : ℕ) (old new : StoreState) → slice_get olds s ≡ Some old
+      → slice_get news s ≡ Some new → Goes old new

@@ -41,8 +41,10 @@ impl<D: Disk> BufferStore<D> {
         disk: D,
         capacity: u64,
     ) -> Result<(BufferStore<D>, Found), (D, StoreRefusal)>
-        ensures looked { IfOk result (λ opened. IsLooked (D.state disk) capacity opened.1 opened.0) }
-        ensures refused { IfErr result (λ e. IsUnlooked (Buffer capacity) (D.state disk) (D.state e.0) e.1) }
+        ensures looked { IfOk result
+            (λ opened. IsLooked (D.state disk) capacity opened.1 opened.0) }
+        ensures refused { IfErr result
+            (λ e. IsUnlooked (Buffer capacity) (D.state disk) (D.state e.0) e.1) }
     {
         let mut spool = Spool::open(disk, capacity)?;
         let _first = spool.head();

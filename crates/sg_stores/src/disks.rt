@@ -41,7 +41,8 @@ pub fn give_back<D: Disk>(
 ) -> Vec<D>
     requires empty { room.items ≡ [] }
     requires fits { length held.items + length rest.items < vec_capacity room }
-    ensures { map D.state result.items ≡ map (λ store. store.disk) held.items ++ D.state refused ∷ map D.state rest.items }
+    ensures { map D.state result.items
+        ≡ map (λ store. store.disk) held.items ++ D.state refused ∷ map D.state rest.items }
 {
     let mut disks = room;
     put_stores(held, &mut disks);

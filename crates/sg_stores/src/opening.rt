@@ -66,8 +66,10 @@ fn look_all<D: Disk>(
 ) -> Result<(Stores<D>, Vec<Found>), (Vec<D>, CoreRefusal)>
     requires count { length kinds.now ≡ length disks.items }
     requires few { length disks.items < 2 ^ 32 }
-    ensures looked { IfOk result (λ opened. AreOpening 0 kinds.now (map D.state disks.items) opened.1.items opened.0) }
-    ensures refused { IfErr result (λ e. IsRefused kinds.now (map D.state disks.items) (map D.state e.0.items) e.1) }
+    ensures looked { IfOk result
+        (λ opened. AreOpening 0 kinds.now (map D.state disks.items) opened.1.items opened.0) }
+    ensures refused { IfErr result
+        (λ e. IsRefused kinds.now (map D.state disks.items) (map D.state e.0.items) e.1) }
 {
     let mut opening = match opening_of(alloc, disks.len()) {
         Ok(opening) => opening,
@@ -105,8 +107,12 @@ fn renew_all<D: Disk>(
     requires ready { CanRenewAll stores.old }
     requires few { length stores.old < 2 ^ 32 }
     requires count { length found.now ≡ length stores.old }
-    ensures opened { OnOk result ((kinds : List Kind) (disks : List DiskState) → AreOpening 0 kinds disks found.now stores.old → AreOpened kinds disks found.now stores.new) }
-    ensures refused { IfErr result (λ e. (kinds : List Kind) (disks : List DiskState) → AreOpening 0 kinds disks found.now stores.old → IsRefused kinds disks (map (λ store. store.disk) stores.new) e) }
+    ensures opened { OnOk result ((kinds : List Kind) (disks : List DiskState)
+        → AreOpening 0 kinds disks found.now stores.old
+        → AreOpened kinds disks found.now stores.new) }
+    ensures refused { IfErr result (λ e. (kinds : List Kind) (disks : List DiskState)
+        → AreOpening 0 kinds disks found.now stores.old
+        → IsRefused kinds disks (map (λ store. store.disk) stores.new) e) }
 {
     for s in 0..stores.len() {
         if let Err(refusal) = stores.renew(alloc, s, &found[s]) {
@@ -128,8 +134,10 @@ impl<D: Disk> Stores<D> {
     ) -> Result<Opened<D>, (Vec<D>, CoreRefusal)>
         requires count { length kinds.now ≡ length disks.items }
         requires few { length disks.items < 2 ^ 32 }
-        ensures opened { IfOk result (λ opened. AreOpened kinds.now (map D.state disks.items) opened.found opened.stores) }
-        ensures refused { IfErr result (λ e. IsRefused kinds.now (map D.state disks.items) (map D.state e.0.items) e.1) }
+        ensures opened { IfOk result
+            (λ opened. AreOpened kinds.now (map D.state disks.items) opened.found opened.stores) }
+        ensures refused { IfErr result
+            (λ e. IsRefused kinds.now (map D.state disks.items) (map D.state e.0.items) e.1) }
     {
         let (mut stores, found) = look_all(alloc, disks, kinds)?;
         match renew_all(alloc, &mut stores, &found) {

@@ -45,13 +45,15 @@ element_patterns_step named (Element-F.Rewrite rule) = rule_patterns named rule
 element_patterns_step named (Element-F.Deliver drivers) = []
 element_patterns_step named (Element-F.Junction channels) = joined channels.items
 element_patterns_step named (Element-F.If branches other) =
-    joined (map (λ b. patterns_of named b.0 ++ joined b.1.items) branches.items) ++ if_some (option_map (λ o. joined o.items) other)
+    joined (map (λ b. patterns_of named b.0 ++ joined b.1.items) branches.items)
+    ++ if_some (option_map (λ o. joined o.items) other)
 
 abbrev pub path_patterns_step : Path-F Patterns Patterns → Patterns
 path_patterns_step path = joined path.elements.items ++ joined path.embedded.items
 
 abbrev pub element_patterns : List Expr → Element → Patterns
-element_patterns named = fold-Element Patterns Patterns (element_patterns_step named) path_patterns_step
+element_patterns named = fold-Element Patterns Patterns (element_patterns_step named)
+    path_patterns_step
 
 abbrev pub path_patterns : List Expr → Path → Patterns
 path_patterns named = fold-Path Patterns Patterns (element_patterns_step named) path_patterns_step
@@ -80,12 +82,15 @@ other_patterns named None = []
 other_patterns named (Some other) = list_patterns named other.items
 
 abbrev pub own_patterns : List Expr → Path → Patterns
-own_patterns named path = list_patterns named (out-Path path).elements.items ++ siblings_patterns named (out-Path path).embedded.items
+own_patterns named path = list_patterns named (out-Path path).elements.items
+    ++ siblings_patterns named (out-Path path).embedded.items
 
 -- all, those of filters and rewrites that nothing uses too
 abbrev pub patterns_in : Forest → Patterns
 patterns_in forest =
-    filters_patterns forest.filters.items forest.filters.items ++ rules_patterns forest.filters.items forest.rewrites.items ++ siblings_patterns forest.filters.items forest.paths.items
+    filters_patterns forest.filters.items forest.filters.items
+    ++ rules_patterns forest.filters.items forest.rewrites.items
+    ++ siblings_patterns forest.filters.items forest.paths.items
 
 -- the pattern of the line is no pattern, or it is too large for the builder, whose count rose
 abbrev pub Refuses : WorldState → WorldState → Patterns → PathRefusal → Type 0

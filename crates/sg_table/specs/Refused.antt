@@ -18,7 +18,8 @@ IsBounded tops = (all_offers tops ≤ 1024) × AreFew 1024 tops
 
 -- behind statements with so many offers this one has too many, or too many messages reach a place in it
 abbrev pub Exceeds : ℕ → Top → Type 0
-Exceeds offers top = (1024 < offers + (reach top.steps 1).offers) ⊎ (1024 < (reach top.steps 1).most)
+Exceeds offers top = (1024 < offers + (reach top.steps 1).offers)
+    ⊎ (1024 < (reach top.steps 1).most)
 
 -- the statement of this line is the first that is beyond the bounds
 pub record IsFirstBeyond (named : List Expr) (paths : List Path) (line : Line) : Type 0 where
@@ -35,5 +36,6 @@ pub record IsFirstBeyond (named : List Expr) (paths : List Path) (line : Line) :
 abbrev pub RefusesForest : WorldState → WorldState → Forest → PathRefusal → Type 0
 RefusesForest old new forest (BadPattern line) = IsBadAt (patterns_in forest) line
 RefusesForest old new forest (PatternTooLarge line) = IsLargeAt (patterns_in forest) line old new
-RefusesForest old new forest (TooManyOffers line) = AreValid (patterns_in forest) × IsFirstBeyond forest.filters.items forest.paths.items line
+RefusesForest old new forest (TooManyOffers line) = AreValid (patterns_in forest)
+    × IsFirstBeyond forest.filters.items forest.paths.items line
 RefusesForest old new forest NoMemory = Unit {0}

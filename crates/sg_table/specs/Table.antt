@@ -40,10 +40,13 @@ other_at at None = none_left
 abbrev pub steps_of : Places → Pipe → Steps
 steps_of at pipe.End = none_left
 steps_of at (pipe.Filter decision next) = filter decision (at next)
-steps_of at (pipe.Rewrite condition change next) = rewrite (record { condition = condition; change = change }) (at next)
+steps_of at (pipe.Rewrite condition change next) =
+    rewrite (record { condition = condition; change = change }) (at next)
 steps_of at (pipe.Deliver drivers next) = deliver drivers.items (at next)
-steps_of at (pipe.Junction channels next) = junction (siblings_of (branches_at at channels.items)) (at next)
-steps_of at (pipe.If tests other next) = choose (choice_of (tests_at at tests.items) (other_at at other)) (at next)
+steps_of at (pipe.Junction channels next) = junction (siblings_of (branches_at at channels.items))
+    (at next)
+steps_of at (pipe.If tests other next) =
+    choose (choice_of (tests_at at tests.items) (other_at at other)) (at next)
 steps_of at (pipe.Embedded logs) = embedded (siblings_of (branches_at at logs.items))
 
 abbrev pub place : List Steps → Places
@@ -67,8 +70,10 @@ IsBelow n pipe.End = Unit {0}
 IsBelow n (pipe.Filter decision next) = next < n
 IsBelow n (pipe.Rewrite condition change next) = next < n
 IsBelow n (pipe.Deliver drivers next) = next < n
-IsBelow n (pipe.Junction channels next) = (next < n) × AllByRecursion (λ branch. branch.start < n) channels.items
-IsBelow n (pipe.If tests other next) = (next < n) × (AllByRecursion (λ test. test.start < n) tests.items × IsOtherBelow n other)
+IsBelow n (pipe.Junction channels next) = (next < n)
+    × AllByRecursion (λ branch. branch.start < n) channels.items
+IsBelow n (pipe.If tests other next) = (next < n)
+    × (AllByRecursion (λ test. test.start < n) tests.items × IsOtherBelow n other)
 IsBelow n (pipe.Embedded logs) = AllByRecursion (λ branch. branch.start < n) logs.items
 
 abbrev pub AreBelow : ℕ → List Pipe → Type 0
@@ -89,9 +94,13 @@ IsBelow-prop n pipe.End = Unit-prop
 IsBelow-prop n (pipe.Filter decision next) = le_prop
 IsBelow-prop n (pipe.Rewrite condition change next) = le_prop
 IsBelow-prop n (pipe.Deliver drivers next) = le_prop
-IsBelow-prop n (pipe.Junction channels next) = ×_prop le_prop (AllByRecursion-prop (λ branch. branch.start < n) (λ branch. le_prop) channels.items)
-IsBelow-prop n (pipe.If tests other next) = ×_prop le_prop (×_prop (AllByRecursion-prop (λ test. test.start < n) (λ test. le_prop) tests.items) (IsOtherBelow-prop n other))
-IsBelow-prop n (pipe.Embedded logs) = AllByRecursion-prop (λ branch. branch.start < n) (λ branch. le_prop) logs.items
+IsBelow-prop n (pipe.Junction channels next) = ×_prop le_prop
+    (AllByRecursion-prop (λ branch. branch.start < n) (λ branch. le_prop) channels.items)
+IsBelow-prop n (pipe.If tests other next) = ×_prop le_prop (
+    ×_prop (AllByRecursion-prop (λ test. test.start < n) (λ test. le_prop) tests.items)
+    (IsOtherBelow-prop n other))
+IsBelow-prop n (pipe.Embedded logs) = AllByRecursion-prop (λ branch. branch.start < n)
+    (λ branch. le_prop) logs.items
 
 AreBelow-prop : (n : ℕ) (pipes : List Pipe) → IsProp (AreBelow n pipes)
 AreBelow-prop n [] = Unit-prop

@@ -49,7 +49,9 @@ pub(crate) fn check_bounds(
     pipes: &[Pipe],
 ) -> Result<(), PathRefusal>
     requires { length tops.now ≡ length paths.now }
-    ensures { (named : List AnExpr) → map (statement_at (steps_at pipes.now)) tops.now ≡ map (top_view named) paths.now → ChecksBounds named paths.now result }
+    ensures { (named : List AnExpr)
+        → map (statement_at (steps_at pipes.now)) tops.now ≡ map (top_view named) paths.now
+        → ChecksBounds named paths.now result }
 {
     let fans = fans_of(alloc, pipes)?;
     check_tops(&fans, paths, tops)

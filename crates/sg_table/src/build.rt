@@ -20,7 +20,8 @@ use std::alloc::{AllocError, Global};
 
 /// Adds a pipe, and gives its place.
 fn push(pipes: &mut Vec<Pipe>, pipe: Pipe) -> Result<u32, AllocError>
-    ensures value { IfOk result (λ at. (at ≡ length pipes.old.items) × (pipes.new.items ≡ pipes.old.items ++ pipe ∷ [])) }
+    ensures value { IfOk result
+        (λ at. (at ≡ length pipes.old.items) × (pipes.new.items ≡ pipes.old.items ++ pipe ∷ [])) }
     ensures within { IfOk result (λ at. at < length pipes.new.items) }
 {
     let at = pipes.len();
@@ -59,8 +60,10 @@ fn path<B: Builder>(
     path: &Path,
     pipes: &mut Vec<Pipe>,
 ) -> Result<u32, PathRefusal>
-    ensures compiled { IfOk result (λ at. Compiled pipes.old.items pipes.new.items at (own_steps named.now path.now)) }
-    ensures makes { Makes (B.state builder.old) (B.state builder.new) (path_patterns named.now path.now) result }
+    ensures compiled { IfOk result
+        (λ at. Compiled pipes.old.items pipes.new.items at (own_steps named.now path.now)) }
+    ensures makes { Makes (B.state builder.old) (B.state builder.new)
+        (path_patterns named.now path.now) result }
     ensures only { OnlyBuilds (B.state builder.old) (B.state builder.new) }
 {
     let next = match end(alloc, builder, named, &path.embedded, pipes) {
@@ -79,8 +82,10 @@ fn end<B: Builder>(
     embedded: &[Path],
     pipes: &mut Vec<Pipe>,
 ) -> Result<u32, PathRefusal>
-    ensures compiled { IfOk result (λ at. Compiled pipes.old.items pipes.new.items at (steps_view named.now [] embedded.now)) }
-    ensures makes { Makes (B.state builder.old) (B.state builder.new) (siblings_patterns named.now embedded.now) result }
+    ensures compiled { IfOk result
+        (λ at. Compiled pipes.old.items pipes.new.items at (steps_view named.now [] embedded.now)) }
+    ensures makes { Makes (B.state builder.old) (B.state builder.new)
+        (siblings_patterns named.now embedded.now) result }
     ensures only { OnlyBuilds (B.state builder.old) (B.state builder.new) }
 {
     if embedded.is_empty() {
@@ -103,8 +108,10 @@ fn list<B: Builder>(
     pipes: &mut Vec<Pipe>,
 ) -> Result<u32, PathRefusal>
     requires { next < length pipes.old.items }
-    ensures compiled { IfOk result (λ at. Compiled pipes.old.items pipes.new.items at (in_front (map (element_view named.now) elements.now) (steps_at pipes.old.items next))) }
-    ensures makes { Makes (B.state builder.old) (B.state builder.new) (list_patterns named.now elements.now) result }
+    ensures compiled { IfOk result (λ at. Compiled pipes.old.items pipes.new.items at
+        (in_front (map (element_view named.now) elements.now) (steps_at pipes.old.items next))) }
+    ensures makes { Makes (B.state builder.old) (B.state builder.new)
+        (list_patterns named.now elements.now) result }
     ensures only { OnlyBuilds (B.state builder.old) (B.state builder.new) }
 {
     let mut first = next;
@@ -128,8 +135,10 @@ fn element<B: Builder>(
     pipes: &mut Vec<Pipe>,
 ) -> Result<Pipe, PathRefusal>
     requires { next < length pipes.old.items }
-    ensures compiled { IfOk result (λ pipe. MadePipe pipes.old.items pipes.new.items pipe (element_view named.now element.now (steps_at pipes.old.items next))) }
-    ensures makes { Makes (B.state builder.old) (B.state builder.new) (element_patterns named.now element.now) result }
+    ensures compiled { IfOk result (λ pipe. MadePipe pipes.old.items pipes.new.items pipe
+        (element_view named.now element.now (steps_at pipes.old.items next))) }
+    ensures makes { Makes (B.state builder.old) (B.state builder.new)
+        (element_patterns named.now element.now) result }
     ensures only { OnlyBuilds (B.state builder.old) (B.state builder.new) }
 {
     match element {
@@ -171,8 +180,10 @@ fn choice<B: Builder>(
     pipes: &mut Vec<Pipe>,
 ) -> Result<Pipe, PathRefusal>
     requires { next < length pipes.old.items }
-    ensures compiled { IfOk result (λ pipe. MadePipe pipes.old.items pipes.new.items pipe (choose (choice_view named.now branches.now other.now) (steps_at pipes.old.items next))) }
-    ensures makes { Makes (B.state builder.old) (B.state builder.new) (choices_patterns named.now branches.now ++ other_patterns named.now other.now) result }
+    ensures compiled { IfOk result (λ pipe. MadePipe pipes.old.items pipes.new.items pipe
+        (choose (choice_view named.now branches.now other.now) (steps_at pipes.old.items next))) }
+    ensures makes { Makes (B.state builder.old) (B.state builder.new)
+        (choices_patterns named.now branches.now ++ other_patterns named.now other.now) result }
     ensures only { OnlyBuilds (B.state builder.old) (B.state builder.new) }
 {
     let tests = match tests(alloc, builder, named, branches, pipes) {
@@ -193,8 +204,10 @@ fn siblings<B: Builder>(
     paths: &[Path],
     pipes: &mut Vec<Pipe>,
 ) -> Result<Vec<Branch>, PathRefusal>
-    ensures compiled { IfOk result (λ branches. CompiledBranches pipes.old.items pipes.new.items branches.items (map (own named.now) paths.now)) }
-    ensures makes { Makes (B.state builder.old) (B.state builder.new) (siblings_patterns named.now paths.now) result }
+    ensures compiled { IfOk result (λ branches. CompiledBranches pipes.old.items pipes.new.items
+        branches.items (map (own named.now) paths.now)) }
+    ensures makes { Makes (B.state builder.old) (B.state builder.new)
+        (siblings_patterns named.now paths.now) result }
     ensures only { OnlyBuilds (B.state builder.old) (B.state builder.new) }
 {
     let mut branches = Vec::new(alloc);
@@ -215,8 +228,10 @@ fn tests<B: Builder>(
     branches: &[(Expr, Vec<Element>)],
     pipes: &mut Vec<Pipe>,
 ) -> Result<Vec<Test>, PathRefusal>
-    ensures compiled { IfOk result (λ tests. CompiledTests pipes.old.items pipes.new.items tests.items (choices named.now branches.now)) }
-    ensures makes { Makes (B.state builder.old) (B.state builder.new) (choices_patterns named.now branches.now) result }
+    ensures compiled { IfOk result (λ tests. CompiledTests pipes.old.items pipes.new.items
+        tests.items (choices named.now branches.now)) }
+    ensures makes { Makes (B.state builder.old) (B.state builder.new)
+        (choices_patterns named.now branches.now) result }
     ensures only { OnlyBuilds (B.state builder.old) (B.state builder.new) }
 {
     let mut tests = Vec::new(alloc);
@@ -240,8 +255,10 @@ fn test<B: Builder>(
     pipes: &mut Vec<Pipe>,
 ) -> Result<Test, PathRefusal>
     ensures filter { IfOk result (λ test. test.filter ≡ decision_of named.now expr.now) }
-    ensures compiled { IfOk result (λ test. Compiled pipes.old.items pipes.new.items test.start (steps_view named.now elements.now [])) }
-    ensures makes { Makes (B.state builder.old) (B.state builder.new) (patterns_of named.now expr.now ++ list_patterns named.now elements.now) result }
+    ensures compiled { IfOk result (λ test. Compiled pipes.old.items pipes.new.items test.start
+        (steps_view named.now elements.now [])) }
+    ensures makes { Makes (B.state builder.old) (B.state builder.new)
+        (patterns_of named.now expr.now ++ list_patterns named.now elements.now) result }
     ensures only { OnlyBuilds (B.state builder.old) (B.state builder.new) }
 {
     let filter = match make_filter(alloc, builder, named, expr) {
@@ -263,8 +280,10 @@ fn branch<B: Builder>(
     elements: &[Element],
     pipes: &mut Vec<Pipe>,
 ) -> Result<u32, PathRefusal>
-    ensures compiled { IfOk result (λ at. Compiled pipes.old.items pipes.new.items at (steps_view named.now elements.now [])) }
-    ensures makes { Makes (B.state builder.old) (B.state builder.new) (list_patterns named.now elements.now) result }
+    ensures compiled { IfOk result
+        (λ at. Compiled pipes.old.items pipes.new.items at (steps_view named.now elements.now [])) }
+    ensures makes { Makes (B.state builder.old) (B.state builder.new)
+        (list_patterns named.now elements.now) result }
     ensures only { OnlyBuilds (B.state builder.old) (B.state builder.new) }
 {
     let next = push(pipes, Pipe::End)?;
@@ -280,8 +299,10 @@ fn other_start<B: Builder>(
     other: &Option<Vec<Element>>,
     pipes: &mut Vec<Pipe>,
 ) -> Result<Option<u32>, PathRefusal>
-    ensures compiled { IfOk result (λ start. CompiledOther named.now pipes.old.items pipes.new.items start other.now) }
-    ensures makes { Makes (B.state builder.old) (B.state builder.new) (other_patterns named.now other.now) result }
+    ensures compiled { IfOk result
+        (λ start. CompiledOther named.now pipes.old.items pipes.new.items start other.now) }
+    ensures makes { Makes (B.state builder.old) (B.state builder.new)
+        (other_patterns named.now other.now) result }
     ensures only { OnlyBuilds (B.state builder.old) (B.state builder.new) }
 {
     match other {
@@ -302,8 +323,10 @@ fn top<B: Builder>(
     pipes: &mut Vec<Pipe>,
 ) -> Result<Top, PathRefusal>
     ensures top { IfOk result (IsTopOf one.now) }
-    ensures compiled { IfOk result (λ top. Compiled pipes.old.items pipes.new.items top.branch.start (own_steps named.now one.now)) }
-    ensures makes { Makes (B.state builder.old) (B.state builder.new) (path_patterns named.now one.now) result }
+    ensures compiled { IfOk result (λ top. Compiled pipes.old.items pipes.new.items top.branch.start
+        (own_steps named.now one.now)) }
+    ensures makes { Makes (B.state builder.old) (B.state builder.new)
+        (path_patterns named.now one.now) result }
     ensures only { OnlyBuilds (B.state builder.old) (B.state builder.new) }
 {
     match path(alloc, builder, named, one, pipes) {
@@ -324,8 +347,10 @@ pub(crate) fn tops<B: Builder>(
     paths: &[Path],
     pipes: &mut Vec<Pipe>,
 ) -> Result<Vec<Top>, PathRefusal>
-    ensures compiled { IfOk result (λ tops. CompiledTops pipes.old.items pipes.new.items tops.items (map (top_view named.now) paths.now)) }
-    ensures makes { Makes (B.state builder.old) (B.state builder.new) (siblings_patterns named.now paths.now) result }
+    ensures compiled { IfOk result (λ tops. CompiledTops pipes.old.items pipes.new.items tops.items
+        (map (top_view named.now) paths.now)) }
+    ensures makes { Makes (B.state builder.old) (B.state builder.new)
+        (siblings_patterns named.now paths.now) result }
     ensures only { OnlyBuilds (B.state builder.old) (B.state builder.new) }
 {
     let mut tops = Vec::new(alloc);

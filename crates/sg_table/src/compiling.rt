@@ -29,7 +29,8 @@ pub fn compile<B: Builder>(
     ensures meaning { IfOk result (λ table. forest_of table ≡ woods_of forest.now) }
     ensures valid { IfOk result (λ _. AreValid (patterns_in forest.now)) }
     ensures bound { IfOk result (λ _. IsBounded (woods_of forest.now).tops) }
-    ensures refused { IfErr result (RefusesForest (B.state builder.old) (B.state builder.new) forest.now) }
+    ensures refused { IfErr result
+        (RefusesForest (B.state builder.old) (B.state builder.new) forest.now) }
     ensures only { OnlyBuilds (B.state builder.old) (B.state builder.new) }
 {
     let named = forest.filters.as_slice();

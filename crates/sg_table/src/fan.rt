@@ -53,7 +53,8 @@ pub(crate) fn fan_at(fans: &[Fan], at: u32) -> Fan
 }
 
 fn beside(a: Fan, b: Fan) -> Fan
-    ensures { result ≡ record { offers = cut (a.offers + b.offers); out = cut (a.out + b.out); most = max a.most b.most } }
+    ensures { result ≡ record
+        { offers = cut (a.offers + b.offers); out = cut (a.out + b.out); most = max a.most b.most } }
 {
     Fan {
         offers: sum(a.offers, b.offers),
@@ -64,7 +65,8 @@ fn beside(a: Fan, b: Fan) -> Fan
 
 // What comes out walks the rest.
 fn onward(first: Fan, rest: Fan) -> Fan
-    ensures { result ≡ record { offers = cut (first.offers + cut (first.out * rest.offers)); out = cut (first.out * rest.out); most = max 1 (max first.most (cut (first.out * rest.most))) } }
+    ensures { result ≡ record
+        { offers = cut (first.offers + cut (first.out * rest.offers)); out = cut (first.out * rest.out); most = max 1 (max first.most (cut (first.out * rest.most))) } }
 {
     Fan {
         offers: sum(first.offers, product(first.out, rest.offers)),
@@ -74,7 +76,8 @@ fn onward(first: Fan, rest: Fan) -> Fan
 }
 
 fn branches_fan(fans: &[Fan], branches: &[Branch]) -> Fan
-    ensures { (steps : List SomeSteps) → fans.now ≡ map fan steps → result ≡ cut_reach (reach_all (siblings_of (branches_at (place steps) branches.now)) 1) }
+    ensures { (steps : List SomeSteps) → fans.now ≡ map fan steps
+        → result ≡ cut_reach (reach_all (siblings_of (branches_at (place steps) branches.now)) 1) }
 {
     let mut all = Fan {
         offers: 0,
@@ -88,7 +91,8 @@ fn branches_fan(fans: &[Fan], branches: &[Branch]) -> Fan
 }
 
 fn other_fan(fans: &[Fan], other: Option<u32>) -> Fan
-    ensures { (steps : List SomeSteps) → fans.now ≡ map fan steps → result ≡ fan (other_at (place steps) other) }
+    ensures { (steps : List SomeSteps) → fans.now ≡ map fan steps
+        → result ≡ fan (other_at (place steps) other) }
 {
     match other {
         Some(at) => fan_at(fans, at),
@@ -97,7 +101,10 @@ fn other_fan(fans: &[Fan], other: Option<u32>) -> Fan
 }
 
 fn tests_fan(fans: &[Fan], tests: &[Test], other: Option<u32>) -> Fan
-    ensures { (steps : List SomeSteps) → fans.now ≡ map fan steps → result ≡ cut_reach (reach_each (choice_of (tests_at (place steps) tests.now) (other_at (place steps) other)) 1) }
+    ensures { (steps : List SomeSteps) → fans.now ≡ map fan steps
+        → result ≡ cut_reach (
+        reach_each (choice_of (tests_at (place steps) tests.now) (other_at (place steps) other))
+        1) }
 {
     let mut all = other_fan(fans, other);
     for i in (0..tests.len()).rev() {
@@ -109,7 +116,8 @@ fn tests_fan(fans: &[Fan], tests: &[Test], other: Option<u32>) -> Fan
 /// What becomes of a message that reaches this pipe, where these are what becomes of it at those in
 /// front.
 pub(crate) fn fan_of(fans: &[Fan], pipe: &Pipe) -> Fan
-    ensures { (steps : List SomeSteps) → fans.now ≡ map fan steps → result ≡ fan (steps_of (place steps) pipe.now) }
+    ensures { (steps : List SomeSteps) → fans.now ≡ map fan steps
+        → result ≡ fan (steps_of (place steps) pipe.now) }
 {
     match pipe {
         Pipe::End => leaving(),

@@ -21,7 +21,8 @@ pub(crate) fn make_filter<B: Builder>(
     expr: &Expr,
 ) -> Result<Filter, PathRefusal>
     ensures made { IfOk result (λ filter. filter ≡ decision_of named.now expr.now) }
-    ensures makes { Makes (B.state builder.old) (B.state builder.new) (patterns_of named.now expr.now) result }
+    ensures makes { Makes (B.state builder.old) (B.state builder.new)
+        (patterns_of named.now expr.now) result }
     ensures only { OnlyBuilds (B.state builder.old) (B.state builder.new) }
 {
     match Filter::new(alloc, builder, expr, named) {
@@ -37,7 +38,8 @@ fn make_condition<B: Builder>(
     condition: &Option<Expr>,
 ) -> Result<Option<Filter>, PathRefusal>
     ensures made { IfOk result (λ filter. filter ≡ condition_of named.now condition.now) }
-    ensures makes { Makes (B.state builder.old) (B.state builder.new) (condition_patterns named.now condition.now) result }
+    ensures makes { Makes (B.state builder.old) (B.state builder.new)
+        (condition_patterns named.now condition.now) result }
     ensures only { OnlyBuilds (B.state builder.old) (B.state builder.new) }
 {
     match condition {
@@ -68,8 +70,10 @@ pub(crate) fn make_rule<B: Builder>(
     named: &[Expr],
     rule: &RewriteRule,
 ) -> Result<(Option<Filter>, Rewrite), PathRefusal>
-    ensures made { IfOk result (λ made. record { condition = made.0; change = made.1 } ≡ rule_of named.now rule.now) }
-    ensures makes { Makes (B.state builder.old) (B.state builder.new) (rule_patterns named.now rule.now) result }
+    ensures made { IfOk result
+        (λ made. record { condition = made.0; change = made.1 } ≡ rule_of named.now rule.now) }
+    ensures makes { Makes (B.state builder.old) (B.state builder.new)
+        (rule_patterns named.now rule.now) result }
     ensures only { OnlyBuilds (B.state builder.old) (B.state builder.new) }
 {
     let condition = match make_condition(alloc, builder, named, &rule.condition) {
@@ -88,7 +92,8 @@ pub(crate) fn make_filters<B: Builder>(
     builder: &mut B,
     named: &[Expr],
 ) -> Result<(), PathRefusal>
-    ensures makes { Makes (B.state builder.old) (B.state builder.new) (filters_patterns named.now named.now) result }
+    ensures makes { Makes (B.state builder.old) (B.state builder.new)
+        (filters_patterns named.now named.now) result }
     ensures only { OnlyBuilds (B.state builder.old) (B.state builder.new) }
 {
     for expr in named {
@@ -107,7 +112,8 @@ pub(crate) fn make_rules<B: Builder>(
     named: &[Expr],
     rules: &[RewriteRule],
 ) -> Result<(), PathRefusal>
-    ensures makes { Makes (B.state builder.old) (B.state builder.new) (rules_patterns named.now rules.now) result }
+    ensures makes { Makes (B.state builder.old) (B.state builder.new)
+        (rules_patterns named.now rules.now) result }
     ensures only { OnlyBuilds (B.state builder.old) (B.state builder.new) }
 {
     for rule in rules {

@@ -101,7 +101,8 @@ fn shared_top(alloc: Global, top: &Top) -> Result<Top, AllocError>
 }
 
 fn shared_tops(alloc: Global, tops: &[Top]) -> Result<Vec<Top>, AllocError>
-    ensures { IfOk result (λ copies. (at : Places) → map (statement_at at) copies.items ≡ map (statement_at at) tops.now) }
+    ensures { IfOk result (λ copies. (at : Places)
+        → map (statement_at at) copies.items ≡ map (statement_at at) tops.now) }
 {
     let mut copies = Vec::new(alloc);
     for top in tops {

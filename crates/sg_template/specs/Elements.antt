@@ -62,7 +62,9 @@ unfoldable pub sd_name : List ℕ → Option SdName
 sd_name name = if bytes_eq (take 7 name) (codes ".SDATA.") then checked (split_name (drop 7 name)) else None
 
 abbrev pub item_of : Pair → Option Item
-item_of pair = option_map (λ found. record { id = found.id; param = found.param; value = pair.value }) (sd_name pair.name)
+item_of pair =
+    option_map (λ found. record { id = found.id; param = found.param; value = pair.value })
+    (sd_name pair.name)
 
 -- `"`, `\` and `]` stand behind a backslash
 abbrev pub escaped_byte : ℕ → List ℕ

@@ -20,7 +20,8 @@ use Rattle.sg_template.specs.Zone.{shown_stamp}
 
 -- Seconds since 1970 in UTC, rounded down, and so many digits of the fraction from that second on.
 abbrev pub unix_text : ℤ → ℕ → List ℕ
-unix_text at count = signed_decimal (int_div_euclid at (pos 1000000)) ++ fraction_text count (unsigned_abs (int_rem_euclid at (pos 1000000)))
+unix_text at count = signed_decimal (int_div_euclid at (pos 1000000))
+    ++ fraction_text count (unsigned_abs (int_rem_euclid at (pos 1000000)))
 
 -- a part of a stamp, with so many digits of a fraction; ChosenDate is the ISO date where that is chosen, and else the BSD date
 unfoldable pub date_text : DatePart → Stamp → ℕ → Bool → List ℕ
@@ -83,4 +84,5 @@ macro_text Tags content env = tags_text content.tags
 macro_text Header content env = header_text (text_of (codes "PROGRAM") content.pairs) (text_of (codes "PID") content.pairs)
 macro_text Sdata content env = sdata_text content.pairs
 macro_text OldValue content env = unwrap_or env.old []
-macro_text (OfStamp kind part) content env = date_text part (shown_stamp env.zone (stamp_of kind content)) env.digits env.iso
+macro_text (OfStamp kind part) content env = date_text part
+    (shown_stamp env.zone (stamp_of kind content)) env.digits env.iso

@@ -110,7 +110,8 @@ fn append_macro(
     env: &Env,
     out: &mut Vec<u8>,
 ) -> Result<(), AllocError>
-    ensures ok { OnOk result (out.new.items ≡ out.old.items ++ macro_text kind message.now env.now) }
+    ensures ok { OnOk result
+        (out.new.items ≡ out.old.items ++ macro_text kind message.now env.now) }
     ensures err { OnErr result (BeginsWith out.old.items out.new.items) }
 {
     let pri = message.pri();
@@ -141,7 +142,8 @@ pub(crate) fn append_part(
     env: &Env,
     out: &mut Vec<u8>,
 ) -> Result<(), AllocError>
-    ensures ok { OnOk result (out.new.items ≡ out.old.items ++ part_text message.now env.now part.now) }
+    ensures ok { OnOk result
+        (out.new.items ≡ out.old.items ++ part_text message.now env.now part.now) }
     ensures err { OnErr result (BeginsWith out.old.items out.new.items) }
 {
     match part {
@@ -170,7 +172,8 @@ pub(crate) fn append_parts(
     env: &Env,
     out: &mut Vec<u8>,
 ) -> Result<(), AllocError>
-    ensures ok { OnOk result (out.new.items ≡ out.old.items ++ render_of parts.now message.now env.now) }
+    ensures ok { OnOk result
+        (out.new.items ≡ out.old.items ++ render_of parts.now message.now env.now) }
     ensures err { OnErr result (BeginsWith out.old.items out.new.items) }
 {
     for part in parts {

@@ -83,7 +83,8 @@ pub(crate) fn append_date(
     out: &mut Vec<u8>,
 ) -> Result<(), AllocError>
     requires { IsValid stamp }
-    ensures ok { OnOk result (out.new.items ≡ out.old.items ++ date_text part stamp env.now.digits env.now.iso) }
+    ensures ok { OnOk result
+        (out.new.items ≡ out.old.items ++ date_text part stamp env.now.digits env.now.iso) }
     ensures err { OnErr result (BeginsWith out.old.items out.new.items) }
 {
     match part {

@@ -124,7 +124,8 @@ fn checked(found: SdName<'_>) -> Option<SdName<'_>>
 // What the name of a pair says, where it is of the grammar.
 #[tactic(auto, unfolding(crate::specs::Elements::sd_name))]
 fn sd_name(name: &[u8]) -> Option<SdName<'_>>
-    ensures { option_map (λ found. record { id = found.id.now; param = option_copied found.param }) result ≡ sd_name name.now }
+    ensures { option_map (λ found. record { id = found.id.now; param = option_copied found.param }) result
+        ≡ sd_name name.now }
 {
     match name.strip_prefix(b".SDATA.") {
         Some(text) => checked(split_name(text)),
@@ -144,7 +145,8 @@ fn plain_length(value: &[u8]) -> usize
 #[tactic(auto, using(crate::proofs::Appending::appending))]
 fn append_run<'v>(value: &'v [u8], out: &mut Vec<u8>) -> Result<&'v [u8], AllocError>
     requires { 0 < length value.now }
-    ensures ok { IfOk result (λ rest. out.new.items ++ escaped rest.now ≡ out.old.items ++ escaped value.now) }
+    ensures ok { IfOk result
+        (λ rest. out.new.items ++ escaped rest.now ≡ out.old.items ++ escaped value.now) }
     ensures shorter { IfOk result (λ rest. length rest.now < length value.now) }
     ensures begins { BeginsWith out.old.items out.new.items }
 {
@@ -172,7 +174,8 @@ fn append_escaped(value: &[u8], out: &mut Vec<u8>) -> Result<(), AllocError>
 
 #[tactic(auto, using(crate::proofs::Appending::appending))]
 fn append_param(param: Option<&[u8]>, value: &[u8], out: &mut Vec<u8>) -> Result<(), AllocError>
-    ensures ok { OnOk result (out.new.items ≡ out.old.items ++ param_text (option_copied param.entry) value.now) }
+    ensures ok { OnOk result
+        (out.new.items ≡ out.old.items ++ param_text (option_copied param.entry) value.now) }
     ensures err { OnErr result (BeginsWith out.old.items out.new.items) }
 {
     let Some(name) = param else {
@@ -189,7 +192,8 @@ fn append_param(param: Option<&[u8]>, value: &[u8], out: &mut Vec<u8>) -> Result
 // Begins the element of this ID, behind the end of another one, where it isn't open.
 #[tactic(auto, using(crate::proofs::Appending::appending))]
 fn append_opening(current: Option<&[u8]>, id: &[u8], out: &mut Vec<u8>) -> Result<(), AllocError>
-    ensures ok { OnOk result (out.new.items ≡ out.old.items ++ opening_text (option_copied current.entry) id.now) }
+    ensures ok { OnOk result
+        (out.new.items ≡ out.old.items ++ opening_text (option_copied current.entry) id.now) }
     ensures err { OnErr result (BeginsWith out.old.items out.new.items) }
 {
     match current {

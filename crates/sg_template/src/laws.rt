@@ -15,8 +15,10 @@ pub fn macros_are_hard()
 
 /// A path has 1 to 4,095 bytes.
 pub fn paths_fit()
-    ensures some { (parts : List Part) (content : Content) (env : Env) → 0 < length (path_of parts content env) }
-    ensures most { (parts : List Part) (content : Content) (env : Env) → length (path_of parts content env) ≤ 4095 }
+    ensures some { (parts : List Part) (content : Content) (env : Env)
+        → 0 < length (path_of parts content env) }
+    ensures most { (parts : List Part) (content : Content) (env : Env)
+        → length (path_of parts content env) ≤ 4095 }
 {}
 
 /// The text of a macro or of a value in a path is a part of one file's name: it has no `/` and no NUL,

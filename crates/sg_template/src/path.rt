@@ -48,7 +48,8 @@ fn append_path_part(
     env: &Env,
     out: &mut Vec<u8>,
 ) -> Result<(), AllocError>
-    ensures ok { OnOk result (out.new.items ≡ out.old.items ++ path_part message.now env.now part.now) }
+    ensures ok { OnOk result
+        (out.new.items ≡ out.old.items ++ path_part message.now env.now part.now) }
     ensures err { OnErr result (BeginsWith out.old.items out.new.items) }
 {
     let before = out.len();
@@ -68,7 +69,8 @@ fn append_path_parts(
     env: &Env,
     out: &mut Vec<u8>,
 ) -> Result<(), AllocError>
-    ensures ok { OnOk result (out.new.items ≡ out.old.items ++ flat_map (path_part message.now env.now) parts.now) }
+    ensures ok { OnOk result
+        (out.new.items ≡ out.old.items ++ flat_map (path_part message.now env.now) parts.now) }
     ensures err { OnErr result (BeginsWith out.old.items out.new.items) }
 {
     for part in parts {
@@ -84,7 +86,8 @@ pub(crate) fn append_path(
     env: &Env,
     out: &mut Vec<u8>,
 ) -> Result<(), AllocError>
-    ensures ok { OnOk result (out.new.items ≡ out.old.items ++ path_of parts.now message.now env.now) }
+    ensures ok { OnOk result
+        (out.new.items ≡ out.old.items ++ path_of parts.now message.now env.now) }
     ensures err { OnErr result (BeginsWith out.old.items out.new.items) }
 {
     let before = out.len();

@@ -56,7 +56,8 @@ impl Template {
 
     /// Appends the template's text over the message. Without memory `out` stays as it was.
     pub fn render(&self, message: &Message, env: &Env, out: &mut Vec<u8>) -> Result<(), AllocError>
-        ensures ok { OnOk result (out.new.items ≡ out.old.items ++ render_of self.now message.now env.now) }
+        ensures ok { OnOk result
+            (out.new.items ≡ out.old.items ++ render_of self.now message.now env.now) }
         ensures err { OnErr result (out.new.items ≡ out.old.items) }
     {
         let before = out.len();
@@ -78,7 +79,8 @@ impl Template {
         env: &Env,
         out: &mut Vec<u8>,
     ) -> Result<(), AllocError>
-        ensures ok { OnOk result (out.new.items ≡ out.old.items ++ path_of self.now message.now env.now) }
+        ensures ok { OnOk result
+            (out.new.items ≡ out.old.items ++ path_of self.now message.now env.now) }
         ensures err { OnErr result (out.new.items ≡ out.old.items) }
     {
         let start = out.len();

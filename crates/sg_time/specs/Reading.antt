@@ -40,7 +40,8 @@ pub data IsZone : List ℕ → ℤ → Type 0 where
 
 -- the local time of the stamp
 abbrev pub IsMoment : Stamp → Date → Time → ℕ → Type 0
-IsMoment stamp date time micros = local_of stamp ≡ ((epoch_day date *ℤ pos 86400 +ℤ pos (time_seconds time)) *ℤ pos 1000000) +ℤ pos micros
+IsMoment stamp date time micros = local_of stamp
+    ≡ ((epoch_day date *ℤ pos 86400 +ℤ pos (time_seconds time)) *ℤ pos 1000000) +ℤ pos micros
 
 -- The text begins with an ISO stamp of so many bytes: a date of the years 1 to 9998, a time of day, a fraction and an offset.
 pub record IsIso (text : List ℕ) (stamp : Stamp) (len : ℕ) : Type 0 where
@@ -65,7 +66,8 @@ IsDay text day = (text ≡ digits 2 day) ⊎ ((day < 10) × (text ≡ codes " " 
 abbrev pub year_by_receipt : LocalTime → ℕ → ℤ
 year_by_receipt received month =
     if (month == 12) && (received.month == 1) then pos received.year -ℤ pos 1
-    else (if (month == 1) && (received.month == 12) then pos received.year +ℤ pos 1 else pos received.year)
+    else (if (month == 1)
+    && (received.month == 12) then pos received.year +ℤ pos 1 else pos received.year)
 
 -- The text begins with a BSD stamp of so many bytes, received at this local time and offset.
 pub record IsBsd (text : List ℕ) (received : LocalTime) (offset : ℤ) (stamp : Stamp) (len : ℕ) : Type 0 where

@@ -16,8 +16,10 @@ use Rattle.sg_top.specs.declared.status.Status.TheVariants.{Ended, SayFault as S
 -- the status of what the check came to, and what is said of that then
 abbrev pub EndsCheck : WorldState → WorldState → Result Unit Unchecked → Status → Type 0
 EndsCheck checked new (Ok done) status = (new ≡ checked) × (status ≡ Ended Clean)
-EndsCheck checked new (Err (Bad fault names)) status = TellsUnloaded checked new (unloaded.Bad fault names) status
-EndsCheck checked new (Err (Unread name)) status = TellsUnloaded checked new (unloaded.Unread name) status
+EndsCheck checked new (Err (Bad fault names)) status = TellsUnloaded checked new
+    (unloaded.Bad fault names) status
+EndsCheck checked new (Err (Unread name)) status = TellsUnloaded checked new (unloaded.Unread name)
+    status
 EndsCheck checked new (Err SayFault) status = (new ≡ checked) × (status ≡ StatusUnsaid)
 EndsCheck checked new (Err NoMemory) status = (new ≡ checked) × (status ≡ StatusNoMemory)
 
@@ -31,7 +33,9 @@ pub record ChecksBy (old checked new : WorldState) (file : List ℕ) (result : R
   pub checks : Checks old checked file result
   pub only : OnlyChecks old checked
   pub ends : EndsCheck checked new result status
-  pub complete : (files : Files) (config : Config) → old.files ≡ Some files → Configures old file config → CanBeCompiled config → IsUntroubled old new → IsComplete status
+  pub complete : (files : Files) (config : Config) → old.files ≡ Some files
+      → Configures old file config → CanBeCompiled config → IsUntroubled old new → IsComplete status
 
 abbrev pub ChecksFile : WorldState → WorldState → List ℕ → Status → Type 0
-ChecksFile old new file status = (checked : WorldState) × ((result : Result Unit Unchecked) × ChecksBy old checked new file result status)
+ChecksFile old new file status = (checked : WorldState)
+    × ((result : Result Unit Unchecked) × ChecksBy old checked new file result status)

@@ -12,6 +12,8 @@ use Rattle.sg_top.specs.declared.status.Status.TheVariants.{BadConfig, ReadFault
 -- nothing
 abbrev pub TellsUnloaded : WorldState → WorldState → Unloaded → Status → Type 0
 TellsUnloaded loaded new (Bad fault names) status =
-    (said : WorldState) × (Concludes loaded said (BadConfig fault) (fault_text_of fault names) status × OnlyReads said new)
-TellsUnloaded loaded new (Unread name) status = Concludes loaded new ReadFault (unread_text_of name) status
+    (said : WorldState) × (
+    Concludes loaded said (BadConfig fault) (fault_text_of fault names) status × OnlyReads said new)
+TellsUnloaded loaded new (Unread name) status = Concludes loaded new ReadFault (unread_text_of name)
+    status
 TellsUnloaded loaded new NoMemory status = (new ≡ loaded) × (status ≡ StatusNoMemory)

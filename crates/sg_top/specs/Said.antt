@@ -28,4 +28,5 @@ SaidText old new text = new.said ≡ option_map (λ said. said ++ text) old.said
 -- This text was said, which gives this status; or it couldn't be said, or memory ran out.
 pub record Concludes (old new : WorldState) (status : Status) (text : List ℕ) (result : Status) : Type 0 where
   pub says : OnlySays old new
-  pub said : ((result ≡ status) × SaidText old new text) ⊎ (((result ≡ SayFault) × Rose old.say_faults new.say_faults) ⊎ (result ≡ NoMemory))
+  pub said : ((result ≡ status) × SaidText old new text)
+      ⊎ (((result ≡ SayFault) × Rose old.say_faults new.say_faults) ⊎ (result ≡ NoMemory))

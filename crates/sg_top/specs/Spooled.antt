@@ -20,4 +20,5 @@ status_listed (Err NoMemory) = StatusNoMemory
 
 -- the store of FILE was listed, and the status is that of how it ended
 abbrev pub SpoolsFile : WorldState → WorldState → List ℕ → Status → Type 0
-SpoolsFile old new file status = (listed : Result Unit Unlisted) × (Spools old new file listed × (status ≡ status_listed listed))
+SpoolsFile old new file status = (listed : Result Unit Unlisted)
+    × (Spools old new file listed × (status ≡ status_listed listed))

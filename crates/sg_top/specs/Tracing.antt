@@ -27,8 +27,10 @@ status_untraced NoMemory = StatusNoMemory
 -- the status of what the trace came to, and what is said of that then
 abbrev pub EndsTrace : WorldState → WorldState → Result Unit Unshown → Status → Type 0
 EndsTrace shown new (Ok done) status = (new ≡ shown) × (status ≡ Ended end.Clean)
-EndsTrace shown new (Err (unshown.Untraced untraced)) status = (new ≡ shown) × (status ≡ status_untraced untraced)
-EndsTrace shown new (Err (unshown.Unloaded unloaded)) status = TellsUnloaded shown new unloaded status
+EndsTrace shown new (Err (unshown.Untraced untraced)) status = (new ≡ shown)
+    × (status ≡ status_untraced untraced)
+EndsTrace shown new (Err (unshown.Unloaded unloaded)) status = TellsUnloaded shown new unloaded
+    status
 
 abbrev pub IsComplete : Status → Type 0
 IsComplete (Ended end.Clean) = Unit {0}
@@ -40,7 +42,11 @@ IsComplete status = ⊥
 pub record TracesTo (old shown new : WorldState) (file source input : List ℕ) (result : Result Unit Unshown) (status : Status) : Type 0 where
   pub traces : TracesFile old shown file source input result
   pub ends : EndsTrace shown new result status
-  pub complete : (files : Files) (config : Config) (i : ℕ) → old.files ≡ Some files → Configures old file config → CanBeCompiled config → first_of 0 source config.inlets.items ≡ Some i → IsUntroubled old new input → IsComplete status
+  pub complete : (files : Files) (config : Config) (i : ℕ) → old.files ≡ Some files
+      → Configures old file config → CanBeCompiled config
+      → first_of 0 source config.inlets.items ≡ Some i → IsUntroubled old new input
+      → IsComplete status
 
 abbrev pub TracesCommand : WorldState → WorldState → List ℕ → List ℕ → List ℕ → Status → Type 0
-TracesCommand old new file source input status = (shown : WorldState) × ((result : Result Unit Unshown) × TracesTo old shown new file source input result status)
+TracesCommand old new file source input status = (shown : WorldState)
+    × ((result : Result Unit Unshown) × TracesTo old shown new file source input result status)

@@ -13,7 +13,8 @@ use std::sync::Wait;
 
 /// Says what a run came to.
 pub(crate) fn tell_outcome<W: World>(alloc: Global, outcome: Outcome, world: &mut W) -> Status
-    ensures { Concludes (W.state world.old) (W.state world.new) (Ended outcome.end) outcome.text.items result }
+    ensures { Concludes (W.state world.old) (W.state world.new) (Ended outcome.end)
+        outcome.text.items result }
 {
     conclude(alloc, Status::Ended(outcome.end), &outcome.text, world)
 }
@@ -29,7 +30,8 @@ pub fn run<T: Wait, W: World>(
 ) -> Status
     requires some { 0 < rounds }
     requires rounds { rounds ≤ 2 ^ 36 }
-    ensures { RunsCommand W.Feed.state W.Drain.state (W.state world.old) (W.state world.new) file.now once rounds result }
+    ensures { RunsCommand W.Feed.state W.Drain.state (W.state world.old) (W.state world.new)
+        file.now once rounds result }
 {
     match run_file(rt, alloc, file, once, rounds, world) {
         Ok(outcome) => tell_outcome(alloc, outcome, world),

@@ -56,7 +56,8 @@ fn tell_fault<W: World>(
     names: &Seq<Name>,
     world: &mut W,
 ) -> Status
-    ensures { Concludes (W.state world.old) (W.state world.new) (BadConfig fault) (fault_text_of fault names.now) result }
+    ensures { Concludes (W.state world.old) (W.state world.new) (BadConfig fault)
+        (fault_text_of fault names.now) result }
 {
     match refusal_text(alloc, fault, names) {
         Ok(text) => conclude(alloc, Status::BadConfig(fault), &text, world),

@@ -25,7 +25,8 @@ use std::sync::Wait;
 /// devices in memory. `--help` says how the program is used, and `--version` which version
 /// it is.
 pub fn daemon<T: Wait, W: World>(rt: &T, alloc: Global, words: &[Name], world: &mut W) -> Status
-    ensures { Answers W.Feed.state W.Drain.state (W.state world.old) (W.state world.new) (asked words.now) result }
+    ensures { Answers W.Feed.state W.Drain.state (W.state world.old) (W.state world.new)
+        (asked words.now) result }
 {
     match command_of(words) {
         Some(Command::Check(file)) => check(alloc, file, world),

@@ -31,7 +31,8 @@ pub fn trace<W: World>(
     input: &[u8],
     world: &mut W,
 ) -> Status
-    ensures { TracesCommand (W.state world.old) (W.state world.new) file.now source.now input.now result }
+    ensures { TracesCommand (W.state world.old) (W.state world.new) file.now source.now input.now
+        result }
 {
     match trace_input(alloc, file, source, input, world) {
         Ok(()) => Status::Ended(End::Clean),

@@ -13,8 +13,10 @@ pub record IsUntroubled (old new : WorldState) (input : List ℕ) : Type 0 where
   pub load : IsLoadedUntroubled old new
   pub opening : ¬ Rose old.inlet_faults new.inlet_faults
   pub say : ¬ Rose old.say_faults new.say_faults
-  pub inlet : (limit : ℕ) (feed : Feed) → new.inlets ≡ read_inlets old.inlets (spec_of input limit) (Some feed)
-      → (¬ Rose feed.opened.faults feed.closed.faults) × (feed.closed.bytes + feed.closed.parts + feed.closed.idles ≤ 2 ^ 36)
+  pub inlet : (limit : ℕ) (feed : Feed)
+      → new.inlets ≡ read_inlets old.inlets (spec_of input limit) (Some feed)
+      → (¬ Rose feed.opened.faults feed.closed.faults)
+      × (feed.closed.bytes + feed.closed.parts + feed.closed.idles ≤ 2 ^ 36)
 
 -- all was said, or memory ran out
 abbrev pub IsComplete : Result Unit Unshown → Type 0

@@ -36,7 +36,8 @@ target_of outlet = record { shape = outlet.shape; env = outlet.env }
 -- how the inlet of a number reads
 abbrev pub IsReader : List InletPlan → ℕ → Reader → Type 0
 IsReader inlets i reader =
-    (inlet : InletPlan) × ((slice_get inlets i ≡ Some inlet) × (reader ≡ record { inlet = i; kind = inlet.kind; limit = inlet.limit }))
+    (inlet : InletPlan) × ((slice_get inlets i ≡ Some inlet)
+    × (reader ≡ record { inlet = i; kind = inlet.kind; limit = inlet.limit }))
 
 -- how the command ends where INPUT was traced so
 abbrev pub shown : Result Unit Untraced → Result Unit Unshown
@@ -48,7 +49,8 @@ pub record TracesInlet (config : Config) (i : ℕ) (loaded new : WorldState) (in
   pub inlet : InletPlan
   pub at : slice_get config.inlets.items i ≡ Some inlet
   pub traced : Result Unit Untraced
-  pub traces : Traces (AreOffers (woods_of config.forest) i) (map target_of config.outlets.items) inlet.kind inlet.limit loaded new input traced
+  pub traces : Traces (AreOffers (woods_of config.forest) i) (map target_of config.outlets.items)
+      inlet.kind inlet.limit loaded new input traced
   pub ends : result ≡ shown traced
 
 -- no source statement of that name has a driver; it has no line
@@ -57,21 +59,25 @@ unknown_source = record { kind = UnknownName; file = 0; line = 0 }
 
 abbrev pub IsUnknown : List ℕ → Result Unit Unshown → Type 0
 IsUnknown file (Ok done) = ⊥
-IsUnknown file (Err (unshown.Unloaded (Bad fault names))) = (fault ≡ unknown_source) × (names ≡ file ∷ [])
+IsUnknown file (Err (unshown.Unloaded (Bad fault names))) = (fault ≡ unknown_source)
+    × (names ≡ file ∷ [])
 IsUnknown file (Err (unshown.Unloaded (Unread name))) = ⊥
 IsUnknown file (Err (unshown.Unloaded NoMemory)) = Unit {0}
 IsUnknown file (Err (unshown.Untraced wrong)) = ⊥
 
 -- the first inlet of the source has this number, or there is none
-abbrev pub TracesSource : Config → List ℕ → Option ℕ → WorldState → WorldState → List ℕ → Result Unit Unshown → Type 0
-TracesSource config file (Some i) loaded new input result = TracesInlet config i loaded new input result
+abbrev pub TracesSource : Config → List ℕ → Option ℕ → WorldState → WorldState → List ℕ
+    → Result Unit Unshown → Type 0
+TracesSource config file (Some i) loaded new input result = TracesInlet config i loaded new input
+    result
 TracesSource config file None loaded new input result = (new ≡ loaded) × IsUnknown file result
 
 -- INPUT was traced through the log paths of the configuration of FILE, as SOURCE's first inlet would take it
 pub record TracesBy (old loaded new : WorldState) (file source input : List ℕ) (result : Result Unit Unshown) : Type 0 where
   pub of_file : Loaded
   pub configured : IsConfigured old file of_file
-  pub traces : TracesSource of_file.config file (first_of 0 source of_file.config.inlets.items) loaded new input result
+  pub traces : TracesSource of_file.config file (first_of 0 source of_file.config.inlets.items)
+      loaded new input result
 
 -- why FILE wasn't loaded, unless memory ran out
 abbrev pub IsLeft : WorldState → WorldState → List ℕ → Result Unit Unshown → Type 0
@@ -84,6 +90,9 @@ IsLeft old loaded file (Err (unshown.Untraced untraced.RoundsSpent)) = ⊥
 IsLeft old loaded file (Err (unshown.Untraced untraced.SayFault)) = ⊥
 
 -- FILE was loaded and INPUT traced; or it wasn't loaded, and nothing else was done
-abbrev pub TracesFile : WorldState → WorldState → List ℕ → List ℕ → List ℕ → Result Unit Unshown → Type 0
+abbrev pub TracesFile : WorldState → WorldState → List ℕ → List ℕ → List ℕ → Result Unit Unshown
+    → Type 0
 TracesFile old new file source input result =
-    (loaded : WorldState) × (OnlyLoads old loaded × (((new ≡ loaded) × IsLeft old loaded file result) ⊎ TracesBy old loaded new file source input result))
+    (loaded : WorldState) × (OnlyLoads old loaded × (
+    ((new ≡ loaded) × IsLeft old loaded file result)
+    ⊎ TracesBy old loaded new file source input result))

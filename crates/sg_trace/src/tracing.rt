@@ -90,7 +90,8 @@ fn trace_source<W: World>(
 ) -> Result<(), Unshown>
     requires within { IsWithin loaded.config }
     requires compiles { Compiles loaded.config loaded.table }
-    ensures { TracesSource loaded.config file.now (first_of 0 source.now loaded.config.inlets.items) (W.state world.old) (W.state world.new) input.now result }
+    ensures { TracesSource loaded.config file.now (first_of 0 source.now loaded.config.inlets.items)
+        (W.state world.old) (W.state world.new) input.now result }
 {
     let Loaded { config, table } = loaded;
     match first_inlet(source, config.inlets.as_slice()) {
@@ -110,7 +111,8 @@ pub fn trace_input<W: World>(
     world: &mut W,
 ) -> Result<(), Unshown>
     // FILE was loaded and INPUT traced, or why not.
-    ensures traces { TracesFile (W.state world.old) (W.state world.new) file.now source.now input.now result }
+    ensures traces { TracesFile (W.state world.old) (W.state world.new) file.now source.now
+        input.now result }
     // A configuration that has the source traces INPUT to its end, where nothing fails and memory is there.
     ensures complete { (files : Files) (config : Meant) (i : ℕ) → (W.state world.old).files ≡ Some files → Configures (W.state world.old) file.now config → CanBeCompiled config
         → first_of 0 source.now config.inlets.items ≡ Some i → IsUntroubled (W.state world.old) (W.state world.new) input.now → IsComplete result }

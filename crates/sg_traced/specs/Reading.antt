@@ -15,7 +15,8 @@ AreTimely (b ∷ bytes) = IsTimely b.1 × AreTimely bytes
 
 -- the only part of an inlet gave these bytes
 abbrev pub HasGiven : InletState → List ℕ → List Stamped → Type 0
-HasGiven feed peer bytes = IfSome feed.told (λ parts. parts ≡ (record { peer = peer; given = bytes }) ∷ [])
+HasGiven feed peer bytes = IfSome feed.told
+    (λ parts. parts ≡ (record { peer = peer; given = bytes }) ∷ [])
 
 -- Of these bytes, which are all that the file gave, these items were taken.
 pub record ReadsSo (kind : FrameKind) (limit : ℕ) (first feed : InletState) (f : Framing) (items : List Item) (bytes : List Stamped) : Type 0 where
@@ -33,4 +34,5 @@ pub record ReadsSo (kind : FrameKind) (limit : ℕ) (first feed : InletState) (f
   pub fewer : length items ≤ f.place
 
 abbrev pub Reads : FrameKind → ℕ → InletState → InletState → Framing → List Item → Type 0
-Reads kind limit first feed f items = (bytes : List Stamped) × ReadsSo kind limit first feed f items bytes
+Reads kind limit first feed f items = (bytes : List Stamped)
+    × ReadsSo kind limit first feed f items bytes

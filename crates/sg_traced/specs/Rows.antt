@@ -35,12 +35,14 @@ offer_text targets number offer =
 
 abbrev pub offers_text : List Target → ℕ → List Offer → List ℕ
 offers_text targets number [] = []
-offers_text targets number (offer ∷ offers) = offer_text targets number offer ++ offers_text targets number offers
+offers_text targets number (offer ∷ offers) = offer_text targets number offer
+    ++ offers_text targets number offers
 
 -- the items of a file, the first with this number
 abbrev pub rows_text : List Target → ℕ → List Row → List ℕ
 rows_text targets number [] = []
-rows_text targets number (row ∷ rows) = offers_text targets number row.offers ++ rows_text targets (number + 1) rows
+rows_text targets number (row ∷ rows) = offers_text targets number row.offers
+    ++ rows_text targets (number + 1) rows
 
 -- which offers a record may have
 abbrev pub Offering : Type 1
@@ -49,7 +51,8 @@ Offering = Record → List Offer → Type 0
 -- each row's offers are those of its record, which came from this peer
 abbrev pub AreOffered : Offering → List ℕ → List Row → Type 0
 AreOffered offering peer [] = Unit {0}
-AreOffered offering peer (row ∷ rows) = offering (record_at peer row.item.text row.item.at) row.offers × AreOffered offering peer rows
+AreOffered offering peer (row ∷ rows) =
+    offering (record_at peer row.item.text row.item.at) row.offers × AreOffered offering peer rows
 
 abbrev pub items_in : List Row → List Item
 items_in rows = map (λ row. row.item) rows

@@ -29,7 +29,8 @@ SaysAll old new text text' (Err InletFault) = ⊥
 SaysAll old new text text' (Err RoundsSpent) = ⊥
 
 -- the same of a call that may say some of it
-abbrev pub SaysSome : WorldState → WorldState → (text text' : List ℕ) → Result Unit Untraced → Type 0
+abbrev pub SaysSome : WorldState → WorldState → (text text' : List ℕ) → Result Unit Untraced
+    → Type 0
 SaysSome old new text text' (Ok done) = SaidSome old new text text'
 SaysSome old new text text' (Err SayFault) = Rose old.say_faults new.say_faults
 SaysSome old new text text' (Err NoMemory) = Unit {0}

@@ -11,7 +11,8 @@ use Rattle.sg_traced.specs.Rows.{Row, Offering, AreOffered, items_in, rows_text}
 
 -- a router that knows as much, and gives no other offers
 pub record SameRouter (offers offers' : ℕ → Record → List Offer → Type 0) (inlets inlets' dests dests' : ℕ) : Type 0 where
-  pub back : (i : ℕ) (of_record : Record) (found : List Offer) → offers' i of_record found → offers i of_record found
+  pub back : (i : ℕ) (of_record : Record) (found : List Offer) → offers' i of_record found
+      → offers i of_record found
   pub inlets_same : inlets' ≡ inlets
   pub dests_same : dests' ≡ dests
 
@@ -51,4 +52,5 @@ pub record IsDone (bad : Bool) (f : Framing) : Type 0 where
   pub bad_count : IsBadIf bad (open_left f)
 
 abbrev pub TakesAll : Offering → List Target → List ℕ → Tracer → Tracer → Bool → Type 0
-TakesAll offering targets peer old new bad = Takes offering targets peer old new × IsDone bad new.framer
+TakesAll offering targets peer old new bad = Takes offering targets peer old new
+    × IsDone bad new.framer

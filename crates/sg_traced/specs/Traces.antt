@@ -29,11 +29,16 @@ pub record AreWhole (kind : FrameKind) (limit : ℕ) (first feed : InletState) (
   pub items : items_of kind limit bytes ≡ items_in rows
 
 -- when each answer comes, behind these rows; want of memory is free
-abbrev pub TraceEnds : FrameKind → ℕ → InletState → InletState → WorldState → WorldState → List Row → Result Unit Untraced → Type 0
+abbrev pub TraceEnds : FrameKind → ℕ → InletState → InletState → WorldState → WorldState → List Row
+    → Result Unit Untraced → Type 0
 TraceEnds kind limit first feed world world' rows (Ok done) = AreAll kind limit first feed rows
-TraceEnds kind limit first feed world world' rows (Err InletFault) = AreWhole kind limit first feed rows × Rose first.faults feed.faults
-TraceEnds kind limit first feed world world' rows (Err RoundsSpent) = AreWhole kind limit first feed rows × (feed.pulls ≡ 2 ^ 36) × (feed.ended ≡ false) × (2 ^ 36 < feed.bytes + feed.parts + feed.idles)
-TraceEnds kind limit first feed world world' rows (Err SayFault) = Rose world.say_faults world'.say_faults
+TraceEnds kind limit first feed world world' rows (Err InletFault) =
+    AreWhole kind limit first feed rows × Rose first.faults feed.faults
+TraceEnds kind limit first feed world world' rows (Err RoundsSpent) =
+    AreWhole kind limit first feed rows × (feed.pulls ≡ 2 ^ 36) × (feed.ended ≡ false)
+    × (2 ^ 36 < feed.bytes + feed.parts + feed.idles)
+TraceEnds kind limit first feed world world' rows (Err SayFault) = Rose world.say_faults
+    world'.say_faults
 TraceEnds kind limit first feed world world' rows (Err NoMemory) = Unit {0}
 TraceEnds kind limit first feed world world' rows (Err NotOpened) = ⊥
 
@@ -54,9 +59,11 @@ pub record TracesOpen (offering : Offering) (targets : List Target) (kind : Fram
   pub said : UnlessUnsaid result (SaidSome world world' (rows_text targets 0 rows) text)
   pub ends : TraceEnds kind limit first feed world world' rows result
 
-abbrev pub TracesTo : Offering → List Target → FrameKind → ℕ → InletState → InletState → WorldState → WorldState → List ℕ → Result Unit Untraced → Type 0
+abbrev pub TracesTo : Offering → List Target → FrameKind → ℕ → InletState → InletState → WorldState
+    → WorldState → List ℕ → Result Unit Untraced → Type 0
 TracesTo offering targets kind limit first feed world world' text result =
-    (rows : List Row) × TracesOpen offering targets kind limit first feed world world' text result rows
+    (rows : List Row)
+    × TracesOpen offering targets kind limit first feed world world' text result rows
 
 -- what is said behind the rows
 abbrev pub end_text : Result Unit Untraced → List ℕ
@@ -83,7 +90,8 @@ abbrev pub spec_of : List ℕ → ℕ → InletSpec
 spec_of input limit = File input true limit
 
 -- the ledger with that inlet opened and closed, where it was
-abbrev pub read_inlets : Ledger InletSpec InletState → InletSpec → Option Feed → Ledger InletSpec InletState
+abbrev pub read_inlets : Ledger InletSpec InletState → InletSpec → Option Feed
+    → Ledger InletSpec InletState
 read_inlets ledger spec None = ledger
 read_inlets ledger spec (Some feed) = with_closed (with_opened ledger spec feed.opened) feed.closed
 
@@ -92,10 +100,13 @@ IfOpened None P = Unit {0}
 IfOpened (Some feed) P = P feed
 
 -- when each answer comes
-abbrev pub HasCause : FrameKind → ℕ → WorldState → WorldState → Option Feed → List Row → Result Unit Untraced → Type 0
-HasCause kind limit old new (Some feed) rows result = TraceEnds kind limit feed.opened feed.closed old new rows result
+abbrev pub HasCause : FrameKind → ℕ → WorldState → WorldState → Option Feed → List Row
+    → Result Unit Untraced → Type 0
+HasCause kind limit old new (Some feed) rows result = TraceEnds kind limit feed.opened feed.closed
+    old new rows result
 HasCause kind limit old new None rows (Ok done) = ⊥
-HasCause kind limit old new None rows (Err NotOpened) = (rows ≡ []) × Rose old.inlet_faults new.inlet_faults
+HasCause kind limit old new None rows (Err NotOpened) = (rows ≡ [])
+    × Rose old.inlet_faults new.inlet_faults
 HasCause kind limit old new None rows (Err InletFault) = ⊥
 HasCause kind limit old new None rows (Err RoundsSpent) = ⊥
 HasCause kind limit old new None rows (Err SayFault) = Rose old.say_faults new.say_faults
@@ -105,7 +116,8 @@ HasCause kind limit old new None rows (Err NoMemory) = Unit {0}
 pub record IsUntroubled (old new : WorldState) (feed : Option Feed) : Type 0 where
   pub opening : ¬ Rose old.inlet_faults new.inlet_faults
   pub say : ¬ Rose old.say_faults new.say_faults
-  pub inlet : IfOpened feed (λ f. (¬ Rose f.opened.faults f.closed.faults) × (f.closed.bytes + f.closed.parts + f.closed.idles ≤ 2 ^ 36))
+  pub inlet : IfOpened feed (λ f. (¬ Rose f.opened.faults f.closed.faults)
+      × (f.closed.bytes + f.closed.parts + f.closed.idles ≤ 2 ^ 36))
 
 -- all was said, or memory ran out
 abbrev pub IsComplete : Result Unit Untraced → Type 0
@@ -119,10 +131,12 @@ IsComplete (Err SayFault) = ⊥
 -- the file was traced up to these rows
 pub record TracesBy (offering : Offering) (targets : List Target) (kind : FrameKind) (limit : ℕ) (old new : WorldState) (input : List ℕ) (result : Result Unit Untraced) (feed : Option Feed) (rows : List Row) : Type 0 where
   -- nothing but that file was opened, and it was closed
-  pub state : new ≡ record old { inlets = read_inlets old.inlets (spec_of input limit) feed; inlet_faults = new.inlet_faults; say_faults = new.say_faults; said = new.said }
+  pub state : new ≡ record old
+      { inlets = read_inlets old.inlets (spec_of input limit) feed; inlet_faults = new.inlet_faults; say_faults = new.say_faults; said = new.said }
   pub inlet_later : old.inlet_faults ≤ new.inlet_faults
   pub say_later : old.say_faults ≤ new.say_faults
-  pub begun : IfOpened feed (λ f. IsFresh f.opened × StandsIn old.files (spec_of input limit) 0 f.opened)
+  pub begun : IfOpened feed
+      (λ f. IsFresh f.opened × StandsIn old.files (spec_of input limit) 0 f.opened)
   -- the offers said are those of the records, each record alone
   pub offered : IfOpened feed (λ f. AreOffered offering f.opened.peer rows)
   pub cause : HasCause kind limit old new feed rows result
@@ -130,6 +144,8 @@ pub record TracesBy (offering : Offering) (targets : List Target) (kind : FrameK
   -- no trouble gives success, where memory is there
   pub complete : IsUntroubled old new feed → IsComplete result
 
-abbrev pub Traces : Offering → List Target → FrameKind → ℕ → WorldState → WorldState → List ℕ → Result Unit Untraced → Type 0
+abbrev pub Traces : Offering → List Target → FrameKind → ℕ → WorldState → WorldState → List ℕ
+    → Result Unit Untraced → Type 0
 Traces offering targets kind limit old new input result =
-    (feed : Option Feed) × ((rows : List Row) × TracesBy offering targets kind limit old new input result feed rows)
+    (feed : Option Feed)
+    × ((rows : List Row) × TracesBy offering targets kind limit old new input result feed rows)

@@ -32,6 +32,8 @@ pub record TracedSo (offering : Offering) (targets : List Target) (kind : FrameK
   pub says : OnlySays world world'
   pub said : SaidSome world world' (rows_text targets 0 rows) tracer.text.items
 
-abbrev pub IsTracing : Offering → List Target → FrameKind → ℕ → InletState → InletState → WorldState → WorldState → Tracer → ℕ → Type 0
+abbrev pub IsTracing : Offering → List Target → FrameKind → ℕ → InletState → InletState → WorldState
+    → WorldState → Tracer → ℕ → Type 0
 IsTracing offering targets kind limit first feed world world' tracer pulls =
-    (rows : List Row) × TracedSo offering targets kind limit first feed world world' tracer pulls rows
+    (rows : List Row)
+    × TracedSo offering targets kind limit first feed world world' tracer pulls rows

@@ -70,7 +70,8 @@ pub fn trace_file<W: World, R: Router>(
     requires inlet { reader.inlet < R.inlets router.old }
     requires dests { R.dests router.old ≡ length targets.now }
     requires limit { 0 < reader.limit }
-    ensures { Traces (R.offers router.old reader.inlet) targets.now reader.kind reader.limit (W.state world.old) (W.state world.new) input.now result }
+    ensures { Traces (R.offers router.old reader.inlet) targets.now reader.kind reader.limit
+        (W.state world.old) (W.state world.new) input.now result }
 {
     let spec = InletSpec::File {
         path: Name::new(alloc, input)?,

@@ -36,7 +36,8 @@ fn append_line(
 // Puts what the offer's destination sends for it in the place of what the buffer had.
 fn fill_frame(offer: &Offer, targets: &[Target], bytes: &mut Vec<u8>) -> Result<(), NoMemory>
     requires { offer.now.dest < length targets.now }
-    ensures { OnOk result (bytes.new.items ≡ frame_by (slice_get targets.now offer.now.dest) offer.now) }
+    ensures { OnOk result
+        (bytes.new.items ≡ frame_by (slice_get targets.now offer.now.dest) offer.now) }
 {
     bytes.clear();
     let target = &targets[offer.dest as usize];
@@ -53,7 +54,8 @@ fn append_offer(
     text: &mut Vec<u8>,
 ) -> Result<(), NoMemory>
     requires { offer.now.dest < length targets.now }
-    ensures { OnOk result (text.new.items ≡ text.old.items ++ offer_text targets.now number offer.now) }
+    ensures { OnOk result
+        (text.new.items ≡ text.old.items ++ offer_text targets.now number offer.now) }
 {
     fill_frame(offer, targets, bytes)?;
     append_line(alloc, number, offer.dest, offer.flow, bytes.len(), text)?;
@@ -72,7 +74,8 @@ pub(crate) fn append_offers(
     text: &mut Vec<u8>,
 ) -> Result<(), NoMemory>
     requires { AllWithin (length targets.now) offers.now }
-    ensures { OnOk result (text.new.items ≡ text.old.items ++ offers_text targets.now number offers.now) }
+    ensures { OnOk result
+        (text.new.items ≡ text.old.items ++ offers_text targets.now number offers.now) }
 {
     for offer in offers {
         append_offer(alloc, number, offer, targets, bytes, text)?;

@@ -16,7 +16,8 @@ pub(crate) fn say<W: World>(
     world: &mut W,
 ) -> Result<(), Untraced>
     ensures says { OnlySays (W.state world.old) (W.state world.new) }
-    ensures all { SaysAll (W.state world.old) (W.state world.new) text.old.items text.new.items result }
+    ensures all { SaysAll (W.state world.old) (W.state world.new) text.old.items text.new.items
+        result }
 {
     match world.say(alloc, text) {
         Ok(()) => {
@@ -35,7 +36,8 @@ pub(crate) fn say_piece<W: World>(
     world: &mut W,
 ) -> Result<(), Untraced>
     ensures says { OnlySays (W.state world.old) (W.state world.new) }
-    ensures some { SaysSome (W.state world.old) (W.state world.new) text.old.items text.new.items result }
+    ensures some { SaysSome (W.state world.old) (W.state world.new) text.old.items text.new.items
+        result }
 {
     if text.len() < PIECE {
         return Ok(());

@@ -32,8 +32,10 @@ fn trace_record<R: Router>(
     requires moment { (pos 0 ≤ℤ at) × (at ≤ℤ pos 250_000_000_000_000_000) }
     ensures traced { OnOk result ((offers : List AnOffer) × (R.offers router.old inlet (record_at peer.now item at) offers
         × (tracer.new.text.items ≡ tracer.old.text.items ++ offers_text targets.now tracer.old.number offers))) }
-    ensures rest { (tracer.new.framer ≡ tracer.old.framer) × (tracer.new.number ≡ tracer.old.number) }
-    ensures router { SameRouter (R.offers router.old) (R.offers router.new) (R.inlets router.old) (R.inlets router.new) (R.dests router.old) (R.dests router.new) }
+    ensures rest { (tracer.new.framer ≡ tracer.old.framer)
+        × (tracer.new.number ≡ tracer.old.number) }
+    ensures router { SameRouter (R.offers router.old) (R.offers router.new) (R.inlets router.old)
+        (R.inlets router.new) (R.dests router.old) (R.dests router.new) }
 {
     let offers = router.route(alloc, inlet, item, at, peer)?;
     let number = tracer.number;
@@ -63,8 +65,10 @@ pub(crate) fn take_items<R: Router>(
     requires timely { AreTimely tracer.old.framer.held }
     requires room { tracer.old.number ≤ tracer.old.framer.place }
     requires range { fed tracer.old.framer < 2 ^ 63 }
-    ensures takes { IfOk result (TakesAll (R.offers router.old reader.inlet) targets.now peer.now tracer.old tracer.new) }
-    ensures router { SameRouter (R.offers router.old) (R.offers router.new) (R.inlets router.old) (R.inlets router.new) (R.dests router.old) (R.dests router.new) }
+    ensures takes { IfOk result
+        (TakesAll (R.offers router.old reader.inlet) targets.now peer.now tracer.old tracer.new) }
+    ensures router { SameRouter (R.offers router.old) (R.offers router.new) (R.inlets router.old)
+        (R.inlets router.new) (R.dests router.old) (R.dests router.new) }
 {
     'items: for _item in 0..u64::MAX {
         match tracer.framer.next()? {

@@ -32,7 +32,8 @@ pub(crate) fn make_buffer(alloc: Global) -> Result<Vec<u8>, NoMemory>
 
 pub(crate) fn make_tracer(alloc: Global, reader: Reader) -> Result<Tracer, NoMemory>
     requires { 0 < reader.limit }
-    ensures { IfOk result (λ tracer. (tracer.framer ≡ fresh reader.kind reader.limit) × (tracer.number ≡ 0) × (tracer.text.items ≡ [])) }
+    ensures { IfOk result (λ tracer. (tracer.framer ≡ fresh reader.kind reader.limit)
+        × (tracer.number ≡ 0) × (tracer.text.items ≡ [])) }
 {
     Ok(Tracer {
         framer: Framer::new(alloc, reader.kind, reader.limit)?,
@@ -83,8 +84,11 @@ pub(crate) fn trace_opened<W: World, R: Router>(
     requires inlet { reader.inlet < R.inlets router.old }
     requires dests { R.dests router.old ≡ length targets.now }
     requires begun { IsBegun reader.kind reader.limit (W.Feed.state feed.old) tracer.old }
-    ensures traces { TracesTo (R.offers router.old reader.inlet) targets.now reader.kind reader.limit (W.Feed.state feed.old) (W.Feed.state feed.new) (W.state world.old) (W.state world.new) tracer.new.text.items result }
-    ensures router { SameRouter (R.offers router.old) (R.offers router.new) (R.inlets router.old) (R.inlets router.new) (R.dests router.old) (R.dests router.new) }
+    ensures traces { TracesTo (R.offers router.old reader.inlet) targets.now reader.kind
+        reader.limit (W.Feed.state feed.old) (W.Feed.state feed.new) (W.state world.old)
+        (W.state world.new) tracer.new.text.items result }
+    ensures router { SameRouter (R.offers router.old) (R.offers router.new) (R.inlets router.old)
+        (R.inlets router.new) (R.dests router.old) (R.dests router.new) }
 {
     for _pull in 0..PULLS {
         if pull_once(feed, &mut tracer.framer, buffer)? {

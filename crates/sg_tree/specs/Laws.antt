@@ -43,8 +43,10 @@ AllFlow (offer ∷ offers) = (offer.flow ≡ true) × AllFlow offers
 -- where each destination that is named is there, each offer goes to one
 abbrev pub OffersAreWithin : Type 0
 OffersAreWithin = (woods : Woods) (i : ℕ) (of_record : Record) (offers : List Offer)
-    → TopsStayWithin woods.dests woods.tops → AreOffers woods i of_record offers → AllWithin woods.dests offers
+    → TopsStayWithin woods.dests woods.tops → AreOffers woods i of_record offers
+    → AllWithin woods.dests offers
 
 -- what flows into siblings stays flow-controlled in all of them
 abbrev pub FlowIsInherited : Type 0
-FlowIsInherited = (siblings : Siblings) (message : Content) → AllFlow (branches siblings message true).deliveries
+FlowIsInherited = (siblings : Siblings) (message : Content)
+    → AllFlow (branches siblings message true).deliveries

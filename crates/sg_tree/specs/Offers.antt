@@ -58,9 +58,12 @@ is_skipped inlet text = is_empty text && not inlet.empty_lines
 abbrev pub AreOffersUnless : Bool → Woods → Inlet → ℕ → Record → List Offer → Type 0
 AreOffersUnless true woods inlet i of_record offers = offers ≡ []
 AreOffersUnless false woods inlet i of_record offers =
-    (message : Content) × (IsReading inlet of_record.item.text of_record.item.at of_record.peer message × (offers ≡ deliveries_of woods i message))
+    (message : Content) × (
+    IsReading inlet of_record.item.text of_record.item.at of_record.peer message
+    × (offers ≡ deliveries_of woods i message))
 
 -- the offers for a record of the inlet of this number
 abbrev pub AreOffers : Woods → ℕ → Record → List Offer → Type 0
 AreOffers woods i of_record offers =
-    (inlet : Inlet) × ((slice_get woods.inlets i ≡ Some inlet) × AreOffersUnless (is_skipped inlet of_record.item.text) woods inlet i of_record offers)
+    (inlet : Inlet) × ((slice_get woods.inlets i ≡ Some inlet)
+    × AreOffersUnless (is_skipped inlet of_record.item.text) woods inlet i of_record offers)

@@ -19,12 +19,14 @@ inlet_of rule = record { opts = rule.opts; rfc5424 = rule.rfc5424; empty_lines =
 -- the tags set, one after another
 abbrev pub with_tags : List (List ℕ) → Content → Content
 with_tags [] content = content
-with_tags (tag ∷ tags) content = with_tags tags (record content { tags = with_tag tag content.tags })
+with_tags (tag ∷ tags) content = with_tags tags
+    (record content { tags = with_tag tag content.tags })
 
 -- a record of RFC 5424 has its message, and one that isn't so the message that says that
 abbrev pub Reads5424 : List ℕ → ℤ → List ℕ → ReadOpts → Content → Type 0
 Reads5424 item at peer opts content =
-    Is5424 item at peer opts content ⊎ (((other : Content) → ¬ Is5424 item at peer opts other) × (content ≡ refusal item at peer opts))
+    Is5424 item at peer opts content ⊎
+    (((other : Content) → ¬ Is5424 item at peer opts other) × (content ≡ refusal item at peer opts))
 
 abbrev pub ReadsBy : Bool → List ℕ → ℤ → List ℕ → ReadOpts → Content → Type 0
 ReadsBy true item at peer opts content = Reads5424 item at peer opts content
@@ -33,4 +35,5 @@ ReadsBy false item at peer opts content = Read3164 item at peer opts content
 -- what is read has the inlet's tags
 abbrev pub IsReading : Inlet → List ℕ → ℤ → List ℕ → Content → Type 0
 IsReading inlet item at peer content =
-    (plain : Content) × (ReadsBy inlet.rfc5424 item at peer inlet.opts plain × (content ≡ with_tags inlet.tags plain))
+    (plain : Content)
+    × (ReadsBy inlet.rfc5424 item at peer inlet.opts plain × (content ≡ with_tags inlet.tags plain))

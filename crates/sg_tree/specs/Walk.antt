@@ -98,7 +98,8 @@ abbrev mutual
   round no_siblings late m f = stopped
   round (sibling marks steps more) late m f =
       if is_in_round late marks
-      then up_to_final marks.is_final (counted marks (walk steps m (f || marks.flow))) (round more late m f)
+      then up_to_final marks.is_final (counted marks (walk steps m (f || marks.flow)))
+      (round more late m f)
       else round more late m f
 
   -- the first branch whose condition holds

@@ -14,7 +14,8 @@ pub(crate) struct Gone {
 impl Gone {
     /// What the other left too.
     pub(crate) fn join(&mut self, other: Gone) -> Result<(), AllocError>
-        ensures { OnOk result ((self.new.out.items ≡ self.old.out.items ++ other.out.items) × (self.new.processed ≡ (self.old.processed || other.processed))) }
+        ensures { OnOk result ((self.new.out.items ≡ self.old.out.items ++ other.out.items)
+            × (self.new.processed ≡ (self.old.processed || other.processed))) }
     {
         let mut other = other;
         self.out.append(&mut other.out)?;

@@ -27,7 +27,8 @@ impl Path {
 
     /// Whether a round over the statements that are offered the inlet's messages walks this one.
     fn takes_part(&self, inlet: u32, late: bool) -> bool
-        ensures { (named : List AnExpr) → result ≡ (is_offered inlet (top_view named self.now) && is_in_round late (marks self.now)) }
+        ensures { (named : List AnExpr) → result
+            ≡ (is_offered inlet (top_view named self.now) && is_in_round late (marks self.now)) }
     {
         self.is_offered(inlet) & (self.fallback == late)
     }
@@ -43,7 +44,8 @@ fn round_of_tops<B: Builder>(
     message: &Message,
     offers: &mut Vec<Offer>,
 ) -> Result<Gone, PathRefusal>
-    ensures { IfOk result (λ gone. Gives offers.old.items offers.new.items gone (round (offered inlet (map (top_view named.now) paths.now)) late message.now false)) }
+    ensures { IfOk result (λ gone. Gives offers.old.items offers.new.items gone
+        (round (offered inlet (map (top_view named.now) paths.now)) late message.now false)) }
 {
     let mut gone = Gone {
         out: Vec::new(alloc),
@@ -70,7 +72,8 @@ fn offers_of<B: Builder>(
     inlet: u32,
     message: &Message,
 ) -> Result<Vec<Offer>, PathRefusal>
-    ensures { IfOk result (λ offers. offers.items ≡ deliveries_of (woods_of forest.now) inlet message.now) }
+    ensures { IfOk result
+        (λ offers. offers.items ≡ deliveries_of (woods_of forest.now) inlet message.now) }
 {
     let mut offers = Vec::new(alloc);
     let named = forest.filters.as_slice();
@@ -131,7 +134,8 @@ pub fn offers_plain<B: Builder>(
 ) -> Result<Vec<Offer>, PathRefusal>
     requires inlet { inlet < length forest.now.inlets.items }
     requires moment { (pos 0 ≤ℤ at) × (at ≤ℤ pos 250_000_000_000_000_000) }
-    ensures { IfOk result (λ offers. AreOffers (woods_of forest.now) inlet (record_at peer.now item at) offers.items) }
+    ensures { IfOk result (λ offers. AreOffers (woods_of forest.now) inlet
+        (record_at peer.now item at) offers.items) }
 {
     let rule = rule_at(forest, inlet);
     if is_skipped(rule, item.as_slice()) {

@@ -34,7 +34,8 @@ pub fn deliver(
     flow: bool,
     offers: &mut Vec<Offer>,
 ) -> Result<(), AllocError>
-    ensures { OnOk result (offers.new.items ≡ offers.old.items ++ deliveries_to drivers.now message.now flow) }
+    ensures { OnOk result
+        (offers.new.items ≡ offers.old.items ++ deliveries_to drivers.now message.now flow) }
 {
     for dest in drivers {
         let offer = Offer {
@@ -66,7 +67,8 @@ fn walk<B: Builder>(
     flow: bool,
     offers: &mut Vec<Offer>,
 ) -> Result<Gone, PathRefusal>
-    ensures { IfOk result (λ gone. Gives offers.old.items offers.new.items gone (walk (steps_view named.now elements.now embedded.now) message flow)) }
+    ensures { IfOk result (λ gone. Gives offers.old.items offers.new.items gone
+        (walk (steps_view named.now elements.now embedded.now) message flow)) }
 {
     let mut message = message;
     for at in 0..elements.len() {
@@ -167,7 +169,8 @@ fn branches<B: Builder>(
     flow: bool,
     offers: &mut Vec<Offer>,
 ) -> Result<Gone, PathRefusal>
-    ensures { IfOk result (λ gone. Gives offers.old.items offers.new.items gone (branches (siblings_view named.now siblings.now) message.now flow)) }
+    ensures { IfOk result (λ gone. Gives offers.old.items offers.new.items gone
+        (branches (siblings_view named.now siblings.now) message.now flow)) }
 {
     let mut first = round(
         alloc, builder, named, siblings, false, message, flow, offers,
@@ -190,7 +193,8 @@ fn round<B: Builder>(
     flow: bool,
     offers: &mut Vec<Offer>,
 ) -> Result<Gone, PathRefusal>
-    ensures { IfOk result (λ gone. Gives offers.old.items offers.new.items gone (round (siblings_view named.now siblings.now) late message.now flow)) }
+    ensures { IfOk result (λ gone. Gives offers.old.items offers.new.items gone
+        (round (siblings_view named.now siblings.now) late message.now flow)) }
 {
     let mut gone = Gone {
         out: Vec::new(alloc),
@@ -250,7 +254,8 @@ fn choose<B: Builder>(
     flow: bool,
     offers: &mut Vec<Offer>,
 ) -> Result<Gone, PathRefusal>
-    ensures { IfOk result (λ gone. Gives offers.old.items offers.new.items gone (chosen (choice_view named.now tests.now other.now) message flow)) }
+    ensures { IfOk result (λ gone. Gives offers.old.items offers.new.items gone
+        (chosen (choice_view named.now tests.now other.now) message flow)) }
 {
     for branch in tests {
         if holds(alloc, builder, &branch.0, named, &message)? {

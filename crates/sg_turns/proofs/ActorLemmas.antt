@@ -142,7 +142,7 @@ fits-as setup setup' spec spec' i i' d d' a b c e h =
     subst (λ x. FitsSource setup' spec' i' x) (sym e) (subst (λ x. FitsSource setup' spec' x d) (sym c)
     (subst (λ x. FitsSource setup' x i d) (sym b) (subst (λ x. FitsSource x spec i d) (sym a) h)))
 
-source-again : {R I : Type 0} (state : I → InletState) (offers : R → ℕ → Record → List Offer → Type 0) (inlets dests : R → ℕ) (setup setup' : Setup) (i : ℕ) (a b : SourceActor R I) (turn : Turn)
+pub source-again : {R I : Type 0} (state : I → InletState) (offers : R → ℕ → Record → List Offer → Type 0) (inlets dests : R → ℕ) (setup setup' : Setup) (i : ℕ) (a b : SourceActor R I) (turn : Turn)
     → setup' ≡ setup → IsSource state inlets dests setup i a → SourceTakes state offers inlets dests a b turn → IsSource state inlets dests setup' i b
 source-again state offers inlets dests setup setup' i a b turn is h k = record {
   number = ap (λ (s : SourceSpec). s.inlet) k.spec ∙ h.number;
@@ -164,7 +164,7 @@ sources-again state offers inlets dests setup setup' step counter counter' old n
       source-again state offers inlets dests setup setup' i a.0 b (turn i) is (h.each i a.0 a.1) (k.each i a.0 b below a.1 after));
 }
 
-dest-failures : (cause : Option GivenUp) (spec : DestSpec) (x y : DestState) (turn : Turn) → HasFailures x.outage x.drain
+pub dest-failures : (cause : Option GivenUp) (spec : DestSpec) (x y : DestState) (turn : Turn) → HasFailures x.outage x.drain
     → SendsBy cause spec x y turn → HasFailures y.outage y.drain
 dest-failures None spec x y turn h (taken, (refused, k)) = k.failures
 dest-failures (Some cause) spec x y turn h k = subst (λ o. HasFailures o y.drain) (sym k.1.outage_stays) (subst (λ d. HasFailures x.outage d) (sym k.1.drain_stays) h)

@@ -30,7 +30,7 @@ source-not i d e = let wrong : OfSource i ≡ OfDest d = e in cc
 dest-not : (d i : ℕ) → OfDest d ≡ OfSource i → ⊥
 dest-not d i e = let wrong : OfDest d ≡ OfSource i = e in cc
 
-actor-as : (n m n' m' : ℕ) (who : Caller) → n ≡ n' → m ≡ m' → IsActor n m who → IsActor n' m' who
+pub actor-as : (n m n' m' : ℕ) (who : Caller) → n ≡ n' → m ≡ m' → IsActor n m who → IsActor n' m' who
 actor-as n m n' m' who e q h = subst (λ k. IsActor k m' who) e (subst (λ k. IsActor n k who) q h)
 
 -- A round of its two parts.
@@ -49,7 +49,7 @@ fed-of : (n m : ℕ) (f g : ℕ → Turn) (read sent : Round) → TellsRound (λ
 fed-of n m f g read sent h k a b (OfSource i) below = h.fed a i below
 fed-of n m f g read sent h k a b (OfDest d) below = k.fed b d below
 
-tells-of : (n m : ℕ) (f g : ℕ → Turn) (read sent : Round) → TellsRound (λ i. i < n) f read → TellsRound (λ d. d < m) g sent
+pub tells-of : (n m : ℕ) (f g : ℕ → Turn) (read sent : Round) → TellsRound (λ i. i < n) f read → TellsRound (λ d. d < m) g sent
     → TellsRound (IsActor n m) (turn-of f g) (both read sent)
 tells-of n m f g read sent h k = record {
   busy = (λ b. elim (or_cases read.busy sent.busy b) [

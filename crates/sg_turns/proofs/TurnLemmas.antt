@@ -32,11 +32,11 @@ any-makes (e ∷ es) = (tt, tt, any-makes es)
 pub calls-append : (who : Caller) (xs ys : List Exchange) → calls_by who (xs ++ ys) ≡ calls_by who xs ++ calls_by who ys
 calls-append who xs ys = filter-append (λ exchange. same_caller who (caller_of exchange.call)) xs ys
 
-same-self : (who : Caller) → same_caller who who ≡ true
+pub same-self : (who : Caller) → same_caller who who ≡ true
 same-self (OfSource i) = eq-eqb i i refl
 same-self (OfDest d) = eq-eqb d d refl
 
-other-caller : (who c : Caller) → (c ≡ who → ⊥) → same_caller c who ≡ false
+pub other-caller : (who c : Caller) → (c ≡ who → ⊥) → same_caller c who ≡ false
 other-caller (OfSource i) (OfSource j) h = ne_eqb j i (λ e. h (ap OfSource e))
 other-caller (OfSource i) (OfDest d) h = refl
 other-caller (OfDest d) (OfSource i) h = refl

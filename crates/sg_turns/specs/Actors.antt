@@ -29,7 +29,8 @@ pub record IsSource {R I : Type 0} (state : I → InletState) (inlets dests : R 
 -- the sources of a core, each at the place of its number
 pub record AreSources {R I : Type 0} (state : I → InletState) (inlets dests : R → ℕ) (setup : Setup) (actors : List (SourceActor R I)) : Type 0 where
   pub all : length actors ≡ length setup.sources
-  pub each : (i : ℕ) (a : SourceActor R I) → slice_get actors i ≡ Some a → IsSource state inlets dests setup i a
+  pub each : (i : ℕ) (a : SourceActor R I) → slice_get actors i ≡ Some a
+      → IsSource state inlets dests setup i a
 
 -- the destination of this number, ready for a turn
 pub record IsDest {O : Type 0} (state : O → OutletState) (d : ℕ) (a : DestActor O) : Type 0 where
@@ -43,14 +44,18 @@ pub record AreDests {O : Type 0} (state : O → OutletState) (setup : Setup) (ac
 
 -- a source before and after a turn
 pub record SourceTakes {R I : Type 0} (state : I → InletState) (offers : R → ℕ → Record → List Offer → Type 0) (inlets dests : R → ℕ) (old new : SourceActor R I) (turn : Turn) : Type 0 where
-  pub turns : SourceTurns (offers old.router) (dests old.router) old.spec (source_seen state old) (source_seen state new) turn
-  pub router : SameRouter (offers old.router) (offers new.router) (inlets old.router) (inlets new.router) (dests old.router) (dests new.router)
+  pub turns : SourceTurns (offers old.router) (dests old.router) old.spec (source_seen state old)
+      (source_seen state new) turn
+  pub router : SameRouter (offers old.router) (offers new.router) (inlets old.router)
+      (inlets new.router) (dests old.router) (dests new.router)
   pub spec : new.spec ≡ old.spec
 
 -- a source before and after these turns
 pub record SourceTook {R I : Type 0} (state : I → InletState) (offers : R → ℕ → Record → List Offer → Type 0) (inlets dests : R → ℕ) (old new : SourceActor R I) (turns : List Turn) : Type 0 where
-  pub took : TookTurns (offers old.router) (dests old.router) old.spec (source_seen state old) (source_seen state new) turns
-  pub router : SameRouter (offers old.router) (offers new.router) (inlets old.router) (inlets new.router) (dests old.router) (dests new.router)
+  pub took : TookTurns (offers old.router) (dests old.router) old.spec (source_seen state old)
+      (source_seen state new) turns
+  pub router : SameRouter (offers old.router) (offers new.router) (inlets old.router)
+      (inlets new.router) (dests old.router) (dests new.router)
   pub spec : new.spec ≡ old.spec
 
 -- a destination before and after a turn

@@ -12,20 +12,25 @@ use Rattle.sg_turns.specs.Turns.{Turn, TookTurns, DestState, SentTurns}
 use Rattle.sg_turns.specs.Serving.{busy_of}
 
 -- a pull that failed isn't forgotten, and let the inlet's count of faults rise
-abbrev pub SourceFails : (ℕ → Record → List Offer → Type 0) → ℕ → SourceSpec → ActorState → ActorState → List Turn → Type 0
+abbrev pub SourceFails : (ℕ → Record → List Offer → Type 0) → ℕ → SourceSpec → ActorState
+    → ActorState → List Turn → Type 0
 SourceFails offers dests spec old new turns =
-    TookTurns offers dests spec old new turns → Fails old.source.reader.failed new.source.reader.failed old.source.feed.faults new.source.feed.faults
+    TookTurns offers dests spec old new turns → Fails old.source.reader.failed
+    new.source.reader.failed old.source.feed.faults new.source.feed.faults
 
 -- where a destination is given up for its outlet, three sends or reopenings failed since it took a frame last
 abbrev pub HasFailed : DestSpec → DestState → Type 0
 HasFailed spec s = s.outage.given_up ≡ Some Outlet → (spec.gives_up ≡ true) × (3 ≤ s.drain.failing)
 
 abbrev pub DestFails : DestSpec → DestState → DestState → List Turn → Type 0
-DestFails spec old new turns = SentTurns spec old new turns → HasFailed spec old → HasFailed spec new
+DestFails spec old new turns = SentTurns spec old new turns → HasFailed spec old
+    → HasFailed spec new
 
 -- Each turn of a destination that did something or was idle took a frame, or its outlet failed, or was open again after a failure, or it
 -- was too early to reopen it. So a frame pays for one turn, a failure for two, and an answer that it is too early for one.
 abbrev pub DestIsBounded : DestSpec → DestState → DestState → List Turn → Type 0
 DestIsBounded spec old new turns =
     SentTurns spec old new turns → new.drain.faults < 2 ^ 64 - 1
-    → busy_of turns ≤ (new.drain.count - old.drain.count) + 2 * (new.drain.faults - old.drain.faults) + (new.drain.laters - old.drain.laters) + one_if old.outage.reopens
+    → busy_of turns ≤ (new.drain.count - old.drain.count) + 2
+    * (new.drain.faults - old.drain.faults) + (new.drain.laters - old.drain.laters)
+    + one_if old.outage.reopens

@@ -32,10 +32,12 @@ pub record ReadsOn (offers : ℕ → Record → List Offer → Type 0) (dests : 
   pub advances : Advances old.source.feed new.source.feed
   pub pulls : new.source.feed.pulls ≤ old.source.feed.pulls + length turns
 
-abbrev pub TurnsReadOn : (ℕ → Record → List Offer → Type 0) → ℕ → SourceSpec → ActorState → ActorState → List Turn → Type 0
+abbrev pub TurnsReadOn : (ℕ → Record → List Offer → Type 0) → ℕ → SourceSpec → ActorState
+    → ActorState → List Turn → Type 0
 TurnsReadOn offers dests spec old new turns =
     TookTurns offers dests spec old new turns → IsReady dests spec old.source
-    → (done : List Record) (before : ℕ) → HasRead offers spec old.source done before → ReadsOn offers dests spec old new turns done before
+    → (done : List Record) (before : ℕ) → HasRead offers spec old.source done before
+    → ReadsOn offers dests spec old new turns done before
 
 -- the credit that a call tells
 abbrev pub told_by : CoreReply → ℕ
@@ -45,12 +47,15 @@ told_by reply = 0
 -- No call brings more records than the credit that the one before it told, until some are sent back.
 abbrev pub KeepWithin : ℕ → List Exchange → Type 0
 KeepWithin told [] = Unit {0}
-KeepWithin told (e ∷ es) = (length (carried_by e.call) ≤ told) × (IsSentBack e.reply ⊎ KeepWithin (told_by e.reply) es)
+KeepWithin told (e ∷ es) = (length (carried_by e.call) ≤ told)
+    × (IsSentBack e.reply ⊎ KeepWithin (told_by e.reply) es)
 
 -- so it is with the turns of a source that holds no record at first, where none finds no memory
-abbrev pub TurnsKeepWithin : (ℕ → Record → List Offer → Type 0) → ℕ → SourceSpec → ActorState → ActorState → List Turn → Type 0
+abbrev pub TurnsKeepWithin : (ℕ → Record → List Offer → Type 0) → ℕ → SourceSpec → ActorState
+    → ActorState → List Turn → Type 0
 TurnsKeepWithin offers dests spec old new turns =
-    TookTurns offers dests spec old new turns → AreFed turns → old.source.reader.held ≡ [] → KeepWithin 0 (calls_of turns)
+    TookTurns offers dests spec old new turns → AreFed turns → old.source.reader.held ≡ []
+    → KeepWithin 0 (calls_of turns)
 
 -- how many entries are settled
 abbrev pub settled_by : CoreCall → ℕ
@@ -64,7 +69,8 @@ settled_in (e ∷ es) = settled_by e.call + settled_in es
 -- the frames of the entries that each of these turns showed first and settled
 abbrev pub frames_of : DestSpec → List Turn → List (List ℕ)
 frames_of spec [] = []
-frames_of spec (turn ∷ turns) = take (settled_in turn.made) (frames_by spec (shown_in turn.made)) ++ frames_of spec turns
+frames_of spec (turn ∷ turns) = take (settled_in turn.made) (frames_by spec (shown_in turn.made))
+    ++ frames_of spec turns
 
 -- each settled no more than it was shown
 abbrev pub AreWithin : List Turn → Type 0
@@ -80,13 +86,18 @@ pub record SendsOn (spec : DestSpec) (old new : DestState) (turns : List Turn) :
   pub faults : old.drain.faults ≤ new.drain.faults
 
 abbrev pub TurnsSendOn : DestSpec → DestState → DestState → List Turn → Type 0
-TurnsSendOn spec old new turns = SentTurns spec old new turns → HasFailures old.outage old.drain → SendsOn spec old new turns
+TurnsSendOn spec old new turns = SentTurns spec old new turns → HasFailures old.outage old.drain
+    → SendsOn spec old new turns
 
 -- At the end of a run whose last round was quiet a source had no credit, or its inlet is over and all that it gave dealt with, and its
 -- position is stored, or the store has failed.
-abbrev pub SourceRests : (ℕ → Record → List Offer → Type 0) → ℕ → SourceSpec → ActorState → ActorState → List Turn → List Exchange → List Exchange → Type 0
-SourceRests offers dests spec old new turns before last = TookTurns offers dests spec old new turns → RestsLast turns before last → IsEmptyTurn spec new last
+abbrev pub SourceRests : (ℕ → Record → List Offer → Type 0) → ℕ → SourceSpec → ActorState
+    → ActorState → List Turn → List Exchange → List Exchange → Type 0
+SourceRests offers dests spec old new turns before last = TookTurns offers dests spec old new turns
+    → RestsLast turns before last → IsEmptyTurn spec new last
 
 -- A destination then is given up, or was shown that no entry is left.
-abbrev pub DestRests : DestSpec → DestState → DestState → List Turn → List Exchange → List Exchange → Type 0
-DestRests spec old new turns before last = SentTurns spec old new turns → RestsLast turns before last → (is_some new.outage.given_up ≡ true) ⊎ IsShownEmpty last
+abbrev pub DestRests : DestSpec → DestState → DestState → List Turn → List Exchange → List Exchange
+    → Type 0
+DestRests spec old new turns before last = SentTurns spec old new turns
+    → RestsLast turns before last → (is_some new.outage.given_up ≡ true) ⊎ IsShownEmpty last

@@ -40,13 +40,16 @@ any_step old call reply new = Unit {0}
 pub record SourceTurns (offers : ℕ → Record → List Offer → Type 0) (dests : ℕ) (spec : SourceSpec) (old new : ActorState) (turn : Turn) : Type 0 where
   pub ups : ℕ
   pub credit : ℕ
-  pub takes : TurnsWith offers dests spec any_step (tt {0}) (tt {0}) old new (result_of turn.answer) turn.made ups credit
+  pub takes : TurnsWith offers dests spec any_step (tt {0}) (tt {0}) old new (result_of turn.answer)
+      turn.made ups credit
 
 -- turns of a source, one after the other
-abbrev pub TookTurns : (ℕ → Record → List Offer → Type 0) → ℕ → SourceSpec → ActorState → ActorState → List Turn → Type 0
+abbrev pub TookTurns : (ℕ → Record → List Offer → Type 0) → ℕ → SourceSpec → ActorState → ActorState
+    → List Turn → Type 0
 TookTurns offers dests spec old new [] = new ≡ old
 TookTurns offers dests spec old new (turn ∷ turns) =
-    (between : ActorState) × (SourceTurns offers dests spec old between turn × TookTurns offers dests spec between new turns)
+    (between : ActorState) ×
+    (SourceTurns offers dests spec old between turn × TookTurns offers dests spec between new turns)
 
 -- what a destination knows of its outlet's failures, and the outlet
 pub record DestState : Type 0 where
@@ -59,8 +62,10 @@ dest_state outage drain = record { outage = outage; drain = drain }
 -- a turn of a destination: one that is given up makes no call
 abbrev pub SendsBy : Option GivenUp → DestSpec → DestState → DestState → Turn → Type 0
 SendsBy None spec old new turn =
-    (taken : ℕ) × ((refused : Bool) × SendsWith spec any_step (tt {0}) (tt {0}) old.outage new.outage old.drain new.drain (result_of turn.answer) turn.made taken refused)
-SendsBy (Some cause) spec old new turn = (turn.made ≡ []) × Stays (tt {0}) (tt {0}) old.outage new.outage old.drain new.drain (result_of turn.answer)
+    (taken : ℕ) × ((refused : Bool) × SendsWith spec any_step (tt {0}) (tt {0}) old.outage
+    new.outage old.drain new.drain (result_of turn.answer) turn.made taken refused)
+SendsBy (Some cause) spec old new turn = (turn.made ≡ [])
+    × Stays (tt {0}) (tt {0}) old.outage new.outage old.drain new.drain (result_of turn.answer)
 
 abbrev pub DestTurns : DestSpec → DestState → DestState → Turn → Type 0
 DestTurns spec old new turn = SendsBy old.outage.given_up spec old new turn
@@ -68,4 +73,5 @@ DestTurns spec old new turn = SendsBy old.outage.given_up spec old new turn
 -- turns of a destination, one after the other
 abbrev pub SentTurns : DestSpec → DestState → DestState → List Turn → Type 0
 SentTurns spec old new [] = new ≡ old
-SentTurns spec old new (turn ∷ turns) = (between : DestState) × (DestTurns spec old between turn × SentTurns spec between new turns)
+SentTurns spec old new (turn ∷ turns) = (between : DestState)
+    × (DestTurns spec old between turn × SentTurns spec between new turns)

@@ -13,7 +13,8 @@ use sg_route::Router;
 /// The records that a source's turns admit are the next ones that its inlet gave, in order, each with its
 /// offers.
 pub fn turns_read_on<R: Router>(router: &R)
-    ensures { (dests : ℕ) (spec : ASpec) (old new : ActorState) (turns : List Turn) → TurnsReadOn (R.offers router.now) dests spec old new turns }
+    ensures { (dests : ℕ) (spec : ASpec) (old new : ActorState) (turns : List Turn)
+        → TurnsReadOn (R.offers router.now) dests spec old new turns }
 {
     let _router = router;
 }
@@ -21,7 +22,8 @@ pub fn turns_read_on<R: Router>(router: &R)
 /// A source brings no more records than the credit that it was told, as long as each turn finds memory
 /// and none are sent back.
 pub fn turns_keep_within<R: Router>(router: &R)
-    ensures { (dests : ℕ) (spec : ASpec) (old new : ActorState) (turns : List Turn) → TurnsKeepWithin (R.offers router.now) dests spec old new turns }
+    ensures { (dests : ℕ) (spec : ASpec) (old new : ActorState) (turns : List Turn)
+        → TurnsKeepWithin (R.offers router.now) dests spec old new turns }
 {
     let _router = router;
 }
@@ -29,20 +31,24 @@ pub fn turns_keep_within<R: Router>(router: &R)
 /// The frames that a destination's outlet took in its turns are those of the entries that these turns
 /// settled, in order.
 pub fn turns_send_on()
-    ensures { (spec : ADestSpec) (old new : DestState) (turns : List Turn) → TurnsSendOn spec old new turns }
+    ensures { (spec : ADestSpec) (old new : DestState) (turns : List Turn)
+        → TurnsSendOn spec old new turns }
 {}
 
 /// At the end of a run whose last round was quiet a source had no credit, or its inlet is over and each of
 /// its records was admitted. Its position is stored, or the store has failed.
 pub fn sources_rest<R: Router>(router: &R)
-    ensures { (dests : ℕ) (spec : ASpec) (old new : ActorState) (turns : List Turn) (before last : List Exchange) → SourceRests (R.offers router.now) dests spec old new turns before last }
+    ensures { (dests : ℕ) (spec : ASpec) (old new : ActorState) (turns : List Turn)
+        (before last : List Exchange)
+        → SourceRests (R.offers router.now) dests spec old new turns before last }
 {
     let _router = router;
 }
 
 /// At the end of such a run a destination is given up, or no entry is left for it.
 pub fn dests_rest()
-    ensures { (spec : ADestSpec) (old new : DestState) (turns : List Turn) (before last : List Exchange) → DestRests spec old new turns before last }
+    ensures { (spec : ADestSpec) (old new : DestState) (turns : List Turn) (before last : List Exchange)
+        → DestRests spec old new turns before last }
 {}
 
 /// Where a source's pull failed, the inlet's count of faults rose.

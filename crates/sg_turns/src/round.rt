@@ -46,7 +46,8 @@ fn take_sources<T: Wait, R: Router, I: Inlet, C: Counter>(
 ) -> Round
     requires fits { AreSources I.state R.inlets R.dests (C.setup counter.old) sources.old.items }
     requires left { 4 * length sources.old.items ≤ C.left counter.old }
-    ensures took { TookAll (SourceTakes I.state R.offers R.inlets R.dests) OfSource C.step counter.old counter.new sources.old.items sources.new.items result }
+    ensures took { TookAll (SourceTakes I.state R.offers R.inlets R.dests) OfSource C.step
+        counter.old counter.new sources.old.items sources.new.items result }
     ensures fits { AreSources I.state R.inlets R.dests (C.setup counter.new) sources.new.items }
     ensures setup { C.setup counter.new ≡ C.setup counter.old }
     ensures left { C.left counter.old ≤ C.left counter.new + 4 * length sources.old.items }
@@ -71,7 +72,8 @@ fn take_dests<T: Wait, O: Outlet, C: Counter>(
 ) -> Round
     requires fits { AreDests O.state (C.setup counter.old) dests.old.items }
     requires left { 4 * length dests.old.items ≤ C.left counter.old }
-    ensures took { TookAll (DestTakes O.state) OfDest C.step counter.old counter.new dests.old.items dests.new.items result }
+    ensures took { TookAll (DestTakes O.state) OfDest C.step counter.old counter.new dests.old.items
+        dests.new.items result }
     ensures fits { AreDests O.state (C.setup counter.new) dests.new.items }
     ensures setup { C.setup counter.new ≡ C.setup counter.old }
     ensures left { C.left counter.old ≤ C.left counter.new + 4 * length dests.old.items }
@@ -108,11 +110,14 @@ pub fn take_round<T: Wait, R: Router, I: Inlet, O: Outlet, C: Counter>(
     requires sources { AreSources I.state R.inlets R.dests (C.setup counter.old) sources.old.items }
     requires dests { AreDests O.state (C.setup counter.old) dests.old.items }
     requires left { 4 * length sources.old.items + 4 * length dests.old.items ≤ C.left counter.old }
-    ensures took { TookRound (SourceTakes I.state R.offers R.inlets R.dests) (DestTakes O.state) C.step counter.old counter.new sources.old.items sources.new.items dests.old.items dests.new.items result }
+    ensures took { TookRound (SourceTakes I.state R.offers R.inlets R.dests) (DestTakes O.state)
+        C.step counter.old counter.new sources.old.items sources.new.items dests.old.items
+        dests.new.items result }
     ensures sources { AreSources I.state R.inlets R.dests (C.setup counter.new) sources.new.items }
     ensures dests { AreDests O.state (C.setup counter.new) dests.new.items }
     ensures setup { C.setup counter.new ≡ C.setup counter.old }
-    ensures left { C.left counter.old ≤ C.left counter.new + (4 * length sources.old.items + 4 * length dests.old.items) }
+    ensures left { C.left counter.old
+        ≤ C.left counter.new + (4 * length sources.old.items + 4 * length dests.old.items) }
 {
     let read = take_sources(rt, alloc, counter, sources);
     let sent = take_dests(rt, alloc, counter, dests);

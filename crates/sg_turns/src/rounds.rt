@@ -28,7 +28,9 @@ pub fn run_rounds<T: Wait, R: Router, I: Inlet, O: Outlet, C: Counter>(
     requires few_sources { length sources.old.items ≤ 128 }
     requires few_dests { length dests.old.items ≤ 64 }
     requires left { 768 * rounds ≤ C.left counter.old }
-    ensures serves { Serves (SourceTook I.state R.offers R.inlets R.dests) (DestTook O.state) C.step counter.old counter.new sources.old.items sources.new.items dests.old.items dests.new.items rounds result }
+    ensures serves { Serves (SourceTook I.state R.offers R.inlets R.dests) (DestTook O.state) C.step
+        counter.old counter.new sources.old.items sources.new.items dests.old.items dests.new.items
+        rounds result }
     ensures sources { AreSources I.state R.inlets R.dests (C.setup counter.new) sources.new.items }
     ensures dests { AreDests O.state (C.setup counter.new) dests.new.items }
     ensures setup { C.setup counter.new ≡ C.setup counter.old }

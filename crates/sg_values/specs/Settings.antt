@@ -17,7 +17,8 @@ missing_if word None = (record { kind = MissingOption; line = spot_line word }) 
 
 -- none of the options is called so
 abbrev pub missing : List ℕ → Call → List Placed
-missing word call = missing_if (out-Call call).word (last_option (word ∷ []) (calls_of (args_of call)))
+missing word call = missing_if (out-Call call).word
+    (last_option (word ∷ []) (calls_of (args_of call)))
 
 -- a name has 1 to 255 bytes
 abbrev pub name_faults_of : Option Spot → List Placed

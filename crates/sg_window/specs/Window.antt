@@ -38,10 +38,12 @@ abbrev pub left_at : List Record → ℕ → ℕ
 left_at records k = option_map_or (λ r. r.left) (slice_get records k) 0
 
 abbrev pub after_begin : Window → ℕ → ℕ → Window
-after_begin w end left = window_of w.limit (w.begun + 1) w.mark (w.waiting ++ record { end = end; left = left } ∷ [])
+after_begin w end left = window_of w.limit (w.begun + 1) w.mark
+    (w.waiting ++ record { end = end; left = left } ∷ [])
 
 abbrev pub one_less : Record → Record
 one_less r = record r { left = r.left - 1 }
 
 abbrev pub after_ack : Window → ℕ → Window
-after_ack w number = window_of w.limit w.begun w.mark (change w.waiting (number - first_waiting w) one_less)
+after_ack w number = window_of w.limit w.begun w.mark
+    (change w.waiting (number - first_waiting w) one_less)

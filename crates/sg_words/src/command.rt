@@ -93,7 +93,8 @@ fn rounds_in(words: &[Name]) -> Option<u64>
 
 fn run_rounds<'a>(file: &'a [u8], once: bool, words: &[Name]) -> Option<Command<'a>>
     ensures within { IfSome result spec.IsWithin }
-    ensures asked { option_map spec.asked_by result ≡ option_map (spec.run file.now once) (spec.rounds_in words.now) }
+    ensures asked { option_map spec.asked_by result
+        ≡ option_map (spec.run file.now once) (spec.rounds_in words.now) }
 {
     match rounds_in(words) {
         Some(rounds) => Some(Command::Run { file, once, rounds }),

@@ -59,7 +59,8 @@ pub trait World: Files + Builder {
 
     /// Closes a store. It takes no memory.
     fn close_store(&mut self, store: Self::Store)
-        ensures { ClosesStore (Self.state self.old) (Self.state self.new) (Self.Store.state store) };
+        ensures { ClosesStore (Self.state self.old) (Self.state self.new)
+            (Self.Store.state store) };
 
     /// Closes an inlet. It takes no memory.
     fn close_inlet(&mut self, feed: Self::Feed)
@@ -67,11 +68,13 @@ pub trait World: Files + Builder {
 
     /// Closes an outlet. It takes no memory.
     fn close_outlet(&mut self, drain: Self::Drain)
-        ensures { ClosesOutlet (Self.state self.old) (Self.state self.new) (Self.Drain.state drain) };
+        ensures { ClosesOutlet (Self.state self.old) (Self.state self.new)
+            (Self.Drain.state drain) };
 
     /// Closes an opener, and the files that are open. It takes no memory.
     fn close_paths(&mut self, opener: Self::Paths)
-        ensures { ClosesPaths (Self.state self.old) (Self.state self.new) (Self.Paths.state opener) };
+        ensures { ClosesPaths (Self.state self.old) (Self.state self.new)
+            (Self.Paths.state opener) };
 
     /// Says bytes to the operator, all of them or, on a refusal, nothing that is claimed.
     fn say(&mut self, alloc: Global, bytes: &[u8]) -> Result<(), SayRefusal>

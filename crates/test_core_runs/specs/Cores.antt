@@ -23,7 +23,8 @@ tried window fifo first second = record { sources = three_sources window; dests 
 
 -- a core of such a setup
 abbrev pub IsTried : CoreState → Type 0
-IsTried core = (window : ℕ) × ((fifo : ℕ) × ((first : ℕ) × ((second : ℕ) × ((setup_of core ≡ tried window fifo first second) × (length core.stores ≡ 5)))))
+IsTried core = (window : ℕ) × ((fifo : ℕ) × ((first : ℕ) ×
+    ((second : ℕ) × ((setup_of core ≡ tried window fifo first second) × (length core.stores ≡ 5)))))
 
 -- it is at some state
 abbrev pub IsSomewhere : CoreState → Type 0

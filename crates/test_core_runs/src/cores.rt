@@ -48,7 +48,8 @@ fn source(window: u32, store: u32) -> SourceSetup
 }
 
 fn spooled(fifo: u32, store: u32, capacity: u64) -> DestSetup
-    ensures { result ≡ record { fifo = fifo; buffer = Some (record { store = store; capacity = capacity }) } }
+    ensures { result
+        ≡ record { fifo = fifo; buffer = Some (record { store = store; capacity = capacity }) } }
 {
     DestSetup {
         fifo,

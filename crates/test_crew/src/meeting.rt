@@ -315,7 +315,8 @@ fn sources<'a, T: Clock>(
     alloc: Global,
     flags: &'a Flags,
 ) -> Result<Vec<SourceActor<ByDigit, MeetingInlet<'a, T>>>, Fail>
-    ensures { IfOk result (λ held. AreSources (λ inlet. inlet_of inlet.inner) two two meeting held.items) }
+    ensures { IfOk result
+        (λ held. AreSources (λ inlet. inlet_of inlet.inner) two two meeting held.items) }
 {
     let first = source(rt, alloc, flags)?;
     Ok(with_source(Vec::new(alloc), first)?)

@@ -23,7 +23,8 @@ pub record IsTried (setup : Setup) : Type 0 where
 -- a call that such a core may be asked for
 abbrev pub MayAsk : CoreCall → Type 0
 MayAsk (Credit i) = i < 2
-MayAsk (Admit i records) = (i < 2) × (0 < length records) × (length records ≤ 1000) × AllMayEnter 2 records
+MayAsk (Admit i records) = (i < 2) × (0 < length records) × (length records ≤ 1000)
+    × AllMayEnter 2 records
 MayAsk (Front d most) = (d < 2) × (0 < most) × (most ≤ 1000)
 MayAsk (Settle d place n) = (d < 2) × (0 < n)
 MayAsk (Refill d) = d < 2

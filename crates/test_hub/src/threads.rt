@@ -73,11 +73,13 @@ fn admit_both<R: Threads + Wait + Sync>(
     let (mut one, two) = join(
         rt,
         || -> Seat<MemoryDisk>
-            requires { IsDeskOf hub.now seat × (count < seat.left) × (count < 2 ^ 32) × IsTried (setup_of hub.now.made) }
+            requires { IsDeskOf hub.now seat × (count < seat.left) × (count < 2 ^ 32)
+                × IsTried (setup_of hub.now.made) }
             ensures { IsDeskOf hub.entry.now result × (0 < result.left) }
         { admit_all(rt, alloc, hub, seat, 0, count) },
         || -> Seat<MemoryDisk>
-            requires { IsDeskOf hub.now other × (count ≤ other.left) × (count < 2 ^ 32) × IsTried (setup_of hub.now.made) }
+            requires { IsDeskOf hub.now other × (count ≤ other.left) × (count < 2 ^ 32)
+                × IsTried (setup_of hub.now.made) }
             ensures { IsDeskOf hub.entry.now result }
         { admit_all(rt, alloc, hub, other, 1, count) },
     );

@@ -9,7 +9,8 @@ use std::alloc::{AllocError, Global};
 use std::test::Fail;
 
 fn shown(alloc: Global, sinks: &[u32], status: u8) -> Result<Shown, AllocError>
-    ensures { IfOk result (λ shown. (length shown.drivers ≡ 3) × (length shown.files ≡ 3) × (length shown.bad_frames ≡ 3)) }
+    ensures { IfOk result (λ shown. (length shown.drivers ≡ 3) × (length shown.files ≡ 3)
+        × (length shown.bad_frames ≡ 3)) }
 {
     Ok(Shown {
         drivers: Seq::new(Vec::from_slice(alloc, &[0, 1, 1])?),
