@@ -5,3 +5,4 @@ pub mod Piping
 pub mod Kept
 pub mod Whole
 pub mod Naming
+pub mod Sent

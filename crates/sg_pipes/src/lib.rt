@@ -6,6 +6,7 @@ mod gone;
 mod messages;
 mod pipe;
 mod pipes;
+mod threads;
 mod within;
 mod work;
 
