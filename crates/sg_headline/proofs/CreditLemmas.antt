@@ -67,15 +67,15 @@ apart i j n m h = let flip : (j == i) ≡ false = grind arith in rw flip refl
 
 -- A call.
 
-record Gone (new : CoreState) (s : State) (P : State → Type 0) : Type 0 where
-  state : State
-  at : IsAt new state
-  holds : P state
+pub record Gone (new : CoreState) (s : State) (P : State → Type 0) : Type 0 where
+  pub state : State
+  pub at : IsAt new state
+  pub holds : P state
 
 gone-one : (old new : CoreState) (act : Act) (s : State) (P : State → Type 0) (does : Does old new act) → IsAt old s → ((failed : List ℕ) → P (after_act s act failed)) → Gone new s P
 gone-one old new act s P does at p = record { state = after_act s act does.failed; at = (does.step s at).1; holds = p does.failed }
 
-abbrev NoLess : State → ℕ → State → Type 0
+abbrev pub NoLess : State → ℕ → State → Type 0
 NoLess s i t = credit_left s i ≤ credit_left t i
 
 same-left : (s : State) (i : ℕ) (failed : List ℕ) → NoLess s i (after_act s Look failed)
