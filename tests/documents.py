@@ -1,6 +1,6 @@
 #!/usr/bin/env python3
-"""Whether the documents say what the tables of the code have: options, flags, macros, faults, exit statuses, the usage line; and whether the files and crates
-that they name are there."""
+"""Whether the documents say what the tables of the code have: options, flags, macros, faults, exit statuses, the usage line; whether the files and crates
+that they name are there, and the names that PROMISES.md gives for its claims; and whether definitions are quoted word for word."""
 import os
 import re
 import shutil
@@ -97,6 +97,41 @@ for path in documents:
     expect(f"files of {path}", [file for file in files if not os.path.exists(os.path.join("crates", file))])
     scripts = re.findall(r"`((?:tests|bench|examples|crates|docs)/[A-Za-z0-9_./-]+)`", text)
     expect(f"scripts of {path}", [file for file in scripts if not os.path.exists(file) and not file.endswith("out.log") and "NAME" not in file])
+
+
+def joined(text):
+    """A text without its comments, whose words are parted by one space, and brackets by none."""
+    text = re.sub(r"^\s*(--|//).*\n", "", text, flags=re.M)
+    text = re.sub(r"\s+", " ", text).strip()
+    return re.sub(r" (?=[)}\]])", "", re.sub(r"(?<=[({\[]) ", "", text))
+
+
+def paragraphs(text):
+    return [part for part in re.split(r"\n\s*\n", text) if part.strip()]
+
+
+def stands_in(quotation, path):
+    """Whether one definition of the file has the parts of the quotation between its `..`, in their order."""
+    parts = [part.strip() for part in re.split(r"(?<![^\s(])\.\.\)*(?!\S)", joined(quotation))]
+    wanted = re.compile(".*?".join(re.escape(part) for part in parts if part), re.S)
+    return any(wanted.search(joined(definition)) for definition in paragraphs(read(path)))
+
+
+# each definition that THEOREM.md quotes stands in a file that its section names above it
+for section in re.split(r"^(?=## )", read("docs/THEOREM.md"), flags=re.M):
+    named = []
+    for part in paragraphs(section):
+        if part.startswith("    "):
+            places = [path for path in named if stands_in(part, path)]
+            expect("quotations of THEOREM.md", [] if places else [joined(part)])
+        else:
+            named += [f"crates/{path}" for path in re.findall(r"`(sg_[a-z0-9_]+/(?:specs|src)/[A-Za-z0-9_/]+\.(?:antt|rt))`", part)]
+
+# and so do the lines of the headline's record that README.md quotes
+headline = "crates/sg_delivered/specs/Headline.antt"
+table_rows = re.findall(r"^\| [^|]+ \| (.+) \|$", re.search(r"\| phrase \|.*?\n\n", read("README.md"), re.S).group(0), re.M)[1:]
+quoted = [text for row in table_rows for text in re.findall(r"`([^`]+)`", row) if " " in text and not text.startswith("run ")]
+expect("quotations of README.md", [text for text in quoted if not stands_in(text, headline)])
 
 crates = [line.split(":")[0] for line in read("crates.txt").splitlines() if re.match(r"[a-z]", line)]
 expect("crates in ARCHITECTURE.md", [crate for crate in crates if f"`{crate}`" not in architecture])
