@@ -1,0 +1,136 @@
+#!/bin/sh
+# service.sh ROOT [PROGRAM]: the unit of examples/systemd and the program, under a systemd that is the first process of a container: what it may
+# open, when it is started again and when not. Not in the gate: it wants root, systemd-nspawn and a Debian in the folder ROOT, as this makes it:
+#     debootstrap --variant=minbase --include=systemd,systemd-sysv,dbus bookworm ROOT
+top=$(cd "$(dirname "$0")/.." && pwd)
+
+outside() {
+    root=$1 program=${2:-$top/crates/sg_top/out/sg_top}
+    [ -x "$root/usr/lib/systemd/systemd" ] || { echo "no systemd in $root"; exit 2; }
+    rm -rf "$root/var/lib/syslogr" "$root/var/log/app" "$root/var/log/out.log" "$root/srv/out.log" "$root/etc/systemd/system/syslogr.service.d" "$root/root/said"
+    mkdir -p "$root/etc/syslogr" "$root/usr/local/sbin"
+    cp "$program" "$root/usr/local/sbin/syslogr" || exit 2
+    cp "$top/examples/systemd/syslogr.service" "$root/etc/systemd/system/" || exit 2
+    cp "$0" "$root/root/service.sh" || exit 2
+    cat >"$root/etc/systemd/system/service-test.service" <<UNIT
+[Unit]
+After=network-online.target
+[Service]
+Type=oneshot
+ExecStart=/bin/sh /root/service.sh
+StandardOutput=file:/root/said
+StandardError=file:/root/said
+ExecStopPost=/bin/systemctl --no-block poweroff
+UNIT
+    ln -sf ../service-test.service "$root/etc/systemd/system/multi-user.target.wants/service-test.service"
+    timeout 300 systemd-nspawn -q --register=no --keep-unit --private-network -D "$root" -b </dev/null >"$root/root/console" 2>&1
+    cat "$root/root/said"
+    grep -q '^[0-9]* passed, 0 failed$' "$root/root/said"
+}
+
+passed=0 failed=0
+# check NAME COMMAND..: within 20 seconds the command answers yes
+check() {
+    name=$1
+    shift
+    for moment in $(seq 100); do
+        if "$@" >/tmp/check 2>&1; then
+            passed=$((passed + 1))
+            return
+        fi
+        sleep 0.2
+    done
+    failed=$((failed + 1))
+    echo "$name:"
+    cat /tmp/check
+    systemctl --no-pager status syslogr | tail -20
+}
+
+# has TEXT FILE, told TEXT (in the journal since the last start of a check), is NAME VALUE (of the unit)
+has() { grep -qF -- "$1" "$2"; }
+told() { journalctl --no-pager -u syslogr -o cat --since "$began" | grep -F -- "$1"; }
+is() { [ "$(systemctl show syslogr -P "$1")" = "$2" ] || { systemctl show syslogr -P "$1"; false; }; }
+restarted() { [ "$(systemctl show syslogr -P NRestarts)" -ge 1 ]; }
+mode() { [ "$(stat -c %a "$1")" = "$2" ]; }
+
+# begins LINE..: the configuration has these lines beside its version, and the service is started
+begins() {
+    systemctl stop syslogr
+    systemctl reset-failed syslogr 2>/dev/null
+    { echo '@version: 4.2'; printf '%s\n' "$@"; } >/etc/syslogr/syslogr.conf
+    sleep 1
+    began=$(date '+%F %T')
+    systemctl start syslogr 2>/dev/null
+}
+
+inside() {
+    file='source s_file { file("/var/log/app/in.log" flags(no-parse)); };'
+    listener='source s_net { network(ip("127.0.0.1") port(514) flags(no-parse)); };'
+    out='destination d_file { file("/var/log/out.log" template("$MSG\n") perm(0640)); };'
+    peer='destination d_peer { network("localhost" port(5140) template("$MSG\n") time-reopen(1) disk-buffer(reliable(yes) disk-buf-size(1048576))); };'
+    path='log { source(s_file); source(s_net); destination(d_file); destination(d_peer); flags(flow-control); };'
+    one='log { source(s_file); destination(d_file); flags(flow-control); };'
+    grep -qs localhost /etc/hosts || echo 127.0.0.1 localhost >>/etc/hosts
+    # another user's file, in a folder that no other one may enter
+    mkdir -m 700 /var/log/app
+    echo one >/var/log/app/in.log
+    chmod 600 /var/log/app/in.log
+    chown -R daemon: /var/log/app
+
+    check 'the unit is one' sh -c '[ -z "$(systemd-analyze verify --man=no syslogr.service 2>&1)" ]'
+    begins "$file" "$listener" "$out" "$peer" "$path"
+    check 'it runs' is ActiveState active
+    check 'a file of another user' has one /var/log/out.log
+    check 'the mode of perm()' mode /var/log/out.log 640
+    check 'the position store' mode /var/lib/syslogr/pos-_2fvar_2flog_2fapp_2fin.log 600
+    check 'the disk-buffer' mode /var/lib/syslogr/queue-network,localhost,5140 600
+    echo two >/var/log/app/in.log.new
+    cat /var/log/app/in.log.new >>/var/log/app/in.log
+    check 'a line more' has two /var/log/out.log
+    check 'a port below 1024' bash -c 'echo by the port >/dev/tcp/127.0.0.1/514'
+    check 'a record of a connection' has 'by the port' /var/log/out.log
+    check 'a peer that is away' told 'cannot connect'
+    perl -MIO::Socket::INET -e '$| = 1; $s = IO::Socket::INET->new(LocalAddr => "127.0.0.1", LocalPort => 5140, Listen => 1, ReuseAddr => 1) or die;
+        $c = $s->accept; while (<$c>) { print }' >/root/peer 2>&1 &
+    check 'what waited for it' has 'by the port' /root/peer
+    check 'files open at once' sh -c 'grep -q "^Max open files *1024 *1024 " /proc/$(systemctl show syslogr -P MainPID)/limits'
+
+    systemctl kill -s KILL syslogr
+    echo three >>/var/log/app/in.log
+    check 'killed, it is started again' restarted
+    check 'and goes on' has three /var/log/out.log
+    check 'where it was' [ "$(grep -c one /var/log/out.log)" = 1 ]
+    systemctl stop syslogr
+    check 'it ends at SIGTERM' is ActiveState inactive
+    check 'which is no failure' is Result success
+
+    begins 'source s_file { fil("/var/log/app/in.log"); };' "$out" "$one"
+    check 'status 2' is ExecMainStatus 2
+    check 'the fault, in the journal' told '/etc/syslogr/syslogr.conf:2: '
+    sleep 7
+    check 'isn'"'"'t started again' is NRestarts 0
+    check 'but has failed' is ActiveState failed
+
+    begins 'source s_file { file("/var/log/app/later.log" flags(no-parse)); };' "$out" "$one"
+    check 'status 4' is ExecMainStatus 4
+    check 'the device, in the journal' told 'source /var/log/app/later.log'
+    check 'is started again' restarted
+    echo later >/var/log/app/later.log
+    check 'until the file is there' has later /var/log/out.log
+    check 'and runs' is ActiveState active
+
+    begins "$file" 'destination d_file { file("/srv/out.log" template("$MSG\n")); };' "$one"
+    check 'another folder' told 'Read-only file system'
+    mkdir -p /etc/systemd/system/syslogr.service.d
+    printf '[Service]\nReadWritePaths=/srv\n' >/etc/systemd/system/syslogr.service.d/folders.conf
+    systemctl daemon-reload
+    echo four >>/var/log/app/in.log
+    begins "$file" 'destination d_file { file("/srv/out.log" template("$MSG\n")); };' "$one"
+    check 'with its line' has four /srv/out.log
+
+    systemctl stop syslogr
+    systemd-analyze security --no-pager syslogr.service | tail -1
+    echo "$passed passed, $failed failed"
+}
+
+if [ $# -gt 0 ]; then outside "$@"; else inside; fi
