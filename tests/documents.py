@@ -1,6 +1,7 @@
 #!/usr/bin/env python3
 """Whether the documents say what the tables of the code have: options, flags, macros, faults, exit statuses, the usage line; whether the files and crates
 that they name are there, and the names that PROMISES.md gives for its claims; and whether definitions are quoted word for word."""
+import glob
 import os
 import re
 import shutil
@@ -132,6 +133,29 @@ headline = "crates/sg_delivered/specs/Headline.antt"
 table_rows = re.findall(r"^\| [^|]+ \| (.+) \|$", re.search(r"\| phrase \|.*?\n\n", read("README.md"), re.S).group(0), re.M)[1:]
 quoted = [text for row in table_rows for text in re.findall(r"`([^`]+)`", row) if " " in text and not text.startswith("run ")]
 expect("quotations of README.md", [text for text in quoted if not stands_in(text, headline)])
+
+# each name that PROMISES.md gives for a claim is one of a crate that stands beside it
+def names_of(crate):
+    """The words of a crate's code and definitions."""
+    if crate not in known:
+        parts = [read(path) for kind in ["specs/**/*.antt", "src/**/*.rt"] for path in glob.glob(f"crates/{crate}/{kind}", recursive=True)]
+        known[crate] = set(re.findall(r"\w+", "\n".join(parts)))
+    return known[crate]
+
+
+known = {}
+promises = read("docs/PROMISES.md")
+section = ""
+for line in promises[: promises.index("## What is tested")].splitlines():
+    section = line if line.startswith("## ") else section
+    row = re.fullmatch(r"\| (.+) \| (.+) \|", line)
+    if row and row.group(1) != "claim":
+        spans = re.findall(r"`([^`]+)`", row.group(2))
+        beside = [span for span in spans if re.fullmatch(r"sg_\w+", span)] + (["sg_top"] if "sg_top" in section else [])
+        files = [span for span in spans if span.endswith(".antt")]
+        expect(f"files of a claim: {line[:60]}", [file for file in files if not any(os.path.exists(f"crates/{crate}/{file}") for crate in beside)])
+        names = {name for span in spans if span not in beside + files for name in re.findall(r"\w+", span)}
+        expect(f"names of a claim: {line[:60]}", names.difference(*map(names_of, beside)))
 
 crates = [line.split(":")[0] for line in read("crates.txt").splitlines() if re.match(r"[a-z]", line)]
 expect("crates in ARCHITECTURE.md", [crate for crate in crates if f"`{crate}`" not in architecture])
