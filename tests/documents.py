@@ -135,6 +135,9 @@ quoted = [text for row in table_rows for text in re.findall(r"`([^`]+)`", row) i
 expect("quotations of README.md", [text for text in quoted if not stands_in(text, headline)])
 
 # each name that PROMISES.md gives for a claim is one of a crate that stands beside it
+known = {}
+
+
 def names_of(crate):
     """The words of a crate's code and definitions."""
     if crate not in known:
@@ -143,7 +146,6 @@ def names_of(crate):
     return known[crate]
 
 
-known = {}
 promises = read("docs/PROMISES.md")
 section = ""
 for line in promises[: promises.index("## What is tested")].splitlines():
