@@ -134,6 +134,19 @@ table_rows = re.findall(r"^\| [^|]+ \| (.+) \|$", re.search(r"\| phrase \|.*?\n\
 quoted = [text for row in table_rows for text in re.findall(r"`([^`]+)`", row) if " " in text and not text.startswith("run ")]
 expect("quotations of README.md", [text for text in quoted if not stands_in(text, headline)])
 
+# a file that is named without its crate is one of a crate that stands beside it, in its row, item or paragraph
+for path in ["docs/ARCHITECTURE.md", "docs/EXTENDING.md", "docs/THEOREM.md"]:
+    astray = []
+    for part in re.split(r"\n\s*\n|\n(?=[|-])", read(path)):
+        spans = re.findall(r"`([^`\n]+)`", part)
+        beside = {crate for span in spans for crate in re.findall(r"^((?:sg|test|bench)_\w+)", span)}
+        for span in spans:
+            if re.fullmatch(r"(?:specs/|src/)?\w+\.(?:antt|rt)", span):
+                kind = "specs" if span.endswith(".antt") else "src"
+                name = span.split("/")[-1]
+                astray += [] if any(os.path.exists(f"crates/{crate}/{kind}/{name}") for crate in beside) else [span]
+    expect(f"files in the crates beside them, of {path}", astray)
+
 # each name that PROMISES.md gives for a claim is one of a crate that stands beside it
 known = {}
 
