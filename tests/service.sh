@@ -100,6 +100,13 @@ inside() {
     check 'killed, it is started again' restarted
     check 'and goes on' has three /var/log/out.log
     check 'where it was' [ "$(grep -c one /var/log/out.log)" = 1 ]
+    # as logrotate does it by examples/logrotate
+    mv /var/log/out.log /var/log/out.log.1
+    systemctl try-restart syslogr.service
+    echo rotated >>/var/log/app/in.log
+    check 'a line behind a rotation' has rotated /var/log/out.log
+    check 'in a file of the mode of perm()' mode /var/log/out.log 640
+    check 'and not in the old one' sh -c '! grep -q rotated /var/log/out.log.1'
     systemctl stop syslogr
     check 'it ends at SIGTERM' is ActiveState inactive
     check 'which is no failure' is Result success
