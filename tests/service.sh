@@ -7,10 +7,11 @@ top=$(cd "$(dirname "$0")/.." && pwd)
 outside() {
     root=$1 program=${2:-$top/crates/sg_top/out/sg_top}
     [ -x "$root/usr/lib/systemd/systemd" ] || { echo "no systemd in $root"; exit 2; }
-    rm -rf "$root/var/lib/syslogr" "$root/var/log/app" "$root/var/log/out.log" "$root/srv/out.log" "$root/etc/systemd/system/syslogr.service.d" "$root/root/said"
+    rm -rf "$root/var/lib/syslogr" "$root/var/log/app" "$root"/var/log/out.log* "$root/var/log/auth.log" "$root/var/log/dpkg.received" "$root/srv/out.log" "$root/etc/systemd/system/syslogr.service.d" "$root/root/said"
     mkdir -p "$root/etc/syslogr" "$root/usr/local/sbin"
     cp "$program" "$root/usr/local/sbin/syslogr" || exit 2
     cp "$top/examples/systemd/syslogr.service" "$root/etc/systemd/system/" || exit 2
+    cp "$top/examples/debian/syslogr.conf" "$root/root/debian.conf" || exit 2
     cp "$0" "$root/root/service.sh" || exit 2
     cat >"$root/etc/systemd/system/service-test.service" <<UNIT
 [Unit]
@@ -53,11 +54,15 @@ is() { [ "$(systemctl show syslogr -P "$1")" = "$2" ] || { systemctl show syslog
 restarted() { [ "$(systemctl show syslogr -P NRestarts)" -ge 1 ]; }
 mode() { [ "$(stat -c %a "$1")" = "$2" ]; }
 
-# begins LINE..: the configuration has these lines beside its version, and the service is started
+# begins LINE..: the service is started anew, over a configuration that has these lines beside its version
 begins() {
+    { echo '@version: 4.2'; printf '%s\n' "$@"; } >/etc/syslogr/syslogr.conf
+    starts
+}
+
+starts() {
     systemctl stop syslogr
     systemctl reset-failed syslogr 2>/dev/null
-    { echo '@version: 4.2'; printf '%s\n' "$@"; } >/etc/syslogr/syslogr.conf
     sleep 1
     began=$(date '+%F %T')
     systemctl start syslogr 2>/dev/null
@@ -134,6 +139,14 @@ inside() {
     echo four >>/var/log/app/in.log
     begins "$file" 'destination d_file { file("/srv/out.log" template("$MSG\n")); };' "$one"
     check 'with its line' has four /srv/out.log
+
+    cp /root/debian.conf /etc/syslogr/syslogr.conf
+    echo five >>/var/log/dpkg.log
+    starts
+    check 'a port of Debian'"'"'s configuration' bash -c 'echo "<34>Oct 11 22:14:15 h su[7]: six" >/dev/tcp/127.0.0.1/514'
+    check 'its record' has 'su[7]: six' /var/log/auth.log
+    check 'the mode of its files' mode /var/log/auth.log 640
+    check 'its file' has five /var/log/dpkg.received
 
     systemctl stop syslogr
     systemd-analyze security --no-pager syslogr.service | tail -1
