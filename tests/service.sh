@@ -7,7 +7,7 @@ top=$(cd "$(dirname "$0")/.." && pwd)
 outside() {
     root=$1 program=${2:-$top/crates/sg_top/out/sg_top}
     [ -x "$root/usr/lib/systemd/systemd" ] || { echo "no systemd in $root"; exit 2; }
-    rm -rf "$root/var/lib/syslogr" "$root/var/log/app" "$root"/var/log/out.log* "$root/var/log/auth.log" "$root/var/log/dpkg.received" "$root/srv/out.log" "$root/etc/systemd/system/syslogr.service.d" "$root/root/said"
+    rm -rf "$root/var/lib/syslogr" "$root/var/log/app" "$root"/var/log/out.log* "$root/var/log/auth.log" "$root/var/log/dpkg.received" "$root/srv/out.log" "$root/root/peer" "$root/etc/systemd/system/syslogr.service.d" "$root/root/said"
     mkdir -p "$root/etc/syslogr" "$root/usr/local/sbin"
     cp "$program" "$root/usr/local/sbin/syslogr" || exit 2
     cp "$top/examples/systemd/syslogr.service" "$root/etc/systemd/system/" || exit 2
@@ -98,6 +98,11 @@ inside() {
     perl -MIO::Socket::INET -e '$| = 1; $s = IO::Socket::INET->new(LocalAddr => "127.0.0.1", LocalPort => 5140, Listen => 1, ReuseAddr => 1) or die;
         $c = $s->accept; while (<$c>) { print }' >/root/peer 2>&1 &
     check 'what waited for it' has 'by the port' /root/peer
+    # many lines from both at the same time
+    seq 1 3000 >>/var/log/app/in.log
+    bash -c 'seq 3001 6000 >/dev/tcp/127.0.0.1/514'
+    check 'many lines at the same time' sh -c '[ "$(grep -cE "^[0-9]+$" /var/log/out.log)" = 6000 ]'
+    check 'and over the disk-buffer' sh -c '[ "$(grep -cE "^[0-9]+$" /root/peer)" = 6000 ]'
     check 'files open at once' sh -c 'grep -q "^Max open files *1024 *1024 " /proc/$(systemctl show syslogr -P MainPID)/limits'
 
     systemctl kill -s KILL syslogr
