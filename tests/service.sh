@@ -35,7 +35,7 @@ check() {
     name=$1
     shift
     for moment in $(seq 100); do
-        if "$@" >/tmp/check 2>&1; then
+        if "$@" >/root/check 2>&1; then
             passed=$((passed + 1))
             return
         fi
@@ -43,7 +43,7 @@ check() {
     done
     failed=$((failed + 1))
     echo "$name:"
-    cat /tmp/check
+    cat /root/check
     systemctl --no-pager status syslogr | tail -20
 }
 
