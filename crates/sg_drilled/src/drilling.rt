@@ -11,6 +11,7 @@ use sg_words::MOST_ROUNDS;
 use sg_world::MemoryMachine;
 use std::alloc::{AllocError, Global};
 use std::sync::Wait;
+use std::thread::Threads;
 
 const CONFIG: &[u8] =
     b"@version: 4.2\nsource s { file(\"drill\"); };\ndestination hot { file(\"hot\" disk-buffer(reliable(yes) disk-buf-size(1048576))); };\ndestination rest { file(\"rest\"); };\nlog { source(s); filter { level(err .. emerg); }; destination(hot); flags(final flow-control); };\nlog { source(s); destination(rest); flags(flow-control); };\n";
@@ -34,7 +35,7 @@ fn drill_files(alloc: Global, records: u64) -> Result<Vec<MemoryFile>, NoMemory>
 }
 
 // Runs the configuration over this machine, which ends clean or for want of memory.
-fn run_clean<T: Wait>(
+fn run_clean<T: Threads + Wait + Sync>(
     rt: &T,
     alloc: Global,
     machine: &mut MemoryMachine,
@@ -53,7 +54,11 @@ fn run_clean<T: Wait>(
 /// Makes the input of so many records, 1 to 100,000, runs the configuration of a drill on it over devices in
 /// memory, with `--once`, and answers the report. A machine in memory of which no call is to fail ends a
 /// run otherwise for want of memory alone.
-pub fn drill<T: Wait>(rt: &T, alloc: Global, records: u64) -> Result<Outcome, NoMemory>
+pub fn drill<T: Threads + Wait + Sync>(
+    rt: &T,
+    alloc: Global,
+    records: u64,
+) -> Result<Outcome, NoMemory>
     requires { records ≤ 100000 }
     ensures { Drills records result }
 {

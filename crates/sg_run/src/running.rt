@@ -23,6 +23,7 @@ use sg_table::Table;
 use sg_world::World;
 use std::alloc::Global;
 use std::sync::Wait;
+use std::thread::Threads;
 
 fn lines_of(alloc: Global, config: &Config) -> Result<Lines, NoMemory>
     ensures { IfOk result (AreLines config.now) }
@@ -34,7 +35,7 @@ fn lines_of(alloc: Global, config: &Config) -> Result<Lines, NoMemory>
 }
 
 // Runs the plan of a configuration by these routers.
-fn run_by<T: Wait, W: World>(
+fn run_by<T: Threads + Wait + Sync, W: World>(
     rt: &T,
     alloc: Global,
     config: Config,
@@ -71,7 +72,7 @@ fn run_by<T: Wait, W: World>(
 }
 
 // Runs a configuration with the table of its log paths.
-fn run_config<T: Wait, W: World>(
+fn run_config<T: Threads + Wait + Sync, W: World>(
     rt: &T,
     alloc: Global,
     loaded: Loaded,
@@ -101,7 +102,7 @@ fn run_config<T: Wait, W: World>(
 /// most, 1 to 2^36, and closes the devices. With `once` the run ends once all input was taken, and a
 /// destination whose outlet fails three times in a row is given up. The outcome has the text that is to
 /// be said. A file that isn't loaded opens nothing.
-pub fn run_file<T: Wait, W: World>(
+pub fn run_file<T: Threads + Wait + Sync, W: World>(
     rt: &T,
     alloc: Global,
     file: &[u8],

@@ -16,12 +16,14 @@ use crate::stores::open_stores;
 use crate::{Early, Ending};
 use sg_actor::SourceActor;
 use sg_core::{Core, CoreRefusal};
+use sg_crew::serve;
 use sg_destination::OutletPlan;
-use sg_engine::{Served, serve};
+use sg_engine::Served;
 use sg_route::Router;
 use sg_world::World;
 use std::alloc::Global;
 use std::sync::Wait;
+use std::thread::Threads;
 
 // What a refused opening of the core is to the run.
 fn refused(refusal: CoreRefusal) -> Early
@@ -35,7 +37,7 @@ fn refused(refusal: CoreRefusal) -> Early
 }
 
 // With the core and the inlets open: opens the outlets, and runs the rounds.
-fn run_dests<T: Wait, W: World, R: Router + Drop>(
+fn run_dests<T: Threads + Wait + Sync, W: World, R: Router + Send + Drop>(
     rt: &T,
     alloc: Global,
     core: Core<W::Store>,
@@ -89,7 +91,7 @@ fn run_dests<T: Wait, W: World, R: Router + Drop>(
 }
 
 // With the stores open: opens the core over them, and then the inlets.
-fn run_core<T: Wait, W: World, R: Router + Drop>(
+fn run_core<T: Threads + Wait + Sync, W: World, R: Router + Send + Drop>(
     rt: &T,
     alloc: Global,
     plan: RunPlan,
@@ -142,7 +144,7 @@ fn run_core<T: Wait, W: World, R: Router + Drop>(
 }
 
 // Opens the stores, and runs what stands over them. What is left open comes back.
-fn run_stores<T: Wait, W: World, R: Router + Drop>(
+fn run_stores<T: Threads + Wait + Sync, W: World, R: Router + Send + Drop>(
     rt: &T,
     alloc: Global,
     plan: RunPlan,
@@ -166,7 +168,7 @@ fn run_stores<T: Wait, W: World, R: Router + Drop>(
 /// Opens the devices of a plan, stores, inlets and outlets, each in its order, and the flow core over
 /// its stores; runs the rounds, so many at most, 1 to 2^36; and closes the devices, each kind in the order
 /// in which it was opened. There is a router for each inlet.
-pub fn run_plan<T: Wait, W: World, R: Router + Drop>(
+pub fn run_plan<T: Threads + Wait + Sync, W: World, R: Router + Send + Drop>(
     rt: &T,
     alloc: Global,
     plan: RunPlan,

@@ -7,9 +7,15 @@ use crate::status::Status;
 use sg_world::World;
 use std::alloc::Global;
 use std::sync::Wait;
+use std::thread::Threads;
 
 /// Runs a fixed configuration on so many records over a machine in memory, and says how that ended.
-pub fn drill<T: Wait, W: World>(rt: &T, alloc: Global, records: u64, world: &mut W) -> Status
+pub fn drill<T: Threads + Wait + Sync, W: World>(
+    rt: &T,
+    alloc: Global,
+    records: u64,
+    world: &mut W,
+) -> Status
     requires records { records ≤ 100000 }
     ensures { DrillsCommand (W.state world.old) (W.state world.new) records result }
 {

@@ -21,6 +21,7 @@ use std::alloc::{AllocError, Global};
 use std::io::ErrorKind;
 use std::process::ExitCode;
 use std::sync::Wait;
+use std::thread::Threads;
 use std::{env, fs};
 pub use top::daemon;
 
@@ -58,7 +59,11 @@ fn read_bytes(alloc: Global, rt: &HostRuntime) -> Result<Vec<Name>, AllocError> 
 
 /// Does what the words of the command line ask for, on the machine's files and sockets. `waits` is the
 /// runtime again, as what may wait.
-fn run_words<T: Wait>(waits: &T, alloc: Global, rt: HostRuntime) -> Result<Status, AllocError> {
+fn run_words<T: Threads + Wait + Sync>(
+    waits: &T,
+    alloc: Global,
+    rt: HostRuntime,
+) -> Result<Status, AllocError> {
     let words = read_words(alloc, &rt)?;
     let mut machine = HostMachine::new(rt)?;
     Ok(daemon(waits, alloc, &words, &mut machine))

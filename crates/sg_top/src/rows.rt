@@ -8,6 +8,7 @@ use sg_world::MemoryMachine;
 use std::alloc::{AllocError, Global};
 use std::sync::Wait;
 use std::test::Fail;
+use std::thread::Threads;
 
 const CONFIG: &[u8] =
     b"@version: 4.2\nsource s { file(\"in\" flags(no-parse)); };\ndestination d { file(\"out\" template(\"$MSG\\n\")); };\nlog { source(s); destination(d); flags(flow-control); };\n";
@@ -16,7 +17,8 @@ const CONFIG: &[u8] =
 // among its kind; the words; the exit status; the frames taken; what is said. `~` is LF. The calls are those of
 // reading a configuration, of opening a store, of its disk, of opening the inlet and of pulling, of opening the
 // outlet and of sending, and of saying; with `sends` all those behind it fail too. A disk is called four times
-// at its opening, and four times for a position.
+// at its opening, and four times for a position. The actors of a round take their turns at the same time: where a row
+// ends early, its second record comes some rounds behind the first one, so that each order of their turns ends so.
 const ROWS: &str = "\
 one~two~;0;;run c --once;0;one~two~;source 0 records 2 bad-frames 0 position 8~destination 0 taken 2 dropped-full 0 dropped-disk 0 left 0~status 0~
 ;0;;run c --once;0;;source 0 records 0 bad-frames 0 position 0~destination 0 taken 0 dropped-full 0 dropped-disk 0 left 0~status 0~
@@ -38,10 +40,10 @@ one~;100;disk 7;run c --once;7;;store 0 failed~
 one~;0;disk 4;run c --once;7;one~;source 0 records 1 bad-frames 0 position 0~destination 0 taken 1 dropped-full 0 dropped-disk 0 left 0~fault store 0~status 7~
 one~;0;disk 7;run c --once;7;one~;source 0 records 1 bad-frames 0 position 0~destination 0 taken 1 dropped-full 0 dropped-disk 0 left 0~fault store 0~status 7~
 one~two~;0;send 1;run c --once;0;one~two~;source 0 records 2 bad-frames 0 position 8~destination 0 taken 2 dropped-full 0 dropped-disk 0 left 0~status 0~
-one~two~;0;sends 1;run c --once;6;one~;source 0 records 2 bad-frames 0 position 4~destination 0 taken 1 dropped-full 0 dropped-disk 0 left 1~fault sink 0~status 6~
+one~twotwotwotwo~;0;sends 1;run c --once;6;one~;source 0 records 2 bad-frames 0 position 4~destination 0 taken 1 dropped-full 0 dropped-disk 0 left 1~fault sink 0~status 6~
 one~two~;0;pull 1;run c --once;8;one~;source 0 records 1 bad-frames 0 position 4~destination 0 taken 1 dropped-full 0 dropped-disk 0 left 0~fault inlet 0~status 8~
 one~;0;say 0;run c --once;10;one~;
-one~two~;0;;run c --once --rounds 1;9;one~;source 0 records 1 bad-frames 0 position 0~destination 0 taken 1 dropped-full 0 dropped-disk 0 left 0~status 9~
+one~twotwotwotwo~;0;;run c --once --rounds 2;9;one~;source 0 records 1 bad-frames 0 position 0~destination 0 taken 1 dropped-full 0 dropped-disk 0 left 0~status 9~
 one~two~;0;;run c --rounds 9;9;one~two~;source 0 records 2 bad-frames 0 position 8~destination 0 taken 2 dropped-full 0 dropped-disk 0 left 0~status 9~
 ";
 
@@ -224,7 +226,7 @@ fn taken(alloc: Global, world: &MemoryWorld) -> Result<Vec<u8>, AllocError> {
 }
 
 /// Whether these words end with this status, and this is said, in a machine whose input is one line.
-fn answers<T: Wait>(
+fn answers<T: Threads + Wait + Sync>(
     rt: &T,
     alloc: Global,
     words: &[Name],
@@ -237,7 +239,10 @@ fn answers<T: Wait>(
 }
 
 /// Whether a second run takes the new lines alone.
-fn takes_new_lines_alone<T: Wait>(rt: &T, alloc: Global) -> Result<bool, AllocError> {
+fn takes_new_lines_alone<T: Threads + Wait + Sync>(
+    rt: &T,
+    alloc: Global,
+) -> Result<bool, AllocError> {
     let words = words(alloc, "run c --once")?;
     let mut first = with_input(alloc, b"one\ntw")?;
     let status = daemon(rt, alloc, &words, &mut first);

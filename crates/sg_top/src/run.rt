@@ -10,6 +10,7 @@ use sg_run::{Outcome, run_file};
 use sg_world::World;
 use std::alloc::Global;
 use std::sync::Wait;
+use std::thread::Threads;
 
 /// Says what a run came to.
 pub(crate) fn tell_outcome<W: World>(alloc: Global, outcome: Outcome, world: &mut W) -> Status
@@ -20,7 +21,7 @@ pub(crate) fn tell_outcome<W: World>(alloc: Global, outcome: Outcome, world: &mu
 }
 
 /// Runs the configuration FILE, so many rounds at most, and says how that ended.
-pub fn run<T: Wait, W: World>(
+pub fn run<T: Threads + Wait + Sync, W: World>(
     rt: &T,
     alloc: Global,
     file: &[u8],

@@ -9,6 +9,7 @@ use sg_world::MemoryMachine;
 use std::alloc::{AllocError, Global};
 use std::sync::Wait;
 use std::test::Fail;
+use std::thread::Threads;
 
 // An open gate, the length and an entry of format 1, and the same of an entry of format 2.
 const OLDER: &str =
@@ -137,7 +138,7 @@ fn spec(alloc: Global, name: &[u8]) -> Result<StoreSpec, AllocError> {
 }
 
 // Whether a store that isn't there can't be opened, and isn't made.
-fn opens_what_is_there<T: Wait>(rt: &T, alloc: Global) -> Result<bool, Fail> {
+fn opens_what_is_there<T: Threads + Wait + Sync>(rt: &T, alloc: Global) -> Result<bool, Fail> {
     let mut machine = with_store(alloc, laid(alloc, "128", "")?)?;
     let status = daemon(rt, alloc, &words(alloc, "spool r")?, &mut machine);
     let made = machine.world.open_store(alloc, &spec(alloc, b"r")?).is_ok();
@@ -146,7 +147,7 @@ fn opens_what_is_there<T: Wait>(rt: &T, alloc: Global) -> Result<bool, Fail> {
 }
 
 // Whether a store of many entries, whose lines are said in pieces, is listed whole.
-fn lists_many<T: Wait>(rt: &T, alloc: Global) -> Result<bool, Fail> {
+fn lists_many<T: Threads + Wait + Sync>(rt: &T, alloc: Global) -> Result<bool, Fail> {
     let mut store = vec![in alloc; 0u8; 64]?;
     let mut lines = Vec::new(alloc);
     for k in 0..1000u32 {

@@ -15,6 +15,7 @@ use sg_words::{Command, command_of};
 use sg_world::World;
 use std::alloc::Global;
 use std::sync::Wait;
+use std::thread::Threads;
 
 /// Does what the words of the command line ask for, without the program's name, and answers how it ended.
 ///
@@ -24,7 +25,12 @@ use std::sync::Wait;
 /// entries of the disk-buffer's store FILE. `drill N` moves N records through a fixed configuration over
 /// devices in memory. `--help` says how the program is used, and `--version` which version
 /// it is.
-pub fn daemon<T: Wait, W: World>(rt: &T, alloc: Global, words: &[Name], world: &mut W) -> Status
+pub fn daemon<T: Threads + Wait + Sync, W: World>(
+    rt: &T,
+    alloc: Global,
+    words: &[Name],
+    world: &mut W,
+) -> Status
     ensures { Answers W.Feed.state W.Drain.state (W.state world.old) (W.state world.new)
         (asked words.now) result }
 {

@@ -12,6 +12,7 @@ use std::alloc::Global;
 use std::collections::VecDeque;
 use std::mem::replace;
 use std::sync::Wait;
+use std::thread::Threads;
 
 /// The rounds of a run of which no line says how many it has, as of the command.
 const ROUNDS: u64 = 1 << 36;
@@ -92,7 +93,11 @@ impl Stage {
     }
 
     /// Does what a line says.
-    pub(crate) fn hear<T: Wait>(&mut self, rt: &T, line: &str) -> Result<Heard, NoMemory> {
+    pub(crate) fn hear<T: Threads + Wait + Sync>(
+        &mut self,
+        rt: &T,
+        line: &str,
+    ) -> Result<Heard, NoMemory> {
         let (word, rest) = line.split_once(' ').unwrap_or((line, ""));
         match word {
             "run" => self.run(rt, rest, false),
@@ -225,7 +230,7 @@ impl Stage {
     }
 
     // A run over these stores: its answer, and its status where the configuration was loaded.
-    fn run_over<T: Wait>(
+    fn run_over<T: Threads + Wait + Sync>(
         &mut self,
         rt: &T,
         stores: MemoryStores,
@@ -247,7 +252,12 @@ impl Stage {
         }
     }
 
-    fn run<T: Wait>(&mut self, rt: &T, name: &str, again: bool) -> Result<Heard, NoMemory> {
+    fn run<T: Threads + Wait + Sync>(
+        &mut self,
+        rt: &T,
+        name: &str,
+        again: bool,
+    ) -> Result<Heard, NoMemory> {
         let empty = MemoryStores::new(self.alloc);
         let stores = if again {
             replace(&mut self.kept, empty)
@@ -261,7 +271,7 @@ impl Stage {
     }
 
     // A run in which this call of that store fails.
-    fn run_failing<T: Wait>(
+    fn run_failing<T: Threads + Wait + Sync>(
         &mut self,
         rt: &T,
         store: u8,
@@ -278,7 +288,11 @@ impl Stage {
     }
 
     // The statuses of runs in each of which the next call of a store fails.
-    fn run_each<T: Wait>(&mut self, rt: &T, rest: &str) -> Result<Heard, NoMemory> {
+    fn run_each<T: Threads + Wait + Sync>(
+        &mut self,
+        rt: &T,
+        rest: &str,
+    ) -> Result<Heard, NoMemory> {
         let alloc = self.alloc;
         let Some((store, name)) = rest.split_once(' ') else {
             return Ok(Heard::Unknown);

@@ -21,9 +21,11 @@ use sg_template::{Env, Template};
 use sg_world::MemoryMachine;
 use std::alloc::{AllocError, Global};
 use std::sync::Wait;
+use std::thread::Threads;
 
-// The call that fails, how the run ends, what failed first, and the frames of the last outlet.
-const ROWS: &str = r#"none;quiet;none;1b~1d~
+// The call that fails, how the run ends, what failed first, and the frames of the last outlet: those of one source in their
+// order, and the two sources' in any, as ` or ` says.
+const ROWS: &str = r#"none;quiet;none;1b~1d~ or 1d~1b~
 store 0;store 0;none;
 store 1;store 1;none;
 inlet 1;inlet 1;none;
@@ -223,14 +225,8 @@ fn failed(ending: &Ending, what: &str) -> bool {
     }
 }
 
-// The frames that the last outlet took, one behind the other, with `~` for LF.
-fn has_taken(world: &MemoryWorld, frames: &str) -> bool {
-    let mut taken: &[u8] = &[];
-    if let Some(cell) = world.closed_outlets()
-        && let Some(outlet) = &cell.closed
-    {
-        taken = outlet.frames().bytes();
-    }
+// Whether these are the frames, one behind the other, with `~` for LF.
+fn are(taken: &[u8], frames: &str) -> bool {
     let frames = frames.as_bytes();
     if taken.len() != frames.len() {
         return false;
@@ -243,7 +239,19 @@ fn has_taken(world: &MemoryWorld, frames: &str) -> bool {
     true
 }
 
-fn shows<T: Wait>(rt: &T, alloc: Global, row: &str) -> Result<bool, NoMemory> {
+// Whether the last outlet took these frames, or those behind ` or `.
+fn has_taken(world: &MemoryWorld, frames: &str) -> bool {
+    let mut taken: &[u8] = &[];
+    if let Some(cell) = world.closed_outlets()
+        && let Some(outlet) = &cell.closed
+    {
+        taken = outlet.frames().bytes();
+    }
+    let (one, other) = frames.split_once(" or ").unwrap_or((frames, frames));
+    are(taken, one) || are(taken, other)
+}
+
+fn shows<T: Threads + Wait + Sync>(rt: &T, alloc: Global, row: &str) -> Result<bool, NoMemory> {
     let (fails, rest) = row.split_once(';').unwrap_or((row, ""));
     let (how, rest) = rest.split_once(';').unwrap_or((rest, ""));
     let (what, frames) = rest.split_once(';').unwrap_or((rest, ""));
