@@ -57,6 +57,12 @@ THREE = "".join(
         *("log { source(s); filter(f_%s); destination(d_%s); flags(flow-control); };\n" % (name, name) for name in ("auth", "error", "late")),
     ]
 )
+# Records of each of eight facilities to a file of its own.
+APART = "".join(
+    'filter f_%d { facility(local%d); };\ndestination d_%d { file("out%d" template("$DATE $HOST $MSGHDR$MSG\\n")); };\n'
+    "log { source(s); filter(f_%d); destination(d_%d); flags(flow-control); };\n" % ((k,) * 6)
+    for k in range(8)
+)
 
 
 def filled(record, length):
@@ -79,6 +85,11 @@ def mixed(k, length):
     return filled(b"<%d>Oct 11 22:14:15 mymachine %s[%d]: record %d %s " % (pri, program, k % 1000, k, event), length)
 
 
+def local(k, length):
+    """Of each eight records one has each of the facilities local0 to local7, so each of eight connections has one of them."""
+    return filled(b"<%d>Oct 11 22:14:15 mymachine su[7]: record %d " % ((16 + k % 8) * 8 + 6, k), length)
+
+
 def counted(k, length):
     record = filled(
         b"<165>1 2003-10-11T22:14:15.003Z mymachine evntslog 8710 ID47 "
@@ -98,6 +109,10 @@ def of_mixed(count):
     return {name: sum(count // 8 + (k < count % 8) for k in places) for name, places in kinds.items()}
 
 
+def of_local(count):
+    return {"out%d" % k: (count + 7 - k) // 8 for k in range(8)}
+
+
 class Job:
     """`wanted` is how many times syslog-ng's rate the job is to reach."""
 
@@ -112,6 +127,8 @@ JOBS = [
     Job("filters", 1, mixed, PARSED + THREE, of_mixed),
     Job("tcp 1", 1, bsd, TCP % (1, PULLS) + COPY % "$DATE $HOST $MSGHDR$MSG", connections=1),
     Job("tcp 8", 1, bsd, TCP % (8, PULLS) + COPY % "$DATE $HOST $MSGHDR$MSG", connections=8),
+    Job("apart, tcp 1", 1, local, TCP % (1, PULLS) + APART, of_local, connections=1),
+    Job("apart, tcp 8", 1, local, TCP % (8, PULLS) + APART, of_local, connections=8),
     Job("counted 5424", 1, counted, COUNTED + COPY % "<$PRI>1 $ISODATE $HOST $PROGRAM $PID $MSGID ${.SDATA.exampleSDID@32473.eventID} $MSG", connections=1),
     Job("buffer, peer up", 1, plain, PLAIN + PEER, peer="up"),
     Job("buffer, peer away", 1, plain, PLAIN + PEER, peer="away"),

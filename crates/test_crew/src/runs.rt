@@ -28,7 +28,9 @@ use std::thread::Threads;
 // first destination that fail, counted from 0; whether it gives up; the rounds at most; and how the run
 // ends, what each destination took, first what came of the first file, then what came of the second, and the
 // stored position of each file. A line that begins with 1 goes to the second destination, and its second
-// letter tells its file: of two files, whose lines come first is free.
+// letter tells its file: of two files, whose lines come first is free. A file `many N` has N lines, in turn to the
+// one destination and the other, and `all N` is what they take of two such files. Of these a turn brings in
+// hundreds, so that rounds behind the first one are taken on threads too.
 const ROWS: &str = "\
 each line to its destination / 0a1$1a2$0a3$ / 1b1$0b2$1b3$ / / / 20 / quiet / 0a1 0a3 0b2 | 1a2 1b1 1b3 | / 12 12
 two empty files / / / / / 20 / quiet / | | / 0 0
@@ -38,7 +40,8 @@ an open last line stays / 0a1$0b / / / / 20 / quiet / 0a1 | | / 4 0
 a send that fails once / 0a1$1a2$ / 1b1$0b2$ / 0 / / 20 / quiet / 0a1 0b2 | 1a2 1b1 | / 8 8
 a destination that is given up / 0a1$1a2$ / 1b1$0b2$ / 0 1 2 / gives-up / 20 / quiet / | 1a2 1b1 | / 0 4
 a destination that fails for ever / 0a1$ / 1b1$ / 0 1 2 3 4 5 6 7 8 9 / / 8 / spent / | 1b1 | / 0 4
-many lines / 0a1$1a2$0a3$0a4$0a5$1a6$0a7$0a8$ / 0b1$0b2$0b3$1b4$0b5$1b6$0b7$ / / / 40 / quiet / 0a1 0a3 0a4 0a5 0a7 0a8 0b1 0b2 0b3 0b5 0b7 | 1a2 1a6 1b4 1b6 | / 32 28";
+many lines / 0a1$1a2$0a3$0a4$0a5$1a6$0a7$0a8$ / 0b1$0b2$0b3$1b4$0b5$1b6$0b7$ / / / 40 / quiet / 0a1 0a3 0a4 0a5 0a7 0a8 0b1 0b2 0b3 0b5 0b7 | 1a2 1a6 1b4 1b6 | / 32 28
+thousands of lines / many 2000 / many 2000 / / / 200 / quiet / all 2000 / 12890 12890";
 
 fn numbers(alloc: Global, words: &str) -> Result<Vec<u64>, Fail> {
     let mut numbers = Vec::new(alloc);
@@ -48,26 +51,44 @@ fn numbers(alloc: Global, words: &str) -> Result<Vec<u64>, Fail> {
     Ok(numbers)
 }
 
-fn bytes_of(alloc: Global, text: &str) -> Result<Vec<u8>, Fail> {
+fn spelled(alloc: Global, text: &str) -> Result<Vec<u8>, Fail> {
     let mut bytes = Vec::new(alloc);
-    for byte in text.trim().as_bytes() {
+    for byte in text.as_bytes() {
         bytes.push(if *byte == b'$' { b'\n' } else { *byte })?;
     }
     Ok(bytes)
+}
+
+// So many lines of a file.
+fn lines_of(alloc: Global, file: &str, count: u64) -> Result<Vec<u8>, Fail> {
+    let mut bytes = Vec::new(alloc);
+    for k in 0..count {
+        let line = format!(in alloc; "{}{file}{k}\n", k % 2)?;
+        bytes.extend_from_slice(line.as_bytes())?;
+    }
+    Ok(bytes)
+}
+
+fn bytes_of(alloc: Global, file: &str, text: &str) -> Result<Vec<u8>, Fail> {
+    match text.trim().strip_prefix("many ") {
+        Some(count) => lines_of(alloc, file, count.parse().unwrap_or(0)),
+        None => spelled(alloc, text.trim()),
+    }
 }
 
 fn source(alloc: Global, inlet: u32, text: &str) -> Result<SourceActor<ByDigit, MemoryInlet>, Fail>
     requires { inlet < 2 }
     ensures { IfOk result (λ a. IsSource inlet_of two two tried inlet a) }
 {
-    let pace = Pace { piece: 64, at: 0 };
+    let pace = Pace { piece: 4096, at: 0 };
+    let letter = if inlet == 0 { "a" } else { "b" };
     let plan = Plan::new(Vec::new(alloc));
-    let file = MemoryInlet::file(alloc, bytes_of(alloc, text)?, 0, pace, true, plan)?;
+    let file = MemoryInlet::file(alloc, bytes_of(alloc, letter, text)?, 0, pace, true, plan)?;
     let spec = SourceSpec {
         inlet,
         kind: FrameKind::Lines,
         limit: 100,
-        fetch: 100,
+        fetch: 1000,
         from: 0,
         stored: true,
     };
@@ -113,11 +134,11 @@ fn setup(alloc: Global) -> Result<Setup, Fail>
 {
     let mut sources = Seq::empty(alloc);
     sources.push(SourceSetup {
-        window: 100,
+        window: 1000,
         store: Some(0),
     })?;
     sources.push(SourceSetup {
-        window: 100,
+        window: 1000,
         store: Some(1),
     })?;
     let mut dests = Seq::empty(alloc);
@@ -267,6 +288,40 @@ fn taken(alloc: Global, dests: Vec<DestActor<MemoryOutlet>>) -> Result<Vec<u8>, 
     }
 }
 
+// What a destination takes of so many lines of a file.
+fn add_lines(
+    alloc: Global,
+    bytes: &mut Vec<u8>,
+    dest: u64,
+    file: &str,
+    count: u64,
+) -> Result<(), Fail> {
+    for k in 0..count {
+        if k % 2 == dest {
+            let word = format!(in alloc; "{dest}{file}{k} ")?;
+            bytes.extend_from_slice(word.as_bytes())?;
+        }
+    }
+    Ok(())
+}
+
+// What the destinations are to take, as `taken` says it.
+fn wanted(alloc: Global, frames: &str) -> Result<Vec<u8>, Fail> {
+    let mut bytes = Vec::new(alloc);
+    let Some(count) = frames.strip_prefix("all ") else {
+        bytes.extend_from_slice(frames.as_bytes())?;
+        return Ok(bytes);
+    };
+    let count = count.parse().unwrap_or(0);
+    add_lines(alloc, &mut bytes, 0, "a", count)?;
+    add_lines(alloc, &mut bytes, 0, "b", count)?;
+    bytes.extend_from_slice(b"| ")?;
+    add_lines(alloc, &mut bytes, 1, "a", count)?;
+    add_lines(alloc, &mut bytes, 1, "b", count)?;
+    bytes.extend_from_slice(b"|")?;
+    Ok(bytes)
+}
+
 // Whether the run came to what the row says.
 fn came(
     alloc: Global,
@@ -291,7 +346,7 @@ fn came(
     let stored = format!(in alloc; "{first} {second}")?;
     Ok(
         name(ended) == end
-            && frames_taken.trim_ascii() == frames.as_bytes()
+            && frames_taken.trim_ascii() == wanted(alloc, frames)?.as_slice()
             && stored.as_str() == positions,
     )
 }
