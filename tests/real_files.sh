@@ -387,6 +387,20 @@ same() {
     if cmp -s same.wanted "$3"; then passed=$((passed + 1)); else failed=$((failed + 1)); echo "$1:"; cat "$3" errors; fi
 }
 
+# merged NAME FILE WANTED..: whether the file holds the lines of each WANTED, printf formats, in order, and no others. Which of two
+# sources comes first is free, since they take their turns at the same time.
+merged() {
+    name=$1 file=$2 lines=0 good=yes
+    shift 2
+    for part; do
+        printf "$part" >merged.wanted
+        lines=$((lines + $(grep -c '' merged.wanted)))
+        grep -xFf merged.wanted "$file" | cmp -s - merged.wanted || good=no
+    done
+    [ "$(grep -c '' "$file")" = "$lines" ] || good=no
+    if [ $good = yes ]; then passed=$((passed + 1)); else failed=$((failed + 1)); echo "$name:"; cat "$file"; fi
+}
+
 # The examples. The first one is that of README.md.
 mkdir -p examples/first examples/blocks
 cp "$top/examples/first/errors.conf" "$top/examples/first/in.log" examples/first
@@ -406,13 +420,13 @@ fourth='Feb  5 18:32:20 localhost app: 7 rows\n'
 expect 'the example with log paths' 0 "record 0 destination 0 flow yes length 51\n$first\nrecord 0 destination 1 flow no length 55\n$second\nrecord 1 destination 1 flow no length 43\n$third\nrecord 2 destination 2 flow no length 38\n$fourth\n" - trace "$top/examples/trace/paths.conf" s_local "$top/examples/trace/in.log"
 
 # Two sources, three destinations and filters.
-rm -f out pos-*
+rm -f pos-*
 cat >several <<'END'
 @version: 4.2
 source s_a { file("a.log" flags(no-parse)); };
 source s_b { file("b.log" flags(no-parse)); };
 filter f_error { message("error"); };
-destination d_all { file("out" template("$MSG\n")); };
+destination d_all { file("all" template("$MSG\n")); };
 destination d_error { file("error.log" template("E $MSG\n")); };
 destination d_b { file("b.out" template("$MSG\n")); };
 log { source(s_a); source(s_b); destination(d_all); flags(flow-control); };
@@ -421,11 +435,15 @@ log { source(s_b); destination(d_b); };
 END
 printf 'one\nan error\ntwo\n' >a.log
 printf 'three\nerror four\n' >b.log
-expect 'two sources and three destinations' 0 'source 0 records 3 bad-frames 0 position 17\nsource 1 records 2 bad-frames 0 position 17\ndestination 0 taken 5 dropped-full 0 dropped-disk 0 left 0\ndestination 1 taken 2 dropped-full 0 dropped-disk 0 left 0\ndestination 2 taken 2 dropped-full 0 dropped-disk 0 left 0\nstatus 0\n' 'one\nan error\ntwo\nthree\nerror four\n' run several --once
-same 'what a filter lets through' 'E an error\nE error four\n' error.log
+expect 'two sources and three destinations' 0 'source 0 records 3 bad-frames 0 position 17\nsource 1 records 2 bad-frames 0 position 17\ndestination 0 taken 5 dropped-full 0 dropped-disk 0 left 0\ndestination 1 taken 2 dropped-full 0 dropped-disk 0 left 0\ndestination 2 taken 2 dropped-full 0 dropped-disk 0 left 0\nstatus 0\n' - run several --once
+merged 'what two sources give' all 'one\nan error\ntwo\n' 'three\nerror four\n'
+merged 'what a filter lets through' error.log 'E an error\n' 'E error four\n'
 same 'what one source gives' 'three\nerror four\n' b.out
+# In the second round all is taken that came in in the first one.
 printf 'x\n' >>a.log
-expect 'one round' 9 'source 0 records 4 bad-frames 0 position 0\nsource 1 records 2 bad-frames 0 position 0\ndestination 0 taken 6 dropped-full 0 dropped-disk 0 left 0\ndestination 1 taken 2 dropped-full 0 dropped-disk 0 left 0\ndestination 2 taken 2 dropped-full 0 dropped-disk 0 left 0\nstatus 9\n' 'one\nan error\ntwo\nx\nthree\nerror four\n' run several --once --rounds 1
+rm all
+expect 'two rounds' 9 'source 0 records 4 bad-frames 0 position 0\nsource 1 records 2 bad-frames 0 position 0\ndestination 0 taken 6 dropped-full 0 dropped-disk 0 left 0\ndestination 1 taken 2 dropped-full 0 dropped-disk 0 left 0\ndestination 2 taken 2 dropped-full 0 dropped-disk 0 left 0\nstatus 9\n' - run several --once --rounds 2
+merged 'what two rounds give' all 'one\nan error\ntwo\nx\n' 'three\nerror four\n'
 
 # A file is followed.
 rm -f out pos-*
