@@ -4,7 +4,6 @@
 
 mod gather;
 mod lanes;
-mod meter;
 mod round;
 mod rounds;
 mod run;

@@ -8,13 +8,11 @@ use sg_device::Disk;
 use sg_hub::{Hub, Seat};
 use std::collections::VecDeque;
 
-/// An actor, its seat, and what its last turn came to: None where it found no memory, or there was none;
-/// and how many records a source brought in then.
+/// An actor, its seat, and what its last turn came to: None where it found no memory, or there was none.
 pub(crate) struct Worker<A, D: Disk> {
     pub(crate) actor: A,
     pub(crate) seat: Seat<D>,
     pub(crate) turn: Option<Turned>,
-    pub(crate) records: usize,
 }
 
 /// Each actor gets a seat, which has no turns yet.
@@ -39,7 +37,6 @@ pub(crate) fn seat_all<A, D: Disk>(
             actor,
             seat,
             turn: None,
-            records: 0,
         });
     }
     rest.destroy_empty();
@@ -59,7 +56,6 @@ pub(crate) fn free_all<A, D: Disk>(workers: Vec<Worker<A, D>>, room: Vec<A>) -> 
             actor,
             seat: _,
             turn: _,
-            records: _,
         } = worker;
         actors.push_reserved(actor);
     }

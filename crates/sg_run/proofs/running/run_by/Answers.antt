@@ -1,4 +1,6 @@
+use denote.Param.Send.{sendable}
 use Rattle.std.proofs.Common.{sym, subst, Ok, Err, arith}
+use Rattle.sg_pipes.proofs.Sent.{pipes}
 use Rattle.sg_loaded.specs.declared.loaded.Unloaded.TheVariants.{NoMemory}
 use Rattle.sg_serve.specs.Plan.{IsRunnable, AllKnow}
 use Rattle.sg_serve.specs.Run.{RunsPlan}
@@ -8,6 +10,9 @@ use Rattle.sg_run.specs.Run.{offers_by, inlets_by, dests_by}
 use Rattle.sg_run.proofs.PlanLemmas.{runnable, all-know}
 use Rattle.sg_run.proofs.RunLemmas.{tells-by, runs-by, lines-by-plan}
 use Rattle.sg_run.proofs.running.run_by.Goals as goal
+
+pub run_plan-ending-requires-send-R : goal.run_plan-ending-requires-send-R
+run_plan-ending-requires-send-R g c κs lives = search (pipes, sendable) depth 30 fits 20000
 
 pub run_plan-ending-requires-clause-plan : goal.run_plan-ending-requires-clause-plan
 run_plan-ending-requires-clause-plan g c = λ κs lives.

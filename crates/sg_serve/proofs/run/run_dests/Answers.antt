@@ -7,7 +7,8 @@ use Rattle.sg_serve.proofs.RunLemmas.{are-dests, calls-go, ok-some}
 use Rattle.sg_serve.proofs.run.run_dests.Goals as goal
 
 pub serve-ended-requires-clause-dests : goal.serve-ended-requires-clause-dests
-serve-ended-requires-clause-dests g c = are-dests g.W.Drain.Outlet.state c.args.once c.args.outlets.items (setup_of c.args.core) c.in-Ok.dests.items c.in-Ok.ensures.new c.in-Ok.ensures.all c.requires.count
+serve-ended-requires-clause-dests g c = λ κs lives.
+    are-dests g.W.Drain.Outlet.state c.args.once c.args.outlets.items (setup_of c.args.core) c.in-Ok.dests.items c.in-Ok.ensures.new c.in-Ok.ensures.all c.requires.count
 
 pub count_all-requires-clause-stores : goal.count_all-requires-clause-stores
 count_all-requires-clause-stores g c =
