@@ -7,7 +7,7 @@ use Rattle.sg_list.proofs.ListLemmas.{some-same, slice_get-some, slice_get-below
 use Rattle.sg_device.specs.Disk.{DiskState}
 use Rattle.sg_device.specs.Inlet.{InletState, Part}
 use Rattle.sg_device.specs.Outlet.{OutletState}
-use Rattle.sg_outside.specs.World.{Files}
+use Rattle.sg_outside.specs.World.{WorldState, Files}
 use Rattle.sg_msg.specs.declared.offer.Offer.{Offer}
 use Rattle.sg_frame.specs.Items.{items_of}
 use Rattle.sg_frame.specs.Records.{Record, record_of, records_of, records}
@@ -19,6 +19,7 @@ use Rattle.sg_machine.specs.declared.event.Act.{Act}
 use Rattle.sg_machine.specs.declared.event.Act.TheVariants.{Admit, Settle, Refill, Store, Rewind, Look}
 use Rattle.sg_machine.specs.declared.event.Admission.{Admission}
 use Rattle.sg_machine.specs.declared.event.Event.{Event}
+use Rattle.sg_machine.specs.declared.setup.BufferSetup.{BufferSetup}
 use Rattle.sg_machine.specs.declared.setup.DestSetup.{DestSetup}
 use Rattle.sg_machine.specs.declared.setup.Setup.{Setup}
 use Rattle.sg_machine.specs.declared.setup.SourceSetup.{SourceSetup}
@@ -51,10 +52,11 @@ use Rattle.sg_turns.proofs.LawLemmas.{read-on}
 use Rattle.sg_source.specs.declared.inlet.InletPlan.{InletPlan}
 use Rattle.sg_headline.specs.Headline.{admissions_by, admissions_of}
 use Rattle.sg_serve.specs.Actors.{SourceView, source_view}
+use Rattle.sg_serve.specs.Counts.{first_fault}
 use Rattle.sg_serve.specs.Devices.{inlet_asked}
 use Rattle.sg_serve.specs.Plan.{IsRunnable}
 use Rattle.sg_serve.specs.Rewinds.{position_at, places_of, rewinds_from}
-use Rattle.sg_serve.specs.Run.{CoreRun, Reached, HoldsRun, IsServed, Holds}
+use Rattle.sg_serve.specs.Run.{CoreRun, Reached, HoldsRun, IsServed, Holds, RunsWith}
 use Rattle.sg_serve.specs.declared.counts.Counts.{Counts}
 use Rattle.sg_serve.specs.declared.ending.Ending.TheVariants.{Ran as RanSo}
 use Rattle.sg_serve.specs.declared.plan.RunPlan.{RunPlan}
@@ -72,12 +74,14 @@ use Rattle.sg_runs.specs.Law.{offers_in, EndsClean}
 use Rattle.sg_runs.proofs.HasLemmas.{has-nil, has-cons, has-map}
 use Rattle.sg_runs.proofs.OpenLemmas.{opened-inlet-at}
 use Rattle.sg_runs.proofs.PieceLemmas.{ends, last_of, behind-has, behind-rises, rising}
-use Rattle.sg_covered.specs.Runs.{AreImagesOf, AreListsBy, held_by, positions_by, EachChoice, AllTell, files_of}
+use Rattle.sg_covered.specs.Runs.{AreImagesOf, AreListsBy, held_by, positions_by, EachChoice, AllTell, AreOfFiles, TellFiles, files_of}
 use Rattle.sg_covered.specs.Clean.{AreLines, PlanRunsEndClean}
+use Rattle.sg_covered.proofs.GaveLemmas.{Gave, gave-file}
+use Rattle.sg_covered.proofs.HappenedLemmas.{given-pieces, files-here, fetch-some, happens}
 use Rattle.sg_covered.proofs.MergeLemmas.{record_piece}
 use Rattle.sg_covered.proofs.OpenLemmas.{contents, contents-images, contents-lists, begins-with}
 use Rattle.sg_covered.proofs.PlaceLemmas.{rewinds-here, stands-place}
-use Rattle.sg_covered.proofs.RunLemmas.{Laws, made-setup, given-pieces, files-rise, files-here, fetch-some, begun-at, covers}
+use Rattle.sg_covered.proofs.RunLemmas.{Held, held-of, AreEnds, begun-first, files-rise}
 
 abbrev pub ListsAreOne : Type 0
 ListsAreOne = (a b : List Coded) (bytes : List ℕ) → IsListOf a bytes → IsListOf b bytes → a ≡ b
@@ -144,16 +148,17 @@ ends-none : (i : ℕ) (es : List Event) → admissions_of i es ≡ [] → ends_a
 ends-none i es h = ends-of-all i es ∙ ap ends_of h
 
 -- a feed at its opening
-record Fed (reached : Reached) (run : CoreRun) (i : ℕ) (closed : InletState) : Type 0 where
+record Fed (files : Option Files) (plan : RunPlan) (reached : Reached) (run : CoreRun) (i : ℕ) (closed : InletState) : Type 0 where
   feed : InletState
   at : slice_get reached.inlets i ≡ Some feed
   from : closed.from ≡ feed.place
   place : (feed.place ≡ position_at run.first i) ⊎ (feed.place ≡ 0)
+  gave : (bytes : ℕ → List ℕ) → TellFiles files plan reached.inlets bytes → IsFile plan.setup i → Gave (bytes i) closed
 
 fed-at : {R I O : Type 0} (feed : I → InletState) (drain : O → OutletState) (offers : R → ℕ → Record → List Offer → Type 0) (inlets dests : R → ℕ) (files : Option Files) (plan : RunPlan) (routers : List R) (rounds : ℕ) (reached : Reached)
-    (run : CoreRun) (counts : Option Counts) → IsRunnable plan → HoldsRun files plan reached run → (served : IsServed feed drain offers inlets dests plan routers rounds reached run Quiet counts)
-    → (i : ℕ) (closed : InletState) → slice_get reached.inlets_closed i ≡ Some closed → Fed reached run i closed
-fed-at {R} {I} {O} feed drain offers inlets dests files plan routers rounds reached run counts runnable holds served i closed at_closed =
+    (run : CoreRun) (counts : Option Counts) → IsRunnable plan → AreOfFiles plan → HoldsRun files plan reached run → (served : IsServed feed drain offers inlets dests plan routers rounds reached run Quiet counts)
+    → (i : ℕ) (closed : InletState) → slice_get reached.inlets_closed i ≡ Some closed → Fed files plan reached run i closed
+fed-at {R} {I} {O} feed drain offers inlets dests files plan routers rounds reached run counts runnable of_files holds served i closed at_closed =
     let runs = served.runs in
     let turns = runs.serves.1.0 (OfSource i) in
     let took = (runs.serves.1.1.1).took in
@@ -181,6 +186,11 @@ fed-at {R} {I} {O} feed drain offers inlets dests files plan routers rounds reac
       at = fed;
       from = sym (ap (λ (f : InletState). f.from) b.1.1) ∙ from;
       place = stands-place files (inlet_asked plan.once (inlet.0).spec) (position_at run.first i) (feed (a.0).inlet) begins.stands;
+      gave = λ bytes tell file.
+          (let P : InletState → Type 0 = λ f. Gave (bytes i) f in
+          subst P b.1.1
+          (gave-file files tell.files plan.once (inlet.0).spec (position_at run.first i) (feed (a.0).inlet) (feed (b.0).inlet) (bytes i) tell.told_are (of_files i inlet.0 file inlet.1) (tell.bytes_are i inlet.0 file inlet.1) begins.stands begins.fresh
+          (tell.gives i (feed (a.0).inlet) file fed) reads.advances));
     }
 
 -- the store of an inlet holds its stored position
@@ -199,7 +209,7 @@ stored-at core t setup i s source at same here has =
 
 -- the position at which the rounds begin is where the file's reading began
 begun-place : (files : Option Files) (plan : RunPlan) (reached : Reached) (run : CoreRun) (i s : ℕ) (source : SourceSetup) (closed : InletState) → HoldsRun files plan reached run → run.prelude ≡ rewinds_from (position_at run.first) 0 (places_of reached.inlets)
-    → Fed reached run i closed → slice_get plan.setup.sources i ≡ Some source → source.store ≡ Some s → position_at run.begun i ≡ closed.from
+    → Fed files plan reached run i closed → slice_get plan.setup.sources i ≡ Some source → source.store ≡ Some s → position_at run.begun i ≡ closed.from
 begun-place files plan reached run i s source closed holds rewinds fed here has =
     let o = (holds.core).opens in
     let start = opened plan.setup o.opening in
@@ -267,11 +277,11 @@ clean-list offers plan routers reached run made one e t at same disks images lis
 -- Positions.
 
 clean-position : {R I O : Type 0} (feed : I → InletState) (drain : O → OutletState) (offers : R → ℕ → Record → List Offer → Type 0) (inlets dests : R → ℕ) (files : Option Files) (plan : RunPlan) (routers : List R) (rounds : ℕ) (reached : Reached)
-    (run : CoreRun) (counts : Option Counts) (bytes : ℕ → List ℕ) (made : List Exchange) → IsRunnable plan → (holds : HoldsRun files plan reached run) → IsServed feed drain offers inlets dests plan routers rounds reached run Quiet counts
-    → AreLines plan reached bytes → Ends offers plan routers reached run made → (t : State) → IsAt run.last t → setup_of run.last ≡ plan.setup
-    → ((i : ℕ) (inlet : InletPlan) (closed : InletState) → IsFile plan.setup i → slice_get plan.inlets.items i ≡ Some inlet → slice_get reached.inlets_closed i ≡ Some closed → Fed reached run i closed → IsBegun inlet.kind inlet.limit (bytes i) closed.from)
+    (run : CoreRun) (counts : Option Counts) (bytes : ℕ → List ℕ) (made : List Exchange) → IsRunnable plan → AreOfFiles plan → AreLines plan → TellFiles files plan reached.inlets bytes → (holds : HoldsRun files plan reached run)
+    → IsServed feed drain offers inlets dests plan routers rounds reached run Quiet counts → Ends offers plan routers reached run made → (t : State) → IsAt run.last t → setup_of run.last ≡ plan.setup
+    → ((i : ℕ) (inlet : InletPlan) (from : ℕ) → IsFile plan.setup i → slice_get plan.inlets.items i ≡ Some inlet → (from ≡ position_at run.first i) ⊎ (from ≡ 0) → IsBegun inlet.kind inlet.limit (bytes i) from)
     → (images : List (List ℕ)) → AreImagesOf reached.stores_closed images → (i position : ℕ) (x : Piece) → IsFile plan.setup i → slice_get (positions_by plan.setup.sources images) i ≡ Some position → Contains (files_of plan.inlets.items bytes i) x → x.end ≤ position
-clean-position {R} {I} {O} feed drain offers inlets dests files plan routers rounds reached run counts bytes made runnable holds served lines e t at same begun images are i position x file now c =
+clean-position {R} {I} {O} feed drain offers inlets dests files plan routers rounds reached run counts bytes made runnable of_files lines tell holds served e t at same begun images are i position x file now c =
     let runs = served.runs in
     let source = file.source in
     let took = (runs.serves.1.1.1).took in
@@ -285,20 +295,19 @@ clean-position {R} {I} {O} feed drain offers inlets dests files plan routers rou
     let closed = feed (b.0).inlet in
     let at_closed : slice_get reached.inlets_closed i ≡ Some closed = ap (λ (fs : List InletState). slice_get fs i) (sym runs.inlets_closed) ∙ slice_get-map (λ (y : SourceActor R I). feed y.inlet) runs.sources_then i b.0 b.1 in
     let router : slice_get routers i ≡ Some (a.0).router = ap (λ (rs : List R). slice_get rs i) (sym runs.same_routers) ∙ slice_get-map (λ (y : SourceActor R I). y.router) runs.sources i a.0 a.1 in
-    let fed = fed-at feed drain offers inlets dests files plan routers rounds reached run counts runnable holds served i closed at_closed in
-    let g = lines.gave i closed file at_closed in
-    let gave = g.0 in
+    let fed = fed-at feed drain offers inlets dests files plan routers rounds reached run counts runnable of_files holds served i closed at_closed in
+    let gave = fed.gave bytes tell file in
     let place = closed.from in
     let s = some-of source.store file.stored in
     let ended : IsEnded (offers (a.0).router) inlet source i closed made = e.inlets i inlet source (a.0).router closed mine.1 file.at router at_closed in
     let D : Option (List ℕ) → Type 0 = λ l. IfSome l (λ rest. rest ≡ []) in
-    let no_left : gave.left ≡ [] = subst D g.1 (ended.drained (lines.kinds i inlet file mine.1)) in
+    let no_left : gave.left ≡ [] = subst D gave.left_is (ended.drained (lines i inlet file mine.1)) in
     let whole_file : plain (gave.part).given ≡ drop place (bytes i) = sym (append-nil (plain (gave.part).given)) ∙ ap (λ (l : List ℕ). plain (gave.part).given ++ l) (sym no_left) ∙ gave.are in
     let brought = brought_by i made in
     let W : Option (List Part) → Type 0 = λ told. IfSome (option_map (records inlet.kind inlet.limit place) told) (λ given. AreOf (offers (a.0).router) (spec_for inlet source.store i place) given brought) in
     let all = subst W gave.told ended.whole in
     let items = items_of inlet.kind inlet.limit (gave.part).given in
-    let read = reading-ends inlet.kind inlet.limit place (bytes i) (gave.part).given (fetch-some plan.inlets.items i inlet runnable.fetches mine.1) (begun i inlet closed file mine.1 at_closed fed) whole_file in
+    let read = reading-ends inlet.kind inlet.limit place (bytes i) (gave.part).given (fetch-some plan.inlets.items i inlet runnable.fetches mine.1) (begun i inlet place file mine.1 (elim fed.place [ inl p ↦ inl (fed.from ∙ p) | inr p ↦ inr (fed.from ∙ p) ])) whole_file in
     let given = records inlet.kind inlet.limit place (gave.part ∷ []) in
     let flat : given ≡ map (record_of place (gave.part).peer) items = append-nil (records_of inlet.kind inlet.limit place gave.part) in
     let held = files_of plan.inlets.items bytes i in
@@ -323,54 +332,82 @@ clean-position {R} {I} {O} feed drain offers inlets dests files plan routers rou
     let from_is : last_end (position_at run.begun i) brought ≡ last_end place brought = ap (λ (p : ℕ). last_end p brought) start_is in
     omega (arith, below, last, position_is, from_is)
 
--- where reading of each file began is a place where its items may begin
-begun-first : {R : Type 0} (offers : R → ℕ → Record → List Offer → Type 0) (files : Option Files) (plan : RunPlan) (routers : List R) (reached : Reached) (run : CoreRun) (bytes : ℕ → List ℕ) (taken : List Taken) (passes : List Pass) (old : ℕ → ℕ) → IsRunnable plan
-    → HoldsRun files plan reached run → AllTell reached.stores → EachChoice plan.setup reached.stores (Covered plan.setup (offers_in offers routers) (files_of plan.inlets.items bytes) taken passes old)
-    → (i : ℕ) (inlet : InletPlan) (from : ℕ) → IsFile plan.setup i → slice_get plan.inlets.items i ≡ Some inlet → (from ≡ position_at run.first i) ⊎ (from ≡ 0) → IsBegun inlet.kind inlet.limit (bytes i) from
-begun-first offers files plan routers reached run bytes taken passes old runnable holds tell covered i inlet from file at place =
-    let o = (holds.core).opens in
-    let N : ℕ → Type 0 = λ n. NumberStores plan.setup n in
-    let numbers = subst N (sym holds.all_stores) runnable.numbers in
-    let before = held_by plan.setup (contents reached.stores) (o.opening).entries in
-    let first = covered (contents reached.stores) (o.opening).entries (contents-images reached.stores tell) (contents-lists plan.setup reached.stores run.first o tell) in
-    let begins = begins-with plan.setup reached.stores run.first o numbers tell in
-    let low = slice_get-below plan.setup.sources i file.source file.at in
-    let many = begins.every_position in
-    let p = slice_get-some before.positions i (omega (arith, low, many)) in
-    let sources : (setup_of run.first).sources ≡ plan.setup.sources = ap (λ (s : Setup). s.sources) o.setups in
-    let stored : p.0 ≡ position_at run.first i =
-    some-same p.0 (position_at run.first i)
-    (sym (begins.places i p.0 file p.1)
-    ∙ ap (λ (xs : List ℕ). slice_get xs i) o.places
-    ∙ slice_get-map (λ (s : SourceSetup). stored_in run.first.stores s.store) plan.setup.sources i file.source file.at
-    ∙ ap (λ (x : Option ℕ). Some (stored_in run.first.stores x)) (sym (store-by-setup run.first plan.setup.sources i file.source sources file.at))) in
-    begun-at plan run bytes i inlet from p.0 at (first.positions i p.0 file p.1) (elim place [ inl e ↦ inl (e ∙ sym stored) | inr e ↦ inr e ])
+-- No entries.
+
+abbrev pub no_lists : List DestSetup → List (List Kept)
+no_lists dests = map (λ (d : DestSetup). let none : List Kept = [] in none) dests
+
+no-list : (dests : List DestSetup) (d : ℕ) (list : List Kept) → slice_get (no_lists dests) d ≡ Some list → list ≡ []
+no-list dests d list h = let x = get-back (λ (y : DestSetup). let none : List Kept = [] in none) dests d list h in sym x.1.1
+
+-- of each disk-buffer there is a disk at the return
+closed-disk : (plan : RunPlan) (reached : Reached) (run : CoreRun) (t : State) → IsAt run.last t → setup_of run.last ≡ plan.setup → reached.stores_closed ≡ map (λ (x : StoreState). x.disk) run.last.stores → (d : ℕ) (s : DestSetup) (b : BufferSetup)
+    → slice_get plan.setup.dests d ≡ Some s → s.buffer ≡ Some b → (disk : DiskState) × (slice_get reached.stores_closed b.store ≡ Some disk)
+closed-disk plan reached run t at same disks d s b here has =
+    let sinks : slice_get (map (λ (k : SinkState). k.setup) run.last.sinks) d ≡ Some s = ap (λ (x : Setup). slice_get x.dests d) same ∙ here in
+    let sink = get-back (λ (k : SinkState). k.setup) run.last.sinks d s sinks in
+    let dest = get-back (λ (x : Dest). sink_of (is_broken t.failed x) x) t.dests d sink.0 (ap (λ (ks : List SinkState). slice_get ks d) (sym at.sinks) ∙ sink.1.0) in
+    let setup : (dest.0).setup ≡ s = ap (λ (k : SinkState). k.setup) dest.1.1 ∙ sink.1.1 in
+    let backed = at.buffers d dest.0 b dest.1.0 (ap (λ (x : DestSetup). x.buffer) setup ∙ has) in
+    ((backed.store).disk, disk-closed reached run b.store backed.store disks backed.there)
+
+-- lists without entries are those of the images at the return
+no-entries : {R : Type 0} (offers : R → ℕ → Record → List Offer → Type 0) (plan : RunPlan) (routers : List R) (reached : Reached) (run : CoreRun) (made : List Exchange) → Ends offers plan routers reached run made → (t : State) → IsAt run.last t → setup_of run.last ≡ plan.setup
+    → reached.stores_closed ≡ map (λ (x : StoreState). x.disk) run.last.stores → (images : List (List ℕ)) → AreImagesOf reached.stores_closed images → AreListsBy plan.setup.dests images (no_lists plan.setup.dests)
+no-entries offers plan routers reached run made e t at same disks images are = record {
+  every = length-map plan.setup.dests (λ (d : DestSetup). let none : List Kept = [] in none);
+  each = λ d dest buffer list bytes here has there chosen.
+      (let disk = closed-disk plan reached run t at same disks d dest buffer here has in
+      let image = are buffer.store disk.0 disk.1 in
+      let is : image.0 ≡ bytes = some-same image.0 bytes (sym image.1.0 ∙ chosen) in
+      let P : List ℕ → Type 0 = λ bs. IsListOf [] bs in
+      let none = subst P is (e.lists d dest buffer disk.0 here has disk.1 image.0 image.1.1) in
+      let Q : List Kept → Type 0 = λ ks. IsListOf (map coded ks) bytes in
+      subst Q (sym (no-list plan.setup.dests d list there)) none);
+}
 
 -- The whole.
 
+-- what holds at the return of a run that ended clean
+pub record Cleaned (plan : RunPlan) (reached : Reached) (bytes : ℕ → List ℕ) : Type 0 where
+  pub clean : EachChoice plan.setup reached.stores_closed (EndsClean plan.setup (files_of plan.inlets.items bytes))
+  pub lists : (images : List (List ℕ)) → AreImagesOf reached.stores_closed images → AreListsBy plan.setup.dests images (no_lists plan.setup.dests)
+
 clean-held : {R I O : Type 0} (feed : I → InletState) (drain : O → OutletState) (offers : R → ℕ → Record → List Offer → Type 0) (inlets dests : R → ℕ) (files : Option Files) (plan : RunPlan) (routers : List R) (rounds : ℕ) (reached : Reached)
-    (core : Option CoreRun) (counts : Option Counts) (run : CoreRun) (bytes : ℕ → List ℕ) (taken : List Taken) (passes : List Pass) (old : ℕ → ℕ) (made : List Exchange) → ListsAreOne → IsRunnable plan
-    → Holds feed drain offers inlets dests files plan routers rounds reached core (RanSo Quiet counts) → core ≡ Some run → AllTell reached.stores → AreLines plan reached bytes
-    → EachChoice plan.setup reached.stores (Covered plan.setup (offers_in offers routers) (files_of plan.inlets.items bytes) taken passes old) → Ends offers plan routers reached run made → (t : State) → IsAt run.last t
-    → EachChoice plan.setup reached.stores_closed (EndsClean plan.setup (files_of plan.inlets.items bytes))
-clean-held feed drain offers inlets dests files plan routers rounds reached None counts run bytes taken passes old made one runnable h q tell lines covered e t at = absurd h
-clean-held {R} {I} {O} feed drain offers inlets dests files plan routers rounds reached (Some core) counts run bytes taken passes old made one runnable (holds, served) q tell lines covered e t at =
-    let is = some-same core run q in
-    let H : CoreRun → Type 0 = λ r. HoldsRun files plan reached r × IsServed feed drain offers inlets dests plan routers rounds reached r Quiet counts in
-    let both = subst H is (holds, served) in
-    let o = ((both.0).core).opens in
-    let setups : setup_of run.last ≡ plan.setup = made-setup run.begun run.last made e.makes ∙ (((both.0).core).begins).setup ∙ o.setups in
-    λ images lists are in_lists. record {
-      lists = λ d. clean-list offers plan routers reached run made one e t at setups ((both.0).core).closed images lists are in_lists d;
-      positions = λ i position x file now c.
-          clean-position feed drain offers inlets dests files plan routers rounds reached run counts bytes made runnable both.0 both.1 lines e t at setups
-          (λ j inlet closed file_of at_inlet at_closed fed. begun-first offers files plan routers reached run bytes taken passes old runnable both.0 tell covered j inlet closed.from file_of at_inlet
-          (elim fed.place [ inl p ↦ inl (fed.from ∙ p) | inr p ↦ inr (fed.from ∙ p) ]))
-          images are i position x file now c;
+    (core : Option CoreRun) (counts : Option Counts) (run : CoreRun) (bytes : ℕ → List ℕ) (made : List Exchange) → ListsAreOne → IsRunnable plan → AreOfFiles plan → AreLines plan → TellFiles files plan reached.inlets bytes
+    → Holds feed drain offers inlets dests files plan routers rounds reached core (RanSo Quiet counts) → core ≡ Some run → Held files plan reached run → Ends offers plan routers reached run made → (t : State) → IsAt run.last t
+    → ((i : ℕ) (inlet : InletPlan) (from : ℕ) → IsFile plan.setup i → slice_get plan.inlets.items i ≡ Some inlet → (from ≡ position_at run.first i) ⊎ (from ≡ 0) → IsBegun inlet.kind inlet.limit (bytes i) from) → Cleaned plan reached bytes
+clean-held feed drain offers inlets dests files plan routers rounds reached None counts run bytes made one runnable of_files lines tell h q held e t at begun = absurd h
+clean-held {R} {I} {O} feed drain offers inlets dests files plan routers rounds reached (Some core) counts run bytes made one runnable of_files lines tell (holds, served) q held e t at begun =
+    let S : CoreRun → Type 0 = λ r. IsServed feed drain offers inlets dests plan routers rounds reached r Quiet counts in
+    let serves = subst S (some-same core run q) served in
+    let disks = ((held.holds).core).closed in
+    record {
+      clean = λ images lists are in_lists. record {
+        lists = λ d. clean-list offers plan routers reached run made one e t at held.setups disks images lists are in_lists d;
+        positions = λ i position x file now c.
+            clean-position feed drain offers inlets dests files plan routers rounds reached run counts bytes made runnable of_files lines tell held.holds serves e t at held.setups begun images are i position x file now c;
+      };
+      lists = λ images are. no-entries offers plan routers reached run made e t at held.setups disks images are;
     }
 
-pub ends-clean : {R I O : Type 0} (feed : I → InletState) (drain : O → OutletState) (offers : R → ℕ → Record → List Offer → Type 0) (inlets dests : R → ℕ) → ListsAreOne → Laws → CleanRunsEnd feed drain offers inlets dests → PlanRunsEndClean feed drain offers inlets dests
-ends-clean feed drain offers inlets dests one laws clean old new plan routers rounds counts reached run bytes taken passes places runnable runs core well tell lines covered =
+-- whatever the contents of the stores have for positions are ends of items
+pub clean-by : {R I O : Type 0} (feed : I → InletState) (drain : O → OutletState) (offers : R → ℕ → Record → List Offer → Type 0) (inlets dests : R → ℕ) → ListsAreOne → CleanRunsEnd feed drain offers inlets dests → (old new : WorldState) (plan : RunPlan) (routers : List R)
+    (rounds : ℕ) (counts : Counts) (reached : Reached) (run : CoreRun) (bytes : ℕ → List ℕ) (lists : List (List Kept)) → IsRunnable plan → AreOfFiles plan → AreLines plan
+    → RunsWith feed drain offers inlets dests old new plan routers rounds (RanSo Quiet (Some counts)) reached → reached.core ≡ Some run → first_fault counts.sinks counts.stores counts.inlets ≡ None → AllTell reached.stores → TellFiles old.files plan reached.inlets bytes
+    → AreEnds plan.setup (files_of plan.inlets.items bytes) (held_by plan.setup (contents reached.stores) lists) → Cleaned plan reached bytes
+clean-by feed drain offers inlets dests one clean old new plan routers rounds counts reached run bytes lists runnable of_files lines runs core well tells tell are =
     let e = clean old new plan routers rounds counts reached run runnable core well runs in
-    let left = covers feed drain offers inlets dests laws old new plan routers rounds (RanSo Quiet (Some counts)) reached run bytes taken passes places runnable runs core tell (λ i f file at. (lines.gave i f file at).0) covered in
-    clean-held feed drain offers inlets dests old.files plan routers rounds reached reached.core (Some counts) run bytes taken passes places e.0 one runnable runs.holds core tell lines covered e.1 _ left.stands.at
+    let held = held-of feed drain offers inlets dests old.files plan routers rounds reached reached.core (RanSo Quiet (Some counts)) run runs.holds core in
+    let h = happens feed drain offers inlets dests old new plan routers rounds (RanSo Quiet (Some counts)) reached run runnable of_files runs core in
+    let N : ℕ → Type 0 = λ n. NumberStores plan.setup n in
+    let numbers = subst N (sym (held.holds).all_stores) runnable.numbers in
+    clean-held feed drain offers inlets dests old.files plan routers rounds reached reached.core (Some counts) run bytes e.0 one runnable of_files lines tell runs.holds core held e.1 _ (h.stands).at
+    (begun-first plan reached run ((held.holds).core).opens bytes lists runnable numbers tells are)
+
+pub ends-clean : {R I O : Type 0} (feed : I → InletState) (drain : O → OutletState) (offers : R → ℕ → Record → List Offer → Type 0) (inlets dests : R → ℕ) → ListsAreOne → CleanRunsEnd feed drain offers inlets dests → PlanRunsEndClean feed drain offers inlets dests
+ends-clean feed drain offers inlets dests one clean old new plan routers by rounds counts reached run bytes taken passes places runnable of_files lines runs core well tells tell covered =
+    let held = held-of feed drain offers inlets dests old.files plan routers rounds reached reached.core (RanSo Quiet (Some counts)) run runs.holds core in
+    let o = ((held.holds).core).opens in
+    let first = covered (contents reached.stores) (o.opening).entries (contents-images reached.stores tells) (contents-lists plan.setup reached.stores run.first o tells) in
+    (clean-by feed drain offers inlets dests one clean old new plan routers rounds counts reached run bytes (o.opening).entries runnable of_files lines runs core well tells tell first.positions).clean

@@ -1,6 +1,9 @@
-pub mod MergeLemmas
-pub mod OpenLemmas
 pub mod PlaceLemmas
+pub mod OpenLemmas
+pub mod MergeLemmas
+pub mod GaveLemmas
+pub mod HappenedLemmas
 pub mod RunLemmas
 pub mod CleanLemmas
 pub mod RestLemmas
+pub mod AllLemmas

@@ -23,7 +23,8 @@ use Rattle.sg_stores.specs.Stores.{StoreState, coded}
 use Rattle.sg_stores.specs.declared.kind.StoreKind.{StoreKind}
 use Rattle.sg_stores.specs.declared.kind.StoreKind.TheVariants.{Position, Buffer}
 use Rattle.sg_standing.specs.Images.{position_in}
-use Rattle.sg_core.specs.Opening.{IsOpen, NumberStores, buffer_store_in, kind_by, kind_of}
+use Rattle.sg_core.specs.Opening.{IsOpen, NumberStores}
+use Rattle.sg_core.proofs.OpenState.{kind-none}
 use Rattle.sg_standing.specs.States.{CoreState}
 use Rattle.sg_runs.specs.Passes.{BeginsWith}
 use Rattle.sg_runs.proofs.OpenLemmas.{opens-dest}
@@ -37,7 +38,7 @@ bytes_of disk = option_map_or (λ (bytes : List ℕ). bytes) (content disk) []
 abbrev pub contents : List DiskState → List (List ℕ)
 contents disks = map bytes_of disks
 
-told-bytes : (disk : DiskState) (bytes : List ℕ) → content disk ≡ Some bytes → bytes_of disk ≡ bytes
+pub told-bytes : (disk : DiskState) (bytes : List ℕ) → content disk ≡ Some bytes → bytes_of disk ≡ bytes
 told-bytes disk bytes h = ap (λ (o : Option (List ℕ)). option_map_or (λ (b : List ℕ). b) o []) h
 
 pub contents-images : (disks : List DiskState) → AllTell disks → AreImagesOf disks (contents disks)
@@ -57,22 +58,6 @@ contents-lists setup disks core o tell = record {
 }
 
 -- The kinds of stores.
-
-kind-by-none : (o : Option BufferSetup) (s : ℕ) (kind : StoreKind) → ((b : BufferSetup) → o ≡ Some b → b.store ≡ s → ⊥) → kind_by o s kind ≡ kind
-kind-by-none None s kind h = refl
-kind-by-none (Some b) s kind h =
-    elim (cases_eq b.store s) [
-      | inl e ↦ absurd (h b refl e)
-      | inr ne ↦ (let miss : (b.store == s) ≡ false = grind arith in rw miss refl)
-    ]
-
-buffer-first : (setup : DestSetup) (setups : List DestSetup) (b : BufferSetup) (s : ℕ) → setup.buffer ≡ Some b → b.store ≡ s → buffer_store_in (setup ∷ setups) 0 ≡ Some s
-buffer-first setup setups b s h q = ap (λ (o : Option BufferSetup). option_map_or (λ (x : BufferSetup). Some x.store) o None) h ∙ ap (λ (n : ℕ). Some n) q
-
-pub kind-none : (setups : List DestSetup) (s : ℕ) → ((d : ℕ) → buffer_store_in setups d ≡ Some s → ⊥) → kind_of setups s ≡ Position
-kind-none [] s h = refl
-kind-none (setup ∷ setups) s h =
-    kind-by-none setup.buffer s (kind_of setups s) (λ b q e. h 0 (buffer-first setup setups b s q e)) ∙ kind-none setups s (λ d q. h (suc d) q)
 
 as-position : (kind : StoreKind) (disk : DiskState) (found : Found) (store : StoreState) → kind ≡ Position → IsOpenedAs kind disk found store → IsOpened disk store
 as-position Position disk found store h o = o.0

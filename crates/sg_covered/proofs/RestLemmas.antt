@@ -24,6 +24,7 @@ use Rattle.sg_stores.specs.declared.kind.StoreKind.{StoreKind}
 use Rattle.sg_stores.specs.declared.kind.StoreKind.TheVariants.{Position, Buffer}
 use Rattle.sg_standing.specs.Images.{position_in}
 use Rattle.sg_core.specs.Opening.{AreKinds}
+use Rattle.sg_core.proofs.OpenState.{kind-none}
 use Rattle.sg_serve.specs.Plan.{IsRunnable}
 use Rattle.sg_serve.specs.Run.{CoreRun, Reached, Holds, RestsWithout}
 use Rattle.sg_serve.specs.declared.ending.Ending.{Ending}
@@ -34,7 +35,6 @@ use Rattle.sg_runs.specs.Law.{offers_in}
 use Rattle.sg_covered.specs.Runs.{positions_by, AreListsBy, EachChoice, files_of}
 use Rattle.sg_covered.specs.Rest.{PlanRunsRest}
 use Rattle.sg_covered.proofs.CleanLemmas.{ListsAreOne}
-use Rattle.sg_covered.proofs.OpenLemmas.{kind-none}
 
 -- an image now came of one before
 image-before : (step : List ℕ → List ℕ → Type 0) (old new : DiskState) → ((c : List ℕ) → step c c) → Elapses step old new → (c : List ℕ) → IsImage new c → (d : List ℕ) × (IsImage old d × step d c)
@@ -106,7 +106,7 @@ choose R (old ∷ olds) (c ∷ images) f =
 
 -- Positions.
 
-same-positions : (sources : List SourceSetup) (a b : List (List ℕ)) → ((i : ℕ) (source : SourceSetup) → slice_get sources i ≡ Some source → position_in a source.store ≡ position_in b source.store) → positions_by sources a ≡ positions_by sources b
+pub same-positions : (sources : List SourceSetup) (a b : List (List ℕ)) → ((i : ℕ) (source : SourceSetup) → slice_get sources i ≡ Some source → position_in a source.store ≡ position_in b source.store) → positions_by sources a ≡ positions_by sources b
 same-positions [] a b h = refl
 same-positions (s ∷ sources) a b h =
     ap (λ (n : ℕ). n ∷ positions_by sources a) (h 0 s refl) ∙ ap (λ (ns : List ℕ). position_in b s.store ∷ ns) (same-positions sources a b (λ i source at. h (suc i) source at))
@@ -197,5 +197,5 @@ rests-held feed drain offers inlets dests files plan routers rounds reached None
 rests-held feed drain offers inlets dests files plan routers rounds reached (Some core) ending one runnable h q P each = absurd (let wrong : Some core ≡ None = q in cc)
 
 pub rests : {R I O : Type 0} (feed : I → InletState) (drain : O → OutletState) (offers : R → ℕ → Record → List Offer → Type 0) (inlets dests : R → ℕ) → ListsAreOne → PlanRunsRest feed drain offers inlets dests
-rests feed drain offers inlets dests one old new plan routers rounds ending reached bytes taken passes places runnable runs core covered =
-    rests-held feed drain offers inlets dests old.files plan routers rounds reached reached.core ending one runnable runs.holds core (Covered plan.setup (offers_in offers routers) (files_of plan.inlets.items bytes) taken passes places) covered
+rests feed drain offers inlets dests one old new plan routers by rounds ending reached bytes taken passes places runnable runs core covered =
+    rests-held feed drain offers inlets dests old.files plan routers rounds reached reached.core ending one runnable runs.holds core (Covered plan.setup (offers_in offers by) (files_of plan.inlets.items bytes) taken passes places) covered

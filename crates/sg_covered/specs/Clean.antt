@@ -16,28 +16,27 @@ use Rattle.sg_serve.specs.declared.ending.Ending.TheVariants.{Ran}
 use Rattle.sg_serve.specs.declared.plan.RunPlan.{RunPlan}
 use Rattle.sg_runs.specs.Covered.{Pass, Taken, IsFile, Covered}
 use Rattle.sg_runs.specs.Law.{offers_in, EndsClean}
-use Rattle.sg_covered.specs.Runs.{EachChoice, AllTell, GaveOf, files_of}
+use Rattle.sg_covered.specs.Runs.{EachChoice, AllTell, AreOfFiles, TellFiles, files_of}
 
--- Each inlet with a position store is read by lines, and tells what is left of its file.
-pub record AreLines (plan : RunPlan) (reached : Reached) (bytes : ℕ → List ℕ) : Type 0 where
-  pub kinds : (i : ℕ) (inlet : InletPlan) → IsFile plan.setup i
-      → slice_get plan.inlets.items i ≡ Some inlet → inlet.kind ≡ Lines
-  pub gave : (i : ℕ) (feed : InletState) → IsFile plan.setup i
-      → slice_get reached.inlets_closed i ≡ Some feed
-      → (g : GaveOf (bytes i) feed) × (feed.left ≡ Some g.left)
+-- each file is read by lines
+abbrev pub AreLines : RunPlan → Type 0
+AreLines plan = (i : ℕ) (inlet : InletPlan) → IsFile plan.setup i
+    → slice_get plan.inlets.items i ≡ Some inlet → inlet.kind ≡ Lines
 
 -- A run that ended quietly, with nothing counted as failed, over files that are read by lines, ends clean.
 abbrev pub PlanRunsEndClean : {R I O : Type 0} → (I → InletState) → (O → OutletState)
     → (R → ℕ → Record → List Offer → Type 0) → (R → ℕ) → (R → ℕ) → Type 0
 PlanRunsEndClean {R} {I} {O} feed drain offers inlets dests =
-    (old new : WorldState) (plan : RunPlan) (routers : List R) (rounds : ℕ) (counts : Counts)
+    (old new : WorldState) (plan : RunPlan) (routers by : List R) (rounds : ℕ) (counts : Counts)
     (reached : Reached) (run : CoreRun) (bytes : ℕ → List ℕ) (taken : List Taken)
     (passes : List Pass) (places : ℕ → ℕ)
-    → IsRunnable plan → RunsWith feed drain offers inlets dests old new plan routers rounds
+    → IsRunnable plan → AreOfFiles plan → AreLines plan
+    → RunsWith feed drain offers inlets dests old new plan routers rounds
     (Ran Quiet (Some counts)) reached → reached.core ≡ Some run
     → first_fault counts.sinks counts.stores counts.inlets ≡ None
-    → AllTell reached.stores → AreLines plan reached bytes → EachChoice plan.setup reached.stores
-    (Covered plan.setup (offers_in offers routers) (files_of plan.inlets.items bytes) taken passes
+    → AllTell reached.stores → TellFiles old.files plan reached.inlets bytes
+    → EachChoice plan.setup reached.stores
+    (Covered plan.setup (offers_in offers by) (files_of plan.inlets.items bytes) taken passes
     places)
     → EachChoice plan.setup reached.stores_closed
     (EndsClean plan.setup (files_of plan.inlets.items bytes))

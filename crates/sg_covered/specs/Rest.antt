@@ -17,12 +17,12 @@ use Rattle.sg_covered.specs.Runs.{EachChoice, files_of}
 abbrev pub PlanRunsRest : {R I O : Type 0} → (I → InletState) → (O → OutletState)
     → (R → ℕ → Record → List Offer → Type 0) → (R → ℕ) → (R → ℕ) → Type 0
 PlanRunsRest {R} {I} {O} feed drain offers inlets dests =
-    (old new : WorldState) (plan : RunPlan) (routers : List R) (rounds : ℕ) (ending : Ending)
+    (old new : WorldState) (plan : RunPlan) (routers by : List R) (rounds : ℕ) (ending : Ending)
     (reached : Reached) (bytes : ℕ → List ℕ) (taken : List Taken) (passes : List Pass)
     (places : ℕ → ℕ) → IsRunnable plan
     → RunsWith feed drain offers inlets dests old new plan routers rounds ending reached
     → reached.core ≡ None
-    → EachChoice plan.setup reached.stores (Covered plan.setup (offers_in offers routers)
+    → EachChoice plan.setup reached.stores (Covered plan.setup (offers_in offers by)
     (files_of plan.inlets.items bytes) taken passes places)
-    → EachChoice plan.setup reached.stores_closed (Covered plan.setup (offers_in offers routers)
+    → EachChoice plan.setup reached.stores_closed (Covered plan.setup (offers_in offers by)
     (files_of plan.inlets.items bytes) taken passes places)

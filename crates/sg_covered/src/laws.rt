@@ -1,13 +1,23 @@
-// What a plan's run leaves covered.
-ghost use Rattle.sg_covered.specs.Runs.{PlanRunsCover};
+// What a plan's runs leave covered.
+ghost use Rattle.sg_covered.specs.All.{PlanRunsAddUp};
 ghost use Rattle.sg_covered.specs.Clean.{PlanRunsEndClean};
 ghost use Rattle.sg_covered.specs.Rest.{PlanRunsRest};
+ghost use Rattle.sg_covered.specs.Runs.{PlanRunsCover, PlanRunsHappen};
 
 use sg_buffer::lists_are_one;
 use sg_quiet::clean_runs_end;
 use sg_route::Router;
 use sg_standing::{images_are_safe, images_between_are_safe};
 use sg_world::World;
+
+/// What happens at the core of a plan's run that opened it: events that begin with what the stores had,
+/// in which the first records of each file came in, behind the place at which its reading began.
+pub fn plan_runs_happen<W: World, R: Router>(world: &W, router: &[R])
+    ensures { PlanRunsHappen W.Feed.state W.Drain.state R.offers R.inlets R.dests }
+{
+    let _world = world;
+    let _router = router;
+}
 
 /// A plan's run whose core was opened, however it ended, leaves covered what it found covered, with the
 /// entries whose frames its outlets took and the passes of the records that came in: at its return, and
@@ -34,6 +44,16 @@ pub fn plan_runs_rest<W: World, R: Router>(world: &W, router: &[R])
 /// leaves no entry in a disk-buffer, and each position behind all items of its file.
 pub fn plan_runs_end_clean<W: World, R: Router>(world: &W, router: &[R])
     ensures { PlanRunsEndClean W.Feed.state W.Drain.state R.offers R.inlets R.dests }
+{
+    clean_runs_end(world, router);
+    lists_are_one();
+}
+
+/// Behind any number of a plan's runs, each stopped at any moment, and one that ended quietly with
+/// nothing counted as failed, each record of each file has a pass of which each offer with flow-control
+/// was taken at least once, and nothing but offers was taken.
+pub fn plan_runs_add_up<W: World, R: Router>(world: &W, router: &[R])
+    ensures { PlanRunsAddUp W.Feed.state W.Drain.state R.offers R.inlets R.dests }
 {
     clean_runs_end(world, router);
     images_are_safe();

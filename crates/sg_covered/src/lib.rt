@@ -4,4 +4,6 @@
 
 mod laws;
 
-pub use laws::{plan_runs_cover, plan_runs_end_clean, plan_runs_rest};
+pub use laws::{
+    plan_runs_add_up, plan_runs_cover, plan_runs_end_clean, plan_runs_happen, plan_runs_rest,
+};

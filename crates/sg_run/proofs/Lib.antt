@@ -2,6 +2,7 @@ pub mod PlanLemmas
 pub mod HeadlineLemmas
 pub mod LineLemmas
 pub mod CoveringLemmas
+pub mod FileLemmas
 pub mod RunLemmas
 pub mod CauseLemmas
 pub mod RestingLemmas

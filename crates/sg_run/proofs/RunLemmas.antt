@@ -18,9 +18,10 @@ use Rattle.sg_quiet.specs.Failing.{FailedStoresCount}
 use Rattle.sg_quiet.specs.Resting.{QuietRunsRest}
 use Rattle.sg_quiet.specs.Ending.{CleanRunsEnd}
 use Rattle.sg_bounded.specs.Bounds.{recovered_by, offered_by, RunsAreBounded}
-use Rattle.sg_covered.specs.Runs.{PlanRunsCover}
+use Rattle.sg_covered.specs.Runs.{PlanRunsHappen, PlanRunsCover}
 use Rattle.sg_covered.specs.Clean.{PlanRunsEndClean}
 use Rattle.sg_covered.specs.Rest.{PlanRunsRest}
+use Rattle.sg_run.specs.Covering.{ReadsFiles}
 use Rattle.sg_run.specs.Meaning.{planned, paths_in, drivers_in, AreRouters}
 use Rattle.sg_run.specs.Outcomes.{Tells, EndsBy, EndsSo, AreLines, HasLinesAt}
 use Rattle.sg_run.specs.Run.{offers_by, inlets_by, dests_by, RunsBy, IsLeft, IsStarved, RunsConfig, RunsFile}
@@ -28,7 +29,7 @@ use Rattle.sg_run.specs.declared.end.Outcome.{Outcome}
 use Rattle.sg_run.specs.declared.reporting.Lines.{Lines}
 use Rattle.sg_run.proofs.BoundingLemmas.{completes-by}
 use Rattle.sg_run.proofs.CauseLemmas.{due-by}
-use Rattle.sg_run.proofs.CoveringLemmas.{covers-by}
+use Rattle.sg_run.proofs.CoveringLemmas.{same-offers, covers-by}
 use Rattle.sg_run.proofs.PlanLemmas.{runnable, used}
 use Rattle.sg_run.proofs.HeadlineLemmas.{delivers-by}
 use Rattle.sg_run.proofs.LineLemmas.{lines-at}
@@ -41,10 +42,10 @@ tells-by config once ending lines outcome are ends =
 -- The laws are that runs of plans come to the headline, that a store that is told to have failed has failed, what a quiet end means, that
 -- rounds are bounded, and what stays covered.
 pub runs-by : {I O : Type 0} (feed : I → InletState) (drain : O → OutletState) (loaded new : WorldState) (config : Config) (once : Bool) (rounds : ℕ) (routers : List Pipes) (ending : Ending) (result : Result Outcome Unloaded) → IsWithin config
-    → AreDirect config.outlets.items → AreRouters config routers → RunsDeliver feed drain offers_by inlets_by dests_by → FailedStoresCount feed drain offers_by inlets_by dests_by → QuietRunsRest feed drain offers_by inlets_by dests_by
-    → CleanRunsEnd feed drain offers_by inlets_by dests_by → RunsAreBounded feed drain offers_by inlets_by dests_by → PlanRunsCover feed drain offers_by inlets_by dests_by → PlanRunsEndClean feed drain offers_by inlets_by dests_by → PlanRunsRest feed drain offers_by inlets_by dests_by → rounds < 2 ^ 64 → RunsPlan feed drain offers_by inlets_by dests_by loaded new (planned config once) routers rounds ending
+    → AreDirect config.outlets.items → ReadsFiles config once → AreRouters config routers → RunsDeliver feed drain offers_by inlets_by dests_by → FailedStoresCount feed drain offers_by inlets_by dests_by → QuietRunsRest feed drain offers_by inlets_by dests_by
+    → CleanRunsEnd feed drain offers_by inlets_by dests_by → RunsAreBounded feed drain offers_by inlets_by dests_by → PlanRunsHappen feed drain offers_by inlets_by dests_by → PlanRunsCover feed drain offers_by inlets_by dests_by → PlanRunsEndClean feed drain offers_by inlets_by dests_by → PlanRunsRest feed drain offers_by inlets_by dests_by → rounds < 2 ^ 64 → RunsPlan feed drain offers_by inlets_by dests_by loaded new (planned config once) routers rounds ending
     → Tells (planned config once) ending result → RunsBy feed drain loaded new config once rounds result
-runs-by feed drain loaded new config once rounds routers ending result within direct are law failing quiet clean bounded cover covered_clean covered_rest low (reached, runs) tells =
+runs-by feed drain loaded new config once rounds routers ending result within direct reads are law failing quiet clean bounded happen cover covered_clean covered_rest low (reached, runs) tells =
     let plan = planned config once in
     let can = runnable config once within direct in
     let due = due-by feed drain offers_by inlets_by dests_by loaded new plan routers rounds reached can (used config once within) failing ending runs in
@@ -61,7 +62,8 @@ runs-by feed drain loaded new config once rounds routers ending result within di
       rests = rests-by feed drain offers_by inlets_by dests_by loaded new plan routers rounds reached can quiet clean ending runs;
       few = few;
       completes = completes-by loaded new plan (recovered_by runs) (offered_by runs) rounds ending reached result runs.ends due few tells;
-      covers = covers-by feed drain offers_by inlets_by dests_by loaded new plan routers rounds reached can cover covered_clean covered_rest ending runs;
+      covers = λ by others.
+          covers-by feed drain offers_by inlets_by dests_by loaded new plan routers by rounds reached can reads.0 reads.1 (same-offers config routers by are others) happen cover covered_clean covered_rest ending runs;
     }
 
 pub lines-by-plan : {I O : Type 0} (feed : I → InletState) (drain : O → OutletState) (loaded new : WorldState) (config : Config) (once : Bool) (rounds : ℕ) (routers : List Pipes) (ending : Ending) (lines : Lines) → IsWithin config

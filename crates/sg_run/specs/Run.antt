@@ -55,8 +55,9 @@ pub record RunsBy {I O : Type 0} (feed : I → InletState) (drain : O → Outlet
   -- a run in which all goes well, with rounds enough, ends clean
   pub completes : Completes loaded new (planned config once) (recovered_by runs) (offered_by runs)
       rounds reached result
-  -- no record of a file is lost between the stores as they were found and as they are left
-  pub covers : Covers offers_by (planned config once) routers reached ending
+  -- no record of a file is lost between the stores as they were found and as they are left, by any routers of the configuration
+  pub covers : (by : List Pipes) → AreRouters config by
+      → Covers offers_by loaded.files (planned config once) by reached ending
 
 -- why it wasn't run; want of memory is free
 abbrev pub IsLeft : WorldState → WorldState → List ℕ → Result Outcome Unloaded → Type 0

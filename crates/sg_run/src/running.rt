@@ -3,6 +3,7 @@ ghost use Rattle.std.specs.Prelude.{◌≡◌, ◌≤◌, ◌<◌, ◌^◌, IfOk
 ghost use Rattle.sg_config.specs.Alike.{IsWithin};
 ghost use Rattle.sg_plan.specs.Direct.{AreDirect};
 ghost use Rattle.sg_loaded.specs.Compiling.{Compiles};
+ghost use Rattle.sg_run.specs.Covering.{ReadsFiles};
 ghost use Rattle.sg_run.specs.Meaning.{AreRouters};
 ghost use Rattle.sg_run.specs.Outcomes.{AreLines};
 ghost use Rattle.sg_run.specs.Run.{RunsBy, RunsConfig, RunsFile};
@@ -12,7 +13,7 @@ use crate::planning::{drivers_of, files_of, plan_of, routers_of};
 use crate::reporting::{Lines, outcome_of};
 use sg_bounded::runs_are_bounded;
 use sg_config::{Config, outlets_are_direct, texts_mean_one};
-use sg_covered::{plan_runs_cover, plan_runs_end_clean, plan_runs_rest};
+use sg_covered::{plan_runs_cover, plan_runs_end_clean, plan_runs_happen, plan_runs_rest};
 use sg_delivered::runs_deliver;
 use sg_device::NoMemory;
 use sg_loaded::{Loaded, Unloaded, load_file};
@@ -47,6 +48,7 @@ fn run_by<T: Threads + Wait + Sync, W: World>(
 ) -> Result<Outcome, Unloaded>
     requires within { IsWithin config }
     requires direct { AreDirect config.outlets.items }
+    requires files { ReadsFiles config once }
     requires routers { AreRouters config routers.items }
     requires lines { AreLines config lines }
     requires some { 0 < rounds }
@@ -59,6 +61,7 @@ fn run_by<T: Threads + Wait + Sync, W: World>(
     quiet_runs_rest(world, routers.as_slice());
     clean_runs_end(world, routers.as_slice());
     runs_are_bounded(world, routers.as_slice());
+    plan_runs_happen(world, routers.as_slice());
     plan_runs_cover(world, routers.as_slice());
     plan_runs_end_clean(world, routers.as_slice());
     plan_runs_rest(world, routers.as_slice());
@@ -82,6 +85,7 @@ fn run_config<T: Threads + Wait + Sync, W: World>(
 ) -> Result<Outcome, Unloaded>
     requires within { IsWithin loaded.config }
     requires direct { AreDirect loaded.config.outlets.items }
+    requires files { ReadsFiles loaded.config once }
     requires compiles { Compiles loaded.config loaded.table }
     requires some { 0 < rounds }
     requires rounds { rounds ≤ 2 ^ 36 }

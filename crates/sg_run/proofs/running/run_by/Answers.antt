@@ -38,7 +38,7 @@ returns-in-Ok-Some g c =
     let old = g.W.Machine.state c.args.world.now in
     let new = g.W.Machine.state c.run_plan-ending.new.world in
     let ran = subst (λ (p : RunPlan). RunsPlan feed drain offers_by inlets_by dests_by old new p c.args.routers.items c.args.rounds c.run_plan-ending.result) c.plan_of-plan.ensures c.run_plan-ending.ensures in
-    runs-by feed drain old new c.args.config c.args.once c.args.rounds c.args.routers.items c.run_plan-ending.result (Ok c.in-Ok-Some.outcome) c.requires.within c.requires.direct c.requires.routers c.runs_deliver.ensures c.failed_stores_count.ensures c.quiet_runs_rest.ensures c.clean_runs_end.ensures c.runs_are_bounded.ensures c.plan_runs_cover.ensures c.plan_runs_end_clean.ensures c.plan_runs_rest.ensures (let most = c.requires.rounds in omega (arith, most)) ran
+    runs-by feed drain old new c.args.config c.args.once c.args.rounds c.args.routers.items c.run_plan-ending.result (Ok c.in-Ok-Some.outcome) c.requires.within c.requires.direct c.requires.files c.requires.routers c.runs_deliver.ensures c.failed_stores_count.ensures c.quiet_runs_rest.ensures c.clean_runs_end.ensures c.runs_are_bounded.ensures c.plan_runs_happen.ensures c.plan_runs_cover.ensures c.plan_runs_end_clean.ensures c.plan_runs_rest.ensures (let most = c.requires.rounds in omega (arith, most)) ran
     (tells-by c.args.config c.args.once c.run_plan-ending.result c.args.lines c.in-Ok-Some.outcome c.requires.lines
     (subst (λ o. EndsSo c.args.lines c.run_plan-ending.result o) c.in-Ok-Some.field-0-is c.in-Ok-Some.ensures))
 
@@ -49,7 +49,7 @@ returns-in-Ok-None g c =
     let old = g.W.Machine.state c.args.world.now in
     let new = g.W.Machine.state c.run_plan-ending.new.world in
     let ran = subst (λ (p : RunPlan). RunsPlan feed drain offers_by inlets_by dests_by old new p c.args.routers.items c.args.rounds c.run_plan-ending.result) c.plan_of-plan.ensures c.run_plan-ending.ensures in
-    runs-by feed drain old new c.args.config c.args.once c.args.rounds c.args.routers.items c.run_plan-ending.result (Err NoMemory) c.requires.within c.requires.direct c.requires.routers c.runs_deliver.ensures c.failed_stores_count.ensures c.quiet_runs_rest.ensures c.clean_runs_end.ensures c.runs_are_bounded.ensures c.plan_runs_cover.ensures c.plan_runs_end_clean.ensures c.plan_runs_rest.ensures (let most = c.requires.rounds in omega (arith, most)) ran tt
+    runs-by feed drain old new c.args.config c.args.once c.args.rounds c.args.routers.items c.run_plan-ending.result (Err NoMemory) c.requires.within c.requires.direct c.requires.files c.requires.routers c.runs_deliver.ensures c.failed_stores_count.ensures c.quiet_runs_rest.ensures c.clean_runs_end.ensures c.runs_are_bounded.ensures c.plan_runs_happen.ensures c.plan_runs_cover.ensures c.plan_runs_end_clean.ensures c.plan_runs_rest.ensures (let most = c.requires.rounds in omega (arith, most)) ran tt
 
 pub returns-in-Err : goal.returns-in-Err
 returns-in-Err g c =
@@ -58,4 +58,4 @@ returns-in-Err g c =
     let old = g.W.Machine.state c.args.world.now in
     let new = g.W.Machine.state c.run_plan-ending.new.world in
     let ran = subst (λ (p : RunPlan). RunsPlan feed drain offers_by inlets_by dests_by old new p c.args.routers.items c.args.rounds c.run_plan-ending.result) c.plan_of-plan.ensures c.run_plan-ending.ensures in
-    runs-by feed drain old new c.args.config c.args.once c.args.rounds c.args.routers.items c.run_plan-ending.result (Err NoMemory) c.requires.within c.requires.direct c.requires.routers c.runs_deliver.ensures c.failed_stores_count.ensures c.quiet_runs_rest.ensures c.clean_runs_end.ensures c.runs_are_bounded.ensures c.plan_runs_cover.ensures c.plan_runs_end_clean.ensures c.plan_runs_rest.ensures (let most = c.requires.rounds in omega (arith, most)) ran tt
+    runs-by feed drain old new c.args.config c.args.once c.args.rounds c.args.routers.items c.run_plan-ending.result (Err NoMemory) c.requires.within c.requires.direct c.requires.files c.requires.routers c.runs_deliver.ensures c.failed_stores_count.ensures c.quiet_runs_rest.ensures c.clean_runs_end.ensures c.runs_are_bounded.ensures c.plan_runs_happen.ensures c.plan_runs_cover.ensures c.plan_runs_end_clean.ensures c.plan_runs_rest.ensures (let most = c.requires.rounds in omega (arith, most)) ran tt

@@ -1,3 +1,4 @@
+use Rattle.sg_run.proofs.FileLemmas.{reads-files}
 use Rattle.sg_run.proofs.RunLemmas.{file-ran, file-left}
 use Rattle.sg_run.proofs.running.run_file.Goals as goal
 
@@ -18,3 +19,6 @@ run_config-requires-clause-direct g c = λ κs lives. c.outlets_are_direct.ensur
 
 pub run_config-requires-clause-compiles : goal.run_config-requires-clause-compiles
 run_config-requires-clause-compiles g c = λ κs lives. (c.in-Ok.ensures.loads).compiles
+
+pub run_config-requires-clause-files : goal.run_config-requires-clause-files
+run_config-requires-clause-files g c = λ κs lives. reads-files _ _ c.args.once ((c.in-Ok.ensures.loads).configures).means
