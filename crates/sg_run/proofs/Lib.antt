@@ -7,3 +7,4 @@ pub mod RunLemmas
 pub mod CauseLemmas
 pub mod RestingLemmas
 pub mod BoundingLemmas
+pub mod AddingLemmas

@@ -6,3 +6,4 @@ pub mod Resting
 pub mod Bounding
 pub mod Covering
 pub mod Run
+pub mod Adding

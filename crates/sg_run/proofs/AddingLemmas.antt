@@ -1,0 +1,90 @@
+-- What the runs of a configuration add up to.
+use Rattle.std.proofs.Common.{◌≡◌, ℕ, false, Some, None, Option, List, [], ◌∷◌, ◌++◌, map, Result, Ok, Err, refl, sym, ap, ◌∙◌, subst}
+use Rattle.sg_list.proofs.ListLemmas.{some-same}
+use Rattle.sg_device.specs.Inlet.{InletState}
+use Rattle.sg_device.specs.Outlet.{OutletState}
+use Rattle.sg_lex.specs.declared.token.Token.{Token}
+use Rattle.sg_pipes.specs.declared.pipes.Pipes.{Pipes}
+use Rattle.sg_plan.specs.Direct.{AreDirect}
+use Rattle.sg_config.specs.Alike.{IsWithin}
+use Rattle.sg_config.specs.Means.{Means}
+use Rattle.sg_config.specs.declared.config.Config.{Config}
+use Rattle.sg_loaded.specs.declared.loaded.Unloaded.{Unloaded}
+use Rattle.sg_serve.specs.Counts.{first_fault}
+use Rattle.sg_serve.specs.declared.counts.Counts.{Counts}
+use Rattle.sg_serve.specs.declared.counts.Fault.{Fault}
+use Rattle.sg_serve.specs.declared.counts.Fault.TheVariants.{Sink, Disk, Inlet}
+use Rattle.sg_serve.specs.declared.ending.Early.{Early}
+use Rattle.sg_serve.specs.declared.ending.Early.TheVariants as early
+use Rattle.sg_serve.specs.declared.ending.Ending.{Ending}
+use Rattle.sg_serve.specs.declared.ending.Ending.TheVariants.{Before, Ran}
+use Rattle.sg_serve.specs.declared.plan.RunPlan.{RunPlan}
+use Rattle.sg_turns.specs.declared.ended.Ended.{Ended}
+use Rattle.sg_turns.specs.declared.ended.Ended.TheVariants.{Quiet, RoundsSpent as Spent, NoMemory}
+use Rattle.sg_covered.specs.All.{PlanRunsFollow, PlanRunsAddUp}
+use Rattle.sg_run.specs.Adding.{ConfigRun, plan_run, IsConfigRun, ConfigRunsFollow, IsClean, ConfigRunsAddUp}
+use Rattle.sg_run.specs.Ends.{quiet_end, end_after, early_end}
+use Rattle.sg_run.specs.Meaning.{planned, AreRouters}
+use Rattle.sg_run.specs.Outcomes.{Tells}
+use Rattle.sg_run.specs.Run.{offers_by, inlets_by, dests_by}
+use Rattle.sg_run.specs.declared.end.End.{End}
+use Rattle.sg_run.specs.declared.end.End.TheVariants.{Clean, OpenFault, Damage, SinkFault, DiskFault, InletFault, RoundsSpent}
+use Rattle.sg_run.specs.declared.end.Outcome.{Outcome}
+use Rattle.sg_run.proofs.FileLemmas.{reads-files}
+use Rattle.sg_run.proofs.PlanLemmas.{runnable}
+
+-- Status 0.
+
+quiet-none : (fault : Option Fault) → quiet_end fault ≡ Clean → fault ≡ None
+quiet-none None h = refl
+quiet-none (Some (Sink d)) h = absurd (let wrong : SinkFault d ≡ Clean = h in cc)
+quiet-none (Some (Disk s)) h = absurd (let wrong : DiskFault s ≡ Clean = h in cc)
+quiet-none (Some (Inlet i)) h = absurd (let wrong : InletFault i ≡ Clean = h in cc)
+
+early-unclean : (e : Early) (end : End) → early_end e ≡ Some end → end ≡ Clean → ⊥
+early-unclean (early.OpenFault device) end h q = let wrong : OpenFault device ≡ Clean = some-same (OpenFault device) end h ∙ q in cc
+early-unclean (early.Damage s at) end h q = let wrong : Damage s at ≡ Clean = some-same (Damage s at) end h ∙ q in cc
+early-unclean (early.DiskFault s) end h q = let wrong : DiskFault s ≡ Clean = some-same (DiskFault s) end h ∙ q in cc
+early-unclean early.NoMemory end h q = let wrong : None ≡ Some end = h in cc
+
+-- it ended quietly, with nothing counted as failed
+record EndsWellBy (ending : Ending) : Type 0 where
+  counts : Counts
+  ending_is : ending ≡ Ran Quiet (Some counts)
+  well : first_fault counts.sinks counts.stores counts.inlets ≡ None
+
+ran-clean : (ended : Ended) (counts : Counts) (end : End) → end_after ended (first_fault counts.sinks counts.stores counts.inlets) ≡ Some end → end ≡ Clean → EndsWellBy (Ran ended (Some counts))
+ran-clean Quiet counts end h q = let fault = first_fault counts.sinks counts.stores counts.inlets in record { counts = counts; ending_is = refl; well = quiet-none fault (some-same (quiet_end fault) end h ∙ q) }
+ran-clean Spent counts end h q = absurd (let wrong : RoundsSpent ≡ Clean = some-same RoundsSpent end h ∙ q in cc)
+ran-clean NoMemory counts end h q = absurd (let wrong : None ≡ Some end = h in cc)
+
+ends-well : (plan : RunPlan) (ending : Ending) (result : Result Outcome Unloaded) → Tells plan ending result → IsClean result → EndsWellBy ending
+ends-well plan (Before e) (Ok outcome) tells clean = absurd (early-unclean e outcome.end tells.0 clean)
+ends-well plan (Ran ended None) (Ok outcome) tells clean = absurd tells
+ends-well plan (Ran ended (Some counts)) (Ok outcome) tells clean = ran-clean ended counts outcome.end tells.0 clean
+ends-well plan ending (Err unloaded) tells clean = absurd clean
+
+-- All runs.
+
+module _ {I O : Type 0} (feed : I → InletState) (drain : O → OutletState) (config : Config) (by : List Pipes) (are : AreRouters config by) where
+  follow-by : (bytes : ℕ → List ℕ) (before : List (List ℕ)) (runs : List (ConfigRun feed drain config)) (last : ConfigRun feed drain config) → ConfigRunsFollow by are bytes before (runs ++ last ∷ [])
+      → PlanRunsFollow feed drain offers_by inlets_by dests_by (planned config false) by bytes before (map (plan_run by are) runs ++ plan_run by are last ∷ [])
+  follow-by bytes before [] last follow = (
+    follow.0,
+    record { runs = (last.ran).runs; core = last.core_is; stores = (follow.1).stores; files = (follow.1).files; stops = (follow.1).stops },
+    tt,
+  )
+  follow-by bytes before (run ∷ runs) last follow = (
+    follow.0,
+    record { runs = (run.ran).runs; core = run.core_is; stores = (follow.1).stores; files = (follow.1).files; stops = (follow.1).stops },
+    follow-by run.bytes run.images runs last follow.2,
+  )
+
+pub config-runs-add-up : {I O : Type 0} (feed : I → InletState) (drain : O → OutletState) → ((tokens : List Token) (config : Config) → Means tokens config → IsWithin config) → ((tokens : List Token) (config : Config) → Means tokens config → AreDirect config.outlets.items)
+    → PlanRunsAddUp feed drain offers_by inlets_by dests_by → ConfigRunsAddUp feed drain
+config-runs-add-up feed drain within direct add tokens config by are bytes taken passes before runs last means covered follow clean returned =
+    let reads = reads-files tokens config false means in
+    let can = runnable config false (within tokens config means) (direct tokens config means) in
+    let well = ends-well (planned config last.once) (last.ran).ending last.result (last.ran).tells clean in
+    add (planned config false) by bytes taken passes before (map (plan_run by are) runs) (plan_run by are last) can reads.0 reads.1 covered (follow-by feed drain config by are bytes before runs last follow)
+    (record { counts = well.counts; ending_is = well.ending_is; well = well.well; returned = returned })

@@ -1,0 +1,5 @@
+use Rattle.sg_run.proofs.AddingLemmas.{config-runs-add-up}
+use Rattle.sg_run.proofs.adding.config_runs_add_up.Goals as goal
+
+pub returns : goal.returns
+returns g c = config-runs-add-up g.W.Feed.Inlet.state g.W.Drain.Outlet.state c.texts_mean_one.ensures.within c.outlets_are_direct.ensures c.plan_runs_add_up.ensures

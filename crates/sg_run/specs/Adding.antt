@@ -1,0 +1,93 @@
+-- What the runs of a configuration come to, one after another, each of which was stopped at any moment.
+use Rattle.std.specs.Prelude.{◌≡◌, ◌⊎◌, ℕ, Bool, false, Some, List, [], ◌∷◌, ◌++◌, map, Result, Ok, Err}
+use Rattle.sg_device.specs.Inlet.{InletState}
+use Rattle.sg_device.specs.Outlet.{OutletState}
+use Rattle.sg_outside.specs.World.{WorldState}
+use Rattle.sg_lex.specs.declared.token.Token.{Token}
+use Rattle.sg_machine.specs.declared.event.Event.{Event}
+use Rattle.sg_machine.specs.Runs.{Kept}
+use Rattle.sg_pipes.specs.declared.pipes.Pipes.{Pipes}
+use Rattle.sg_config.specs.Means.{Means}
+use Rattle.sg_config.specs.declared.config.Config.{Config}
+use Rattle.sg_loaded.specs.declared.loaded.Unloaded.{Unloaded}
+use Rattle.sg_serve.specs.Run.{CoreRun}
+use Rattle.sg_runs.specs.Covered.{Pass, Taken, Covered}
+use Rattle.sg_runs.specs.Law.{offers_in, position_in}
+use Rattle.sg_covered.specs.Runs.{AreListsBy, held_by, TellFiles, files_of}
+use Rattle.sg_covered.specs.All.{StopsWithin, StopsThen, PlanRun, TellThese, Lengthen, PlanRunsSum}
+use Rattle.sg_run.specs.Meaning.{planned, AreRouters}
+use Rattle.sg_run.specs.Run.{offers_by, RunsBy}
+use Rattle.sg_run.specs.declared.end.End.TheVariants.{Clean}
+use Rattle.sg_run.specs.declared.end.Outcome.{Outcome}
+
+-- A run of the configuration whose core was opened: the bytes of its files, behind which events it was stopped with which one on, and what that left
+-- in its stores.
+pub record ConfigRun {I O : Type 0} (feed : I → InletState) (drain : O → OutletState) (config : Config) : Type 0 where
+  pub once : Bool
+  pub old : WorldState
+  pub new : WorldState
+  pub rounds : ℕ
+  pub result : Result Outcome Unloaded
+  pub ran : RunsBy feed drain old new config once rounds result
+  pub core : CoreRun
+  pub core_is : (ran.reached).core ≡ Some core
+  pub bytes : ℕ → List ℕ
+  pub events : List Event
+  pub event : Event
+  pub images : List (List ℕ)
+
+-- as a run of its plan
+abbrev pub plan_run : {I O : Type 0} {feed : I → InletState} {drain : O → OutletState}
+    {config : Config} → (by : List Pipes) → AreRouters config by → ConfigRun feed drain config
+    → PlanRun offers_by (planned config false) by
+plan_run by are run = record {
+  once = run.once;
+  old = run.old;
+  new = run.new;
+  routers = (run.ran).routers;
+  rounds = run.rounds;
+  ending = (run.ran).ending;
+  reached = (run.ran).reached;
+  run = run.core;
+  happened = ((run.ran).covers by are).happened run.core run.core_is;
+  bytes = run.bytes;
+  events = run.events;
+  event = run.event;
+  images = run.images;
+}
+
+-- its stores held this, the machine told its files, and so it was stopped
+pub record IsConfigRun {I O : Type 0} {feed : I → InletState} {drain : O → OutletState} {config : Config} (by : List Pipes) (are : AreRouters config by) (before : List (List ℕ)) (run : ConfigRun feed drain config) : Type 0 where
+  pub stores : TellThese ((run.ran).reached).stores before
+  pub files : TellFiles (run.old).files (planned config run.once) ((run.ran).reached).inlets run.bytes
+  pub stops : StopsWithin (plan_run by are run).happened run.events run.event run.images
+      ⊎ StopsThen (plan_run by are run).happened run.events run.event run.images
+
+-- each begins with what the one before it left in its stores, over files that have only grown
+abbrev pub ConfigRunsFollow : {I O : Type 0} {feed : I → InletState} {drain : O → OutletState}
+    {config : Config} → (by : List Pipes) → AreRouters config by → (ℕ → List ℕ) → List (List ℕ)
+    → List (ConfigRun feed drain config) → Type 0
+ConfigRunsFollow by are bytes before [] = Unit {0}
+ConfigRunsFollow by are bytes before (run ∷ runs) =
+    Lengthen bytes run.bytes × IsConfigRun by are before run
+    × ConfigRunsFollow by are run.bytes run.images runs
+
+abbrev pub IsClean : Result Outcome Unloaded → Type 0
+IsClean (Ok outcome) = outcome.end ≡ Clean
+IsClean (Err unloaded) = ⊥
+
+-- What the stores held was covered by given passes and what was taken, and the last run ended with status 0 and returned. Then each record of each
+-- file has a pass of which each offer with flow-control was taken at least once, and nothing else was taken than offers.
+abbrev pub ConfigRunsAddUp : {I O : Type 0} → (I → InletState) → (O → OutletState) → Type 0
+ConfigRunsAddUp feed drain =
+    (tokens : List Token) (config : Config) (by : List Pipes) (are : AreRouters config by)
+    (bytes : ℕ → List ℕ) (taken : List Taken) (passes : List Pass) (before : List (List ℕ))
+    (runs : List (ConfigRun feed drain config)) (last : ConfigRun feed drain config)
+    → Means tokens config
+    → ((lists : List (List Kept)) → AreListsBy config.setup.dests before lists
+    → Covered config.setup (offers_in offers_by by) (files_of config.inlets.items bytes) taken passes
+    (position_in (held_by config.setup before lists)) (held_by config.setup before lists))
+    → ConfigRunsFollow by are bytes before (runs ++ last ∷ [])
+    → IsClean last.result
+    → StopsThen (plan_run by are last).happened last.events last.event last.images
+    → PlanRunsSum taken passes before (map (plan_run by are) runs) (plan_run by are last)
