@@ -59,7 +59,8 @@ plan_run by are run = record {
 -- its stores held this, the machine told its files, and so it was stopped
 pub record IsConfigRun {I O : Type 0} {feed : I → InletState} {drain : O → OutletState} {config : Config} (by : List Pipes) (are : AreRouters config by) (before : List (List ℕ)) (run : ConfigRun feed drain config) : Type 0 where
   pub stores : TellThese ((run.ran).reached).stores before
-  pub files : TellFiles (run.old).files (planned config run.once) ((run.ran).reached).inlets run.bytes
+  pub files : TellFiles (run.old).files (planned config run.once) ((run.ran).reached).inlets
+      run.bytes
   pub stops : StopsWithin (plan_run by are run).happened run.events run.event run.images
       ⊎ StopsThen (plan_run by are run).happened run.events run.event run.images
 
@@ -85,8 +86,9 @@ ConfigRunsAddUp feed drain =
     (runs : List (ConfigRun feed drain config)) (last : ConfigRun feed drain config)
     → Means tokens config
     → ((lists : List (List Kept)) → AreListsBy config.setup.dests before lists
-    → Covered config.setup (offers_in offers_by by) (files_of config.inlets.items bytes) taken passes
-    (position_in (held_by config.setup before lists)) (held_by config.setup before lists))
+    → Covered config.setup (offers_in offers_by by) (files_of config.inlets.items bytes) taken
+    passes (position_in (held_by config.setup before lists))
+    (held_by config.setup before lists))
     → ConfigRunsFollow by are bytes before (runs ++ last ∷ [])
     → IsClean last.result
     → StopsThen (plan_run by are last).happened last.events last.event last.images
