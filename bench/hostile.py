@@ -1,9 +1,14 @@
 #!/usr/bin/env python3
-"""What `check` takes in time and memory where a text makes as much work of few bytes as it can.
+"""What the program takes in time and memory where an input is hostile: rows of inputs that it must refuse or give up, and texts that
+make `check` do as much work for few bytes as they can.
 
     bench/hostile.py [PROGRAM]     by default the program that syslogr builds
 
-It makes two texts for each family, one with half as many parts as the other, runs `PROGRAM check FILE` on each, and prints for
+The rows are printed first, each with its words, its seconds, the processor's seconds, the most memory held, and what was said. It
+ends with status 1 where a row takes more than two seconds of the processor or 64 MiB, or says or does something else than is written
+here.
+
+Then it makes two texts for each family, one with half as many parts as the other, runs `PROGRAM check FILE` on each, and prints for
 the longer one its bytes, the seconds, the processor's seconds and the most memory held, as /usr/bin/time (GNU) tells them,
 the memory beyond that of the first run for each byte of the text, the same of the half, and what the program said. It ends
 with status 1 where a family takes more than two seconds of the processor, where its memory isn't in proportion to the text
@@ -11,15 +16,19 @@ with status 1 where a family takes more than two seconds of the processor, where
 Of the families of COPIES only the answers are looked at.
 """
 import os
+import re
+import socket
 import subprocess
 import sys
 import tempfile
+import time
 
 TOP = os.path.dirname(os.path.dirname(os.path.abspath(__file__)))
 PROGRAM = os.path.join(TOP, "crates", "sg_top", "out", "sg_top")
 SECONDS = 2.0
 BYTES = 1000
 SLACK = 8192  # KiB that two runs may differ by
+ROW = 65536  # KiB of a row
 
 OK = "ok"
 DEEP = "nested too deep"
@@ -272,14 +281,131 @@ COPIES = [
 ]
 
 
-def run(program, folder):
+A = """@version: 4.2
+source s { file("in" flags(%s)); };
+destination d { file("out" template("%s\\n")%s); };
+log { source(s); destination(d); flags(flow-control); };
+"""
+LINES = A % ("no-parse", "$MSG", "")
+BUFFERED = A % ("no-parse", "$MSG", " disk-buffer(reliable(yes) disk-buf-size(1048576))")
+
+# The rows: a name, the words, the files, a pattern of what is said, and the exit status.
+ROWS = [
+    (
+        "variables that double",
+        ["check", "c"],
+        {"c": "@version: 4.2\n" + '@define a0 "0123456789"\n' + "".join('@define a%d "`a%d``a%d`"\n' % (k, k - 1, k - 1) for k in range(1, 21))},
+        "c:18: configuration too long",
+        2,
+    ),
+    (
+        "a hundred times the next of 14",
+        ["check", "c"],
+        {"c": "@version: 4.2\n" + '@include "h01"\n' * 100, "h14": "", **{"h%02d" % k: '@include "h%02d"\n' % (k + 1) * 100 for k in range(1, 14)}},
+        r"h\d\d:\d+: configuration too long",
+        2,
+    ),
+    ("65 parentheses on line 5", ["check", "c"], {"c": "@version: 4.2\n" + parentheses(1)[0] + "\n"}, "c:5: nested too deep", 2),
+    (
+        "65,536 brackets as RFC 5424",
+        ["trace", "c", "s", "in"],
+        {"c": A % ("syslog-protocol", "$PRI $PROGRAM", ""), "in": "[" * 65536 + "\n"},
+        "record 0 destination 0 flow yes length 13\n43 syslog-ng",
+        0,
+    ),
+    ("a disk-buffer of the payload ab", ["run", "c", "--once"], {"c": BUFFERED, "in": "one\n", "queue-file,out": "\0" * 64 + "\1\0\0\0\2ab" + "\0" * 57}, "store 1 damaged at 64", 5),
+    ("a position store with byte 40", ["run", "c", "--once"], {"c": LINES, "in": "one\n", "pos-in": "\0" * 40 + "\1" + "\0" * 87}, "store 0 damaged at 40", 5),
+]
+
+
+def run(program, folder, command=("check", "c")):
     """The seconds, the processor's seconds, the peak in KiB, and what was said."""
     figures = os.path.join(folder, "figures")
-    words = ["/usr/bin/time", "-o", figures, "-f", "%e %U %S %M", program, "check", "c"]
+    words = ["/usr/bin/time", "-o", figures, "-f", "%e %U %S %M", program, *command]
     said = subprocess.run(words, cwd=folder, stdout=subprocess.PIPE, stderr=subprocess.DEVNULL).stdout.decode(errors="replace").strip()
     with open(figures) as lines:
         elapsed, user, system, peak = lines.read().splitlines()[-1].split()
     return float(elapsed), float(user) + float(system), int(peak), said
+
+
+def look_at_row(program, row):
+    """The seconds, the processor's seconds, the peak in KiB, what was said, and whether that is right."""
+    name, words, files, wanted, status = row
+    with tempfile.TemporaryDirectory() as folder:
+        for file, text in files.items():
+            with open(os.path.join(folder, file), "w") as out:
+                out.write(text)
+        elapsed, processor, peak, said = run(program, folder, words)
+        with open(os.path.join(folder, "figures")) as lines:
+            ended = re.search(r"Command exited with non-zero status (\d+)", lines.read())
+    return elapsed, processor, peak, said, (int(ended[1]) if ended else 0) == status and bool(re.fullmatch(wanted, said))
+
+
+def connected(port):
+    """A connection to the port of the program, which may take a while to listen there."""
+    for _ in range(200):
+        try:
+            return socket.create_connection(("127.0.0.1", port), timeout=10)
+        except OSError:
+            time.sleep(0.05)
+    raise SystemExit("the program doesn't listen")
+
+
+def comes_to(path, text):
+    """Whether the file comes to hold this within ten seconds."""
+    for _ in range(200):
+        try:
+            with open(path) as file:
+                if file.read() == text:
+                    return True
+        except FileNotFoundError:
+            pass
+        time.sleep(0.05)
+    return False
+
+
+def look_at_count(program):
+    """A connection that begins with a count of twenty digits is closed, and one beside it goes on. The figures as above."""
+    with socket.socket() as free:
+        free.bind(("127.0.0.1", 0))
+        port = free.getsockname()[1]
+    with tempfile.TemporaryDirectory() as folder:
+        out = os.path.join(folder, "out")
+        with open(os.path.join(folder, "c"), "w") as config:
+            config.write(LINES.replace('file("in" flags(no-parse))', 'syslog(ip("127.0.0.1") port(%d) max-connections(2) flags(no-parse))' % port))
+        start = time.monotonic()
+        run = subprocess.Popen([program, "run", "c"], cwd=folder, stdout=subprocess.DEVNULL, stderr=subprocess.DEVNULL)
+        try:
+            with connected(port) as bad, connected(port) as good:
+                good.sendall(b"5 hello")
+                bad.sendall(b"99999999999999999999 x")
+                before = comes_to(out, "hello\n")
+                closed = bad.recv(1) == b""
+                good.sendall(b"3 abc")
+                right = before and closed and comes_to(out, "hello\nabc\n") and run.poll() is None
+            elapsed = time.monotonic() - start
+            with open("/proc/%d/status" % run.pid) as lines:
+                peak = int(re.search(r"VmHWM:\s+(\d+)", lines.read())[1])
+            with open("/proc/%d/stat" % run.pid) as line:
+                ticks = line.read().rsplit(")", 1)[1].split()[11:13]
+        finally:
+            run.kill()
+            run.wait()
+    return elapsed, sum(map(int, ticks)) / os.sysconf("SC_CLK_TCK"), peak, "hello, abc" if right else "another end", right
+
+
+def look_at_rows(program):
+    """Prints the figures of each row, and tells whether all are right."""
+    good = True
+    print("%-32s %8s %8s %9s  %s" % ("row", "seconds", "cpu", "KiB", "said"))
+    looks = [(row[0], lambda row=row: look_at_row(program, row)) for row in ROWS]
+    looks.insert(3, ("a count of twenty digits", lambda: look_at_count(program)))
+    for name, look in looks:
+        elapsed, processor, peak, said, right = look()
+        wrong = [word for word, bad in (("SLOW", processor > SECONDS), ("MEMORY", peak > ROW), ("ANSWER", not right)) if bad]
+        good = good and not wrong
+        print("%-32s %8.2f %8.2f %9d  %s %s" % (name, elapsed, processor, peak, said.replace("\n", " | ")[:80], " ".join(wrong)))
+    return good
 
 
 def measured(program, folder, make, count):
@@ -292,7 +418,8 @@ def measured(program, folder, make, count):
 
 def main():
     program = os.path.abspath(sys.argv[1]) if len(sys.argv) > 1 else PROGRAM
-    good = True
+    good = look_at_rows(program)
+    print()
     print("%-30s %9s %8s %8s %9s %7s %7s  %s" % ("family", "bytes", "seconds", "cpu", "KiB", "a byte", "half", "said"))
     with tempfile.TemporaryDirectory() as folder:
         base = None

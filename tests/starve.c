@@ -2,17 +2,20 @@
 #define _GNU_SOURCE
 #include <dlfcn.h>
 #include <errno.h>
+#include <stdatomic.h>
 #include <stdlib.h>
 #include <unistd.h>
 
-static long left = -1;
+/* The number of the next allocation, and of the one that is refused. */
+static atomic_long next_one = 1;
+static atomic_long refused = -1;
 
 static int refuses(void) {
-    if (left < 0) {
+    if (refused < 0) {
         const char *number = getenv("STARVE");
-        left = number ? atol(number) : 0;
+        refused = number ? atol(number) : 0;
     }
-    if (left == 0 || --left > 0) return 0;
+    if (refused == 0 || atomic_fetch_add(&next_one, 1) != refused) return 0;
     (void)!write(2, "starved\n", 8);
     errno = ENOMEM;
     return 1;
