@@ -149,8 +149,11 @@ fn other_records_are_refused(rt: HostRuntime) -> Result<(), Fail> {
     assert_eq!(rt; stops_at(rt.alloc(), b""), Some(0));
     let brackets = vec![in rt.alloc(); b'['; 65_536]?;
     assert_eq!(rt; stops_at(rt.alloc(), brackets.as_slice()), Some(0));
-    let item = Bytes::from_static(b"<34>1");
     let peer = Bytes::from_static(b"peer");
+    let item = Bytes::copy_from_slice(rt.alloc(), &brackets)?;
+    let message = refused(rt.alloc(), item, PULLED, &peer, &OPTS)?;
+    assert_eq!(rt; message.pri(), 43);
+    let item = Bytes::from_static(b"<34>1");
     let message = refused(rt.alloc(), item, PULLED, &peer, &OPTS)?;
     assert_eq!(rt; message.pri(), 43);
     assert_eq!(rt; message.sent(), RECEIVED);
