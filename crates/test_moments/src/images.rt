@@ -1,0 +1,106 @@
+// The stores that runs begin with, and what a crash leaves of them.
+ghost use Rattle.std.specs.Prelude.{◌≤◌};
+
+use sg_device::NoMemory;
+use sg_memory_disk::{MemoryDisk, MemoryStores, Pick, StoreCell};
+use std::alloc::{AllocError, Global};
+
+/// The store of the source's position.
+pub(crate) const POSITION: &[u8] = b"pos-in";
+
+/// The store of the disk-buffer.
+pub(crate) const BUFFER: &[u8] = b"./queue-file,out";
+
+// The place behind the first line.
+const BEHIND_ONE: [u8; 8] = [0, 0, 0, 0, 0, 0, 0, 4];
+
+// An open gate, and an entry of the format 1: the first line, of source 0, that ends at 4.
+const ENTRY: &str =
+    "010000002f01010000000000000000000000040d0000000000000000000000000001000000074d455353414745000000036f6e65";
+
+/// The picks of these letters; none for any other.
+pub(crate) fn picks(alloc: Global, letters: &str) -> Result<Vec<Pick>, NoMemory> {
+    let mut picks = Vec::new(alloc);
+    for letter in letters.as_bytes() {
+        match *letter {
+            b'o' => picks.push(Pick::Old)?,
+            b'n' => picks.push(Pick::New)?,
+            b'1' => picks.push(Pick::Ones)?,
+            b'0' => picks.push(Pick::Zeros)?,
+            _ => {}
+        }
+    }
+    Ok(picks)
+}
+
+// A store of 128 bytes that are zero but for a part.
+fn laid(alloc: Global, place: usize, part: &[u8]) -> Result<MemoryDisk, NoMemory>
+    requires { place ≤ 64 }
+{
+    let mut bytes = vec![in alloc; 0u8; place]?;
+    bytes.extend_from_slice(part)?;
+    bytes.resize(128, 0)?;
+    MemoryDisk::new(alloc, bytes)
+}
+
+/// The stores that a run begins with, by a word; none for any other.
+pub(crate) fn begun(alloc: Global, begin: &str) -> Result<Option<MemoryStores>, NoMemory> {
+    let mut stores = MemoryStores::new(alloc);
+    match begin {
+        "fresh" => {}
+        "older" => {
+            let Ok(entry) = hex::decode(alloc, ENTRY) else {
+                return Err(AllocError);
+            };
+            stores.put(alloc, POSITION, laid(alloc, 16, &BEHIND_ONE)?)?;
+            stores.put(alloc, BUFFER, laid(alloc, 64, &entry)?)?;
+        }
+        _ => return Ok(None),
+    }
+    Ok(Some(stores))
+}
+
+// The store as a crash leaves it, for a machine that finds it closed.
+fn leave(
+    alloc: Global,
+    name: &[u8],
+    disk: &MemoryDisk,
+    picks: &[Pick],
+    stores: &mut MemoryStores,
+) -> Result<(), NoMemory> {
+    let bytes = disk.image(picks)?;
+    let disk = MemoryDisk::new(alloc, bytes)?;
+    stores.put(alloc, name, disk)
+}
+
+fn leave_all(
+    alloc: Global,
+    cell: &StoreCell,
+    position: &[Pick],
+    buffer: &[Pick],
+    stores: &mut MemoryStores,
+) -> Result<(), NoMemory> {
+    if let Some(before) = &cell.before {
+        leave_all(alloc, before, position, buffer, stores)?;
+    }
+    if let Some(store) = &cell.closed {
+        let name = store.name.bytes();
+        let picks = if name == POSITION { position } else { buffer };
+        leave(alloc, name, &store.disk, picks, stores)?;
+    }
+    Ok(())
+}
+
+/// What a crash leaves of the closed stores, by these picks of the position store and of the disk-buffer's.
+pub(crate) fn left(
+    alloc: Global,
+    stores: &MemoryStores,
+    position: &[Pick],
+    buffer: &[Pick],
+) -> Result<MemoryStores, NoMemory> {
+    let mut images = MemoryStores::new(alloc);
+    if let Some(cell) = stores.closed() {
+        leave_all(alloc, cell, position, buffer, &mut images)?;
+    }
+    Ok(images)
+}
