@@ -4,6 +4,8 @@
 mod check;
 mod drill;
 #[cfg(test)]
+mod failing_rows;
+#[cfg(test)]
 mod rows;
 mod run;
 mod say;
