@@ -4,10 +4,11 @@
     tests/kills.py [COUNT [PROGRAM]]     by default 400 runs of the program that syslogr builds
 
 The records of two files go by one log path with flow-control to two destinations, of which one has a disk-buffer and takes nothing
-in every fourth run or so, so that entries wait there. Each run is killed (SIGKILL) within its first 50 milliseconds, while lines
-and parts of lines are appended to both files. None may end by itself. At the end a run with `--once` must end with status 0, and
-then each destination has each record whole, those of each file in their order, and no line that is none of them. A record may
-stand there again. As many series run beside each other as there are processors, each in a folder of its own.
+in every fourth run or so, so that entries wait there. Each run is killed (SIGKILL) while lines and parts of lines are appended to
+both files, at a moment within three times as long as a run takes that ends by itself, and a tenth of a second at most. None may end
+before it is killed. At the end a run with `--once` must end with status 0, and then each destination has each record whole, those
+of each file in their order, and no line that is none of them. A record may stand there again. As many series run beside each other
+as there are processors, each in a folder of its own.
 
 It says how many runs were killed, how many records there were, and how many stood there again, and ends with status 1 where one is
 lost, torn or out of order, or a run ended by itself.
@@ -120,9 +121,10 @@ def series(program, count, seed):
         status, said, seconds = run_once(program, folder)
         if status != 0:
             return 0, 0, ["the first run ended with status %d: %s" % (status, said)]
+        span = min(3 * seconds, 0.1)
         for k in range(count):
             point(folder, chance.random() < 0.75)
-            status = run_killed(program, folder, files, 3 * seconds, chance)
+            status = run_killed(program, folder, files, span, chance)
             if status != -9:
                 with open(os.path.join(folder, "said"), errors="replace") as said:
                     return 0, 0, ["run %d of seed %d ended with status %d: %s" % (k, seed, status, said.read())]
