@@ -7,15 +7,17 @@ The records of two files go by one log path with flow-control to two destination
 in every fourth run or so, so that entries wait there. Each run is killed (SIGKILL) while lines and parts of lines are appended to
 both files, at a moment within three times as long as a run takes that ends by itself, and a tenth of a second at most. None may end
 before it is killed. At the end a run with `--once` must end with status 0, and then each destination has each record whole, those
-of each file in their order, and no line that is none of them. A record may stand there again. As many series run beside each other
-as there are processors, each in a folder of its own.
+of each file in their order, and nothing else, but that a record may stand there again, and that a kill within a write leaves what
+was written of it: the beginning of a record, behind which the next line stands. As many series run beside each other as there are
+processors, each in a folder of its own.
 
-It says how many runs were killed, how many records there were, and how many stood there again, and ends with status 1 where one is
-lost, torn or out of order, or a run ended by itself.
+It says how many runs were killed, how many records there were, how many stood there again, and how many writes were cut off within
+a record. It ends with status 1 where a record is lost or out of order, a line is none, or a run ended by itself.
 """
 import concurrent.futures
 import os
 import random
+import re
 import subprocess
 import sys
 import tempfile
@@ -84,20 +86,34 @@ def run_killed(program, folder, files, span, chance):
     return run.wait()
 
 
+def parted(line, known):
+    """The record at the end of a line, and how many beginnings of others stand before it; none where it has another form."""
+    starts = [found.start() for found in re.finditer(rb"[ab]", line)]
+    if not starts or line[starts[-1] :] not in known:
+        return None
+    for start, end in zip(starts, starts[1:]):
+        part = line[start:end]
+        if not re.fullmatch(rb"[ab]( (\d{0,6}|\d{7}( x*\.?)?))?", part):
+            return None
+    return (line[starts[-1] :], len(starts) - 1) if starts[0] == 0 else None
+
+
 def lacks(wanted, path):
-    """What is wrong with a destination's file, and how many records stand there again."""
+    """What is wrong with a destination's file, how many records stand there again, and how many writes were cut off."""
     with open(path, "rb") as file:
         text = file.read()
     places = {line: (k, n) for k, lines in enumerate(wanted) for n, line in enumerate(lines)}
-    seen, again, wrong = [0] * len(wanted), 0, []
+    seen, again, cut, wrong = [0] * len(wanted), 0, 0, []
     lines = text.split(b"\n")
     if lines.pop():
         wrong.append("no end of a line at the end of the file")
     for line in lines:
-        if line not in places:
-            wrong.append("torn: %r" % line)
+        parts = parted(line, places)
+        if parts is None:
+            wrong.append("no record: %r" % line)
             continue
-        k, n = places[line]
+        k, n = places[parts[0]]
+        cut += parts[1]
         if n < seen[k]:
             again += 1
         elif n > seen[k]:
@@ -106,11 +122,12 @@ def lacks(wanted, path):
         else:
             seen[k] += 1
     wrong += ["lost: %r" % line for k, lines in enumerate(wanted) for line in lines[seen[k] :]]
-    return wrong, again
+    return wrong, again, cut
 
 
 def series(program, count, seed):
-    """So many killed runs, and one to the end: how many records there were, how many stood there again, and what is wrong."""
+    """So many killed runs, and one to the end: how many records there were, how many stood there again, how many writes were cut off,
+    and what is wrong."""
     chance = random.Random(seed)
     with tempfile.TemporaryDirectory() as folder:
         with open(os.path.join(folder, "c"), "w") as config:
@@ -120,27 +137,28 @@ def series(program, count, seed):
         files = [Growing(folder, name, chance) for name in "ab"]
         status, said, seconds = run_once(program, folder)
         if status != 0:
-            return 0, 0, ["the first run ended with status %d: %s" % (status, said)]
+            return 0, 0, 0, ["the first run ended with status %d: %s" % (status, said)]
         span = min(3 * seconds, 0.1)
         for k in range(count):
             point(folder, chance.random() < 0.75)
             status = run_killed(program, folder, files, span, chance)
             if status != -9:
                 with open(os.path.join(folder, "said"), errors="replace") as said:
-                    return 0, 0, ["run %d of seed %d ended with status %d: %s" % (k, seed, status, said.read())]
+                    return 0, 0, 0, ["run %d of seed %d ended with status %d: %s" % (k, seed, status, said.read())]
         for file in files:
             file.end()
         point(folder, True)
         status, said, _ = run_once(program, folder)
         if status != 0:
-            return 0, 0, ["the last run of seed %d ended with status %d: %s" % (seed, status, said)]
+            return 0, 0, 0, ["the last run of seed %d ended with status %d: %s" % (seed, status, said)]
         wanted = [file.lines for file in files]
-        wrong, again = [], 0
+        wrong, again, cut = [], 0, 0
         for name in ("buffered.out", "queued"):
-            lacking, more = lacks(wanted, os.path.join(folder, name))
+            lacking, more, cuts = lacks(wanted, os.path.join(folder, name))
             wrong += ["seed %d, %s: %s" % (seed, name, it) for it in lacking]
             again += more
-        return sum(map(len, wanted)), again, wrong
+            cut += cuts
+        return sum(map(len, wanted)), again, cut, wrong
 
 
 def main():
@@ -153,13 +171,14 @@ def main():
     with concurrent.futures.ThreadPoolExecutor(workers) as pool:
         ends = list(pool.map(lambda k: series(program, counts[k], first + k), range(workers)))
     seconds = time.monotonic() - start
-    wrong = [it for end in ends for it in end[2]]
+    wrong = [it for end in ends for it in end[3]]
     for it in wrong[:20]:
         print(it)
     if len(wrong) > 20:
         print("and %d more" % (len(wrong) - 20))
-    records, again = sum(end[0] for end in ends), sum(end[1] for end in ends)
-    print("%d runs killed in %.0f seconds, %d records to each destination, %d of them again, %d wrong" % (count, seconds, records, again, len(wrong)))
+    records, again, cut = (sum(end[k] for end in ends) for k in range(3))
+    print("%d runs killed in %.0f seconds, %d of them within a record" % (count, seconds, cut))
+    print("%d records to each destination, %d of them again, %d wrong" % (records, again, len(wrong)))
     return 1 if wrong else 0
 
 

@@ -1,6 +1,4 @@
 // The stores that runs begin with, and what a crash leaves of them.
-ghost use Rattle.std.specs.Prelude.{◌≤◌};
-
 use sg_device::NoMemory;
 use sg_memory_disk::{MemoryDisk, MemoryStores, Pick, StoreCell};
 use std::alloc::{AllocError, Global};
@@ -34,9 +32,7 @@ pub(crate) fn picks(alloc: Global, letters: &str) -> Result<Vec<Pick>, NoMemory>
 }
 
 // A store of 128 bytes that are zero but for a part.
-fn laid(alloc: Global, place: usize, part: &[u8]) -> Result<MemoryDisk, NoMemory>
-    requires { place ≤ 64 }
-{
+fn laid(alloc: Global, place: usize, part: &[u8]) -> Result<MemoryDisk, NoMemory> {
     let mut bytes = vec![in alloc; 0u8; place]?;
     bytes.extend_from_slice(part)?;
     bytes.resize(128, 0)?;
