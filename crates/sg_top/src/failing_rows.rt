@@ -92,7 +92,8 @@ fn calls_that_fail(rt: HostRuntime) -> Result<(), Fail> {
         fail_all(alloc, calls, &mut machine.world)?;
         let status = daemon(&rt, alloc, &words(alloc, "run c --once")?, &mut machine);
         assert_eq!(rt; Ok(status.code()), code.parse(), "{name}");
-        let ends = machine.world.said().ends_with(&text(alloc, said)?);
+        let said = text(alloc, said)?;
+        let ends = machine.world.said().ends_with(said.as_slice());
         assert!(rt; ends, "{name}");
     }
     Ok(())
