@@ -9,19 +9,16 @@ use Rattle.sg_frame.specs.Records.{Record}
 use Rattle.sg_list.proofs.ListLemmas.{slice_get-some, slice_get-below, some-same}
 use Rattle.sg_booth.specs.Desks.{fresh_desk}
 use Rattle.sg_counter.specs.Exchanges.{Caller}
-use Rattle.sg_actor.specs.Sources.{IsReady}
-use Rattle.sg_actor.specs.Outages.{HasFailures}
-use Rattle.sg_actor.specs.SourceTurns.{FitsSource}
 use Rattle.sg_actor.specs.declared.dest.DestActor.{DestActor}
 use Rattle.sg_actor.specs.declared.source.SourceActor.{SourceActor}
 use Rattle.sg_actor.specs.declared.rendering.DestSpec.{DestSpec}
-use Rattle.sg_actor.specs.declared.settings.SourceSpec.{SourceSpec}
 use Rattle.sg_actor.specs.declared.turned.GivenUp.{GivenUp}
 use Rattle.sg_actor.specs.declared.turned.Turned.{Turned}
 use Rattle.sg_turns.specs.Turns.{Turn, DestState, SendsBy}
-use Rattle.sg_turns.specs.Actors.{source_seen, dest_seen, IsSource, AreSources, AreDests, SourceTakes, DestTakes}
+use Rattle.sg_turns.specs.Actors.{dest_seen, AreSources, AreDests, SourceTakes, DestTakes}
 use Rattle.sg_turns.specs.Serving.{is_busy_answer}
 use Rattle.sg_turns.specs.Rounds.{TellsRound}
+use Rattle.sg_turns.proofs.ActorLemmas.{source-again, dest-failures}
 use Rattle.sg_turns.proofs.PartLemmas.{no-turn}
 use Rattle.sg_hub.specs.Seats.{HubState, SeatState}
 use Rattle.sg_crew.specs.Crews.{any, WorkedWith}
@@ -117,18 +114,6 @@ module _ {A W : Type 0} (takes : A → A → Turn → Type 0) (who : ℕ → Cal
 
 -- The actors are ready again.
 
-fits-as : (setup : Setup) (spec spec' : SourceSpec) (i i' d d' : ℕ) → spec' ≡ spec → i' ≡ i → d' ≡ d → FitsSource setup spec i d → FitsSource setup spec' i' d'
-fits-as setup spec spec' i i' d d' b c e h = subst (λ x. FitsSource setup spec' i' x) (sym e) (subst (λ x. FitsSource setup spec' x d) (sym c) (subst (λ x. FitsSource setup x i d) (sym b) h))
-
-source-again : {R I : Type 0} (state : I → InletState) (offers : R → ℕ → Record → List Offer → Type 0) (inlets dests : R → ℕ) (setup : Setup) (i : ℕ) (a b : SourceActor R I) (turn : Turn)
-    → IsSource state inlets dests setup i a → SourceTakes state offers inlets dests a b turn → IsSource state inlets dests setup i b
-source-again state offers inlets dests setup i a b turn h k = record {
-  number = ap (λ (s : SourceSpec). s.inlet) k.spec ∙ h.number;
-  fits = fits-as setup a.spec b.spec (inlets a.router) (inlets b.router) (dests a.router) (dests b.router) k.spec k.router.inlets_same k.router.dests_same h.fits;
-  ready = subst (λ d. IsReady d b.spec (source_seen state b).source) (sym k.router.dests_same)
-      (subst (λ s. IsReady (dests a.router) s (source_seen state b).source) (sym k.spec) k.turns.takes.ready);
-}
-
 pub sources-again : {R I : Type 0} (state : I → InletState) (offers : R → ℕ → Record → List Offer → Type 0) (inlets dests : R → ℕ) (setup : Setup) (old new : List (SourceActor R I)) (turn : ℕ → Turn)
     → AreSources state inlets dests setup old → length new ≡ length old
     → ((j : ℕ) (a b : SourceActor R I) → slice_get old j ≡ Some a → slice_get new j ≡ Some b → SourceTakes state offers inlets dests a b (turn j))
@@ -138,13 +123,8 @@ sources-again state offers inlets dests setup old new turn h all took = record {
   each = (λ i b after.
       let below = slice_get-below new i b after in
       let a = slice_get-some old i (omega (arith, below, all)) in
-      source-again state offers inlets dests setup i a.0 b (turn i) (h.each i a.0 a.1) (took i a.0 b a.1 after));
+      source-again state offers inlets dests setup setup i a.0 b (turn i) refl (h.each i a.0 a.1) (took i a.0 b a.1 after));
 }
-
-dest-failures : (cause : Option GivenUp) (spec : DestSpec) (x y : DestState) (turn : Turn) → HasFailures x.outage x.drain
-    → SendsBy cause spec x y turn → HasFailures y.outage y.drain
-dest-failures None spec x y turn h (taken, (refused, k)) = k.failures
-dest-failures (Some cause) spec x y turn h k = subst (λ o. HasFailures o y.drain) (sym k.1.outage_stays) (subst (λ d. HasFailures x.outage d) (sym k.1.drain_stays) h)
 
 pub dests-again : {O : Type 0} (state : O → OutletState) (setup : Setup) (old new : List (DestActor O)) (turn : ℕ → Turn)
     → AreDests state setup old → length new ≡ length old

@@ -1,9 +1,10 @@
 -- Whose the calls of a part of a history are, where each stands in the list of places of one caller.
-use Rattle.std.proofs.Common.{arith, ◌≡◌, ◌≤◌, ◌<◌, ◌+◌, ℕ, suc, true, false, List, [], ◌∷◌, ◌++◌, length, map, refl, ap, sym, ◌∙◌, subst, slice_get, Some, inl, inr, length-append}
-use Rattle.std.proofs.lemmas.Bool.{cases_eq, eq-eqb, ne_eqb}
+use Rattle.std.proofs.Common.{arith, ◌≡◌, ◌≤◌, ◌<◌, ◌+◌, ℕ, suc, List, [], ◌∷◌, ◌++◌, length, map, ap, sym, ◌∙◌, subst, slice_get, Some, inl, inr, length-append}
+use Rattle.std.proofs.lemmas.Bool.{cases_eq}
 use Rattle.sg_list.proofs.ListLemmas.{slice_get-below}
 use Rattle.sg_booth.specs.Lists.{times, joined_up, Rises, entries_at}
 use Rattle.sg_counter.specs.Exchanges.{Exchange, Caller, OfSource, OfDest, caller_of, same_caller, calls_by}
+use Rattle.sg_turns.proofs.TurnLemmas.{same-self, other-caller}
 use Rattle.sg_crew.proofs.PlaceLemmas.{find-list, Each, each-at, selects}
 
 -- the list of places of this caller
@@ -13,16 +14,6 @@ IsOwner xss yss (OfDest d) own = slice_get yss d ≡ Some own
 
 abbrev pub ByCaller : Caller → List Exchange → Type 0
 ByCaller who made = Each (λ (x : Exchange). caller_of x.call ≡ who) made
-
-same-self : (who : Caller) → same_caller who who ≡ true
-same-self (OfSource i) = eq-eqb i i refl
-same-self (OfDest d) = eq-eqb d d refl
-
-other-caller : (who c : Caller) → (c ≡ who → ⊥) → same_caller c who ≡ false
-other-caller (OfSource i) (OfSource j) h = ne_eqb j i (λ e. h (ap OfSource e))
-other-caller (OfSource i) (OfDest d) h = refl
-other-caller (OfDest d) (OfSource i) h = refl
-other-caller (OfDest d) (OfDest e) h = ne_eqb e d (λ q. h (ap OfDest q))
 
 -- the one whose list has a place
 find-owner : (xss yss : List (List ℕ)) (x : ℕ) → 0 < times x (joined_up xss) + times x (joined_up yss)

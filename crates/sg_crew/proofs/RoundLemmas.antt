@@ -1,6 +1,5 @@
 -- A round of all actors.
-use Rattle.std.proofs.Common.{arith, ◌≡◌, ◌<◌, ◌+◌, ℕ, Bool, false, List, [], ◌∷◌, ◌++◌, length, map, refl, sym, ◌∙◌, subst, slice_get, Some, Option, inl, inr}
-use Rattle.std.proofs.lemmas.Bool.{or_cases, or_parts}
+use Rattle.std.proofs.Common.{arith, ◌≡◌, ◌+◌, ℕ, Bool, List, [], ◌∷◌, ◌++◌, length, map, refl, sym, ◌∙◌, subst, slice_get, Some, Option}
 use Rattle.std.specs.Prelude.{not, is_some, ◌||◌, ◌*◌}
 use Rattle.sg_booth.specs.Desks.{AreOrdered, fresh_desk, places}
 use Rattle.sg_counter.specs.Exchanges.{Exchange, Makes, Caller, OfSource, OfDest}
@@ -8,11 +7,10 @@ use Rattle.sg_counter.specs.declared.calls.CoreCall.{CoreCall}
 use Rattle.sg_counter.specs.declared.calls.CoreReply.{CoreReply}
 use Rattle.sg_actor.specs.declared.turned.Turned.{Turned}
 use Rattle.sg_turns.specs.Turns.{Turn, any_step}
-use Rattle.sg_turns.specs.Serving.{IsActor, is_busy, is_busy_answer, Took, ServesWith}
-use Rattle.sg_turns.specs.Rounds.{both, TellsRound}
+use Rattle.sg_turns.specs.Serving.{IsActor, is_busy_answer, Took, ServesWith}
+use Rattle.sg_turns.specs.Rounds.{TellsRound}
 use Rattle.sg_turns.specs.declared.ended.Ended.{Ended}
-use Rattle.sg_turns.specs.declared.round.Round.{Round}
-use Rattle.sg_turns.proofs.RoundLemmas.{turn-of}
+use Rattle.sg_turns.proofs.RoundLemmas.{turn-of, actor-as, tells-of}
 use Rattle.sg_hub.specs.Histories.{Called, exchanges_of}
 use Rattle.sg_hub.specs.Seats.{HubState, SeatState}
 use Rattle.sg_crew.specs.Crews.{any, HasGathered, HasRoundWith}
@@ -20,37 +18,9 @@ use Rattle.sg_crew.proofs.ListLemmas.{length-map}
 use Rattle.sg_crew.proofs.SeatLemmas.{seen-before, calls-are, no-others, turns-stay}
 use Rattle.sg_crew.proofs.ActorLemmas.{KindTook, spent-at, took-at, tells-kind}
 
-actor-as : (n m n' m' : ℕ) (who : Caller) → n ≡ n' → m ≡ m' → IsActor n m who → IsActor n' m' who
-actor-as n m n' m' who e q h = subst (λ k. IsActor k m' who) e (subst (λ k. IsActor n k who) q h)
-
 pub any-makes : (made : List Exchange) → Makes any_step (tt {0}) made (tt {0})
 any-makes [] = refl
 any-makes (e ∷ es) = (tt, tt, any-makes es)
-
-calm-of : (n m : ℕ) (f g : ℕ → Turn) (read sent : Round) → TellsRound (λ i. i < n) f read → TellsRound (λ d. d < m) g sent
-    → read.busy ≡ false → sent.busy ≡ false → (who : Caller) → IsActor n m who → is_busy (turn-of f g who) ≡ false
-calm-of n m f g read sent h k a b (OfSource i) below = h.calm a i below
-calm-of n m f g read sent h k a b (OfDest d) below = k.calm b d below
-
-fed-of : (n m : ℕ) (f g : ℕ → Turn) (read sent : Round) → TellsRound (λ i. i < n) f read → TellsRound (λ d. d < m) g sent
-    → read.starved ≡ false → sent.starved ≡ false → (who : Caller) → IsActor n m who → (turned : Turned) × ((turn-of f g who).answer ≡ Some turned)
-fed-of n m f g read sent h k a b (OfSource i) below = h.fed a i below
-fed-of n m f g read sent h k a b (OfDest d) below = k.fed b d below
-
-tells-of : (n m : ℕ) (f g : ℕ → Turn) (read sent : Round) → TellsRound (λ i. i < n) f read → TellsRound (λ d. d < m) g sent
-    → TellsRound (IsActor n m) (turn-of f g) (both read sent)
-tells-of n m f g read sent h k = record {
-  busy = (λ b. elim (or_cases read.busy sent.busy b) [
-    | inl e ↦ (let x = h.busy e in (OfSource x.0, (x.1.0, x.1.1)))
-    | inr e ↦ (let x = k.busy e in (OfDest x.0, (x.1.0, x.1.1)))
-  ]);
-  calm = (λ b who actor. let parts = or_parts read.busy sent.busy b in calm-of n m f g read sent h k parts.0 parts.1 who actor);
-  starved = (λ b. elim (or_cases read.starved sent.starved b) [
-    | inl e ↦ (let x = h.starved e in (OfSource x.0, (x.1.0, x.1.1)))
-    | inr e ↦ (let x = k.starved e in (OfDest x.0, (x.1.0, x.1.1)))
-  ]);
-  fed = (λ b who actor. let parts = or_parts read.starved sent.starved b in fed-of n m f g read sent h k parts.0 parts.1 who actor);
-}
 
 tells-as : (n m n' m' : ℕ) (turn : Caller → Turn) (busy busy' starved starved' : Bool) → n' ≡ n → m' ≡ m → busy' ≡ busy → starved' ≡ starved
     → TellsRound (IsActor n m) turn (record { busy = busy; starved = starved }) → TellsRound (IsActor n' m') turn (record { busy = busy'; starved = starved' })

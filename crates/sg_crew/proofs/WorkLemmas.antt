@@ -16,38 +16,48 @@ use Rattle.sg_actor.specs.declared.settings.SourceSpec.{SourceSpec}
 use Rattle.sg_actor.specs.declared.turned.Turned.{Turned}
 use Rattle.sg_turns.specs.Turns.{Turn, answer_of, SourceTurns, dest_state, DestTurns}
 use Rattle.sg_turns.proofs.TurnLemmas.{TurnIs, source-turn, dest-turn}
-use Rattle.sg_hub.specs.Seats.{HubState, SeatStep}
+use Rattle.sg_hub.specs.Seats.{HubState, SeatState, SeatStep}
 use Rattle.sg_hub.specs.declared.seat.HubSeat.{HubSeat}
 use Rattle.sg_hub.proofs.Seated.{same-seat}
+use Rattle.sg_crew.specs.declared.meter.Metered.{Metered}
 use Rattle.sg_crew.proofs.ActorLemmas.{dest-few}
 
--- a call at a seat that is lent
+-- a call at a seat that is lent, of a destination and of a source
 abbrev pub AtSeat : (D : Type 0) → HubSeat D → CoreCall → CoreReply → HubSeat D → Type 0
 AtSeat D old call reply new = (new.seat.ghost_name ≡ old.seat.ghost_name) × (new.hub ≡ old.hub) × SeatStep old.hub.now old.seat.now call reply new.seat.now
 
--- what is known of a turn at a seat that was lent: the seat comes back, and the turn's calls are its own
-pub record IsLent {D : Type 0} (old new : HubSeat D) (who : Caller) (takes : Turn → Type 0) (answer : Option Turned) : Type 0 where
-  pub back : new.seat.ghost_name ≡ old.seat.ghost_name
+abbrev pub AtMetered : (D : Type 0) → Metered D → CoreCall → CoreReply → Metered D → Type 0
+AtMetered D old call reply new = (new.seat.ghost_name ≡ old.seat.ghost_name) × (new.hub ≡ old.hub) × SeatStep old.hub.now old.seat.now call reply new.seat.now
+
+-- what is known of a turn at a seat that was lent: the seat comes back, as `same` says, and the turn's calls are its own
+pub record IsLent (same : Type 0) (hub : HubState) (old new : SeatState) (who : Caller) (takes : Turn → Type 0) (answer : Option Turned) : Type 0 where
+  pub back : same
   pub turn : Turn
   pub took : takes turn
-  pub makes : Makes (SeatStep old.hub.now) old.seat.now turn.made new.seat.now
+  pub makes : Makes (SeatStep hub) old turn.made new
   pub own : AllBy who turn.made
   pub few : length turn.made ≤ 4
   pub answered : turn.answer ≡ answer
 
-lent-is : {D E : Type 0} (old new : HubSeat D) (result : Result Turned E) (who : Caller) (takes : Turn → Type 0) → ((turn : Turn) → takes turn → length turn.made ≤ 4)
-    → TurnIs (AtSeat D) old new result who takes → IsLent old new who takes (answer_of result)
-lent-is {D} old new result who takes few t =
-    let s = same-seat (λ (x : HubSeat D). x.seat.ghost_name) (λ (x : HubSeat D). x.hub) (λ (b : Bor HubState). b.now) (λ (x : HubSeat D). x.seat.now) old new t.turn.made t.makes in
-    record { back = s.0; turn = t.turn; took = t.takes_it; makes = s.2; own = t.own; few = few t.turn t.takes_it; answered = t.answer }
+module _ {S N E : Type 0} (name : S → N) (hub : S → Bor HubState) (seat : S → SeatState) where
+  lent-is : (old new : S) (result : Result Turned E) (who : Caller) (takes : Turn → Type 0) → ((turn : Turn) → takes turn → length turn.made ≤ 4)
+      → TurnIs (λ (a : S) call reply (b : S). (name b ≡ name a) × (hub b ≡ hub a) × SeatStep (hub a).now (seat a) call reply (seat b)) old new result who takes
+      → IsLent (name new ≡ name old) (hub old).now (seat old) (seat new) who takes (answer_of result)
+  lent-is old new result who takes few t =
+      let s = same-seat name hub (λ (b : Bor HubState). b.now) seat old new t.turn.made t.makes in
+      record { back = s.0; turn = t.turn; took = t.takes_it; makes = s.2; own = t.own; few = few t.turn t.takes_it; answered = t.answer }
 
-pub read-lent : {D E : Type 0} (offers : ℕ → Record → List Offer → Type 0) (dests : ℕ) (spec : SourceSpec) (a b : HubSeat D) (old new : ActorState) (result : Result Turned E)
-    → TakesTurn offers dests spec (AtSeat D) a b old new result → IsLent a b (OfSource spec.inlet) (SourceTurns offers dests spec old new) (answer_of result)
+pub read-lent : {D E : Type 0} (offers : ℕ → Record → List Offer → Type 0) (dests : ℕ) (spec : SourceSpec) (a b : Metered D) (old new : ActorState) (result : Result Turned E)
+    → TakesTurn offers dests spec (AtMetered D) a b old new result
+    → IsLent (b.seat.ghost_name ≡ a.seat.ghost_name) a.hub.now a.seat.now b.seat.now (OfSource spec.inlet) (SourceTurns offers dests spec old new) (answer_of result)
 read-lent {D} offers dests spec a b old new result h =
-    lent-is a b result (OfSource spec.inlet) (SourceTurns offers dests spec old new) (λ turn t. t.takes.few) (source-turn offers dests spec (AtSeat D) a b old new result h)
+    lent-is (λ (x : Metered D). x.seat.ghost_name) (λ (x : Metered D). x.hub) (λ (x : Metered D). x.seat.now) a b result (OfSource spec.inlet) (SourceTurns offers dests spec old new)
+    (λ turn t. t.takes.few) (source-turn offers dests spec (AtMetered D) a b old new result h)
 
 pub send-lent : {D E : Type 0} (spec : DestSpec) (a b : HubSeat D) (old new : Outage) (drain drain' : OutletState) (result : Result Turned E)
-    → SendsTurn spec (AtSeat D) a b old new drain drain' result → IsLent a b (OfDest spec.dest) (DestTurns spec (dest_state old drain) (dest_state new drain')) (answer_of result)
+    → SendsTurn spec (AtSeat D) a b old new drain drain' result
+    → IsLent (b.seat.ghost_name ≡ a.seat.ghost_name) a.hub.now a.seat.now b.seat.now (OfDest spec.dest) (DestTurns spec (dest_state old drain) (dest_state new drain')) (answer_of result)
 send-lent {D} spec a b old new drain drain' result h =
-    lent-is a b result (OfDest spec.dest) (DestTurns spec (dest_state old drain) (dest_state new drain'))
+    lent-is (λ (x : HubSeat D). x.seat.ghost_name) (λ (x : HubSeat D). x.hub) (λ (x : HubSeat D). x.seat.now) a b result (OfDest spec.dest)
+    (DestTurns spec (dest_state old drain) (dest_state new drain'))
     (λ turn t. dest-few old.given_up spec (dest_state old drain) (dest_state new drain') turn t) (dest-turn spec (AtSeat D) a b old new drain drain' result h)

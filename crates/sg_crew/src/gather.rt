@@ -18,8 +18,8 @@ pub(crate) struct Round {
     pub(crate) busy: bool,
     /// A turn found no memory.
     pub(crate) starved: bool,
-    /// How many turns did something.
-    pub(crate) working: u32,
+    /// How many records were brought in beside those of the source that brought most.
+    pub(crate) spread: usize,
 }
 
 // Takes note of what a turn came to.
@@ -31,26 +31,37 @@ fn note(round: Round, turn: Option<Turned>) -> Round
         Some(turned) => Round {
             busy: round.busy || (turned.did || turned.idle),
             starved: round.starved,
-            working: round.working.saturating_add(u32::from(turned.did)),
+            spread: round.spread,
         },
         None => Round {
             busy: round.busy,
             starved: true,
-            working: round.working,
+            spread: round.spread,
         },
     }
 }
 
-/// What two parts of a round came to together.
-pub(crate) fn both(read: Round, sent: Round) -> Round
+/// What two parts of a round came to together, in which the records were spread so.
+pub(crate) fn both(read: Round, sent: Round, spread: usize) -> Round
     ensures busy { result.busy ≡ (read.busy || sent.busy) }
     ensures starved { result.starved ≡ (read.starved || sent.starved) }
 {
     Round {
         busy: read.busy || sent.busy,
         starved: read.starved || sent.starved,
-        working: read.working.saturating_add(sent.working),
+        spread,
     }
+}
+
+/// How many records these brought in, beside those of the one that brought most.
+pub(crate) fn spread_of<A, D: Disk>(workers: &[Worker<A, D>]) -> usize {
+    let mut all = 0usize;
+    let mut most = 0usize;
+    for worker in workers {
+        all = all.saturating_add(worker.records);
+        most = most.max(worker.records);
+    }
+    all.saturating_sub(most)
 }
 
 // The worker gets a seat with the turns of one round, which has seen what the first seat has.
@@ -114,7 +125,7 @@ pub(crate) fn gather<A, D: Disk>(
     let mut round = Round {
         busy: false,
         starved: false,
-        working: 0,
+        spread: 0,
     };
     for i in 0..workers.len() {
         let turn = gather_one(hub, first, &mut workers[i]);

@@ -4,6 +4,7 @@
 
 mod gather;
 mod lanes;
+mod meter;
 mod round;
 mod rounds;
 mod run;

@@ -6,7 +6,7 @@ ghost use Rattle.sg_turns.specs.Actors.{AreSources, AreDests, SourceTakes, DestT
 ghost use Rattle.sg_crew.specs.Workers.{actors_of};
 ghost use Rattle.sg_crew.specs.Crews.{HasRound};
 
-use crate::gather::{Round, both, deal, gather};
+use crate::gather::{Round, both, deal, gather, spread_of};
 use crate::lanes::take_turns;
 use crate::worker::Worker;
 use sg_actor::{DestActor, SourceActor};
@@ -61,8 +61,9 @@ pub(crate) fn take_round<
     deal(hub, first, sources);
     deal(hub, first, dests);
     take_turns(rt, alloc, hub, threads, beside, sources, dests);
+    let spread = spread_of(sources);
     let read = gather(hub, first, sources);
     let sent = gather(hub, first, dests);
     let _left = first.left();
-    both(read, sent)
+    both(read, sent, spread)
 }

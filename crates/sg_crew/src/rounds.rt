@@ -26,13 +26,16 @@ struct Width {
     beside: usize,
 }
 
-// Where no more than a source and its destination had work, the next turns are taken on this thread: starting
-// threads takes longer.
+// How many records have to be spread over sources so that their turns are worth starting threads: these cost as much
+// as some hundred records do, and more where the processors have other work.
+const WORTH: usize = 200;
+
+// Where fewer records were spread, the next turns are taken on this thread.
 fn width_after(round: Round, threads: usize) -> Width
     requires { 0 < threads }
     ensures { (0 < result.threads) × (0 < result.beside) }
 {
-    if round.working < 3 {
+    if round.spread < WORTH {
         Width {
             threads: 1,
             beside: 1,

@@ -4,6 +4,7 @@ ghost use Rattle.sg_turns.specs.Turns.{answer_of};
 ghost use Rattle.sg_crew.specs.Crews.{AllChanged};
 ghost use Rattle.sg_crew.specs.Workers.{MayRead, MaySend, HasRead, HasSent};
 
+use crate::meter::Metered;
 use crate::worker::Worker;
 use sg_actor::{DestActor, SourceActor, Turned};
 use sg_device::{Disk, Inlet, NoMemory, Outlet};
@@ -33,9 +34,19 @@ fn read_one<T: Wait, R: Router, I: Inlet, D: Disk>(
     requires { MayRead I.state R.inlets R.dests hub.now worker.old }
     ensures { HasRead I.state R.offers R.inlets R.dests hub.entry.now worker.old worker.new }
 {
-    let Worker { actor, seat, turn } = worker;
-    let mut counter = HubSeat { hub, seat };
+    let Worker {
+        actor,
+        seat,
+        turn,
+        records,
+    } = worker;
+    let mut counter = Metered {
+        hub,
+        seat,
+        records: 0,
+    };
     *turn = answer(actor.turn(rt, alloc, &mut counter));
+    *records = counter.records;
 }
 
 // A destination's turn at its seat.
@@ -48,7 +59,12 @@ fn send_one<T: Wait, O: Outlet, D: Disk>(
     requires { MaySend O.state hub.now worker.old }
     ensures { HasSent O.state hub.entry.now worker.old worker.new }
 {
-    let Worker { actor, seat, turn } = worker;
+    let Worker {
+        actor,
+        seat,
+        turn,
+        records: _,
+    } = worker;
     let mut counter = HubSeat { hub, seat };
     *turn = answer(actor.turn(rt, alloc, &mut counter));
 }

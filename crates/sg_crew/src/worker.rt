@@ -8,11 +8,13 @@ use sg_device::Disk;
 use sg_hub::{Hub, Seat};
 use std::collections::VecDeque;
 
-/// An actor, its seat, and what its last turn came to: None where it found no memory, or there was none.
+/// An actor, its seat, and what its last turn came to: None where it found no memory, or there was none;
+/// and how many records a source brought in then.
 pub(crate) struct Worker<A, D: Disk> {
     pub(crate) actor: A,
     pub(crate) seat: Seat<D>,
     pub(crate) turn: Option<Turned>,
+    pub(crate) records: usize,
 }
 
 /// Each actor gets a seat, which has no turns yet.
@@ -37,6 +39,7 @@ pub(crate) fn seat_all<A, D: Disk>(
             actor,
             seat,
             turn: None,
+            records: 0,
         });
     }
     rest.destroy_empty();
@@ -56,6 +59,7 @@ pub(crate) fn free_all<A, D: Disk>(workers: Vec<Worker<A, D>>, room: Vec<A>) -> 
             actor,
             seat: _,
             turn: _,
+            records: _,
         } = worker;
         actors.push_reserved(actor);
     }

@@ -1,0 +1,168 @@
+// A seat that counts the records that come in through it.
+ghost use Rattle.std.specs.Prelude.{◌≡◌, ◌≤◌, ◌<◌, Ok, Err, MatchResult, IfErr, IsSome, length};
+ghost use Rattle.sg_booth.specs.Desks.{IsDeskOf};
+ghost use Rattle.sg_standing.specs.States.{setup_of};
+ghost use Rattle.sg_counter.specs.Bringing.{IsBatch, store_in, records_back};
+ghost use Rattle.sg_counter.specs.declared.calls.CoreCall.{CoreCall as ACall};
+ghost use Rattle.sg_counter.specs.declared.calls.CoreReply.{CoreReply as AReply};
+ghost use Rattle.sg_hub.specs.Seats.{SeatStep};
+
+use sg_counter::{CoreFront, Counter, Refill, Refused, Settled, Stored};
+use sg_device::{Disk, NoMemory};
+use sg_hub::{Hub, HubSeat, Seat};
+use sg_machine::{Admission, Verdict};
+use std::alloc::Global;
+use std::sync::Wait;
+
+/// A source's seat at its hub.
+#[derive(Drop)]
+pub(crate) struct Metered<'a, D: Disk> {
+    pub(crate) hub: &'a Hub<D>,
+    pub(crate) seat: &'a mut Seat<D>,
+    /// How many records were brought in last.
+    pub(crate) records: usize,
+    pub(crate) ghost of_hub: { IsDeskOf hub.now seat.now },
+}
+
+fn credit_at<T: Wait, D: Disk>(hub: &Hub<D>, rt: &T, seat: &mut Seat<D>, i: u32) -> u64
+    requires seat { IsDeskOf hub.now seat.old }
+    requires left { 0 < seat.old.left }
+    requires inlet { i < length (setup_of hub.now.made).sources }
+    ensures step { SeatStep hub.entry.now seat.old (ACall.Credit i) (AReply.Credit result)
+        seat.new }
+{
+    let mut at = HubSeat { hub, seat };
+    at.credit(rt, i)
+}
+
+fn admit_at<T: Wait, D: Disk>(
+    hub: &Hub<D>,
+    rt: &T,
+    alloc: Global,
+    seat: &mut Seat<D>,
+    inlet: u32,
+    records: Vec<Admission>,
+) -> Result<Vec<Verdict>, Refused>
+    requires seat { IsDeskOf hub.now seat.old }
+    requires left { 0 < seat.old.left }
+    requires inlet { inlet < length (setup_of hub.now.made).sources }
+    requires batch { IsBatch (setup_of hub.now.made) records.items }
+    ensures step { MatchResult result (λ verdicts. SeatStep hub.entry.now seat.old
+        (ACall.Admit inlet records.items) (AReply.Admitted (Ok verdicts.items)) seat.new)
+        (λ refused. SeatStep hub.entry.now seat.old (ACall.Admit inlet records.items)
+        (AReply.Admitted (Err refused)) seat.new) }
+    ensures back { IfErr result (λ refused. records_back refused ≡ records.items) }
+{
+    let mut at = HubSeat { hub, seat };
+    at.admit(rt, alloc, inlet, records)
+}
+
+fn front_at<T: Wait, D: Disk>(
+    hub: &Hub<D>,
+    rt: &T,
+    alloc: Global,
+    seat: &mut Seat<D>,
+    dest: u32,
+    most: u32,
+) -> Result<CoreFront, NoMemory>
+    requires seat { IsDeskOf hub.now seat.old }
+    requires left { 0 < seat.old.left }
+    requires dest { dest < length (setup_of hub.now.made).dests }
+    requires some { 0 < most }
+    requires few { most ≤ 1000 }
+    ensures step { SeatStep hub.entry.now seat.old (ACall.Front dest most) (AReply.Front result)
+        seat.new }
+{
+    let mut at = HubSeat { hub, seat };
+    at.front(rt, alloc, dest, most)
+}
+
+fn settle_at<T: Wait, D: Disk>(
+    hub: &Hub<D>,
+    rt: &T,
+    seat: &mut Seat<D>,
+    dest: u32,
+    place: u64,
+    n: u32,
+) -> Settled
+    requires seat { IsDeskOf hub.now seat.old }
+    requires left { 0 < seat.old.left }
+    requires dest { dest < length (setup_of hub.now.made).dests }
+    requires some { 0 < n }
+    ensures step { SeatStep hub.entry.now seat.old (ACall.Settle dest place n)
+        (AReply.Settled result) seat.new }
+{
+    let mut at = HubSeat { hub, seat };
+    at.settle(rt, dest, place, n)
+}
+
+fn refill_at<T: Wait, D: Disk>(hub: &Hub<D>, rt: &T, seat: &mut Seat<D>, d: u32) -> Refill
+    requires seat { IsDeskOf hub.now seat.old }
+    requires left { 0 < seat.old.left }
+    requires dest { d < length (setup_of hub.now.made).dests }
+    ensures step { SeatStep hub.entry.now seat.old (ACall.Refill d) (AReply.Refilled result)
+        seat.new }
+{
+    let mut at = HubSeat { hub, seat };
+    at.refill(rt, d)
+}
+
+fn store_at<T: Wait, D: Disk>(hub: &Hub<D>, rt: &T, seat: &mut Seat<D>, i: u32) -> Stored
+    requires seat { IsDeskOf hub.now seat.old }
+    requires left { 0 < seat.old.left }
+    requires inlet { i < length (setup_of hub.now.made).sources }
+    requires store { IsSome (store_in (setup_of hub.now.made).sources i) }
+    ensures step { SeatStep hub.entry.now seat.old (ACall.Store i) (AReply.Stored result) seat.new }
+{
+    let mut at = HubSeat { hub, seat };
+    at.store(rt, i)
+}
+
+impl<'a, D: Disk> Counter for Metered<'a, D> {
+    ghost use Rattle.std.specs.Prelude.{◌≡◌};
+    ghost use Rattle.sg_standing.specs.States.{setup_of};
+    ghost use Rattle.sg_hub.specs.Seats.{SeatStep};
+
+    ghost setup = { λ s. setup_of s.hub.now.made };
+
+    ghost left = { λ s. s.seat.now.left };
+
+    ghost step = { λ old call reply new. (new.seat.ghost_name ≡ old.seat.ghost_name) × (new.hub ≡ old.hub) × SeatStep old.hub.now old.seat.now call reply new.seat.now };
+
+    fn credit<T: Wait>(&mut self, rt: &T, i: u32) -> u64 {
+        credit_at(self.hub, rt, self.seat, i)
+    }
+
+    fn admit<T: Wait>(
+        &mut self,
+        rt: &T,
+        alloc: Global,
+        i: u32,
+        records: Vec<Admission>,
+    ) -> Result<Vec<Verdict>, Refused> {
+        self.records = records.len();
+        admit_at(self.hub, rt, alloc, self.seat, i, records)
+    }
+
+    fn front<T: Wait>(
+        &mut self,
+        rt: &T,
+        alloc: Global,
+        d: u32,
+        most: u32,
+    ) -> Result<CoreFront, NoMemory> {
+        front_at(self.hub, rt, alloc, self.seat, d, most)
+    }
+
+    fn settle<T: Wait>(&mut self, rt: &T, d: u32, place: u64, n: u32) -> Settled {
+        settle_at(self.hub, rt, self.seat, d, place, n)
+    }
+
+    fn refill<T: Wait>(&mut self, rt: &T, d: u32) -> Refill {
+        refill_at(self.hub, rt, self.seat, d)
+    }
+
+    fn store<T: Wait>(&mut self, rt: &T, i: u32) -> Stored {
+        store_at(self.hub, rt, self.seat, i)
+    }
+}
