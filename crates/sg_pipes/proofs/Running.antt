@@ -63,3 +63,13 @@ comes-from pipes made old mid new eo ef c = record {
   frames = c.frames ∙ ap (λ v. v.items ++ c.more) ef;
   comes = ap (λ v. run pipes v.items (reverse c.more) (now new)) (sym eo) ∙ c.comes;
 }
+
+-- from work with the same frames, from which the same comes
+pub comes-on : (pipes : List Pipe) (made made' : Walked) (old mid new : Work) → mid.frames ≡ old.frames → mid.offered ≡ old.offered → made' ≡ made → Comes pipes made' mid new → Comes pipes made old new
+comes-on pipes made made' old mid new ef eo e c = comes-from pipes made old mid new eo ef (comes-as pipes made' made mid new e c)
+
+-- a turn over the same pipes, of the same frame, from the same work
+pub turns-at : (pipes pipes' : List Pipe) (frame frame' : Frame) (old old' new : Work) → pipes' ≡ pipes → frame' ≡ frame → old' ≡ old → Turns pipes' frame' old' new → Turns pipes frame old new
+turns-at pipes pipes' frame frame' old old' new ep ef eo t =
+    subst (λ (ps : List Pipe). Turns ps frame old new) ep
+    (subst (λ (f : Frame). Turns pipes' f old new) ef (subst (λ (w : Work). Turns pipes' frame' w new) eo t))

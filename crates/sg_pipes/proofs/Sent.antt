@@ -35,4 +35,4 @@ table : IsSend Table.the_field.row
 table = search (pipe, parts) depth 40 fits 40000
 
 pub pipes : IsSend Pipes.the_row
-pipes = recorded_send Pipes.the_field.row _ _ Pipes.the_type.to_one (struct_send (shape Pipes.the_type) (table, (work.the_field_send, tt)))
+pipes = recorded_send Pipes.the_field.row _ _ Pipes.the_type.to_one (struct_send (shape Pipes.the_type) (table, (work.the_field_send, (search parts depth 30 fits 20000, tt))))

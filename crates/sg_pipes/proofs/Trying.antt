@@ -17,7 +17,7 @@ use Rattle.sg_pipes.specs.Frames.{group_of, with_left, trying, from, tries, does
 use Rattle.sg_pipes.specs.Messages.{messages_of}
 use Rattle.sg_pipes.proofs.Steps.{before, or-false, round-over, round-passes, round-walks}
 
-none-left : (xs : List Branch) (i : ℕ) → slice_get xs i ≡ None → drop i xs ≡ []
+pub none-left : (xs : List Branch) (i : ℕ) → slice_get xs i ≡ None → drop i xs ≡ []
 none-left [] zero e = refl
 none-left [] (suc i) e = refl
 none-left (x ∷ xs) zero e = absurd (cc)

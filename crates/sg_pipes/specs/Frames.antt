@@ -1,5 +1,6 @@
 -- What the frames that wait come to.
-use Rattle.std.specs.Prelude.{ℕ, Bool, true, false, ◌&&◌, ◌||◌, List, [], ◌∷◌, ◌++◌, drop, reverse, Option, Some, slice_get, if◌then◌else◌}
+use Rattle.std.specs.Prelude.{◌≡◌, ℕ, Bool, true, false, ◌&&◌, ◌||◌, List, [], ◌∷◌, ◌++◌, drop, reverse, Option, Some, slice_get, if◌then◌else◌}
+use Rattle.std.specs.List.{list_any}
 use Rattle.sg_msg.specs.Message.{Content}
 use Rattle.sg_pipes.specs.declared.gone.Gone.{Gone}
 use Rattle.sg_pipes.specs.Messages.{messages_of}
@@ -24,6 +25,16 @@ abbrev pub group_of : List Branch → List Pipe → Group → List Branch
 group_of offered pipes Offered = offered
 group_of offered pipes (At place) = branches_of (slice_get pipes place)
 
+-- one of them waits for the second round
+abbrev pub has_fallback : List Branch → Bool
+has_fallback branches = list_any (λ branch. branch.fallback) branches
+
+-- the first of the siblings is next, and nothing was left
+abbrev pub IsFirst : Group → Content → Bool → Trial → Type 0
+IsFirst group message flow trial =
+    (trial ≡ record { group = group; index = 0; late = false; message = message; flow = flow; left = trial.left })
+    × (messages_of trial.left.out ≡ []) × (trial.left.processed ≡ false)
+
 -- what was left before, and what is left now; the deliveries so far are those of now
 abbrev pub with_left : Gone → Walked → Walked
 with_left gone now = record { deliveries = now.deliveries; out = messages_of gone.out ++ now.out; processed = gone.processed || now.processed }
@@ -41,6 +52,10 @@ trying false so_far rest all m f = two_rounds (both so_far (round rest false m f
 module _ (pipes : List Pipe) (offered : List Branch) where
   abbrev pub from : Group → ℕ → Siblings
   from group index = siblings_of (branches_at (steps_at pipes) (drop index (group_of offered pipes group)))
+
+  -- no sibling is tried from there on
+  abbrev pub IsOver : Group → ℕ → Bool → Type 0
+  IsOver group index late = (so_far : Walked) (m : Content) (f : Bool) → trying late so_far (from group index) (from group 0) m f ≡ so_far
 
   abbrev pub tries : Trial → Walked → Walked
   tries trial so_far = trying trial.late so_far (from trial.group trial.index) (from trial.group 0) trial.message trial.flow
@@ -60,6 +75,7 @@ module _ (pipes : List Pipe) (offered : List Branch) where
   does (frame.Walk at m f) now = after_deliveries now.deliveries (walk (steps_at pipes at) m f)
   does (frame.Try trial) now = tries trial (with_left trial.left (only_deliveries now))
   does (frame.Tried trial is_final drop_unmatched) now = tried trial is_final (record now { processed = now.processed || drop_unmatched })
+  does (frame.Last left drop_unmatched) now = with_left left (record now { processed = now.processed || drop_unmatched })
   does (frame.Rest next f) now = then_each now (λ n. walk (steps_at pipes next) n f)
   does (frame.Each wait) now = waits wait now
   does (frame.Out m) now = record { deliveries = now.deliveries; out = m ∷ []; processed = true }

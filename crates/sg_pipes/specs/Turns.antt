@@ -1,8 +1,12 @@
 -- What a turn of the work does.
-use Rattle.std.specs.Prelude.{◌≡◌, List, ◌++◌, reverse}
+use Rattle.std.specs.Prelude.{◌≡◌, ℕ, Bool, List, ◌++◌, reverse}
+use Rattle.sg_msg.specs.Message.{Content}
 use Rattle.sg_tree.specs.Walk.{Walked}
 use Rattle.sg_table.specs.declared.pipe.Pipe.{Pipe}
 use Rattle.sg_pipes.specs.declared.frame.Frame.{Frame}
+use Rattle.sg_pipes.specs.declared.frame.Frame.TheVariants.{Walk}
+use Rattle.sg_pipes.specs.declared.frame.Passed.{Passed}
+use Rattle.sg_pipes.specs.declared.frame.Passed.TheVariants.{On, Stopped, Arrived}
 use Rattle.sg_pipes.specs.declared.work.Work.{Work}
 use Rattle.sg_pipes.specs.Messages.{messages_of}
 use Rattle.sg_pipes.specs.Frames.{run, does}
@@ -25,3 +29,12 @@ Turns pipes frame old new = Comes pipes (does pipes old.offered.items frame (now
 pub record Works (pipes : List Pipe) (old new : Work) : Type 0 where
   pub offered : new.offered ≡ old.offered
   pub done : run pipes old.offered.items (reverse old.frames.items) (now old) ≡ now new
+
+-- a message at a pipe went on, was stopped, or is there still
+abbrev pub Passes : List Pipe → ℕ → Content → Content → Bool → Work → Work → Passed → Type 0
+Passes pipes at before after flow old new (On next) =
+    (does pipes old.offered.items (Walk next after flow) (now new)
+    ≡ does pipes old.offered.items (Walk at before flow) (now old))
+    × (new.frames ≡ old.frames) × (new.offered ≡ old.offered)
+Passes pipes at before after flow old new Stopped = Turns pipes (Walk at before flow) old new
+Passes pipes at before after flow old new Arrived = (new ≡ old) × (after ≡ before)

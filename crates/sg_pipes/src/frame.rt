@@ -53,6 +53,11 @@ pub(crate) enum Frame {
         is_final: bool,
         drop_unmatched: bool,
     },
+    /// Takes what the last sibling left, behind which no other is tried.
+    Last {
+        left: Gone,
+        drop_unmatched: bool,
+    },
     /// Takes what came out, for the elements behind it.
     Rest {
         next: u32,
@@ -62,4 +67,14 @@ pub(crate) enum Frame {
     Each(Wait),
     /// The message that stood before embedded statements comes out.
     Out(Message),
+}
+
+/// What became of a message at a pipe.
+#[derive(Clone, Copy)]
+pub(crate) enum Passed {
+    /// It goes on at that place.
+    On(u32),
+    Stopped,
+    /// The pipe is no filter, no rewrite and no delivery.
+    Arrived,
 }

@@ -1,5 +1,5 @@
 // What a list of elements leaves of a message.
-ghost use Rattle.std.specs.Prelude.{◌≡◌, ◌||◌, ◌++◌, [], false, OnOk};
+ghost use Rattle.std.specs.Prelude.{◌≡◌, ◌||◌, ◌++◌, [], true, false, OnOk};
 ghost use Rattle.sg_pipes.specs.Messages.{messages_of};
 
 use crate::messages::{Messages, joined};
@@ -20,6 +20,21 @@ impl Gone {
         Gone {
             out: Messages::Empty,
             processed: false,
+        }
+    }
+
+    /// Whether joining it with what another left changes nothing there, which counts as processed where
+    /// it carries `drop-unmatched`.
+    pub(crate) fn adds_nothing(&self, drop_unmatched: bool) -> bool
+        ensures { result ≡ true → (messages_of self.now.out ≡ [])
+            × (self.now.processed ≡ false) × (drop_unmatched ≡ false) }
+    {
+        if self.processed | drop_unmatched {
+            return false;
+        }
+        match &self.out {
+            Messages::Empty => true,
+            _ => false,
         }
     }
 

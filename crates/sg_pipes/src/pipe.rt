@@ -1,6 +1,6 @@
 // What single pipes do.
-ghost use Rattle.std.specs.Prelude.{◌≡◌, ◌<◌, ◌^◌, IfOk, IfSome, OnOk, slice_get};
-ghost use Rattle.sg_pipes.specs.Frames.{group_of};
+ghost use Rattle.std.specs.Prelude.{◌≡◌, ◌<◌, ◌^◌, true, false, [], ◌∷◌, IfOk, IfSome, OnOk, slice_get};
+ghost use Rattle.sg_pipes.specs.Frames.{IsOver, group_of, has_fallback};
 ghost use Rattle.sg_pipes.specs.Pipes.{changed, is_met, lets_pass, rewritten_at, start_at, start_of};
 
 use crate::frame::Group;
@@ -76,6 +76,63 @@ pub(crate) fn branch_at(
             Some(Pipe::Embedded { logs }) => logs.get(index).copied(),
             _ => None,
         },
+    }
+}
+
+/// The branch that is offered a message alone, if all that it leaves is all that is left.
+pub(crate) fn alone(branches: &[Branch]) -> Option<Branch>
+    ensures { IfSome result (λ branch. (branches.now ≡ branch ∷ []) × (branch.fallback ≡ false)
+        × (branch.drop_unmatched ≡ false)) }
+{
+    match branches {
+        [branch] => {
+            if branch.fallback | branch.drop_unmatched {
+                return None;
+            }
+            Some(*branch)
+        }
+        _ => None,
+    }
+}
+
+fn is_late(branches: &[Branch]) -> bool
+    ensures { result ≡ has_fallback branches.now }
+{
+    branches.iter().any(|branch| branch.fallback)
+}
+
+// Whether a sibling of the group waits for the second round.
+fn has_late(offered: &[Branch], pipes: &[Pipe], group: Group) -> bool
+    ensures { result ≡ has_fallback (group_of offered.now pipes.now group) }
+{
+    match group {
+        Group::Offered => is_late(offered),
+        Group::At(place) => match pipes.get(place as usize) {
+            Some(Pipe::Junction { channels, .. }) => is_late(channels),
+            Some(Pipe::Embedded { logs }) => is_late(logs),
+            _ => false,
+        },
+    }
+}
+
+/// Whether no sibling is tried from this place of a round on.
+pub(crate) fn is_over(
+    offered: &[Branch],
+    pipes: &[Pipe],
+    group: Group,
+    index: usize,
+    late: bool,
+) -> bool
+    ensures { result ≡ true → IsOver pipes.now offered.now group index late }
+{
+    match branch_at(offered, pipes, group, index) {
+        Some(_) => false,
+        None => {
+            if late {
+                return true;
+            }
+            !has_late(offered, pipes, group)
+        }
     }
 }
 

@@ -1,18 +1,19 @@
 // The work that waits, and its turns.
-ghost use Rattle.std.specs.Prelude.{◌≡◌, true, false, [], ◌∷◌, ◌++◌, OnOk, List};
+ghost use Rattle.std.specs.Prelude.{◌≡◌, ◌||◌, true, false, [], ◌∷◌, ◌++◌, IfOk, OnOk, List};
 ghost use Rattle.sg_tree.specs.Walk.{after_deliveries, branches, stopped, walk};
 ghost use Rattle.sg_table.specs.Table.{IsTable, steps_at};
 ghost use Rattle.sg_table.specs.declared.pipe.Pipe.{Pipe as APipe};
 ghost use Rattle.sg_pipes.specs.Chosen.{branches_for, is_for};
 ghost use Rattle.sg_pipes.specs.declared.frame.Frame.TheVariants as frame;
-ghost use Rattle.sg_pipes.specs.Frames.{from};
+ghost use Rattle.sg_pipes.specs.declared.frame.Group.TheVariants.{Offered};
+ghost use Rattle.sg_pipes.specs.Frames.{IsFirst, does, from};
 ghost use Rattle.sg_pipes.specs.Messages.{messages_of};
-ghost use Rattle.sg_pipes.specs.Turns.{Comes, Turns, Works, now};
+ghost use Rattle.sg_pipes.specs.Turns.{Comes, Passes, Turns, Works, now};
 
-use crate::frame::{Frame, Group, Trial, Wait};
+use crate::frame::{Frame, Group, Passed, Trial, Wait};
 use crate::gone::Gone;
 use crate::messages::{Messages, reversed, take_last};
-use crate::pipe::{branch_at, choose, passes, rewrite};
+use crate::pipe::{alone, branch_at, choose, is_over, passes, rewrite};
 use sg_msg::{Message, Offer};
 use sg_table::{Branch, Pipe, Top};
 use sg_tree::deliver;
@@ -47,6 +48,20 @@ fn put_offered(offered: &mut Vec<Branch>, tops: &[Top], inlet: u32) -> Result<()
         }
     }
     Ok(())
+}
+
+// The first of the siblings is next.
+fn first_trial(group: Group, message: Message, flow: bool) -> Trial
+    ensures { IsFirst group message flow result }
+{
+    Trial {
+        group,
+        index: 0,
+        late: false,
+        message,
+        flow,
+        left: Gone::nothing(),
+    }
 }
 
 impl Work {
@@ -103,31 +118,85 @@ impl Work {
         Ok(())
     }
 
-    /// Tries siblings from the first on.
-    pub(crate) fn begin(
-        &mut self,
-        group: Group,
-        message: Message,
-        flow: bool,
-    ) -> Result<(), AllocError>
+    fn begin(&mut self, group: Group, message: Message, flow: bool) -> Result<(), AllocError>
         ensures { OnOk result ((pipes : List APipe) → Comes pipes
             (after_deliveries (now self.old).deliveries
             (branches (from pipes self.old.offered.items group 0) message flow)) self.old
             self.new) }
     {
-        self.frames.push(Frame::Try(Trial {
-            group,
-            index: 0,
-            late: false,
-            message,
-            flow,
-            left: Gone::nothing(),
-        }))?;
+        self.frames
+            .push(Frame::Try(first_trial(group, message, flow)))?;
         Ok(())
     }
 
-    fn try_next(&mut self, pipes: &[Pipe], trial: Trial) -> Result<(), AllocError>
-        ensures { OnOk result (Turns pipes.now (frame.Try trial) self.old self.new) }
+    // Walks the last sibling, with the message itself.
+    fn try_last(
+        &mut self,
+        pipes: &mut Vec<Pipe>,
+        trial: Trial,
+        branch: Branch,
+    ) -> Result<(), AllocError>
+        requires { IsTable pipes.old.items }
+        ensures comes { OnOk result (Comes pipes.old.items
+            (does pipes.old.items self.old.offered.items
+            (frame.Last trial.left branch.drop_unmatched)
+            (does pipes.old.items self.old.offered.items
+            (frame.Walk branch.start trial.message (trial.flow || branch.flow)) (now self.old)))
+            self.old self.new) }
+        ensures stays { pipes.new.items ≡ pipes.old.items }
+    {
+        let Trial {
+            message,
+            flow,
+            left,
+            ..
+        } = trial;
+        let flow = flow | branch.flow;
+        let drop_unmatched = branch.drop_unmatched;
+        if left.adds_nothing(drop_unmatched) {
+            return self.walk(pipes, branch.start, message, flow);
+        }
+        self.frames.push(Frame::Last {
+            left,
+            drop_unmatched,
+        })?;
+        self.walk(pipes, branch.start, message, flow)
+    }
+
+    // Walks a sibling of the round, behind which the next one is tried.
+    fn try_this(
+        &mut self,
+        pipes: &mut Vec<Pipe>,
+        trial: Trial,
+        branch: Branch,
+    ) -> Result<(), AllocError>
+        requires { IsTable pipes.old.items }
+        ensures comes { OnOk result (Comes pipes.old.items
+            (does pipes.old.items self.old.offered.items
+            (frame.Tried trial branch.is_final branch.drop_unmatched)
+            (does pipes.old.items self.old.offered.items
+            (frame.Walk branch.start trial.message (trial.flow || branch.flow)) (now self.old)))
+            self.old self.new) }
+        ensures stays { pipes.new.items ≡ pipes.old.items }
+    {
+        if is_over(&self.offered, pipes, trial.group, trial.index, trial.late) {
+            return self.try_last(pipes, trial, branch);
+        }
+        let message = trial.message.share()?;
+        let flow = trial.flow | branch.flow;
+        self.frames.push(Frame::Tried {
+            trial,
+            is_final: branch.is_final,
+            drop_unmatched: branch.drop_unmatched,
+        })?;
+        self.walk(pipes, branch.start, message, flow)
+    }
+
+    fn try_next(&mut self, pipes: &mut Vec<Pipe>, trial: Trial) -> Result<(), AllocError>
+        requires { IsTable pipes.old.items }
+        ensures turns { OnOk result
+            (Turns pipes.old.items (frame.Try trial) self.old self.new) }
+        ensures stays { pipes.new.items ≡ pipes.old.items }
     {
         let mut trial = trial;
         match branch_at(&self.offered, pipes, trial.group, trial.index) {
@@ -144,19 +213,31 @@ impl Work {
             Some(branch) => {
                 trial.index += 1;
                 if branch.fallback == trial.late {
-                    let message = trial.message.share()?;
-                    let flow = trial.flow | branch.flow;
-                    self.frames.push(Frame::Tried {
-                        trial,
-                        is_final: branch.is_final,
-                        drop_unmatched: branch.drop_unmatched,
-                    })?;
-                    self.go(branch.start, message, flow)
-                } else {
-                    self.frames.push(Frame::Try(trial))?;
-                    Ok(())
+                    return self.try_this(pipes, trial, branch);
                 }
+                self.frames.push(Frame::Try(trial))?;
+                Ok(())
             }
+        }
+    }
+
+    /// Tries the statements that are offered the message.
+    pub(crate) fn offer(
+        &mut self,
+        pipes: &mut Vec<Pipe>,
+        message: Message,
+        flow: bool,
+    ) -> Result<(), AllocError>
+        requires { IsTable pipes.old.items }
+        ensures comes { OnOk result (Comes pipes.old.items
+            (after_deliveries (now self.old).deliveries
+            (branches (from pipes.old.items self.old.offered.items Offered 0) message flow))
+            self.old self.new) }
+        ensures stays { pipes.new.items ≡ pipes.old.items }
+    {
+        match alone(&self.offered) {
+            Some(branch) => self.walk(pipes, branch.start, message, flow | branch.flow),
+            None => self.try_next(pipes, first_trial(Group::Offered, message, flow)),
         }
     }
 
@@ -171,12 +252,15 @@ impl Work {
 
     fn tried(
         &mut self,
+        pipes: &mut Vec<Pipe>,
         trial: Trial,
         is_final: bool,
         drop_unmatched: bool,
     ) -> Result<(), AllocError>
-        ensures { OnOk result ((pipes : List APipe)
-            → Turns pipes (frame.Tried trial is_final drop_unmatched) self.old self.new) }
+        requires { IsTable pipes.old.items }
+        ensures turns { OnOk result (Turns pipes.old.items
+            (frame.Tried trial is_final drop_unmatched) self.old self.new) }
+        ensures stays { pipes.new.items ≡ pipes.old.items }
     {
         let mut trial = trial;
         let mut mine = self.take_back();
@@ -187,7 +271,18 @@ impl Work {
             self.back = trial.left;
             return Ok(());
         }
-        self.frames.push(Frame::Try(trial))?;
+        self.try_next(pipes, trial)
+    }
+
+    fn last(&mut self, left: Gone, drop_unmatched: bool) -> Result<(), AllocError>
+        ensures { OnOk result ((pipes : List APipe)
+            → Turns pipes (frame.Last left drop_unmatched) self.old self.new) }
+    {
+        let mut left = left;
+        let mut own = self.take_back();
+        own.processed |= drop_unmatched;
+        left.join(self.alloc, own)?;
+        self.back = left;
         Ok(())
     }
 
@@ -228,7 +323,48 @@ impl Work {
         }
     }
 
-    fn walk(
+    // Lets the message through a filter, a rewrite or a delivery.
+    fn pass(
+        &mut self,
+        pipes: &mut Vec<Pipe>,
+        at: u32,
+        message: &mut Message,
+        flow: bool,
+    ) -> Result<Passed, AllocError>
+        requires { IsTable pipes.old.items }
+        ensures passes { IfOk result
+            (Passes pipes.old.items at message.old message.new flow self.old self.new) }
+        ensures stays { pipes.new.items ≡ pipes.old.items }
+    {
+        let place = at as usize;
+        if place >= pipes.len() {
+            return Ok(Passed::Arrived);
+        }
+        match &pipes[place] {
+            Pipe::Filter { next, .. } => {
+                let next = *next;
+                if passes(&mut pipes[place], message)? {
+                    Ok(Passed::On(next))
+                } else {
+                    self.stop();
+                    Ok(Passed::Stopped)
+                }
+            }
+            Pipe::Rewrite { next, .. } => {
+                let next = *next;
+                rewrite(self.alloc, &mut pipes[place], message)?;
+                Ok(Passed::On(next))
+            }
+            Pipe::Deliver { drivers, next } => {
+                deliver(drivers, message, flow, &mut self.offers)?;
+                Ok(Passed::On(*next))
+            }
+            _ => Ok(Passed::Arrived),
+        }
+    }
+
+    // Does what the pipe there does that ends a list, or that siblings or branches stand in.
+    fn arrive(
         &mut self,
         pipes: &mut Vec<Pipe>,
         at: u32,
@@ -249,25 +385,6 @@ impl Work {
             Pipe::End => {
                 self.leave(message);
                 Ok(())
-            }
-            Pipe::Filter { next, .. } => {
-                let next = *next;
-                if passes(&mut pipes[place], &message)? {
-                    self.go(next, message, flow)
-                } else {
-                    self.stop();
-                    Ok(())
-                }
-            }
-            Pipe::Rewrite { next, .. } => {
-                let next = *next;
-                let mut message = message;
-                rewrite(self.alloc, &mut pipes[place], &mut message)?;
-                self.go(next, message, flow)
-            }
-            Pipe::Deliver { drivers, next } => {
-                deliver(drivers, &message, flow, &mut self.offers)?;
-                self.go(*next, message, flow)
             }
             Pipe::Junction { next, .. } => {
                 self.frames.push(Frame::Rest { next: *next, flow })?;
@@ -291,7 +408,33 @@ impl Work {
                 self.frames.push(Frame::Out(out))?;
                 self.begin(Group::At(at), message, flow)
             }
+            _ => self.go(at, message, flow),
         }
+    }
+
+    // Walks the pipes from there on, until the message is stopped or arrives.
+    fn walk(
+        &mut self,
+        pipes: &mut Vec<Pipe>,
+        start: u32,
+        given: Message,
+        flow: bool,
+    ) -> Result<(), AllocError>
+        requires { IsTable pipes.old.items }
+        ensures turns { OnOk result
+            (Turns pipes.old.items (frame.Walk start given flow) self.old self.new) }
+        ensures stays { pipes.new.items ≡ pipes.old.items }
+    {
+        let mut at = start;
+        let mut message = given;
+        'elements: for _ in 0..pipes.len() {
+            match self.pass(pipes, at, &mut message, flow)? {
+                Passed::On(next) => at = next,
+                Passed::Stopped => return Ok(()),
+                Passed::Arrived => return self.arrive(pipes, at, message, flow),
+            }
+        }
+        self.go(at, message, flow)
     }
 
     fn turn(&mut self, pipes: &mut Vec<Pipe>, frame: Frame) -> Result<(), AllocError>
@@ -306,7 +449,11 @@ impl Work {
                 trial,
                 is_final,
                 drop_unmatched,
-            } => self.tried(trial, is_final, drop_unmatched),
+            } => self.tried(pipes, trial, is_final, drop_unmatched),
+            Frame::Last {
+                left,
+                drop_unmatched,
+            } => self.last(left, drop_unmatched),
             Frame::Rest { next, flow } => self.rest(next, flow),
             Frame::Each(wait) => self.each(wait),
             Frame::Out(message) => {
