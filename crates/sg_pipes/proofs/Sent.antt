@@ -6,6 +6,7 @@ use Rattle.std.proofs.Crossing as heap
 use Rattle.sg_filter.proofs.Sent.{filter}
 use Rattle.sg_rewrite.proofs.Sent.{rewrite}
 use Rattle.sg_table.specs.contracts.pipe.Test as Test
+use Rattle.sg_pipes.proofs.peer.Peer.TheSendSync as peer
 use Rattle.sg_pipes.proofs.work.Work.TheSendSync as work
 use Rattle.sg_table.specs.contracts.pipe.Pipe as Pipe
 use Rattle.sg_table.specs.contracts.table.Table as Table
@@ -35,4 +36,4 @@ table : IsSend Table.the_field.row
 table = search (pipe, parts) depth 40 fits 40000
 
 pub pipes : IsSend Pipes.the_row
-pipes = recorded_send Pipes.the_field.row _ _ Pipes.the_type.to_one (struct_send (shape Pipes.the_type) (table, (work.the_field_send, (search parts depth 30 fits 20000, tt))))
+pipes = recorded_send Pipes.the_field.row _ _ Pipes.the_type.to_one (struct_send (shape Pipes.the_type) (table, (work.the_field_send, (peer.the_field_send, tt))))

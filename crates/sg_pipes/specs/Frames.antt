@@ -32,7 +32,14 @@ has_fallback branches = list_any (λ branch. branch.fallback) branches
 -- the first of the siblings is next, and nothing was left
 abbrev pub IsFirst : Group → Content → Bool → Trial → Type 0
 IsFirst group message flow trial =
-    (trial ≡ record { group = group; index = 0; late = false; message = message; flow = flow; left = trial.left })
+    (trial ≡ record {
+      group = group;
+      index = 0;
+      late = false;
+      message = message;
+      flow = flow;
+      left = trial.left;
+    })
     × (messages_of trial.left.out ≡ []) × (trial.left.processed ≡ false)
 
 -- what was left before, and what is left now; the deliveries so far are those of now
@@ -55,7 +62,8 @@ module _ (pipes : List Pipe) (offered : List Branch) where
 
   -- no sibling is tried from there on
   abbrev pub IsOver : Group → ℕ → Bool → Type 0
-  IsOver group index late = (so_far : Walked) (m : Content) (f : Bool) → trying late so_far (from group index) (from group 0) m f ≡ so_far
+  IsOver group index late = (so_far : Walked) (m : Content) (f : Bool)
+      → trying late so_far (from group index) (from group 0) m f ≡ so_far
 
   abbrev pub tries : Trial → Walked → Walked
   tries trial so_far = trying trial.late so_far (from trial.group trial.index) (from trial.group 0) trial.message trial.flow
@@ -75,7 +83,8 @@ module _ (pipes : List Pipe) (offered : List Branch) where
   does (frame.Walk at m f) now = after_deliveries now.deliveries (walk (steps_at pipes at) m f)
   does (frame.Try trial) now = tries trial (with_left trial.left (only_deliveries now))
   does (frame.Tried trial is_final drop_unmatched) now = tried trial is_final (record now { processed = now.processed || drop_unmatched })
-  does (frame.Last left drop_unmatched) now = with_left left (record now { processed = now.processed || drop_unmatched })
+  does (frame.Last left drop_unmatched) now =
+      with_left left (record now { processed = now.processed || drop_unmatched })
   does (frame.Rest next f) now = then_each now (λ n. walk (steps_at pipes next) n f)
   does (frame.Each wait) now = waits wait now
   does (frame.Out m) now = record { deliveries = now.deliveries; out = m ∷ []; processed = true }

@@ -23,8 +23,8 @@ impl Gone {
         }
     }
 
-    /// Whether joining it with what another left changes nothing there, which counts as processed where
-    /// it carries `drop-unmatched`.
+    /// Whether what a sibling leaves is all, once it joins this: nothing was left before, and the
+    /// sibling doesn't carry `drop-unmatched`.
     pub(crate) fn adds_nothing(&self, drop_unmatched: bool) -> bool
         ensures { result ≡ true → (messages_of self.now.out ≡ [])
             × (self.now.processed ≡ false) × (drop_unmatched ≡ false) }

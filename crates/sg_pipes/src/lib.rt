@@ -4,6 +4,7 @@
 mod frame;
 mod gone;
 mod messages;
+mod peer;
 mod pipe;
 mod pipes;
 mod threads;

@@ -1,11 +1,12 @@
 // A compiled table at work.
-ghost use Rattle.std.specs.Prelude.{◌≡◌, ◌<◌, ◌≤ℤ◌, pos, length, IfOk, Some, map, slice_get, OnOk};
+ghost use Rattle.std.specs.Prelude.{◌≡◌, ◌<◌, ◌≤ℤ◌, pos, length, IfOk, Some, map, slice_get};
 ghost use Rattle.sg_route.specs.Offers.{record_at};
 ghost use Rattle.sg_tree.specs.Offers.{AreOffers, deliveries_of};
 ghost use Rattle.sg_tree.specs.Readings.{inlet_of};
 ghost use Rattle.sg_table.specs.Forest.{forest_of};
 ghost use Rattle.sg_pipes.specs.Within.{IsWithin, IsWithin-prop};
 
+use crate::peer::Peer;
 use crate::work::Work;
 use bytes::Bytes;
 use sg_msg::{Message, Offer};
@@ -20,8 +21,7 @@ pub struct Pipes {
     table: Table,
     /// Its memory is used again for each record.
     work: Work,
-    /// The peer of the last record, whose memory is shared with the next ones of the same.
-    peer: Bytes,
+    peer: Peer,
     ghost within: { IsWithin (forest_of table) } by { IsWithin-prop (forest_of table) },
 }
 
@@ -51,17 +51,6 @@ fn rule_at(table: &Table, inlet: u32) -> &InletRule
     &table.inlets[inlet as usize]
 }
 
-// Makes the last peer this one.
-fn keep_peer(alloc: Global, peer: &[u8], last: &mut Bytes) -> Result<(), AllocError>
-    ensures { OnOk result (last.new ≡ peer.now) }
-{
-    if last.as_slice() == peer {
-        return Ok(());
-    }
-    *last = Bytes::copy_from_slice(alloc, peer)?;
-    Ok(())
-}
-
 // The offers of a record of an inlet.
 fn routed(
     alloc: Global,
@@ -71,7 +60,7 @@ fn routed(
     item: Bytes,
     at: i64,
     peer: &[u8],
-    last: &mut Bytes,
+    last: &mut Peer,
 ) -> Result<Vec<Offer>, AllocError>
     requires inlet { inlet < length table.old.inlets.items }
     requires moment { (pos 0 ≤ℤ at) × (at ≤ℤ pos 250_000_000_000_000_000) }
@@ -84,8 +73,8 @@ fn routed(
     if is_skipped(rule, item.as_slice()) {
         return Ok(Vec::new(alloc));
     }
-    keep_peer(alloc, peer, last)?;
-    let message = read_item(alloc, rule, item, at, last)?;
+    last.keep(alloc, peer)?;
+    let message = read_item(alloc, rule, item, at, &last.name)?;
     offers_of(table, work, inlet, message)
 }
 
@@ -99,7 +88,7 @@ impl Pipes {
         Pipes {
             table,
             work: Work::new(alloc),
-            peer: Bytes::new(),
+            peer: Peer::none(),
         }
     }
 
@@ -118,7 +107,7 @@ impl Pipes {
         Ok(Pipes {
             table,
             work: Work::new(alloc),
-            peer: Bytes::new(),
+            peer: Peer::none(),
         })
     }
 }

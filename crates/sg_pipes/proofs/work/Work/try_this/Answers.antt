@@ -1,6 +1,5 @@
-use Rattle.std.proofs.Common.{◌≡◌, List, Vec, refl, ap, subst, ◌∙◌}
+use Rattle.std.proofs.Common.{List, refl, ap, subst}
 use Rattle.std.specs.Prelude.{◌||◌}
-use Rattle.std.specs.declared.alloc.Global.{Global}
 use Rattle.std.proofs.lemmas.Result.{on_ok_weaker}
 use Rattle.sg_msg.specs.Message.{Content}
 use Rattle.sg_tree.specs.Walk.{Walked, walk, after_deliveries}

@@ -1,9 +1,9 @@
-use Rattle.std.proofs.Common.{◌≡◌, List, ap, subst, ◌∙◌}
+use Rattle.std.proofs.Common.{List, ap, subst, ◌∙◌}
 use Rattle.std.proofs.lemmas.Result.{on_ok_weaker}
 use Rattle.sg_msg.specs.Message.{Content}
 use Rattle.sg_table.specs.declared.pipe.Pipe.{Pipe}
 use Rattle.sg_pipes.specs.declared.frame.Frame.TheVariants.{Walk}
-use Rattle.sg_pipes.specs.declared.frame.Passed.TheVariants.{On, Stopped, Arrived}
+use Rattle.sg_pipes.specs.declared.frame.Passed.TheVariants.{On, Stopped}
 use Rattle.sg_pipes.specs.Turns.{Passes}
 use Rattle.sg_pipes.proofs.Running.{comes-on, turns-at}
 use Rattle.sg_pipes.proofs.work.Work.walk.Goals as goal
