@@ -26,9 +26,9 @@ struct Width {
     beside: usize,
 }
 
-// How many records have to be spread over sources so that their turns are worth starting threads: these cost as much
-// as some hundred records do, and more where the processors have other work.
-const WORTH: usize = 200;
+// How many records have to be spread over sources so that their turns are worth starting threads. Eight connections
+// with 100 records each moved as many a second on four threads as on one, for twice the processor time.
+const WORTH: usize = 2_000;
 
 // Where fewer records were spread, the next turns are taken on this thread.
 fn width_after(round: Round, threads: usize) -> Width
