@@ -147,9 +147,9 @@ pulls-idle feed feed' buffer buffer' reader spent going size whole tells moves l
       failing = fails-same reader.failed reader.failed feed.faults feed'.faults refl;
     }
 
-drained : (left left' : Option (List ℕ)) → left' ≡ option_map (λ rest. []) left → IfSome left' (λ rest. rest ≡ [])
-drained None left' is = rw is tt
-drained (Some rest) left' is = rw is refl
+nothing_left : (left left' : Option (List ℕ)) → left' ≡ option_map (λ rest. []) left → IfSome left' (λ rest. rest ≡ [])
+nothing_left None left' is = rw is tt
+nothing_left (Some rest) left' is = rw is refl
 
 pub pulls-end : (feed feed' : InletState) (buffer buffer' : List ℕ) (reader : Reader) → IsSpent reader → reader.ended ≡ false → length buffer' ≡ length buffer
     → PullIsWhole (length buffer) (Ok End) → PullTells feed feed' buffer' (Ok End) → PullMoves feed feed' (Ok End) → PullLeaves feed feed' buffer' (Ok End)
@@ -164,7 +164,7 @@ pulls-end feed feed' buffer buffer' reader spent going size whole tells moves le
     let rise : nat_lt (one_if reader.ended) 1 ≡ true = rw going refl in
     record {
       rests = record {
-        ready = ready-same dests spec feed feed' buffer buffer' reader true reader.failed spent.fed size moves.0 moves.1 parts counts.5 (λ e. (counts.4, (λ up. drained feed.left feed'.left (leaves.1 (h.hung ∙ up))))) h;
+        ready = ready-same dests spec feed feed' buffer buffer' reader true reader.failed spent.fed size moves.0 moves.1 parts counts.5 (λ e. (counts.4, (λ up. nothing_left feed.left feed'.left (leaves.1 (h.hung ∙ up))))) h;
         reads = reads-same feed feed' buffer buffer' reader true reader.failed spent.fed tells.0 tells.1 moves.0 bytes;
         held = refl;
         end = refl;

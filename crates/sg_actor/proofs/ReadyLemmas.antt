@@ -11,7 +11,7 @@ use Rattle.sg_frame.specs.Framing.{Framing, Gives, NextTells, fresh, fed, with_b
 use Rattle.sg_frame.proofs.ItemLemmas.{items-append, open_after-append, items-bad, open_after-bad}
 use Rattle.sg_counter.specs.Bringing.{MayEnter, AllMayEnter}
 use Rattle.sg_actor.specs.Reading.{bytes_pulled, AreTimely, IsUnfed}
-use Rattle.sg_actor.specs.Sources.{SourceState, source, IsAhead, IsBadFrame, IsDrained, IsReady}
+use Rattle.sg_actor.specs.Sources.{SourceState, source, IsAhead, IsBadFrame, HasNothingLeft, IsReady}
 use Rattle.sg_actor.specs.Steps.{IsFed, HasFed, HasAsked}
 use Rattle.sg_actor.specs.declared.reader.Reader.{Reader}
 use Rattle.sg_actor.specs.declared.settings.SourceSpec.{SourceSpec}
@@ -24,7 +24,7 @@ not-so is so = absurd (let wrong : true ≡ false = sym so ∙ is in cc)
 -- Of what was fed nothing changes: what is ahead, what is held, and whether the present part is given up.
 ready-with : (dests : ℕ) (spec : SourceSpec) (feed : InletState) (buffer : List ℕ) (reader : Reader) (ahead : Framed) (held : List Admission) (end : ℕ) (up hung : Bool)
     → IsAhead reader.framer ahead → AllMayEnter dests held → length held ≤ spec.fetch → (up ≡ true → IsBadFrame ahead × (held ≡ [])) → hung ≡ up
-    → (reader.ended ≡ true → (feed.ended ≡ true) × (up ≡ false → IsDrained feed)) → IsReady dests spec (source feed reader buffer)
+    → (reader.ended ≡ true → (feed.ended ≡ true) × (up ≡ false → HasNothingLeft feed)) → IsReady dests spec (source feed reader buffer)
     → IsReady dests spec (source (record feed { hung = hung }) (record reader { ahead = ahead; held = held; end = end; given_up = up }) buffer)
 ready-with dests spec feed buffer reader ahead held end up hung is may few bad same over h = record {
   room = h.room;
@@ -208,7 +208,7 @@ ready-part dests spec feed feed' buffer buffer' reader isfed going size moves co
 -- nothing was given
 pub ready-same : (dests : ℕ) (spec : SourceSpec) (feed feed' : InletState) (buffer buffer' : List ℕ) (reader : Reader) (ended failed : Bool) → IsFed reader.pulled
     → length buffer' ≡ length buffer → feed'.from ≡ feed.from → feed'.place ≡ feed.place → feed'.parts ≡ feed.parts → feed'.hung ≡ feed.hung
-    → (ended ≡ true → (feed'.ended ≡ true) × (reader.given_up ≡ false → IsDrained feed'))
+    → (ended ≡ true → (feed'.ended ≡ true) × (reader.given_up ≡ false → HasNothingLeft feed'))
     → IsReady dests spec (source feed reader buffer) → IsReady dests spec (source feed' (record reader { ended = ended; failed = failed }) buffer')
 ready-same dests spec feed feed' buffer buffer' reader ended failed isfed size from place parts hung over h =
     let none : bytes_pulled reader.pulled buffer ≡ [] = fed-none reader.pulled buffer isfed in

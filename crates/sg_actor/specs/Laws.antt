@@ -5,7 +5,7 @@ use Rattle.sg_msg.specs.declared.offer.Offer.{Offer}
 use Rattle.sg_frame.specs.declared.kind.FrameKind.TheVariants.{Lines}
 use Rattle.sg_frame.specs.Records.{Record, records}
 use Rattle.sg_actor.specs.Reading.{bad_parts}
-use Rattle.sg_actor.specs.Sources.{SourceState, HasRead, IsReady, IsDrained}
+use Rattle.sg_actor.specs.Sources.{SourceState, HasRead, IsReady, HasNothingLeft}
 use Rattle.sg_actor.specs.Steps.{IsOver}
 use Rattle.sg_actor.specs.declared.settings.SourceSpec.{SourceSpec}
 
@@ -28,4 +28,4 @@ ReadsAll offers dests spec s =
 abbrev pub StaysWhole : ℕ → SourceSpec → SourceState → Type 0
 StaysWhole dests spec s =
     IsReady dests spec s → spec.kind ≡ Lines
-    → (s.reader.given_up ≡ false) × (s.reader.ended ≡ true → IsDrained s.feed)
+    → (s.reader.given_up ≡ false) × (s.reader.ended ≡ true → HasNothingLeft s.feed)

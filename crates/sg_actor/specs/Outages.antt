@@ -56,7 +56,7 @@ Begins gives_up old new drain drain' Failed = (old.reopens ≡ true) × (new ≡
     × Takes 0 [] drain drain' × (drain'.laters ≡ drain.laters) × Rose drain.faults drain'.faults
     × HasFailures new drain'
 
--- what became of a send: a failure is counted, and want of memory isn't one
+-- what became of a send: a failure is counted, and lack of memory isn't one
 pub record Sends (gives_up : Bool) (frames : List (List ℕ)) (old new : Outage) (drain drain' : OutletState) (sent : Sent) : Type 0 where
   pub takes : Takes sent.taken frames drain drain'
   pub within : sent.taken ≤ length frames

@@ -77,8 +77,8 @@ IsBadFrame More = ⊥
 IsBadFrame (BadFrame place) = Unit {0}
 
 -- a file has no byte left
-abbrev pub IsDrained : InletState → Type 0
-IsDrained feed = IfSome feed.left (λ rest. rest ≡ [])
+abbrev pub HasNothingLeft : InletState → Type 0
+HasNothingLeft feed = IfSome feed.left (λ rest. rest ≡ [])
 
 -- The reader's places are those of its inlet, and what it holds may enter a core with so many destinations.
 pub record IsReady (dests : ℕ) (spec : SourceSpec) (s : SourceState) : Type 0 where
@@ -101,4 +101,4 @@ pub record IsReady (dests : ℕ) (spec : SourceSpec) (s : SourceState) : Type 0 
   pub hung : s.feed.hung ≡ s.reader.given_up
   -- at its end an inlet that wasn't hung up has nothing left
   pub over : s.reader.ended ≡ true
-      → (s.feed.ended ≡ true) × (s.reader.given_up ≡ false → IsDrained s.feed)
+      → (s.feed.ended ≡ true) × (s.reader.given_up ≡ false → HasNothingLeft s.feed)

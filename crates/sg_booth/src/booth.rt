@@ -37,7 +37,7 @@ impl<V: Office> Model for Booth<V> {
 
 impl<V: Office> Booth<V> {
     /// Puts the office into a booth, for so many turns, at most 2^54. The first desk has all of them. A
-    /// refusal, for want of memory, gives the office back.
+    /// refusal, for lack of memory, gives the office back.
     pub fn new(alloc: Global, value: V, turns: u64) -> Result<(Booth<V>, Desk<V>), (V, AllocError)>
         requires few { turns ≤ 2 ^ 54 }
         requires room { turns ≤ V.room value }

@@ -61,8 +61,8 @@ use Rattle.sg_serve.specs.Plan.{IsRunnable}
 use Rattle.sg_serve.specs.Rewinds.{rewinds_at, rewinds_from, position_at, places_of}
 use Rattle.sg_serve.specs.Run.{CoreRun, Reached, HoldsRun, IsServed, Holds}
 use Rattle.sg_serve.specs.declared.counts.Counts.{Counts}
-use Rattle.sg_serve.specs.declared.ending.Ending.{Ending}
-use Rattle.sg_serve.specs.declared.ending.Ending.TheVariants.{Before, Ran}
+use Rattle.sg_serve.specs.declared.ending.PlanEnded.{PlanEnded}
+use Rattle.sg_serve.specs.declared.ending.PlanEnded.TheVariants.{Before, Ran}
 use Rattle.sg_serve.specs.declared.plan.RunPlan.{RunPlan}
 use Rattle.sg_delivered.proofs.DestLemmas.{sendings-of}
 use Rattle.sg_delivered.proofs.PreludeLemmas.{get-back, still-rewinds}
@@ -412,7 +412,7 @@ served-few feed drain offers inlets dests files plan routers rounds reached run 
 served-few feed drain offers inlets dests files plan routers rounds reached run NoMemory counts runnable low holds served = tt
 
 bounded-at : {R I O : Type 0} (feed : I → InletState) (drain : O → OutletState) (offers : R → ℕ → Record → List Offer → Type 0) (inlets dests : R → ℕ) (files : Option Files) (plan : RunPlan) (routers : List R) (rounds : ℕ) (reached : Reached)
-    (core : Option CoreRun) (ending : Ending) → IsRunnable plan → rounds < 2 ^ 64 → (holds : Holds feed drain offers inlets dests files plan routers rounds reached core ending)
+    (core : Option CoreRun) (ending : PlanEnded) → IsRunnable plan → rounds < 2 ^ 64 → (holds : Holds feed drain offers inlets dests files plan routers rounds reached core ending)
     → IsFew (recovered_at feed drain offers inlets dests files plan routers rounds reached core ending holds) (offered_at feed drain offers inlets dests files plan routers rounds reached core ending holds) rounds reached ending
 bounded-at feed drain offers inlets dests files plan routers rounds reached None (Before early) runnable low h = tt
 bounded-at feed drain offers inlets dests files plan routers rounds reached None (Ran ended counts) runnable low h = absurd h

@@ -21,8 +21,8 @@ use Rattle.sg_turns.specs.declared.ended.Ended.TheVariants.{Quiet, RoundsSpent, 
 use Rattle.sg_serve.specs.Plan.{IsRunnable}
 use Rattle.sg_serve.specs.Run.{CoreRun, Reached, Holds, RunsWith}
 use Rattle.sg_serve.specs.declared.counts.Counts.{Counts}
-use Rattle.sg_serve.specs.declared.ending.Ending.{Ending}
-use Rattle.sg_serve.specs.declared.ending.Ending.TheVariants.{Before, Ran}
+use Rattle.sg_serve.specs.declared.ending.PlanEnded.{PlanEnded}
+use Rattle.sg_serve.specs.declared.ending.PlanEnded.TheVariants.{Before, Ran}
 use Rattle.sg_serve.specs.declared.plan.RunPlan.{RunPlan}
 use Rattle.sg_bounded.specs.Counts.{changes, writes_in, offers_of, left_in, bytes_in, parts_in, idles_in, inlet_faults, outlet_faults, laters_in}
 
@@ -62,7 +62,7 @@ offered_in made = offers_of (admitted_in made)
 abbrev pub recovered_at : {R I O : Type 0} (feed : I → InletState) (drain : O → OutletState)
     (offers : R → ℕ → Record → List Offer → Type 0) (inlets dests : R → ℕ) (files : Option Files)
     (plan : RunPlan) (routers : List R) (rounds : ℕ) (reached : Reached)
-    (core : Option CoreRun) (ending : Ending)
+    (core : Option CoreRun) (ending : PlanEnded)
     → Holds feed drain offers inlets dests files plan routers rounds reached core ending → ℕ
 recovered_at feed drain offers inlets dests files plan routers rounds reached None ending holds = 0
 recovered_at feed drain offers inlets dests files plan routers rounds reached (Some run) (Before early) (holds, stays) =
@@ -73,7 +73,7 @@ recovered_at feed drain offers inlets dests files plan routers rounds reached (S
 abbrev pub offered_at : {R I O : Type 0} (feed : I → InletState) (drain : O → OutletState)
     (offers : R → ℕ → Record → List Offer → Type 0) (inlets dests : R → ℕ) (files : Option Files)
     (plan : RunPlan) (routers : List R) (rounds : ℕ) (reached : Reached)
-    (core : Option CoreRun) (ending : Ending)
+    (core : Option CoreRun) (ending : PlanEnded)
     → Holds feed drain offers inlets dests files plan routers rounds reached core ending → ℕ
 offered_at feed drain offers inlets dests files plan routers rounds reached None ending holds = 0
 offered_at feed drain offers inlets dests files plan routers rounds reached (Some run) (Before early) holds =
@@ -83,7 +83,7 @@ offered_at feed drain offers inlets dests files plan routers rounds reached (Som
 
 abbrev pub recovered_by : {R I O : Type 0} {feed : I → InletState} {drain : O → OutletState}
     {offers : R → ℕ → Record → List Offer → Type 0} {inlets dests : R → ℕ} {old new : WorldState}
-    {plan : RunPlan} {routers : List R} {rounds : ℕ} {ending : Ending}
+    {plan : RunPlan} {routers : List R} {rounds : ℕ} {ending : PlanEnded}
     {reached : Reached} → RunsWith feed drain offers inlets dests old new plan routers rounds ending reached → ℕ
 recovered_by {R} {I} {O} {feed} {drain} {offers} {inlets} {dests} {old} {new} {plan} {routers} {rounds} {ending} {reached} runs =
     recovered_at feed drain offers inlets dests old.files plan routers rounds reached reached.core
@@ -91,7 +91,7 @@ recovered_by {R} {I} {O} {feed} {drain} {offers} {inlets} {dests} {old} {new} {p
 
 abbrev pub offered_by : {R I O : Type 0} {feed : I → InletState} {drain : O → OutletState}
     {offers : R → ℕ → Record → List Offer → Type 0} {inlets dests : R → ℕ} {old new : WorldState}
-    {plan : RunPlan} {routers : List R} {rounds : ℕ} {ending : Ending}
+    {plan : RunPlan} {routers : List R} {rounds : ℕ} {ending : PlanEnded}
     {reached : Reached} → RunsWith feed drain offers inlets dests old new plan routers rounds ending reached → ℕ
 offered_by {R} {I} {O} {feed} {drain} {offers} {inlets} {dests} {old} {new} {plan} {routers} {rounds} {ending} {reached} runs =
     offered_at feed drain offers inlets dests old.files plan routers rounds reached reached.core
@@ -127,7 +127,7 @@ pub record AreFew (recovered offered rounds : ℕ) (reached : Reached) : Type 0 
       < 4 * (given_rounds recovered offered reached + faults_in reached) + waits_in reached
 
 -- so they are where all of them were run, and the last one wasn't quiet
-abbrev pub IsFew : (recovered offered rounds : ℕ) → Reached → Ending → Type 0
+abbrev pub IsFew : (recovered offered rounds : ℕ) → Reached → PlanEnded → Type 0
 IsFew recovered offered rounds reached (Before early) = Unit {0}
 IsFew recovered offered rounds reached (Ran Quiet counts) = Unit {0}
 IsFew recovered offered rounds reached (Ran RoundsSpent counts) = AreFew recovered offered rounds
@@ -137,7 +137,7 @@ IsFew recovered offered rounds reached (Ran NoMemory counts) = Unit {0}
 abbrev pub RunsAreBounded : {R I O : Type 0} → (I → InletState) → (O → OutletState)
     → (R → ℕ → Record → List Offer → Type 0) → (R → ℕ) → (R → ℕ) → Type 0
 RunsAreBounded {R} {I} {O} feed drain offers inlets dests =
-    (old new : WorldState) (plan : RunPlan) (routers : List R) (rounds : ℕ) (ending : Ending)
+    (old new : WorldState) (plan : RunPlan) (routers : List R) (rounds : ℕ) (ending : PlanEnded)
     (reached : Reached) → IsRunnable plan → rounds < 2 ^ 64
     → (runs : RunsWith feed drain offers inlets dests old new plan routers rounds ending reached)
     → IsFew (recovered_by runs) (offered_by runs) rounds reached ending

@@ -46,13 +46,13 @@ pub record Adds (kept : Kept) (payload : List ℕ) (old new : Found) : Type 0 wh
   pub size : new.size
       ≡ min (min (old.size + 5) (2 ^ 64 - 1) + encoded_len kept.message) (2 ^ 64 - 1)
 
--- damage at this gate, where the payload is no entry; want of memory is free
+-- damage at this gate, where the payload is no entry; lack of memory is free
 abbrev pub AddReason : List ℕ → ℕ → StoreRefusal → Type 0
 AddReason payload gate (Damage at) = (at ≡ gate) × ((kept : Kept) → IsStoredAs kept payload → ⊥)
 AddReason payload gate DiskFault = ⊥
 AddReason payload gate NoMemory = Unit {0}
 
--- damage where it is, a fault where the count of faults rose; want of memory is free
+-- damage where it is, a fault where the count of faults rose; lack of memory is free
 abbrev pub LookReason : DiskState → DiskState → Places → StoreRefusal → Type 0
 LookReason old new places (Damage at) = WhereTold (content old) (IsNoEntry places at)
 LookReason old new places DiskFault = Rose old.faults new.faults

@@ -15,7 +15,7 @@ use sg_spool::{RewriteRefusal, Spool, Walked};
 use std::alloc::{AllocError, Global};
 
 /// The messages of the first entries, so many. Nothing on the disk changes. Bytes that don't read as
-/// they did at the opening, which a disk never gives, count as want of memory.
+/// they did at the opening, which a disk never gives, count as lack of memory.
 pub fn first_messages<D: Disk>(
     alloc: Global,
     spool: &mut Spool<D>,

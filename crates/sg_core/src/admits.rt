@@ -36,7 +36,7 @@ fn begin_all(sources: &mut Seq<Source>, i: u32, records: &[Record])
 
 impl<D: Disk> Core<D> {
     /// Takes records in, each with its offers, all or none, and answers the verdict on each offer. All
-    /// memory is taken first, so a refusal gives the records back and changes nothing; want of memory is
+    /// memory is taken first, so a refusal gives the records back and changes nothing; lack of memory is
     /// answered too where a count would pass its end. Each disk-buffer that takes some of them commits
     /// once.
     pub fn admit(

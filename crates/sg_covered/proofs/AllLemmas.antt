@@ -24,8 +24,8 @@ use Rattle.sg_serve.specs.Plan.{IsRunnable}
 use Rattle.sg_serve.specs.Run.{Reached, RunsWith}
 use Rattle.sg_serve.specs.Counts.{first_fault}
 use Rattle.sg_serve.specs.declared.counts.Counts.{Counts}
-use Rattle.sg_serve.specs.declared.ending.Ending.{Ending}
-use Rattle.sg_serve.specs.declared.ending.Ending.TheVariants.{Ran as RanSo}
+use Rattle.sg_serve.specs.declared.ending.PlanEnded.{PlanEnded}
+use Rattle.sg_serve.specs.declared.ending.PlanEnded.TheVariants.{Ran as RanSo}
 use Rattle.sg_serve.specs.declared.plan.RunPlan.{RunPlan}
 use Rattle.sg_quiet.specs.Ending.{CleanRunsEnd}
 use Rattle.sg_resumed.specs.Pieces.{Piece, pieces}
@@ -158,7 +158,7 @@ module _ {R I O : Type 0} (feed : I → InletState) (drain : O → OutletState) 
         stopped = λ ls ls_are. (let S : Images → Type 0 = λ images. IsStopped plan.setup os images (stop_with run s.came ls) in subst S (sym same) (s.each ls ls_are).stopped);
         covered = λ ls ls_are. (s.each ls ls_are).covered;
         ends = λ counts ending well.
-            (let E : Ending → Type 0 = λ e. RunsWith feed drain offers inlets dests run.old run.new asks run.routers run.rounds e run.reached in
+            (let E : PlanEnded → Type 0 = λ e. RunsWith feed drain offers inlets dests run.old run.new asks run.routers run.rounds e run.reached in
             clean-by feed drain offers inlets dests one clean run.old run.new asks run.routers run.rounds counts run.reached run.run run.bytes lists runnable of_files lines (subst E ending is.runs) is.core well tells is.files
             (ends-grown plan.setup items (files_of plan.inlets.items run.bytes) (held_by plan.setup (contents disks) lists) grow first.positions));
       }

@@ -58,7 +58,7 @@ use Rattle.sg_serve.specs.Plan.{IsRunnable}
 use Rattle.sg_serve.specs.Rewinds.{position_at, places_of, rewinds_from}
 use Rattle.sg_serve.specs.Run.{CoreRun, Reached, HoldsRun, IsServed, Holds, RunsWith}
 use Rattle.sg_serve.specs.declared.counts.Counts.{Counts}
-use Rattle.sg_serve.specs.declared.ending.Ending.TheVariants.{Ran as RanSo}
+use Rattle.sg_serve.specs.declared.ending.PlanEnded.TheVariants.{Ran as RanSo}
 use Rattle.sg_serve.specs.declared.plan.RunPlan.{RunPlan}
 use Rattle.sg_serve.proofs.ActorLemmas.{store-by-setup}
 use Rattle.sg_delivered.proofs.PreludeLemmas.{get-back, still-rewinds}
@@ -301,7 +301,7 @@ clean-position {R} {I} {O} feed drain offers inlets dests files plan routers rou
     let s = some-of source.store file.stored in
     let ended : IsEnded (offers (a.0).router) inlet source i closed made = e.inlets i inlet source (a.0).router closed mine.1 file.at router at_closed in
     let D : Option (List ℕ) → Type 0 = λ l. IfSome l (λ rest. rest ≡ []) in
-    let no_left : gave.left ≡ [] = subst D gave.left_is (ended.drained (lines i inlet file mine.1)) in
+    let no_left : gave.left ≡ [] = subst D gave.left_is (ended.nothing_left (lines i inlet file mine.1)) in
     let whole_file : plain (gave.part).given ≡ drop place (bytes i) = sym (append-nil (plain (gave.part).given)) ∙ ap (λ (l : List ℕ). plain (gave.part).given ++ l) (sym no_left) ∙ gave.are in
     let brought = brought_by i made in
     let W : Option (List Part) → Type 0 = λ told. IfSome (option_map (records inlet.kind inlet.limit place) told) (λ given. AreOf (offers (a.0).router) (spec_for inlet source.store i place) given brought) in

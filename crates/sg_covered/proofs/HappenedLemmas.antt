@@ -74,8 +74,8 @@ use Rattle.sg_serve.specs.Plan.{IsRunnable}
 use Rattle.sg_serve.specs.Rewinds.{position_at, places_of}
 use Rattle.sg_serve.specs.Run.{CoreRun, Reached, HoldsRun, IsServed, Holds}
 use Rattle.sg_serve.specs.declared.counts.Counts.{Counts}
-use Rattle.sg_serve.specs.declared.ending.Ending.{Ending}
-use Rattle.sg_serve.specs.declared.ending.Ending.TheVariants.{Before, Ran as RanSo}
+use Rattle.sg_serve.specs.declared.ending.PlanEnded.{PlanEnded}
+use Rattle.sg_serve.specs.declared.ending.PlanEnded.TheVariants.{Before, Ran as RanSo}
 use Rattle.sg_serve.specs.declared.plan.RunPlan.{RunPlan}
 use Rattle.sg_serve.proofs.ActorLemmas.{store-by-setup}
 use Rattle.sg_delivered.specs.Headline.{frame_planned, frame_at, TakesThese}
@@ -308,7 +308,7 @@ happened-by offers files plan reached run runnable holds made makes came took =
     }
 
 happened-held : {R I O : Type 0} (feed : I → InletState) (drain : O → OutletState) (offers : R → ℕ → Record → List Offer → Type 0) (inlets dests : R → ℕ) (files : Option Files) (plan : RunPlan) (routers : List R) (rounds : ℕ) (reached : Reached)
-    (core : Option CoreRun) (ending : Ending) (run : CoreRun) → IsRunnable plan → AreOfFiles plan → Holds feed drain offers inlets dests files plan routers rounds reached core ending → core ≡ Some run → Happened (offers_in offers routers) files plan reached run
+    (core : Option CoreRun) (ending : PlanEnded) (run : CoreRun) → IsRunnable plan → AreOfFiles plan → Holds feed drain offers inlets dests files plan routers rounds reached core ending → core ≡ Some run → Happened (offers_in offers routers) files plan reached run
 happened-held feed drain offers inlets dests files plan routers rounds reached None ending run runnable of_files h q = absurd (let wrong : None ≡ Some run = q in cc)
 happened-held {R} {I} {O} feed drain offers inlets dests files plan routers rounds reached (Some core) (Before early) run runnable of_files (holds, stays) q =
     let still = still-either core.first reached.inlets core.prelude stays.rewinds in

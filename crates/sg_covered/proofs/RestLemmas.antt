@@ -27,8 +27,8 @@ use Rattle.sg_core.specs.Opening.{AreKinds}
 use Rattle.sg_core.proofs.OpenState.{kind-none}
 use Rattle.sg_serve.specs.Plan.{IsRunnable}
 use Rattle.sg_serve.specs.Run.{CoreRun, Reached, Holds, RestsWithout}
-use Rattle.sg_serve.specs.declared.ending.Ending.{Ending}
-use Rattle.sg_serve.specs.declared.ending.Ending.TheVariants.{Before as BeforeRounds, Ran}
+use Rattle.sg_serve.specs.declared.ending.PlanEnded.{PlanEnded}
+use Rattle.sg_serve.specs.declared.ending.PlanEnded.TheVariants.{Before as BeforeRounds, Ran}
 use Rattle.sg_serve.specs.declared.plan.RunPlan.{RunPlan}
 use Rattle.sg_runs.specs.Covered.{Covered}
 use Rattle.sg_runs.specs.Law.{offers_in}
@@ -190,7 +190,7 @@ rests-without one plan reached runnable (inl same) P each = let Q : List DiskSta
 rests-without one plan reached runnable (inr u) P each = rests-kept one plan reached.stores reached.stores_closed u.1.kinds runnable u.1.kinds_are (u.1.refused).preserved P each
 
 rests-held : {R I O : Type 0} (feed : I → InletState) (drain : O → OutletState) (offers : R → ℕ → Record → List Offer → Type 0) (inlets dests : R → ℕ) (files : Option Files) (plan : RunPlan) (routers : List R) (rounds : ℕ) (reached : Reached)
-    (core : Option CoreRun) (ending : Ending) → ListsAreOne → IsRunnable plan → Holds feed drain offers inlets dests files plan routers rounds reached core ending → core ≡ None → (P : Images → Type 0) → EachChoice plan.setup reached.stores P
+    (core : Option CoreRun) (ending : PlanEnded) → ListsAreOne → IsRunnable plan → Holds feed drain offers inlets dests files plan routers rounds reached core ending → core ≡ None → (P : Images → Type 0) → EachChoice plan.setup reached.stores P
     → EachChoice plan.setup reached.stores_closed P
 rests-held feed drain offers inlets dests files plan routers rounds reached None (BeforeRounds early) one runnable h q P each = rests-without one plan reached runnable h.rests P each
 rests-held feed drain offers inlets dests files plan routers rounds reached None (Ran ended counts) one runnable h q P each = absurd h

@@ -75,8 +75,8 @@ use Rattle.sg_serve.specs.Plan.{IsRunnable}
 use Rattle.sg_serve.specs.Rewinds.{position_at, places_of}
 use Rattle.sg_serve.specs.Run.{CoreRun, Reached, HoldsRun, IsServed, Holds}
 use Rattle.sg_serve.specs.declared.counts.Counts.{Counts}
-use Rattle.sg_serve.specs.declared.ending.Ending.{Ending}
-use Rattle.sg_serve.specs.declared.ending.Ending.TheVariants.{Before, Ran as RanSo}
+use Rattle.sg_serve.specs.declared.ending.PlanEnded.{PlanEnded}
+use Rattle.sg_serve.specs.declared.ending.PlanEnded.TheVariants.{Before, Ran as RanSo}
 use Rattle.sg_serve.specs.declared.plan.RunPlan.{RunPlan}
 use Rattle.sg_serve.proofs.ActorLemmas.{store-by-setup}
 use Rattle.sg_delivered.specs.Headline.{frame_planned, frame_at, TakesThese}
@@ -227,7 +227,7 @@ pub record Held (files : Option Files) (plan : RunPlan) (reached : Reached) (run
   pub setups : setup_of run.last ≡ plan.setup
 
 pub held-of : {R I O : Type 0} (feed : I → InletState) (drain : O → OutletState) (offers : R → ℕ → Record → List Offer → Type 0) (inlets dests : R → ℕ) (files : Option Files) (plan : RunPlan) (routers : List R) (rounds : ℕ) (reached : Reached)
-    (core : Option CoreRun) (ending : Ending) (run : CoreRun) → Holds feed drain offers inlets dests files plan routers rounds reached core ending → core ≡ Some run → Held files plan reached run
+    (core : Option CoreRun) (ending : PlanEnded) (run : CoreRun) → Holds feed drain offers inlets dests files plan routers rounds reached core ending → core ≡ Some run → Held files plan reached run
 held-of feed drain offers inlets dests files plan routers rounds reached None ending run h q = absurd (let wrong : None ≡ Some run = q in cc)
 held-of feed drain offers inlets dests files plan routers rounds reached (Some core) (Before early) run (holds, stays) q =
     let P : CoreRun → Type 0 = λ r. Held files plan reached r in

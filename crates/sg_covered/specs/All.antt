@@ -15,8 +15,8 @@ use Rattle.sg_serve.specs.Counts.{first_fault}
 use Rattle.sg_serve.specs.Plan.{IsRunnable}
 use Rattle.sg_serve.specs.Run.{CoreRun, Reached, RunsWith}
 use Rattle.sg_serve.specs.declared.counts.Counts.{Counts}
-use Rattle.sg_serve.specs.declared.ending.Ending.{Ending}
-use Rattle.sg_serve.specs.declared.ending.Ending.TheVariants.{Ran}
+use Rattle.sg_serve.specs.declared.ending.PlanEnded.{PlanEnded}
+use Rattle.sg_serve.specs.declared.ending.PlanEnded.TheVariants.{Ran}
 use Rattle.sg_serve.specs.declared.plan.RunPlan.{RunPlan}
 use Rattle.sg_runs.specs.Covered.{Pass, Taken, Offers, Covered}
 use Rattle.sg_runs.specs.Law.{offers_in, position_in, AddUp}
@@ -58,7 +58,7 @@ pub record PlanRun {R : Type 0} (offers : R → ℕ → Record → List Offer �
   pub new : WorldState
   pub routers : List R
   pub rounds : ℕ
-  pub ending : Ending
+  pub ending : PlanEnded
   pub reached : Reached
   pub run : CoreRun
   pub happened : Happened (offers_in offers by) old.files (asked plan once) reached run

@@ -12,7 +12,7 @@ use Rattle.sg_serve.specs.Counts.{first_fault}
 use Rattle.sg_serve.specs.Plan.{IsRunnable}
 use Rattle.sg_serve.specs.Run.{CoreRun, Reached, RunsWith}
 use Rattle.sg_serve.specs.declared.counts.Counts.{Counts}
-use Rattle.sg_serve.specs.declared.ending.Ending.TheVariants.{Ran}
+use Rattle.sg_serve.specs.declared.ending.PlanEnded.TheVariants.{Ran}
 use Rattle.sg_serve.specs.declared.plan.RunPlan.{RunPlan}
 use Rattle.sg_runs.specs.Covered.{Pass, Taken, IsFile, Covered}
 use Rattle.sg_runs.specs.Law.{offers_in, EndsClean}

@@ -7,7 +7,7 @@ use Rattle.sg_msg.specs.declared.offer.Offer.{Offer}
 use Rattle.sg_frame.specs.Records.{Record}
 use Rattle.sg_serve.specs.Plan.{IsRunnable}
 use Rattle.sg_serve.specs.Run.{Reached, RunsWith}
-use Rattle.sg_serve.specs.declared.ending.Ending.{Ending}
+use Rattle.sg_serve.specs.declared.ending.PlanEnded.{PlanEnded}
 use Rattle.sg_serve.specs.declared.plan.RunPlan.{RunPlan}
 use Rattle.sg_runs.specs.Covered.{Pass, Taken, Covered}
 use Rattle.sg_runs.specs.Law.{offers_in}
@@ -17,7 +17,7 @@ use Rattle.sg_covered.specs.Runs.{EachChoice, files_of}
 abbrev pub PlanRunsRest : {R I O : Type 0} → (I → InletState) → (O → OutletState)
     → (R → ℕ → Record → List Offer → Type 0) → (R → ℕ) → (R → ℕ) → Type 0
 PlanRunsRest {R} {I} {O} feed drain offers inlets dests =
-    (old new : WorldState) (plan : RunPlan) (routers by : List R) (rounds : ℕ) (ending : Ending)
+    (old new : WorldState) (plan : RunPlan) (routers by : List R) (rounds : ℕ) (ending : PlanEnded)
     (reached : Reached) (bytes : ℕ → List ℕ) (taken : List Taken) (passes : List Pass)
     (places : ℕ → ℕ) → IsRunnable plan
     → RunsWith feed drain offers inlets dests old new plan routers rounds ending reached

@@ -23,7 +23,7 @@ use Rattle.sg_standing.specs.Images.{position_in, AreImagesBetween}
 use Rattle.sg_standing.specs.Standing.{StandsFor}
 use Rattle.sg_core.specs.Opening.{IsOpen}
 use Rattle.sg_source.specs.declared.inlet.InletPlan.{InletPlan}
-use Rattle.sg_serve.specs.declared.ending.Ending.{Ending}
+use Rattle.sg_serve.specs.declared.ending.PlanEnded.{PlanEnded}
 use Rattle.sg_serve.specs.declared.plan.RunPlan.{RunPlan}
 use Rattle.sg_serve.specs.Plan.{IsRunnable}
 use Rattle.sg_serve.specs.Run.{CoreRun, Reached, RunsWith}
@@ -124,7 +124,7 @@ pub record Happened (offers : Offers) (files : Option Files) (plan : RunPlan) (r
 abbrev pub PlanRunsHappen : {R I O : Type 0} → (I → InletState) → (O → OutletState)
     → (R → ℕ → Record → List Offer → Type 0) → (R → ℕ) → (R → ℕ) → Type 0
 PlanRunsHappen {R} {I} {O} feed drain offers inlets dests =
-    (old new : WorldState) (plan : RunPlan) (routers : List R) (rounds : ℕ) (ending : Ending)
+    (old new : WorldState) (plan : RunPlan) (routers : List R) (rounds : ℕ) (ending : PlanEnded)
     (reached : Reached) (run : CoreRun)
     → IsRunnable plan → AreOfFiles plan
     → RunsWith feed drain offers inlets dests old new plan routers rounds ending reached
@@ -176,7 +176,7 @@ pub record LeavesCovered {offers : Offers} {files : Option Files} {plan : RunPla
 abbrev pub PlanRunsCover : {R I O : Type 0} → (I → InletState) → (O → OutletState)
     → (R → ℕ → Record → List Offer → Type 0) → (R → ℕ) → (R → ℕ) → Type 0
 PlanRunsCover {R} {I} {O} feed drain offers inlets dests =
-    (old new : WorldState) (plan : RunPlan) (routers by : List R) (rounds : ℕ) (ending : Ending)
+    (old new : WorldState) (plan : RunPlan) (routers by : List R) (rounds : ℕ) (ending : PlanEnded)
     (reached : Reached) (run : CoreRun)
     (happened : Happened (offers_in offers by) old.files plan reached run) (bytes : ℕ → List ℕ)
     (taken : List Taken) (passes : List Pass) (places : ℕ → ℕ)

@@ -46,8 +46,8 @@ use Rattle.sg_serve.specs.Plan.{IsRunnable}
 use Rattle.sg_serve.specs.Rewinds.{position_at, places_of}
 use Rattle.sg_serve.specs.Run.{CoreRun, Reached, HoldsRun, IsServed, Holds}
 use Rattle.sg_serve.specs.declared.counts.Counts.{Counts}
-use Rattle.sg_serve.specs.declared.ending.Ending.{Ending}
-use Rattle.sg_serve.specs.declared.ending.Ending.TheVariants.{Before, Ran as RanSo}
+use Rattle.sg_serve.specs.declared.ending.PlanEnded.{PlanEnded}
+use Rattle.sg_serve.specs.declared.ending.PlanEnded.TheVariants.{Before, Ran as RanSo}
 use Rattle.sg_serve.specs.declared.plan.RunPlan.{RunPlan}
 use Rattle.sg_delivered.specs.Headline.{frame_planned, frame_at, records_of, TakesPrefixes, TakesThese, Headline, Delivers, RunsDeliver}
 use Rattle.sg_delivered.proofs.PreludeLemmas.{get-back, AreStill, still-rewinds, still-either, admitted-later, dest-behind}
@@ -192,7 +192,7 @@ headline-of offers files plan routers reached run made laws holds makes texts ta
     }
 
 held : {R I O : Type 0} (feed : I → InletState) (drain : O → OutletState) (offers : R → ℕ → Record → List Offer → Type 0) (inlets dests : R → ℕ) (files : Option Files) (plan : RunPlan) (routers : List R) (rounds : ℕ) (reached : Reached)
-    (core : Option CoreRun) (ending : Ending) → Laws → IsRunnable plan → Holds feed drain offers inlets dests files plan routers rounds reached core ending → Delivers offers plan routers reached core
+    (core : Option CoreRun) (ending : PlanEnded) → Laws → IsRunnable plan → Holds feed drain offers inlets dests files plan routers rounds reached core ending → Delivers offers plan routers reached core
 held feed drain offers inlets dests files plan routers rounds reached None (Before early) laws runnable h = (h.no_inlets.0, h.no_outlets.0)
 held feed drain offers inlets dests files plan routers rounds reached None (RanSo ended counts) laws runnable h = absurd h
 held feed drain offers inlets dests files plan routers rounds reached (Some run) (Before early) laws runnable (holds, stays) =

@@ -32,7 +32,7 @@ use Rattle.sg_headline.specs.Drops.{AreDue}
 use Rattle.sg_headline.specs.Fronts.{IsDest, TakesSettled}
 use Rattle.sg_headline.specs.Headline.{taken_from, TakesFirst}
 use Rattle.sg_headline.specs.Laws.{StayWithin}
-use Rattle.sg_serve.specs.declared.ending.Ending.{Ending}
+use Rattle.sg_serve.specs.declared.ending.PlanEnded.{PlanEnded}
 use Rattle.sg_serve.specs.declared.plan.RunPlan.{RunPlan}
 use Rattle.sg_serve.specs.Plan.{IsRunnable}
 use Rattle.sg_serve.specs.Run.{CoreRun, Reached, RunsWith}
@@ -119,7 +119,7 @@ Delivers offers plan routers reached (Some run) = Headline offers plan routers r
 abbrev pub RunsDeliver : {R I O : Type 0} → (I → InletState) → (O → OutletState)
     → (R → ℕ → Record → List Offer → Type 0) → (R → ℕ) → (R → ℕ) → Type 0
 RunsDeliver {R} {I} {O} feed drain offers inlets dests =
-    (old new : WorldState) (plan : RunPlan) (routers : List R) (rounds : ℕ) (ending : Ending)
+    (old new : WorldState) (plan : RunPlan) (routers : List R) (rounds : ℕ) (ending : PlanEnded)
     (reached : Reached) → IsRunnable plan
     → RunsWith feed drain offers inlets dests old new plan routers rounds ending reached
     → Delivers offers plan routers reached reached.core

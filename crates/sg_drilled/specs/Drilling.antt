@@ -25,7 +25,7 @@ pub record RunClean (old new : WorldState) (outcome : Outcome) : Type 0 where
   pub runs : RunsFile feed_of drain_of old new (codes "drill.conf") true most_rounds (Ok outcome)
   pub clean : outcome.end ≡ Clean
 
--- want of memory is free
+-- lack of memory is free
 abbrev pub RunsClean : WorldState → WorldState → Result Outcome AllocError → Type 0
 RunsClean old new (Ok outcome) = RunClean old new outcome
 RunsClean old new (Err e) = Unit {0}

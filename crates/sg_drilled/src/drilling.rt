@@ -34,7 +34,7 @@ fn drill_files(alloc: Global, records: u64) -> Result<Vec<MemoryFile>, NoMemory>
     Ok(files)
 }
 
-// Runs the configuration over this machine, which ends clean or for want of memory.
+// Runs the configuration over this machine, which ends clean or for lack of memory.
 fn run_clean<T: Threads + Wait + Sync>(
     rt: &T,
     alloc: Global,
@@ -53,7 +53,7 @@ fn run_clean<T: Threads + Wait + Sync>(
 
 /// Makes the input of so many records, 1 to 100,000, runs the configuration of a drill on it over devices in
 /// memory, with `--once`, and answers the report. A machine in memory of which no call is to fail ends a
-/// run otherwise for want of memory alone.
+/// run otherwise for lack of memory alone.
 pub fn drill<T: Threads + Wait + Sync>(
     rt: &T,
     alloc: Global,

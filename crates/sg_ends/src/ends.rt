@@ -10,7 +10,7 @@ use std::alloc::Global;
 
 /// The statement of each inlet and of each driver of a destination, by their numbers.
 #[derive(Drop)]
-pub struct Ends {
+pub struct Endpoints {
     pub inlets: Seq<Owner>,
     pub outlets: Seq<Owner>,
 }

@@ -5,6 +5,6 @@ mod ends;
 mod laws;
 mod owner;
 
-pub use ends::{Ends, numbers_of};
+pub use ends::{Endpoints, numbers_of};
 pub use laws::numbers_are_within;
 pub use owner::Owner;

@@ -12,7 +12,7 @@ use Rattle.sg_expand.specs.declared.frame.Context.{Context}
 use Rattle.sg_expand.specs.Expansion.{Step, Ends, Moves, Faults, Includes, Uses}
 use Rattle.sg_expand.specs.Machine.{Does, DoesInclude, DoesStep, NamesFile, TakesFile, state_of}
 
--- want of memory is free
+-- lack of memory is free
 pub does-free : (asked : Step) (context : Context) (old new : Expander) → Does asked context old new (Err NoMemory)
 does-free Ends context old new = tt
 does-free (Moves fresh rest next) context old new = tt

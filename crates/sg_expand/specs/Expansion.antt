@@ -395,7 +395,7 @@ RunsTokens (Err fault) state world outcome = outcome ≡ Stops (Faulty fault) st
 abbrev pub RunsMain : List ℕ → List ℕ → WorldState → Outcome → Type 0
 RunsMain name text world outcome = RunsTokens (main_tokens text) (first_state name) world outcome
 
--- what an expansion answers is what the text comes to, but for want of memory. A file isn't read only where its reading failed
+-- what an expansion answers is what the text comes to, but for lack of memory. A file isn't read only where its reading failed
 abbrev pub IsExpanded : WorldState → WorldState → List ℕ → List ℕ → Result Expanded ExpandRefusal
     → Type 0
 IsExpanded old new name text (Ok expanded) =

@@ -15,7 +15,7 @@ use Rattle.sg_expand.specs.Pending.{Leads}
 abbrev pub IsNew : List ℕ → Expander → Type 0
 IsNew name expander = (expander.frames.items ≡ []) × (state_of expander ≡ first_state name)
 
--- an answer is a list of tokens or a fault, but for want of memory
+-- an answer is a list of tokens or a fault, but for lack of memory
 abbrev pub Gives : Result (List Token) ConfigFault → Result (List Token) Stop → Type 0
 Gives wanted (Ok tokens) = wanted ≡ Ok tokens
 Gives wanted (Err (Fault fault)) = wanted ≡ Err fault

@@ -20,7 +20,7 @@ use Rattle.sg_table.specs.Patterns as table
 use Rattle.sg_table.specs.Patterns.{Patterns}
 use Rattle.sg_names.specs.declared.names.Names.{Names}
 use Rattle.sg_ends.specs.declared.owner.Owner.{Owner}
-use Rattle.sg_ends.specs.declared.ends.Ends.{Ends}
+use Rattle.sg_ends.specs.declared.ends.Endpoints.{Endpoints}
 use Rattle.sg_forest.specs.Written.{Written, written_of, written_patterns}
 use Rattle.sg_forest.specs.References.{source_in, flags_of}
 use Rattle.sg_forest.specs.Patterns.{log_patterns, logs_patterns}
@@ -44,7 +44,7 @@ joined-both (x ∷ xs) ys = ap (λ (r : Patterns). x ++ r) (joined-both xs ys) �
 behind-both : {A : Type 0} (a b c x y z : List A) → b ≡ a ++ x → c ≡ b ++ y → z ≡ x ++ y → c ≡ a ++ z
 behind-both a b c x y z first second whole = second ∙ ap (λ p. p ++ y) first ∙ append_assoc a x y ∙ ap (λ p. a ++ p) (sym whole)
 
-module _ (names : Names) (ends : Ends) (rewrites : List (List Call)) where
+module _ (names : Names) (ends : Endpoints) (rewrites : List (List Call)) where
   pub top-made : (path : Path) (log : RawLog) (sources : List ℕ) (inlets outlets : List Owner) (elements : List RawElement)
       → (out-Path path).sources.items ≡ sources → sources ≡ flat_map (source_in inlets) elements
       → inlets ≡ ends.inlets → elements ≡ (out-RawLog log).elements
@@ -98,7 +98,7 @@ module _ (names : Names) (ends : Ends) (rewrites : List (List Call)) where
       → AddsTops names ends rewrites (flat_map logs_at (take i statements)) old new → AddsTops names ends rewrites (flat_map logs_at statements) old new
   tops-all statements i old new past tops = subst (λ (xs : List Statement). AddsTops names ends rewrites (flat_map logs_at xs) old new) (take_all i statements past) tops
 
-pub forest-made : (names : Names) (ends : Ends) (inlets : List InletRule) (statements : List Statement) (forest : Forest) (calls : List (List Call))
+pub forest-made : (names : Names) (ends : Endpoints) (inlets : List InletRule) (statements : List Statement) (forest : Forest) (calls : List (List Call))
     → calls ≡ rewrites_of statements
     → forest.inlets.items ≡ inlets
     → length forest.dests.items ≡ length ends.outlets

@@ -16,7 +16,7 @@ use Rattle.sg_tree.specs.Laws.{AreDests, StaysWithin, AllStayWithin, EachStaysWi
 use Rattle.sg_table.specs.Table.{siblings_of, choice_of}
 use Rattle.sg_names.specs.declared.names.Names.{Names}
 use Rattle.sg_ends.specs.declared.owner.Owner.{Owner}
-use Rattle.sg_ends.specs.declared.ends.Ends.{Ends}
+use Rattle.sg_ends.specs.declared.ends.Endpoints.{Endpoints}
 use Rattle.sg_ends.specs.Owners.{owner_of, numbers_of}
 use Rattle.sg_ends.proofs.Numbers.{are-within}
 use Rattle.sg_forest.specs.Written.{Written, written_in, rule_by}
@@ -126,7 +126,7 @@ module _ (names : Names) (outlets : List Owner) (rewrites : List (List Call)) (n
       (λ x y is. subst (λ z. StaysBranch (roll-RawBranch z)) is (branch-whole y))
       (λ x y is. subst (λ z. StaysLog (roll-RawLog z)) is (log-whole y))
 
-pub tops-stay : (names : Names) (ends : Ends) (rewrites : List (List Call)) (named : List Expr) (logs : List RawLog)
+pub tops-stay : (names : Names) (ends : Endpoints) (rewrites : List (List Call)) (named : List Expr) (logs : List RawLog)
     → TopsStayWithin (length ends.outlets) (map (top_in names ends rewrites named) logs)
 unfolding top_in
 tops-stay names ends rewrites named [] = tt

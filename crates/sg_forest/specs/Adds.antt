@@ -17,7 +17,7 @@ use Rattle.sg_table.specs.Patterns.{Patterns}
 use Rattle.sg_table.specs.Compiled.{own, choices}
 use Rattle.sg_names.specs.declared.names.Names.{Names}
 use Rattle.sg_ends.specs.declared.owner.Owner.{Owner}
-use Rattle.sg_ends.specs.declared.ends.Ends.{Ends}
+use Rattle.sg_ends.specs.declared.ends.Endpoints.{Endpoints}
 use Rattle.sg_forest.specs.Statements.{line_of, line_in, top_in}
 use Rattle.sg_forest.specs.Steps.{element_steps, branch_steps, log_steps, elements_steps}
 use Rattle.sg_forest.specs.Patterns.{element_patterns, branch_patterns, log_patterns, elements_patterns, branches_patterns, logs_patterns}
@@ -69,14 +69,14 @@ AreLogs names outlets rewrites logs made =
     × (table.siblings_patterns named made ≡ logs_patterns names rewrites named logs)
 
 -- a top-level statement
-pub record IsTop (names : Names) (ends : Ends) (rewrites : List (List Call)) (log : RawLog) (path : Path) : Type 0 where
+pub record IsTop (names : Names) (ends : Endpoints) (rewrites : List (List Call)) (log : RawLog) (path : Path) : Type 0 where
   pub top : (named : List Expr) → top_view named path ≡ top_in names ends rewrites named log
   pub patterns : (named : List Expr)
       → table.path_patterns named path ≡ log_patterns names rewrites named log
   pub line : line_of path ≡ line_in log
 
 -- behind the old statements stand these
-pub record AddsTops (names : Names) (ends : Ends) (rewrites : List (List Call)) (logs : List RawLog) (old new : List Path) : Type 0 where
+pub record AddsTops (names : Names) (ends : Endpoints) (rewrites : List (List Call)) (logs : List RawLog) (old new : List Path) : Type 0 where
   pub tops : (named : List Expr) → map (top_view named) new
       ≡ map (top_view named) old ++ map (top_in names ends rewrites named) logs
   pub patterns : (named : List Expr) → table.siblings_patterns named new

@@ -17,7 +17,7 @@ use Rattle.sg_tree.specs.Readings.{inlet_of}
 use Rattle.sg_tree.specs.Offers.{Top, Woods}
 use Rattle.sg_table.specs.Patterns.{Patterns, filters_patterns}
 use Rattle.sg_names.specs.declared.names.Names.{Names}
-use Rattle.sg_ends.specs.declared.ends.Ends.{Ends}
+use Rattle.sg_ends.specs.declared.ends.Endpoints.{Endpoints}
 use Rattle.sg_options.specs.Settings.{has_word}
 use Rattle.sg_lower.specs.Expressions.{expression}
 use Rattle.sg_forest.specs.Written.{Written, written_in, written_patterns}
@@ -75,7 +75,7 @@ abbrev pub lines_in : List Statement → List Line
 lines_in statements = map line_in (logs_of statements)
 
 -- a top-level log statement: the inlets of the sources among its elements, its flags, and what it does
-unfoldable pub top_in : Names → Ends → List (List Call) → List Expr → RawLog → Top
+unfoldable pub top_in : Names → Endpoints → List (List Call) → List Expr → RawLog → Top
 top_in names ends rewrites named log = record {
   sources = flat_map (source_in ends.inlets) (out-RawLog log).elements;
   catchall = has_word (codes "catchall") (flags_of log);
@@ -83,13 +83,13 @@ top_in names ends rewrites named log = record {
   steps = (log_steps names ends.outlets rewrites named log).1;
 }
 
-abbrev pub tops_in : Names → Ends → List Statement → List Top
+abbrev pub tops_in : Names → Endpoints → List Statement → List Top
 tops_in names ends statements =
     map (top_in names ends (rewrites_of statements) (filters_in names statements))
     (logs_of statements)
 
 -- what all of them mean over these inlets
-abbrev pub woods_in : Names → Ends → List InletRule → List Statement → Woods
+abbrev pub woods_in : Names → Endpoints → List InletRule → List Statement → Woods
 woods_in names ends inlets statements = record {
   inlets = map inlet_of inlets;
   dests = length ends.outlets;

@@ -4,7 +4,7 @@ ghost use Rattle.sg_forest.specs.Forests.{IsForest};
 
 use crate::statement::{calls_by_place, filters_of, rules_of, tops_of};
 use sg_device::NoMemory;
-use sg_ends::Ends;
+use sg_ends::Endpoints;
 use sg_names::Names;
 use sg_parse_text::Statement;
 use sg_tree::{DestRule, Forest, InletRule};
@@ -21,7 +21,7 @@ fn dests_of(alloc: Global, count: usize) -> Result<Vec<DestRule>, NoMemory>
 pub fn forest_of(
     alloc: Global,
     names: &Names,
-    ends: &Ends,
+    ends: &Endpoints,
     inlets: Vec<InletRule>,
     statements: &[Statement],
 ) -> Result<Forest, NoMemory>

@@ -9,7 +9,7 @@ use crate::element::lower_log;
 use crate::rule::{append, push_rules};
 use crate::source::sources_of;
 use sg_device::NoMemory;
-use sg_ends::Ends;
+use sg_ends::Endpoints;
 use sg_filter::Expr;
 use sg_lower::lower_expression;
 use sg_names::Names;
@@ -102,7 +102,7 @@ pub fn rules_of(
 fn lower_top(
     alloc: Global,
     names: &Names,
-    ends: &Ends,
+    ends: &Endpoints,
     rewrites: &[&[Call]],
     log: &RawLog,
 ) -> Result<Path, NoMemory>
@@ -120,7 +120,7 @@ fn lower_top(
 fn push_top(
     alloc: Global,
     names: &Names,
-    ends: &Ends,
+    ends: &Endpoints,
     rewrites: &[&[Call]],
     statement: &Statement,
     found: &mut Vec<Path>,
@@ -144,7 +144,7 @@ fn push_top(
 pub fn tops_of(
     alloc: Global,
     names: &Names,
-    ends: &Ends,
+    ends: &Endpoints,
     rewrites: &[&[Call]],
     statements: &[Statement],
 ) -> Result<Vec<Path>, NoMemory>

@@ -18,7 +18,7 @@ abbrev pub asked_then_brought : (i credit : ℕ) → List Admission → Result (
 asked_then_brought i credit records answer =
     record { call = Credit i; reply = CreditReply credit } ∷ record { call = Admit i records; reply = Admitted answer } ∷ []
 
--- whatever others call in between, a source that brings no more records than it was told isn't refused for want of credit
+-- whatever others call in between, a source that brings no more records than it was told isn't refused for lack of credit
 abbrev pub CreditLasts : Type 0
 CreditLasts =
     (old new : CoreState) (made : List Exchange) (start : State) (before events : List Event)

@@ -21,7 +21,7 @@ pub fn calls_admit()
 {}
 
 /// Between a source's question for its credit and its own next admit others may call; a source that brings no more
-/// records than it was told isn't refused for want of credit.
+/// records than it was told isn't refused for lack of credit.
 pub fn credit_lasts()
     ensures { CreditLasts }
 {}

@@ -11,15 +11,15 @@ use Rattle.sg_host.specs.Ledgers.{LedgerOpens, LedgerRefuses}
 use Rattle.sg_host.specs.Cells.{outlet_states}
 use Rattle.sg_host.specs.declared.outlets.HostDrain.{HostDrain}
 use Rattle.sg_host.specs.declared.outlets.HostOutlets.{HostOutlets}
-use Rattle.sg_host.specs.declared.outlets.Sink.{Sink}
-use Rattle.sg_host.specs.declared.outlets.Sink.TheVariants.{File, Tcp}
+use Rattle.sg_host.specs.declared.outlets.RealOutlet.{RealOutlet}
+use Rattle.sg_host.specs.declared.outlets.RealOutlet.TheVariants.{File, Tcp}
 
-abbrev pub sink_of : Sink → OutletState
-sink_of (File file) = outlet_of file
-sink_of (Tcp tcp) = tcp_of tcp
+abbrev pub real_of : RealOutlet → OutletState
+real_of (File file) = outlet_of file
+real_of (Tcp tcp) = tcp_of tcp
 
 abbrev pub drain_of : HostDrain → OutletState
-drain_of drain = sink_of drain.sink
+drain_of drain = real_of drain.real
 
 -- an outlet at its opening
 abbrev pub opened_outlet : OutletSpec → Opened OutletSpec OutletState

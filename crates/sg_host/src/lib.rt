@@ -12,7 +12,7 @@ mod threads;
 
 pub use cells::{InletCell, OutletCell, PathsCell, StoreCell};
 pub use inlets::{HostFeed, HostInlets, OpenedInlet, Source};
-pub use outlets::{HostDrain, HostOutlets, Sink};
+pub use outlets::{HostDrain, HostOutlets, RealOutlet};
 pub use paths::{HostOpener, HostPaths, PathCounts};
 pub use sg_file::{FileDisk, Rest, read_file};
 pub use stores::{HostStore, HostStores};

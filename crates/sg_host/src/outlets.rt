@@ -2,7 +2,7 @@
 ghost use Rattle.std.specs.Prelude.{◌≡◌, [], IfOk, MatchResult};
 ghost use Rattle.sg_outside.specs.World.{IsByPath, with_closed};
 ghost use Rattle.sg_file.specs.Counts.{outlet_state, new_outlet};
-ghost use Rattle.sg_host.specs.Outlets.{sink_of, drain_of, outlets_of, OutletsOpen, OutletsRefuse};
+ghost use Rattle.sg_host.specs.Outlets.{real_of, drain_of, outlets_of, OutletsOpen, OutletsRefuse};
 
 use crate::cells::{OutletCell, add_outlet, outlet_cell};
 use sg_device::{Frames, OpenRefusal, Outlet, OutletFault, Reopened, SendRefusal};
@@ -13,7 +13,7 @@ use std::alloc::Global;
 
 /// A file, or a connection.
 #[derive(Drop)]
-pub enum Sink {
+pub enum RealOutlet {
     File(FileOutlet),
     Tcp(TcpOutlet),
 }
@@ -21,7 +21,7 @@ pub enum Sink {
 /// An open outlet, with the memory for its closing.
 #[derive(Drop)]
 pub struct HostDrain {
-    sink: Sink,
+    real: RealOutlet,
     cell: Box<OutletCell>,
 }
 
@@ -30,9 +30,9 @@ impl HostDrain {
     pub fn counts(&self) -> OutletCounts
         ensures { outlet_state result ≡ drain_of self.now }
     {
-        match &self.sink {
-            Sink::File(file) => file.counts(),
-            Sink::Tcp(tcp) => tcp.counts(),
+        match &self.real {
+            RealOutlet::File(file) => file.counts(),
+            RealOutlet::Tcp(tcp) => tcp.counts(),
         }
     }
 }
@@ -41,9 +41,9 @@ impl Outlet for HostDrain {
     ghost state = { drain_of };
 
     fn send(&mut self, frames: &Frames) -> Result<(), SendRefusal> {
-        match &mut self.sink {
-            Sink::File(file) => file.send(frames),
-            Sink::Tcp(tcp) => tcp.send(frames),
+        match &mut self.real {
+            RealOutlet::File(file) => file.send(frames),
+            RealOutlet::Tcp(tcp) => tcp.send(frames),
         }
     }
 
@@ -53,9 +53,9 @@ impl Outlet for HostDrain {
     }
 
     fn reopen(&mut self) -> Result<Reopened, OutletFault> {
-        match &mut self.sink {
-            Sink::File(file) => file.reopen(),
-            Sink::Tcp(tcp) => tcp.reopen(),
+        match &mut self.real {
+            RealOutlet::File(file) => file.reopen(),
+            RealOutlet::Tcp(tcp) => tcp.reopen(),
         }
     }
 }
@@ -92,8 +92,8 @@ impl HostOutlets {
             (λ refusal. OutletsRefuse self.old self.new refusal) }
     {
         let cell = outlet_cell(alloc)?;
-        let sink = match self.open_sink(alloc, spec) {
-            Ok(sink) => sink,
+        let real = match self.open_real(alloc, spec) {
+            Ok(real) => real,
             Err(OpenRefusal::NoMemory) => return Err(OpenRefusal::NoMemory),
             Err(OpenRefusal::Failed) => {
                 self.faults = self.faults.saturating_add(1);
@@ -103,11 +103,11 @@ impl HostOutlets {
         if self.opened.push(spec.copy()?).is_err() {
             return Err(OpenRefusal::NoMemory);
         }
-        Ok(HostDrain { sink, cell })
+        Ok(HostDrain { real, cell })
     }
 
-    fn open_sink(&self, alloc: Global, spec: &OutletSpec) -> Result<Sink, OpenRefusal>
-        ensures { IfOk result (λ sink. sink_of sink ≡ new_outlet) }
+    fn open_real(&self, alloc: Global, spec: &OutletSpec) -> Result<RealOutlet, OpenRefusal>
+        ensures { IfOk result (λ real. real_of real ≡ new_outlet) }
     {
         let rest = self.rest.share()?;
         match spec {
@@ -123,11 +123,11 @@ impl HostOutlets {
                     reopen: *reopen,
                 };
                 let file = FileOutlet::open(alloc, self.rt, path.bytes(), how, rest)?;
-                Ok(Sink::File(file))
+                Ok(RealOutlet::File(file))
             }
             OutletSpec::Tcp { host, port, reopen } => {
                 let tcp = TcpOutlet::open(alloc, self.rt, host.bytes(), *port, *reopen, rest)?;
-                Ok(Sink::Tcp(tcp))
+                Ok(RealOutlet::Tcp(tcp))
             }
             OutletSpec::ByPath { .. } => Err(OpenRefusal::Failed),
         }
@@ -138,10 +138,10 @@ impl HostOutlets {
         ensures closed { outlets_of self.new ≡ with_closed (outlets_of self.old) (drain_of drain) }
         ensures faults { self.new.faults ≡ self.old.faults }
     {
-        let HostDrain { sink, cell } = drain;
-        let counts = match sink {
-            Sink::File(file) => file.counts(),
-            Sink::Tcp(tcp) => tcp.into_counts(),
+        let HostDrain { real, cell } = drain;
+        let counts = match real {
+            RealOutlet::File(file) => file.counts(),
+            RealOutlet::Tcp(tcp) => tcp.into_counts(),
         };
         add_outlet(&mut self.closed, cell, counts);
     }

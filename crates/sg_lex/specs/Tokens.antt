@@ -182,7 +182,7 @@ tokens_from file spot zero (b ∷ bytes) =
 abbrev pub tokens_of : ℕ → List ℕ → Lexed
 tokens_of file text = tokens_from file first_spot 0 text
 
--- the answer is that, but for want of memory
+-- the answer is that, but for lack of memory
 abbrev pub IsLexed : Lexed → Result (Vec Token Global) LexFault → Type 0
 IsLexed lexed (Ok tokens) = lexed ≡ Ok tokens.items
 IsLexed lexed (Err (OpenStringAt place)) = lexed ≡ Err (OpenStringAt place)

@@ -9,6 +9,7 @@ use sg_window::Record;
 #[derive(Debug, Drop)]
 pub struct Slip {
     pub inlet: u32,
+    /// The record's number at its inlet, counted from 0.
     pub number: Option<u64>,
     pub flow: bool,
     pub message: Message,
@@ -19,9 +20,11 @@ pub struct Slip {
 #[derive(Debug, Drop)]
 pub struct SourceRun {
     pub setup: SourceSetup,
+    /// A byte offset in what the inlet gives.
     pub stored: u64,
     pub records: Seq<Record>,
     pub acked: usize,
+    /// A byte offset in what the inlet gives.
     pub mark: u64,
 }
 
@@ -32,9 +35,12 @@ pub struct SourceRun {
 pub struct DestRun {
     pub setup: DestSetup,
     pub kept: Seq<Slip>,
+    /// An index in `kept`.
     pub taken: usize,
+    /// An index in `kept`.
     pub moved: usize,
     pub unflowed: usize,
+    /// Bytes.
     pub used: u64,
     pub dropped_full: u64,
     pub dropped_disk: u64,

@@ -112,7 +112,7 @@ fn judge(
     }
 }
 
-// A count of entries that would pass the end of a number is want of memory.
+// A count of entries that would pass the end of a number is lack of memory.
 fn one_more(count: usize) -> Result<usize, AllocError>
     ensures { IfOk result (λ n. n ≡ count + 1) }
 {

@@ -52,7 +52,7 @@ world_of world = record {
   outlets = record { opened = map opened_outlet world.opened_outlets.items; closed = outlet_states world.closed_outlets };
   stores = stores_of world.stores;
   paths = record { opened = map opened_paths world.opened_paths.items; closed = paths_states world.closed_paths };
-  shelf = Some world.stores.names.items;
+  store_names = Some world.stores.names.items;
   said = Some world.said.items;
   read_faults = world.read_faults;
   inlet_faults = world.inlet_faults;
@@ -72,7 +72,7 @@ new_world files = record {
   outlets = record { opened = []; closed = [] };
   stores = record { opened = []; closed = [] };
   paths = record { opened = []; closed = [] };
-  shelf = Some [];
+  store_names = Some [];
   said = Some [];
   read_faults = 0;
   inlet_faults = 0;
@@ -111,7 +111,7 @@ once_of (Slot ip port slot once) = once
 abbrev pub with_inlet : WorldState → OpenedInlet → WorldState
 with_inlet world opened = record world { inlets = with_opened world.inlets opened.spec (opened_state opened) }
 
--- a file can't be read exactly where this says so, but for want of memory
+-- a file can't be read exactly where this says so, but for lack of memory
 abbrev pub ReadFails : Bool → Result (Vec ℕ Global) FileRefusal → Type 0
 ReadFails fails (Ok bytes) = fails ≡ false
 ReadFails fails (Err Failed) = fails ≡ true

@@ -1,4 +1,4 @@
 pub mod Changes
 pub mod Picking
-pub mod Shelves
+pub mod NamedStores
 pub mod Every

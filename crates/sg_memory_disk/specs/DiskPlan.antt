@@ -39,7 +39,7 @@ first_plan (first ∷ plans) plan = plan ≡ first
 abbrev pub with_fault : DiskCalls → DiskCalls
 with_fault calls = record calls { faults = min (calls.faults + 1) (2 ^ 64 - 1) }
 
--- one fault more, by want of memory
+-- one fault more, by lack of memory
 abbrev pub with_starved : DiskCalls → DiskCalls
 with_starved calls = record (with_fault calls) { starved = true }
 

@@ -83,12 +83,12 @@ abbrev pub stores_of : MemoryStores → Ledger StoreSpec DiskState
 stores_of stores = record { opened = map opened_store stores.opened.items; closed = store_states stores.closed }
 
 -- a store of this name is there
-abbrev pub is_shelved : List (List ℕ) → List ℕ → Bool
-is_shelved names name = list_any (λ listed. bytes_eq listed name) names
+abbrev pub is_named : List (List ℕ) → List ℕ → Bool
+is_named names name = list_any (λ listed. bytes_eq listed name) names
 
 -- how the store that is opened was closed, where it is there and was closed
 abbrev pub found : MemoryStores → StoreSpec → Option DiskState
-found stores spec = if is_shelved stores.names.items spec.name then latest_state stores.closed spec.name else None
+found stores spec = if is_named stores.names.items spec.name then latest_state stores.closed spec.name else None
 
 -- the state of a store at its opening: as it was closed last, else of 128 zero bytes
 abbrev pub at_opening : MemoryStores → StoreSpec → DiskState
@@ -121,7 +121,7 @@ Begins old new spec there disk (Err e) = (stores_of new ≡ stores_of old) × (n
 -- An opening fails where the plan says so, where a store is missing that isn't to be made, and where one is open.
 abbrev pub is_refused : MemoryStores → StoreSpec → Bool
 is_refused stores spec = fails_now stores.opens
-    || (is_none (found stores spec) && (is_shelved stores.names.items spec.name || not spec.create))
+    || (is_none (found stores spec) && (is_named stores.names.items spec.name || not spec.create))
 
 abbrev pub OpensAsPlanned : MemoryStores → StoreSpec → Result MemoryStore OpenRefusal → Type 0
 OpensAsPlanned old spec (Ok store) = is_refused old spec ≡ false

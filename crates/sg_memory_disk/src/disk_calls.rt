@@ -52,7 +52,7 @@ impl DiskCalls {
         self.faults = self.faults.saturating_add(1);
     }
 
-    /// Counts a fault that want of memory brought.
+    /// Counts a fault that lack of memory brought.
     pub fn starve(&mut self)
         ensures counted { self.new ≡ with_starved self.old }
         ensures rose { Rose self.old.faults self.new.faults }

@@ -1,11 +1,11 @@
 // The stores that a machine in memory opens and closes.
 ghost use Rattle.std.specs.Prelude.{◌≡◌, ◌≤◌, None, if◌then◌else◌, ◌++◌, ◌∷◌, [], replicate, vec_len, vec_capacity, IfOk, OnErr, OnOk, MatchResult};
 ghost use Rattle.std.specs.Option.{option_map};
-ghost use Rattle.sg_outside.specs.World.{with_closed, IsShelved};
+ghost use Rattle.sg_outside.specs.World.{with_closed, IsStoreNamed};
 ghost use Rattle.sg_memory_disk.specs.DiskPlan.{IsDiskQuiet, AreDisksQuiet, first_plan};
 ghost use Rattle.sg_memory_disk.specs.MemoryDisk.{disk_of, fresh_disk};
 ghost use Rattle.sg_memory_disk.specs.Plan.{IsQuiet, after_call};
-ghost use Rattle.sg_memory_disk.specs.Stores.{store_of, stores_of, store_states, latest, latest_state, is_shelved, some_starved, any_starved, StoresOpen, StoresRefuse, OpensAsPlanned, Begins};
+ghost use Rattle.sg_memory_disk.specs.Stores.{store_of, stores_of, store_states, latest, latest_state, is_named, some_starved, any_starved, StoresOpen, StoresRefuse, OpensAsPlanned, Begins};
 
 use crate::disk_plan::take_plan;
 use crate::{DiskPlan, MemoryDisk, Plan};
@@ -84,7 +84,7 @@ impl MemoryStores {
     /// None is there yet, and no call fails.
     pub fn new(alloc: Global) -> MemoryStores
         ensures none { stores_of result ≡ record { opened = []; closed = [] } }
-        ensures shelf { result.names.items ≡ [] }
+        ensures store_names { result.names.items ≡ [] }
         ensures faults { result.faults ≡ 0 }
         ensures opens { IsQuiet result.opens }
         ensures plans { AreDisksQuiet result.plans.items }
@@ -95,7 +95,7 @@ impl MemoryStores {
     /// None is there yet, and these calls fail.
     pub fn failing(alloc: Global, opens: Plan, plans: VecDeque<DiskPlan>) -> MemoryStores
         ensures none { stores_of result ≡ record { opened = []; closed = [] } }
-        ensures shelf { result.names.items ≡ [] }
+        ensures store_names { result.names.items ≡ [] }
         ensures faults { result.faults ≡ 0 }
         ensures opens { result.opens ≡ opens }
         ensures plans { result.plans ≡ plans }
@@ -114,7 +114,7 @@ impl MemoryStores {
     pub fn put(&mut self, alloc: Global, name: &[u8], disk: MemoryDisk) -> Result<(), NoMemory>
         ensures closed { OnOk result
             (stores_of self.new ≡ with_closed (stores_of self.old) (disk_of disk)) }
-        ensures shelf { OnOk result (self.new.names.items ≡ name.now ∷ self.old.names.items) }
+        ensures store_names { OnOk result (self.new.names.items ≡ name.now ∷ self.old.names.items) }
         ensures err { OnErr result ((stores_of self.new ≡ stores_of self.old)
             × (self.new.names.items ≡ self.old.names.items)) }
         ensures faults { self.new.faults ≡ self.old.faults }
@@ -135,7 +135,7 @@ impl MemoryStores {
         ensures opened { MatchResult result
             (λ store. StoresOpen self.old self.new spec.now (store_of store))
             (λ refusal. StoresRefuse self.old self.new refusal) }
-        ensures shelf { IfOk result (λ store. IsShelved self.old.names.items spec.now
+        ensures store_names { IfOk result (λ store. IsStoreNamed self.old.names.items spec.now
             (store_of store) self.new.names.items) }
         ensures fails { OpensAsPlanned self.old spec.now result }
         ensures opens { self.new.opens ≡ after_call self.old.opens }
@@ -203,7 +203,7 @@ impl MemoryStores {
     /// Closes a store. It takes no memory.
     pub fn close(&mut self, store: MemoryStore)
         ensures closed { stores_of self.new ≡ with_closed (stores_of self.old) (store_of store) }
-        ensures shelf { self.new.names ≡ self.old.names }
+        ensures store_names { self.new.names ≡ self.old.names }
         ensures faults { self.new.faults ≡ self.old.faults }
         ensures opens { self.new.opens ≡ self.old.opens }
         ensures plans { self.new.plans ≡ self.old.plans }
@@ -259,7 +259,7 @@ fn add_store(last: &mut Option<Box<StoreCell>>, mut cell: Box<StoreCell>, store:
 
 // Whether a store of this name is there.
 fn is_there(names: &[Name], name: &[u8]) -> bool
-    ensures { result ≡ is_shelved names.now name.now }
+    ensures { result ≡ is_named names.now name.now }
 {
     for listed in names {
         if listed.bytes() == name {

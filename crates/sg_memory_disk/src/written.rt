@@ -4,6 +4,7 @@ ghost use Rattle.std.specs.Prelude.{◌+◌, ◌<◌, ◌≤◌, ◌^◌, length
 /// Bytes that were written at a place.
 #[derive(Debug, Drop)]
 pub struct Written {
+    /// A byte offset.
     pub at: u64,
     pub bytes: Vec<u8>,
     ghost short: { at + length bytes.items < 2 ^ 63 },
@@ -12,7 +13,9 @@ pub struct Written {
 /// A write of so many bytes at a place that failed, and the bytes that stand there since.
 #[derive(Debug, Drop)]
 pub struct TornWrite {
+    /// A byte offset.
     pub at: u64,
+    /// Bytes.
     pub size: u64,
     pub bytes: Vec<u8>,
     ghost short: { at + size < 2 ^ 63 },

@@ -46,7 +46,7 @@ pub record WorldState : Type 0 where
   -- openers of files by paths
   pub paths : Ledger OutletSpec PathsState
   -- the names of the stores that are there, where the machine tells them
-  pub shelf : Option (List (List ℕ))
+  pub store_names : Option (List (List ℕ))
   -- the bytes said, where the machine tells them
   pub said : Option (List ℕ)
   -- the counts of faults: of readings, of openings by kind, of saying, and of patterns refused as too large
@@ -151,23 +151,23 @@ OutletRefused old new OpenNoMemory = (new ≡ record old { outlet_faults = new.o
     × (old.outlet_faults ≤ new.outlet_faults)
 
 -- A store of this name is there; or it was made, as 128 stable zero bytes.
-abbrev pub IsShelved : List (List ℕ) → StoreSpec → DiskState → List (List ℕ) → Type 0
-IsShelved names spec store after =
+abbrev pub IsStoreNamed : List (List ℕ) → StoreSpec → DiskState → List (List ℕ) → Type 0
+IsStoreNamed names spec store after =
     (Contains names spec.name × (after ≡ names))
     ⊎ ((spec.create ≡ true) × IfSome store.told (λ log. log ≡ fresh_log (replicate 128 0))
     × (after ≡ spec.name ∷ names))
 
 -- the same, where the machine tells its stores
-abbrev pub StandsShelved : Option (List (List ℕ)) → StoreSpec → DiskState → Option (List (List ℕ))
+abbrev pub StandsNamed : Option (List (List ℕ)) → StoreSpec → DiskState → Option (List (List ℕ))
     → Type 0
-StandsShelved None spec store after = after ≡ None
-StandsShelved (Some names) spec store None = ⊥
-StandsShelved (Some names) spec store (Some after) = IsShelved names spec store after
+StandsNamed None spec store after = after ≡ None
+StandsNamed (Some names) spec store None = ⊥
+StandsNamed (Some names) spec store (Some after) = IsStoreNamed names spec store after
 
 abbrev pub StoreOpens : WorldState → WorldState → StoreSpec → DiskState → Type 0
 StoreOpens old new spec store = (new ≡ record old
-    { store_faults = new.store_faults; shelf = new.shelf; stores = with_opened old.stores spec store })
-    × (old.store_faults ≤ new.store_faults) × StandsShelved old.shelf spec store new.shelf
+    { store_faults = new.store_faults; store_names = new.store_names; stores = with_opened old.stores spec store })
+    × (old.store_faults ≤ new.store_faults) × StandsNamed old.store_names spec store new.store_names
 
 abbrev pub StoreRefused : WorldState → WorldState → OpenRefusal → Type 0
 StoreRefused old new OpenFailed = (new ≡ record old { store_faults = new.store_faults })

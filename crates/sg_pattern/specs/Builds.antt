@@ -24,7 +24,7 @@ refusing_machine count = record {
   outlets = record { opened = []; closed = [] };
   stores = record { opened = []; closed = [] };
   paths = record { opened = []; closed = [] };
-  shelf = None;
+  store_names = None;
   said = None;
   read_faults = 0;
   inlet_faults = 0;

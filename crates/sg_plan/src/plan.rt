@@ -11,7 +11,7 @@ use crate::drivers::read_drivers;
 use crate::globals::globals_of;
 use sg_destination::{DestinationDriver, OutletPlan};
 use sg_device::NoMemory;
-use sg_ends::{Ends, Owner};
+use sg_ends::{Endpoints, Owner};
 use sg_list::Seq;
 use sg_machine::{DestSetup, Setup, SourceSetup};
 use sg_outside::StoreSpec;
@@ -25,7 +25,7 @@ use std::collections::VecDeque;
 #[derive(Drop)]
 pub struct Plan {
     /// The statement of each inlet and of each driver of a destination.
-    pub ends: Ends,
+    pub ends: Endpoints,
     /// The drivers of sources. An inlet's `driver` is a place here.
     pub sources: Vec<SourceDriver>,
     /// The window and the store of each inlet, the queue and the disk-buffer of each driver of a destination.
@@ -40,7 +40,7 @@ fn no_parts(alloc: Global) -> Plan
     ensures { parts_of result ≡ no_parts }
 {
     Plan {
-        ends: Ends {
+        ends: Endpoints {
             inlets: Seq::empty(alloc),
             outlets: Seq::empty(alloc),
         },

@@ -49,7 +49,7 @@ use Rattle.sg_serve.specs.Rewinds.{position_at}
 use Rattle.sg_serve.specs.Run.{CoreRun, Reached, HoldsRun, IsServed, Holds}
 use Rattle.sg_serve.specs.declared.counts.Counts.{Counts}
 use Rattle.sg_serve.specs.declared.counts.Fault.TheVariants.{Sink, Disk, Inlet as InletFault}
-use Rattle.sg_serve.specs.declared.ending.Ending.TheVariants.{Ran}
+use Rattle.sg_serve.specs.declared.ending.PlanEnded.TheVariants.{Ran}
 use Rattle.sg_serve.specs.declared.plan.RunPlan.{RunPlan}
 use Rattle.sg_quiet.specs.Resting.{brought_by}
 use Rattle.sg_quiet.specs.Ending.{IsEnded, Ends, CleanRunsEnd}
@@ -189,7 +189,7 @@ module _ {R I O : Type 0} (feed : I → InletState) (drain : O → OutletState) 
             let wrong : ⊥ = omega (arith, some, no, credit) in
             wrong)
         | inr done ↦ elim done.0 [
-          | inl ended ↦ record { ended = ended.0; whole = done.1; drained = ended.1 }
+          | inl ended ↦ record { ended = ended.0; whole = done.1; nothing_left = ended.1 }
           | inr failed ↦ absurd (unmarked 0 i marks unnumbered (facts.is ∙ ap Some failed))
         ]
       ]

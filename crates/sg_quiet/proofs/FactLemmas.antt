@@ -20,7 +20,7 @@ use Rattle.sg_stores.proofs.GetLemmas.{get-map}
 use Rattle.sg_standing.specs.States.{setup_of}
 use Rattle.sg_core.specs.Calls.{Serves}
 use Rattle.sg_actor.specs.Bringing.{admitted_in, stores_in, HasRefusal}
-use Rattle.sg_actor.specs.Sources.{AreOf, HasRead, IsDrained}
+use Rattle.sg_actor.specs.Sources.{AreOf, HasRead, HasNothingLeft}
 use Rattle.sg_actor.specs.Steps.{IsOver}
 use Rattle.sg_actor.specs.SourceTurns.{ActorState, actor, IsNewSource}
 use Rattle.sg_actor.specs.DestTurns.{IsShownEmpty}
@@ -63,7 +63,7 @@ pub record SourceFacts (offers : ℕ → Record → List Offer → Type 0) (inle
   pub is : slice_get marks i ≡ Some failed
   pub rose : failed ≡ true → Rose opened.faults closed.faults
   pub unsent : NoneSentBack i made
-  pub over : HasRefusal (calls_by (OfSource i) last) ⊎ ((((closed.ended ≡ true) × (inlet.kind ≡ Lines → IsDrained closed)) ⊎ (failed ≡ true)) × IsWhole offers inlet setup.store i closed (brought_by i made))
+  pub over : HasRefusal (calls_by (OfSource i) last) ⊎ ((((closed.ended ≡ true) × (inlet.kind ≡ Lines → HasNothingLeft closed)) ⊎ (failed ≡ true)) × IsWhole offers inlet setup.store i closed (brought_by i made))
   pub stored : (u : ℕ) → setup.store ≡ Some u → HasFailure (calls_by (OfSource i) made) ⊎ (stores_in (calls_by (OfSource i) last) ≡ Unchanged ∷ [])
 
 -- Of a destination: whether it is given up for its outlet, as these marks tell; and what it was told of its store and its entries.

@@ -43,7 +43,7 @@ use Rattle.sg_serve.specs.Counts.{numbers_from}
 use Rattle.sg_serve.specs.Rewinds.{position_at, rewinds_at, rewinds_from, places_of}
 use Rattle.sg_serve.specs.Run.{CoreRun, Reached, RoseAt, HoldsCore, HoldsRun, IsServed, Holds}
 use Rattle.sg_serve.specs.declared.counts.Counts.{Counts}
-use Rattle.sg_serve.specs.declared.ending.Ending.TheVariants.{Ran}
+use Rattle.sg_serve.specs.declared.ending.PlanEnded.TheVariants.{Ran}
 use Rattle.sg_serve.specs.declared.plan.RunPlan.{RunPlan}
 use Rattle.sg_quiet.specs.Failing.{IsUsed, AreUsed, FailedStoresCount}
 use Rattle.sg_quiet.proofs.StepLemmas.{RoseOf, rose-wide, went-all}

@@ -20,7 +20,7 @@ use Rattle.sg_turns.specs.declared.ended.Ended.TheVariants.{Quiet}
 use Rattle.sg_serve.specs.Plan.{IsRunnable}
 use Rattle.sg_serve.specs.Run.{CoreRun, Reached, HoldsRun, IsServed, Holds}
 use Rattle.sg_serve.specs.declared.counts.Counts.{Counts}
-use Rattle.sg_serve.specs.declared.ending.Ending.TheVariants.{Ran}
+use Rattle.sg_serve.specs.declared.ending.PlanEnded.TheVariants.{Ran}
 use Rattle.sg_serve.specs.declared.plan.RunPlan.{RunPlan}
 use Rattle.sg_quiet.specs.Resting.{SourceRests, Rests, QuietRunsRest}
 use Rattle.sg_quiet.proofs.CalmLemmas.{with_failed}

@@ -18,7 +18,7 @@ use Rattle.sg_counter.specs.Exchanges.{Exchange, Makes}
 use Rattle.sg_standing.specs.Standing.{IsAt}
 use Rattle.sg_core.specs.Calls.{Serves}
 use Rattle.sg_actor.specs.Bringing.{last_end}
-use Rattle.sg_actor.specs.Sources.{IsDrained}
+use Rattle.sg_actor.specs.Sources.{HasNothingLeft}
 use Rattle.sg_source.specs.declared.inlet.InletPlan.{InletPlan}
 use Rattle.sg_turns.specs.declared.ended.Ended.TheVariants.{Quiet}
 use Rattle.sg_serve.specs.Counts.{first_fault}
@@ -26,7 +26,7 @@ use Rattle.sg_serve.specs.Plan.{IsRunnable}
 use Rattle.sg_serve.specs.Rewinds.{position_at}
 use Rattle.sg_serve.specs.Run.{CoreRun, Reached, RunsWith}
 use Rattle.sg_serve.specs.declared.counts.Counts.{Counts}
-use Rattle.sg_serve.specs.declared.ending.Ending.TheVariants.{Ran}
+use Rattle.sg_serve.specs.declared.ending.PlanEnded.TheVariants.{Ran}
 use Rattle.sg_serve.specs.declared.plan.RunPlan.{RunPlan}
 use Rattle.sg_quiet.specs.Resting.{brought_by, IsWhole}
 
@@ -34,7 +34,7 @@ use Rattle.sg_quiet.specs.Resting.{brought_by, IsWhole}
 pub record IsEnded (offers : ℕ → Record → List Offer → Type 0) (plan : InletPlan) (setup : SourceSetup) (i : ℕ) (closed : InletState) (made : List Exchange) : Type 0 where
   pub ended : closed.ended ≡ true
   pub whole : IsWhole offers plan setup.store i closed (brought_by i made)
-  pub drained : plan.kind ≡ Lines → IsDrained closed
+  pub nothing_left : plan.kind ≡ Lines → HasNothingLeft closed
 
 -- these calls were made in the rounds, and leave this
 pub record Ends {R : Type 0} (offers : R → ℕ → Record → List Offer → Type 0) (plan : RunPlan) (routers : List R) (reached : Reached) (run : CoreRun) (made : List Exchange) : Type 0 where

@@ -32,7 +32,7 @@ change_of (GroupUnset globs) = change.GroupUnset globs.items
 change_of (SetTag tag) = change.SetTag tag
 change_of (ClearTag tag) = change.ClearTag tag
 
--- why none was made: for its pattern, or for want of memory
+-- why none was made: for its pattern, or for lack of memory
 abbrev pub RefusesOp : WorldState → WorldState → Op → BuildRefusal → Type 0
 RefusesOp old new (Set name text) refusal = refusal ≡ NoMemory
 RefusesOp old new (Unset name) refusal = refusal ≡ NoMemory

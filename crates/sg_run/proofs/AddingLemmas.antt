@@ -16,8 +16,8 @@ use Rattle.sg_serve.specs.declared.counts.Fault.{Fault}
 use Rattle.sg_serve.specs.declared.counts.Fault.TheVariants.{Sink, Disk, Inlet}
 use Rattle.sg_serve.specs.declared.ending.Early.{Early}
 use Rattle.sg_serve.specs.declared.ending.Early.TheVariants as early
-use Rattle.sg_serve.specs.declared.ending.Ending.{Ending}
-use Rattle.sg_serve.specs.declared.ending.Ending.TheVariants.{Before, Ran}
+use Rattle.sg_serve.specs.declared.ending.PlanEnded.{PlanEnded}
+use Rattle.sg_serve.specs.declared.ending.PlanEnded.TheVariants.{Before, Ran}
 use Rattle.sg_serve.specs.declared.plan.RunPlan.{RunPlan}
 use Rattle.sg_turns.specs.declared.ended.Ended.{Ended}
 use Rattle.sg_turns.specs.declared.ended.Ended.TheVariants.{Quiet, RoundsSpent as Spent, NoMemory}
@@ -48,7 +48,7 @@ early-unclean (early.DiskFault s) end h q = let wrong : DiskFault s ≡ Clean = 
 early-unclean early.NoMemory end h q = let wrong : None ≡ Some end = h in cc
 
 -- it ended quietly, with nothing counted as failed
-record EndsWellBy (ending : Ending) : Type 0 where
+record EndsWellBy (ending : PlanEnded) : Type 0 where
   counts : Counts
   ending_is : ending ≡ Ran Quiet (Some counts)
   well : first_fault counts.sinks counts.stores counts.inlets ≡ None
@@ -58,7 +58,7 @@ ran-clean Quiet counts end h q = let fault = first_fault counts.sinks counts.sto
 ran-clean Spent counts end h q = absurd (let wrong : RoundsSpent ≡ Clean = some-same RoundsSpent end h ∙ q in cc)
 ran-clean NoMemory counts end h q = absurd (let wrong : None ≡ Some end = h in cc)
 
-ends-well : (plan : RunPlan) (ending : Ending) (result : Result Outcome Unloaded) → Tells plan ending result → IsClean result → EndsWellBy ending
+ends-well : (plan : RunPlan) (ending : PlanEnded) (result : Result Outcome Unloaded) → Tells plan ending result → IsClean result → EndsWellBy ending
 ends-well plan (Before e) (Ok outcome) tells clean = absurd (early-unclean e outcome.end tells.0 clean)
 ends-well plan (Ran ended None) (Ok outcome) tells clean = absurd tells
 ends-well plan (Ran ended (Some counts)) (Ok outcome) tells clean = ran-clean ended counts outcome.end tells.0 clean

@@ -18,8 +18,8 @@ use Rattle.sg_serve.specs.declared.counts.Counts.{Counts}
 use Rattle.sg_serve.specs.declared.ending.Device.TheVariants.{Store, Inlet, Dest}
 use Rattle.sg_serve.specs.declared.ending.Early.{Early}
 use Rattle.sg_serve.specs.declared.ending.Early.TheVariants as early
-use Rattle.sg_serve.specs.declared.ending.Ending.{Ending}
-use Rattle.sg_serve.specs.declared.ending.Ending.TheVariants.{Before, Ran}
+use Rattle.sg_serve.specs.declared.ending.PlanEnded.{PlanEnded}
+use Rattle.sg_serve.specs.declared.ending.PlanEnded.TheVariants.{Before, Ran}
 use Rattle.sg_serve.specs.declared.plan.RunPlan.{RunPlan}
 use Rattle.sg_turns.specs.declared.ended.Ended.TheVariants.{Quiet, RoundsSpent as Spent, NoMemory as Starved}
 use Rattle.sg_bounded.specs.Bounds.{given_rounds, IsFew}
@@ -94,7 +94,7 @@ module _ (old new : WorldState) (plan : RunPlan) (recovered offered rounds : ℕ
       let none = none-failed counts.sinks counts.stores counts.inlets (λ k d h. no-sink d (due.sinks k d h)) (λ k s h. well.stores s (due.stores k s h)) (λ k i h. no-inlet i (due.inlets k i h)) in
       sym (some-same (quiet_end (first_fault counts.sinks counts.stores counts.inlets)) end is) ∙ ap quiet_end none
 
-  clean-of : (ending : Ending) (drivers : List ℕ) (files : List Bool) (outcome : Outcome) → HasEnding old new plan reached ending → AreDue plan reached ending → IsFew recovered offered rounds reached ending
+  clean-of : (ending : PlanEnded) (drivers : List ℕ) (files : List Bool) (outcome : Outcome) → HasEnding old new plan reached ending → AreDue plan reached ending → IsFew recovered offered rounds reached ending
       → 4 * given_rounds recovered offered reached ≤ rounds → EndsBy drivers files ending (Some outcome) → outcome.end ≡ Clean
   clean-of (Before early) drivers files outcome cause due few enough ends = absurd (begins early outcome.end cause ends.0)
   clean-of (Ran Quiet None) drivers files outcome cause due few enough ends = absurd ends
@@ -109,7 +109,7 @@ module _ (old new : WorldState) (plan : RunPlan) (recovered offered rounds : ℕ
 
 -- The end that is told is the clean one: before the rounds each refusal has its cause, the rounds of an untroubled run aren't spent, and
 -- behind a quiet one what is told to have failed has failed.
-pub completes-by : (old new : WorldState) (plan : RunPlan) (recovered offered rounds : ℕ) (ending : Ending) (reached : Reached) (result : Result Outcome Unloaded) → HasEnding old new plan reached ending → AreDue plan reached ending
+pub completes-by : (old new : WorldState) (plan : RunPlan) (recovered offered rounds : ℕ) (ending : PlanEnded) (reached : Reached) (result : Result Outcome Unloaded) → HasEnding old new plan reached ending → AreDue plan reached ending
     → IsFew recovered offered rounds reached ending → Tells plan ending result → Completes old new plan recovered offered rounds reached result
 completes-by old new plan recovered offered rounds ending reached (Ok outcome) cause due few tells well enough =
     clean-of old new plan recovered offered rounds reached well ending (drivers_in plan.inlets.items) (files_in plan.setup.sources) outcome cause due few enough tells

@@ -26,8 +26,8 @@ use Rattle.sg_serve.specs.Counts.{gave_up_outlet, numbers_from}
 use Rattle.sg_serve.specs.Plan.{IsRunnable}
 use Rattle.sg_serve.specs.Run.{CoreRun, Reached, Holds, IsServed, RunsWith}
 use Rattle.sg_serve.specs.declared.counts.Counts.{Counts}
-use Rattle.sg_serve.specs.declared.ending.Ending.{Ending}
-use Rattle.sg_serve.specs.declared.ending.Ending.TheVariants.{Before, Ran}
+use Rattle.sg_serve.specs.declared.ending.PlanEnded.{PlanEnded}
+use Rattle.sg_serve.specs.declared.ending.PlanEnded.TheVariants.{Before, Ran}
 use Rattle.sg_serve.specs.declared.plan.RunPlan.{RunPlan}
 use Rattle.sg_delivered.proofs.PreludeLemmas.{get-back}
 use Rattle.sg_quiet.specs.Failing.{AreUsed, FailedStoresCount}
@@ -141,7 +141,7 @@ module _ {R I O : Type 0} (feed : I → InletState) (drain : O → OutletState) 
     inlets = inlet-due feed drain offers inlets dests plan routers rounds reached run ended counts runnable served;
   }
 
-  pub due-by : (ending : Ending) → RunsWith feed drain offers inlets dests old new plan routers rounds ending reached → AreDue plan reached ending
+  pub due-by : (ending : PlanEnded) → RunsWith feed drain offers inlets dests old new plan routers rounds ending reached → AreDue plan reached ending
   due-by (Before early) runs = tt
   due-by (Ran ended None) runs = tt
   due-by (Ran ended (Some counts)) runs = due-served ended counts reached.core runs.holds runs

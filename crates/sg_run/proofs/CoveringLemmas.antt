@@ -12,8 +12,8 @@ use Rattle.sg_pipes.specs.declared.pipes.Pipes.{Pipes}
 use Rattle.sg_config.specs.declared.config.Config.{Config}
 use Rattle.sg_serve.specs.Plan.{IsRunnable}
 use Rattle.sg_serve.specs.Run.{CoreRun, Reached, RunsWith}
-use Rattle.sg_serve.specs.declared.ending.Ending.{Ending}
-use Rattle.sg_serve.specs.declared.ending.Ending.TheVariants.{Before, Ran}
+use Rattle.sg_serve.specs.declared.ending.PlanEnded.{PlanEnded}
+use Rattle.sg_serve.specs.declared.ending.PlanEnded.TheVariants.{Before, Ran}
 use Rattle.sg_serve.specs.declared.plan.RunPlan.{RunPlan}
 use Rattle.sg_turns.specs.declared.ended.Ended.TheVariants.{Quiet, RoundsSpent as Spent, NoMemory}
 use Rattle.sg_delivered.proofs.PreludeLemmas.{get-back}
@@ -39,7 +39,7 @@ same-offers config routers by are others pass given (router, (at, says)) =
 module _ {R I O : Type 0} (feed : I → InletState) (drain : O → OutletState) (offers : R → ℕ → Record → List Offer → Type 0) (inlets dests : R → ℕ) (old new : WorldState) (plan : RunPlan) (routers by : List R) (rounds : ℕ) (reached : Reached) (can : IsRunnable plan)
     (of_files : AreOfFiles plan) (lines : AreLines plan) (same : (pass : Pass) (given : List Offer) → offers_in offers routers pass given → offers_in offers by pass given) (happen : PlanRunsHappen feed drain offers inlets dests)
     (cover : PlanRunsCover feed drain offers inlets dests) (clean : PlanRunsEndClean feed drain offers inlets dests) (rest : PlanRunsRest feed drain offers inlets dests) where
-  clean-by : (ending : Ending) (run : CoreRun) (bytes : ℕ → List ℕ) (taken : List Taken) (passes : List Pass) (places : ℕ → ℕ) → RunsWith feed drain offers inlets dests old new plan routers rounds ending reached → reached.core ≡ Some run → AllTell reached.stores
+  clean-by : (ending : PlanEnded) (run : CoreRun) (bytes : ℕ → List ℕ) (taken : List Taken) (passes : List Pass) (places : ℕ → ℕ) → RunsWith feed drain offers inlets dests old new plan routers rounds ending reached → reached.core ≡ Some run → AllTell reached.stores
       → TellFiles old.files plan reached.inlets bytes → EachChoice plan.setup reached.stores (Covered plan.setup (offers_in offers by) (files_of plan.inlets.items bytes) taken passes places) → CleanSo plan reached ending bytes
   clean-by (Before early) run bytes taken passes places runs core told tell before = tt
   clean-by (Ran Quiet None) run bytes taken passes places runs core told tell before = tt
@@ -48,7 +48,7 @@ module _ {R I O : Type 0} (feed : I → InletState) (drain : O → OutletState) 
   clean-by (Ran Spent counts) run bytes taken passes places runs core told tell before = tt
   clean-by (Ran NoMemory counts) run bytes taken passes places runs core told tell before = tt
 
-  pub covers-by : (ending : Ending) → RunsWith feed drain offers inlets dests old new plan routers rounds ending reached → Covers offers old.files plan by reached ending
+  pub covers-by : (ending : PlanEnded) → RunsWith feed drain offers inlets dests old new plan routers rounds ending reached → Covers offers old.files plan by reached ending
   covers-by ending runs = record {
     unopened = λ bytes taken passes places none before. rest old new plan routers by rounds ending reached bytes taken passes places can runs none before;
     happened = λ run core. happened-too (offers_in offers routers) (offers_in offers by) same old.files plan reached run (happen old new plan routers rounds ending reached run can of_files runs core);

@@ -23,8 +23,8 @@ use Rattle.sg_turns.specs.declared.ended.Ended.{Ended}
 use Rattle.sg_serve.specs.Plan.{IsRunnable}
 use Rattle.sg_serve.specs.Run.{CoreRun, Reached, Holds, IsServed}
 use Rattle.sg_serve.specs.declared.counts.Counts.{Counts}
-use Rattle.sg_serve.specs.declared.ending.Ending.{Ending}
-use Rattle.sg_serve.specs.declared.ending.Ending.TheVariants.{Before, Ran}
+use Rattle.sg_serve.specs.declared.ending.PlanEnded.{PlanEnded}
+use Rattle.sg_serve.specs.declared.ending.PlanEnded.TheVariants.{Before, Ran}
 use Rattle.sg_serve.specs.declared.plan.RunPlan.{RunPlan}
 use Rattle.sg_delivered.specs.Headline.{Headline, Delivers}
 use Rattle.sg_config.specs.declared.config.Config.{Config}
@@ -71,7 +71,7 @@ lines-of {R} {I} feed drain offers inlets dests plan routers rounds reached run 
     }
 
 lines-by : {R I O : Type 0} (feed : I → InletState) (drain : O → OutletState) (offers : R → ℕ → Record → List Offer → Type 0) (inlets dests : R → ℕ) (files : Option Files) (plan : RunPlan) (routers : List R) (rounds : ℕ) (reached : Reached)
-    (core : Option CoreRun) (ending : Ending) (lines : Lines) → IsRunnable plan → length lines.drivers ≡ length plan.inlets.items → length lines.files ≡ length plan.setup.sources
+    (core : Option CoreRun) (ending : PlanEnded) (lines : Lines) → IsRunnable plan → length lines.drivers ≡ length plan.inlets.items → length lines.files ≡ length plan.setup.sources
     → Holds feed drain offers inlets dests files plan routers rounds reached core ending → Delivers offers plan routers reached core → HasLinesAt lines ending
 lines-by feed drain offers inlets dests files plan routers rounds reached None (Before early) lines runnable drivers has_files holds h = tt
 lines-by feed drain offers inlets dests files plan routers rounds reached None (Ran ended counts) lines runnable drivers has_files holds h = absurd holds
@@ -81,7 +81,7 @@ lines-by feed drain offers inlets dests files plan routers rounds reached (Some 
     lines-of feed drain offers inlets dests plan routers rounds reached run ended counts lines runnable drivers has_files served h
 
 pub lines-at : {R I O : Type 0} (feed : I → InletState) (drain : O → OutletState) (offers : R → ℕ → Record → List Offer → Type 0) (inlets dests : R → ℕ) (files : Option Files) (config : Config) (once : Bool) (routers : List R) (rounds : ℕ) (reached : Reached)
-    (ending : Ending) (lines : Lines) → IsRunnable (planned config once) → AreLines config lines → Holds feed drain offers inlets dests files (planned config once) routers rounds reached reached.core ending
+    (ending : PlanEnded) (lines : Lines) → IsRunnable (planned config once) → AreLines config lines → Holds feed drain offers inlets dests files (planned config once) routers rounds reached reached.core ending
     → Delivers offers (planned config once) routers reached reached.core → HasLinesAt lines ending
 lines-at feed drain offers inlets dests files config once routers rounds reached ending lines runnable are holds h =
     lines-by feed drain offers inlets dests files (planned config once) routers rounds reached reached.core ending lines runnable

@@ -7,8 +7,8 @@ use Rattle.sg_msg.specs.declared.offer.Offer.{Offer}
 use Rattle.sg_frame.specs.Records.{Record}
 use Rattle.sg_serve.specs.Plan.{IsRunnable}
 use Rattle.sg_serve.specs.Run.{Reached, RunsWith}
-use Rattle.sg_serve.specs.declared.ending.Ending.{Ending}
-use Rattle.sg_serve.specs.declared.ending.Ending.TheVariants.{Before, Ran}
+use Rattle.sg_serve.specs.declared.ending.PlanEnded.{PlanEnded}
+use Rattle.sg_serve.specs.declared.ending.PlanEnded.TheVariants.{Before, Ran}
 use Rattle.sg_serve.specs.declared.plan.RunPlan.{RunPlan}
 use Rattle.sg_turns.specs.declared.ended.Ended.TheVariants.{Quiet, RoundsSpent as Spent, NoMemory}
 use Rattle.sg_quiet.specs.Resting.{QuietRunsRest}
@@ -17,7 +17,7 @@ use Rattle.sg_run.specs.Resting.{RestsSo}
 
 module _ {R I O : Type 0} (feed : I → InletState) (drain : O → OutletState) (offers : R → ℕ → Record → List Offer → Type 0) (inlets dests : R → ℕ) (old new : WorldState) (plan : RunPlan) (routers : List R) (rounds : ℕ) (reached : Reached)
     (runnable : IsRunnable plan) (quiet : QuietRunsRest feed drain offers inlets dests) (clean : CleanRunsEnd feed drain offers inlets dests) where
-  pub rests-by : (ending : Ending) → RunsWith feed drain offers inlets dests old new plan routers rounds ending reached → RestsSo offers plan routers reached ending
+  pub rests-by : (ending : PlanEnded) → RunsWith feed drain offers inlets dests old new plan routers rounds ending reached → RestsSo offers plan routers reached ending
   rests-by (Before early) runs = tt
   rests-by (Ran Quiet None) runs = λ run is. record { rests = quiet old new plan routers rounds None reached run runnable is runs; clean = tt }
   rests-by (Ran Quiet (Some counts)) runs = λ run is. record {

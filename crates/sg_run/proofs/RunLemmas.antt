@@ -12,7 +12,7 @@ use Rattle.sg_loaded.specs.declared.loaded.Loaded.{Loaded}
 use Rattle.sg_loaded.specs.declared.loaded.Unloaded.{Unloaded}
 use Rattle.sg_loaded.specs.declared.loaded.Unloaded.TheVariants.{Bad, Unread, NoMemory}
 use Rattle.sg_serve.specs.Run.{RunsPlan}
-use Rattle.sg_serve.specs.declared.ending.Ending.{Ending}
+use Rattle.sg_serve.specs.declared.ending.PlanEnded.{PlanEnded}
 use Rattle.sg_delivered.specs.Headline.{RunsDeliver}
 use Rattle.sg_quiet.specs.Failing.{FailedStoresCount}
 use Rattle.sg_quiet.specs.Resting.{QuietRunsRest}
@@ -35,13 +35,13 @@ use Rattle.sg_run.proofs.HeadlineLemmas.{delivers-by}
 use Rattle.sg_run.proofs.LineLemmas.{lines-at}
 use Rattle.sg_run.proofs.RestingLemmas.{rests-by}
 
-pub tells-by : (config : Config) (once : Bool) (ending : Ending) (lines : Lines) (outcome : Outcome) → AreLines config lines → EndsSo lines ending (Some outcome) → Tells (planned config once) ending (Ok outcome)
+pub tells-by : (config : Config) (once : Bool) (ending : PlanEnded) (lines : Lines) (outcome : Outcome) → AreLines config lines → EndsSo lines ending (Some outcome) → Tells (planned config once) ending (Ok outcome)
 tells-by config once ending lines outcome are ends =
     subst (λ fs. EndsBy (drivers_in config.inlets.items) fs ending (Some outcome)) are.1 (subst (λ ds. EndsBy ds lines.files ending (Some outcome)) are.0 ends)
 
 -- The laws are that runs of plans come to the headline, that a store that is told to have failed has failed, what a quiet end means, that
 -- rounds are bounded, and what stays covered.
-pub runs-by : {I O : Type 0} (feed : I → InletState) (drain : O → OutletState) (loaded new : WorldState) (config : Config) (once : Bool) (rounds : ℕ) (routers : List Pipes) (ending : Ending) (result : Result Outcome Unloaded) → IsWithin config
+pub runs-by : {I O : Type 0} (feed : I → InletState) (drain : O → OutletState) (loaded new : WorldState) (config : Config) (once : Bool) (rounds : ℕ) (routers : List Pipes) (ending : PlanEnded) (result : Result Outcome Unloaded) → IsWithin config
     → AreDirect config.outlets.items → ReadsFiles config once → AreRouters config routers → RunsDeliver feed drain offers_by inlets_by dests_by → FailedStoresCount feed drain offers_by inlets_by dests_by → QuietRunsRest feed drain offers_by inlets_by dests_by
     → CleanRunsEnd feed drain offers_by inlets_by dests_by → RunsAreBounded feed drain offers_by inlets_by dests_by → PlanRunsHappen feed drain offers_by inlets_by dests_by → PlanRunsCover feed drain offers_by inlets_by dests_by → PlanRunsEndClean feed drain offers_by inlets_by dests_by → PlanRunsRest feed drain offers_by inlets_by dests_by → rounds < 2 ^ 64 → RunsPlan feed drain offers_by inlets_by dests_by loaded new (planned config once) routers rounds ending
     → Tells (planned config once) ending result → RunsBy feed drain loaded new config once rounds result
@@ -66,7 +66,7 @@ runs-by feed drain loaded new config once rounds routers ending result within di
           covers-by feed drain offers_by inlets_by dests_by loaded new plan routers by rounds reached can reads.0 reads.1 (same-offers config routers by are others) happen cover covered_clean covered_rest ending runs;
     }
 
-pub lines-by-plan : {I O : Type 0} (feed : I → InletState) (drain : O → OutletState) (loaded new : WorldState) (config : Config) (once : Bool) (rounds : ℕ) (routers : List Pipes) (ending : Ending) (lines : Lines) → IsWithin config
+pub lines-by-plan : {I O : Type 0} (feed : I → InletState) (drain : O → OutletState) (loaded new : WorldState) (config : Config) (once : Bool) (rounds : ℕ) (routers : List Pipes) (ending : PlanEnded) (lines : Lines) → IsWithin config
     → AreDirect config.outlets.items → AreLines config lines → RunsDeliver feed drain offers_by inlets_by dests_by → RunsPlan feed drain offers_by inlets_by dests_by loaded new (planned config once) routers rounds ending
     → HasLinesAt lines ending
 lines-by-plan feed drain loaded new config once rounds routers ending lines within direct are law (reached, runs) =

@@ -29,7 +29,7 @@ pub record GoesWell (old new : WorldState) (plan : RunPlan) (reached : Reached) 
   pub stores : (s : ℕ) → RoseAt reached.stores reached.stores_closed s → ⊥
   pub untroubled : IsUntroubled reached
 
--- the end is the clean one, but for want of memory
+-- the end is the clean one, but for lack of memory
 abbrev pub EndsClean : Result Outcome Unloaded → Type 0
 EndsClean (Ok outcome) = outcome.end ≡ Clean
 EndsClean (Err (Bad fault names)) = ⊥

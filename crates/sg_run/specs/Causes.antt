@@ -5,8 +5,8 @@ use Rattle.sg_device.specs.Inlet.{InletState}
 use Rattle.sg_device.specs.Outlet.{OutletState}
 use Rattle.sg_serve.specs.Run.{Reached, RoseAt}
 use Rattle.sg_serve.specs.declared.counts.Counts.{Counts}
-use Rattle.sg_serve.specs.declared.ending.Ending.{Ending}
-use Rattle.sg_serve.specs.declared.ending.Ending.TheVariants.{Before, Ran}
+use Rattle.sg_serve.specs.declared.ending.PlanEnded.{PlanEnded}
+use Rattle.sg_serve.specs.declared.ending.PlanEnded.TheVariants.{Before, Ran}
 use Rattle.sg_serve.specs.declared.plan.RunPlan.{RunPlan}
 
 -- With `--once` three sends or reopenings of the outlet failed, and no frame was taken since. So its count of faults rose.
@@ -36,7 +36,7 @@ pub record FaultsAreDue (plan : RunPlan) (reached : Reached) (counts : Counts) :
   pub inlets : (k i : ℕ) → slice_get counts.inlets k ≡ Some i
       → RoseIn reached.inlets reached.inlets_closed i
 
-abbrev pub AreDue : RunPlan → Reached → Ending → Type 0
+abbrev pub AreDue : RunPlan → Reached → PlanEnded → Type 0
 AreDue plan reached (Before early) = Unit {0}
 AreDue plan reached (Ran ended None) = Unit {0}
 AreDue plan reached (Ran ended (Some counts)) = FaultsAreDue plan reached counts

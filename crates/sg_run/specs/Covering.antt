@@ -4,8 +4,8 @@ use Rattle.sg_outside.specs.World.{Files}
 use Rattle.sg_config.specs.declared.config.Config.{Config}
 use Rattle.sg_serve.specs.Counts.{first_fault}
 use Rattle.sg_serve.specs.Run.{CoreRun, Reached}
-use Rattle.sg_serve.specs.declared.ending.Ending.{Ending}
-use Rattle.sg_serve.specs.declared.ending.Ending.TheVariants.{Before, Ran}
+use Rattle.sg_serve.specs.declared.ending.PlanEnded.{PlanEnded}
+use Rattle.sg_serve.specs.declared.ending.PlanEnded.TheVariants.{Before, Ran}
 use Rattle.sg_serve.specs.declared.plan.RunPlan.{RunPlan}
 use Rattle.sg_turns.specs.declared.ended.Ended.TheVariants.{Quiet, RoundsSpent as Spent, NoMemory}
 use Rattle.sg_msg.specs.declared.offer.Offer.{Offer}
@@ -22,7 +22,7 @@ ReadsFiles config once = AreOfFiles (planned config once) × AreLines (planned c
 
 -- where nothing is counted as failed behind a quiet round, each choice of what the stores hold then has no entry, and each position behind the
 -- last record of its file
-abbrev pub CleanSo : RunPlan → Reached → Ending → (ℕ → List ℕ) → Type 0
+abbrev pub CleanSo : RunPlan → Reached → PlanEnded → (ℕ → List ℕ) → Type 0
 CleanSo plan reached (Before early) bytes = Unit {0}
 CleanSo plan reached (Ran Quiet None) bytes = Unit {0}
 CleanSo plan reached (Ran Quiet (Some counts)) bytes =
@@ -32,13 +32,13 @@ CleanSo plan reached (Ran Quiet (Some counts)) bytes =
 CleanSo plan reached (Ran Spent counts) bytes = Unit {0}
 CleanSo plan reached (Ran NoMemory counts) bytes = Unit {0}
 
-pub record StaysCovered {offers : Offers} {files : Option Files} {plan : RunPlan} {reached : Reached} {run : CoreRun} (ending : Ending) (happened : Happened offers files plan reached run) (bytes : ℕ → List ℕ) (taken : List Taken) (passes : List Pass) (places : ℕ → ℕ) : Type 0 where
+pub record StaysCovered {offers : Offers} {files : Option Files} {plan : RunPlan} {reached : Reached} {run : CoreRun} (ending : PlanEnded) (happened : Happened offers files plan reached run) (bytes : ℕ → List ℕ) (taken : List Taken) (passes : List Pass) (places : ℕ → ℕ) : Type 0 where
   pub leaves : LeavesCovered happened bytes taken passes places
   pub clean : CleanSo plan reached ending bytes
 
 -- What is covered by these routers stays so, over stores that tell their bytes and a machine that tells its files: at the return, and at every
 -- moment before it.
-pub record Covers {R : Type 0} (offers : R → ℕ → Record → List Offer → Type 0) (files : Option Files) (plan : RunPlan) (by : List R) (reached : Reached) (ending : Ending) : Type 0 where
+pub record Covers {R : Type 0} (offers : R → ℕ → Record → List Offer → Type 0) (files : Option Files) (plan : RunPlan) (by : List R) (reached : Reached) (ending : PlanEnded) : Type 0 where
   -- without a core nothing was taken, and no record came in
   pub unopened : (bytes : ℕ → List ℕ) (taken : List Taken) (passes : List Pass) (places : ℕ → ℕ)
       → reached.core ≡ None

@@ -5,8 +5,8 @@ use Rattle.sg_report.specs.declared.shown.Shown.{Shown}
 use Rattle.sg_serve.specs.Counts.{first_fault}
 use Rattle.sg_serve.specs.declared.counts.Counts.{Counts}
 use Rattle.sg_serve.specs.declared.ending.Early.{Early}
-use Rattle.sg_serve.specs.declared.ending.Ending.{Ending}
-use Rattle.sg_serve.specs.declared.ending.Ending.TheVariants.{Before, Ran}
+use Rattle.sg_serve.specs.declared.ending.PlanEnded.{PlanEnded}
+use Rattle.sg_serve.specs.declared.ending.PlanEnded.TheVariants.{Before, Ran}
 use Rattle.sg_serve.specs.declared.plan.RunPlan.{RunPlan}
 use Rattle.sg_turns.specs.declared.ended.Ended.{Ended}
 use Rattle.sg_loaded.specs.declared.loaded.Unloaded.{Unloaded}
@@ -49,15 +49,15 @@ abbrev pub IsNone : Option Outcome → Type 0
 IsNone None = Unit {0}
 IsNone (Some outcome) = ⊥
 
-abbrev pub EndsBy : List ℕ → List Bool → Ending → Option Outcome → Type 0
+abbrev pub EndsBy : List ℕ → List Bool → PlanEnded → Option Outcome → Type 0
 EndsBy drivers files (Before early) outcome = EndsBefore early outcome
 EndsBy drivers files (Ran ended None) outcome = IsNone outcome
 EndsBy drivers files (Ran ended (Some counts)) outcome = ReportsBy drivers files ended counts
     outcome
 
--- The run of a plan ended so, which is told, and its text is the report, or the line on what kept its rounds from beginning. Want of memory
+-- The run of a plan ended so, which is told, and its text is the report, or the line on what kept its rounds from beginning. Lack of memory
 -- is free.
-abbrev pub Tells : RunPlan → Ending → Result Outcome Unloaded → Type 0
+abbrev pub Tells : RunPlan → PlanEnded → Result Outcome Unloaded → Type 0
 Tells plan ending (Ok outcome) = EndsBy (drivers_in plan.inlets.items) (files_in plan.setup.sources)
     ending (Some outcome)
 Tells plan ending (Err (Bad fault names)) = ⊥
@@ -73,7 +73,7 @@ Drawn lines counts end text = text
 abbrev pub EndsAfter : Lines → Ended → Counts → Option Outcome → Type 0
 EndsAfter lines ended counts outcome = ReportsBy lines.drivers lines.files ended counts outcome
 
-abbrev pub EndsSo : Lines → Ending → Option Outcome → Type 0
+abbrev pub EndsSo : Lines → PlanEnded → Option Outcome → Type 0
 EndsSo lines ending outcome = EndsBy lines.drivers lines.files ending outcome
 
 -- there is a line for each source, and the number of its bad parts
@@ -82,7 +82,7 @@ pub record HasLines (lines : Lines) (counts : Counts) : Type 0 where
   pub files : length lines.files ≡ length counts.tally.sources
   pub bad_frames : length counts.bad_frames ≡ length counts.tally.sources
 
-abbrev pub HasLinesAt : Lines → Ending → Type 0
+abbrev pub HasLinesAt : Lines → PlanEnded → Type 0
 HasLinesAt lines (Before early) = Unit {0}
 HasLinesAt lines (Ran ended None) = Unit {0}
 HasLinesAt lines (Ran ended (Some counts)) = HasLines lines counts

@@ -6,8 +6,8 @@ use Rattle.sg_counter.specs.Exchanges.{Exchange}
 use Rattle.sg_serve.specs.Counts.{first_fault}
 use Rattle.sg_serve.specs.Run.{CoreRun, Reached}
 use Rattle.sg_serve.specs.declared.counts.Counts.{Counts}
-use Rattle.sg_serve.specs.declared.ending.Ending.{Ending}
-use Rattle.sg_serve.specs.declared.ending.Ending.TheVariants.{Before, Ran}
+use Rattle.sg_serve.specs.declared.ending.PlanEnded.{PlanEnded}
+use Rattle.sg_serve.specs.declared.ending.PlanEnded.TheVariants.{Before, Ran}
 use Rattle.sg_serve.specs.declared.plan.RunPlan.{RunPlan}
 use Rattle.sg_turns.specs.declared.ended.Ended.TheVariants.{Quiet, RoundsSpent as Spent, NoMemory}
 use Rattle.sg_quiet.specs.Resting.{Rests}
@@ -20,7 +20,7 @@ pub record IsQuiet {R : Type 0} (offers : R → ℕ → Record → List Offer �
       → (made : List Exchange) × Ends offers plan routers reached run made)
 
 abbrev pub RestsSo : {R : Type 0} → (R → ℕ → Record → List Offer → Type 0) → RunPlan → List R
-    → Reached → Ending → Type 0
+    → Reached → PlanEnded → Type 0
 RestsSo offers plan routers reached (Before early) = Unit {0}
 RestsSo offers plan routers reached (Ran Quiet counts) = (run : CoreRun) → reached.core ≡ Some run
     → IsQuiet offers plan routers reached counts run

@@ -13,7 +13,7 @@ use Rattle.sg_loaded.specs.declared.loaded.Loaded.{Loaded}
 use Rattle.sg_loaded.specs.declared.loaded.Unloaded.{Unloaded}
 use Rattle.sg_loaded.specs.declared.loaded.Unloaded.TheVariants.{Bad, Unread, NoMemory}
 use Rattle.sg_serve.specs.Run.{Reached, RunsWith}
-use Rattle.sg_serve.specs.declared.ending.Ending.{Ending}
+use Rattle.sg_serve.specs.declared.ending.PlanEnded.{PlanEnded}
 use Rattle.sg_delivered.specs.Headline.{Delivers}
 use Rattle.sg_bounded.specs.Bounds.{recovered_by, offered_by, IsFew}
 use Rattle.sg_run.specs.Bounding.{Completes}
@@ -39,7 +39,7 @@ dests_by pipes = length pipes.table.dests.items
 pub record RunsBy {I O : Type 0} (feed : I → InletState) (drain : O → OutletState) (loaded new : WorldState) (config : Config) (once : Bool) (rounds : ℕ) (result : Result Outcome Unloaded) : Type 0 where
   pub routers : List Pipes
   pub are_routers : AreRouters config routers
-  pub ending : Ending
+  pub ending : PlanEnded
   pub reached : Reached
   pub runs : RunsWith feed drain offers_by inlets_by dests_by loaded new (planned config once)
       routers rounds ending reached
@@ -59,7 +59,7 @@ pub record RunsBy {I O : Type 0} (feed : I → InletState) (drain : O → Outlet
   pub covers : (by : List Pipes) → AreRouters config by
       → Covers offers_by loaded.files (planned config once) by reached ending
 
--- why it wasn't run; want of memory is free
+-- why it wasn't run; lack of memory is free
 abbrev pub IsLeft : WorldState → WorldState → List ℕ → Result Outcome Unloaded → Type 0
 IsLeft old loaded file (Ok outcome) = ⊥
 IsLeft old loaded file (Err unloaded) = LoadsFile old loaded file (Err unloaded)

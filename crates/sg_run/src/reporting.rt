@@ -7,7 +7,7 @@ use crate::end::{End, Outcome, after_rounds, before_rounds};
 use sg_device::NoMemory;
 use sg_list::Seq;
 use sg_report::{Shown, damaged_text, failed_text, tally_text, unopened_text};
-use sg_serve::{Counts, Device, Early, Ended, Ending};
+use sg_serve::{Counts, Device, Early, Ended, PlanEnded};
 use std::alloc::Global;
 
 /// What the report shows of a plan: for each inlet the number of its driver, and whether it is a file.
@@ -91,14 +91,14 @@ fn outcome_after(
 pub(crate) fn outcome_of(
     alloc: Global,
     lines: Lines,
-    ending: Ending,
+    ending: PlanEnded,
 ) -> Result<Option<Outcome>, NoMemory>
     requires { HasLinesAt lines ending }
     ensures { IfOk result (EndsSo lines ending) }
 {
     match ending {
-        Ending::Before(early) => outcome_before(alloc, early),
-        Ending::Ran(ended, Some(counts)) => outcome_after(alloc, lines, ended, counts),
-        Ending::Ran(_, None) => Ok(None),
+        PlanEnded::Before(early) => outcome_before(alloc, early),
+        PlanEnded::Ran(ended, Some(counts)) => outcome_after(alloc, lines, ended, counts),
+        PlanEnded::Ran(_, None) => Ok(None),
     }
 }

@@ -5,12 +5,12 @@ use Rattle.sg_device.specs.Disk.{DiskState}
 use Rattle.sg_device.specs.Faults.{Rose}
 use Rattle.sg_device.specs.Inlet.{InletState}
 use Rattle.sg_device.specs.Outlet.{OutletState}
-use Rattle.sg_outside.specs.World.{WorldState, Opened, Ledger, StandsShelved, StoreOpens, ClosesStore, ClosesInlet, ClosesOutlet}
+use Rattle.sg_outside.specs.World.{WorldState, Opened, Ledger, StandsNamed, StoreOpens, ClosesStore, ClosesInlet, ClosesOutlet}
 use Rattle.sg_outside.specs.declared.request.InletSpec.{InletSpec}
 use Rattle.sg_outside.specs.declared.request.OutletSpec.{OutletSpec}
 use Rattle.sg_outside.specs.declared.request.StoreSpec.{StoreSpec}
 use Rattle.sg_list.proofs.ListLemmas.{some-same}
-use Rattle.sg_serve.specs.Devices.{opened_for, with_all_opened, with_all_closed, AreShelved, OpensStores, OpensInlets, AllAreNew, OpensOutlets, ClosesStores, ClosesInlets, ClosesOutlets}
+use Rattle.sg_serve.specs.Devices.{opened_for, with_all_opened, with_all_closed, AreStoresNamed, OpensStores, OpensInlets, AllAreNew, OpensOutlets, ClosesStores, ClosesInlets, ClosesOutlets}
 
 pub rose-wider : (a b c d : ℕ) → a ≤ b → Rose b c → c ≤ d → Rose a d
 rose-wider a b c d h r k = grind (arith, h, r, k)
@@ -54,7 +54,7 @@ below (y ∷ ys) (suc n) x h = omega (arith, below ys n x h)
 -- Stores.
 
 pub stores-none : (w : WorldState) (specs : List StoreSpec) → OpensStores w w specs []
-stores-none w specs = record { count = omega arith; state = ap (λ l. record w { stores = l }) (sym (opened-none w.stores)); faults = omega arith; shelved = refl }
+stores-none w specs = record { count = omega arith; state = ap (λ l. record w { stores = l }) (sym (opened-none w.stores)); faults = omega arith; named = refl }
 
 -- Inlets.
 
@@ -107,10 +107,10 @@ outlets-more old mid new specs drains spec more a at b =
       faults = (let f = a.faults in let g = b.faults in omega (arith, f, g));
     }
 
-shelved-more : (before : Option (List (List ℕ))) (os : List (Opened StoreSpec DiskState)) (mid after : Option (List (List ℕ))) (spec : StoreSpec) (disk : DiskState) → AreShelved before os mid → StandsShelved mid spec disk after
-    → AreShelved before (os ++ (record { spec = spec; state = disk }) ∷ []) after
-shelved-more before [] mid after spec disk h s = (after, subst (λ b. StandsShelved b spec disk after) h s, refl)
-shelved-more before (o ∷ os) mid after spec disk h s = (h.0, h.1, shelved-more h.0 os mid after spec disk h.2 s)
+named-more : (before : Option (List (List ℕ))) (os : List (Opened StoreSpec DiskState)) (mid after : Option (List (List ℕ))) (spec : StoreSpec) (disk : DiskState) → AreStoresNamed before os mid → StandsNamed mid spec disk after
+    → AreStoresNamed before (os ++ (record { spec = spec; state = disk }) ∷ []) after
+named-more before [] mid after spec disk h s = (after, subst (λ b. StandsNamed b spec disk after) h s, refl)
+named-more before (o ∷ os) mid after spec disk h s = (h.0, h.1, named-more h.0 os mid after spec disk h.2 s)
 
 pub stores-more : (old mid new : WorldState) (specs : List StoreSpec) (disks : List DiskState) (spec : StoreSpec) (disk : DiskState)
     → OpensStores old mid specs disks → slice_get specs (length disks) ≡ Some spec → StoreOpens mid new spec disk → OpensStores old new specs (disks ++ disk ∷ [])
@@ -121,23 +121,23 @@ stores-more old mid new specs disks spec disk a at b =
     record {
       count = (let n = length-append disks (disk ∷ []) in omega (arith, n, low));
       state = b.0
-          ∙ ap (λ (m : WorldState). record m { store_faults = new.store_faults; shelf = new.shelf; stores = with_all_opened m.stores (opened_for (spec ∷ []) (disk ∷ [])) }) a.state
-          ∙ ap (λ l. record old { store_faults = new.store_faults; shelf = new.shelf; stores = l }) (opened-two old.stores (opened_for specs disks) (opened_for (spec ∷ []) (disk ∷ [])))
-          ∙ ap (λ os. record old { store_faults = new.store_faults; shelf = new.shelf; stores = with_all_opened old.stores os }) (sym join);
+          ∙ ap (λ (m : WorldState). record m { store_faults = new.store_faults; store_names = new.store_names; stores = with_all_opened m.stores (opened_for (spec ∷ []) (disk ∷ [])) }) a.state
+          ∙ ap (λ l. record old { store_faults = new.store_faults; store_names = new.store_names; stores = l }) (opened-two old.stores (opened_for specs disks) (opened_for (spec ∷ []) (disk ∷ [])))
+          ∙ ap (λ os. record old { store_faults = new.store_faults; store_names = new.store_names; stores = with_all_opened old.stores os }) (sym join);
       faults = (let f = a.faults in let g = b.1 in omega (arith, f, g));
-      shelved = subst (λ os. AreShelved old.shelf os new.shelf) (sym join) (shelved-more old.shelf (opened_for specs disks) mid.shelf new.shelf spec disk a.shelved b.2);
+      named = subst (λ os. AreStoresNamed old.store_names os new.store_names) (sym join) (named-more old.store_names (opened_for specs disks) mid.store_names new.store_names spec disk a.named b.2);
     }
 
 pub stores-kept : (old mid new : WorldState) (specs : List StoreSpec) (disks : List DiskState) → OpensStores old mid specs disks → new ≡ record mid { store_faults = new.store_faults } → mid.store_faults ≤ new.store_faults
     → OpensStores old new specs disks
 stores-kept old mid new specs disks a state faults =
-    let shelf : mid.shelf ≡ new.shelf = grind (arith, state) in
+    let store_names : mid.store_names ≡ new.store_names = grind (arith, state) in
     record {
       count = a.count;
       state = state ∙ ap (λ (m : WorldState). record m { store_faults = new.store_faults }) a.state
-          ∙ ap (λ s. record old { store_faults = new.store_faults; shelf = s; stores = with_all_opened old.stores (opened_for specs disks) }) shelf;
+          ∙ ap (λ s. record old { store_faults = new.store_faults; store_names = s; stores = with_all_opened old.stores (opened_for specs disks) }) store_names;
       faults = (let f = a.faults in omega (arith, f, faults));
-      shelved = subst (λ s. AreShelved old.shelf (opened_for specs disks) s) shelf a.shelved;
+      named = subst (λ s. AreStoresNamed old.store_names (opened_for specs disks) s) store_names a.named;
     }
 
 -- Closings.

@@ -46,8 +46,8 @@ use Rattle.sg_serve.specs.Run.{CoreRun, Reached, reached_by, ClosesAll, FailsLas
 use Rattle.sg_serve.specs.declared.ending.Device.TheVariants.{Store, Inlet, Dest}
 use Rattle.sg_serve.specs.declared.ending.Early.{Early}
 use Rattle.sg_serve.specs.declared.ending.Early.TheVariants.{OpenFault, Damage, DiskFault, NoMemory}
-use Rattle.sg_serve.specs.declared.ending.Ending.{Ending}
-use Rattle.sg_serve.specs.declared.ending.Ending.TheVariants.{Before, Ran}
+use Rattle.sg_serve.specs.declared.ending.PlanEnded.{PlanEnded}
+use Rattle.sg_serve.specs.declared.ending.PlanEnded.TheVariants.{Before, Ran}
 use Rattle.sg_serve.specs.declared.plan.RunPlan.{RunPlan}
 use Rattle.sg_serve.proofs.ActorLemmas.{fetching-at}
 use Rattle.sg_serve.proofs.DeviceLemmas.{rose-wider, inlets-none, outlets-none}
@@ -252,7 +252,7 @@ dest-cause old mid new plan stores stores' feeds drains core (DiskFault s) later
 dest-cause old mid new plan stores stores' feeds drains core NoMemory later h = tt
 
 pub over-dests : {R I O : Type 0} (feed : I → InletState) (drain : O → OutletState) (offers : R → ℕ → Record → List Offer → Type 0) (inlets dests : R → ℕ) (old mid new : WorldState) (plan : RunPlan) (routers : List R) (rounds : ℕ)
-    (stores stores' : List DiskState) (first begun : CoreState) (sources : List (SourceActor R I)) (feeds' : List InletState) (drains' : List OutletState) (ending : Ending) → length stores ≡ length plan.stores.items → IsOpen plan.setup stores first
+    (stores stores' : List DiskState) (first begun : CoreState) (sources : List (SourceActor R I)) (feeds' : List InletState) (drains' : List OutletState) (ending : PlanEnded) → length stores ≡ length plan.stores.items → IsOpen plan.setup stores first
     → OpensInlets old mid (inlets_asked plan.once plan.inlets.items) (map (λ (a : SourceActor R I). feed a.inlet) sources) → length sources ≡ length plan.inlets.items
     → AllBeginAt old.files (position_at first) (inlets_asked plan.once plan.inlets.items) (map (λ (a : SourceActor R I). feed a.inlet) sources)
     → HasBegun first begun (rewinds_from (position_at first) 0 (places_of (map (λ (a : SourceActor R I). feed a.inlet) sources)))
@@ -332,13 +332,13 @@ cause-wider old w1 w2 new plan reached (Damage s at) a b c d e f h = h
 cause-wider old w1 w2 new plan reached (DiskFault s) a b c d e f h = h
 cause-wider old w1 w2 new plan reached NoMemory a b c d e f h = tt
 
-ending-wider : (old w1 w2 new : WorldState) (plan : RunPlan) (reached : Reached) (ending : Ending) → old.store_faults ≤ w1.store_faults → w2.store_faults ≤ new.store_faults → old.inlet_faults ≤ w1.inlet_faults → w2.inlet_faults ≤ new.inlet_faults
+ending-wider : (old w1 w2 new : WorldState) (plan : RunPlan) (reached : Reached) (ending : PlanEnded) → old.store_faults ≤ w1.store_faults → w2.store_faults ≤ new.store_faults → old.inlet_faults ≤ w1.inlet_faults → w2.inlet_faults ≤ new.inlet_faults
     → old.outlet_faults ≤ w1.outlet_faults → w2.outlet_faults ≤ new.outlet_faults → HasEnding w1 w2 plan reached ending → HasEnding old new plan reached ending
 ending-wider old w1 w2 new plan reached (Before early) a b c d e f h = cause-wider old w1 w2 new plan reached early a b c d e f h
 ending-wider old w1 w2 new plan reached (Ran ended counts) a b c d e f h = tt
 
 pub runs-over : {R I O : Type 0} (feed : I → InletState) (drain : O → OutletState) (offers : R → ℕ → Record → List Offer → Type 0) (inlets dests : R → ℕ) (old w1 w2 new : WorldState) (plan : RunPlan) (routers : List R) (rounds : ℕ)
-    (stores stores' : List DiskState) (feeds' : List InletState) (drains' : List OutletState) (ending : Ending) → OpensStores old w1 plan.stores.items stores
+    (stores stores' : List DiskState) (feeds' : List InletState) (drains' : List OutletState) (ending : PlanEnded) → OpensStores old w1 plan.stores.items stores
     → RunsOver feed drain offers inlets dests w1 w2 plan routers rounds stores stores' feeds' drains' ending → ClosesAll w2 new stores' feeds' drains' → RunsPlan feed drain offers inlets dests old new plan routers rounds ending
 runs-over feed drain offers inlets dests old w1 w2 new plan routers rounds stores stores' feeds' drains' ending opens part closes =
     let reached = reached_by stores stores' part.inlets_opened feeds' part.outlets_opened drains' part.core in

@@ -3,7 +3,7 @@ use Rattle.std.specs.Prelude.{◌≡◌, ◌≤◌, ◌<◌, ℕ, Bool, true, fa
 use Rattle.sg_device.specs.Disk.{DiskState}
 use Rattle.sg_device.specs.Inlet.{InletState}
 use Rattle.sg_device.specs.Outlet.{OutletState, IsNew}
-use Rattle.sg_outside.specs.World.{WorldState, Opened, Ledger, StandsShelved, IsByPath}
+use Rattle.sg_outside.specs.World.{WorldState, Opened, Ledger, StandsNamed, IsByPath}
 use Rattle.sg_outside.specs.declared.request.InletSpec.{InletSpec}
 use Rattle.sg_outside.specs.declared.request.InletSpec.TheVariants.{File as FileFrom, Slot}
 use Rattle.sg_outside.specs.declared.request.OutletSpec.{OutletSpec}
@@ -70,19 +70,19 @@ with_all_closed ledger states = record ledger { closed = ledger.closed ++ states
 -- Stores.
 
 -- each store was there, or it was made, one after another
-abbrev pub AreShelved : Option (List (List ℕ)) → List (Opened StoreSpec DiskState)
+abbrev pub AreStoresNamed : Option (List (List ℕ)) → List (Opened StoreSpec DiskState)
     → Option (List (List ℕ)) → Type 0
-AreShelved before [] after = after ≡ before
-AreShelved before (o ∷ os) after = (between : Option (List (List ℕ)))
-    × StandsShelved before o.spec o.state between × AreShelved between os after
+AreStoresNamed before [] after = after ≡ before
+AreStoresNamed before (o ∷ os) after = (between : Option (List (List ℕ)))
+    × StandsNamed before o.spec o.state between × AreStoresNamed between os after
 
 -- these were opened on the first of the requests, in order, and nothing else changed but the count of faults
 pub record OpensStores (old new : WorldState) (specs : List StoreSpec) (disks : List DiskState) : Type 0 where
   pub count : length disks ≤ length specs
   pub state : new ≡ record old
-      { store_faults = new.store_faults; shelf = new.shelf; stores = with_all_opened old.stores (opened_for specs disks) }
+      { store_faults = new.store_faults; store_names = new.store_names; stores = with_all_opened old.stores (opened_for specs disks) }
   pub faults : old.store_faults ≤ new.store_faults
-  pub shelved : AreShelved old.shelf (opened_for specs disks) new.shelf
+  pub named : AreStoresNamed old.store_names (opened_for specs disks) new.store_names
 
 abbrev pub ClosesStores : WorldState → WorldState → List DiskState → Type 0
 ClosesStores old new disks = new ≡ record old { stores = with_all_closed old.stores disks }

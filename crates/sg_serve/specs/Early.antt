@@ -1,4 +1,4 @@
--- Why the rounds of a plan don't begin. Want of memory is free.
+-- Why the rounds of a plan don't begin. Lack of memory is free.
 use Rattle.std.specs.Prelude.{◌≡◌, ℕ, true, false, Option, Some, None, List, [], ◌∷◌, ◌++◌, length}
 use Rattle.sg_device.specs.Faults.{Rose}
 use Rattle.sg_device.specs.Inlet.{InletState}

@@ -34,8 +34,8 @@ use Rattle.sg_serve.specs.declared.counts.Counts.{Counts}
 use Rattle.sg_serve.specs.declared.ending.Device.TheVariants.{Store, Inlet, Dest}
 use Rattle.sg_serve.specs.declared.ending.Early.{Early}
 use Rattle.sg_serve.specs.declared.ending.Early.TheVariants.{OpenFault, Damage, DiskFault, NoMemory}
-use Rattle.sg_serve.specs.declared.ending.Ending.{Ending}
-use Rattle.sg_serve.specs.declared.ending.Ending.TheVariants.{Before, Ran}
+use Rattle.sg_serve.specs.declared.ending.PlanEnded.{PlanEnded}
+use Rattle.sg_serve.specs.declared.ending.PlanEnded.TheVariants.{Before, Ran}
 use Rattle.sg_serve.specs.declared.plan.RunPlan.{RunPlan}
 
 -- How far a run came.
@@ -172,7 +172,7 @@ pub record HoldsNone (plan : RunPlan) (reached : Reached) : Type 0 where
 
 abbrev pub Holds : {R I O : Type 0} → (I → InletState) → (O → OutletState)
     → (R → ℕ → Record → List Offer → Type 0) → (R → ℕ) → (R → ℕ) → Option Files → RunPlan → List R
-    → ℕ → Reached → Option CoreRun → Ending → Type 0
+    → ℕ → Reached → Option CoreRun → PlanEnded → Type 0
 Holds feed drain offers inlets dests files plan routers rounds reached None (Before early) =
     HoldsNone plan reached
 Holds feed drain offers inlets dests files plan routers rounds reached None (Ran ended counts) = ⊥
@@ -194,7 +194,7 @@ pub record IsDamagedIn (setup : Setup) (disks : List DiskState) (s at : ℕ) : T
   pub kinds_are : AreKinds setup.dests (length disks) kinds
   pub damaged : IsDamaged kinds disks s at
 
--- Why the rounds didn't begin: each device by its number, behind those that were opened. Want of memory is free.
+-- Why the rounds didn't begin: each device by its number, behind those that were opened. Lack of memory is free.
 abbrev pub HasCause : WorldState → WorldState → RunPlan → Reached → Early → Type 0
 HasCause old new plan reached (OpenFault (Store n)) = (n ≡ length reached.stores)
     × (reached.core ≡ None) × Rose old.store_faults new.store_faults
@@ -207,7 +207,7 @@ HasCause old new plan reached (Damage s at) = (reached.core ≡ None)
 HasCause old new plan reached (DiskFault s) = RoseAt reached.stores reached.stores_closed s
 HasCause old new plan reached NoMemory = Unit {0}
 
-abbrev pub HasEnding : WorldState → WorldState → RunPlan → Reached → Ending → Type 0
+abbrev pub HasEnding : WorldState → WorldState → RunPlan → Reached → PlanEnded → Type 0
 HasEnding old new plan reached (Before early) = HasCause old new plan reached early
 HasEnding old new plan reached (Ran ended counts) = Unit {0}
 
@@ -220,7 +220,7 @@ early_of CoreNoMemory = NoMemory
 -- The whole.
 
 pub record RunsWith {R I O : Type 0} (feed : I → InletState) (drain : O → OutletState) (offers : R → ℕ → Record → List Offer → Type 0) (inlets dests : R → ℕ)
-    (old new : WorldState) (plan : RunPlan) (routers : List R) (rounds : ℕ) (ending : Ending) (reached : Reached) : Type 0 where
+    (old new : WorldState) (plan : RunPlan) (routers : List R) (rounds : ℕ) (ending : PlanEnded) (reached : Reached) : Type 0 where
   pub devices : UsesDevices old new plan reached
   pub holds : Holds feed drain offers inlets dests old.files plan routers rounds reached
       reached.core ending
@@ -228,7 +228,7 @@ pub record RunsWith {R I O : Type 0} (feed : I → InletState) (drain : O → Ou
 
 abbrev pub RunsPlan : {R I O : Type 0} → (I → InletState) → (O → OutletState)
     → (R → ℕ → Record → List Offer → Type 0) → (R → ℕ) → (R → ℕ) → WorldState → WorldState → RunPlan
-    → List R → ℕ → Ending → Type 0
+    → List R → ℕ → PlanEnded → Type 0
 RunsPlan feed drain offers inlets dests old new plan routers rounds ending = (reached : Reached)
     × RunsWith feed drain offers inlets dests old new plan routers rounds ending reached
 
@@ -236,7 +236,7 @@ RunsPlan feed drain offers inlets dests old new plan routers rounds ending = (re
 
 -- With the stores open: the core is opened, and then the inlets and outlets, from the second world state on; the stores come back as those.
 pub record RunsOver {R I O : Type 0} (feed : I → InletState) (drain : O → OutletState) (offers : R → ℕ → Record → List Offer → Type 0) (inlets dests : R → ℕ)
-    (old new : WorldState) (plan : RunPlan) (routers : List R) (rounds : ℕ) (stores stores_closed : List DiskState) (inlets_closed : List InletState) (outlets_closed : List OutletState) (ending : Ending) : Type 0 where
+    (old new : WorldState) (plan : RunPlan) (routers : List R) (rounds : ℕ) (stores stores_closed : List DiskState) (inlets_closed : List InletState) (outlets_closed : List OutletState) (ending : PlanEnded) : Type 0 where
   pub inlets_opened : List InletState
   pub outlets_opened : List OutletState
   pub core : Option CoreRun
@@ -277,7 +277,7 @@ pub record MissesDests {R I : Type 0} (feed : I → InletState) (old new : World
 abbrev pub DestsEnd : {R I O : Type 0} → (I → InletState) → (O → OutletState)
     → (R → ℕ → Record → List Offer → Type 0) → (R → ℕ) → (R → ℕ) → WorldState → WorldState → Bool
     → List OutletPlan → ℕ → CoreState → CoreState
-    → List (SourceActor R I) → List InletState → List OutletState → List OutletState → Ending
+    → List (SourceActor R I) → List InletState → List OutletState → List OutletState → PlanEnded
     → Type 0
 DestsEnd feed drain offers inlets dests old new once plans rounds begun last sources inlets_closed opened closed (Before early) =
     MissesDests feed old new begun last sources inlets_closed opened closed early
@@ -289,7 +289,7 @@ DestsEnd feed drain offers inlets dests old new once plans rounds begun last sou
 pub record RunsDests {R I O : Type 0} (feed : I → InletState) (drain : O → OutletState) (offers : R → ℕ → Record → List Offer → Type 0) (inlets dests : R → ℕ)
     (old new : WorldState) (once : Bool) (plans : List OutletPlan) (rounds : ℕ) (begun : CoreState)
     (sources : List (SourceActor R I))
-    (stores_closed : List DiskState) (inlets_closed : List InletState) (outlets_closed : List OutletState) (ending : Ending) : Type 0 where
+    (stores_closed : List DiskState) (inlets_closed : List InletState) (outlets_closed : List OutletState) (ending : PlanEnded) : Type 0 where
   pub outlets_opened : List OutletState
   pub opens : OpensOutlets old new (outlets_asked once plans) outlets_opened
   pub last : CoreState

@@ -26,7 +26,7 @@ pub enum Early {
 
 /// How a plan's run ends.
 #[derive(Debug, Drop)]
-pub enum Ending {
+pub enum PlanEnded {
     /// The rounds didn't begin.
     Before(Early),
     /// The rounds were run, and ended so. What they have come to is lacking where memory ran out.

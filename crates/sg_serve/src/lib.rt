@@ -12,7 +12,7 @@ mod sources;
 mod stores;
 
 pub use counts::{Counts, Fault};
-pub use ending::{Device, Early, Ending};
+pub use ending::{Device, Early, PlanEnded};
 pub use plan::RunPlan;
 pub use run::run_plan;
 pub use sg_engine::Ended;

@@ -13,7 +13,7 @@ use crate::outlets::open_dests;
 use crate::plan::RunPlan;
 use crate::sources::open_sources;
 use crate::stores::open_stores;
-use crate::{Early, Ending};
+use crate::{Early, PlanEnded};
 use sg_actor::SourceActor;
 use sg_core::{Core, CoreRefusal};
 use sg_crew::serve;
@@ -47,7 +47,7 @@ fn run_dests<T: Threads + Wait + Sync, W: World, R: Router + Send + Drop>(
     once: bool,
     rounds: u64,
     world: &mut W,
-) -> (Held<W::Store, R, W::Feed, W::Drain>, Ending)
+) -> (Held<W::Store, R, W::Feed, W::Drain>, PlanEnded)
     requires some { 0 < rounds }
     requires rounds { rounds ≤ 2 ^ 36 }
     requires calls { core.calls ≤ 2 ^ 50 }
@@ -70,7 +70,7 @@ fn run_dests<T: Threads + Wait + Sync, W: World, R: Router + Send + Drop>(
                 dests,
                 drain,
             };
-            return (held, Ending::Before(early));
+            return (held, PlanEnded::Before(early));
         }
     };
     let Served {
@@ -87,7 +87,7 @@ fn run_dests<T: Threads + Wait + Sync, W: World, R: Router + Send + Drop>(
         dests,
         drain: None,
     };
-    (held, Ending::Ran(ended, counts))
+    (held, PlanEnded::Ran(ended, counts))
 }
 
 // With the stores open: opens the core over them, and then the inlets.
@@ -99,7 +99,7 @@ fn run_core<T: Threads + Wait + Sync, W: World, R: Router + Send + Drop>(
     routers: Vec<R>,
     rounds: u64,
     world: &mut W,
-) -> (Held<W::Store, R, W::Feed, W::Drain>, Ending)
+) -> (Held<W::Store, R, W::Feed, W::Drain>, PlanEnded)
     requires some { 0 < rounds }
     requires rounds { rounds ≤ 2 ^ 36 }
     requires plan { IsRunnable plan }
@@ -116,13 +116,19 @@ fn run_core<T: Threads + Wait + Sync, W: World, R: Router + Send + Drop>(
         once,
     } = plan;
     let Ok(setups) = setup.sources.copy() else {
-        return (hold_stores(alloc, stores), Ending::Before(Early::NoMemory));
+        return (
+            hold_stores(alloc, stores),
+            PlanEnded::Before(Early::NoMemory),
+        );
     };
     let count = stores.len() as u32;
     let mut core = match Core::open(alloc, setup, stores) {
         Ok(core) => core,
         Err((stores, refusal)) => {
-            return (hold_stores(alloc, stores), Ending::Before(refused(refusal)));
+            return (
+                hold_stores(alloc, stores),
+                PlanEnded::Before(refused(refusal)),
+            );
         }
     };
     let setups = setups.as_slice();
@@ -138,7 +144,7 @@ fn run_core<T: Threads + Wait + Sync, W: World, R: Router + Send + Drop>(
                 dests: Vec::new(alloc),
                 drain: None,
             };
-            (held, Ending::Before(early))
+            (held, PlanEnded::Before(early))
         }
     }
 }
@@ -151,7 +157,7 @@ fn run_stores<T: Threads + Wait + Sync, W: World, R: Router + Send + Drop>(
     routers: Vec<R>,
     rounds: u64,
     world: &mut W,
-) -> (Held<W::Store, R, W::Feed, W::Drain>, Ending)
+) -> (Held<W::Store, R, W::Feed, W::Drain>, PlanEnded)
     requires some { 0 < rounds }
     requires rounds { rounds ≤ 2 ^ 36 }
     requires plan { IsRunnable plan }
@@ -161,7 +167,7 @@ fn run_stores<T: Threads + Wait + Sync, W: World, R: Router + Send + Drop>(
 {
     match open_stores(alloc, &plan.stores, world) {
         Ok(stores) => run_core(rt, alloc, plan, stores, routers, rounds, world),
-        Err((stores, early)) => (hold_stores(alloc, stores), Ending::Before(early)),
+        Err((stores, early)) => (hold_stores(alloc, stores), PlanEnded::Before(early)),
     }
 }
 
@@ -175,7 +181,7 @@ pub fn run_plan<T: Threads + Wait + Sync, W: World, R: Router + Send + Drop>(
     routers: Vec<R>,
     rounds: u64,
     world: &mut W,
-) -> Ending
+) -> PlanEnded
     requires some { 0 < rounds }
     requires rounds { rounds ≤ 2 ^ 36 }
     requires plan { IsRunnable plan }

@@ -8,7 +8,7 @@ use crate::Sink;
 use std::alloc::AllocError;
 
 impl Sink {
-    /// Takes memory for so many offers more at least. It is want of memory too where all that the
+    /// Takes memory for so many offers more at least. It is lack of memory too where all that the
     /// destination was given would pass 2^64 - 1 with them. An error leaves all that is seen, and the
     /// memory for as many offers as before.
     pub fn reserve(&mut self, n: usize) -> Result<(), AllocError>
@@ -55,7 +55,7 @@ impl Sink {
     }
 }
 
-// A count that would pass the end of a number is want of memory.
+// A count that would pass the end of a number is lack of memory.
 fn sum(waiting: usize, more: usize) -> Result<usize, AllocError>
     ensures { IfOk result (λ n. n ≡ waiting + more) }
 {

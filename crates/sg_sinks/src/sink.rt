@@ -102,7 +102,7 @@ impl Sink {
         self.used
     }
 
-    /// How many offers it has dropped, for want of room and for a failed store.
+    /// How many offers it has dropped, for lack of room and for a failed store.
     pub fn dropped(&self) -> (u64, u64)
         ensures { result ≡ (self.now.seen.dropped_full, self.now.seen.dropped_disk) }
     {

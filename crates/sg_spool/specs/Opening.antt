@@ -37,7 +37,7 @@ IsDamagedBehind at bytes = ((length bytes < 128) × (at ≡ length bytes))
 abbrev pub IsDamagedAt : ℕ → List ℕ → Type 0
 IsDamagedAt at bytes = IsFirstNonzero 64 at bytes ⊎ (AreZero 64 bytes × IsDamagedBehind at bytes)
 
--- damage where it is, a fault where the count of faults rose, and never want of memory
+-- damage where it is, a fault where the count of faults rose, and never lack of memory
 abbrev pub HasReason : DiskState → DiskState → StoreRefusal → Type 0
 HasReason old new (Damage at) = WhereTold (content old) (IsDamagedAt at)
 HasReason old new DiskFault = Rose old.faults new.faults

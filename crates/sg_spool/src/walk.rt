@@ -22,6 +22,7 @@ pub enum Gate {
 #[derive(Clone, Copy)]
 pub struct Place {
     pub jump: Option<u64>,
+    /// A byte offset in the store.
     pub gate: u64,
     pub count: u64,
 }

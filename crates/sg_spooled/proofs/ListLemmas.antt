@@ -5,7 +5,7 @@ use Rattle.sg_device.specs.Disk.{DiskState, Preserves, Rests}
 use Rattle.sg_device.specs.Faults.{Rose}
 use Rattle.sg_device.proofs.Disks.{preserves_trans, told_before}
 use Rattle.sg_device.proofs.DiskCalls.{tells_same, unchanged}
-use Rattle.sg_outside.specs.World.{WorldState, Ledger, StandsShelved, StoreOpens, ClosesStore, with_opened, with_closed}
+use Rattle.sg_outside.specs.World.{WorldState, Ledger, StandsNamed, StoreOpens, ClosesStore, with_opened, with_closed}
 use Rattle.sg_outside.specs.declared.request.StoreSpec.{StoreSpec}
 use Rattle.sg_outside.specs.declared.request.StoreSpec.{StoreSpec}
 use Rattle.sg_report.specs.Entry.{entries_line}
@@ -18,7 +18,7 @@ use Rattle.sg_stable.specs.declared.fault.StoreRefusal.{StoreRefusal}
 use Rattle.sg_stable.specs.declared.fault.StoreRefusal.TheVariants.{Damage as StoreDamage, DiskFault as StoreFault, NoMemory as StoreNoMemory}
 use Rattle.sg_spooled.specs.Entries.{Row, AreStored, payloads_of, row_lines, IsBegun}
 use Rattle.sg_spooled.specs.Walking.{OnlySays, SaidText, SaidSome, UnlessUnsaid, WalkEnds, WalksBy, Walks, end_text, answer_of, Ends}
-use Rattle.sg_spooled.specs.Listing.{Shelf, spec_of, IfOpened, IsThere, IsKept, IsDamaged, HasCause, SaysList, IsSpelled, IsUntroubled, IsComplete, unlisted_for, ListsBy, Lists, Spools}
+use Rattle.sg_spooled.specs.Listing.{StoreUse, spec_of, IfOpened, IsThere, IsKept, IsDamaged, HasCause, SaysList, IsSpelled, IsUntroubled, IsComplete, unlisted_for, ListsBy, Lists, Spools}
 use Rattle.sg_spooled.specs.declared.unlisted.Unlisted.{Unlisted}
 use Rattle.sg_spooled.specs.declared.unlisted.Unlisted.TheVariants.{NotOpened, Damage, DiskFault, SayFault, NoMemory}
 use Rattle.sg_spooled.proofs.EntryLemmas.{stored-among}
@@ -30,12 +30,12 @@ kept-all : (result : Result Unit Unlisted) (opened closed : DiskState) → Prese
 kept-all (Ok done) opened closed p = p
 kept-all (Err e) opened closed p = tells_same opened closed p
 
-abbrev shelf_of : DiskState → DiskState → Shelf
-shelf_of opened closed = record { opened = opened; closed = closed }
+abbrev use_of : DiskState → DiskState → StoreUse
+use_of opened closed = record { opened = opened; closed = closed }
 
 caused : {D : Type 0} (state : D → DiskState) (old new : View D) (a b c : WorldState) (opened : DiskState) (rows : List Row) (walked : Result ℕ Unlisted)
     → Preserves opened (state old.disk) → opened.faults ≤ (state old.disk).faults → OnlySays b c → WalkEnds state old new a b rows walked
-    → HasCause a c (Some (shelf_of opened (state new.disk))) rows (answer_of walked)
+    → HasCause a c (Some (use_of opened (state new.disk))) rows (answer_of walked)
 caused state old new a b c opened rows (Ok count) same later says ends = told_before opened (state old.disk) (IsList (payloads_of rows)) same ends.1
 caused state old new a b c opened rows (Err NotOpened) same later says ends = absurd ends
 caused state old new a b c opened rows (Err (Damage at)) same later says ends =
@@ -62,15 +62,15 @@ said-list state old new a b c text rows (Err NoMemory) ends some rest = tt
 listed-by : {D : Type 0} (state : D → DiskState) (old new : View D) (a b c : WorldState) (opened : DiskState) (text : List ℕ) (rows : List Row) (walked : Result ℕ Unlisted) (result : Result Unit Unlisted)
     → Preserves opened (state old.disk) → opened.faults ≤ (state old.disk).faults → WalksBy state old new a b text walked rows → OnlySays b c
     → ((result ≡ answer_of walked) × UnlessUnsaid walked (SaidText b c (text ++ end_text walked))) ⊎ (((result ≡ Err SayFault) × Rose b.say_faults c.say_faults) ⊎ (result ≡ Err NoMemory))
-    → HasCause a c (Some (shelf_of opened (state new.disk))) rows result × SaysList a c rows result
+    → HasCause a c (Some (use_of opened (state new.disk))) rows result × SaysList a c rows result
 listed-by state old new a b c opened text rows walked result same later w says (inl (is, rest)) =
-    subst (λ (r : Result Unit Unlisted). HasCause a c (Some (shelf_of opened (state new.disk))) rows r × SaysList a c rows r) (sym is)
+    subst (λ (r : Result Unit Unlisted). HasCause a c (Some (use_of opened (state new.disk))) rows r × SaysList a c rows r) (sym is)
     (caused state old new a b c opened rows walked same later says w.ends, said-list state old new a b c text rows walked w.ends w.said rest)
 listed-by state old new a b c opened text rows walked result same later w says (inr (inl (is, rose))) =
-    subst (λ (r : Result Unit Unlisted). HasCause a c (Some (shelf_of opened (state new.disk))) rows r × SaysList a c rows r) (sym is)
+    subst (λ (r : Result Unit Unlisted). HasCause a c (Some (use_of opened (state new.disk))) rows r × SaysList a c rows r) (sym is)
     (rose-later a.say_faults b.say_faults c.say_faults w.says.later rose, tt)
 listed-by state old new a b c opened text rows walked result same later w says (inr (inr is)) =
-    subst (λ (r : Result Unit Unlisted). HasCause a c (Some (shelf_of opened (state new.disk))) rows r × SaysList a c rows r) (sym is) (tt, tt)
+    subst (λ (r : Result Unit Unlisted). HasCause a c (Some (use_of opened (state new.disk))) rows r × SaysList a c rows r) (sym is) (tt, tt)
 
 -- the entries of an open store were listed
 pub lists-walked : {D : Type 0} (state : D → DiskState) (old new : View D) (a b c : WorldState) (opened : DiskState) (text : List ℕ) (walked : Result ℕ Unlisted) (result : Result Unit Unlisted)
@@ -89,7 +89,7 @@ lists-walked state old new a b c opened text walked result same later (rows, w) 
       },
     )
 
-refused-cause : (a c : WorldState) (opened closed : DiskState) (refusal : StoreRefusal) → HasReason opened closed refusal → HasCause a c (Some (shelf_of opened closed)) [] (Err (unlisted_for refusal))
+refused-cause : (a c : WorldState) (opened closed : DiskState) (refusal : StoreRefusal) → HasReason opened closed refusal → HasCause a c (Some (use_of opened closed)) [] (Err (unlisted_for refusal))
 refused-cause a c opened closed (StoreDamage at) reason = λ bytes told. inl (refl, reason bytes told)
 refused-cause a c opened closed StoreFault reason = (reason, λ bytes told. inl refl)
 refused-cause a c opened closed StoreNoMemory reason = tt
@@ -127,26 +127,26 @@ damage-none at rows others bytes list stored (inr first) =
     stored-among rows others first.payload first.rest stored
     (list_unique (payloads_of others) (payloads_of rows ++ first.payload ∷ first.rest) bytes list (record { jump = first.jump; head = first.head; end = first.end; laid = first.laid })) first.bad
 
-pub complete-of : (old new : WorldState) (shelf : Option Shelf) (rows : List Row) (result : Result Unit Unlisted) → HasCause old new shelf rows result → IsUntroubled old new shelf → IfOpened shelf (λ s. IsSpelled s.opened) → IsComplete result
-complete-of old new shelf rows (Ok done) cause well spelled = tt
-complete-of old new shelf rows (Err NoMemory) cause well spelled = tt
-complete-of old new shelf rows (Err NotOpened) cause well spelled = well.open' cause.2
-complete-of old new shelf rows (Err SayFault) cause well spelled = well.say cause
+pub complete-of : (old new : WorldState) (store_use : Option StoreUse) (rows : List Row) (result : Result Unit Unlisted) → HasCause old new store_use rows result → IsUntroubled old new store_use → IfOpened store_use (λ s. IsSpelled s.opened) → IsComplete result
+complete-of old new store_use rows (Ok done) cause well spelled = tt
+complete-of old new store_use rows (Err NoMemory) cause well spelled = tt
+complete-of old new store_use rows (Err NotOpened) cause well spelled = well.open' cause.2
+complete-of old new store_use rows (Err SayFault) cause well spelled = well.say cause
 complete-of old new None rows (Err (Damage at)) cause well spelled = cause
 complete-of old new (Some s) rows (Err (Damage at)) cause well spelled = damage-none at rows spelled.rows spelled.bytes spelled.list spelled.stored (cause spelled.bytes spelled.told)
 complete-of old new None rows (Err DiskFault) cause well spelled = cause
 complete-of old new (Some s) rows (Err DiskFault) cause well spelled = well.disk cause.0
 
-shelf-stays : (before after : Option (List (List ℕ))) (file : List ℕ) (disk : DiskState) → StandsShelved before (spec_of file) disk after → (after ≡ before) × IsThere before file
-shelf-stays None after file disk h = (h, tt)
-shelf-stays (Some names) None file disk h = absurd h
-shelf-stays (Some names) (Some after) file disk (inl (there, same)) = (ap (λ (ns : List (List ℕ)). Some ns) same, there)
-shelf-stays (Some names) (Some after) file disk (inr (made, told, rest)) = (let wrong : false ≡ true = made in absurd cc)
+names-stay : (before after : Option (List (List ℕ))) (file : List ℕ) (disk : DiskState) → StandsNamed before (spec_of file) disk after → (after ≡ before) × IsThere before file
+names-stay None after file disk h = (h, tt)
+names-stay (Some names) None file disk h = absurd h
+names-stay (Some names) (Some after) file disk (inl (there, same)) = (ap (λ (ns : List (List ℕ)). Some ns) same, there)
+names-stay (Some names) (Some after) file disk (inr (made, told, rest)) = (let wrong : false ≡ true = made in absurd cc)
 
 cause-wider : (a b c d : WorldState) (opened closed : DiskState) (rows : List Row) (result : Result Unit Unlisted) → a.say_faults ≡ b.say_faults → d.say_faults ≡ c.say_faults
-    → HasCause b c (Some (shelf_of opened closed)) rows result → HasCause a d (Some (shelf_of opened closed)) rows result
+    → HasCause b c (Some (use_of opened closed)) rows result → HasCause a d (Some (use_of opened closed)) rows result
 cause-wider a b c d opened closed rows (Ok done) e f cause = cause
-cause-wider a b c d opened closed rows (Err NotOpened) e f cause = (let wrong : Some (shelf_of opened closed) ≡ None = cause.0 in absurd cc)
+cause-wider a b c d opened closed rows (Err NotOpened) e f cause = (let wrong : Some (use_of opened closed) ≡ None = cause.0 in absurd cc)
 cause-wider a b c d opened closed rows (Err (Damage at)) e f cause = cause
 cause-wider a b c d opened closed rows (Err DiskFault) e f cause = cause
 cause-wider a b c d opened closed rows (Err SayFault) e f cause = subst (λ (n : ℕ). Rose n d.say_faults) (sym e) (subst (λ (n : ℕ). Rose b.say_faults n) (sym f) cause)
@@ -163,37 +163,37 @@ said-wider a b c d rows (Err DiskFault) e f said = text-wider a b c d _ e f said
 said-wider a b c d rows (Err SayFault) e f said = tt
 said-wider a b c d rows (Err NoMemory) e f said = tt
 
-state-shelved : (old a b new : WorldState) (file : List ℕ) (opened closed : DiskState) → a ≡ record old { store_faults = a.store_faults; shelf = a.shelf; stores = with_opened old.stores (spec_of file) opened } → a.shelf ≡ old.shelf
+state-with-use : (old a b new : WorldState) (file : List ℕ) (opened closed : DiskState) → a ≡ record old { store_faults = a.store_faults; store_names = a.store_names; stores = with_opened old.stores (spec_of file) opened } → a.store_names ≡ old.store_names
     → b ≡ record a { say_faults = b.say_faults; said = b.said } → new ≡ record b { stores = with_closed b.stores closed }
     → new ≡ record old { stores = with_closed (with_opened old.stores (spec_of file) opened) closed; store_faults = new.store_faults; say_faults = new.say_faults; said = new.said }
-state-shelved old a b new file opened closed e s f g =
+state-with-use old a b new file opened closed e s f g =
     let stores : Ledger StoreSpec DiskState = with_closed (with_opened old.stores (spec_of file) opened) closed in
     let store' : a.store_faults ≡ new.store_faults = sym (ap (λ (w : WorldState). w.store_faults) f) ∙ sym (ap (λ (w : WorldState). w.store_faults) g) in
     let say' : b.say_faults ≡ new.say_faults = sym (ap (λ (w : WorldState). w.say_faults) g) in
     let said' : b.said ≡ new.said = sym (ap (λ (w : WorldState). w.said) g) in
-    let wide : new ≡ record old { stores = stores; store_faults = a.store_faults; say_faults = b.say_faults; said = b.said; shelf = a.shelf } =
+    let wide : new ≡ record old { stores = stores; store_faults = a.store_faults; say_faults = b.say_faults; said = b.said; store_names = a.store_names } =
     g ∙ (ap (λ (w : WorldState). record w { stores = with_closed w.stores closed }) f
     ∙ ap (λ (w : WorldState). record w { stores = with_closed w.stores closed; say_faults = b.say_faults; said = b.said }) e) in
-    wide ∙ (ap (λ (n : ℕ). record old { stores = stores; store_faults = n; say_faults = b.say_faults; said = b.said; shelf = a.shelf }) store'
-    ∙ (ap (λ (n : ℕ). record old { stores = stores; store_faults = new.store_faults; say_faults = n; said = b.said; shelf = a.shelf }) say'
-    ∙ (ap (λ (t : Option (List ℕ)). record old { stores = stores; store_faults = new.store_faults; say_faults = new.say_faults; said = t; shelf = a.shelf }) said'
-    ∙ ap (λ (h : Option (List (List ℕ))). record old { stores = stores; store_faults = new.store_faults; say_faults = new.say_faults; said = new.said; shelf = h }) s)))
+    wide ∙ (ap (λ (n : ℕ). record old { stores = stores; store_faults = n; say_faults = b.say_faults; said = b.said; store_names = a.store_names }) store'
+    ∙ (ap (λ (n : ℕ). record old { stores = stores; store_faults = new.store_faults; say_faults = n; said = b.said; store_names = a.store_names }) say'
+    ∙ (ap (λ (t : Option (List ℕ)). record old { stores = stores; store_faults = new.store_faults; say_faults = new.say_faults; said = t; store_names = a.store_names }) said'
+    ∙ ap (λ (h : Option (List (List ℕ))). record old { stores = stores; store_faults = new.store_faults; say_faults = new.say_faults; said = new.said; store_names = h }) s)))
 
 -- the store was opened, and closed behind its listing
 pub spools-opened : (old a b new : WorldState) (file : List ℕ) (opened closed : DiskState) (result : Result Unit Unlisted) → StoreOpens old a (spec_of file) opened → Lists a b opened closed result → ClosesStore b new closed → Spools old new file result
 spools-opened old a b new file opened closed result (is, later, stands) (rows, l) closes =
-    let (same, there) = shelf-stays old.shelf a.shelf file opened stands in
+    let (same, there) = names-stay old.store_names a.store_names file opened stands in
     let faults : a.say_faults ≡ old.say_faults = ap (λ (w : WorldState). w.say_faults) is in
     let told : a.said ≡ old.said = ap (λ (w : WorldState). w.said) is in
     let faults' : new.say_faults ≡ b.say_faults = ap (λ (w : WorldState). w.say_faults) closes in
     let told' : new.said ≡ b.said = ap (λ (w : WorldState). w.said) closes in
     let stores' : new.store_faults ≡ a.store_faults = ap (λ (w : WorldState). w.store_faults) closes ∙ ap (λ (w : WorldState). w.store_faults) l.says.same in
     let cause = cause-wider old a b new opened closed rows result (sym faults) faults' l.cause in (
-      Some (shelf_of opened closed),
+      Some (use_of opened closed),
       (
         rows,
         record {
-          state = state-shelved old a b new file opened closed is same l.says.same closes;
+          state = state-with-use old a b new file opened closed is same l.says.same closes;
           store_later = subst (λ (n : ℕ). old.store_faults ≤ n) (sym stores') later;
           say_later = (let k = l.says.later in omega (arith, faults, faults', k));
           there = there;
@@ -201,7 +201,7 @@ spools-opened old a b new file opened closed result (is, later, stands) (rows, l
           stored = l.stored;
           cause = cause;
           said = said-wider old a b new rows result (sym told) told' l.said;
-          complete = complete-of old new (Some (shelf_of opened closed)) rows result cause;
+          complete = complete-of old new (Some (use_of opened closed)) rows result cause;
         },
       ),
     )

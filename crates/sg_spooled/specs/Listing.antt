@@ -17,7 +17,7 @@ use Rattle.sg_spooled.specs.declared.unlisted.Unlisted.{Unlisted}
 use Rattle.sg_spooled.specs.declared.unlisted.Unlisted.TheVariants.{NotOpened, Damage, DiskFault, SayFault, NoMemory}
 
 -- the store, as it was opened and as it was closed
-pub record Shelf : Type 0 where
+pub record StoreUse : Type 0 where
   pub opened : DiskState
   pub closed : DiskState
 
@@ -26,18 +26,18 @@ abbrev pub spec_of : List ℕ → StoreSpec
 spec_of file = record { name = file; create = false }
 
 -- the ledger with that store opened and closed, where it was
-abbrev pub shelved : Ledger StoreSpec DiskState → List ℕ → Option Shelf → Ledger StoreSpec DiskState
-shelved ledger file None = ledger
-shelved ledger file (Some shelf) = with_closed (with_opened ledger (spec_of file) shelf.opened)
-    shelf.closed
+abbrev pub with_use : Ledger StoreSpec DiskState → List ℕ → Option StoreUse → Ledger StoreSpec DiskState
+with_use ledger file None = ledger
+with_use ledger file (Some store_use) = with_closed (with_opened ledger (spec_of file) store_use.opened)
+    store_use.closed
 
-abbrev pub IfOpened : Option Shelf → (Shelf → Type 0) → Type 0
+abbrev pub IfOpened : Option StoreUse → (StoreUse → Type 0) → Type 0
 IfOpened None P = Unit {0}
-IfOpened (Some shelf) P = P shelf
+IfOpened (Some store_use) P = P store_use
 
-abbrev pub IsOpenedAnd : Option Shelf → (Shelf → Type 0) → Type 0
+abbrev pub IsOpenedAnd : Option StoreUse → (StoreUse → Type 0) → Type 0
 IsOpenedAnd None P = ⊥
-IsOpenedAnd (Some shelf) P = P shelf
+IsOpenedAnd (Some store_use) P = P store_use
 
 -- a store of this name was there, where the machine tells its stores
 abbrev pub IsThere : Option (List (List ℕ)) → List ℕ → Type 0
@@ -53,19 +53,19 @@ IsKept (Err refusal) opened closed = Rests opened closed
 abbrev pub IsDamaged : ℕ → List Row → List ℕ → Type 0
 IsDamaged at rows bytes = ((rows ≡ []) × IsDamagedAt at bytes) ⊎ IsFirstBad at rows bytes
 
--- When each answer comes, behind these entries. Want of memory is free.
-abbrev pub HasCause : WorldState → WorldState → Option Shelf → List Row → Result Unit Unlisted
+-- When each answer comes, behind these entries. Lack of memory is free.
+abbrev pub HasCause : WorldState → WorldState → Option StoreUse → List Row → Result Unit Unlisted
     → Type 0
-HasCause old new shelf rows (Ok done) = IsOpenedAnd shelf
+HasCause old new store_use rows (Ok done) = IsOpenedAnd store_use
     (λ s. WhereTold (content s.opened) (IsList (payloads_of rows)))
-HasCause old new shelf rows (Err NotOpened) = (shelf ≡ None) × (rows ≡ [])
+HasCause old new store_use rows (Err NotOpened) = (store_use ≡ None) × (rows ≡ [])
     × Rose old.store_faults new.store_faults
-HasCause old new shelf rows (Err (Damage at)) = IsOpenedAnd shelf
+HasCause old new store_use rows (Err (Damage at)) = IsOpenedAnd store_use
     (λ s. WhereTold (content s.opened) (IsDamaged at rows))
-HasCause old new shelf rows (Err DiskFault) = IsOpenedAnd shelf
+HasCause old new store_use rows (Err DiskFault) = IsOpenedAnd store_use
     (λ s. Rose s.opened.faults s.closed.faults × WhereTold (content s.opened) (IsBegun rows))
-HasCause old new shelf rows (Err SayFault) = Rose old.say_faults new.say_faults
-HasCause old new shelf rows (Err NoMemory) = Unit {0}
+HasCause old new store_use rows (Err SayFault) = Rose old.say_faults new.say_faults
+HasCause old new store_use rows (Err NoMemory) = Unit {0}
 
 -- what is said: a line for each of these entries, and how it ended
 abbrev pub SaysList : WorldState → WorldState → List Row → Result Unit Unlisted → Type 0
@@ -85,10 +85,10 @@ pub record IsSpelled (disk : DiskState) : Type 0 where
   pub stored : AreStored rows
 
 -- no count of faults rose
-pub record IsUntroubled (old new : WorldState) (shelf : Option Shelf) : Type 0 where
+pub record IsUntroubled (old new : WorldState) (store_use : Option StoreUse) : Type 0 where
   pub open' : ¬ Rose old.store_faults new.store_faults
   pub say : ¬ Rose old.say_faults new.say_faults
-  pub disk : IfOpened shelf (λ s. ¬ Rose s.opened.faults s.closed.faults)
+  pub disk : IfOpened store_use (λ s. ¬ Rose s.opened.faults s.closed.faults)
 
 -- all was listed, or memory ran out
 abbrev pub IsComplete : Result Unit Unlisted → Type 0
@@ -119,22 +119,22 @@ abbrev pub Lists : WorldState → WorldState → (opened closed : DiskState) →
 Lists old new opened closed result = (rows : List Row) × ListsBy old new opened closed result rows
 
 -- the store of FILE was listed up to these entries
-pub record SpoolsBy (old new : WorldState) (file : List ℕ) (result : Result Unit Unlisted) (shelf : Option Shelf) (rows : List Row) : Type 0 where
+pub record SpoolsBy (old new : WorldState) (file : List ℕ) (result : Result Unit Unlisted) (store_use : Option StoreUse) (rows : List Row) : Type 0 where
   -- nothing but that store was opened, and it was closed; no store was made, and no file changed
   pub state : new ≡ record old
-      { stores = shelved old.stores file shelf; store_faults = new.store_faults; say_faults = new.say_faults; said = new.said }
+      { stores = with_use old.stores file store_use; store_faults = new.store_faults; say_faults = new.say_faults; said = new.said }
   pub store_later : old.store_faults ≤ new.store_faults
   pub say_later : old.say_faults ≤ new.say_faults
-  pub there : IfOpened shelf (λ s. IsThere old.shelf file)
-  pub kept : IfOpened shelf
+  pub there : IfOpened store_use (λ s. IsThere old.store_names file)
+  pub kept : IfOpened store_use
       (λ s. IsKept result s.opened s.closed × (s.opened.faults ≤ s.closed.faults))
   pub stored : AreStored rows
-  pub cause : HasCause old new shelf rows result
+  pub cause : HasCause old new store_use rows result
   pub said : SaysList old new rows result
   -- a store of entries and no trouble give success, where memory is there
-  pub complete : IsUntroubled old new shelf → IfOpened shelf (λ s. IsSpelled s.opened)
+  pub complete : IsUntroubled old new store_use → IfOpened store_use (λ s. IsSpelled s.opened)
       → IsComplete result
 
 abbrev pub Spools : WorldState → WorldState → List ℕ → Result Unit Unlisted → Type 0
-Spools old new file result = (shelf : Option Shelf)
-    × ((rows : List Row) × SpoolsBy old new file result shelf rows)
+Spools old new file result = (store_use : Option StoreUse)
+    × ((rows : List Row) × SpoolsBy old new file result store_use rows)

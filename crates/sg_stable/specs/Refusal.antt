@@ -5,7 +5,7 @@ use Rattle.sg_stable.specs.Position.{IsDamagedAt}
 use Rattle.sg_stable.specs.declared.fault.StoreRefusal.{StoreRefusal}
 use Rattle.sg_stable.specs.declared.fault.StoreRefusal.TheVariants.{Damage, DiskFault, NoMemory}
 
--- damage where it is, a fault where the count of faults rose, and never want of memory
+-- damage where it is, a fault where the count of faults rose, and never lack of memory
 abbrev pub HasReason : DiskState → DiskState → StoreRefusal → Type 0
 HasReason old new (Damage at) = WhereTold (content old) (IsDamagedAt at)
 HasReason old new DiskFault = Rose old.faults new.faults

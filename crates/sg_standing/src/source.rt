@@ -14,6 +14,7 @@ use sg_window::Tracker;
 #[derive(Debug, Drop)]
 pub struct Source {
     pub setup: SourceSetup,
+    /// A byte offset in what the inlet gives.
     pub opening: u64,
     pub tracker: Tracker,
 }

@@ -45,7 +45,7 @@ abbrev pub IsLookedAs : StoreKind → DiskState → Found → StoreState → Typ
 IsLookedAs Position disk found store = IsOpened disk store × (found.heads.items ≡ [])
 IsLookedAs (Buffer capacity) disk found store = IsLooked disk capacity found store
 
--- damage where it is, a fault where the count of faults rose; want of memory is free
+-- damage where it is, a fault where the count of faults rose; lack of memory is free
 abbrev pub OpenReason : StoreKind → DiskState → DiskState → StoreRefusal → Type 0
 OpenReason kind old new (Damage at) = WhereTold (content old) (IsDamagedStore kind at)
 OpenReason kind old new DiskFault = Rose old.faults new.faults

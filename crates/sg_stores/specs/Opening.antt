@@ -132,7 +132,7 @@ pub record HasFaulted (kinds : List StoreKind) (olds news : List DiskState) (s :
   pub rose : Rose old.faults new.faults
   pub before : AreStoresBefore s kinds olds
 
--- want of memory is free
+-- lack of memory is free
 abbrev pub HasReason : List StoreKind → List DiskState → List DiskState → CoreRefusal → Type 0
 HasReason kinds olds news (Damage s at) = IsDamaged kinds olds s at
 HasReason kinds olds news (DiskFault s) = HasFaulted kinds olds news s

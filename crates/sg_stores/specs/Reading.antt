@@ -29,7 +29,7 @@ pub record Stays (old new : StoreState) : Type 0 where
   pub later : old.disk.faults ≤ new.disk.faults
 
 -- Ok: so many messages; where the disk tells its bytes they are those of the first entries. DiskFault: the store fails now.
--- Want of memory is free.
+-- Lack of memory is free.
 abbrev pub Reads : StoreState → StoreState → ℕ → Result (List Content) RewriteRefusal → Type 0
 Reads old new n (Ok messages) = (new.failed ≡ false) × (length messages ≡ n)
     × WhereTold (content old.disk) (λ bytes. (list : List Kept) → HoldsEntries old list []

@@ -42,7 +42,7 @@ module _ (offering : Offering) (targets : List Target) (kind : FrameKind) (limit
       ([], so)
 
   module _ (feed : InletState) (now : WorldState) (tracer : Tracer) (pulls : ℕ) where
-    -- want of memory
+    -- lack of memory
     pub traces-lacking : (feed' : InletState) (later : WorldState) (text : List ℕ) → IsTracing offering targets kind limit first feed world now tracer pulls → feed.faults ≤ feed'.faults → OnlySays now later
         → TracesTo offering targets kind limit first feed' world later text (Err NoMemory)
     traces-lacking feed' later text (rows, so) faults says =

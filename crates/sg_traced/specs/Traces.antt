@@ -28,7 +28,7 @@ pub record AreWhole (kind : FrameKind) (limit : ℕ) (first feed : InletState) (
   pub given : HasGiven feed first.peer bytes
   pub items : items_of kind limit bytes ≡ items_in rows
 
--- when each answer comes, behind these rows; want of memory is free
+-- when each answer comes, behind these rows; lack of memory is free
 abbrev pub TraceEnds : FrameKind → ℕ → InletState → InletState → WorldState → WorldState → List Row
     → Result Unit Untraced → Type 0
 TraceEnds kind limit first feed world world' rows (Ok done) = AreAll kind limit first feed rows

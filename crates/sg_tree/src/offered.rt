@@ -122,7 +122,7 @@ pub fn is_skipped(rule: &InletRule, item: &[u8]) -> bool
 ///
 /// `at` is the moment of the pull, in microseconds since 1970-01-01T00:00:00Z, 0 to
 /// 250,000,000,000,000,000, and `peer` the name of who sent the record. TooManyOffers is never answered,
-/// and the others only for want of memory or for a pattern that the message met.
+/// and the others only for lack of memory or for a pattern that the message met.
 pub fn offers_plain<B: Builder>(
     alloc: Global,
     forest: &Forest,

@@ -29,7 +29,7 @@ impl Machine for Texts {
       outlets = record { opened = []; closed = [] };
       stores = record { opened = []; closed = [] };
       paths = record { opened = []; closed = [] };
-      shelf = None;
+      store_names = None;
       said = None;
       read_faults = texts.faults;
       inlet_faults = 0;

@@ -147,7 +147,7 @@ fn is_found(found: &Found, ended: &Ended, told: &mut Told) -> bool {
     right
 }
 
-// A core isn't opened over these disks: they fail for want of memory alone.
+// A core isn't opened over these disks: they fail for lack of memory alone.
 fn not_opened(disks: &[MemoryDisk], told: &mut Told) -> Result<(), AllocError> {
     if disks.iter().any(|disk| disk.starved()) {
         return Err(AllocError);

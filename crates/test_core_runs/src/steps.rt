@@ -236,7 +236,7 @@ fn feed(
     }
 }
 
-// Whether all of so many records came back, for want of credit or of memory.
+// Whether all of so many records came back, for lack of credit or of memory.
 fn is_back(refused: &Refused, credit: u64, count: u64) -> bool {
     match refused {
         Refused::NoCredit(records) => credit < count && records.len() as u64 == count,

@@ -1,6 +1,6 @@
 // The statements of drivers: those with names, and those in the elements of top-level log statements.
 
-use sg_ends::{Ends, Owner};
+use sg_ends::{Endpoints, Owner};
 use sg_list::Seq;
 use sg_parse_base::Spot;
 use sg_parse_obj::Object;
@@ -23,7 +23,7 @@ fn push(list: &mut Seq<Owner>, name: &Spot, named: bool, drivers: usize) -> Resu
     Ok(())
 }
 
-fn object(ends: &mut Ends, object: &Object, named: bool) -> Result<(), AllocError> {
+fn object(ends: &mut Endpoints, object: &Object, named: bool) -> Result<(), AllocError> {
     match object {
         Object::Source { name, drivers } => push(&mut ends.inlets, name, named, drivers.len()),
         Object::Destination { name, drivers } => {
@@ -33,7 +33,7 @@ fn object(ends: &mut Ends, object: &Object, named: bool) -> Result<(), AllocErro
     }
 }
 
-fn element(ends: &mut Ends, element: &RawElement) -> Result<(), AllocError> {
+fn element(ends: &mut Endpoints, element: &RawElement) -> Result<(), AllocError> {
     match element {
         RawElement::Source(_, RawRef::Inline(inside)) => object(ends, inside, false),
         RawElement::Destination(RawRef::Inline(inside)) => object(ends, inside, false),
@@ -41,15 +41,15 @@ fn element(ends: &mut Ends, element: &RawElement) -> Result<(), AllocError> {
     }
 }
 
-fn elements(ends: &mut Ends, all: &[RawElement]) -> Result<(), AllocError> {
+fn elements(ends: &mut Endpoints, all: &[RawElement]) -> Result<(), AllocError> {
     for one in all {
         element(ends, one)?;
     }
     Ok(())
 }
 
-pub(crate) fn ends_of(alloc: Global, statements: &[Statement]) -> Result<Ends, AllocError> {
-    let mut ends = Ends {
+pub(crate) fn ends_of(alloc: Global, statements: &[Statement]) -> Result<Endpoints, AllocError> {
+    let mut ends = Endpoints {
         inlets: Seq::empty(alloc),
         outlets: Seq::empty(alloc),
     };

@@ -14,7 +14,7 @@ use std::sync::Wait;
 // Sources 0 and 1 have the position stores 0 and 1. Destination 0 is a queue in memory, destination 1 has a
 // disk-buffer in store 2. Each call begins with a word: a0 an admit of source 0, behind which stand r9, a record that
 // ends at 9, and d0f100, its offer to destination 0 with flow-control (n without) of 100 encoded bytes. It answers
-// the verdicts Q, S, W, F and D, or for want of credit - and how many records came back. f0,5 is the front of
+// the verdicts Q, S, W, F and D, or for lack of credit - and how many records came back. f0,5 is the front of
 // destination 0, at most 5 entries: the first's place and their number, or e where none is left. s0,1,2 settles 2
 // from place 1 on: k, or - where that isn't the front. m1 is a refill: how many moved, - where none waits, o where
 // the first doesn't fit. p0 stores the position of source 0, c0 tells its credit. A store that has failed answers x.

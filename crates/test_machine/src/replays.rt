@@ -15,7 +15,7 @@ const STAMP: Stamp = Stamp { at: 0, offset: 0 };
 
 // What is shown; the window of inlet 0, and the capacity of the disk-buffers of destinations 0 and 2
 // (without one they are queues in memory); the events; and the tally of inlet 0 (records, mark, stored)
-// and of destinations 0 and 1 (taken, dropped for want of room and for a failed store, left), or None
+// and of destinations 0 and 1 (taken, dropped for lack of room and for a failed store, left), or None
 // where the events aren't legal.
 //
 // Inlet 0 has the position store 0, the disk-buffers have the stores 1 and 2, and queues take 2 entries

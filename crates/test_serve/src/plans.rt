@@ -15,7 +15,7 @@ use sg_memory::{MemoryFile, MemoryWorld, OutletPlan as Sends, Pace};
 use sg_memory_disk::Plan;
 use sg_outfmt::Shape;
 use sg_outside::{InletSpec, OutletSpec, StoreSpec};
-use sg_serve::{Device, Early, Ended, Ending, Fault, RunPlan, run_plan};
+use sg_serve::{Device, Early, Ended, Fault, PlanEnded, RunPlan, run_plan};
 use sg_source::InletPlan;
 use sg_template::{Env, Template};
 use sg_world::MemoryMachine;
@@ -201,20 +201,20 @@ fn fail(alloc: Global, fails: &str, world: &mut MemoryWorld) -> Result<bool, NoM
     Ok(true)
 }
 
-fn ended(ending: &Ending, how: &str) -> bool {
+fn ended(ending: &PlanEnded, how: &str) -> bool {
     match ending {
-        Ending::Ran(Ended::Quiet, _) => how == "quiet",
-        Ending::Before(Early::OpenFault(Device::Store(0))) => how == "store 0",
-        Ending::Before(Early::OpenFault(Device::Store(1))) => how == "store 1",
-        Ending::Before(Early::OpenFault(Device::Inlet(1))) => how == "inlet 1",
-        Ending::Before(Early::OpenFault(Device::Dest(1))) => how == "dest 1",
+        PlanEnded::Ran(Ended::Quiet, _) => how == "quiet",
+        PlanEnded::Before(Early::OpenFault(Device::Store(0))) => how == "store 0",
+        PlanEnded::Before(Early::OpenFault(Device::Store(1))) => how == "store 1",
+        PlanEnded::Before(Early::OpenFault(Device::Inlet(1))) => how == "inlet 1",
+        PlanEnded::Before(Early::OpenFault(Device::Dest(1))) => how == "dest 1",
         _ => false,
     }
 }
 
-fn failed(ending: &Ending, what: &str) -> bool {
+fn failed(ending: &PlanEnded, what: &str) -> bool {
     let fault = match ending {
-        Ending::Ran(_, Some(counts)) => counts.fault(),
+        PlanEnded::Ran(_, Some(counts)) => counts.fault(),
         _ => None,
     };
     match fault {

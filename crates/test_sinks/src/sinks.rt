@@ -12,7 +12,7 @@ const STAMP: Stamp = Stamp { at: 0, offset: 0 };
 
 // What is shown; how many entries without flow-control a queue takes; the capacity of the disk-buffer,
 // without one it is a queue in memory; the calls; what they answer; and what is left: entries taken,
-// those on the disk and what they take of it, those that wait, and the dropped ones, for want of room
+// those on the disk and what they take of it, those that wait, and the dropped ones, for lack of room
 // and for a failed store.
 //
 // f100 is an offer with flow-control (n without) of 100 encoded bytes, with an x where the store fails
