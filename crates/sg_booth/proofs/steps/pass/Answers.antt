@@ -5,8 +5,8 @@ use Rattle.sg_booth.specs.Rule.{IsGiven, exchange_of}
 use Rattle.sg_booth.proofs.Keeps.{passes}
 use Rattle.sg_booth.proofs.steps.pass.Goals as goal
 
-pub fetch_add-requires : goal.fetch_add-requires
-fetch_add-requires g c =
+pub fetch_add-served-requires : goal.fetch_add-served-requires
+fetch_add-served-requires g c =
     let words = c.requires.table.1.0 in
     let about = c.args.lock.now.shared.key in
     let now = c.exchange-before.ensures.3 in
