@@ -9,5 +9,6 @@ pub mod ValueLaws
 pub mod ManyPairs
 mod ApartPairs
 mod SortedPairs
+mod FirstBytes
 mod KnownNames
 pub mod LengthLemmas

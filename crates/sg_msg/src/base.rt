@@ -3,6 +3,7 @@ ghost use Rattle.std.specs.Prelude.{◌≡◌, ◌<◌, [], length, remove, IfOk
 ghost use Rattle.sg_msg.specs.Message.{value_of, with_pair, without_pair, IsAscending};
 ghost use Rattle.sg_msg.specs.Places.{IsAt, IsGapFor};
 
+use crate::order::order;
 use crate::pair::Pair;
 use bytes::Bytes;
 use smallvec::SmallVec;
@@ -12,6 +13,9 @@ use std::sync::Arc;
 
 // The number of pairs that take no memory of their own: HOST, PROGRAM, PID, MSGID and MESSAGE.
 pub(crate) const FEW: usize = 5;
+
+// Among so many pairs a name is looked for one pair after another.
+const SCANNED: usize = 8;
 
 /// The pairs in order.
 #[derive(Debug, Drop)]
@@ -38,6 +42,18 @@ impl Clone for Base {
     }
 }
 
+// The value of the name, which is looked for one pair after another.
+fn value_among<'a>(pairs: &'a [Pair], name: &[u8]) -> Option<&'a [u8]>
+    ensures { option_copied result ≡ value_of name.now pairs.now }
+{
+    for pair in pairs {
+        if pair.name() == name {
+            return Some(pair.value());
+        }
+    }
+    None
+}
+
 impl Base {
     // Where the name is, or where it would go.
     fn search(&self, name: &[u8]) -> Result<usize, usize>
@@ -45,7 +61,20 @@ impl Base {
         ensures found { IfOk result (IsAt self.now name.now) }
         ensures absent { IfErr result (IsGapFor self.now name.now) }
     {
-        self.pairs.binary_search_by(|pair| pair.name().cmp(name))
+        self.pairs.binary_search_by(|pair| order(pair.name(), name))
+    }
+
+    fn get(&self, name: &[u8]) -> Option<&[u8]>
+        requires { IsAscending self.now }
+        ensures { option_copied result ≡ value_of name.now self.now }
+    {
+        if self.pairs.len() <= SCANNED {
+            return value_among(self.pairs.as_slice(), name);
+        }
+        match self.search(name) {
+            Ok(place) => Some(self.pairs[place].value()),
+            Err(_) => None,
+        }
     }
 
     fn set(&mut self, alloc: Global, name: &[u8], value: Bytes) -> Result<(), AllocError>
@@ -57,6 +86,22 @@ impl Base {
             Ok(place) => self.pairs[place].put(value),
             Err(place) => {
                 let name = Bytes::copy_from_slice(alloc, name)?;
+                self.pairs.insert(place, Pair::new(name, value))?;
+            }
+        }
+        Ok(())
+    }
+
+    // As `set`, with a name whose memory is shared.
+    fn put(&mut self, name: &Bytes, value: Bytes) -> Result<(), AllocError>
+        requires { IsAscending self.old }
+        ensures ok { OnOk result (self.new ≡ with_pair name.now value self.old) }
+        ensures err { OnErr result (self.new ≡ self.old) }
+    {
+        match self.search(name.as_slice()) {
+            Ok(place) => self.pairs[place].put(value),
+            Err(place) => {
+                let name = name.clone()?;
                 self.pairs.insert(place, Pair::new(name, value))?;
             }
         }
@@ -122,10 +167,7 @@ impl Pairs {
         requires { IsAscending self.now }
         ensures { option_copied result ≡ value_of name.now self.now }
     {
-        match self.base.search(name) {
-            Ok(place) => Some(self.base.pairs[place].value()),
-            Err(_) => None,
-        }
+        self.base.get(name)
     }
 
     pub(crate) fn len(&self) -> usize
@@ -149,6 +191,14 @@ impl Pairs {
     {
         let alloc = self.alloc;
         Arc::make_mut(&mut self.base)?.set(alloc, name, value)
+    }
+
+    pub(crate) fn put(&mut self, name: &Bytes, value: Bytes) -> Result<(), AllocError>
+        requires { IsAscending self.old }
+        ensures ok { OnOk result (self.new ≡ with_pair name.now value self.old) }
+        ensures err { OnErr result (self.new ≡ self.old) }
+    {
+        Arc::make_mut(&mut self.base)?.put(name, value)
     }
 
     pub(crate) fn unset(&mut self, name: &[u8]) -> Result<(), AllocError>

@@ -9,6 +9,7 @@ mod length;
 mod macros;
 mod message;
 mod offer;
+mod order;
 mod pair;
 mod refusal;
 mod sets;

@@ -1,5 +1,5 @@
 // Names that are computed.
-ghost use Rattle.std.specs.Prelude.{◌≡◌, ◌||◌, ◌++◌, bytes_eq};
+ghost use Rattle.std.specs.Prelude.{◌≡◌, false, ◌||◌, ◌++◌, bytes_eq};
 ghost use Rattle.std.specs.List.{list_any};
 ghost use Rattle.sg_msg.specs.Macros.{is_hard, is_any, is_prefixed_date, date_macros, other_macros};
 
@@ -34,11 +34,24 @@ const OTHER_MACROS: [&[u8]; 12] = [
     b"_",
 ];
 
+// What the names of macros begin with.
+const FIRST_BYTES: [u8; 13] = *b"DFHILMPRSTUY_";
+
 /// Whether the name is that of a macro, which no pair can have. Names are compared byte for byte.
 pub fn is_hard(name: &[u8]) -> bool
     ensures { result ≡ is_hard name.now }
 {
-    is_other_macro(name) || is_stamp_macro(name)
+    may_be_hard(name) && (is_other_macro(name) || is_stamp_macro(name))
+}
+
+// Whether the name begins as a macro's does. Most others fail here.
+fn may_be_hard(name: &[u8]) -> bool
+    ensures { result ≡ false → is_hard name.now ≡ false }
+{
+    match name.first() {
+        Some(first) => FIRST_BYTES.contains(first),
+        None => false,
+    }
 }
 
 // Whether the name is a date macro's, with a prefix or without one.

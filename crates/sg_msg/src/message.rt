@@ -2,7 +2,7 @@
 ghost use Rattle.std.specs.Prelude.{◌≡◌, ◌≤◌, ◌↔◌, true, [], IfOk, OnOk, OnErr, length, option_copied, option_map, slice_get};
 ghost use Rattle.sg_time.specs.Stamp.{IsValid};
 ghost use Rattle.sg_msg.specs.Macros.{is_hard};
-ghost use Rattle.sg_msg.specs.Message.{IsAscending, HaveNames, AreDistinct, IsMessage, KeepsOthers, value_of, with_pair, without_pair, with_tag, without_tag};
+ghost use Rattle.sg_msg.specs.Message.{IsAscending, IsName, HaveNames, AreDistinct, IsMessage, KeepsOthers, value_of, with_pair, without_pair, with_tag, without_tag};
 
 use crate::base::Pairs;
 use crate::tags::Tags;
@@ -195,6 +195,20 @@ impl Message {
         Ok(())
     }
 
+    /// As `set_bytes`, with a name that is known to be no macro's, and whose memory is shared too. On an
+    /// error the message is as it was.
+    pub fn put(&mut self, name: &Bytes, value: Bytes) -> Result<(), AllocError>
+        requires { IsName name.now }
+        ensures ok { OnOk result (self.new
+            ≡ record self.old { pairs = with_pair name.now value self.old.pairs }) }
+        ensures value { OnOk result (value_of name.now self.new.pairs ≡ Some value) }
+        ensures others { OnOk result (KeepsOthers name.now self.old.pairs self.new.pairs) }
+        ensures err { OnErr result (self.new ≡ self.old) }
+    {
+        self.pairs.put(name, value)?;
+        Ok(())
+    }
+
     /// Takes the pair of this name out, where there is one. A refusal leaves the message as it was.
     pub fn unset(&mut self, name: &[u8]) -> Result<(), MsgRefusal>
         requires { (1 ≤ length name.now) × (length name.now ≤ 255) }
@@ -208,6 +222,19 @@ impl Message {
         if is_hard(name) {
             return Err(MsgRefusal::HardMacro);
         }
+        self.remove(name)?;
+        Ok(())
+    }
+
+    /// As `unset`, of a name that is known to be no macro's. On an error the message is as it was.
+    pub fn remove(&mut self, name: &[u8]) -> Result<(), AllocError>
+        requires { IsName name.now }
+        ensures ok { OnOk result (self.new
+            ≡ record self.old { pairs = without_pair name.now self.old.pairs }) }
+        ensures value { OnOk result (value_of name.now self.new.pairs ≡ None) }
+        ensures others { OnOk result (KeepsOthers name.now self.old.pairs self.new.pairs) }
+        ensures err { OnErr result (self.new ≡ self.old) }
+    {
         self.pairs.unset(name)?;
         Ok(())
     }

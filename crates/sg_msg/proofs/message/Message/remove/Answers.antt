@@ -1,6 +1,6 @@
 use Rattle.sg_msg.proofs.KeptPairs.{message-without}
 use Rattle.sg_msg.proofs.ValueLaws.{value-without, value-without-other}
-use Rattle.sg_msg.proofs.message.Message.unset.Goals as goal
+use Rattle.sg_msg.proofs.message.Message.remove.Goals as goal
 
 -- the pairs with one less are a message's
 pub invariant_of-self-2 : goal.invariant_of-self-2
