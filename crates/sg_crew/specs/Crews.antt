@@ -1,7 +1,7 @@
 -- Actors at seats of a hub, all of which are split off the first seat for a round and joined into it behind it.
 use Rattle.std.specs.Prelude.{◌≡◌, ◌≤◌, ◌<◌, ◌+◌, ◌||◌, ℕ, Bool, false, Option, Some, List, [], ◌∷◌, ◌++◌, map, length, slice_get}
 use Rattle.sg_booth.specs.Lists.{total, times, StartsWith}
-use Rattle.sg_booth.specs.Desks.{places}
+use Rattle.sg_booth.specs.Desks.{IsDeskOf, AreOrdered, places}
 use Rattle.sg_counter.specs.Exchanges.{Makes, Caller}
 use Rattle.sg_actor.specs.Bringing.{AllBy}
 use Rattle.sg_actor.specs.declared.turned.Turned.{Turned}
@@ -77,3 +77,13 @@ abbrev pub HasServed : {A B : Type 0} → (A → A → List Turn → Type 0) →
 HasServed source dest first sources sources' dests dests' rounds ended =
     (account : Caller → List Turn) × ((number : ℕ)
     × (AllSeen first → ServesWith source dest any_step (tt {0}) (tt {0}) sources sources' dests dests' rounds ended (exchanges_of first.seen) account number))
+
+-- Behind rounds.
+
+-- The first seat is the hub's, and its places are in order. All turns are those that it has left, as many as this at least, and those of its
+-- calls.
+pub record IsFirst (hub : HubState) (turns least : ℕ) (seat : SeatState) : Type 0 where
+  pub of_hub : IsDeskOf hub seat
+  pub ordered : AreOrdered seat
+  pub sum : length (places seat) + seat.left ≡ turns
+  pub left : least ≤ seat.left

@@ -14,7 +14,7 @@ use Rattle.sg_actor.specs.declared.dest.DestActor.{DestActor}
 use Rattle.sg_actor.specs.declared.source.SourceActor.{SourceActor}
 use Rattle.sg_actor.specs.declared.turned.Turned.{Turned}
 use Rattle.sg_turns.specs.Turns.{Turn}
-use Rattle.sg_turns.specs.Actors.{source_seen, SourceTakes, DestTakes}
+use Rattle.sg_turns.specs.Actors.{source_seen, AreSources, AreDests, SourceTakes, DestTakes}
 use Rattle.sg_hub.specs.Seats.{HubState, SeatState}
 use Rattle.sg_crew.specs.Crews.{WorkedWith}
 use Rattle.sg_crew.specs.declared.worker.Worker.{Worker}
@@ -74,3 +74,11 @@ pub record HasSent {O D : Type 0} (state : O → OutletState) (hub : HubState) (
   pub turn : Turn
   pub worked : WorkedWith (DestTakes state w.actor v.actor) (OfDest w.actor.spec.dest) hub w.seat
       v.seat v.turn turn
+
+-- as many sources and destinations, for the same setup
+pub record AreCrew {R I O D : Type 0} (state : I → InletState) (inlets dests : R → ℕ) (state' : O → OutletState) (hub : HubState) (sources sources' : List (Worker (SourceActor R I) D))
+    (senders senders' : List (Worker (DestActor O) D)) : Type 0 where
+  pub sources : AreSources state inlets dests (setup_of hub.made) (actors_of sources')
+  pub senders : AreDests state' (setup_of hub.made) (actors_of senders')
+  pub all_sources : length sources' ≡ length sources
+  pub all_senders : length senders' ≡ length senders

@@ -2,9 +2,11 @@
 ghost use Rattle.std.specs.Prelude.{◌≡◌, ◌<◌, ℕ, [], ◌∷◌, All, length, slice_index_or};
 ghost use denote.Param.Send.{IsSend, IsSync};
 ghost use Rattle.sg_crew.specs.Crews.{AllChanged};
+ghost use Rattle.sg_crew.specs.Widths.{IsWidth};
 ghost use Rattle.sg_crew.specs.Workers.{MayRead, MaySend, HasRead, HasSent};
 ghost use Rattle.sg_crew.specs.Lanes.{MayTake, HasTaken};
 
+use crate::width::Width;
 use crate::work::work;
 use crate::worker::Worker;
 use sg_actor::{DestActor, SourceActor};
@@ -29,13 +31,13 @@ fn take_lane<
     I: Inlet + Send,
     O: Outlet + Send,
     D: Disk + Send,
->(rt: &T, alloc: Global, hub: &Hub<D>, threads: usize, lane: &mut Lane<R, I, O, D>)
-    requires threads { 0 < threads }
+>(rt: &T, alloc: Global, hub: &Hub<D>, width: Width, lane: &mut Lane<R, I, O, D>)
+    requires width { IsWidth width }
     requires may { MayTake I.state R.inlets R.dests O.state hub.now lane.old }
     ensures taken { HasTaken I.state R.offers R.inlets R.dests O.state hub.entry.now lane.old
         lane.new }
 {
-    work(rt, alloc, hub, threads, &mut lane.sources, &mut lane.dests);
+    work(rt, alloc, hub, width, &mut lane.sources, &mut lane.dests);
 }
 
 // All lanes, at the same time.
@@ -45,16 +47,8 @@ fn take_lanes<
     I: Inlet + Send,
     O: Outlet + Send,
     D: Disk + Send,
->(
-    rt: &T,
-    alloc: Global,
-    hub: &Hub<D>,
-    threads: usize,
-    beside: usize,
-    lanes: &mut [Lane<R, I, O, D>],
-)
-    requires threads { 0 < threads }
-    requires beside { 0 < beside }
+>(rt: &T, alloc: Global, hub: &Hub<D>, width: Width, lanes: &mut [Lane<R, I, O, D>])
+    requires width { IsWidth width }
     requires may { All (MayTake I.state R.inlets R.dests O.state hub.now) lanes.old }
     ensures all { length lanes.new ≡ length lanes.old }
     ensures taken { (i : ℕ) (d : _) → i < length lanes.old → HasTaken I.state R.offers R.inlets
@@ -63,11 +57,11 @@ fn take_lanes<
 {
     let take = |_place: usize, lane: &mut Lane<R, I, O, D>|
         requires { IsSync T.row × IsSend R.row × IsSend I.row × IsSend O.row × IsSend D.row
-            × (0 < threads) × MayTake I.state R.inlets R.dests O.state hub.now lane.now }
+            × IsWidth width × MayTake I.state R.inlets R.dests O.state hub.now lane.now }
         ensures { HasTaken I.state R.offers R.inlets R.dests O.state hub.entry.now lane.entry.now
             lane.exit.now }
-    { take_lane(rt, alloc, hub, threads, lane) };
-    for_each_mut(rt, lanes, beside, &take);
+    { take_lane(rt, alloc, hub, width, lane) };
+    for_each_mut(rt, lanes, width.beside, &take);
 }
 
 // The two lanes.
@@ -78,8 +72,7 @@ fn parted<R, I, O, D: Disk>(lanes: [Lane<R, I, O, D>; 2]) -> (Lane<R, I, O, D>, 
     (first, second)
 }
 
-/// Each source and each destination takes a turn: sources beside destinations where that is 2, and each
-/// kind in so many threads.
+/// Each source and each destination takes a turn.
 pub(crate) fn take_turns<
     T: Threads + Wait + Sync,
     R: Router + Send,
@@ -90,13 +83,11 @@ pub(crate) fn take_turns<
     rt: &T,
     alloc: Global,
     hub: &Hub<D>,
-    threads: usize,
-    beside: usize,
+    width: Width,
     sources: &mut Vec<Worker<SourceActor<R, I>, D>>,
     dests: &mut Vec<Worker<DestActor<O>, D>>,
 )
-    requires threads { 0 < threads }
-    requires beside { 0 < beside }
+    requires width { IsWidth width }
     requires read { All (MayRead I.state R.inlets R.dests hub.now) sources.old.items }
     requires send { All (MaySend O.state hub.now) dests.old.items }
     ensures read { AllChanged (HasRead I.state R.offers R.inlets R.dests hub.entry.now)
@@ -113,7 +104,7 @@ pub(crate) fn take_turns<
             dests: mem::replace(dests, Vec::new(alloc)),
         },
     ];
-    take_lanes(rt, alloc, hub, threads, beside, &mut lanes);
+    take_lanes(rt, alloc, hub, width, &mut lanes);
     let (first, second) = parted(lanes);
     let Lane {
         sources: readers,

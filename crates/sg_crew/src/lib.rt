@@ -8,6 +8,7 @@ mod meter;
 mod round;
 mod rounds;
 mod run;
+mod width;
 mod work;
 mod worker;
 

@@ -1,13 +1,15 @@
 // The rounds of a run.
-ghost use Rattle.std.specs.Prelude.{◌≡◌, ◌≤◌, ◌<◌, ◌+◌, ◌*◌, length};
-ghost use Rattle.sg_booth.specs.Desks.{IsDeskOf, AreOrdered, first_desk, places};
+ghost use Rattle.std.specs.Prelude.{◌≡◌, ◌≤◌, ◌<◌, ◌*◌, length};
+ghost use Rattle.sg_booth.specs.Desks.{first_desk};
 ghost use Rattle.sg_standing.specs.States.{setup_of};
 ghost use Rattle.sg_turns.specs.Actors.{AreSources, AreDests, SourceTook, DestTook};
-ghost use Rattle.sg_crew.specs.Workers.{actors_of};
-ghost use Rattle.sg_crew.specs.Crews.{HasServed};
+ghost use Rattle.sg_crew.specs.Workers.{actors_of, AreCrew};
+ghost use Rattle.sg_crew.specs.Widths.{IsWidth};
+ghost use Rattle.sg_crew.specs.Crews.{HasServed, IsFirst};
 
 use crate::gather::Round;
 use crate::round::take_round;
+use crate::width::{Width, alone, spread_over};
 use crate::worker::Worker;
 use sg_actor::{DestActor, SourceActor};
 use sg_device::{Disk, Inlet, Outlet};
@@ -18,30 +20,18 @@ use std::alloc::Global;
 use std::sync::Wait;
 use std::thread::Threads;
 
-// In how many threads the turns of a round are taken: of each kind, and whether the kinds are beside each
-// other.
-#[derive(Clone, Copy, Drop)]
-struct Width {
-    threads: usize,
-    beside: usize,
-}
+// How many records have to be spread over sources so that their turns are worth starting threads.
+const WORTH: usize = 300;
 
-// How many records have to be spread over sources so that their turns are worth starting threads. Eight connections
-// with 100 records each moved as many a second on four threads as on one, for twice the processor time.
-const WORTH: usize = 2_000;
-
-// Where fewer records were spread, the next turns are taken on this thread.
-fn width_after(round: Round, threads: usize) -> Width
+// In how many threads the next turns are taken: where fewer records were spread, on this one.
+fn width_after(round: Round, threads: usize, sources: usize) -> Width
     requires { 0 < threads }
-    ensures { (0 < result.threads) × (0 < result.beside) }
+    ensures { IsWidth result }
 {
-    if round.spread < WORTH {
-        Width {
-            threads: 1,
-            beside: 1,
-        }
+    if threads < 2 || round.spread < WORTH {
+        alone()
     } else {
-        Width { threads, beside: 2 }
+        spread_over(threads, sources)
     }
 }
 
@@ -72,38 +62,23 @@ pub(crate) fn run_rounds<
     requires sources { AreSources I.state R.inlets R.dests (setup_of hub.now.made)
         (actors_of sources.old.items) }
     requires dests { AreDests O.state (setup_of hub.now.made) (actors_of dests.old.items) }
-    ensures first { IsDeskOf hub.entry.now first.new }
-    ensures ordered { AreOrdered first.new }
-    ensures sum { length (places first.new) + first.new.left ≡ hub.entry.now.turns }
-    ensures left { 0 < first.new.left }
+    ensures first { IsFirst hub.entry.now hub.entry.now.turns 1 first.new }
     ensures served { HasServed (SourceTook I.state R.offers R.inlets R.dests) (DestTook O.state)
         first.new (actors_of sources.old.items) (actors_of sources.new.items)
         (actors_of dests.old.items) (actors_of dests.new.items) rounds result }
-    ensures sources { AreSources I.state R.inlets R.dests (setup_of hub.entry.now.made)
-        (actors_of sources.new.items) }
-    ensures dests { AreDests O.state (setup_of hub.entry.now.made) (actors_of dests.new.items) }
-    ensures all_sources { length sources.new.items ≡ length sources.old.items }
-    ensures all_dests { length dests.new.items ≡ length dests.old.items }
+    ensures crew { AreCrew I.state R.inlets R.dests O.state hub.entry.now sources.old.items
+        sources.new.items dests.old.items dests.new.items }
 {
-    let mut width = Width { threads, beside: 2 };
+    let mut width = spread_over(threads, sources.len());
     for _round in 0..rounds {
-        let round = take_round(
-            rt,
-            alloc,
-            hub,
-            first,
-            sources,
-            dests,
-            width.threads,
-            width.beside,
-        );
+        let round = take_round(rt, alloc, hub, first, sources, dests, width);
         if round.starved {
             return Ended::NoMemory;
         }
         if !round.busy {
             return Ended::Quiet;
         }
-        width = width_after(round, threads);
+        width = width_after(round, threads, sources.len());
     }
     Ended::RoundsSpent
 }

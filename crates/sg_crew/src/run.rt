@@ -189,9 +189,9 @@ fn serve_in<
 
 /// Moves what the sources' inlets give through the core to the destinations' outlets, so many rounds at
 /// most, 1 to 2^36. In a round each source and each destination takes one turn, all at the same time; where
-/// at most one did anything in the round before, one after the other on this thread. The first quiet round,
-/// in which no turn does anything and none is idle, is the last, and so is one in which a turn finds no
-/// memory.
+/// sources brought in few records beside each other's in the round before, one after the other on this
+/// thread. The first quiet round, in which no turn does anything and none is idle, is the last, and so is
+/// one in which a turn finds no memory.
 ///
 /// There is one source for each inlet of the core, and one destination for each of its destinations, in
 /// the order of their numbers. Where there is no memory for the threads' places, the turns are taken on this

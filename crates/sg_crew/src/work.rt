@@ -2,9 +2,11 @@
 ghost use Rattle.std.specs.Prelude.{◌≡◌, ◌<◌, ℕ, All, length, slice_index_or};
 ghost use Rattle.sg_turns.specs.Turns.{answer_of};
 ghost use Rattle.sg_crew.specs.Crews.{AllChanged};
+ghost use Rattle.sg_crew.specs.Widths.{IsWidth};
 ghost use Rattle.sg_crew.specs.Workers.{MayRead, MaySend, HasRead, HasSent};
 
 use crate::meter::Metered;
+use crate::width::Width;
 use crate::worker::Worker;
 use sg_actor::{DestActor, SourceActor, Turned};
 use sg_device::{Disk, Inlet, NoMemory, Outlet};
@@ -126,17 +128,17 @@ pub(crate) fn work<
     rt: &T,
     alloc: Global,
     hub: &Hub<D>,
-    threads: usize,
+    width: Width,
     sources: &mut Vec<Worker<SourceActor<R, I>, D>>,
     dests: &mut Vec<Worker<DestActor<O>, D>>,
 )
-    requires threads { 0 < threads }
+    requires width { IsWidth width }
     requires read { All (MayRead I.state R.inlets R.dests hub.now) sources.old.items }
     requires send { All (MaySend O.state hub.now) dests.old.items }
     ensures read { AllChanged (HasRead I.state R.offers R.inlets R.dests hub.entry.now)
         sources.old.items sources.new.items }
     ensures send { AllChanged (HasSent O.state hub.entry.now) dests.old.items dests.new.items }
 {
-    read_each(rt, alloc, hub, threads, sources);
-    send_each(rt, alloc, hub, threads, dests);
+    read_each(rt, alloc, hub, width.readers, sources);
+    send_each(rt, alloc, hub, width.senders, dests);
 }

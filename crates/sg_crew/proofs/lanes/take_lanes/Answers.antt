@@ -15,7 +15,7 @@ for_each_mut-requires-clause-accepts g c κs within i p below is =
     let j = c.type_bounds.send-I in
     let o = c.type_bounds.send-O in
     let d = c.type_bounds.send-D in
-    let threads = c.requires.threads in
+    let width = c.requires.width in
     let may : MayTake g.I.Inlet.state g.R.Router.inlets g.R.Router.dests g.O.Outlet.state c.args.hub.now p.now =
     subst (MayTake g.I.Inlet.state g.R.Router.inlets g.R.Router.dests g.O.Outlet.state c.args.hub.now) (sym is) (c.requires.may i p.now below) in
-    ((search sendable depth 20, search sendable depth 20, search sendable depth 20, search sendable depth 20, search sendable depth 20, threads, may), search (sendable, rules) depth 20)
+    ((search sendable depth 20, search sendable depth 20, search sendable depth 20, search sendable depth 20, search sendable depth 20, width, may), search (sendable, rules) depth 20)

@@ -1,4 +1,4 @@
-use Rattle.std.proofs.Common.{arith, ◌≡◌, ◌++◌, refl, ap, sym, ◌∙◌, subst, append_assoc}
+use Rattle.std.proofs.Common.{rules, arith, ◌≡◌, ◌++◌, refl, ap, sym, ◌∙◌, subst, append_assoc}
 use Rattle.std.specs.Prelude.{◌||◌, not, is_some}
 use Rattle.sg_booth.specs.Desks.{IsDeskOf, fresh_desk}
 use Rattle.sg_counter.specs.Exchanges.{OfSource, OfDest}
@@ -73,67 +73,6 @@ gather-sent-requires-clause-seats g c =
     may-join (DestTakes g.O.Outlet.state) OfDest c.args.hub.now c.args.first.now c.deal-2.new.workers.items c.take_turns.new.dests.items u.0 u.1
     (dealt-seat c.args.first.now c.deal.new.first same c.args.dests.now.items c.deal-2.new.workers.items c.deal-2.ensures.workers) c.requires.first
 
-pub returns-clause-first : goal.returns-clause-first
-returns-clause-first g c =
-    let of_hub : IsDeskOf c.args.hub.now c.deal-2.new.first =
-    subst (IsDeskOf c.args.hub.now) (sym c.deal-2.ensures.first) (subst (λ (s : SeatState). IsDeskOf c.args.hub.now s) (sym c.deal.ensures.first) (c.requires.first.0, c.requires.first.1)) in
-    let gs = c.gather-read.ensures.gathered in
-    let gd = c.gather-sent.ensures.gathered in
-    (gd.booth ∙ (gs.booth ∙ of_hub.0), gd.made ∙ (gs.made ∙ of_hub.1))
-
-pub returns-clause-left : goal.returns-clause-left
-returns-clause-left g c =
-    let one = ap (λ (s : SeatState). s.left) c.deal.ensures.first in
-    let two = ap (λ (s : SeatState). s.left) c.deal-2.ensures.first in
-    let three = c.gather-read.ensures.gathered.left in
-    let four = c.gather-sent.ensures.gathered.left in
-    omega (arith, one, two, three, four, c.requires.left)
-
-pub returns-clause-all_sources : goal.returns-clause-all_sources
-returns-clause-all_sources g c = c.gather-read.ensures.actors.all ∙ (c.take_turns.ensures.read.all ∙ c.deal.ensures.workers.all)
-
-pub returns-clause-all_dests : goal.returns-clause-all_dests
-returns-clause-all_dests g c = c.gather-sent.ensures.actors.all ∙ (c.take_turns.ensures.send.all ∙ c.deal-2.ensures.workers.all)
-
-pub returns-clause-sum : goal.returns-clause-sum
-returns-clause-sum g c =
-    let state = g.I.Inlet.state in
-    let offers = g.R.Router.offers in
-    let inlets = g.R.Router.inlets in
-    let dests = g.R.Router.dests in
-    let hub = c.args.hub.now in
-    let f0 = c.args.first.now in
-    let s0 = c.args.sources.now.items in
-    let s1 = c.deal.new.workers.items in
-    let s2 = c.take_turns.new.sources.items in
-    let t = sources-took state offers inlets dests hub f0 f0 refl s0 s1 c.deal.ensures.workers c.requires.sources s2 c.take_turns.ensures.read in
-    let s3 = c.gather-read.new.workers.items in
-    let same = ap (λ (s : SeatState). fresh_desk s 4) c.deal.ensures.first in
-    let m = c.deal.new.first in
-    let d0 = c.args.dests.now.items in
-    let d1 = c.deal-2.new.workers.items in
-    let d2 = c.take_turns.new.dests.items in
-    let d3 = c.gather-sent.new.workers.items in
-    let u = dests-took g.O.Outlet.state hub f0 m same d0 d1 c.deal-2.ensures.workers c.requires.dests d2 c.take_turns.ensures.send in
-    let f1 = c.deal-2.new.first in
-    let f2 = c.gather-read.new.first in
-    let f3 = c.gather-sent.new.first in
-    let gs = c.gather-read.ensures.gathered in
-    let gd = c.gather-sent.ensures.gathered in
-    let seen1 : f1.seen ≡ f0.seen = ap (λ (s : SeatState). s.seen) c.deal-2.ensures.first ∙ ap (λ (s : SeatState). s.seen) c.deal.ensures.first in
-    let own1 : f1.own ≡ f0.own = ap (λ (s : SeatState). s.own) c.deal-2.ensures.first ∙ ap (λ (s : SeatState). s.own) c.deal.ensures.first in
-    let joined1 : f1.joined ≡ f0.joined = ap (λ (s : SeatState). s.joined) c.deal-2.ensures.first ∙ ap (λ (s : SeatState). s.joined) c.deal.ensures.first in
-    let more = gs.seen.0 ++ gd.seen.0 in
-    let seen : f3.seen ≡ f0.seen ++ more = gd.seen.1 ∙ (ap (λ l. l ++ gd.seen.0) (gs.seen.1 ∙ ap (λ l. l ++ gs.seen.0) seen1) ∙ append_assoc f0.seen gs.seen.0 gd.seen.0) in
-    let sat = dealt-seat f0 f0 refl s0 s1 c.deal.ensures.workers in
-    let sat' = dealt-seat f0 m same d0 d1 c.deal-2.ensures.workers in
-    let one = ap (λ (s : SeatState). s.left) c.deal.ensures.first in
-    let two = ap (λ (s : SeatState). s.left) c.deal-2.ensures.first in
-    let all = c.deal.ensures.workers.all in
-    let all' = c.deal-2.ensures.workers.all in
-    round-turns (SourceTakes state offers inlets dests) (DestTakes g.O.Outlet.state) actor_of seat_of turn_of actor_of seat_of turn_of hub f0 f1 f2 f3 s1 s2 d1 d2 t.0 u.0
-    seen1 own1 joined1 sat sat' t.1 u.1 gs gd more seen (omega (arith, one, two, all, all', c.requires.left))
-
 pub returns-clause-took : goal.returns-clause-took
 returns-clause-took g c =
     let state = g.I.Inlet.state in
@@ -180,8 +119,8 @@ returns-clause-took g c =
       ),
     )
 
-pub returns-clause-sources : goal.returns-clause-sources
-returns-clause-sources g c =
+pub returns-clause-first : goal.returns-clause-first
+returns-clause-first g c =
     let state = g.I.Inlet.state in
     let offers = g.R.Router.offers in
     let inlets = g.R.Router.inlets in
@@ -192,16 +131,63 @@ returns-clause-sources g c =
     let s1 = c.deal.new.workers.items in
     let s2 = c.take_turns.new.sources.items in
     let t = sources-took state offers inlets dests hub f0 f0 refl s0 s1 c.deal.ensures.workers c.requires.sources s2 c.take_turns.ensures.read in
-    sources-stay state offers inlets dests hub f0 f0 refl s0 s1 c.deal.ensures.workers c.requires.sources s2 c.gather-read.new.workers.items t.0 t.1 c.gather-read.ensures.actors
+    let s3 = c.gather-read.new.workers.items in
+    let same = ap (λ (s : SeatState). fresh_desk s 4) c.deal.ensures.first in
+    let m = c.deal.new.first in
+    let d0 = c.args.dests.now.items in
+    let d1 = c.deal-2.new.workers.items in
+    let d2 = c.take_turns.new.dests.items in
+    let d3 = c.gather-sent.new.workers.items in
+    let u = dests-took g.O.Outlet.state hub f0 m same d0 d1 c.deal-2.ensures.workers c.requires.dests d2 c.take_turns.ensures.send in
+    let f1 = c.deal-2.new.first in
+    let f2 = c.gather-read.new.first in
+    let f3 = c.gather-sent.new.first in
+    let gs = c.gather-read.ensures.gathered in
+    let gd = c.gather-sent.ensures.gathered in
+    let seen1 : f1.seen ≡ f0.seen = ap (λ (s : SeatState). s.seen) c.deal-2.ensures.first ∙ ap (λ (s : SeatState). s.seen) c.deal.ensures.first in
+    let own1 : f1.own ≡ f0.own = ap (λ (s : SeatState). s.own) c.deal-2.ensures.first ∙ ap (λ (s : SeatState). s.own) c.deal.ensures.first in
+    let joined1 : f1.joined ≡ f0.joined = ap (λ (s : SeatState). s.joined) c.deal-2.ensures.first ∙ ap (λ (s : SeatState). s.joined) c.deal.ensures.first in
+    let more = gs.seen.0 ++ gd.seen.0 in
+    let seen : f3.seen ≡ f0.seen ++ more = gd.seen.1 ∙ (ap (λ l. l ++ gd.seen.0) (gs.seen.1 ∙ ap (λ l. l ++ gs.seen.0) seen1) ∙ append_assoc f0.seen gs.seen.0 gd.seen.0) in
+    let sat = dealt-seat f0 f0 refl s0 s1 c.deal.ensures.workers in
+    let sat' = dealt-seat f0 m same d0 d1 c.deal-2.ensures.workers in
+    let one = ap (λ (s : SeatState). s.left) c.deal.ensures.first in
+    let two = ap (λ (s : SeatState). s.left) c.deal-2.ensures.first in
+    let all = c.deal.ensures.workers.all in
+    let all' = c.deal-2.ensures.workers.all in
+    let of_hub : IsDeskOf c.args.hub.now c.deal-2.new.first =
+    subst (IsDeskOf c.args.hub.now) (sym c.deal-2.ensures.first) (subst (λ (s : SeatState). IsDeskOf c.args.hub.now s) (sym c.deal.ensures.first) (c.requires.first.0, c.requires.first.1)) in
+    let three = c.gather-read.ensures.gathered.left in
+    let four = c.gather-sent.ensures.gathered.left in
+    record {
+      of_hub = (gd.booth ∙ (gs.booth ∙ of_hub.0), gd.made ∙ (gs.made ∙ of_hub.1));
+      ordered = search rules;
+      sum = round-turns (SourceTakes state offers inlets dests) (DestTakes g.O.Outlet.state) actor_of seat_of turn_of actor_of seat_of turn_of hub f0 f1 f2 f3 s1 s2 d1 d2 t.0 u.0
+          seen1 own1 joined1 sat sat' t.1 u.1 gs gd more seen (omega (arith, one, two, all, all', c.requires.left));
+      left = omega (arith, one, two, three, four, c.requires.left);
+    }
 
-pub returns-clause-dests : goal.returns-clause-dests
-returns-clause-dests g c =
+pub returns-clause-crew : goal.returns-clause-crew
+returns-clause-crew g c =
+    let state = g.I.Inlet.state in
+    let offers = g.R.Router.offers in
+    let inlets = g.R.Router.inlets in
+    let dests = g.R.Router.dests in
     let hub = c.args.hub.now in
     let f0 = c.args.first.now in
+    let s0 = c.args.sources.now.items in
+    let s1 = c.deal.new.workers.items in
+    let s2 = c.take_turns.new.sources.items in
+    let t = sources-took state offers inlets dests hub f0 f0 refl s0 s1 c.deal.ensures.workers c.requires.sources s2 c.take_turns.ensures.read in
     let m = c.deal.new.first in
     let same = ap (λ (s : SeatState). fresh_desk s 4) c.deal.ensures.first in
     let d0 = c.args.dests.now.items in
     let d1 = c.deal-2.new.workers.items in
     let d2 = c.take_turns.new.dests.items in
     let u = dests-took g.O.Outlet.state hub f0 m same d0 d1 c.deal-2.ensures.workers c.requires.dests d2 c.take_turns.ensures.send in
-    dests-stay g.O.Outlet.state hub f0 m same d0 d1 c.deal-2.ensures.workers c.requires.dests d2 c.gather-sent.new.workers.items u.0 u.1 c.gather-sent.ensures.actors
+    record {
+      sources = sources-stay state offers inlets dests hub f0 f0 refl s0 s1 c.deal.ensures.workers c.requires.sources s2 c.gather-read.new.workers.items t.0 t.1 c.gather-read.ensures.actors;
+      senders = dests-stay g.O.Outlet.state hub f0 m same d0 d1 c.deal-2.ensures.workers c.requires.dests d2 c.gather-sent.new.workers.items u.0 u.1 c.gather-sent.ensures.actors;
+      all_sources = c.gather-read.ensures.actors.all ∙ (c.take_turns.ensures.read.all ∙ c.deal.ensures.workers.all);
+      all_senders = c.gather-sent.ensures.actors.all ∙ (c.take_turns.ensures.send.all ∙ c.deal-2.ensures.workers.all);
+    }

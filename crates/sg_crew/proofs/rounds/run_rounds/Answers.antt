@@ -17,7 +17,7 @@ loop-round-init g c =
     let is = c.requires.first in
     record {
       hub = refl;
-      width = (c.requires.threads, omega arith);
+      width = c.spread_over-width.ensures;
       first = subst (IsDeskOf c.args.hub.now) (sym is) (refl, refl);
       ordered = subst AreOrdered (sym is) (omega arith, tt);
       sum = subst (λ (s : SeatState). length (places s) + s.left ≡ c.args.hub.now.turns) (sym is) (omega arith);
@@ -52,14 +52,14 @@ loop-round-preserved g c =
     record {
       hub = i.hub;
       width = c.width_after-width.ensures;
-      first = e.first;
-      ordered = e.ordered;
-      sum = e.sum ∙ i.sum;
-      left = (let sources = i.all_sources in let dests = i.all_dests in omega (arith, sources, dests, i.left, e.left, c.requires.few_sources, c.requires.few_dests));
-      sources = e.sources;
-      dests = e.dests;
-      all_sources = e.all_sources ∙ i.all_sources;
-      all_dests = e.all_dests ∙ i.all_dests;
+      first = e.first.of_hub;
+      ordered = e.first.ordered;
+      sum = e.first.sum ∙ i.sum;
+      left = (let sources = i.all_sources in let dests = i.all_dests in let left = e.first.left in omega (arith, sources, dests, i.left, left, c.requires.few_sources, c.requires.few_dests));
+      sources = e.crew.sources;
+      dests = e.crew.senders;
+      all_sources = e.crew.all_sources ∙ i.all_sources;
+      all_dests = e.crew.all_senders ∙ i.all_dests;
       run = run-more (SourceTook state offers inlets dests) (DestTook g.O.Outlet.state) (SourceTakes state offers inlets dests) (DestTakes g.O.Outlet.state)
           (source-none state offers inlets dests) (dest-none g.O.Outlet.state) (source-more state offers inlets dests) (dest-more g.O.Outlet.state)
           c.loop-round.first c.take_round-round.new.first (actors_of c.args.sources.now.items) (actors_of c.loop-round.sources.items) (actors_of c.take_round-round.new.sources.items)
@@ -79,16 +79,31 @@ returns-then-round-clause-served g c =
     (actors_of c.args.dests.now.items) (actors_of c.loop-round.dests.items) (actors_of c.take_round-round.new.dests.items) c.take_round-round.result.busy c.take_round-round.result.starved
     c.loop-round._round c.args.rounds c.loop-round.invariant.run c.take_round-round.ensures.took c.if-round.true (omega arith)
 
-pub returns-then-round-clause-sum : goal.returns-then-round-clause-sum
-returns-then-round-clause-sum g c = c.take_round-round.ensures.sum ∙ c.loop-round.invariant.sum
-
-pub returns-then-round-clause-left : goal.returns-then-round-clause-left
-returns-then-round-clause-left g c =
+pub returns-then-round-clause-first : goal.returns-then-round-clause-first
+returns-then-round-clause-first g c =
     let i = c.loop-round.invariant in
+    let e = c.take_round-round.ensures in
     let sources = i.all_sources in
     let dests = i.all_dests in
     let same = ap (λ h. h.turns) i.hub in
-    omega (arith, sources, dests, same, i.left, c.take_round-round.ensures.left, c.requires.turns, c.requires.few_sources, c.requires.few_dests)
+    let left = e.first.left in
+    record {
+      of_hub = e.first.of_hub;
+      ordered = e.first.ordered;
+      sum = e.first.sum ∙ i.sum;
+      left = omega (arith, sources, dests, same, i.left, left, c.requires.turns, c.requires.few_sources, c.requires.few_dests);
+    }
+
+pub returns-then-round-clause-crew : goal.returns-then-round-clause-crew
+returns-then-round-clause-crew g c =
+    let i = c.loop-round.invariant in
+    let e = c.take_round-round.ensures in
+    record {
+      sources = e.crew.sources;
+      senders = e.crew.senders;
+      all_sources = e.crew.all_sources ∙ i.all_sources;
+      all_senders = e.crew.all_senders ∙ i.all_dests;
+    }
 
 pub returns-then-not-round-clause-served : goal.returns-then-not-round-clause-served
 returns-then-not-round-clause-served g c =
@@ -102,16 +117,31 @@ returns-then-not-round-clause-served g c =
     (actors_of c.args.dests.now.items) (actors_of c.loop-round.dests.items) (actors_of c.take_round-round.new.dests.items) c.take_round-round.result.busy c.take_round-round.result.starved
     c.loop-round._round c.args.rounds c.loop-round.invariant.run c.take_round-round.ensures.took (calm-is c.take_round-round.result.busy c.if-not-round.true) c.if-round.false (omega arith)
 
-pub returns-then-not-round-clause-sum : goal.returns-then-not-round-clause-sum
-returns-then-not-round-clause-sum g c = c.take_round-round.ensures.sum ∙ c.loop-round.invariant.sum
-
-pub returns-then-not-round-clause-left : goal.returns-then-not-round-clause-left
-returns-then-not-round-clause-left g c =
+pub returns-then-not-round-clause-first : goal.returns-then-not-round-clause-first
+returns-then-not-round-clause-first g c =
     let i = c.loop-round.invariant in
+    let e = c.take_round-round.ensures in
     let sources = i.all_sources in
     let dests = i.all_dests in
     let same = ap (λ h. h.turns) i.hub in
-    omega (arith, sources, dests, same, i.left, c.take_round-round.ensures.left, c.requires.turns, c.requires.few_sources, c.requires.few_dests)
+    let left = e.first.left in
+    record {
+      of_hub = e.first.of_hub;
+      ordered = e.first.ordered;
+      sum = e.first.sum ∙ i.sum;
+      left = omega (arith, sources, dests, same, i.left, left, c.requires.turns, c.requires.few_sources, c.requires.few_dests);
+    }
+
+pub returns-then-not-round-clause-crew : goal.returns-then-not-round-clause-crew
+returns-then-not-round-clause-crew g c =
+    let i = c.loop-round.invariant in
+    let e = c.take_round-round.ensures in
+    record {
+      sources = e.crew.sources;
+      senders = e.crew.senders;
+      all_sources = e.crew.all_sources ∙ i.all_sources;
+      all_senders = e.crew.all_senders ∙ i.all_dests;
+    }
 
 pub returns-clause-served : goal.returns-clause-served
 returns-clause-served g c =
@@ -119,8 +149,18 @@ returns-clause-served g c =
     (actors_of c.args.sources.now.items) (actors_of c.loop-round.sources.items) (actors_of c.args.dests.now.items) (actors_of c.loop-round.dests.items)
     c.loop-round._round c.args.rounds c.loop-round.invariant.run (omega arith) c.requires.some
 
-pub returns-clause-left : goal.returns-clause-left
-returns-clause-left g c =
+pub returns-clause-first : goal.returns-clause-first
+returns-clause-first g c =
     let i = c.loop-round.invariant in
     let same = ap (λ h. h.turns) i.hub in
-    omega (arith, same, i.left, c.requires.turns)
+    record {
+      of_hub = i.first;
+      ordered = i.ordered;
+      sum = i.sum;
+      left = omega (arith, same, i.left, c.requires.turns);
+    }
+
+pub returns-clause-crew : goal.returns-clause-crew
+returns-clause-crew g c =
+    let i = c.loop-round.invariant in
+    record { sources = i.sources; senders = i.dests; all_sources = i.all_sources; all_senders = i.all_dests }

@@ -1,8 +1,9 @@
-use Rattle.std.proofs.Common.{◌≡◌, ◌≤◌, ◌<◌, ◌+◌, length}
+use Rattle.std.proofs.Common.{◌≡◌, ◌≤◌, ◌+◌, length}
 use Rattle.std.specs.Prelude.{◌*◌}
 use Rattle.sg_booth.specs.Desks.{IsDeskOf, AreOrdered, places}
 use Rattle.sg_standing.specs.States.{setup_of}
 use Rattle.sg_turns.specs.Actors.{AreSources, AreDests, SourceTook, DestTook}
+use Rattle.sg_crew.specs.Widths.{IsWidth}
 use Rattle.sg_crew.specs.Workers.{actors_of}
 use Rattle.sg_crew.proofs.RunLemmas.{HasRun}
 use Rattle.sg_crew.proofs.rounds.run_rounds.Given as goal
@@ -10,7 +11,7 @@ use Rattle.sg_crew.proofs.rounds.run_rounds.Given as goal
 abbrev pub invariant-loop-round : goal.invariant-loop-round
 invariant-loop-round g l = record {
   hub : l.hub ≡ l.initial.hub;
-  width : (0 < l.width.threads) × (0 < l.width.beside);
+  width : IsWidth l.width;
   first : IsDeskOf l.hub l.first;
   ordered : AreOrdered l.first;
   sum : length (places l.first) + l.first.left ≡ l.hub.turns;

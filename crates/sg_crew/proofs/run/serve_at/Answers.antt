@@ -47,7 +47,7 @@ pub free_all-requires-clause-fits : goal.free_all-requires-clause-fits
 free_all-requires-clause-fits g c =
     let one = length-map actor_of c.seat_all-readers.result.items in
     let two = ap length c.seat_all-readers.ensures.actors in
-    let three = c.run_rounds-ended.ensures.all_sources in
+    let three = c.run_rounds-ended.ensures.crew.all_sources in
     let room = c.requires.sources_room.3 in
     omega (arith, one, two, three, room)
 
@@ -55,7 +55,7 @@ pub free_all-requires-2-clause-fits : goal.free_all-requires-2-clause-fits
 free_all-requires-2-clause-fits g c =
     let one = length-map actor_of c.seat_all-senders.result.items in
     let two = ap length c.seat_all-senders.ensures.actors in
-    let three = c.run_rounds-ended.ensures.all_dests in
+    let three = c.run_rounds-ended.ensures.crew.all_senders in
     let room = c.requires.dests_room.3 in
     omega (arith, one, two, three, room)
 
@@ -68,24 +68,24 @@ returns-clause-serves g c =
     (actors_of c.seat_all-readers.result.items) c.args.sources.items (actors_of c.run_rounds-ended.new.sources.items) c.free_all.result.items
     (actors_of c.seat_all-senders.result.items) c.args.dests.items (actors_of c.run_rounds-ended.new.dests.items) c.free_all-2.result.items
     c.args.rounds c.run_rounds-ended.result c.seat_all-readers.ensures.actors c.free_all.ensures c.seat_all-senders.ensures.actors c.free_all-2.ensures
-    (served-is c.args.hub c.run_rounds-ended.new.first c.close-core.result e.ordered e.sum c.close-core.ensures source dest
+    (served-is c.args.hub c.run_rounds-ended.new.first c.close-core.result e.first.ordered e.first.sum c.close-core.ensures source dest
     (actors_of c.seat_all-readers.result.items) (actors_of c.run_rounds-ended.new.sources.items) (actors_of c.seat_all-senders.result.items) (actors_of c.run_rounds-ended.new.dests.items)
     c.args.rounds c.run_rounds-ended.result e.served)
 
 pub returns-clause-sources : goal.returns-clause-sources
 returns-clause-sources g c =
     let e = c.run_rounds-ended.ensures in
-    let same = setup-stays c.args.hub c.run_rounds-ended.new.first c.close-core.result e.ordered e.sum c.close-core.ensures in
+    let same = setup-stays c.args.hub c.run_rounds-ended.new.first c.close-core.result e.first.ordered e.first.sum c.close-core.ensures in
     subst (λ s. AreSources g.I.Inlet.state g.R.Router.inlets g.R.Router.dests s c.free_all.result.items) (sym same)
-    (subst (AreSources g.I.Inlet.state g.R.Router.inlets g.R.Router.dests (setup_of c.args.hub.made)) (sym c.free_all.ensures) e.sources)
+    (subst (AreSources g.I.Inlet.state g.R.Router.inlets g.R.Router.dests (setup_of c.args.hub.made)) (sym c.free_all.ensures) e.crew.sources)
 
 pub returns-clause-dests : goal.returns-clause-dests
 returns-clause-dests g c =
     let e = c.run_rounds-ended.ensures in
-    let same = setup-stays c.args.hub c.run_rounds-ended.new.first c.close-core.result e.ordered e.sum c.close-core.ensures in
-    subst (λ s. AreDests g.O.Outlet.state s c.free_all-2.result.items) (sym same) (subst (AreDests g.O.Outlet.state (setup_of c.args.hub.made)) (sym c.free_all-2.ensures) e.dests)
+    let same = setup-stays c.args.hub c.run_rounds-ended.new.first c.close-core.result e.first.ordered e.first.sum c.close-core.ensures in
+    subst (λ s. AreDests g.O.Outlet.state s c.free_all-2.result.items) (sym same) (subst (AreDests g.O.Outlet.state (setup_of c.args.hub.made)) (sym c.free_all-2.ensures) e.crew.senders)
 
 pub returns-clause-setup : goal.returns-clause-setup
 returns-clause-setup g c =
     let e = c.run_rounds-ended.ensures in
-    setup-stays c.args.hub c.run_rounds-ended.new.first c.close-core.result e.ordered e.sum c.close-core.ensures
+    setup-stays c.args.hub c.run_rounds-ended.new.first c.close-core.result e.first.ordered e.first.sum c.close-core.ensures
