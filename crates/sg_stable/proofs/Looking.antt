@@ -1,14 +1,14 @@
 -- What the first 128 bytes show of a store.
 use Rattle.std.proofs.Common.{◌≡◌, ◌∙◌, sym, ℕ, List, ◌<◌, ◌≤◌, length, get_or, arith}
 use Rattle.std.specs.Prelude.{Result, Ok, Err, IfOk, IfErr, OnOk}
-use Rattle.sg_device.specs.Disk.{DiskState, content, Preserves, Durable, WhereTold}
+use Rattle.sg_device.specs.Disk.{DiskState, Preserves}
 use Rattle.sg_device.proofs.Disks.{told_before}
-use Rattle.sg_device.proofs.DiskCalls.{durable_same}
 use Rattle.sg_stable.specs.declared.cell.Pair.{Pair}
 use Rattle.sg_stable.specs.declared.fault.StoreRefusal.{StoreRefusal}
 use Rattle.sg_stable.specs.declared.fault.StoreRefusal.TheVariants.{Damage, DiskFault, NoMemory}
 use Rattle.sg_stable.specs.Refusal.{HasReason}
 use Rattle.sg_stable.specs.Cell.{HasCell, AreZero, IsFirstNonzero}
+use Rattle.sg_stable.specs.Opening.{FindsCell, IsSynced}
 use Rattle.sg_stable.specs.Position.{IsPosition, IsDamagedAt}
 use Rattle.sg_stable.proofs.Cells.{value_of}
 
@@ -43,14 +43,14 @@ module _ (d0 d1 d2 : DiskState) (keeps : Preserves d0 d1) where
   reasons_before (Ok cell) later why = why
   reasons_before (Err refusal) later why = reason_before d0 d1 d2 refusal keeps later why
 
-  pub cells_before : (P : Pair → List ℕ → Type 0) (r : Result Pair StoreRefusal) → IfOk r (λ cell. WhereTold (content d1) (P cell)) → IfOk r (λ cell. WhereTold (content d0) (P cell))
-  cells_before P (Ok cell) told = told_before d0 d1 (P cell) keeps told
-  cells_before P (Err refusal) told = told
+  pub found_before : (r : Result Pair StoreRefusal) → IfOk r (FindsCell d1) → IfOk r (FindsCell d0)
+  found_before (Ok cell) found = record {
+    position = told_before d0 d1 (IsPosition cell.value) keeps found.position;
+    has_cell = told_before d0 d1 (HasCell cell.selector cell.value) keeps found.has_cell;
+    opened = found.opened;
+  }
+  found_before (Err refusal) found = found
 
-  pub durable_before : (r : Result Pair StoreRefusal) → d2.told ≡ d1.told → Durable d1 → OnOk r (Durable d2)
-  durable_before (Ok cell) is durable = durable_same d1 d2 is durable
-  durable_before (Err refusal) is durable = tt
-
-pub preserved_on : {old new : DiskState} (r : Result Pair StoreRefusal) → Preserves old new → OnOk r (Preserves old new)
-preserved_on (Ok cell) keeps = keeps
-preserved_on (Err refusal) keeps = tt
+pub synced_on : {old new : DiskState} (r : Result Pair StoreRefusal) → IsSynced old new → OnOk r (IsSynced old new)
+synced_on (Ok cell) synced = synced
+synced_on (Err refusal) synced = tt

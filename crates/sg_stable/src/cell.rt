@@ -1,8 +1,9 @@
 // A cell of two slots and a selector, on a disk that is lent.
-ghost use Rattle.std.specs.Prelude.{◌≡◌, ◌+◌, ◌%◌, ◌≤◌, [], ◌∷◌, ◌↔◌, length, true, false, IfOk, OnOk, OnErr, IfNone, IfSome, IsTrue, is_err};
+ghost use Rattle.std.specs.Prelude.{◌≡◌, ◌+◌, ◌%◌, ◌≤◌, [], ◌∷◌, ◌↔◌, length, true, false, IfOk, OnOk, IfNone, IfSome, IsTrue};
 ghost use Rattle.std.specs.Int.{to_be_bytes, w64};
 ghost use Rattle.sg_device.specs.Disk.{content, IsImage, Changes, Elapses, Durable, Within, EachNow, WhereTold, HasCause};
 ghost use Rattle.sg_device.specs.DiskBytes.{Torn, Written};
+ghost use Rattle.sg_stable.specs.Putting.{IsPut, StaysClosed};
 ghost use Rattle.sg_stable.specs.Cell.{word, slot, HasCell, IsOutside, AreZero, IsFirstNonzero, SameOutside, Puts};
 
 use sg_device::{Disk, DiskFault, write_through};
@@ -59,10 +60,7 @@ impl Pair {
 
         ensures cell { self.new.closed ≡ false
             → EachNow (D.state disk.new) (HasCell self.new.selector self.new.value) }
-        ensures ok { OnOk result (self.new.value ≡ value) }
-        ensures err { OnErr result (self.new.value ≡ self.old.value) }
-        ensures closed { self.new.closed ≡ is_err result }
-        ensures selector { OnOk result (self.new.selector ≡ (self.old.selector + 1) % 256) }
+        ensures answer { IsPut self.old self.new value result }
 
         // Within the call each image is one from before it with the old number or the new one in its cell.
         ensures within { self.old.closed ≡ false → Within (D.state disk.old) (D.state disk.new)
@@ -72,8 +70,7 @@ impl Pair {
 
         ensures cause { self.old.closed ≡ false
             → HasCause (D.state disk.old).faults (D.state disk.new).faults result }
-        ensures stays { self.old.closed ≡ true → is_err result ≡ true }
-        ensures untouched { self.old.closed ≡ true → disk.new ≡ disk.old }
+        ensures stays { self.old.closed ≡ true → StaysClosed disk.old disk.new result }
     {
         if self.closed {
             return Err(DiskFault);

@@ -1,6 +1,6 @@
 // A position store.
-ghost use Rattle.std.specs.Prelude.{◌≡◌, ◌≤◌, None, IfOk, IfErr};
-ghost use Rattle.sg_device.specs.Disk.{Rests};
+ghost use Rattle.std.specs.Prelude.{◌≡◌, None, IfOk, IfErr};
+ghost use Rattle.sg_stable.specs.Opening.{IsUnwritten};
 ghost use Rattle.sg_stable.specs.Refusal.{HasReason};
 ghost use Rattle.sg_stores.specs.Opening.{IsOpened};
 ghost use Rattle.sg_stores.specs.Positions.{Writes};
@@ -34,8 +34,7 @@ impl<D: Disk> PositionStore<D> {
     /// Opens a store. A refusal gives the disk back.
     pub fn open(disk: D) -> Result<PositionStore<D>, (D, StoreRefusal)>
         ensures opened { IfOk result (IsOpened (D.state disk)) }
-        ensures err_rests { IfErr result (λ e. Rests (D.state disk) (D.state e.0)) }
-        ensures err_later { IfErr result (λ e. (D.state disk).faults ≤ (D.state e.0).faults) }
+        ensures unwritten { IfErr result (λ e. IsUnwritten (D.state disk) (D.state e.0)) }
         ensures reason { IfErr result (λ e. HasReason (D.state disk) (D.state e.0) e.1) }
     {
         let stable = Stable::open(disk)?;

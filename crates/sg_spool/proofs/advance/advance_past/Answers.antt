@@ -20,7 +20,7 @@ pub returns-clause-ring : goal.returns-clause-ring
 returns-clause-ring g c = λ n es start.
     let next = c.skip-next.result in
     let high = head_high next.jump next.head next.end c.skip-next.ensures.ordered in
-    advanced c.args.cell.now c.args.places next n c.args.size es c.requires.ordered c.skip-next.ensures.places (g.D.Disk.state c.args.disk.now) (g.D.Disk.state c.put.new.disk) start (next.head - 64) (omega (arith, high)) (c.put.ensures.within c.requires.cell_open) c.put.new.self c.in_ok-put.ensures.ok (c.put.ensures.cell c.in_ok-put.ensures.closed)
+    advanced c.args.cell.now c.args.places next n c.args.size es c.requires.ordered c.skip-next.ensures.places (g.D.Disk.state c.args.disk.now) (g.D.Disk.state c.put.new.disk) start (next.head - 64) (omega (arith, high)) (c.put.ensures.within c.requires.cell_open) c.put.new.self c.in_ok-put.ensures.answer.ok (c.put.ensures.cell c.in_ok-put.ensures.answer.closed)
 
 pub returns-clause-compact : goal.returns-clause-compact
 returns-clause-compact g c = λ capacity compact.

@@ -53,7 +53,7 @@ returns-clause-ring g c = λ es start0.
     let time2 = join_beyond (c.args.jump + 5) (g.D.Disk.state c.args.disk.now) (g.D.Disk.state c.copy.new.disk) (g.D.Disk.state c.copy-2.new.disk) c.copy.ensures.images (less_beyond (c.args.jump + 5) (c.args.jump + 5 + (c.args.jump - c.args.places.head)) (g.D.Disk.state c.copy.new.disk) (g.D.Disk.state c.copy-2.new.disk) (omega arith) c.copy-2.ensures.images) in
     let keeps = sync_preserves (g.D.Disk.state c.copy-2.new.disk) (g.D.Disk.state c.sync.new.self) c.in_ok-sync.ensures.told in
     let time3 = join_beyond (c.args.jump + 5) (g.D.Disk.state c.args.disk.now) (g.D.Disk.state c.copy-2.new.disk) (g.D.Disk.state c.sync.new.self) time2 (still_beyond (c.args.jump + 5) (g.D.Disk.state c.copy-2.new.disk) (g.D.Disk.state c.sync.new.self) keeps.still) in
-    ring_put c.args.cell.now c.args.jump c.args.places.head c.args.places.end es ordered (g.D.Disk.state c.args.disk.now) (g.D.Disk.state c.copy.new.disk) start (g.D.Disk.state c.copy-2.new.disk) (g.D.Disk.state c.sync.new.self) (g.D.Disk.state c.put.new.disk) c.in_ok-copy.ensures.copied c.in_ok-copy-2.ensures.copied keeps (sync_durable (g.D.Disk.state c.copy-2.new.disk) (g.D.Disk.state c.sync.new.self) c.in_ok-sync.ensures.told) time3 (c.args.jump + 5 - 64) (omega (arith, ordered.0, ordered.1, ordered.2)) (c.put.ensures.within c.requires.cell_open) c.put.new.self c.in_ok-put.ensures.ok (c.put.ensures.cell (c.in_ok-put.ensures.closed))
+    ring_put c.args.cell.now c.args.jump c.args.places.head c.args.places.end es ordered (g.D.Disk.state c.args.disk.now) (g.D.Disk.state c.copy.new.disk) start (g.D.Disk.state c.copy-2.new.disk) (g.D.Disk.state c.sync.new.self) (g.D.Disk.state c.put.new.disk) c.in_ok-copy.ensures.copied c.in_ok-copy-2.ensures.copied keeps (sync_durable (g.D.Disk.state c.copy-2.new.disk) (g.D.Disk.state c.sync.new.self) c.in_ok-sync.ensures.told) time3 (c.args.jump + 5 - 64) (omega (arith, ordered.0, ordered.1, ordered.2)) (c.put.ensures.within c.requires.cell_open) c.put.new.self c.in_ok-put.ensures.answer.ok (c.put.ensures.cell (c.in_ok-put.ensures.answer.closed))
 
 pub put-requires : goal.put-requires
 put-requires g c = λ open_.
