@@ -1,9 +1,9 @@
 -- What the first 64 bytes show of a disk-buffer.
 use Rattle.std.proofs.Common.{◌≡◌, inl, inr, ◌∙◌, sym, ap, subst, ℕ, List, ◌+◌, ◌-◌, ◌<◌, ◌≤◌, ◌^◌, length, get_or, arith, min, Option, Some, None}
-use Rattle.sg_device.specs.Disk.{DiskState, content, Preserves, Durable, WhereTold}
+use Rattle.sg_device.specs.Disk.{DiskState, content, Preserves, WhereTold}
 use Rattle.sg_device.proofs.Disks.{told_before}
-use Rattle.sg_device.proofs.DiskCalls.{durable_same}
 use Rattle.sg_stable.specs.Cell.{cell_value, HasCell, AreZero}
+use Rattle.sg_stable.specs.Opening.{IsSynced}
 use Rattle.sg_stable.proofs.Cells.{value_of}
 use Rattle.sg_stable.specs.declared.fault.StoreRefusal.{StoreRefusal}
 use Rattle.sg_stable.specs.declared.fault.StoreRefusal.TheVariants.{Damage, DiskFault, NoMemory}
@@ -16,7 +16,7 @@ use Rattle.sg_spool.specs.declared.open.Found.{Found}
 use Rattle.sg_spool.proofs.Rings.{has_cell_same, length_space, row_between}
 use Rattle.std.specs.Prelude.{Result, Ok, Err, IfOk, IfErr, OnOk}
 use Rattle.sg_spool.specs.declared.walk.Place.{Place}
-use Rattle.sg_spool.specs.Opening.{IsDamagedWalk, IsDamagedAt, HasReason, WalkReason}
+use Rattle.sg_spool.specs.Opening.{FindsRing, IsDamagedWalk, IsDamagedAt, HasReason, WalkReason}
 
 pub between_small : (jump : Option ℕ) (head end : ℕ) → AreOrdered jump head end → bytes_between jump head end < 2 ^ 63
 between_small None head end ordered = omega (arith, ordered.0, ordered.1, ordered.2)
@@ -69,18 +69,18 @@ module _ (d0 d1 d2 : DiskState) (keeps : Preserves d0 d1) where
   reasons_before (Ok found) later why = why
   reasons_before (Err refusal) later why = reason_before d0 d1 d2 refusal keeps later why
 
-  pub founds_before : (P : Found → List ℕ → Type 0) (r : Result Found StoreRefusal) → IfOk r (λ f. WhereTold (content d1) (P f)) → IfOk r (λ f. WhereTold (content d0) (P f))
-  founds_before P (Ok f) told = told_before d0 d1 (P f) keeps told
-  founds_before P (Err refusal) told = told
-
-  pub durable_before : (r : Result Found StoreRefusal) → d2.told ≡ d1.told → Durable d1 → OnOk r (Durable d2)
-  durable_before (Ok f) is durable = durable_same d1 d2 is durable
-  durable_before (Err refusal) is durable = tt
+  pub found_before : (r : Result Found StoreRefusal) → IfOk r (FindsRing d1) → IfOk r (FindsRing d0)
+  found_before (Ok f) found = record {
+    held = told_before d0 d1 (λ b. (es : Entries) × IsHeld f.cell f.places f.count None es b) keeps found.held;
+    ordered = found.ordered;
+    opened = found.opened;
+  }
+  found_before (Err refusal) found = found
 
 -- the cell, read from the front
 pub cell_there : (b after : List ℕ) → ((k : ℕ) → k < 64 → get_or after k 0 ≡ get_or b k 0) → length after ≡ 64 → 128 ≤ length b → (cell : Pair) → HasCell cell.selector cell.value after → HasCell cell.selector cell.value b
 cell_there b after same long whole cell has = has_cell_same cell.selector cell.value after b has (omega (arith, long, whole)) (λ k lt. sym (same k (omega (arith, lt))))
 
-pub preserved_on : {old new : DiskState} (r : Result Found StoreRefusal) → Preserves old new → OnOk r (Preserves old new)
-preserved_on (Ok found) keeps = keeps
-preserved_on (Err refusal) keeps = tt
+pub synced_on : {old new : DiskState} (r : Result Found StoreRefusal) → IsSynced old new → OnOk r (IsSynced old new)
+synced_on (Ok found) synced = synced
+synced_on (Err refusal) synced = tt

@@ -1,7 +1,7 @@
 -- Taking the first entries off a list.
-use Rattle.std.specs.Prelude.{◌≡◌, ◌⊎◌, ℕ, ◌<◌, ◌≤◌, List, [], ◌∷◌, length, take, drop, Option, Some, None}
+use Rattle.std.specs.Prelude.{◌≡◌, ◌⊎◌, ℕ, ◌+◌, ◌<◌, ◌≤◌, List, [], ◌∷◌, length, take, drop, Option, Some, None}
 use Rattle.sg_stable.specs.declared.cell.Pair.{Pair}
-use Rattle.sg_spool.specs.Places.{AreCompact}
+use Rattle.sg_spool.specs.Places.{IsOrdered, AreCompact, live}
 use Rattle.sg_spool.specs.Ring.{Entries, IsEnd, IsRow, IsBelow, IsLaid, space}
 use Rattle.sg_spool.specs.View.{IsRing}
 use Rattle.sg_spool.specs.declared.places.Places.{Places}
@@ -30,6 +30,13 @@ pub record IsReady (jump : Option ℕ) (head end : ℕ) (entries : Entries) (byt
 
 abbrev pub IsReadyAt : Places → Entries → List ℕ → Type 0
 IsReadyAt places entries bytes = IsReady places.jump places.head places.end entries bytes
+
+-- the places behind entries that take so many bytes; they are within each capacity that those were within
+pub record IsSkipped (size : ℕ) (places next : Places) : Type 0 where
+  pub ordered : IsOrdered next
+  pub live : live next + size ≡ live places
+  pub compact : (capacity : ℕ) → AreCompact capacity places.jump places.head places.end
+      → AreCompact capacity next.jump next.head next.end
 
 -- a ring of these entries, at places that are within each capacity that those were within
 pub record IsShrunk (places : Places) (entries : Entries) (bytes : List ℕ) : Type 0 where

@@ -1,5 +1,5 @@
 -- Which answer each call gives, and when.
-use Rattle.std.specs.Prelude.{◌≡◌, ◌⊎◌, ℕ, ◌+◌, ◌-◌, ◌≤◌, ◌^◌, min, List, [], ◌∷◌, ◌++◌, length, drop, map, Option, Some, None, Bool, true, false, Result, Ok, Err}
+use Rattle.std.specs.Prelude.{◌≡◌, ◌⊎◌, ℕ, ◌+◌, ◌-◌, ◌≤◌, ◌^◌, min, List, [], ◌∷◌, ◌++◌, length, drop, map, Option, Some, None, Bool, true, false, Result, Ok, Err, IfErr}
 use Rattle.sg_device.specs.Disk.{DiskState, content, WhereTold}
 use Rattle.sg_device.specs.Faults.{Rose}
 use Rattle.sg_spool.specs.Places.{Fits, Remains, gate_past, live}
@@ -130,6 +130,11 @@ IsBehind jump gate (WalkedItem payload next) = next
 IsBehind jump gate WalkedEmpty = Unit {0}
 IsBehind jump gate WalkedFailed = Unit {0}
 
+-- the entries that are left from the gate on, where a walk goes on
+pub record IsNextOf {D : Type 0} (old : View D) (gate : ℕ) (bytes : List ℕ) (entries : Entries) (walked : Walked) : Type 0 where
+  pub next : IsNext old bytes entries walked
+  pub behind : IsBehind old.rows.list.jump gate walked
+
 -- what was read has the length of a payload
 abbrev pub IsWholeItem : Walked → Type 0
 IsWholeItem (WalkedItem payload next) = IsPayload payload.items
@@ -140,6 +145,11 @@ IsWholeItem WalkedFailed = Unit {0}
 abbrev pub HasReadCause : ℕ → ℕ → RewriteRefusal → Type 0
 HasReadCause before now DiskFault = Rose before now
 HasReadCause before now NoMemory = Unit {0}
+
+-- a refusal has its cause, and the count of faults never falls
+pub record HasRefusalCause {T : Type 0} (before now : ℕ) (result : Result T RewriteRefusal) : Type 0 where
+  pub later : before ≤ now
+  pub failed : IfErr result (HasReadCause before now)
 
 -- what holds where memory ran out
 abbrev pub WhereNoMemory : Type 0 → RewriteRefusal → Type 0

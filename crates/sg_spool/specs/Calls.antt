@@ -1,10 +1,14 @@
 -- What each call that changes a disk-buffer keeps, whatever it answers.
-use Rattle.std.specs.Prelude.{◌≡◌, ℕ, ◌≤◌, true}
-use Rattle.sg_device.specs.Disk.{DiskState, Moves, Within}
+use Rattle.std.specs.Prelude.{◌≡◌, ℕ, ◌≤◌, true, false, None, Result, OnOk, IfOk}
+use Rattle.sg_device.specs.Disk.{DiskState, Moves, Within, Elapses, HasCause}
 use Rattle.sg_device.specs.Faults.{Rose}
 use Rattle.sg_spool.specs.Lists.{IsOneOf}
 use Rattle.sg_spool.specs.Ring.{Entries}
+use Rattle.sg_spool.specs.Rows.{listed}
+use Rattle.sg_spool.specs.Steps.{Spares}
 use Rattle.sg_spool.specs.View.{View, Holds, IsCompact, IsCompactIn}
+use Rattle.sg_spool.specs.declared.rows.Rows.{Rows}
+use Rattle.sg_stable.specs.declared.cell.Pair.{Pair}
 
 -- What outlives a call: the capacity, and the images of past moments. A closed one stays as it is. The count of faults never
 -- falls; one that is closed has its cause, which is that the count rose since any moment at which it was open.
@@ -31,3 +35,20 @@ pub record Reads {D : Type 0} (state : D → DiskState) (old new : View D) : Typ
   pub told : (state new.disk).told ≡ (state old.disk).told
   pub rows : new.rows ≡ old.rows
   pub lasts : Lasts state old new
+
+-- an open disk-buffer of this capacity, with nothing staged and the first payload unread
+pub record IsOpened {D : Type 0} (capacity : ℕ) (view : View D) : Type 0 where
+  pub opened : view.closed ≡ false
+  pub limit : view.capacity ≡ capacity
+  pub rows : view.rows ≡ listed view.rows.list view.rows.count
+  pub unread : view.front ≡ None
+
+-- Ok: the cell is open. A fault has its cause.
+pub record LeavesOpen {T E : Type 0} (cell : Pair) (before now : ℕ) (result : Result T E) : Type 0 where
+  pub cell_open : OnOk result (cell.closed ≡ false)
+  pub cause : HasCause before now result
+
+-- the bytes that the list uses stay, and so do its places
+pub record SparesList {E : Type 0} (rows : Rows) (old new : DiskState) (result : Result Rows E) : Type 0 where
+  pub images : Elapses (Spares rows.list.jump rows.list.head rows.list.end) old new
+  pub list : IfOk result (λ next. next.list ≡ rows.list)

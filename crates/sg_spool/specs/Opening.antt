@@ -1,11 +1,21 @@
--- Where a disk-buffer's bytes are damaged: at the first place that this order meets.
-use Rattle.std.specs.Prelude.{◌≡◌, ◌≢◌, ◌⊎◌, ℕ, ◌+◌, ◌-◌, ◌<◌, ◌≤◌, ◌^◌, min, List, Option, Some, None, length, slice_index}
+-- What an opening finds, and where a disk-buffer's bytes are damaged: at the first place that this order meets.
+use Rattle.std.specs.Prelude.{◌≡◌, ◌≢◌, ◌⊎◌, ℕ, ◌+◌, ◌-◌, ◌<◌, ◌≤◌, ◌^◌, min, List, Option, Some, None, false, length, slice_index}
 use Rattle.sg_device.specs.Disk.{DiskState, content, WhereTold}
 use Rattle.sg_device.specs.Faults.{Rose}
 use Rattle.sg_stable.specs.Cell.{cell_value, AreZero, IsFirstNonzero}
+use Rattle.sg_spool.specs.Places.{IsOrdered}
 use Rattle.sg_spool.specs.Ring.{Entries, IsEntry, IsJump, IsRow, IsBelow}
+use Rattle.sg_spool.specs.View.{IsHeld}
+use Rattle.sg_spool.specs.declared.open.Found.{Found}
 use Rattle.sg_stable.specs.declared.fault.StoreRefusal.{StoreRefusal}
 use Rattle.sg_stable.specs.declared.fault.StoreRefusal.TheVariants.{Damage, DiskFault, NoMemory}
+
+-- the open cell of the ring that stands on this disk, its places and the number of its entries
+pub record FindsRing (disk : DiskState) (found : Found) : Type 0 where
+  pub held : WhereTold (content disk)
+      (λ bytes. (entries : Entries) × IsHeld found.cell found.places found.count None entries bytes)
+  pub ordered : IsOrdered found.places
+  pub opened : found.cell.closed ≡ false
 
 -- At this gate, which a walk reached, stands no end, no entry whose next gate may stand where it does, and no first jump.
 pub record IsBadGate (jump : Option ℕ) (head gate : ℕ) (bytes : List ℕ) : Type 0 where

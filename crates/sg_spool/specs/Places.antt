@@ -50,6 +50,12 @@ AreCompact capacity None head end = end < 64 + max 1 (2 * capacity)
 AreCompact capacity (Some jump) head end = (64 + capacity < head)
     × (jump < 64 + max 1 (2 * capacity))
 
+-- the same number of bytes, in one row
+pub record IsInOneRow (old new : Places) : Type 0 where
+  pub ordered : IsOrdered new
+  pub row : new.jump ≡ None
+  pub live : live new ≡ live old
+
 -- the places once so many bytes of entries are off the front
 abbrev pub skipped : Option ℕ → ℕ → ℕ → ℕ → Places
 skipped None head end bytes = record { jump = None; head = head + bytes; end = end }

@@ -1,8 +1,12 @@
 -- Entries written anew behind all that the list uses.
 use Rattle.std.specs.Prelude.{◌≡◌, ◌≢◌, ℕ, ◌+◌, ◌≤◌, List, [], ◌∷◌, length, take, slice_index, map, Option, Some, None, Bool, true, false}
 use Rattle.sg_device.specs.DiskBytes.{part}
+use Rattle.sg_device.specs.Disk.{DiskState, IsImage, EachNow}
+use Rattle.sg_stable.specs.declared.cell.Pair.{Pair}
 use Rattle.sg_spool.specs.Copying.{Beyond}
 use Rattle.sg_spool.specs.Ring.{Entries, IsPayload, IsEnd, IsLaid, size_at, block_of}
+use Rattle.sg_spool.specs.Steps.{Stems}
+use Rattle.sg_spool.specs.View.{IsRing}
 use Rattle.sg_spool.specs.declared.places.Places.{Places}
 
 -- the place behind all that the list uses
@@ -48,3 +52,9 @@ pub record Spells (meaning : List ℕ → List ℕ) (places : Places) (count end
   pub beyond : Beyond (past places) old new
   pub spelled : (entries : Entries) → IsLaid places.jump places.head places.end entries old
       → count ≡ length entries → Stand new (past places) (map meaning entries) end × IsEnd new end
+
+-- the ring is as before, and so is its cell
+pub record KeepsRing (old new : DiskState) (was is : Pair) (places : Places) : Type 0 where
+  pub ring : (entries : Entries) → EachNow old (IsRing was places entries)
+      → EachNow new (Stems (IsImage old) (IsRing was places entries))
+  pub cell : is ≡ was

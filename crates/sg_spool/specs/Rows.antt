@@ -1,6 +1,6 @@
 -- The places of a list, and those of the list with what is staged behind it.
 use Rattle.std.specs.Prelude.{◌≡◌, ℕ, zero, suc, ◌+◌, ◌-◌, ◌<◌, ◌≤◌, ◌^◌, min, Option, Some, None}
-use Rattle.sg_spool.specs.Places.{IsOrdered, live}
+use Rattle.sg_spool.specs.Places.{IsOrdered, AreCompact, HasRoom, live}
 use Rattle.sg_spool.specs.declared.places.Places.{Places}
 use Rattle.sg_spool.specs.declared.rows.Rows.{Rows}
 
@@ -35,3 +35,27 @@ pub record AreRows (rows : Rows) : Type 0 where
   pub ahead : IsOrdered rows.ahead
   pub apart : IsAhead rows.staged rows.list rows.ahead
   pub few : rows.staged ≤ live rows.ahead
+
+-- the same entries, with room behind them for a payload of n bytes
+pub record HasRoomFor (n : ℕ) (old new : Rows) : Type 0 where
+  pub rows : AreRows new
+  pub total : total new ≡ total old
+  pub live : live new.ahead ≡ live old.ahead
+  pub room : HasRoom new.ahead.jump new.ahead.head new.ahead.end n
+
+-- The places of all that is staged, with a payload of n bytes behind it. They are within the capacity, where they were.
+pub record IsLonger (capacity n : ℕ) (rows : Rows) (ahead : Places) : Type 0 where
+  pub ordered : IsOrdered ahead
+  pub head : ahead.head ≡ rows.ahead.head
+  pub past : IsPast rows.list.jump rows.list.end ahead.jump ahead.end
+  pub live : live ahead ≡ live rows.ahead + 5 + n
+  pub compact : AreCompact capacity rows.ahead.jump rows.ahead.head rows.ahead.end
+      → AreCompact capacity ahead.jump ahead.head ahead.end
+
+-- One entry more, a payload of n bytes. The places are within the capacity, where they were.
+pub record HasOneMore (capacity n : ℕ) (old new : Rows) : Type 0 where
+  pub rows : AreRows new
+  pub total : total new ≡ min (total old + 1) (2 ^ 64 - 1)
+  pub live : live new.ahead ≡ live old.ahead + 5 + n
+  pub compact : AreCompact capacity old.ahead.jump old.ahead.head old.ahead.end
+      → AreCompact capacity new.ahead.jump new.ahead.head new.ahead.end

@@ -1,9 +1,10 @@
 // Taking the first entries off the list.
-ghost use Rattle.std.specs.Prelude.{◌≡◌, ◌⊎◌, ◌≤◌, ◌<◌, ◌+◌, ◌-◌, ◌^◌, List, ℕ, length, take, drop, OnOk, IfOk, Some, None, Option, false};
+ghost use Rattle.std.specs.Prelude.{◌≡◌, ◌⊎◌, ◌≤◌, ◌<◌, ◌+◌, ◌-◌, List, ℕ, length, take, drop, IfOk, Some, None, Option, false};
 ghost use Rattle.sg_device.specs.Disk.{content, Within, EachNow, HasCause, WhereTold};
 ghost use Rattle.sg_stable.specs.Cell.{HasCell};
-ghost use Rattle.sg_spool.specs.Advancing.{HasEntries, IsAdvanced, IsFirstSize};
-ghost use Rattle.sg_spool.specs.Places.{IsOrdered, AreCompact, gate_past, live};
+ghost use Rattle.sg_spool.specs.Calls.{LeavesOpen};
+ghost use Rattle.sg_spool.specs.Advancing.{IsSkipped, HasEntries, IsAdvanced, IsFirstSize};
+ghost use Rattle.sg_spool.specs.Places.{IsOrdered, gate_past, live};
 ghost use Rattle.sg_spool.specs.Ring.{Entries, IsEntry, IsLaid, space};
 ghost use Rattle.sg_spool.specs.View.{IsRing};
 
@@ -24,21 +25,19 @@ pub(crate) fn advance_past<D: Disk>(
     requires cell_open { cell.old.closed ≡ false }
     requires has_cell { EachNow (D.state disk.old) (HasCell cell.old.selector cell.old.value) }
 
-    ensures within { (n : ℕ) (entries : Entries) → EachNow (D.state disk.old) (HasEntries cell.old places n size entries)
+    ensures within { (n : ℕ) (entries : Entries)
+        → EachNow (D.state disk.old) (HasEntries cell.old places n size entries)
         → Within (D.state disk.old) (D.state disk.new) (IsAdvanced places n entries) }
 
-    ensures ring { IfOk result (λ next. (n : ℕ) (entries : Entries) → EachNow (D.state disk.old) (HasEntries cell.old places n size entries)
+    ensures ring { IfOk result (λ next. (n : ℕ) (entries : Entries)
+        → EachNow (D.state disk.old) (HasEntries cell.old places n size entries)
         → EachNow (D.state disk.new) (IsRing cell.new next (drop n entries))) }
 
-    ensures ordered { IfOk result (λ next. IsOrdered next) }
-    ensures live { IfOk result (λ next. live next + size ≡ live places) }
-    ensures compact { IfOk result (λ next. (capacity : ℕ)
-        → AreCompact capacity places.jump places.head places.end
-        → AreCompact capacity next.jump next.head next.end) }
+    ensures places { IfOk result (IsSkipped size places) }
     ensures short { (most : ℕ) → EachNow (D.state disk.old) (λ bytes. length bytes ≤ most)
         → Within (D.state disk.old) (D.state disk.new) (λ bytes. length bytes ≤ most) }
-    ensures cell_open { OnOk result (cell.new.closed ≡ false) }
-    ensures cause { HasCause (D.state disk.old).faults (D.state disk.new).faults result }
+    ensures answer { LeavesOpen cell.new (D.state disk.old).faults (D.state disk.new).faults
+        result }
 {
     let next = places.skip(size);
     cell.put(disk, next.head - 64)?;
@@ -53,8 +52,9 @@ pub(crate) fn space_of<D: Disk>(
     first: Option<u64>,
 ) -> Result<u64, DiskFault>
     requires ordered { IsOrdered places }
-    ensures sized { IfOk result (λ size. WhereTold (content (D.state disk.old)) (λ b. (entries : Entries) → n ≤ length entries → IsFirstSize first entries → IsLaid places.jump places.head places.end entries b
-        → size ≡ space (take n entries))) }
+    ensures sized { IfOk result (λ size. WhereTold (content (D.state disk.old))
+        (λ b. (entries : Entries) → n ≤ length entries → IsFirstSize first entries
+        → IsLaid places.jump places.head places.end entries b → size ≡ space (take n entries))) }
     ensures inside { IfOk result (λ size. size ≤ live places) }
     ensures told { (D.state disk.new).told ≡ (D.state disk.old).told }
     ensures cause { HasCause (D.state disk.old).faults (D.state disk.new).faults result }

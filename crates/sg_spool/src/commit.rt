@@ -17,12 +17,17 @@ use sg_device::{Disk, DiskFault};
 pub(crate) fn commit_rows<D: Disk>(disk: &mut D, rows: Rows) -> Result<Rows, DiskFault>
     requires rows { AreRows rows }
 
-    ensures within { (cell : Pair) (list staged : Entries) → rows.staged ≡ length staged → EachNow (D.state disk.old) (IsRing cell rows.list list)
-        → WhereTold (content (D.state disk.old)) (OpensTo cell rows.list.end rows.ahead.jump rows.ahead.head rows.ahead.end list staged)
-        → Within (D.state disk.old) (D.state disk.new) (λ bytes. IsRing cell rows.list list bytes ⊎ IsRing cell rows.ahead (list ++ staged) bytes) }
+    ensures within { (cell : Pair) (list staged : Entries) → rows.staged ≡ length staged
+        → EachNow (D.state disk.old) (IsRing cell rows.list list)
+        → WhereTold (content (D.state disk.old))
+        (OpensTo cell rows.list.end rows.ahead.jump rows.ahead.head rows.ahead.end list staged)
+        → Within (D.state disk.old) (D.state disk.new) (λ bytes. IsRing cell rows.list list bytes
+        ⊎ IsRing cell rows.ahead (list ++ staged) bytes) }
 
-    ensures ring { IfOk result (λ next. (cell : Pair) (list staged : Entries) → rows.staged ≡ length staged → EachNow (D.state disk.old) (IsRing cell rows.list list)
-        → WhereTold (content (D.state disk.old)) (OpensTo cell rows.list.end rows.ahead.jump rows.ahead.head rows.ahead.end list staged)
+    ensures ring { IfOk result (λ next. (cell : Pair) (list staged : Entries)
+        → rows.staged ≡ length staged → EachNow (D.state disk.old) (IsRing cell rows.list list)
+        → WhereTold (content (D.state disk.old))
+        (OpensTo cell rows.list.end rows.ahead.jump rows.ahead.head rows.ahead.end list staged)
         → EachNow (D.state disk.new) (IsRing cell next.list (list ++ staged))) }
 
     ensures committed { IfOk result (λ next. next ≡ committed rows) }
@@ -39,14 +44,20 @@ pub(crate) fn commit_rows<D: Disk>(disk: &mut D, rows: Rows) -> Result<Rows, Dis
 
 // Makes stable what was written behind a closed gate, and then opens the gate.
 fn open_gate<D: Disk>(disk: &mut D, gate: u64) -> Result<(), DiskFault>
-    ensures within { (cell : Pair) (jump : Option ℕ) (head : ℕ) (longer : Option ℕ) (first last : ℕ) (list : Entries) (payload : List ℕ) (payloads : Entries)
+    ensures within { (cell : Pair) (jump : Option ℕ) (head : ℕ) (longer : Option ℕ) (first last : ℕ)
+        (list : Entries) (payload : List ℕ) (payloads : Entries)
         → EachNow (D.state disk.old) (RingAt cell jump head gate list)
-        → WhereTold (content (D.state disk.old)) (OpensTo cell gate longer first last list (payload ∷ payloads))
-        → Within (D.state disk.old) (D.state disk.new) (λ bytes. RingAt cell jump head gate list bytes ⊎ RingAt cell longer first last (list ++ payload ∷ payloads) bytes) }
+        → WhereTold (content (D.state disk.old))
+        (OpensTo cell gate longer first last list (payload ∷ payloads))
+        → Within (D.state disk.old) (D.state disk.new) (
+        λ bytes. RingAt cell jump head gate list bytes
+        ⊎ RingAt cell longer first last (list ++ payload ∷ payloads) bytes) }
 
-    ensures ring { OnOk result ((cell : Pair) (jump : Option ℕ) (head : ℕ) (longer : Option ℕ) (first last : ℕ) (list : Entries) (payload : List ℕ) (payloads : Entries)
+    ensures ring { OnOk result ((cell : Pair) (jump : Option ℕ) (head : ℕ) (longer : Option ℕ)
+        (first last : ℕ) (list : Entries) (payload : List ℕ) (payloads : Entries)
         → EachNow (D.state disk.old) (RingAt cell jump head gate list)
-        → WhereTold (content (D.state disk.old)) (OpensTo cell gate longer first last list (payload ∷ payloads))
+        → WhereTold (content (D.state disk.old))
+        (OpensTo cell gate longer first last list (payload ∷ payloads))
         → EachNow (D.state disk.new) (RingAt cell longer first last (list ++ payload ∷ payloads))) }
 
     // It syncs twice, however much was written.

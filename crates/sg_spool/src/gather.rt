@@ -1,11 +1,12 @@
 // Moving the list behind its jump, so that it stands in one row.
-ghost use Rattle.std.specs.Prelude.{◌≡◌, ◌≤◌, ◌<◌, ◌+◌, ◌-◌, ◌^◌, List, ℕ, length, OnOk, IfOk, Some, None, false};
+ghost use Rattle.std.specs.Prelude.{◌≡◌, ◌≤◌, ◌<◌, ◌+◌, ◌-◌, ◌^◌, length, OnOk, IfOk, Some, None, false};
 ghost use Rattle.sg_device.specs.Disk.{content, IsImage, Within, EachNow, HasCause, Changes, Elapses};
 ghost use Rattle.sg_stable.specs.Cell.{HasCell};
+ghost use Rattle.sg_spool.specs.Calls.{LeavesOpen};
 ghost use Rattle.sg_spool.specs.Lists.{Stays};
-ghost use Rattle.sg_spool.specs.Places.{IsOrdered, live};
+ghost use Rattle.sg_spool.specs.Places.{IsOrdered, IsInOneRow};
 ghost use Rattle.sg_spool.specs.Ring.{Entries};
-ghost use Rattle.sg_spool.specs.Steps.{RingAt, Stems, After};
+ghost use Rattle.sg_spool.specs.Steps.{Stems, After};
 ghost use Rattle.sg_spool.specs.View.{IsRing};
 ghost use Rattle.sg_spool.specs.Copying.{Copies, Beyond};
 
@@ -29,16 +30,17 @@ pub(crate) fn gather<D: Disk>(
     requires has_cell { EachNow (D.state disk.old) (HasCell cell.old.selector cell.old.value) }
 
     ensures within { (es : Entries) → EachNow (D.state disk.old) (IsRing cell.old places es)
-        → Within (D.state disk.old) (D.state disk.new) (Stems (IsImage (D.state disk.old)) (After Stays es)) }
+        → Within (D.state disk.old) (D.state disk.new)
+        (Stems (IsImage (D.state disk.old)) (After Stays es)) }
 
-    ensures ring { IfOk result (λ moved. (es : Entries) → EachNow (D.state disk.old) (IsRing cell.old places es)
-        → EachNow (D.state disk.new) (Stems (IsImage (D.state disk.old)) (IsRing cell.new moved es))) }
+    ensures ring { IfOk result (λ moved. (es : Entries)
+        → EachNow (D.state disk.old) (IsRing cell.old places es)
+        → EachNow (D.state disk.new)
+        (Stems (IsImage (D.state disk.old)) (IsRing cell.new moved es))) }
 
-    ensures ordered { IfOk result (λ moved. IsOrdered moved) }
-    ensures row { IfOk result (λ moved. moved.jump ≡ None) }
-    ensures live { IfOk result (λ moved. live moved ≡ live places) }
-    ensures cell_open { OnOk result (cell.new.closed ≡ false) }
-    ensures cause { HasCause (D.state disk.old).faults (D.state disk.new).faults result }
+    ensures row { IfOk result (IsInOneRow places) }
+    ensures answer { LeavesOpen cell.new (D.state disk.old).faults (D.state disk.new).faults
+        result }
 {
     let head = jump + 5;
     let middle = head + (jump - places.head);

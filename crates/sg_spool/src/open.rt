@@ -1,10 +1,7 @@
 // Opening a disk-buffer's store.
-ghost use Rattle.std.specs.Prelude.{◌≡◌, ◌↔◌, ◌<◌, ◌≤◌, ◌+◌, ◌^◌, ℕ, length, slice_index, false, IsTrue, IfOk, IfErr, IfNone, IfSome, OnOk, None};
-ghost use Rattle.sg_device.specs.Disk.{content, Preserves, Rests, Durable, WhereTold, IsImage};
-ghost use Rattle.sg_spool.specs.Ring.{Entries};
-ghost use Rattle.sg_spool.specs.Places.{IsOrdered};
-ghost use Rattle.sg_spool.specs.View.{IsHeld};
-ghost use Rattle.sg_spool.specs.Opening.{HasReason};
+ghost use Rattle.std.specs.Prelude.{◌≡◌, ◌<◌, ◌≤◌, IfOk, IfErr, OnOk};
+ghost use Rattle.sg_stable.specs.Opening.{IsSynced, IsUnwritten};
+ghost use Rattle.sg_spool.specs.Opening.{FindsRing, HasReason};
 
 use crate::Places;
 use crate::walk::walk_from;
@@ -21,14 +18,9 @@ pub struct Found {
 
 // What a store that is whole holds. It is made stable first, and each byte is read once.
 pub(crate) fn look<D: Disk>(disk: &mut D) -> Result<Found, StoreRefusal>
-    ensures held { IfOk result (λ f. WhereTold (content (D.state disk.old))
-        (λ b. (es : Entries) × IsHeld f.cell f.places f.count None es b)) }
-    ensures ordered { IfOk result (λ f. IsOrdered f.places) }
-    ensures opened { IfOk result (λ f. f.cell.closed ≡ false) }
-    ensures durable { OnOk result (Durable (D.state disk.new)) }
-    ensures preserves { OnOk result (Preserves (D.state disk.old) (D.state disk.new)) }
-    ensures rests { Rests (D.state disk.old) (D.state disk.new) }
-    ensures later { (D.state disk.old).faults ≤ (D.state disk.new).faults }
+    ensures found { IfOk result (FindsRing (D.state disk.old)) }
+    ensures synced { OnOk result (IsSynced (D.state disk.old) (D.state disk.new)) }
+    ensures unwritten { IsUnwritten (D.state disk.old) (D.state disk.new) }
     ensures reason { IfErr result (HasReason (D.state disk.old) (D.state disk.new)) }
 {
     disk.sync()?;
@@ -37,10 +29,7 @@ pub(crate) fn look<D: Disk>(disk: &mut D) -> Result<Found, StoreRefusal>
 
 // What a store that is whole holds.
 fn inspect<D: Disk>(disk: &mut D) -> Result<Found, StoreRefusal>
-    ensures held { IfOk result (λ f. WhereTold (content (D.state disk.old))
-        (λ b. (es : Entries) × IsHeld f.cell f.places f.count None es b)) }
-    ensures ordered { IfOk result (λ f. IsOrdered f.places) }
-    ensures opened { IfOk result (λ f. f.cell.closed ≡ false) }
+    ensures found { IfOk result (FindsRing (D.state disk.old)) }
     ensures told { (D.state disk.new).told ≡ (D.state disk.old).told }
     ensures later { (D.state disk.old).faults ≤ (D.state disk.new).faults }
     ensures reason { IfErr result (HasReason (D.state disk.old) (D.state disk.new)) }

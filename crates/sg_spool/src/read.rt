@@ -1,7 +1,7 @@
 // Reading an entry.
-ghost use Rattle.std.specs.Prelude.{◌≡◌, ◌≤◌, ◌<◌, ◌+◌, ◌^◌, List, ℕ, length, IfOk, IfErr, OnErr};
+ghost use Rattle.std.specs.Prelude.{◌≡◌, ◌≤◌, ◌<◌, ◌+◌, ◌^◌, List, ℕ, length, IfOk};
 ghost use Rattle.sg_device.specs.Disk.{content, WhereTold, HasCause};
-ghost use Rattle.sg_spool.specs.Answers.{HasReadCause};
+ghost use Rattle.sg_spool.specs.Answers.{HasRefusalCause};
 ghost use Rattle.sg_spool.specs.Ring.{IsPayload, IsEntry};
 
 use crate::RewriteRefusal;
@@ -35,9 +35,7 @@ pub(crate) fn read_entry<D: Disk>(
         (λ b. (payload : List ℕ) → IsEntry b gate payload → v.items ≡ payload)) }
     ensures fits { IfOk result (λ v. IsPayload v.items) }
     ensures told { (D.state disk.new).told ≡ (D.state disk.old).told }
-    ensures later { (D.state disk.old).faults ≤ (D.state disk.new).faults }
-    ensures cause { IfErr result
-        (HasReadCause (D.state disk.old).faults (D.state disk.new).faults) }
+    ensures cause { HasRefusalCause (D.state disk.old).faults (D.state disk.new).faults result }
 {
     let size = read_size(disk, gate)?;
     let mut payload = zeros(alloc, size as usize)?;

@@ -1,13 +1,13 @@
 // Spelling the entries anew.
-ghost use Rattle.std.specs.Prelude.{◌≡◌, ◌≤◌, ◌<◌, ◌+◌, ◌-◌, ◌^◌, ◌++◌, [], ◌∷◌, List, ℕ, length, map, OnOk, IfOk, IfErr, None, false};
+ghost use Rattle.std.specs.Prelude.{◌≡◌, ◌≤◌, ◌<◌, ◌+◌, ◌-◌, ◌^◌, List, ℕ, length, map, OnOk, IfOk, IfErr, None, false};
 ghost use Rattle.sg_device.specs.Disk.{content, IsImage, Within, EachNow, Changes, Elapses, HasCause};
 ghost use Rattle.sg_stable.specs.Cell.{HasCell};
-ghost use Rattle.sg_spool.specs.Answers.{HasReadCause, WhereNoMemory};
+ghost use Rattle.sg_spool.specs.Answers.{HasRefusalCause, WhereNoMemory};
 ghost use Rattle.sg_spool.specs.Copying.{Beyond};
 ghost use Rattle.sg_spool.specs.Lists.{Perhaps, Recodes};
 ghost use Rattle.sg_spool.specs.Places.{IsOrdered, gate_past};
 ghost use Rattle.sg_spool.specs.Ring.{Entries, IsPayload};
-ghost use Rattle.sg_spool.specs.Rewriting.{Adds, Spells, past, written_of};
+ghost use Rattle.sg_spool.specs.Rewriting.{Adds, Spells, KeepsRing, past, written_of};
 ghost use Rattle.sg_spool.specs.Steps.{Stems, After};
 ghost use Rattle.sg_spool.specs.View.{IsRing};
 
@@ -45,22 +45,24 @@ pub(crate) fn rewrite_list<D: Disk, M: Recode>(
     requires cell_open { cell.old.closed ≡ false }
     requires has_cell { EachNow (D.state disk.old) (HasCell cell.old.selector cell.old.value) }
 
-    ensures within { (es : Entries) → EachNow (D.state disk.old) (λ bytes. count ≡ length es) → EachNow (D.state disk.old) (IsRing cell.old places es)
-        → Within (D.state disk.old) (D.state disk.new) (Stems (IsImage (D.state disk.old)) (After (Perhaps (Recodes (M.meaning recode.old))) es)) }
+    ensures within { (es : Entries) → EachNow (D.state disk.old) (λ bytes. count ≡ length es)
+        → EachNow (D.state disk.old) (IsRing cell.old places es)
+        → Within (D.state disk.old) (D.state disk.new)
+        (Stems (IsImage (D.state disk.old)) (After (Perhaps (Recodes (M.meaning recode.old))) es)) }
 
-    ensures ring { IfOk result (λ next. (es : Entries) → EachNow (D.state disk.old) (λ bytes. count ≡ length es) → EachNow (D.state disk.old) (IsRing cell.old places es)
-        → EachNow (D.state disk.new) (Stems (IsImage (D.state disk.old)) (IsRing cell.new next (map (M.meaning recode.old) es)))) }
+    ensures ring { IfOk result (λ next. (es : Entries)
+        → EachNow (D.state disk.old) (λ bytes. count ≡ length es)
+        → EachNow (D.state disk.old) (IsRing cell.old places es)
+        → EachNow (D.state disk.new) (Stems (IsImage (D.state disk.old))
+        (IsRing cell.new next (map (M.meaning recode.old) es)))) }
 
     // Without memory the ring is as before.
-    ensures no_memory { IfErr result (WhereNoMemory ((es : Entries) → EachNow (D.state disk.old) (IsRing cell.old places es)
-        → EachNow (D.state disk.new) (Stems (IsImage (D.state disk.old)) (IsRing cell.old places es)))) }
-    ensures cell_same { IfErr result (WhereNoMemory (cell.new ≡ cell.old)) }
+    ensures no_memory { IfErr result (WhereNoMemory
+        (KeepsRing (D.state disk.old) (D.state disk.new) cell.old cell.new places)) }
 
     ensures ordered { IfOk result (λ next. IsOrdered next) }
     ensures cell_open { OnOk result (cell.new.closed ≡ false) }
-    ensures later { (D.state disk.old).faults ≤ (D.state disk.new).faults }
-    ensures cause { IfErr result
-        (HasReadCause (D.state disk.old).faults (D.state disk.new).faults) }
+    ensures cause { HasRefusalCause (D.state disk.old).faults (D.state disk.new).faults result }
 {
     let head = past(places);
     let end = write_anew(alloc, disk, recode, places, count)?;
@@ -103,9 +105,7 @@ fn write_anew<D: Disk, M: Recode>(
     ensures images { Elapses (Beyond (past places)) (D.state disk.old) (D.state disk.new) }
     ensures after { IfOk result (λ end. past places ≤ end) }
     ensures inside { IfOk result (λ end. end < 2 ^ 63) }
-    ensures later { (D.state disk.old).faults ≤ (D.state disk.new).faults }
-    ensures cause { IfErr result
-        (HasReadCause (D.state disk.old).faults (D.state disk.new).faults) }
+    ensures cause { HasRefusalCause (D.state disk.old).faults (D.state disk.new).faults result }
 {
     let mut gate = places.gate_past(places.head);
     let mut at = past(places);
@@ -144,9 +144,7 @@ fn write_one<D: Disk, M: Recode>(
     ensures next { IfOk result (λ next. next ≡ at + 5 + length (M.meaning recode.old payload.now)) }
     ensures inside { IfOk result (λ next. next < 2 ^ 63) }
     ensures stays { (bytes : List ℕ) → M.meaning recode.new bytes ≡ M.meaning recode.old bytes }
-    ensures later { (D.state disk.old).faults ≤ (D.state disk.new).faults }
-    ensures cause { IfErr result
-        (HasReadCause (D.state disk.old).faults (D.state disk.new).faults) }
+    ensures cause { HasRefusalCause (D.state disk.old).faults (D.state disk.new).faults result }
 {
     let spelled = recode.recode(alloc, payload)?;
     let block = Block::new(alloc, spelled)?;

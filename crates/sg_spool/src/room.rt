@@ -1,13 +1,13 @@
 // Where an entry goes.
-ghost use Rattle.std.specs.Prelude.{◌≡◌, ◌⊎◌, ◌≤◌, ◌<◌, ◌+◌, ◌-◌, ◌*◌, ◌^◌, ◌++◌, [], ◌∷◌, List, ℕ, length, min, OnOk, IfOk, Some, None, true, false, IsTrue, ◌↔◌};
-ghost use Rattle.sg_device.specs.Disk.{content, Within, EachNow, HasCause, WhereTold, Elapses};
+ghost use Rattle.std.specs.Prelude.{◌≡◌, ◌≤◌, ◌<◌, ◌+◌, ◌-◌, ◌^◌, ◌++◌, [], ◌∷◌, length, IfOk, Some, None, false, IsTrue, ◌↔◌};
+ghost use Rattle.sg_device.specs.Disk.{Within, EachNow, Elapses};
 ghost use Rattle.sg_stable.specs.Cell.{HasCell};
+ghost use Rattle.sg_spool.specs.Calls.{LeavesOpen, SparesList};
 ghost use Rattle.sg_spool.specs.Lists.{IsOneOf};
-ghost use Rattle.sg_spool.specs.Places.{IsOrdered, live, Fits, HasRoom, AreCompact, bound};
+ghost use Rattle.sg_spool.specs.Places.{IsOrdered, IsInOneRow, live, Fits, HasRoom, AreCompact, bound};
 ghost use Rattle.sg_spool.specs.Ring.{Entries};
-ghost use Rattle.sg_spool.specs.Rows.{AreRows, listed, total};
-ghost use Rattle.sg_spool.specs.Staging.{OpensTo};
-ghost use Rattle.sg_spool.specs.Steps.{Spares, Grows};
+ghost use Rattle.sg_spool.specs.Rows.{AreRows, HasRoomFor, HasOneMore, listed, total};
+ghost use Rattle.sg_spool.specs.Steps.{Grows};
 ghost use Rattle.sg_spool.specs.View.{IsRing, AreHeld, AreHeldAfter};
 
 use crate::commit::commit_rows;
@@ -43,27 +43,19 @@ pub(crate) fn stage_block<D: Disk>(
     ensures within { (list staged : Entries) → AreHeld (D.state disk.old) cell.old rows list staged
         → Within (D.state disk.old) (D.state disk.new) (IsOneOf list (list ++ staged)) }
 
-    ensures staged { IfOk result (λ next. (list staged : Entries) → AreHeld (D.state disk.old) cell.old rows list staged
+    ensures staged { IfOk result (λ next. (list staged : Entries)
+        → AreHeld (D.state disk.old) cell.old rows list staged
         → AreHeldAfter (D.state disk.new) cell.new rows next list staged (block.now ∷ [])) }
 
-    ensures rows { IfOk result (λ next. AreRows next) }
-    ensures total { IfOk result (λ next. total next ≡ min (total rows + 1) (2 ^ 64 - 1)) }
-    ensures live { IfOk result (λ next. live next.ahead ≡ live rows.ahead + 5 + length block.now) }
+    ensures rows { IfOk result (HasOneMore capacity (length block.now) rows) }
 
     // Where there is room, the images keep the ring, and nothing grows past the bound.
-    ensures images { HasRoom rows.ahead.jump rows.ahead.head rows.ahead.end (length block.now)
-        → Elapses (Spares rows.list.jump rows.list.head rows.list.end) (D.state disk.old)
-        (D.state disk.new) }
-    ensures list { HasRoom rows.ahead.jump rows.ahead.head rows.ahead.end (length block.now)
-        → IfOk result (λ next. next.list ≡ rows.list) }
-    ensures compact { IfOk result (
-        λ next. AreCompact capacity rows.ahead.jump rows.ahead.head rows.ahead.end
-        → AreCompact capacity next.ahead.jump next.ahead.head next.ahead.end) }
+    ensures spared { HasRoom rows.ahead.jump rows.ahead.head rows.ahead.end (length block.now)
+        → SparesList rows (D.state disk.old) (D.state disk.new) result }
     ensures short { AreCompact capacity rows.ahead.jump rows.ahead.head rows.ahead.end
         → Elapses (Grows (bound capacity)) (D.state disk.old) (D.state disk.new) }
-
-    ensures cell_open { OnOk result (cell.new.closed ≡ false) }
-    ensures cause { HasCause (D.state disk.old).faults (D.state disk.new).faults result }
+    ensures answer { LeavesOpen cell.new (D.state disk.old).faults (D.state disk.new).faults
+        result }
 {
     let roomy = make_room(disk, cell, rows, block.size())?;
     let ahead = stage_entry(disk, roomy, capacity, block)?;
@@ -91,20 +83,17 @@ fn make_room<D: Disk>(
     ensures within { (list staged : Entries) → AreHeld (D.state disk.old) cell.old rows list staged
         → Within (D.state disk.old) (D.state disk.new) (IsOneOf list (list ++ staged)) }
 
-    ensures held { IfOk result (λ next. (list staged : Entries) → AreHeld (D.state disk.old) cell.old rows list staged
+    ensures held { IfOk result (λ next. (list staged : Entries)
+        → AreHeld (D.state disk.old) cell.old rows list staged
         → AreHeldAfter (D.state disk.new) cell.new rows next list staged []) }
 
-    ensures rows { IfOk result (λ next. AreRows next) }
-    ensures total { IfOk result (λ next. total next ≡ total rows) }
-    ensures room { IfOk result
-        (λ next. HasRoom next.ahead.jump next.ahead.head next.ahead.end size) }
-    ensures live { IfOk result (λ next. live next.ahead ≡ live rows.ahead) }
+    ensures rows { IfOk result (HasRoomFor size rows) }
     ensures untouched { HasRoom rows.ahead.jump rows.ahead.head rows.ahead.end size
         → disk.new ≡ disk.old }
     ensures stays { IfOk result
         (λ next. HasRoom rows.ahead.jump rows.ahead.head rows.ahead.end size → next ≡ rows) }
-    ensures cell_open { OnOk result (cell.new.closed ≡ false) }
-    ensures cause { HasCause (D.state disk.old).faults (D.state disk.new).faults result }
+    ensures answer { LeavesOpen cell.new (D.state disk.old).faults (D.state disk.new).faults
+        result }
 {
     match rows.ahead.jump {
         None => Ok(rows),
@@ -133,15 +122,14 @@ fn gather_rows<D: Disk>(
     ensures within { (list staged : Entries) → AreHeld (D.state disk.old) cell.old rows list staged
         → Within (D.state disk.old) (D.state disk.new) (IsOneOf list (list ++ staged)) }
 
-    ensures ring { IfOk result (λ next. (list staged : Entries) → AreHeld (D.state disk.old) cell.old rows list staged
+    ensures ring { IfOk result (λ next. (list staged : Entries)
+        → AreHeld (D.state disk.old) cell.old rows list staged
         → EachNow (D.state disk.new) (IsRing cell.new next.list (list ++ staged))) }
 
     ensures rows { IfOk result (λ next. next ≡ listed next.list (total rows)) }
-    ensures ordered { IfOk result (λ next. IsOrdered next.list) }
-    ensures row { IfOk result (λ next. next.list.jump ≡ None) }
-    ensures live { IfOk result (λ next. live next.list ≡ live rows.ahead) }
-    ensures cell_open { OnOk result (cell.new.closed ≡ false) }
-    ensures cause { HasCause (D.state disk.old).faults (D.state disk.new).faults result }
+    ensures row { IfOk result (λ next. IsInOneRow rows.ahead next.list) }
+    ensures answer { LeavesOpen cell.new (D.state disk.old).faults (D.state disk.new).faults
+        result }
 {
     let whole = commit_rows(disk, rows)?;
     let moved = gather(disk, cell, whole.list, jump)?;

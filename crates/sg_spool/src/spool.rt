@@ -1,9 +1,10 @@
 // The disk-buffer on its disk.
-ghost use Rattle.std.specs.Prelude.{◌≡◌, ◌⊎◌, ◌↔◌, ◌≤◌, ◌<◌, ◌+◌, ◌-◌, ◌^◌, ◌++◌, [], ◌∷◌, List, ℕ, length, take, drop, map, min, OnOk, OnErr, IfOk, IfErr, Some, None, true, false, IsTrue, is_err};
+ghost use Rattle.std.specs.Prelude.{◌≡◌, ◌↔◌, ◌≤◌, ◌<◌, ◌+◌, ◌-◌, ◌^◌, ◌++◌, [], ◌∷◌, List, ℕ, length, take, drop, map, OnOk, OnErr, IfOk, IfErr, Some, None, true, false, IsTrue};
 ghost use Rattle.std.specs.Option.{option_map};
-ghost use Rattle.sg_device.specs.Disk.{content, Preserves, Rests, Durable, Within, EachNow, WhereTold};
-ghost use Rattle.sg_spool.specs.Answers.{Stages, Appends, Commits, Advances, Respells, IsFronted, IsFirst, IsWalked, IsNext, IsBehind, IsWholeItem};
-ghost use Rattle.sg_spool.specs.Calls.{Lasts, Leaves, Reads};
+ghost use Rattle.sg_device.specs.Disk.{content, Within, EachNow, WhereTold};
+ghost use Rattle.sg_stable.specs.Opening.{IsSynced, IsUnwritten};
+ghost use Rattle.sg_spool.specs.Answers.{Stages, Appends, Commits, Advances, Respells, IsFronted, IsFirst, IsWalked, IsNextOf, IsWholeItem};
+ghost use Rattle.sg_spool.specs.Calls.{Lasts, Leaves, Reads, IsOpened};
 ghost use Rattle.sg_spool.specs.Lists.{IsOneOf};
 ghost use Rattle.sg_spool.specs.Opening.{HasReason};
 ghost use Rattle.sg_spool.specs.Places.{live, Fits, gate_past, Remains};
@@ -58,21 +59,15 @@ impl<D: Disk> Spool<D> {
         ensures list { IfOk result (λ spool. WhereTold (content (D.state disk))
             (λ bytes. (list : Entries) × IsList list bytes × Holds D.state spool list []
             × (spool.rows.count ≡ length list))) }
-        ensures opened { IfOk result (λ spool. spool.closed ≡ false) }
-        ensures capacity { IfOk result (λ spool. spool.capacity ≡ capacity) }
-        ensures rows { IfOk result (λ spool. spool.rows ≡ listed spool.rows.list spool.rows.count) }
-        ensures unread { IfOk result (λ spool. spool.front ≡ None) }
-        ensures durable { IfOk result (λ spool. Durable (D.state spool.disk)) }
-        ensures preserves { IfOk result (λ spool. Preserves (D.state disk) (D.state spool.disk)) }
-        ensures later { IfOk result (λ spool. (D.state disk).faults ≤ (D.state spool.disk).faults) }
+        ensures opened { IfOk result (IsOpened capacity) }
+        ensures synced { IfOk result (λ spool. IsSynced (D.state disk) (D.state spool.disk)) }
 
         // The bound on the file's length, taken up again: any image of one within its bound is, and so is a fresh store.
         ensures compact { IfOk result (λ spool. (bytes : List ℕ)
             → content (D.state disk) ≡ Some bytes → IsCompactIn capacity bytes
             → IsCompact D.state spool) }
 
-        ensures err_rests { IfErr result (λ e. Rests (D.state disk) (D.state e.0)) }
-        ensures err_later { IfErr result (λ e. (D.state disk).faults ≤ (D.state e.0).faults) }
+        ensures unwritten { IfErr result (λ e. IsUnwritten (D.state disk) (D.state e.0)) }
         ensures reason { IfErr result (λ e. HasReason (D.state disk) (D.state e.0) e.1) }
     {
         let mut disk = disk;
@@ -314,11 +309,7 @@ impl<D: Disk> Spool<D> {
         ensures next { IfOk result (λ walked. WhereTold (content (D.state self.old.disk))
             (λ bytes. (entries : Entries)
             → Remains bytes self.old.rows.list.jump gate entries self.old.rows.list.end
-            → IsNext self.old bytes entries walked)) }
-        ensures behind { IfOk result (λ walked. WhereTold (content (D.state self.old.disk))
-            (λ bytes. (entries : Entries)
-            → Remains bytes self.old.rows.list.jump gate entries self.old.rows.list.end
-            → IsBehind self.old.rows.list.jump gate walked)) }
+            → IsNextOf self.old gate bytes entries walked)) }
         ensures whole { IfOk result IsWholeItem }
         ensures no_memory { OnErr result (self.new.closed ≡ false) }
         ensures front { self.new.front ≡ self.old.front }

@@ -1,11 +1,10 @@
 // Writing an entry behind what is staged.
-ghost use Rattle.std.specs.Prelude.{◌≡◌, ◌≤◌, ◌<◌, ◌+◌, ◌-◌, ◌*◌, ◌^◌, ◌++◌, [], ◌∷◌, List, ℕ, length, OnOk, IfOk, Some, None, true, false, IsTrue, ◌↔◌};
+ghost use Rattle.std.specs.Prelude.{◌≡◌, ◌≤◌, ◌<◌, ◌+◌, ◌-◌, ◌*◌, ◌^◌, ◌++◌, [], ◌∷◌, ℕ, length, OnOk, IfOk, Some, None, true, false, IsTrue, ◌↔◌};
 ghost use Rattle.sg_device.specs.Disk.{content, Changes, Elapses, HasCause, WhereTold};
-ghost use Rattle.sg_device.specs.DiskBytes.{Written};
 ghost use Rattle.sg_stable.specs.declared.cell.Pair.{Pair};
-ghost use Rattle.sg_spool.specs.Places.{IsOrdered, live, Fits, HasRoom, AreCompact, bound};
-ghost use Rattle.sg_spool.specs.Ring.{Entries, block_of};
-ghost use Rattle.sg_spool.specs.Rows.{AreRows, IsPast};
+ghost use Rattle.sg_spool.specs.Places.{Fits, HasRoom, AreCompact, bound};
+ghost use Rattle.sg_spool.specs.Ring.{Entries};
+ghost use Rattle.sg_spool.specs.Rows.{AreRows, IsLonger};
 ghost use Rattle.sg_spool.specs.Steps.{Spares, Grows};
 ghost use Rattle.sg_spool.specs.Staging.{IsStaged, Lays, LaysTorn};
 
@@ -27,18 +26,15 @@ pub(crate) fn stage_entry<D: Disk>(
     // Nothing that the list uses is written.
     ensures images { Elapses (Spares rows.list.jump rows.list.head rows.list.end) (D.state disk.old)
         (D.state disk.new) }
-    ensures staged { IfOk result (λ ahead. (cell : Pair) (list staged : Entries) → rows.staged ≡ length staged → WhereTold (content (D.state disk.old)) (IsStaged cell rows.list rows.ahead list staged)
-        → WhereTold (content (D.state disk.new)) (IsStaged cell rows.list ahead list (staged ++ block.now ∷ []))) }
+    ensures staged { IfOk result (λ ahead. (cell : Pair) (list staged : Entries)
+        → rows.staged ≡ length staged
+        → WhereTold (content (D.state disk.old)) (IsStaged cell rows.list rows.ahead list staged)
+        → WhereTold (content (D.state disk.new))
+        (IsStaged cell rows.list ahead list (staged ++ block.now ∷ []))) }
 
-    ensures ordered { IfOk result (λ ahead. IsOrdered ahead) }
-    ensures head { IfOk result (λ ahead. ahead.head ≡ rows.ahead.head) }
-    ensures past { IfOk result (λ ahead. IsPast rows.list.jump rows.list.end ahead.jump ahead.end) }
-    ensures live { IfOk result (λ ahead. live ahead ≡ live rows.ahead + 5 + length block.now) }
+    ensures places { IfOk result (IsLonger capacity (length block.now) rows) }
 
     // The bound on the file's length goes on.
-    ensures compact { IfOk result (
-        λ ahead. AreCompact capacity rows.ahead.jump rows.ahead.head rows.ahead.end
-        → AreCompact capacity ahead.jump ahead.head ahead.end) }
     ensures short { AreCompact capacity rows.ahead.jump rows.ahead.head rows.ahead.end
         → Elapses (Grows (bound capacity)) (D.state disk.old) (D.state disk.new) }
 
@@ -69,8 +65,12 @@ fn stage_in_front<D: Disk>(disk: &mut D, rows: Rows, block: &Block) -> Result<()
     requires room { 64 + length block.now + 6 ≤ rows.ahead.head }
     ensures images { Elapses (Spares rows.list.jump rows.list.head rows.list.end) (D.state disk.old)
         (D.state disk.new) }
-    ensures staged { OnOk result ((cell : Pair) (list staged : Entries) → rows.staged ≡ length staged → WhereTold (content (D.state disk.old)) (IsStaged cell rows.list rows.ahead list staged)
-        → WhereTold (content (D.state disk.new)) (IsStaged cell rows.list (record { jump = Some rows.ahead.end; head = rows.ahead.head; end = 69 + length block.now }) list (staged ++ block.now ∷ []))) }
+    ensures staged { OnOk result ((cell : Pair) (list staged : Entries)
+        → rows.staged ≡ length staged
+        → WhereTold (content (D.state disk.old)) (IsStaged cell rows.list rows.ahead list staged)
+        → WhereTold (content (D.state disk.new)) (IsStaged cell rows.list
+        (record { jump = Some rows.ahead.end; head = rows.ahead.head; end = 69 + length block.now })
+        list (staged ++ block.now ∷ []))) }
     ensures short { (most : ℕ) → 64 + length block.now + 6 ≤ most → rows.ahead.end + 5 ≤ most
         → Elapses (Grows most) (D.state disk.old) (D.state disk.new) }
     ensures inside { OnOk result (rows.ahead.end + 5 < 2 ^ 63) }
@@ -87,8 +87,13 @@ fn stage_behind<D: Disk>(disk: &mut D, rows: Rows, block: &Block) -> Result<(), 
     requires room { HasRoom rows.ahead.jump rows.ahead.head rows.ahead.end (length block.now) }
     ensures images { Elapses (Spares rows.list.jump rows.list.head rows.list.end) (D.state disk.old)
         (D.state disk.new) }
-    ensures staged { OnOk result ((cell : Pair) (list staged : Entries) → rows.staged ≡ length staged → WhereTold (content (D.state disk.old)) (IsStaged cell rows.list rows.ahead list staged)
-        → WhereTold (content (D.state disk.new)) (IsStaged cell rows.list (record { jump = rows.ahead.jump; head = rows.ahead.head; end = rows.ahead.end + 5 + length block.now }) list (staged ++ block.now ∷ []))) }
+    ensures staged { OnOk result ((cell : Pair) (list staged : Entries)
+        → rows.staged ≡ length staged
+        → WhereTold (content (D.state disk.old)) (IsStaged cell rows.list rows.ahead list staged)
+        → WhereTold (content (D.state disk.new)) (IsStaged cell rows.list
+        (record
+        { jump = rows.ahead.jump; head = rows.ahead.head; end = rows.ahead.end + 5 + length block.now })
+        list (staged ++ block.now ∷ []))) }
     ensures short { (most : ℕ) → rows.ahead.end + length block.now + 6 ≤ most
         → Elapses (Grows most) (D.state disk.old) (D.state disk.new) }
     ensures inside { OnOk result (rows.ahead.end + length block.now + 6 < 2 ^ 63) }

@@ -8,7 +8,7 @@ use Rattle.sg_device.specs.Faults.{Rose}
 use Rattle.sg_device.proofs.DiskCalls.{content_same, reads_as_image}
 use Rattle.sg_outside.specs.World.{WorldState}
 use Rattle.sg_codec.specs.declared.kept.Kept.{Kept}
-use Rattle.sg_spool.specs.Answers.{IsWalked, IsNext, IsBehind}
+use Rattle.sg_spool.specs.Answers.{IsWalked, IsNextOf}
 use Rattle.sg_spool.specs.Calls.{Reads}
 use Rattle.sg_spool.specs.Places.{Remains, gate_past}
 use Rattle.sg_spool.specs.Ring.{Entries, IsEntry, IsLaid, IsList}
@@ -170,10 +170,9 @@ first-bad list gate count rows bytes counts few none s = bad-here list gate coun
 
 pub entry-listed : {D : Type 0} (state : D → DiskState) (old new : View D) (gate number next before now : ℕ) (payload : Vec ℕ Global) (walked : Walked) (bytes' text text' : List ℕ) (good : Bool)
     → walked ≡ Item payload next → bytes' ≡ payload.items → Appends number bytes' text text' good → good ≡ true → IsWalked old new gate before now walked
-    → WhereTold (content (state old.disk)) (λ bytes. (entries : Entries) → Remains bytes old.rows.list.jump gate entries old.rows.list.end → IsNext old bytes entries walked)
-    → WhereTold (content (state old.disk)) (λ bytes. (entries : Entries) → Remains bytes old.rows.list.jump gate entries old.rows.list.end → IsBehind old.rows.list.jump gate walked)
+    → WhereTold (content (state old.disk)) (λ bytes. (entries : Entries) → Remains bytes old.rows.list.jump gate entries old.rows.list.end → IsNextOf old gate bytes entries walked)
     → ListsEntry state old new gate number text text' (Ok next)
-entry-listed state old new gate number next before now payload walked bytes' text text' good item same appends is answer follows behind =
+entry-listed state old new gate number next before now payload walked bytes' text text' good item same appends is answer follows =
     let (kept, (stored, more)) : (kept : Kept) × (IsStored kept payload.items × (text' ≡ text ++ row_line number (record { kept = kept; payload = payload.items }))) =
     subst (λ (p : List ℕ). Appends number p text text' true) same (subst (λ (b : Bool). Appends number bytes' text text' b) is appends) in
     let shut = (subst (λ (w : Walked). IsWalked old new gate before now w) item answer).2 in (
@@ -185,9 +184,9 @@ entry-listed state old new gate number next before now payload walked bytes' tex
           (
             shut,
             λ bytes told entries remains.
-                let (rest, first, left) = subst (λ (w : Walked). IsNext old bytes entries w) item (follows bytes told entries remains) in
-                let at = subst (λ (w : Walked). IsBehind old.rows.list.jump gate w) item (behind bytes told entries remains) in
-                (rest, (first, (at, left))),
+                let after = subst (λ (w : Walked). IsNextOf old gate bytes entries w) item (follows bytes told entries remains) in
+                let (rest, first, left) = after.next in
+                (rest, (first, (after.behind, left))),
           ),
         ),
       ),

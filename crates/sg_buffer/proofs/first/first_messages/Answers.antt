@@ -38,7 +38,7 @@ loop-turn-preserved g c =
     let message = c.in_ok-message-in-Item.message in
     let answer = rw c.in-Item.is at c.in_ok-payload.ensures.answer in
     let next = rw c.in-Item.is at c.in_ok-payload.ensures.next in
-    let goes = goes_before (g.D.Disk.state c.args.spool.now.disk) (g.D.Disk.state l.spool.disk) c.args.spool.now.rows l.spool.rows l.gate payload c.in-Item.next inv.reads.told inv.reads.rows next in
+    let goes = goes_before (g.D.Disk.state c.args.spool.now.disk) (g.D.Disk.state l.spool.disk) c.args.spool.now.rows l.spool.rows l.gate payload c.in-Item.next inv.reads.told inv.reads.rows (λ b is left remains. (next b is left remains).next) in
     let more : suc l._turn ≡ l._turn + 1 = omega arith in
     record {
       reads = record {

@@ -38,7 +38,7 @@ loop-turn-preserved g c =
     let added = c.in_default.ensures.added in
     let answer = rw c.in-Item.is at c.in_ok-payload.ensures.answer in
     let next = rw c.in-Item.is at c.in_ok-payload.ensures.next in
-    let goes = goes_before d0 (g.D.Disk.state l.spool.disk) rows l.spool.rows l.gate c.in-Item.payload.items c.in-Item.next inv.reads.told inv.reads.rows next in
+    let goes = goes_before d0 (g.D.Disk.state l.spool.disk) rows l.spool.rows l.gate c.in-Item.payload.items c.in-Item.next inv.reads.told inv.reads.rows (λ b is left remains. (next b is left remains).next) in
     record {
       reads = record {
         told = c.item.ensures.reads.told ∙ inv.reads.told;
@@ -57,7 +57,7 @@ returns-in-Err-clause-reason g c =
     let d0 = g.D.Disk.state c.args.spool.now.disk in
     let rows = c.args.spool.now.rows in
     let next = rw c.in-Item.is at c.in_ok-payload.ensures.next in
-    let goes = goes_before d0 (g.D.Disk.state l.spool.disk) rows l.spool.rows l.gate c.in-Item.payload.items c.in-Item.next inv.reads.told inv.reads.rows next in
+    let goes = goes_before d0 (g.D.Disk.state l.spool.disk) rows l.spool.rows l.gate c.in-Item.payload.items c.in-Item.next inv.reads.told inv.reads.rows (λ b is left remains. (next b is left remains).next) in
     add_reason d0 (g.D.Disk.state c.item.new.self.disk) rows.list l._turn l.gate c.in-Item.next l.found c.deref.result.now inv.read (subst (λ (p : List ℕ). GoesOn d0 rows.list l.gate p c.in-Item.next) (sym c.deref.ensures.value) goes)
     (λ b told. let here = c.head-gate.ensures.here c.requires.open b told in (here.0, here.1)) c.in-Err.refusal c.in-Err.ensures.reason
 
@@ -67,7 +67,7 @@ returns-in-Empty-clause-reason g c = λ b told.
     let inv = l.invariant in
     let d0 = g.D.Disk.state c.args.spool.now.disk in
     let next = rw c.in-Empty.is at c.in_ok-payload.ensures.next in
-    let ends = ends_before d0 (g.D.Disk.state l.spool.disk) c.args.spool.now.rows l.spool.rows l.gate inv.reads.told inv.reads.rows next in
+    let ends = ends_before d0 (g.D.Disk.state l.spool.disk) c.args.spool.now.rows l.spool.rows l.gate inv.reads.told inv.reads.rows (λ b is left remains. (next b is left remains).next) in
     absurd (not_empty d0 c.args.spool.now.rows l._turn l.gate l.found inv.read (omega (arith, c.loop-turn-test.true, c.count-turn-end.ensures.count))
     (λ b told payloads list. sym c.count-turn-end.ensures.count ∙ c.count-turn-end.ensures.list c.requires.open b (reads_as_image d0 b told) payloads list)
     (λ b told. let here = c.head-gate.ensures.here c.requires.open b told in (here.0, here.1)) ends b told)

@@ -22,7 +22,11 @@ returns-clause-ring g c = λ n es start.
     let high = head_high next.jump next.head next.end c.skip-next.ensures.ordered in
     advanced c.args.cell.now c.args.places next n c.args.size es c.requires.ordered c.skip-next.ensures.places (g.D.Disk.state c.args.disk.now) (g.D.Disk.state c.put.new.disk) start (next.head - 64) (omega (arith, high)) (c.put.ensures.within c.requires.cell_open) c.put.new.self c.in_ok-put.ensures.answer.ok (c.put.ensures.cell c.in_ok-put.ensures.answer.closed)
 
-pub returns-clause-compact : goal.returns-clause-compact
-returns-clause-compact g c = λ capacity compact.
+pub returns-clause-places : goal.returns-clause-places
+returns-clause-places g c =
     let places = c.args.places in
-    subst (λ (q : Places). AreCompact capacity q.jump q.head q.end) (sym c.skip-next.ensures.places) (compact_skip capacity places.jump places.head places.end c.args.size c.requires.ordered compact)
+    record {
+      ordered = c.skip-next.ensures.ordered;
+      live = c.skip-next.ensures.live;
+      compact = λ capacity compact. subst (λ (q : Places). AreCompact capacity q.jump q.head q.end) (sym c.skip-next.ensures.places) (compact_skip capacity places.jump places.head places.end c.args.size c.requires.ordered compact);
+    }

@@ -28,15 +28,19 @@ returns-then-head-len-clause-reason g c = λ b told.
     let whole : 128 ≤ length b = omega (arith, long, c.if-len-lt128.false) in
     head_out b c.at_front-cell.result.selector c.at_front-cell.result.value c.saturating_add-head.result zeros whole (cell_there b c.read_at.new.into same c.read_at.auto.into whole c.at_front-cell.result c.at_front-cell.ensures.cell) (omega (arith, c.saturating_add-head.ensures)) (omega (arith, long, c.if-head-len.true))
 
-pub returns-clause-held : goal.returns-clause-held
-returns-clause-held g c = λ b told.
-    let at_read = content_same (g.D.Disk.state c.args.disk.now) (g.D.Disk.state c.len.new.self) c.len.ensures.told ∙ told in
-    let at_walk = content_same (g.D.Disk.state c.len.new.self) (g.D.Disk.state c.read_at.new.self) c.read_at.ensures.told ∙ at_read in
-    let long : c.in_ok-len.len ≡ length b = c.in_ok-len.ensures.length b told in
-    let same = read_zeros c.in_ok-read_at.field-0 b _ c.read_at.new.into (c.in_ok-read_at.ensures.bytes b at_read) (zeros_at 64) in
-    let zeros = zeros_there 64 b c.read_at.new.into same (subst (λ (n : ℕ). AreZero n c.read_at.new.into) c.read_at.auto.into c.in_default.ensures.none) in
-    let whole : 128 ≤ length b = omega (arith, long, c.if-len-lt128.false) in
-    held_at b c.at_front-cell.result c.saturating_add-head.result c.in_ok-place.place zeros whole (cell_there b c.read_at.new.into same c.read_at.auto.into whole c.at_front-cell.result c.at_front-cell.ensures.cell) (omega (arith, c.saturating_add-head.ensures, c.if-head-len.false, c.in_ok-len.ensures.bound)) (omega (arith, long, c.if-head-len.false)) c.in_ok-place.ensures.ordered (c.in_ok-place.ensures.found b at_walk)
+pub returns-clause-found : goal.returns-clause-found
+returns-clause-found g c = record {
+  held = λ b told.
+      let at_read = content_same (g.D.Disk.state c.args.disk.now) (g.D.Disk.state c.len.new.self) c.len.ensures.told ∙ told in
+      let at_walk = content_same (g.D.Disk.state c.len.new.self) (g.D.Disk.state c.read_at.new.self) c.read_at.ensures.told ∙ at_read in
+      let long : c.in_ok-len.len ≡ length b = c.in_ok-len.ensures.length b told in
+      let same = read_zeros c.in_ok-read_at.field-0 b _ c.read_at.new.into (c.in_ok-read_at.ensures.bytes b at_read) (zeros_at 64) in
+      let zeros = zeros_there 64 b c.read_at.new.into same (subst (λ (n : ℕ). AreZero n c.read_at.new.into) c.read_at.auto.into c.in_default.ensures.none) in
+      let whole : 128 ≤ length b = omega (arith, long, c.if-len-lt128.false) in
+      held_at b c.at_front-cell.result c.saturating_add-head.result c.in_ok-place.place zeros whole (cell_there b c.read_at.new.into same c.read_at.auto.into whole c.at_front-cell.result c.at_front-cell.ensures.cell) (omega (arith, c.saturating_add-head.ensures, c.if-head-len.false, c.in_ok-len.ensures.bound)) (omega (arith, long, c.if-head-len.false)) c.in_ok-place.ensures.ordered (c.in_ok-place.ensures.found b at_walk);
+  ordered = c.in_ok-place.ensures.ordered;
+  opened = c.at_front-cell.ensures.opened;
+}
 
 pub returns-in_err-place-clause-reason : goal.returns-in_err-place-clause-reason
 returns-in_err-place-clause-reason g c =

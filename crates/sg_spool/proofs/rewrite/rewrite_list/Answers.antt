@@ -1,4 +1,4 @@
-use Rattle.std.proofs.Common.{◌-◌, ℕ, map, subst, sym, arith, None}
+use Rattle.std.proofs.Common.{◌-◌, ℕ, map, subst, sym, refl, arith, None}
 use Rattle.std.proofs.lemmas.Result.{err_from_is_err_and}
 use Rattle.sg_device.specs.Disk.{EachNow, IsImage}
 use Rattle.sg_spool.specs.Rewriting.{past}
@@ -29,4 +29,7 @@ put-requires g c = λ open_. beyond_cells c.args.cell.now.selector c.args.cell.n
 pub returns-in_err-end-clause-no_memory : goal.returns-in_err-end-clause-no_memory
 returns-in_err-end-clause-no_memory g c =
     let p = err_from_is_err_and c.from_residual.result c.from_residual.ensures.1 in
-    rw p.1 (where_no_memory _ p.0 (λ es start. unchanged_ring c.args.cell.now c.args.places es (g.M.Recode.meaning c.args.recode.now) c.args.count c.requires.ordered (g.D.Disk.state c.args.disk.now) (g.D.Disk.state c.write_anew.new.disk) start c.write_anew.ensures.images))
+    rw p.1 (where_no_memory _ p.0 (record {
+      ring = λ es start. unchanged_ring c.args.cell.now c.args.places es (g.M.Recode.meaning c.args.recode.now) c.args.count c.requires.ordered (g.D.Disk.state c.args.disk.now) (g.D.Disk.state c.write_anew.new.disk) start c.write_anew.ensures.images;
+      cell = refl;
+    }))

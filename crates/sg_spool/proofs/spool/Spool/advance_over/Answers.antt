@@ -15,7 +15,7 @@ returns-in_err-next-clause-lasts g c =
     let enough = rw (← c.self.view_is) at c.requires.enough in
     let sized = rw (← c.self.view_is) at c.requires.sized in
     let starts = has_entries m.cell m.rows (option_map (λ v. v.items) m.front) (g.D.Disk.state m.disk) whole c.args.n c.args.size enough (sized c.if-self.false) in
-    rw (← c.self.view_is) (lasts_open g.D.Disk.state _ _ c.if-self.false refl (moves_within (c.advance_past.ensures.within c.args.n whole.entries (starts whole.entries whole.staged (holds m.cell m.rows (option_map (λ v. v.items) m.front) (g.D.Disk.state m.disk) whole)))) c.advance_past.ensures.cause.later (λ shut. c.in_err-next.ensures.cause.failed))
+    rw (← c.self.view_is) (lasts_open g.D.Disk.state _ _ c.if-self.false refl (moves_within (c.advance_past.ensures.within c.args.n whole.entries (starts whole.entries whole.staged (holds m.cell m.rows (option_map (λ v. v.items) m.front) (g.D.Disk.state m.disk) whole)))) c.advance_past.ensures.answer.cause.later (λ shut. c.in_err-next.ensures.answer.cause.failed))
 
 pub returns-clause-lasts : goal.returns-clause-lasts
 returns-clause-lasts g c =
@@ -24,7 +24,7 @@ returns-clause-lasts g c =
     let enough = rw (← c.self.view_is) at c.requires.enough in
     let sized = rw (← c.self.view_is) at c.requires.sized in
     let starts = has_entries m.cell m.rows (option_map (λ v. v.items) m.front) (g.D.Disk.state m.disk) whole c.args.n c.args.size enough (sized c.if-self.false) in
-    rw (← c.self.view_is) (lasts_open g.D.Disk.state _ _ c.if-self.false refl (moves_within (c.advance_past.ensures.within c.args.n whole.entries (starts whole.entries whole.staged (holds m.cell m.rows (option_map (λ v. v.items) m.front) (g.D.Disk.state m.disk) whole)))) c.advance_past.ensures.cause.later (λ shut. absurd (let no : false ≡ true = shut in cc)))
+    rw (← c.self.view_is) (lasts_open g.D.Disk.state _ _ c.if-self.false refl (moves_within (c.advance_past.ensures.within c.args.n whole.entries (starts whole.entries whole.staged (holds m.cell m.rows (option_map (λ v. v.items) m.front) (g.D.Disk.state m.disk) whole)))) c.advance_past.ensures.answer.cause.later (λ shut. absurd (let no : false ≡ true = shut in cc)))
 
 pub returns-in_err-next-clause-leaves : goal.returns-in_err-next-clause-leaves
 returns-in_err-next-clause-leaves g c =
@@ -49,7 +49,7 @@ returns-clause-leaves g c =
     rw (← c.self.view_is) (record {
       within = λ list staged at. advance_one m.cell m.rows (option_map (λ v. v.items) m.front) (g.D.Disk.state m.disk) whole c.args.n (g.D.Disk.state c.advance_past.new.disk) list (c.advance_past.ensures.within c.args.n list (starts list staged at));
       short = λ compact. advance_short m.cell m.rows (option_map (λ v. v.items) m.front) (g.D.Disk.state m.disk) whole m.capacity compact c.self.invariant.rows c.args.n (g.D.Disk.state c.advance_past.new.disk) (c.advance_past.ensures.within c.args.n whole.entries (starts whole.entries whole.staged (holds m.cell m.rows (option_map (λ v. v.items) m.front) (g.D.Disk.state m.disk) whole))) (c.advance_past.ensures.short (bound m.capacity) (λ b left. (compact.images b left).short));
-      compact = λ compact. advanced_compact c.in_ok-next.next (m.rows.count - c.args.n) c.listed-self-inside.result m.capacity (g.D.Disk.state c.advance_past.new.disk) c.listed-self-inside.ensures (c.in_ok-next.ensures.compact m.capacity compact.list) (within_now (g.D.Disk.state m.disk) (g.D.Disk.state c.advance_past.new.disk) (IsCompactIn m.capacity) (advance_short m.cell m.rows (option_map (λ v. v.items) m.front) (g.D.Disk.state m.disk) whole m.capacity compact c.self.invariant.rows c.args.n (g.D.Disk.state c.advance_past.new.disk) (c.advance_past.ensures.within c.args.n whole.entries (starts whole.entries whole.staged (holds m.cell m.rows (option_map (λ v. v.items) m.front) (g.D.Disk.state m.disk) whole))) (c.advance_past.ensures.short (bound m.capacity) (λ b left. (compact.images b left).short))));
+      compact = λ compact. advanced_compact c.in_ok-next.next (m.rows.count - c.args.n) c.listed-self-inside.result m.capacity (g.D.Disk.state c.advance_past.new.disk) c.listed-self-inside.ensures (c.in_ok-next.ensures.places.compact m.capacity compact.list) (within_now (g.D.Disk.state m.disk) (g.D.Disk.state c.advance_past.new.disk) (IsCompactIn m.capacity) (advance_short m.cell m.rows (option_map (λ v. v.items) m.front) (g.D.Disk.state m.disk) whole m.capacity compact c.self.invariant.rows c.args.n (g.D.Disk.state c.advance_past.new.disk) (c.advance_past.ensures.within c.args.n whole.entries (starts whole.entries whole.staged (holds m.cell m.rows (option_map (λ v. v.items) m.front) (g.D.Disk.state m.disk) whole))) (c.advance_past.ensures.short (bound m.capacity) (λ b left. (compact.images b left).short))));
     })
 
 pub returns-clause-answer : goal.returns-clause-answer
@@ -75,8 +75,8 @@ invariant_of-self-2 g c =
     let sized = rw (← c.self.view_is) at c.requires.sized in
     let starts = has_entries m.cell m.rows (option_map (λ v. v.items) m.front) (g.D.Disk.state m.disk) whole c.args.n c.args.size enough (sized c.if-self.false) in
     record {
-      rows = advanced_rows c.in_ok-next.next (m.rows.count - c.args.n) c.listed-self-inside.result c.listed-self-inside.ensures c.in_ok-next.ensures.ordered;
+      rows = advanced_rows c.in_ok-next.next (m.rows.count - c.args.n) c.listed-self-inside.result c.listed-self-inside.ensures c.in_ok-next.ensures.places.ordered;
       unstaged = λ shut. absurd (let no : false ≡ true = shut in cc);
-      cell_open = λ shut. c.in_ok-next.ensures.cell_open;
+      cell_open = λ shut. c.in_ok-next.ensures.answer.cell_open;
       whole = λ shut. advanced_whole c.advance_past.new.cell c.in_ok-next.next (m.rows.count - c.args.n) c.listed-self-inside.result (g.D.Disk.state c.advance_past.new.disk) c.listed-self-inside.ensures (whole_advanced m.cell m.rows (option_map (λ v. v.items) m.front) (g.D.Disk.state m.disk) whole c.args.n (g.D.Disk.state c.advance_past.new.disk) c.advance_past.new.cell c.in_ok-next.next (moves_within (c.advance_past.ensures.within c.args.n whole.entries (starts whole.entries whole.staged (holds m.cell m.rows (option_map (λ v. v.items) m.front) (g.D.Disk.state m.disk) whole)))) enough (c.in_ok-next.ensures.ring c.args.n whole.entries (starts whole.entries whole.staged (holds m.cell m.rows (option_map (λ v. v.items) m.front) (g.D.Disk.state m.disk) whole))));
     }

@@ -33,31 +33,31 @@ invariant_of-self-in-Err-NoMemory g c =
     let m = c.self.inside in
     let whole = c.self.invariant.whole c.if-self.false in
     let none = rw (← c.self.view_is) at c.requires in
-    let same : c.rewrite_list.new.cell ≡ m.cell = lost_memory _ c.in-Err-NoMemory.field-0 c.in-Err-NoMemory.field-0-is c.in-Err-NoMemory.ensures.cell_same in
+    let same : c.rewrite_list.new.cell ≡ m.cell = (lost_memory _ c.in-Err-NoMemory.field-0 c.in-Err-NoMemory.field-0-is c.in-Err-NoMemory.ensures.no_memory).cell in
     record {
       rows = c.self.invariant.rows;
       unstaged = c.self.invariant.unstaged;
       cell_open = λ shut. subst (λ (p : Pair). p.closed ≡ false) (sym same) (c.self.invariant.cell_open shut);
-      whole = λ shut. subst (λ (p : Pair). IsWhole (g.D.Disk.state c.rewrite_list.new.disk) p m.rows (option_map (λ v. v.items) m.front)) (sym same) (whole_before m.cell m.rows (option_map (λ v. v.items) m.front) (g.D.Disk.state m.disk) whole (g.D.Disk.state c.rewrite_list.new.disk) none (moves_within (c.rewrite_list.ensures.within whole.entries (λ b left. (whole.each b left).number) (held m.cell m.rows (option_map (λ v. v.items) m.front) (g.D.Disk.state m.disk) whole).rings)) (lost_memory _ c.in-Err-NoMemory.field-0 c.in-Err-NoMemory.field-0-is c.in-Err-NoMemory.ensures.no_memory whole.entries (held m.cell m.rows (option_map (λ v. v.items) m.front) (g.D.Disk.state m.disk) whole).rings));
+      whole = λ shut. subst (λ (p : Pair). IsWhole (g.D.Disk.state c.rewrite_list.new.disk) p m.rows (option_map (λ v. v.items) m.front)) (sym same) (whole_before m.cell m.rows (option_map (λ v. v.items) m.front) (g.D.Disk.state m.disk) whole (g.D.Disk.state c.rewrite_list.new.disk) none (moves_within (c.rewrite_list.ensures.within whole.entries (λ b left. (whole.each b left).number) (held m.cell m.rows (option_map (λ v. v.items) m.front) (g.D.Disk.state m.disk) whole).rings)) ((lost_memory _ c.in-Err-NoMemory.field-0 c.in-Err-NoMemory.field-0-is c.in-Err-NoMemory.ensures.no_memory).ring whole.entries (held m.cell m.rows (option_map (λ v. v.items) m.front) (g.D.Disk.state m.disk) whole).rings));
     }
 
 pub returns-in-Ok-clause-lasts : goal.returns-in-Ok-clause-lasts
 returns-in-Ok-clause-lasts g c =
     let m = c.self.inside in
     let whole = c.self.invariant.whole c.if-self.false in
-    rw (← c.self.view_is) (lasts_open g.D.Disk.state _ _ c.if-self.false refl (moves_within (c.rewrite_list.ensures.within whole.entries (λ b left. (whole.each b left).number) (held m.cell m.rows (option_map (λ v. v.items) m.front) (g.D.Disk.state m.disk) whole).rings)) c.rewrite_list.ensures.later (λ shut. absurd (let no : false ≡ true = sym c.if-self.false ∙ shut in cc)))
+    rw (← c.self.view_is) (lasts_open g.D.Disk.state _ _ c.if-self.false refl (moves_within (c.rewrite_list.ensures.within whole.entries (λ b left. (whole.each b left).number) (held m.cell m.rows (option_map (λ v. v.items) m.front) (g.D.Disk.state m.disk) whole).rings)) c.rewrite_list.ensures.cause.later (λ shut. absurd (let no : false ≡ true = sym c.if-self.false ∙ shut in cc)))
 
 pub returns-in-Err-NoMemory-clause-lasts : goal.returns-in-Err-NoMemory-clause-lasts
 returns-in-Err-NoMemory-clause-lasts g c =
     let m = c.self.inside in
     let whole = c.self.invariant.whole c.if-self.false in
-    rw (← c.self.view_is) (lasts_open g.D.Disk.state _ _ c.if-self.false refl (moves_within (c.rewrite_list.ensures.within whole.entries (λ b left. (whole.each b left).number) (held m.cell m.rows (option_map (λ v. v.items) m.front) (g.D.Disk.state m.disk) whole).rings)) c.rewrite_list.ensures.later (λ shut. absurd (let no : false ≡ true = sym c.if-self.false ∙ shut in cc)))
+    rw (← c.self.view_is) (lasts_open g.D.Disk.state _ _ c.if-self.false refl (moves_within (c.rewrite_list.ensures.within whole.entries (λ b left. (whole.each b left).number) (held m.cell m.rows (option_map (λ v. v.items) m.front) (g.D.Disk.state m.disk) whole).rings)) c.rewrite_list.ensures.cause.later (λ shut. absurd (let no : false ≡ true = sym c.if-self.false ∙ shut in cc)))
 
 pub returns-in-Err-DiskFault-clause-lasts : goal.returns-in-Err-DiskFault-clause-lasts
 returns-in-Err-DiskFault-clause-lasts g c =
     let m = c.self.inside in
     let whole = c.self.invariant.whole c.if-self.false in
-    rw (← c.self.view_is) (lasts_open g.D.Disk.state _ _ c.if-self.false refl (moves_within (c.rewrite_list.ensures.within whole.entries (λ b left. (whole.each b left).number) (held m.cell m.rows (option_map (λ v. v.items) m.front) (g.D.Disk.state m.disk) whole).rings)) c.rewrite_list.ensures.later (λ shut. fault_rose _ _ c.in-Err-DiskFault.field-0 c.in-Err-DiskFault.field-0-is c.in-Err-DiskFault.ensures.cause))
+    rw (← c.self.view_is) (lasts_open g.D.Disk.state _ _ c.if-self.false refl (moves_within (c.rewrite_list.ensures.within whole.entries (λ b left. (whole.each b left).number) (held m.cell m.rows (option_map (λ v. v.items) m.front) (g.D.Disk.state m.disk) whole).rings)) c.rewrite_list.ensures.cause.later (λ shut. fault_rose _ _ c.in-Err-DiskFault.field-0 c.in-Err-DiskFault.field-0-is c.in-Err-DiskFault.ensures.cause.failed))
 
 pub returns-in-Ok-clause-within : goal.returns-in-Ok-clause-within
 returns-in-Ok-clause-within g c =
@@ -97,5 +97,5 @@ returns-in-Err-NoMemory-clause-answer g c =
       c.if-self.false,
       refl,
       refl,
-      λ list at. before_holds m.cell m.rows list (g.D.Disk.state m.disk) (g.D.Disk.state c.rewrite_list.new.disk) at.number (lost_memory _ c.in-Err-NoMemory.field-0 c.in-Err-NoMemory.field-0-is c.in-Err-NoMemory.ensures.no_memory list (holds_held m.cell m.rows (option_map (λ v. v.items) m.front) (g.D.Disk.state m.disk) whole list [] at).rings),
+      λ list at. before_holds m.cell m.rows list (g.D.Disk.state m.disk) (g.D.Disk.state c.rewrite_list.new.disk) at.number ((lost_memory _ c.in-Err-NoMemory.field-0 c.in-Err-NoMemory.field-0-is c.in-Err-NoMemory.ensures.no_memory).ring list (holds_held m.cell m.rows (option_map (λ v. v.items) m.front) (g.D.Disk.state m.disk) whole list [] at).rings),
     )
