@@ -8,7 +8,7 @@ ghost use Rattle.sg_spool.specs.Ring.{Entries};
 ghost use Rattle.sg_spool.specs.View.{Holds};
 ghost use Rattle.sg_buffer.specs.Entries.{IsListOf, size_of, spelled};
 ghost use Rattle.sg_buffer.specs.Found.{Finds};
-ghost use Rattle.sg_buffer.specs.Renewing.{RenewReason};
+ghost use Rattle.sg_buffer.specs.Renewing.{IsRenewed, RenewReason};
 
 use crate::{Found, Upgrade, entries_stay};
 use sg_device::Disk;
@@ -36,9 +36,7 @@ pub fn renew<D: Disk>(
     ensures size { OnOk result ((entries : List Entry)
         → Finds (D.state spool.old.disk) spool.old.rows found.now entries
         → live spool.new.rows.list ≡ size_of entries) }
-    ensures open { OnOk result (spool.new.closed ≡ false) }
-    ensures count { OnOk result (spool.new.rows.count ≡ spool.old.rows.count) }
-    ensures unstaged { OnOk result (spool.new.rows.staged ≡ 0) }
+    ensures listed { OnOk result (IsRenewed spool.old spool.new) }
     ensures reason { IfErr result (λ e. (entries : List Entry) (payloads : Entries)
         → Finds (D.state spool.old.disk) spool.old.rows found.now entries
         → Holds D.state spool.old payloads []
