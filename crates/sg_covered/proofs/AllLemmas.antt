@@ -1,9 +1,9 @@
 -- What a plan's runs add up to.
-use Rattle.std.proofs.Common.{◌≡◌, ℕ, ◌<◌, List, [], ◌∷◌, ◌++◌, length, map, Some, None, Option, Bool, refl, sym, ap, ◌∙◌, subst, arith, inl, inr, ◌⊎◌, slice_get}
+use Rattle.std.proofs.Common.{◌≡◌, ℕ, ◌<◌, List, [], ◌∷◌, ◌++◌, length, Some, None, Option, Bool, refl, sym, ap, ◌∙◌, subst, slice_get}
 use Rattle.std.specs.Prelude.{option_and_then}
 use Rattle.std.specs.Option.{option_map_or}
 use Rattle.sg_list.proofs.ListLemmas.{slice_get-some, slice_get-map}
-use Rattle.sg_device.specs.Disk.{DiskState, content}
+use Rattle.sg_device.specs.Disk.{DiskState}
 use Rattle.sg_device.specs.Inlet.{InletState}
 use Rattle.sg_device.specs.Outlet.{OutletState}
 use Rattle.sg_msg.specs.declared.offer.Offer.{Offer}
@@ -15,13 +15,12 @@ use Rattle.sg_machine.specs.declared.setup.Setup.{Setup}
 use Rattle.sg_machine.specs.declared.setup.SourceSetup.{SourceSetup}
 use Rattle.sg_machine.specs.Runs.{Kept}
 use Rattle.sg_machine.specs.Safe.{Images}
-use Rattle.sg_counter.specs.Bringing.{store_in}
 use Rattle.sg_standing.specs.Images.{position_in as position_at_store}
-use Rattle.sg_core.specs.Opening.{IsOpen, NumberStores, buffer_store_in}
+use Rattle.sg_core.specs.Opening.{NumberStores, buffer_store_in}
 use Rattle.sg_source.specs.declared.inlet.InletPlan.{InletPlan}
 use Rattle.sg_turns.specs.declared.ended.Ended.TheVariants.{Quiet}
 use Rattle.sg_serve.specs.Plan.{IsRunnable}
-use Rattle.sg_serve.specs.Run.{Reached, RunsWith}
+use Rattle.sg_serve.specs.Run.{RunsWith}
 use Rattle.sg_serve.specs.Counts.{first_fault}
 use Rattle.sg_serve.specs.declared.counts.Counts.{Counts}
 use Rattle.sg_serve.specs.declared.ending.PlanEnded.{PlanEnded}
@@ -32,13 +31,13 @@ use Rattle.sg_resumed.specs.Pieces.{Piece, pieces}
 use Rattle.sg_resumed.proofs.RestLemmas.{pieces-grow}
 use Rattle.sg_runs.specs.Covered.{Pass, Taken, Covered}
 use Rattle.sg_runs.specs.Passes.{AreAdmitted, Stopped, IsStopped, taken_in}
-use Rattle.sg_runs.specs.Law.{offers_in, Grow, Follow, EndsClean, position_in, AddUp}
+use Rattle.sg_runs.specs.Law.{offers_in, Grow, Follow, EndsClean, position_in}
 use Rattle.sg_runs.proofs.RunLemmas.{add-up}
-use Rattle.sg_covered.specs.Runs.{AreListsBy, AllTell, AreOfFiles, held_by, positions_by, files_of, stopped_with, CoversStop}
+use Rattle.sg_covered.specs.Runs.{AreListsBy, AllTell, AreOfFiles, held_by, files_of, stopped_with}
 use Rattle.sg_covered.specs.Clean.{AreLines}
-use Rattle.sg_covered.specs.All.{asked, PlanRun, IsPlanRun, IsStopOf, EndsWell, StopsThen, TellThese, Lengthen, PlanRunsFollow, AreStopsOf, PlanRunsSum, PlanRunsAddUp}
+use Rattle.sg_covered.specs.All.{asked, PlanRun, IsPlanRun, IsStopOf, EndsWell, TellThese, Lengthen, PlanRunsFollow, AreStopsOf, PlanRunsAddUp}
 use Rattle.sg_covered.proofs.OpenLemmas.{bytes_of, contents, contents-lists, told-bytes}
-use Rattle.sg_covered.proofs.RunLemmas.{Laws, held-of, Stop, stop-of, ends-grown}
+use Rattle.sg_covered.proofs.RunLemmas.{Laws, held-of, stop-of, ends-grown}
 use Rattle.sg_covered.proofs.CleanLemmas.{ListsAreOne, Cleaned, clean-by, no_lists}
 use Rattle.sg_covered.proofs.RestLemmas.{same-positions}
 

@@ -69,8 +69,8 @@ use Rattle.sg_quiet.proofs.RoundLemmas.{inlet-of-setup}
 use Rattle.sg_resumed.specs.Pieces.{Piece, behind}
 use Rattle.sg_resumed.specs.Law.{IsBegun}
 use Rattle.sg_resumed.proofs.RestLemmas.{reading-ends}
-use Rattle.sg_runs.specs.Covered.{Pass, Taken, IsFile, listed, list_at, Covered}
-use Rattle.sg_runs.specs.Law.{offers_in, EndsClean}
+use Rattle.sg_runs.specs.Covered.{IsFile, listed, list_at}
+use Rattle.sg_runs.specs.Law.{EndsClean}
 use Rattle.sg_runs.proofs.HasLemmas.{has-nil, has-cons, has-map}
 use Rattle.sg_runs.proofs.OpenLemmas.{opened-inlet-at}
 use Rattle.sg_runs.proofs.PieceLemmas.{ends, last_of, behind-has, behind-rises, rising}
@@ -79,7 +79,7 @@ use Rattle.sg_covered.specs.Clean.{AreLines, PlanRunsEndClean}
 use Rattle.sg_covered.proofs.GaveLemmas.{Gave, gave-file}
 use Rattle.sg_covered.proofs.HappenedLemmas.{given-pieces, files-here, fetch-some, happens}
 use Rattle.sg_covered.proofs.MergeLemmas.{record_piece}
-use Rattle.sg_covered.proofs.OpenLemmas.{contents, contents-images, contents-lists, begins-with}
+use Rattle.sg_covered.proofs.OpenLemmas.{contents, contents-images, contents-lists}
 use Rattle.sg_covered.proofs.PlaceLemmas.{rewinds-here, stands-place}
 use Rattle.sg_covered.proofs.RunLemmas.{Held, held-of, AreEnds, begun-first, files-rise}
 

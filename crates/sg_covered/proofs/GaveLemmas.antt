@@ -1,11 +1,11 @@
 -- What the inlet of a file that is told gave, stands in that file from where reading began on.
-use Rattle.std.proofs.Common.{◌≡◌, ℕ, ◌≤◌, List, [], ◌∷◌, ◌++◌, length, map, drop, Some, None, Option, Bool, true, false, refl, sym, ap, ◌∙◌, subst, arith}
-use Rattle.std.specs.Prelude.{max, is_some, replicate, IfSome}
+use Rattle.std.proofs.Common.{◌≡◌, ℕ, ◌≤◌, List, [], ◌∷◌, ◌++◌, length, drop, Some, None, Option, Bool, true, false, refl, sym, ap, ◌∙◌, subst, arith}
+use Rattle.std.specs.Prelude.{max, is_some, IfSome}
 use Rattle.std.specs.Option.{option_map}
-use Rattle.std.proofs.lemmas.List.{append-nil, length-replicate}
+use Rattle.std.proofs.lemmas.List.{append-nil}
 use Rattle.sg_list.proofs.ListLemmas.{some-same}
 use Rattle.sg_device.specs.Inlet.{InletState, Part, IsFresh, IsCounted, Advances, bytes_of, empty_parts}
-use Rattle.sg_outside.specs.World.{Files, LeavesFile, StandsIn, place_in}
+use Rattle.sg_outside.specs.World.{Files, LeavesFile, StandsIn}
 use Rattle.sg_outside.specs.declared.request.InletSpec.{InletSpec}
 use Rattle.sg_outside.specs.declared.request.InletSpec.TheVariants.{File, Slot}
 use Rattle.sg_frame.specs.Scans.{plain}

@@ -1,8 +1,7 @@
 -- What a core is opened with stood in images of the stores handed in.
-use Rattle.std.proofs.Common.{◌≡◌, ℕ, suc, List, [], ◌∷◌, length, map, Some, None, Option, true, false, refl, sym, ap, ◌∙◌, subst, arith, inl, inr, slice_get}
-use Rattle.std.specs.Prelude.{◌==◌, is_some, option_and_then}
+use Rattle.std.proofs.Common.{◌≡◌, ℕ, List, [], ◌∷◌, length, map, Some, None, Option, true, false, refl, sym, ap, ◌∙◌, subst, arith, slice_get}
+use Rattle.std.specs.Prelude.{is_some, option_and_then}
 use Rattle.std.specs.Option.{option_map_or}
-use Rattle.std.proofs.lemmas.Bool.{cases_eq}
 use Rattle.std.proofs.lemmas.List.{length-map}
 use Rattle.sg_list.proofs.ListLemmas.{slice_get-some, slice_get-map}
 use Rattle.sg_device.specs.Disk.{DiskState, content}
@@ -11,7 +10,6 @@ use Rattle.sg_stable.specs.Cell.{cell_value}
 use Rattle.sg_buffer.specs.Entries.{IsListOf}
 use Rattle.sg_buffer.specs.declared.found.Found.{Found}
 use Rattle.sg_machine.specs.declared.setup.BufferSetup.{BufferSetup}
-use Rattle.sg_machine.specs.declared.setup.DestSetup.{DestSetup}
 use Rattle.sg_machine.specs.declared.setup.Setup.{Setup}
 use Rattle.sg_machine.specs.declared.setup.SourceSetup.{SourceSetup}
 use Rattle.sg_machine.specs.Runs.{Kept, recovered, opened_dest}

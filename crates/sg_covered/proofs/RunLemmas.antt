@@ -1,29 +1,24 @@
 -- A plan's run leaves covered what it found covered.
-use Rattle.std.proofs.Common.{◌≡◌, ℕ, suc, zero, ◌+◌, ◌<◌, List, [], ◌∷◌, ◌++◌, length, map, Some, None, Option, Bool, true, false, not, ◌&&◌, take, drop, refl, sym, ap, ◌∙◌, subst, arith, inl, inr, ◌⊎◌, slice_get, append_assoc}
-use Rattle.std.specs.Prelude.{pos, ◌==◌, is_some, filter, Contains, Ok, Err}
+use Rattle.std.proofs.Common.{◌≡◌, ℕ, suc, zero, ◌+◌, List, [], ◌∷◌, ◌++◌, length, map, Some, None, Option, true, false, not, ◌&&◌, take, drop, refl, sym, ap, ◌∙◌, subst, arith, inl, inr, ◌⊎◌, slice_get, append_assoc}
+use Rattle.std.specs.Prelude.{pos, ◌==◌, Contains}
 use Rattle.std.specs.Option.{option_map_or}
 use Rattle.std.proofs.lemmas.Bool.{cases_eq}
-use Rattle.std.proofs.lemmas.List.{append-nil, map-append, length-map, length-append, take-append-drop}
+use Rattle.std.proofs.lemmas.List.{append-nil, length-map, length-append, take-append-drop}
 use Rattle.std.proofs.lemmas.List.Elements.{Contains-append_left}
 use Rattle.sg_list.specs.Lists.{passes_at}
 use Rattle.sg_list.proofs.ListLemmas.{some-same, slice_get-some, slice_get-below, slice_get-map, drop-get}
 use Rattle.sg_device.specs.Disk.{DiskState}
-use Rattle.sg_device.specs.Inlet.{InletState, Part, stamped}
+use Rattle.sg_device.specs.Inlet.{InletState, stamped}
 use Rattle.sg_device.specs.Outlet.{OutletState}
 use Rattle.sg_outside.specs.World.{Files}
-use Rattle.sg_msg.specs.Message.{Content}
 use Rattle.sg_msg.specs.declared.offer.Offer.{Offer}
-use Rattle.sg_frame.specs.Items.{Item, items_of}
-use Rattle.sg_frame.specs.declared.kind.FrameKind.{FrameKind}
-use Rattle.sg_frame.specs.Records.{Record, moved, record_of, records_of, records}
+use Rattle.sg_frame.specs.Records.{Record, records}
 use Rattle.sg_machine.specs.declared.event.Act.{Act}
 use Rattle.sg_machine.specs.declared.event.Act.TheVariants.{Admit, Settle, Refill, Store, Rewind, Look}
-use Rattle.sg_machine.specs.declared.event.Admission.{Admission}
 use Rattle.sg_machine.specs.declared.event.Event.{Event}
 use Rattle.sg_machine.specs.declared.setup.DestSetup.{DestSetup}
 use Rattle.sg_machine.specs.declared.setup.Setup.{Setup}
 use Rattle.sg_machine.specs.declared.setup.SourceSetup.{SourceSetup}
-use Rattle.sg_machine.specs.declared.state.Dest.{Dest}
 use Rattle.sg_machine.specs.declared.state.Inlet.{Inlet}
 use Rattle.sg_machine.specs.declared.state.State.{State}
 use Rattle.sg_machine.specs.Legal.{is_nil, works, may_rewind, is_legal, is_legal_act}
@@ -33,11 +28,6 @@ use Rattle.sg_machine.specs.Counts.{ends_by, ends_admitted, opening_by, opening_
 use Rattle.sg_machine.specs.Safe.{Images, Safe, nothing}
 use Rattle.sg_machine.proofs.RunLemmas.{are_legal-join, are_legal-parts, both-true, length-inlets}
 use Rattle.sg_machine.proofs.InletLemmas.{counts-inlet}
-use Rattle.sg_counter.specs.Exchanges.{Exchange, Makes, OfSource, OfDest, calls_by}
-use Rattle.sg_counter.specs.declared.calls.CoreCall.{CoreCall}
-use Rattle.sg_counter.specs.declared.calls.CoreCall.TheVariants.{Credit, Admit as AdmitCall, Front, Settle as SettleCall, Refill as RefillCall, Store as StoreCall}
-use Rattle.sg_counter.specs.declared.calls.CoreReply.{CoreReply}
-use Rattle.sg_counter.specs.declared.calls.CoreReply.TheVariants.{Credit as CreditReply, Admitted, Front as FrontReply, Settled as SettledReply, Refilled, Stored as StoredReply}
 use Rattle.sg_sinks.specs.States.{SinkState}
 use Rattle.sg_standing.specs.Images.{positions_in, position_in, AreListsIn, AreImages, AreImagesBetween}
 use Rattle.sg_standing.specs.Standing.{StandsFor}
@@ -45,49 +35,21 @@ use Rattle.sg_standing.specs.States.{CoreState, setup_of}
 use Rattle.sg_standing.specs.declared.source.Source.{Source}
 use Rattle.sg_stores.specs.Positions.{stored_in}
 use Rattle.sg_stores.specs.Stores.{StoreState}
-use Rattle.sg_core.specs.Calls.{Serves, acts_of}
 use Rattle.sg_core.specs.Opening.{IsOpen, NumberStores}
-use Rattle.sg_actor.specs.Bringing.{admitted_in}
-use Rattle.sg_actor.specs.Rendering.{frame_by}
-use Rattle.sg_actor.specs.SourceTurns.{actor}
-use Rattle.sg_actor.specs.declared.dest.DestActor.{DestActor}
-use Rattle.sg_actor.specs.declared.rendering.DestSpec.{DestSpec}
-use Rattle.sg_actor.specs.declared.settings.SourceSpec.{SourceSpec}
-use Rattle.sg_actor.specs.declared.source.SourceActor.{SourceActor}
-use Rattle.sg_actor.proofs.LawLemmas.{reads-first}
-use Rattle.sg_turns.specs.Actors.{source_seen, dest_seen, SourceTook, DestTook}
-use Rattle.sg_turns.specs.Turns.{Turn, calls_of}
-use Rattle.sg_turns.specs.Serving.{IsActor}
-use Rattle.sg_turns.specs.declared.ended.Ended.{Ended}
-use Rattle.sg_turns.proofs.LawLemmas.{read-on}
 use Rattle.sg_source.specs.declared.inlet.InletPlan.{InletPlan}
-use Rattle.sg_destination.specs.declared.outlet.OutletPlan.{OutletPlan}
-use Rattle.sg_headline.specs.Calls.{Ran, AreOwn}
-use Rattle.sg_headline.specs.Fronts.{IsDest, TakesSettled}
-use Rattle.sg_headline.specs.Headline.{admissions_of}
-use Rattle.sg_headline.specs.Turns.{Sending, AreSendings, calls_in}
-use Rattle.sg_headline.proofs.OwnLemmas.{calls-run}
-use Rattle.sg_headline.proofs.RunLemmas.{frames-settled}
-use Rattle.sg_headline.proofs.ToldLemmas.{told-goes}
-use Rattle.sg_serve.specs.Actors.{SourceView, DestView, source_view, dest_view}
-use Rattle.sg_serve.specs.Devices.{inlet_asked, AreFetching}
+use Rattle.sg_serve.specs.Devices.{AreFetching}
 use Rattle.sg_serve.specs.Plan.{IsRunnable}
-use Rattle.sg_serve.specs.Rewinds.{position_at, places_of}
-use Rattle.sg_serve.specs.Run.{CoreRun, Reached, HoldsRun, IsServed, Holds}
-use Rattle.sg_serve.specs.declared.counts.Counts.{Counts}
+use Rattle.sg_serve.specs.Rewinds.{position_at}
+use Rattle.sg_serve.specs.Run.{CoreRun, Reached, HoldsRun, Holds}
 use Rattle.sg_serve.specs.declared.ending.PlanEnded.{PlanEnded}
 use Rattle.sg_serve.specs.declared.ending.PlanEnded.TheVariants.{Before, Ran as RanSo}
 use Rattle.sg_serve.specs.declared.plan.RunPlan.{RunPlan}
 use Rattle.sg_serve.proofs.ActorLemmas.{store-by-setup}
-use Rattle.sg_delivered.specs.Headline.{frame_planned, frame_at, TakesThese}
-use Rattle.sg_delivered.proofs.PreludeLemmas.{get-back, AreStill, still-rewinds, still-either, admitted-later, dest-behind}
-use Rattle.sg_delivered.proofs.SourceLemmas.{nothing-read}
-use Rattle.sg_delivered.proofs.DestLemmas.{sendings-of}
-use Rattle.sg_resumed.specs.Pieces.{Piece, piece_of, pieces, Rise, behind}
+use Rattle.sg_resumed.specs.Pieces.{Piece, pieces, Rise, behind}
 use Rattle.sg_resumed.specs.Law.{IsBegun}
-use Rattle.sg_resumed.proofs.RestLemmas.{reading-resumes, ends-rise}
+use Rattle.sg_resumed.proofs.RestLemmas.{ends-rise}
 use Rattle.sg_runs.specs.Covered.{Pass, Taken, Offers, IsFile, Covered}
-use Rattle.sg_runs.specs.Passes.{AreRead, AreAdmitted, pass_piece, pieces_of, BeginsWith, IsStopped}
+use Rattle.sg_runs.specs.Passes.{AreAdmitted, pieces_of, BeginsWith, IsStopped}
 use Rattle.sg_runs.specs.Law.{offers_in, Grow}
 use Rattle.sg_runs.proofs.CoverLemmas.{covers-run}
 use Rattle.sg_runs.proofs.OpenLemmas.{opened-inlet-at}
@@ -97,9 +59,9 @@ use Rattle.sg_runs.proofs.PlaceLemmas.{opening-or-zero}
 use Rattle.sg_covered.specs.Runs.{positions_by, AreListsBy, held_by, EachChoice, AllTell, TellFiles, files_of, Happened, stopped_with, CoversStop, LeavesCovered, PlanRunsCover}
 use Rattle.sg_covered.specs.All.{StopsWithin, StopsThen}
 use Rattle.sg_covered.proofs.HappenedLemmas.{made-setup, fetch-some, files-here}
-use Rattle.sg_covered.proofs.MergeLemmas.{is_of, pass_of, record_piece, read-of, Merged, merge, pieces-are, admitted-nothing}
+use Rattle.sg_covered.proofs.MergeLemmas.{admitted-nothing}
 use Rattle.sg_covered.proofs.OpenLemmas.{contents, contents-images, contents-lists, begins-with}
-use Rattle.sg_covered.proofs.PlaceLemmas.{opening-append, later-still, rewinds-here, stands-place}
+use Rattle.sg_covered.proofs.PlaceLemmas.{opening-append}
 
 -- The run as one that was stopped.
 

@@ -1,5 +1,5 @@
 -- What a plan's run leaves in its stores is covered, where what it found in them was.
-use Rattle.std.specs.Prelude.{◌≡◌, ℕ, ◌+◌, true, is_some, Option, Some, IfSome, List, [], ◌∷◌, ◌++◌, length, map, take, slice_get}
+use Rattle.std.specs.Prelude.{◌≡◌, ℕ, ◌+◌, true, is_some, Option, Some, IfSome, List, [], ◌++◌, length, map, take, slice_get}
 use Rattle.std.specs.Option.{option_map_or}
 use Rattle.sg_device.specs.Disk.{DiskState, content, IsImage}
 use Rattle.sg_device.specs.Inlet.{InletState}

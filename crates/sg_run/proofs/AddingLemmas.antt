@@ -1,5 +1,5 @@
 -- What the runs of a configuration add up to.
-use Rattle.std.proofs.Common.{◌≡◌, ℕ, false, Some, None, Option, List, [], ◌∷◌, ◌++◌, map, Result, Ok, Err, refl, sym, ap, ◌∙◌, subst}
+use Rattle.std.proofs.Common.{◌≡◌, ℕ, false, Some, None, Option, List, [], ◌∷◌, ◌++◌, map, Result, Ok, Err, refl, ◌∙◌}
 use Rattle.sg_list.proofs.ListLemmas.{some-same}
 use Rattle.sg_device.specs.Inlet.{InletState}
 use Rattle.sg_device.specs.Outlet.{OutletState}
@@ -22,7 +22,7 @@ use Rattle.sg_serve.specs.declared.plan.RunPlan.{RunPlan}
 use Rattle.sg_turns.specs.declared.ended.Ended.{Ended}
 use Rattle.sg_turns.specs.declared.ended.Ended.TheVariants.{Quiet, RoundsSpent as Spent, NoMemory}
 use Rattle.sg_covered.specs.All.{PlanRunsFollow, PlanRunsAddUp}
-use Rattle.sg_run.specs.Adding.{ConfigRun, plan_run, IsConfigRun, ConfigRunsFollow, IsClean, ConfigRunsAddUp}
+use Rattle.sg_run.specs.Adding.{ConfigRun, plan_run, ConfigRunsFollow, IsClean, ConfigRunsAddUp}
 use Rattle.sg_run.specs.Ends.{quiet_end, end_after, early_end}
 use Rattle.sg_run.specs.Meaning.{planned, AreRouters}
 use Rattle.sg_run.specs.Outcomes.{Tells}

@@ -19,7 +19,7 @@ use Rattle.sg_turns.specs.declared.ended.Ended.TheVariants.{Quiet, RoundsSpent a
 use Rattle.sg_delivered.proofs.PreludeLemmas.{get-back}
 use Rattle.sg_runs.specs.Covered.{Pass, Taken, Covered}
 use Rattle.sg_runs.specs.Law.{offers_in}
-use Rattle.sg_covered.specs.Runs.{AllTell, AreOfFiles, TellFiles, EachChoice, files_of, Happened, PlanRunsHappen, PlanRunsCover}
+use Rattle.sg_covered.specs.Runs.{AllTell, AreOfFiles, TellFiles, EachChoice, files_of, PlanRunsHappen, PlanRunsCover}
 use Rattle.sg_covered.specs.Clean.{AreLines, PlanRunsEndClean}
 use Rattle.sg_covered.specs.Rest.{PlanRunsRest}
 use Rattle.sg_covered.proofs.HappenedLemmas.{happened-too}
