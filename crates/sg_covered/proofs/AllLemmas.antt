@@ -35,11 +35,12 @@ use Rattle.sg_runs.specs.Law.{offers_in, Grow, Follow, EndsClean, position_in}
 use Rattle.sg_runs.proofs.RunLemmas.{add-up}
 use Rattle.sg_covered.specs.Runs.{AreListsBy, AllTell, AreOfFiles, held_by, files_of, stopped_with}
 use Rattle.sg_covered.specs.Clean.{AreLines}
-use Rattle.sg_covered.specs.All.{asked, PlanRun, IsPlanRun, IsStopOf, EndsWell, TellThese, Lengthen, PlanRunsFollow, AreStopsOf, PlanRunsAddUp}
+use Rattle.sg_covered.specs.All.{asked, PlanRun, IsPlanRun, IsStopOf, EndsWell, TellThese, RunOf, Opened, Unopened, Lengthen, PlanRunsFollow, opened_among, AreStopsOf, PlanRunsAddUp}
 use Rattle.sg_covered.proofs.OpenLemmas.{bytes_of, contents, contents-lists, told-bytes}
 use Rattle.sg_covered.proofs.RunLemmas.{Laws, held-of, stop-of, ends-grown}
 use Rattle.sg_covered.proofs.CleanLemmas.{ListsAreOne, Cleaned, clean-by, no_lists}
 use Rattle.sg_covered.proofs.RestLemmas.{same-positions}
+use Rattle.sg_covered.proofs.UnopenedLemmas.{stands-as-before}
 
 -- Images.
 
@@ -176,17 +177,17 @@ module _ {R I O : Type 0} (feed : I → InletState) (drain : O → OutletState) 
 
   -- All runs.
 
-  record Chain (items : ℕ → List Piece) (before : List (List ℕ)) (runs : List (PlanRun offers plan by)) (last : PlanRun offers plan by) : Type 0 where
+  record Chain (items : ℕ → List Piece) (before : List (List ℕ)) (runs : List (RunOf offers plan by)) (last : PlanRun offers plan by) : Type 0 where
     lists : List (List Kept)
     lists_are : AreListsBy plan.setup.dests before lists
     stopped : List Stopped
     stopped_last : Stopped
-    stops : AreStopsOf (runs ++ last ∷ []) (stopped ++ stopped_last ∷ [])
+    stops : AreStopsOf (opened_among runs ++ last ∷ []) (stopped ++ stopped_last ∷ [])
     follow : Follow plan.setup (offers_in offers by) items (held_by plan.setup before lists) (stopped ++ stopped_last ∷ [])
     ends : EndsClean plan.setup stopped_last.files stopped_last.images
 
-  chain : (bytes : ℕ → List ℕ) (taken : List Taken) (passes : List Pass) (before : List (List ℕ)) (runs : List (PlanRun offers plan by)) (last : PlanRun offers plan by) → IsCoveredAt (files_of plan.inlets.items bytes) taken passes before
-      → PlanRunsFollow feed drain offers inlets dests plan by bytes before (runs ++ last ∷ []) → EndsWell last → Chain (files_of plan.inlets.items bytes) before runs last
+  chain : (bytes : ℕ → List ℕ) (taken : List Taken) (passes : List Pass) (before : List (List ℕ)) (runs : List (RunOf offers plan by)) (last : PlanRun offers plan by) → IsCoveredAt (files_of plan.inlets.items bytes) taken passes before
+      → PlanRunsFollow feed drain offers inlets dests plan by bytes before (runs ++ Opened last ∷ []) → EndsWell last → Chain (files_of plan.inlets.items bytes) before runs last
   chain bytes taken passes before [] last covered follow well =
       let s = step bytes taken passes before last covered follow.0 follow.1 in
       let e = s.ends well.counts well.ending_is well.well in
@@ -202,7 +203,7 @@ module _ {R I O : Type 0} (feed : I → InletState) (drain : O → OutletState) 
         follow = (s.grow, s.stopped none none_are, tt);
         ends = e.clean last.images none images_are none_are;
       }
-  chain bytes taken passes before (run ∷ runs) last covered follow well =
+  chain bytes taken passes before (Opened run ∷ runs) last covered follow well =
       let s = step bytes taken passes before run covered follow.0 follow.1 in
       let c = chain run.bytes (taken ++ taken_in plan.setup (stop_with run s.came [])) (passes ++ s.came) run.images runs last s.covered follow.2 well in
       record {
@@ -212,6 +213,22 @@ module _ {R I O : Type 0} (feed : I → InletState) (drain : O → OutletState) 
         stopped_last = c.stopped_last;
         stops = (stop-is run s.came s.rest s.came_are s.admits c.lists c.lists_are, c.stops);
         follow = (s.grow, s.stopped c.lists c.lists_are, c.follow);
+        ends = c.ends;
+      }
+  chain bytes taken passes before (Unopened run ∷ runs) last covered follow well =
+      let items = files_of plan.inlets.items bytes in
+      let os = offers_in offers by in
+      let stands = stands-as-before feed drain offers inlets dests plan before run one can follow.0 in
+      let C : Images → Type 0 = λ images. Covered plan.setup os items taken passes old images in
+      let c = chain bytes taken passes run.images runs last (λ ls are. subst C (sym (stands.held ls)) (covered ls (stands.lists ls are))) follow.1 well in
+      let F : Images → Type 0 = λ images. Follow plan.setup os items images (c.stopped ++ c.stopped_last ∷ []) in
+      record {
+        lists = c.lists;
+        lists_are = stands.lists c.lists c.lists_are;
+        stopped = c.stopped;
+        stopped_last = c.stopped_last;
+        stops = c.stops;
+        follow = subst F (stands.held c.lists) c.follow;
         ends = c.ends;
       }
 

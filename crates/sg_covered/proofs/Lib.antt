@@ -6,4 +6,5 @@ pub mod HappenedLemmas
 pub mod RunLemmas
 pub mod CleanLemmas
 pub mod RestLemmas
+pub mod UnopenedLemmas
 pub mod AllLemmas

@@ -1,5 +1,5 @@
 -- Where the core wasn't opened, the stores are covered as they were.
-use Rattle.std.proofs.Common.{◌≡◌, ℕ, suc, zero, List, [], ◌∷◌, length, map, Some, None, Option, refl, sym, ap, ◌∙◌, subst, arith, inl, inr, ◌⊎◌, slice_get}
+use Rattle.std.proofs.Common.{◌≡◌, ◌≤◌, ℕ, suc, zero, List, [], ◌∷◌, length, map, Some, None, Option, refl, sym, ap, ◌∙◌, subst, arith, inl, inr, ◌⊎◌, slice_get}
 use Rattle.std.specs.Prelude.{option_and_then}
 use Rattle.std.specs.Option.{option_map_or}
 use Rattle.std.proofs.lemmas.Bool.{cases_lt}
@@ -33,26 +33,37 @@ use Rattle.sg_serve.specs.declared.plan.RunPlan.{RunPlan}
 use Rattle.sg_runs.specs.Covered.{Covered}
 use Rattle.sg_runs.specs.Law.{offers_in}
 use Rattle.sg_covered.specs.Runs.{positions_by, AreListsBy, EachChoice, files_of}
+use Rattle.sg_covered.specs.All.{IsImageSince}
 use Rattle.sg_covered.specs.Rest.{PlanRunsRest}
 use Rattle.sg_covered.proofs.CleanLemmas.{ListsAreOne}
 
--- an image now came of one before
-image-before : (step : List ℕ → List ℕ → Type 0) (old new : DiskState) → ((c : List ℕ) → step c c) → Elapses step old new → (c : List ℕ) → IsImage new c → (d : List ℕ) × (IsImage old d × step d c)
-image-before step old new stays time c left = elim (cases_lt (clock old) (clock new)) [
+-- an image of a moment since then came of one then
+pub image-since : (step : List ℕ → List ℕ → Type 0) (old new : DiskState) → ((c : List ℕ) → step c c) → Elapses step old new → (c : List ℕ) → IsImageSince old new c → (d : List ℕ) × (IsImage old d × step d c)
+image-since step old new stays time c at = elim (cases_lt (clock old) at.moment) [
   | inr early ↦ (
-      let same : clock new ≡ clock old = omega (arith, early, time.later) in
-      (c, (subst (λ (n : ℕ). IsImageAt old n c) same (time.past (clock new) c early left), stays c)))
-  | inl late ↦ (let from = time.since (clock new) c late (omega arith) left in (from.0, (from.1, from.2)))
+      let low = at.since in
+      let same : at.moment ≡ clock old = omega (arith, early, low) in
+      let here = subst (λ (n : ℕ). IsImageAt new n c) same at.image in
+      (c, (time.past (clock old) c (omega arith) here, stays c)))
+  | inl late ↦ (let from = time.since at.moment c late at.before at.image in (from.0, (from.1, from.2)))
 ]
 
 -- what stood in a store of this kind before
-abbrev Was : StoreKind → List ℕ → List ℕ → Type 0
+abbrev pub Was : StoreKind → List ℕ → List ℕ → Type 0
 Was Position d c = d ≡ c
 Was (Buffer capacity) d c = HasSameList d c
 
+pub keeps-since : (kind : StoreKind) (old new : DiskState) → Keeps kind old new → (c : List ℕ) → IsImageSince old new c → (d : List ℕ) × (IsImage old d × Was kind d c)
+keeps-since Position old new k c at = let r = image-since Same old new (λ x. refl) k.still c at in (r.0, (r.1.0, sym r.1.1))
+keeps-since (Buffer capacity) old new k c at = image-since HasSameList old new (λ x. inl refl) k.still c at
+
+-- an image now is one of those
+image-now : (old new : DiskState) (c : List ℕ) → clock old ≤ clock new → IsImage new c → IsImageSince old new c
+image-now old new c later left = record { moment = clock new; since = later; before = omega arith; image = left }
+
 keeps-before : (kind : StoreKind) (old new : DiskState) → Keeps kind old new → (c : List ℕ) → IsImage new c → (d : List ℕ) × (IsImage old d × Was kind d c)
-keeps-before Position old new k c left = let r = image-before Same old new (λ x. refl) k.still c left in (r.0, (r.1.0, sym r.1.1))
-keeps-before (Buffer capacity) old new k c left = image-before HasSameList old new (λ x. inl refl) k.still c left
+keeps-before Position old new k c left = keeps-since Position old new k c (image-now old new c (k.still).later left)
+keeps-before (Buffer capacity) old new k c left = keeps-since (Buffer capacity) old new k c (image-now old new c (k.still).later left)
 
 -- A choice of images before, for one of images now.
 record Choice (R : ℕ → List ℕ → List ℕ → Type 0) (olds : List DiskState) (images : List (List ℕ)) : Type 0 where
@@ -138,11 +149,11 @@ record WasKind (kinds : List StoreKind) (s : ℕ) (d c : List ℕ) : Type 0 wher
   at : slice_get kinds s ≡ Some kind
   was : Was kind d c
 
-was-position : (kind : StoreKind) (d c : List ℕ) → kind ≡ Position → Was kind d c → d ≡ c
+pub was-position : (kind : StoreKind) (d c : List ℕ) → kind ≡ Position → Was kind d c → d ≡ c
 was-position Position d c q w = w
 was-position (Buffer capacity) d c q w = absurd (let wrong : Buffer capacity ≡ Position = q in cc)
 
-was-list : (one : ListsAreOne) (kind : StoreKind) (d c : List ℕ) (list : List Kept) → Was kind d c → IsListOf (map coded list) c → IsListOf (map coded list) d
+pub was-list : (one : ListsAreOne) (kind : StoreKind) (d c : List ℕ) (list : List Kept) → Was kind d c → IsListOf (map coded list) c → IsListOf (map coded list) d
 was-list one Position d c list w l = let P : List ℕ → Type 0 = λ x. IsListOf (map coded list) x in subst P (sym w) l
 was-list one (Buffer capacity) d c list (inl e) l = let P : List ℕ → Type 0 = λ x. IsListOf (map coded list) x in subst P e l
 was-list one (Buffer capacity) d c list (inr h) l =

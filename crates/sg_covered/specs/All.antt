@@ -1,6 +1,7 @@
--- What a plan's runs come to, one after another, each of which was stopped at any moment.
-use Rattle.std.specs.Prelude.{◌≡◌, ◌⊎◌, ℕ, ◌+◌, Bool, Option, Some, None, List, [], ◌∷◌, ◌++◌, take, slice_get}
-use Rattle.sg_device.specs.Disk.{DiskState, content}
+-- What a plan's runs come to, one after another, each of which was stopped at any moment, once its
+-- core was open or before that.
+use Rattle.std.specs.Prelude.{◌≡◌, ◌⊎◌, ◌≤◌, ℕ, ◌+◌, Bool, Option, Some, None, List, [], ◌∷◌, ◌++◌, map, take, slice_get}
+use Rattle.sg_device.specs.Disk.{DiskState, content, clock, Durable, IsImageAt}
 use Rattle.sg_device.specs.Inlet.{InletState}
 use Rattle.sg_device.specs.Outlet.{OutletState}
 use Rattle.sg_outside.specs.World.{WorldState, Files}
@@ -9,6 +10,7 @@ use Rattle.sg_frame.specs.Records.{Record}
 use Rattle.sg_machine.specs.declared.event.Event.{Event}
 use Rattle.sg_machine.specs.Runs.{Kept}
 use Rattle.sg_machine.specs.Safe.{nothing}
+use Rattle.sg_stores.specs.Stores.{StoreState}
 use Rattle.sg_standing.specs.Images.{AreImagesBetween}
 use Rattle.sg_turns.specs.declared.ended.Ended.TheVariants.{Quiet}
 use Rattle.sg_serve.specs.Counts.{first_fault}
@@ -24,7 +26,7 @@ use Rattle.sg_runs.specs.Passes.{Stopped, AreAdmitted}
 use Rattle.sg_covered.specs.Runs.{AreImagesOf, AreListsBy, held_by, AreOfFiles, TellFiles, files_of, Happened, stopped_with}
 use Rattle.sg_covered.specs.Clean.{AreLines}
 
--- One run.
+-- A run, stopped once its core was open.
 
 -- the plan with `--once`, or without it
 abbrev pub asked : RunPlan → Bool → RunPlan
@@ -101,19 +103,81 @@ pub record EndsWell {R : Type 0} {offers : R → ℕ → Record → List Offer �
   pub well : first_fault counts.sinks counts.stores counts.inlets ≡ None
   pub returned : StopsThen run.happened run.events run.event run.images
 
+-- A run, stopped before its core was open.
+
+-- a run of the plan, and what the stop left in its stores
+pub record UnopenedRun (R : Type 0) : Type 0 where
+  pub once : Bool
+  pub old : WorldState
+  pub new : WorldState
+  pub routers : List R
+  pub rounds : ℕ
+  pub ending : PlanEnded
+  pub reached : Reached
+  pub images : List (List ℕ)
+
+-- the stores as they were once the core was open, or, where none was opened, as they were closed
+abbrev pub stores_until : Reached → Option CoreRun → List DiskState
+stores_until reached None = reached.stores_closed
+stores_until reached (Some run) = map (λ (store : StoreState). store.disk) run.first.stores
+
+-- a crash may leave these bytes of the disk at a moment between these two states, both included
+pub record IsImageSince (old new : DiskState) (bytes : List ℕ) : Type 0 where
+  pub moment : ℕ
+  pub since : clock old ≤ moment
+  pub before : moment ≤ clock new
+  pub image : IsImageAt new moment bytes
+
+-- one of each disk, each at its own moment
+abbrev pub AreImagesSince : List DiskState → List DiskState → List (List ℕ) → Type 0
+AreImagesSince olds news images = (s : ℕ) (old new : DiskState) → slice_get olds s ≡ Some old
+    → slice_get news s ≡ Some new
+    → (bytes : List ℕ) × ((slice_get images s ≡ Some bytes) × IsImageSince old new bytes)
+
+-- Each store that was opened told these bytes, and a crash would have left them; it was stopped at
+-- a moment up to the one at which the core was open, or up to the return where none was. The other
+-- stores hold what they held.
+pub record StopsUnopened (reached : Reached) (before images : List (List ℕ)) : Type 0 where
+  pub stores : TellThese reached.stores before
+  pub stable : (s : ℕ) (disk : DiskState) → slice_get reached.stores s ≡ Some disk → Durable disk
+  pub images_are : AreImagesSince reached.stores (stores_until reached reached.core) images
+  pub others : (s : ℕ) → slice_get reached.stores s ≡ None
+      → slice_get images s ≡ slice_get before s
+
+pub record IsUnopenedRun {R I O : Type 0} (feed : I → InletState) (drain : O → OutletState) (offers : R → ℕ → Record → List Offer → Type 0) (inlets dests : R → ℕ) (plan : RunPlan) (before : List (List ℕ)) (run : UnopenedRun R) : Type 0 where
+  pub runs : RunsWith feed drain offers inlets dests run.old run.new (asked plan run.once)
+      run.routers run.rounds run.ending run.reached
+  pub stops : StopsUnopened run.reached before run.images
+
 -- All runs.
+
+-- a run, stopped once its core was open, or before that
+pub data RunOf {R : Type 0} (offers : R → ℕ → Record → List Offer → Type 0) (plan : RunPlan) (by : List R) : Type 0 where
+  Opened : PlanRun offers plan by → RunOf offers plan by
+  Unopened : UnopenedRun R → RunOf offers plan by
 
 abbrev pub Lengthen : (ℕ → List ℕ) → (ℕ → List ℕ) → Type 0
 Lengthen old new = (i : ℕ) → (more : List ℕ) × (new i ≡ old i ++ more)
 
--- each run begins with what the one before it left in its stores, over files that have only grown
+-- Each run begins with what the one before it left in its stores, over files that have only grown;
+-- one that was stopped before its core was open has read none of them.
 abbrev pub PlanRunsFollow : {R I O : Type 0} → (I → InletState) → (O → OutletState)
     → (offers : R → ℕ → Record → List Offer → Type 0) → (R → ℕ) → (R → ℕ) → (plan : RunPlan)
-    → (by : List R) → (ℕ → List ℕ) → List (List ℕ) → List (PlanRun offers plan by) → Type 0
+    → (by : List R) → (ℕ → List ℕ) → List (List ℕ) → List (RunOf offers plan by) → Type 0
 PlanRunsFollow feed drain offers inlets dests plan by bytes before [] = Unit {0}
-PlanRunsFollow feed drain offers inlets dests plan by bytes before (run ∷ runs) =
+PlanRunsFollow feed drain offers inlets dests plan by bytes before (Opened run ∷ runs) =
     Lengthen bytes run.bytes × IsPlanRun feed drain offers inlets dests plan by before run
     × PlanRunsFollow feed drain offers inlets dests plan by run.bytes run.images runs
+PlanRunsFollow feed drain offers inlets dests plan by bytes before (Unopened run ∷ runs) =
+    IsUnopenedRun feed drain offers inlets dests plan before run
+    × PlanRunsFollow feed drain offers inlets dests plan by bytes run.images runs
+
+-- those that were stopped once their core was open
+abbrev pub opened_among : {R : Type 0} {offers : R → ℕ → Record → List Offer → Type 0}
+    {plan : RunPlan} {by : List R} → List (RunOf offers plan by) → List (PlanRun offers plan by)
+opened_among [] = []
+opened_among (Opened run ∷ runs) = run ∷ opened_among runs
+opened_among (Unopened run ∷ runs) = opened_among runs
 
 abbrev pub AreStopsOf : {R : Type 0} {offers : R → ℕ → Record → List Offer → Type 0}
     {plan : RunPlan} {by : List R} → List (PlanRun offers plan by) → List Stopped → Type 0
@@ -122,13 +186,14 @@ AreStopsOf [] (s ∷ ss) = ⊥
 AreStopsOf (run ∷ runs) [] = ⊥
 AreStopsOf (run ∷ runs) (s ∷ ss) = IsStopOf run s × AreStopsOf runs ss
 
--- these lists stand in the images at the start, and this is what the runs add up to
-pub record PlanRunsSum {R : Type 0} {offers : R → ℕ → Record → List Offer → Type 0} {plan : RunPlan} {by : List R} (taken : List Taken) (passes : List Pass) (before : List (List ℕ)) (runs : List (PlanRun offers plan by)) (last : PlanRun offers plan by) : Type 0 where
+-- These lists stand in the images at the start, and this is what the runs add up to; those that
+-- were stopped before their core was open add nothing.
+pub record PlanRunsSum {R : Type 0} {offers : R → ℕ → Record → List Offer → Type 0} {plan : RunPlan} {by : List R} (taken : List Taken) (passes : List Pass) (before : List (List ℕ)) (runs : List (RunOf offers plan by)) (last : PlanRun offers plan by) : Type 0 where
   pub lists : List (List Kept)
   pub lists_are : AreListsBy plan.setup.dests before lists
   pub stopped : List Stopped
   pub stopped_last : Stopped
-  pub stops : AreStopsOf (runs ++ last ∷ []) (stopped ++ stopped_last ∷ [])
+  pub stops : AreStopsOf (opened_among runs ++ last ∷ []) (stopped ++ stopped_last ∷ [])
   pub sum : AddUp plan.setup (offers_in offers by) taken passes (held_by plan.setup before lists)
       stopped stopped_last
 
@@ -139,10 +204,10 @@ abbrev pub PlanRunsAddUp : {R I O : Type 0} → (I → InletState) → (O → Ou
     → (R → ℕ → Record → List Offer → Type 0) → (R → ℕ) → (R → ℕ) → Type 0
 PlanRunsAddUp {R} {I} {O} feed drain offers inlets dests =
     (plan : RunPlan) (by : List R) (bytes : ℕ → List ℕ) (taken : List Taken) (passes : List Pass)
-    (before : List (List ℕ)) (runs : List (PlanRun offers plan by)) (last : PlanRun offers plan by)
+    (before : List (List ℕ)) (runs : List (RunOf offers plan by)) (last : PlanRun offers plan by)
     → IsRunnable plan → AreOfFiles plan → AreLines plan
     → ((lists : List (List Kept)) → AreListsBy plan.setup.dests before lists
     → Covered plan.setup (offers_in offers by) (files_of plan.inlets.items bytes) taken passes
     (position_in (held_by plan.setup before lists)) (held_by plan.setup before lists))
-    → PlanRunsFollow feed drain offers inlets dests plan by bytes before (runs ++ last ∷ [])
+    → PlanRunsFollow feed drain offers inlets dests plan by bytes before (runs ++ Opened last ∷ [])
     → EndsWell last → PlanRunsSum taken passes before runs last

@@ -49,9 +49,9 @@ pub fn plan_runs_end_clean<W: World, R: Router>(world: &W, router: &[R])
     lists_are_one();
 }
 
-/// Behind any number of a plan's runs, each stopped at any moment, and one that ended quietly with
-/// nothing counted as failed, each record of each file has a pass of which each offer with flow-control
-/// was taken at least once, and nothing but offers was taken.
+/// Behind any number of a plan's runs, each stopped at any moment, once its core was open or before
+/// that, and one that ended quietly with nothing counted as failed, each record of each file has a pass
+/// of which each offer with flow-control was taken at least once, and nothing but offers was taken.
 pub fn plan_runs_add_up<W: World, R: Router>(world: &W, router: &[R])
     ensures { PlanRunsAddUp W.Feed.state W.Drain.state R.offers R.inlets R.dests }
 {

@@ -22,7 +22,8 @@ use Rattle.sg_serve.specs.declared.plan.RunPlan.{RunPlan}
 use Rattle.sg_turns.specs.declared.ended.Ended.{Ended}
 use Rattle.sg_turns.specs.declared.ended.Ended.TheVariants.{Quiet, RoundsSpent as Spent, NoMemory}
 use Rattle.sg_covered.specs.All.{PlanRunsFollow, PlanRunsAddUp}
-use Rattle.sg_run.specs.Adding.{ConfigRun, plan_run, ConfigRunsFollow, IsClean, ConfigRunsAddUp}
+use Rattle.sg_covered.specs.All.{Opened as PlanOpened}
+use Rattle.sg_run.specs.Adding.{ConfigRun, ConfigRunOf, Opened, Unopened, plan_run, run_of, ConfigRunsFollow, IsClean, ConfigRunsAddUp}
 use Rattle.sg_run.specs.Ends.{quiet_end, end_after, early_end}
 use Rattle.sg_run.specs.Meaning.{planned, AreRouters}
 use Rattle.sg_run.specs.Outcomes.{Tells}
@@ -67,18 +68,19 @@ ends-well plan ending (Err unloaded) tells clean = absurd clean
 -- All runs.
 
 module _ {I O : Type 0} (feed : I → InletState) (drain : O → OutletState) (config : Config) (by : List Pipes) (are : AreRouters config by) where
-  follow-by : (bytes : ℕ → List ℕ) (before : List (List ℕ)) (runs : List (ConfigRun feed drain config)) (last : ConfigRun feed drain config) → ConfigRunsFollow by are bytes before (runs ++ last ∷ [])
-      → PlanRunsFollow feed drain offers_by inlets_by dests_by (planned config false) by bytes before (map (plan_run by are) runs ++ plan_run by are last ∷ [])
+  follow-by : (bytes : ℕ → List ℕ) (before : List (List ℕ)) (runs : List (ConfigRunOf feed drain config)) (last : ConfigRun feed drain config) → ConfigRunsFollow by are bytes before (runs ++ Opened last ∷ [])
+      → PlanRunsFollow feed drain offers_by inlets_by dests_by (planned config false) by bytes before (map (run_of by are) runs ++ PlanOpened (plan_run by are last) ∷ [])
   follow-by bytes before [] last follow = (
     follow.0,
     record { runs = (last.ran).runs; core = last.core_is; stores = (follow.1).stores; files = (follow.1).files; stops = (follow.1).stops },
     tt,
   )
-  follow-by bytes before (run ∷ runs) last follow = (
+  follow-by bytes before (Opened run ∷ runs) last follow = (
     follow.0,
     record { runs = (run.ran).runs; core = run.core_is; stores = (follow.1).stores; files = (follow.1).files; stops = (follow.1).stops },
     follow-by run.bytes run.images runs last follow.2,
   )
+  follow-by bytes before (Unopened run ∷ runs) last follow = (record { runs = (run.ran).runs; stops = follow.0 }, follow-by bytes run.images runs last follow.1)
 
 pub config-runs-add-up : {I O : Type 0} (feed : I → InletState) (drain : O → OutletState) → ((tokens : List Token) (config : Config) → Means tokens config → IsWithin config) → ((tokens : List Token) (config : Config) → Means tokens config → AreDirect config.outlets.items)
     → PlanRunsAddUp feed drain offers_by inlets_by dests_by → ConfigRunsAddUp feed drain
@@ -86,5 +88,5 @@ config-runs-add-up feed drain within direct add tokens config by are bytes taken
     let reads = reads-files tokens config false means in
     let can = runnable config false (within tokens config means) (direct tokens config means) in
     let well = ends-well (planned config last.once) (last.ran).ending last.result (last.ran).tells clean in
-    add (planned config false) by bytes taken passes before (map (plan_run by are) runs) (plan_run by are last) can reads.0 reads.1 covered (follow-by feed drain config by are bytes before runs last follow)
+    add (planned config false) by bytes taken passes before (map (run_of by are) runs) (plan_run by are last) can reads.0 reads.1 covered (follow-by feed drain config by are bytes before runs last follow)
     (record { counts = well.counts; ending_is = well.ending_is; well = well.well; returned = returned })

@@ -1,4 +1,5 @@
--- What the runs of a configuration come to, one after another, each of which was stopped at any moment.
+-- What the runs of a configuration come to, one after another, each of which was stopped at any
+-- moment, once its core was open or before that.
 use Rattle.std.specs.Prelude.{◌≡◌, ◌⊎◌, ℕ, Bool, false, Some, List, [], ◌∷◌, ◌++◌, map, Result, Ok, Err}
 use Rattle.sg_device.specs.Inlet.{InletState}
 use Rattle.sg_device.specs.Outlet.{OutletState}
@@ -14,7 +15,8 @@ use Rattle.sg_serve.specs.Run.{CoreRun}
 use Rattle.sg_runs.specs.Covered.{Pass, Taken, Covered}
 use Rattle.sg_runs.specs.Law.{offers_in, position_in}
 use Rattle.sg_covered.specs.Runs.{AreListsBy, held_by, TellFiles, files_of}
-use Rattle.sg_covered.specs.All.{StopsWithin, StopsThen, PlanRun, TellThese, Lengthen, PlanRunsSum}
+use Rattle.sg_covered.specs.All.{StopsWithin, StopsThen, PlanRun, TellThese, UnopenedRun, StopsUnopened, RunOf, Lengthen, PlanRunsSum}
+use Rattle.sg_covered.specs.All.{Opened as PlanOpened, Unopened as PlanUnopened}
 use Rattle.sg_run.specs.Meaning.{planned, AreRouters}
 use Rattle.sg_run.specs.Run.{offers_by, RunsBy}
 use Rattle.sg_run.specs.declared.end.End.TheVariants.{Clean}
@@ -64,14 +66,53 @@ pub record IsConfigRun {I O : Type 0} {feed : I → InletState} {drain : O → O
   pub stops : StopsWithin (plan_run by are run).happened run.events run.event run.images
       ⊎ StopsThen (plan_run by are run).happened run.events run.event run.images
 
--- each begins with what the one before it left in its stores, over files that have only grown
+-- a run of the configuration that was stopped before its core was open, and what that left in its
+-- stores
+pub record UnopenedConfigRun {I O : Type 0} (feed : I → InletState) (drain : O → OutletState) (config : Config) : Type 0 where
+  pub once : Bool
+  pub old : WorldState
+  pub new : WorldState
+  pub rounds : ℕ
+  pub result : Result Outcome Unloaded
+  pub ran : RunsBy feed drain old new config once rounds result
+  pub images : List (List ℕ)
+
+abbrev pub unopened_plan_run : {I O : Type 0} {feed : I → InletState} {drain : O → OutletState}
+    {config : Config} → UnopenedConfigRun feed drain config → UnopenedRun Pipes
+unopened_plan_run run = record {
+  once = run.once;
+  old = run.old;
+  new = run.new;
+  routers = (run.ran).routers;
+  rounds = run.rounds;
+  ending = (run.ran).ending;
+  reached = (run.ran).reached;
+  images = run.images;
+}
+
+-- a run, stopped once its core was open, or before that
+pub data ConfigRunOf {I O : Type 0} (feed : I → InletState) (drain : O → OutletState) (config : Config) : Type 0 where
+  Opened : ConfigRun feed drain config → ConfigRunOf feed drain config
+  Unopened : UnopenedConfigRun feed drain config → ConfigRunOf feed drain config
+
+abbrev pub run_of : {I O : Type 0} {feed : I → InletState} {drain : O → OutletState}
+    {config : Config} → (by : List Pipes) → AreRouters config by → ConfigRunOf feed drain config
+    → RunOf offers_by (planned config false) by
+run_of by are (Opened run) = PlanOpened (plan_run by are run)
+run_of by are (Unopened run) = PlanUnopened (unopened_plan_run run)
+
+-- Each begins with what the one before it left in its stores, over files that have only grown; one
+-- that was stopped before its core was open has read none of them.
 abbrev pub ConfigRunsFollow : {I O : Type 0} {feed : I → InletState} {drain : O → OutletState}
     {config : Config} → (by : List Pipes) → AreRouters config by → (ℕ → List ℕ) → List (List ℕ)
-    → List (ConfigRun feed drain config) → Type 0
+    → List (ConfigRunOf feed drain config) → Type 0
 ConfigRunsFollow by are bytes before [] = Unit {0}
-ConfigRunsFollow by are bytes before (run ∷ runs) =
+ConfigRunsFollow by are bytes before (Opened run ∷ runs) =
     Lengthen bytes run.bytes × IsConfigRun by are before run
     × ConfigRunsFollow by are run.bytes run.images runs
+ConfigRunsFollow by are bytes before (Unopened run ∷ runs) =
+    StopsUnopened (run.ran).reached before run.images
+    × ConfigRunsFollow by are bytes run.images runs
 
 abbrev pub IsClean : Result Outcome Unloaded → Type 0
 IsClean (Ok outcome) = outcome.end ≡ Clean
@@ -83,13 +124,13 @@ abbrev pub ConfigRunsAddUp : {I O : Type 0} → (I → InletState) → (O → Ou
 ConfigRunsAddUp feed drain =
     (tokens : List Token) (config : Config) (by : List Pipes) (are : AreRouters config by)
     (bytes : ℕ → List ℕ) (taken : List Taken) (passes : List Pass) (before : List (List ℕ))
-    (runs : List (ConfigRun feed drain config)) (last : ConfigRun feed drain config)
+    (runs : List (ConfigRunOf feed drain config)) (last : ConfigRun feed drain config)
     → Means tokens config
     → ((lists : List (List Kept)) → AreListsBy config.setup.dests before lists
     → Covered config.setup (offers_in offers_by by) (files_of config.inlets.items bytes) taken
     passes (position_in (held_by config.setup before lists))
     (held_by config.setup before lists))
-    → ConfigRunsFollow by are bytes before (runs ++ last ∷ [])
+    → ConfigRunsFollow by are bytes before (runs ++ Opened last ∷ [])
     → IsClean last.result
     → StopsThen (plan_run by are last).happened last.events last.event last.images
-    → PlanRunsSum taken passes before (map (plan_run by are) runs) (plan_run by are last)
+    → PlanRunsSum taken passes before (map (run_of by are) runs) (plan_run by are last)
