@@ -172,8 +172,28 @@ for line in promises[: promises.index("## What is tested")].splitlines():
         names = {name for span in spans if span not in beside + files for name in re.findall(r"\w+", span)}
         expect(f"names of a claim: {line[:60]}", names.difference(*map(names_of, beside)))
 
-crates = [line.split(":")[0] for line in read("crates.txt").splitlines() if re.match(r"[a-z]", line)]
-expect("crates in ARCHITECTURE.md", [crate for crate in crates if f"`{crate}`" not in architecture])
+below = {line.split(":")[0]: line.split(":")[1].split() for line in read("crates.txt").splitlines() if re.match(r"[a-z]", line)}
+expect("crates in ARCHITECTURE.md", [crate for crate in below if f"`{crate}`" not in architecture])
+expect("crates of tests in PROMISES.md", [crate for crate in below if crate.startswith("test_") and f"`{crate}`" not in promises])
+
+# a crate stands on crates above it in the list alone
+rows = re.findall(r"^\| `(\w+)` \|", architecture[architecture.index("## The crates") : architecture.index("Tests stand in crates of their own")], re.M)
+expect("order of the crates in ARCHITECTURE.md", [f"{lower} above {crate}" for crate in rows for lower in below[crate] if lower in rows[rows.index(crate) :]])
+
+# the tests that a row names see the crates whose code it names
+
+
+def all_below(crate):
+    return {crate}.union(*map(all_below, below.get(crate, [])))
+
+
+blind = []
+for row in architecture[architecture.index("## Where is ..") : architecture.index("## How an exit status comes about")].splitlines():
+    cells = row.strip("|").split("|")
+    tests = re.findall(r"`((?:sg|test)_\w+)`", cells[-1])
+    if len(cells) == 4 and tests:
+        blind += [f"{crate} by {', '.join(tests)}" for crate in re.findall(r"`(sg_\w+)", cells[1]) if not any(crate in all_below(test) for test in tests)]
+expect("tests of a row in ARCHITECTURE.md", blind)
 
 if shutil.which("mandoc"):
     lint = subprocess.run(["mandoc", "-Tlint", "-Wwarning", "syslogr.8", "syslogr.conf.5"], cwd="docs/man", capture_output=True, text=True)
