@@ -42,8 +42,9 @@ for what in send lines pull read store; do
     esac
 done
 
-# Modes of what is made, whatever the umask.
-(umask 022; run store q </dev/null; run send d </dev/null)
+# Modes of what is made, a destination's whatever the umask.
+run store q </dev/null
+(umask 0277; run send d </dev/null)
 [ "$(stat -c %a q)" = 600 ] && [ "$(stat -c %a d)" = 600 ] && echo yes >got || echo no >got
 expect 'modes' 'yes\n'
 
