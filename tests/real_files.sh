@@ -349,6 +349,14 @@ if [ -w /dev/full ]; then
     "$top/syslogr" spool q >/dev/full 2>errors
     if [ $? = 10 ] && [ ! -s errors ]; then passed=$((passed + 1)); else failed=$((failed + 1)); echo 'a list to a full standard output: not status 10'; fi
 fi
+
+# Standard output and standard error may be pipes without a reader.
+{ sleep 0.3; "$top/syslogr" --help; echo $? >ended; } 2>errors | :
+if [ "$(cat ended)" = 10 ] && [ ! -s errors ]; then passed=$((passed + 1)); else failed=$((failed + 1)); echo 'a standard output without a reader: not status 10'; fi
+{ sleep 0.3; "$top/syslogr" check none >said; echo $? >ended; } 2>&1 | :
+if [ "$(cat ended)" = 3 ] && [ "$(cat said)" = 'cannot read none' ]; then passed=$((passed + 1)); else failed=$((failed + 1)); echo 'a standard error without a reader: not status 3'; fi
+rm ended
+
 bench=$top/crates/bench_spool/out/bench_spool
 if [ -x "$bench" ]; then
     "$bench" made 100 30 && "$top/syslogr" spool made >said 2>errors
