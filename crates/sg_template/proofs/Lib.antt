@@ -4,3 +4,4 @@ pub mod Inner
 pub mod Paths
 pub mod Runs
 pub mod Steps
+mod Constants

@@ -1,5 +1,5 @@
 -- The text of a template over a message.
-use Rattle.std.specs.Prelude.{ℕ, List}
+use Rattle.std.specs.Prelude.{ℕ, List, [], ◌∷◌, Option, None, Some}
 use Rattle.std.specs.List.{flat_map}
 use Rattle.sg_msg.specs.Message.{Content}
 use Rattle.sg_macro.specs.declared.part.Part.{Part}
@@ -15,3 +15,9 @@ part_text content env (Pair name default) = or_default (text_of name content.pai
 -- the texts of its parts, one after the other
 unfoldable pub render_of : List Part → Content → Env → List ℕ
 render_of parts content env = flat_map (part_text content env) parts
+
+-- the text of a template without macros and names, which is the same over every message
+abbrev pub constant_of : List Part → Option (List ℕ)
+constant_of [] = Some []
+constant_of (Literal text ∷ []) = Some text
+constant_of _ = None

@@ -1,7 +1,9 @@
 // Templates as a whole.
-ghost use Rattle.std.specs.Prelude.{◌≡◌, ◌++◌, IfOk, IfErr, OnOk, OnErr, Ok};
+ghost use Rattle.std.specs.Prelude.{◌≡◌, [], ◌∷◌, ◌++◌, IfSome, IfOk, IfErr, OnOk, OnErr, Ok, option_copied};
 ghost use Rattle.sg_macro.specs.Reading.{parts_of, Refuses};
-ghost use Rattle.sg_template.specs.Render.{render_of};
+ghost use Rattle.sg_msg.specs.Message.{Content};
+ghost use Rattle.sg_template.specs.declared.env.Env.{Env as AnEnv};
+ghost use Rattle.sg_template.specs.Render.{constant_of, render_of};
 ghost use Rattle.sg_template.specs.Path.{path_of};
 
 use crate::Env;
@@ -29,6 +31,16 @@ impl Model for Template {
     ghost view = { λ t. t.parts };
 }
 
+// The text of a part that stands for itself.
+fn literal(part: &Part) -> Option<&[u8]>
+    ensures { option_copied result ≡ constant_of (part.now ∷ []) }
+{
+    match part {
+        Part::Literal(text) => Some(text.bytes()),
+        _ => None,
+    }
+}
+
 impl Template {
     /// Reads a template.
     ///
@@ -52,6 +64,19 @@ impl Template {
         Ok(Template {
             parts: copied_parts(alloc, self.parts.as_slice())?,
         })
+    }
+
+    /// The text of a template without macros and names, which is the same over every message.
+    pub fn constant(&self) -> Option<&[u8]>
+        ensures value { option_copied result ≡ constant_of self.now }
+        ensures same { IfSome result (λ text. (content : Content) (env : AnEnv)
+            → render_of self.now content env ≡ text.now) }
+    {
+        match self.parts.as_slice() {
+            [] => Some(&[]),
+            [part] => literal(part),
+            _ => None,
+        }
     }
 
     /// Appends the template's text over the message. Without memory `out` stays as it was.
