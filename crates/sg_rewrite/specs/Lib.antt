@@ -1,4 +1,5 @@
 pub mod Values
+pub mod Texts
 pub mod Rewritten
 pub mod Changes
 pub mod Ops

@@ -5,27 +5,28 @@ ghost use Rattle.sg_rewrite.specs.Ops.{change_of, RefusesOp, IsOp};
 ghost use Rattle.sg_rewrite.specs.Changes.{IsChange, HasPattern};
 
 use crate::Op;
+use crate::text::{Text, kept};
+use bytes::Bytes;
 use sg_device::{Name, NoMemory};
 use sg_list::Seq;
 use sg_pattern::{BuildRefusal, Builder, Matcher};
-use sg_template::Template;
 use std::alloc::Global;
 
 /// A name, what searches in its value, and the template whose text replaces what is found.
 #[derive(Drop)]
 pub(crate) struct Search {
-    pub(crate) name: Name,
+    pub(crate) name: Bytes,
     pub(crate) matcher: Matcher,
-    pub(crate) text: Template,
+    pub(crate) text: Text,
 }
 
 /// A rewrite with what searches for its pattern.
 #[derive(Drop)]
 pub(crate) enum Change {
-    Set { name: Name, text: Template },
+    Set { name: Bytes, text: Text },
     Unset { name: Name },
     Subst(Search),
-    GroupSet { globs: Seq<Name>, text: Template },
+    GroupSet { globs: Seq<Name>, text: Text },
     GroupUnset { globs: Seq<Name> },
     SetTag { tag: Name },
     ClearTag { tag: Name },
@@ -53,8 +54,8 @@ pub(crate) fn change_of<B: Builder>(
 {
     match op {
         Op::Set { name, text } => Ok(Change::Set {
-            name: name.copy()?,
-            text: text.copy(alloc)?,
+            name: kept(alloc, name.bytes())?,
+            text: Text::new(alloc, text)?,
         }),
         Op::Unset { name } => Ok(Change::Unset { name: name.copy()? }),
         Op::Subst {
@@ -62,13 +63,13 @@ pub(crate) fn change_of<B: Builder>(
             pattern,
             text,
         } => Ok(Change::Subst(Search {
-            name: name.copy()?,
-            text: text.copy(alloc)?,
+            name: kept(alloc, name.bytes())?,
+            text: Text::new(alloc, text)?,
             matcher: Matcher::of_text(alloc, builder, pattern)?,
         })),
         Op::GroupSet { globs, text } => Ok(Change::GroupSet {
             globs: copied_names(alloc, globs)?,
-            text: text.copy(alloc)?,
+            text: Text::new(alloc, text)?,
         }),
         Op::GroupUnset { globs } => Ok(Change::GroupUnset {
             globs: copied_names(alloc, globs)?,
@@ -84,18 +85,18 @@ pub(crate) fn shared(alloc: Global, change: &Change) -> Result<Change, NoMemory>
 {
     match change {
         Change::Set { name, text } => Ok(Change::Set {
-            name: name.copy()?,
-            text: text.copy(alloc)?,
+            name: name.clone()?,
+            text: text.share(alloc)?,
         }),
         Change::Unset { name } => Ok(Change::Unset { name: name.copy()? }),
         Change::Subst(search) => Ok(Change::Subst(Search {
-            name: search.name.copy()?,
+            name: search.name.clone()?,
             matcher: search.matcher.share(alloc)?,
-            text: search.text.copy(alloc)?,
+            text: search.text.share(alloc)?,
         })),
         Change::GroupSet { globs, text } => Ok(Change::GroupSet {
             globs: copied_names(alloc, globs.as_slice())?,
-            text: text.copy(alloc)?,
+            text: text.share(alloc)?,
         }),
         Change::GroupUnset { globs } => Ok(Change::GroupUnset {
             globs: copied_names(alloc, globs.as_slice())?,

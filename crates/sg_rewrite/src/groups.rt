@@ -5,12 +5,13 @@ ghost use Rattle.sg_rewrite.specs.Values.{without_value};
 ghost use Rattle.sg_rewrite.specs.Rewritten.{is_picked, with_text, set_each, unset_each};
 
 use crate::anew::without_group;
-use crate::render::{render, set, unset};
+use crate::render::{set, unset};
 use crate::rewrite::Buffers;
+use crate::text::Text;
 use sg_device::{Name, NoMemory};
 use sg_msg::Message;
 use sg_pattern::glob_matches;
-use sg_template::{Template, own_env};
+use sg_template::own_env;
 use std::alloc::Global;
 use std::mem::replace;
 
@@ -46,7 +47,7 @@ fn buffer_of(alloc: Global, old: Option<Name>) -> Vec<u8> {
 fn set_text(
     alloc: Global,
     name: &[u8],
-    text: &Template,
+    text: &Text,
     message: &mut Message,
     buffers: &mut Buffers,
 ) -> Result<(), NoMemory>
@@ -55,7 +56,7 @@ fn set_text(
 {
     let buffer = replace(&mut buffers.old, Vec::new(alloc));
     let env = own_env(old_value(message, name, buffer)?);
-    render(text, message, &env, &mut buffers.text)?;
+    text.render(message, &env, &mut buffers.text)?;
     buffers.old = buffer_of(alloc, env.old);
     set(message, name, &buffers.text)
 }
@@ -65,7 +66,7 @@ fn set_picked(
     alloc: Global,
     globs: &[Name],
     name: &[u8],
-    text: &Template,
+    text: &Text,
     message: &mut Message,
     buffers: &mut Buffers,
 ) -> Result<(), NoMemory>
@@ -83,7 +84,7 @@ fn set_picked(
 pub(crate) fn set_group(
     alloc: Global,
     globs: &[Name],
-    text: &Template,
+    text: &Text,
     message: &mut Message,
     buffers: &mut Buffers,
 ) -> Result<(), NoMemory>

@@ -9,6 +9,7 @@ mod render;
 mod replacing;
 mod rewrite;
 mod single;
+mod text;
 mod threads;
 
 pub use op::Op;

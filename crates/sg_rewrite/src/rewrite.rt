@@ -85,7 +85,7 @@ impl Rewrite {
     {
         let buffers = &mut self.buffers;
         match &mut self.change {
-            Change::Set { name, text } => set_text(name.bytes(), text, message, buffers),
+            Change::Set { name, text } => set_text(alloc, name, text, message, buffers),
             Change::Unset { name } => unset(message, name.bytes()),
             Change::Subst(search) => substitute(alloc, search, message, buffers),
             Change::GroupSet { globs, text } => {

@@ -5,18 +5,21 @@ ghost use Rattle.sg_rewrite.specs.Values.{with_value, text_over};
 ghost use Rattle.sg_rewrite.specs.Rewritten.{substituted};
 
 use crate::change::Search;
-use crate::render::{render, set};
+use crate::render::put;
 use crate::replacing::replace;
 use crate::rewrite::Buffers;
+use crate::text::Text;
+use bytes::Bytes;
 use sg_device::NoMemory;
 use sg_msg::Message;
-use sg_template::{Template, own_env};
+use sg_template::own_env;
 use std::alloc::Global;
 
 /// Gives the name the template's text.
 pub(crate) fn set_text(
-    name: &[u8],
-    text: &Template,
+    alloc: Global,
+    name: &Bytes,
+    text: &Text,
     message: &mut Message,
     buffers: &mut Buffers,
 ) -> Result<(), NoMemory>
@@ -25,8 +28,9 @@ pub(crate) fn set_text(
         (message.new ≡ with_value name.now (text_over text.now None message.old) message.old) }
     ensures err { OnErr result (message.new ≡ message.old) }
 {
-    render(text, message, &own_env(None), &mut buffers.text)?;
-    set(message, name, &buffers.text)
+    let value = text.value(alloc, message, &mut buffers.text)?;
+    message.put(name, value)?;
+    Ok(())
 }
 
 /// Puts the template's text in the place of what is found in the name's value.
@@ -42,7 +46,7 @@ pub(crate) fn substitute(
     ensures err { OnErr result (message.new ≡ message.old) }
     ensures same { search.new ≡ search.old }
 {
-    let name = search.name.bytes();
+    let name = search.name.as_slice();
     let Some(bytes) = message.get(name) else {
         return Ok(());
     };
@@ -50,8 +54,10 @@ pub(crate) fn substitute(
     if spans.is_empty() {
         return Ok(());
     }
-    render(&search.text, message, &own_env(None), &mut buffers.text)?;
+    search
+        .text
+        .render(message, &own_env(None), &mut buffers.text)?;
     replace(bytes, &spans, &buffers.text, &mut buffers.value)?;
-    set(message, name, &buffers.value)?;
+    put(alloc, message, &search.name, &buffers.value)?;
     Ok(())
 }

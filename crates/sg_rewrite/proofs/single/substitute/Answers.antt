@@ -14,7 +14,7 @@ returns-clause-ok c =
     let content = c.args.message.now in
     let spans = c.in_ok-spans.spans.items in
     let bytes = c.in-Some.bytes.now in
-    let name_is : c.bytes-name.result.now ≡ search.name = c.bytes-name.ensures in
+    let name_is : c.as_slice-name.result.now ≡ search.name = c.as_slice-name.ensures in
     let has : Some bytes ≡ value_of search.name content.pairs = rw (← name_is) c.in-Some.ensures in
     let are : spans ≡ spans_of search.matcher bytes = c.in_ok-spans.ensures.value in
     let some : 0 < length spans = grind (arith, nat_tests, c.is_empty.ensures, c.if-is_empty.false) in
@@ -23,6 +23,6 @@ returns-clause-ok c =
     let spans_are : c.deref.result.now ≡ spans = c.deref.ensures.value in
     let value_is : c.replace.new.value.items ≡ cut (replaced spans bytes (text_over search.text None content) 0) =
     c.in_ok-replace.ensures ∙ ap₂ (λ (ss : List (ℕ × ℕ)) (text : List ℕ). cut (replaced ss bytes text 0)) spans_are text_is in
-    let set_is : c.set.new.message ≡ with_value search.name c.replace.new.value.items content =
-    c.in_ok-set.ensures.ok ∙ ap₂ (λ (name value : List ℕ). with_value name value content) name_is c.deref-3.ensures.value in
-    set_is ∙ found search content bytes spans c.replace.new.value.items has are some value_is
+    let put_is : c.put.new.message ≡ with_value search.name c.replace.new.value.items content =
+    c.in_ok-put.ensures.ok ∙ ap (λ (value : List ℕ). with_value search.name value content) c.deref-3.ensures.value in
+    put_is ∙ found search content bytes spans c.replace.new.value.items has are some value_is
