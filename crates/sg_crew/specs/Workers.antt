@@ -76,9 +76,9 @@ pub record HasSent {O D : Type 0} (state : O → OutletState) (hub : HubState) (
       v.seat v.turn turn
 
 -- as many sources and destinations, for the same setup
-pub record AreCrew {R I O D : Type 0} (state : I → InletState) (inlets dests : R → ℕ) (state' : O → OutletState) (hub : HubState) (sources sources' : List (Worker (SourceActor R I) D))
+pub record AreCrew {R I O D : Type 0} (state : I → InletState) (inlets dests_of : R → ℕ) (state' : O → OutletState) (hub : HubState) (readers readers' : List (Worker (SourceActor R I) D))
     (senders senders' : List (Worker (DestActor O) D)) : Type 0 where
-  pub sources : AreSources state inlets dests (setup_of hub.made) (actors_of sources')
-  pub senders : AreDests state' (setup_of hub.made) (actors_of senders')
-  pub all_sources : length sources' ≡ length sources
-  pub all_senders : length senders' ≡ length senders
+  pub sources : AreSources state inlets dests_of (setup_of hub.made) (actors_of readers')
+  pub dests : AreDests state' (setup_of hub.made) (actors_of senders')
+  pub all_sources : length readers' ≡ length readers
+  pub all_dests : length senders' ≡ length senders

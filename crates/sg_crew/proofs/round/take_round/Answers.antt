@@ -187,7 +187,7 @@ returns-clause-crew g c =
     let u = dests-took g.O.Outlet.state hub f0 m same d0 d1 c.deal-2.ensures.workers c.requires.dests d2 c.take_turns.ensures.send in
     record {
       sources = sources-stay state offers inlets dests hub f0 f0 refl s0 s1 c.deal.ensures.workers c.requires.sources s2 c.gather-read.new.workers.items t.0 t.1 c.gather-read.ensures.actors;
-      senders = dests-stay g.O.Outlet.state hub f0 m same d0 d1 c.deal-2.ensures.workers c.requires.dests d2 c.gather-sent.new.workers.items u.0 u.1 c.gather-sent.ensures.actors;
+      dests = dests-stay g.O.Outlet.state hub f0 m same d0 d1 c.deal-2.ensures.workers c.requires.dests d2 c.gather-sent.new.workers.items u.0 u.1 c.gather-sent.ensures.actors;
       all_sources = c.gather-read.ensures.actors.all ∙ (c.take_turns.ensures.read.all ∙ c.deal.ensures.workers.all);
-      all_senders = c.gather-sent.ensures.actors.all ∙ (c.take_turns.ensures.send.all ∙ c.deal-2.ensures.workers.all);
+      all_dests = c.gather-sent.ensures.actors.all ∙ (c.take_turns.ensures.send.all ∙ c.deal-2.ensures.workers.all);
     }

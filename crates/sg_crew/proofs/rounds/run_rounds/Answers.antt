@@ -57,9 +57,9 @@ loop-round-preserved g c =
       sum = e.first.sum ∙ i.sum;
       left = (let sources = i.all_sources in let dests = i.all_dests in let left = e.first.left in omega (arith, sources, dests, i.left, left, c.requires.few_sources, c.requires.few_dests));
       sources = e.crew.sources;
-      dests = e.crew.senders;
+      dests = e.crew.dests;
       all_sources = e.crew.all_sources ∙ i.all_sources;
-      all_dests = e.crew.all_senders ∙ i.all_dests;
+      all_dests = e.crew.all_dests ∙ i.all_dests;
       run = run-more (SourceTook state offers inlets dests) (DestTook g.O.Outlet.state) (SourceTakes state offers inlets dests) (DestTakes g.O.Outlet.state)
           (source-none state offers inlets dests) (dest-none g.O.Outlet.state) (source-more state offers inlets dests) (dest-more g.O.Outlet.state)
           c.loop-round.first c.take_round-round.new.first (actors_of c.args.sources.now.items) (actors_of c.loop-round.sources.items) (actors_of c.take_round-round.new.sources.items)
@@ -100,9 +100,9 @@ returns-then-round-clause-crew g c =
     let e = c.take_round-round.ensures in
     record {
       sources = e.crew.sources;
-      senders = e.crew.senders;
+      dests = e.crew.dests;
       all_sources = e.crew.all_sources ∙ i.all_sources;
-      all_senders = e.crew.all_senders ∙ i.all_dests;
+      all_dests = e.crew.all_dests ∙ i.all_dests;
     }
 
 pub returns-then-not-round-clause-served : goal.returns-then-not-round-clause-served
@@ -138,9 +138,9 @@ returns-then-not-round-clause-crew g c =
     let e = c.take_round-round.ensures in
     record {
       sources = e.crew.sources;
-      senders = e.crew.senders;
+      dests = e.crew.dests;
       all_sources = e.crew.all_sources ∙ i.all_sources;
-      all_senders = e.crew.all_senders ∙ i.all_dests;
+      all_dests = e.crew.all_dests ∙ i.all_dests;
     }
 
 pub returns-clause-served : goal.returns-clause-served
@@ -163,4 +163,4 @@ returns-clause-first g c =
 pub returns-clause-crew : goal.returns-clause-crew
 returns-clause-crew g c =
     let i = c.loop-round.invariant in
-    record { sources = i.sources; senders = i.dests; all_sources = i.all_sources; all_senders = i.all_dests }
+    record { sources = i.sources; dests = i.dests; all_sources = i.all_sources; all_dests = i.all_dests }

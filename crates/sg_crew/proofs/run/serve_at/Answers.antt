@@ -55,7 +55,7 @@ pub free_all-requires-2-clause-fits : goal.free_all-requires-2-clause-fits
 free_all-requires-2-clause-fits g c =
     let one = length-map actor_of c.seat_all-senders.result.items in
     let two = ap length c.seat_all-senders.ensures.actors in
-    let three = c.run_rounds-ended.ensures.crew.all_senders in
+    let three = c.run_rounds-ended.ensures.crew.all_dests in
     let room = c.requires.dests_room.3 in
     omega (arith, one, two, three, room)
 
@@ -83,7 +83,7 @@ pub returns-clause-dests : goal.returns-clause-dests
 returns-clause-dests g c =
     let e = c.run_rounds-ended.ensures in
     let same = setup-stays c.args.hub c.run_rounds-ended.new.first c.close-core.result e.first.ordered e.first.sum c.close-core.ensures in
-    subst (λ s. AreDests g.O.Outlet.state s c.free_all-2.result.items) (sym same) (subst (AreDests g.O.Outlet.state (setup_of c.args.hub.made)) (sym c.free_all-2.ensures) e.crew.senders)
+    subst (λ s. AreDests g.O.Outlet.state s c.free_all-2.result.items) (sym same) (subst (AreDests g.O.Outlet.state (setup_of c.args.hub.made)) (sym c.free_all-2.ensures) e.crew.dests)
 
 pub returns-clause-setup : goal.returns-clause-setup
 returns-clause-setup g c =
