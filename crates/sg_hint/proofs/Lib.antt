@@ -1,0 +1,11 @@
+pub mod Distances
+pub mod Numbers
+pub mod Meanings
+pub mod Briefs
+pub mod Plain
+pub mod Under
+pub mod Sizes
+pub mod Positions
+pub mod Spots
+pub mod Forms
+pub mod Hints

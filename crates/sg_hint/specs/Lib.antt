@@ -1,1 +1,12 @@
+pub mod Shown
+pub mod Lines
+pub mod Nearest
+pub mod Nearer
+pub mod Names
+pub mod Words
+pub mod Text
+pub mod Meanings
+pub mod Expansions
+pub mod Listed
+pub mod Spots
 pub mod Hint

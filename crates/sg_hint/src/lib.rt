@@ -3,10 +3,12 @@
 #![tactic(auto)]
 
 mod line;
+mod listed;
 mod names;
 mod nearest;
 mod shown;
 mod spot;
+mod stopped;
 mod telling;
 mod words;
 mod written;

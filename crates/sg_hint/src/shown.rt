@@ -1,7 +1,7 @@
 // How bytes are shown.
 ghost use Rattle.std.specs.Prelude.{◌≡◌, ◌++◌, map, OnOk};
 ghost use Rattle.std.specs.List.{list_all};
-ghost use Rattle.sg_hint.specs.Hint.{is_printable, is_told, shown_byte};
+ghost use Rattle.sg_hint.specs.Shown.{is_printable, shown_byte};
 
 use sg_device::NoMemory;
 
@@ -11,21 +11,10 @@ fn is_printable(byte: u8) -> bool
     byte >= 32 && byte <= 126
 }
 
-fn is_told(byte: u8) -> bool
-    ensures { result ≡ is_told byte }
-{
-    byte == b'\n' || is_printable(byte)
-}
-
-/// Whether the text is printable ASCII and LFs.
-pub fn is_plain(text: &[u8]) -> bool
-    ensures { result ≡ list_all is_told text.now }
-{
-    text.iter().all(|byte| is_told(*byte))
-}
-
 /// Whether a name can be shown as it is.
-pub fn is_shown(name: &[u8]) -> bool {
+pub fn is_shown(name: &[u8]) -> bool
+    ensures { result ≡ list_all is_printable name.now }
+{
     name.iter().all(|byte| is_printable(*byte))
 }
 

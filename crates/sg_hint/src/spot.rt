@@ -1,199 +1,139 @@
 // The token of a fault.
-ghost use Rattle.sg_outside.specs.World.{OnlyReads};
+ghost use Rattle.std.specs.Prelude.{◌≡◌, ◌≤◌, ◌<◌, ◌^◌, length, IfOk, IfSome, Err, option_map};
+ghost use Rattle.sg_outside.specs.World.{OnlyReads, IsContent};
+ghost use Rattle.sg_expand.specs.Expansion.{IsExpanded};
+ghost use Rattle.sg_report.specs.Fault.{name_at};
+ghost use Rattle.sg_hint.specs.Spots.{plain_spot, IsReading, IsSpot, IsStopped, SpotsAgain, SpotsBy};
+ghost use Rattle.sg_hint.specs.Listed.{IsListed};
 
-use crate::line::place_behind;
-use crate::names::name_meant;
-use crate::words::word_meant;
-use crate::written::Spotted;
-use sg_config::{Config, LoadRefusal, load};
-use sg_device::{Name, NoMemory};
-use sg_expand::{ExpandRefusal, Expanded, Files, expand};
-use sg_lex::{ConfigFault, ConfigKind, LexFault, Line, TEXT_LIMIT, Token, TokenKind, tokens};
-use sg_pattern::Patterns;
-use sg_table::compile;
-use sg_tree::PathRefusal;
-use std::alloc::Global;
+use crate::listed::{is_same, listed_spot};
+use crate::stopped::column_by;
+use crate::written::{Spotted, name_at};
+use sg_device::{FileRefusal, Name, NoMemory};
+use sg_expand::{ExpandRefusal, Expanded, Files, expand, expansions_stay_within};
+use sg_lex::{ConfigFault, TEXT_LIMIT};
+use std::alloc::{AllocError, Global};
 
-/// Expanded tokens, each with its place in the list, from 1 on, as its line.
-#[derive(Drop)]
-struct Numbered {
-    tokens: Vec<Token>,
-    /// The lines in the files.
-    lines: Vec<u32>,
-    count: u32,
+fn expanded_spot(
+    alloc: Global,
+    fault: &ConfigFault,
+    expanded: Expanded,
+) -> Result<Option<Spotted>, NoMemory>
+    requires { length expanded.tokens < 2 ^ 32 }
+    ensures { IfOk result (λ spotted. IsListed expanded.tokens fault.now spotted) }
+{
+    let Expanded { tokens, names: _ } = expanded;
+    listed_spot(alloc, fault, tokens.into_vec())
 }
 
-impl Numbered {
-    fn push(&mut self, token: Token) -> Result<(), NoMemory> {
-        self.count = self.count.saturating_add(1);
-        self.lines.push(token.line)?;
-        self.tokens.push(Token {
-            kind: token.kind,
-            file: token.file,
-            line: self.count,
-            column: token.column,
-            text: token.text,
-        })?;
-        Ok(())
-    }
-}
-
-fn number_tokens(alloc: Global, tokens: Vec<Token>) -> Result<Numbered, NoMemory> {
-    let mut list = Numbered {
-        tokens: Vec::new(alloc),
-        lines: Vec::new(alloc),
-        count: 0,
-    };
-    for token in tokens {
-        list.push(token)?;
-    }
-    Ok(list)
-}
-
-fn fault_of(kind: ConfigKind, line: Line) -> ConfigFault {
-    ConfigFault {
-        kind,
-        file: line.file,
-        line: line.line,
-    }
-}
-
-/// What is wrong with the log paths of a configuration.
-fn path_fault(alloc: Global, config: &Config) -> Option<ConfigFault> {
-    let mut patterns = Patterns { too_large: 0 };
-    match compile(alloc, &config.forest, &mut patterns) {
-        Ok(_) => None,
-        Err(PathRefusal::BadPattern(line)) => Some(fault_of(ConfigKind::BadPattern, line)),
-        Err(PathRefusal::PatternTooLarge(line)) => {
-            Some(fault_of(ConfigKind::PatternTooLarge, line))
-        }
-        Err(PathRefusal::TooManyOffers(line)) => Some(fault_of(ConfigKind::TooManyOffers, line)),
-        Err(PathRefusal::NoMemory) => None,
-    }
-}
-
-/// What is wrong with these tokens.
-fn fault_again(alloc: Global, tokens: &[Token]) -> Option<ConfigFault> {
-    if tokens.len() > TEXT_LIMIT {
-        return None;
-    }
-    match load(alloc, tokens) {
-        Ok(config) => path_fault(alloc, &config),
-        Err(LoadRefusal::Bad(fault)) => Some(fault),
-        Err(LoadRefusal::NoMemory) => None,
-    }
-}
-
-fn word_of(token: &Token) -> Option<&'static [u8]> {
-    if token.kind == TokenKind::Word {
-        word_meant(token.text.bytes())
-    } else {
-        None
-    }
-}
-
-fn name_of<'a>(kind: ConfigKind, tokens: &'a [Token], at: usize) -> Option<&'a [u8]> {
-    match kind {
-        ConfigKind::UnknownName => name_meant(tokens, at),
-        ConfigKind::Unsupported => match tokens.get(at) {
-            Some(token) => word_of(token),
-            None => None,
-        },
-        _ => None,
-    }
-}
-
-fn meant(alloc: Global, kind: ConfigKind, tokens: &[Token], at: usize) -> Option<Name> {
-    match name_of(kind, tokens, at) {
-        Some(name) => Name::new(alloc, name).ok(),
+fn plain_spot(column: Option<u32>) -> Option<Spotted>
+    ensures { result ≡ option_map plain_spot column }
+{
+    match column {
+        Some(column) => Some(Spotted {
+            column,
+            meant: None,
+        }),
         None => None,
     }
 }
 
-/// The token of this place, if it stands in the fault's line.
-fn spot_at(alloc: Global, fault: &ConfigFault, list: &Numbered, at: usize) -> Option<Spotted> {
-    let token = list.tokens.get(at)?;
-    let line = list.lines.get(at)?;
-    if *line != fault.line {
-        return None;
+/// The token of a fault of the expansion in the text of its file, where the same fault stops the expansion.
+fn stopped_spot(
+    alloc: Global,
+    fault: &ConfigFault,
+    again: &ConfigFault,
+    text: &[u8],
+) -> Result<Option<Spotted>, NoMemory>
+    requires { length text.now ≤ TEXT_LIMIT }
+    ensures { IfOk result (λ spotted. IsStopped fault.now again.now text.now spotted) }
+{
+    if !is_same(again, fault) {
+        return Ok(None);
     }
-    Some(Spotted {
-        column: token.column,
-        meant: meant(alloc, fault.kind, &list.tokens, at),
-    })
+    let column = column_by(alloc, fault, text)?;
+    Ok(plain_spot(column))
 }
 
-/// The token of the fault, where the same fault is found again in the numbered list.
-fn token_spot(alloc: Global, fault: &ConfigFault, list: &Numbered) -> Option<Spotted> {
-    let again = fault_again(alloc, &list.tokens)?;
-    if again.kind != fault.kind || again.file != fault.file || again.line == 0 {
-        return None;
-    }
-    spot_at(alloc, fault, list, again.line as usize - 1)
-}
-
-/// Whether a fault of the expansion can stand at this token, which is the first of its file or not.
-fn may_stand(kind: ConfigKind, token: &Token, first: bool) -> bool {
-    match kind {
-        ConfigKind::UnknownVariable => match token.kind {
-            TokenKind::Tick => true,
-            TokenKind::Str => token.text.bytes().contains(&b'`'),
-            _ => false,
-        },
-        ConfigKind::Version => first || token.kind == TokenKind::At,
-        ConfigKind::IncludeDepth => token.kind == TokenKind::At,
-        ConfigKind::Unsupported => token.kind == TokenKind::At,
-        ConfigKind::MissingArgument => token.kind == TokenKind::Word,
-        ConfigKind::UnknownArgument => token.kind == TokenKind::Word,
-        _ => false,
+fn refused_spot(
+    alloc: Global,
+    fault: &ConfigFault,
+    text: &[u8],
+    refusal: ExpandRefusal,
+) -> Result<Option<Spotted>, NoMemory>
+    requires { length text.now ≤ TEXT_LIMIT }
+    ensures { IfOk result (λ spotted. SpotsBy fault.now text.now (Err refusal) spotted) }
+{
+    match refusal {
+        ExpandRefusal::Bad {
+            fault: again,
+            names: _,
+        } => stopped_spot(alloc, fault, &again, text),
+        ExpandRefusal::ReadFault(_) => Ok(None),
+        ExpandRefusal::NoMemory => Err(AllocError),
     }
 }
 
-/// The only token of the fault's line at which it can stand.
-fn only_spot(fault: &ConfigFault, tokens: &[Token]) -> Option<Spotted> {
-    let mut found = None;
-    let mut first = true;
-    for token in tokens {
-        if token.line == fault.line && may_stand(fault.kind, token, first) {
-            if found.is_some() {
-                return None;
-            }
-            found = Some(Spotted {
-                column: token.column,
-                meant: None,
-            });
-        }
-        first = false;
-    }
-    found
-}
-
-fn place_spot(fault: &ConfigFault, kind: ConfigKind, text: &[u8], at: usize) -> Option<Spotted> {
-    let before = text.get(..at)?;
-    let place = place_behind(before);
-    if fault.kind != kind || place.line != fault.line {
-        return None;
-    }
-    Some(Spotted {
-        column: place.column,
-        meant: None,
-    })
-}
-
-/// The token of a fault of the expansion, by the text of its file.
-fn text_spot(alloc: Global, fault: &ConfigFault, text: &[u8]) -> Option<Spotted> {
-    if text.len() > TEXT_LIMIT {
-        return None;
-    }
-    match tokens(alloc, fault.file, text) {
-        Ok(found) => only_spot(fault, &found),
-        Err(LexFault::OpenString(at)) => place_spot(fault, ConfigKind::OpenString, text, at),
-        Err(LexFault::BadByte(at)) => place_spot(fault, ConfigKind::BadByte, text, at),
-        Err(LexFault::NoMemory) => None,
+/// The expansion of the main file of this name and text again.
+fn expand_again<F: Files>(
+    alloc: Global,
+    files: &mut F,
+    name: &[u8],
+    main: &[u8],
+) -> Result<Expanded, ExpandRefusal>
+    ensures is { IsExpanded (F.state files.old) (F.state files.new) name.now main.now result }
+    ensures few { IfOk result (λ expanded. length expanded.tokens < 2 ^ 32) }
+    ensures only { OnlyReads (F.state files.old) (F.state files.new) }
+{
+    expansions_stay_within();
+    match Name::new(alloc, name) {
+        Ok(name) => expand(alloc, name, main, files),
+        Err(_) => Err(ExpandRefusal::NoMemory),
     }
 }
 
-fn copied(alloc: Global, text: &[u8]) -> Result<Vec<u8>, NoMemory> {
+/// The token of the fault by the main file of this name and text; `text` is that of the fault's file.
+fn spot_again<F: Files>(
+    alloc: Global,
+    files: &mut F,
+    fault: &ConfigFault,
+    name: &[u8],
+    main: &[u8],
+    text: &[u8],
+) -> Result<Option<Spotted>, NoMemory>
+    requires { length text.now ≤ TEXT_LIMIT }
+    ensures is { IfOk result (λ spotted. SpotsAgain (F.state files.old) (F.state files.new)
+        name.now main.now fault.now text.now spotted) }
+    ensures only { OnlyReads (F.state files.old) (F.state files.new) }
+{
+    match expand_again(alloc, files, name, main) {
+        Ok(expanded) => expanded_spot(alloc, fault, expanded),
+        Err(refusal) => refused_spot(alloc, fault, text, refusal),
+    }
+}
+
+/// What the file of this name holds, None where it can't be read.
+pub fn read<F: Files>(
+    alloc: Global,
+    files: &mut F,
+    name: &[u8],
+) -> Result<Option<Vec<u8>>, NoMemory>
+    ensures is { IfOk result
+        (λ text. IsReading (F.state files.old) (F.state files.new) name.now text) }
+    ensures short { IfOk result (λ text. IfSome text (λ bytes. length bytes.items ≤ TEXT_LIMIT)) }
+    ensures only { OnlyReads (F.state files.old) (F.state files.new) }
+{
+    match files.read(alloc, name) {
+        Ok(text) => Ok(Some(text)),
+        Err(FileRefusal::Failed) => Ok(None),
+        Err(FileRefusal::TooLong) => Ok(None),
+        Err(FileRefusal::NoMemory) => Err(AllocError),
+    }
+}
+
+fn copied(alloc: Global, text: &[u8]) -> Result<Vec<u8>, NoMemory>
+    ensures { IfOk result (λ copy. copy.items ≡ text.now) }
+{
     Vec::from_slice(alloc, text)
 }
 
@@ -202,42 +142,18 @@ fn main_text<F: Files>(
     alloc: Global,
     files: &mut F,
     fault: &ConfigFault,
-    main: &Name,
+    names: &[Name],
     text: &[u8],
-) -> Option<Vec<u8>>
-    ensures { OnlyReads (F.state files.old) (F.state files.new) }
+) -> Result<Option<Vec<u8>>, NoMemory>
+    requires { IsContent (F.state files.old).files (name_at names.now fault.now.file) text.now }
+    ensures is { IfOk result (λ main.
+        IsReading (F.state files.old) (F.state files.new) (name_at names.now 0) main) }
+    ensures only { OnlyReads (F.state files.old) (F.state files.new) }
 {
     if fault.file == 0 {
-        return copied(alloc, text).ok();
+        return Ok(Some(copied(alloc, text)?));
     }
-    files.read(alloc, main.bytes()).ok()
-}
-
-/// The tokens of the configuration again, or the fault that stops its expansion.
-fn tokens_again<F: Files>(
-    alloc: Global,
-    files: &mut F,
-    main: &Name,
-    text: &[u8],
-) -> Result<Vec<Token>, Option<ConfigFault>>
-    ensures { OnlyReads (F.state files.old) (F.state files.new) }
-{
-    let Ok(name) = main.copy() else {
-        return Err(None);
-    };
-    match expand(alloc, name, text, files) {
-        Ok(Expanded { tokens, names: _ }) => Ok(tokens.into_vec()),
-        Err(ExpandRefusal::Bad { fault, names: _ }) => Err(Some(fault)),
-        Err(ExpandRefusal::ReadFault(_)) => Err(None),
-        Err(ExpandRefusal::NoMemory) => Err(None),
-    }
-}
-
-fn listed_spot(alloc: Global, fault: &ConfigFault, tokens: Vec<Token>) -> Option<Spotted> {
-    match number_tokens(alloc, tokens) {
-        Ok(list) => token_spot(alloc, fault, &list),
-        Err(_) => None,
-    }
+    read(alloc, files, name_at(names, 0))
 }
 
 /// The token of the fault, where the files have the same fault again and it is told by that. `text` is the
@@ -248,25 +164,16 @@ pub fn spot<F: Files>(
     fault: &ConfigFault,
     names: &[Name],
     text: &[u8],
-) -> Option<Spotted>
-    ensures { OnlyReads (F.state files.old) (F.state files.new) }
+) -> Result<Option<Spotted>, NoMemory>
+    requires is { IsContent (F.state files.old).files (name_at names.now fault.now.file) text.now }
+    requires short { length text.now ≤ TEXT_LIMIT }
+    ensures is { IfOk result (λ spotted.
+        IsSpot (F.state files.old) (F.state files.new) fault.now names.now text.now spotted) }
+    ensures only { OnlyReads (F.state files.old) (F.state files.new) }
 {
-    if fault.line == 0 {
-        return None;
-    }
-    let Some(main) = names.first() else {
-        return None;
-    };
-    let Some(whole) = main_text(alloc, files, fault, main, text) else {
-        return None;
-    };
-    match tokens_again(alloc, files, main, &whole) {
-        Ok(tokens) => listed_spot(alloc, fault, tokens),
-        Err(Some(again)) => if again == *fault {
-            text_spot(alloc, fault, text)
-        } else {
-            None
-        },
-        Err(None) => None,
+    let found = main_text(alloc, files, fault, names, text)?;
+    match found {
+        Some(main) => spot_again(alloc, files, fault, name_at(names, 0), &main, text),
+        None => Ok(None),
     }
 }

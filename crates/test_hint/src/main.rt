@@ -51,7 +51,7 @@ fn hint_text(
     fault: &ConfigFault,
     names: &[Name],
 ) -> Result<Vec<u8>, NoMemory> {
-    match hint(alloc, machine, fault, names) {
+    match hint(alloc, machine, fault, names)? {
         Some(text) => Ok(text),
         None => copied(alloc, b"no hint"),
     }

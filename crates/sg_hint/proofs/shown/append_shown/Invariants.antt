@@ -1,5 +1,5 @@
 use Rattle.std.proofs.Common.{◌≡◌, ◌++◌, map, take}
-use Rattle.sg_hint.specs.Hint.{shown_byte}
+use Rattle.sg_hint.specs.Shown.{shown_byte}
 use Rattle.sg_hint.proofs.shown.append_shown.Given as goal
 
 abbrev pub invariant-loop-byte : goal.invariant-loop-byte
