@@ -1,5 +1,5 @@
 -- Frames that wait, one after another.
-use Rattle.std.proofs.Common.{◌≡◌, List, [], ◌∷◌, ◌++◌, refl, sym, ap, ap₂, ◌∙◌, subst}
+use Rattle.std.proofs.Common.{◌≡◌, Bool, true, false, List, [], ◌∷◌, ◌++◌, refl, sym, ap, ap₂, ◌∙◌, subst}
 use Rattle.std.specs.Prelude.{reverse}
 use Rattle.std.proofs.lemmas.List.{append_assoc, append-nil, reverse-append}
 use Rattle.sg_tree.specs.Walk.{Walked}
@@ -8,7 +8,7 @@ use Rattle.sg_table.specs.declared.pipe.Pipe.{Pipe}
 use Rattle.sg_pipes.specs.declared.frame.Frame.{Frame}
 use Rattle.sg_pipes.specs.declared.work.Work.{Work}
 use Rattle.sg_pipes.specs.Frames.{run, does}
-use Rattle.sg_pipes.specs.Turns.{Comes, Turns, now}
+use Rattle.sg_pipes.specs.Turns.{Comes, ComesTo, Delivers, Turns, now}
 
 pub run-append : (pipes : List Pipe) (offered : List Branch) (xs ys : List Frame) (w : Walked) → run pipes offered (xs ++ ys) w ≡ run pipes offered ys (run pipes offered xs w)
 run-append pipes offered [] ys w = refl
@@ -73,3 +73,15 @@ pub turns-at : (pipes pipes' : List Pipe) (frame frame' : Frame) (old old' new :
 turns-at pipes pipes' frame frame' old old' new ep ef eo t =
     subst (λ (ps : List Pipe). Turns ps frame old new) ep
     (subst (λ (f : Frame). Turns pipes' f old new) ef (subst (λ (w : Work). Turns pipes' frame' w new) eo t))
+
+-- what comes is delivered too
+pub comes-to : (alone : Bool) (pipes : List Pipe) (made : Walked) (old new : Work) → Comes pipes made old new → ComesTo alone pipes made old new
+comes-to true pipes made old new c = record { offered = c.offered; more = c.more; frames = c.frames; delivers = ap (λ (w : Walked). w.deliveries) c.comes }
+comes-to false pipes made old new c = c
+
+-- nothing is pushed, and the deliveries are those
+pub delivers-now : (pipes : List Pipe) (made : Walked) (old new : Work) → new.offered ≡ old.offered → new.frames ≡ old.frames → new.offers.items ≡ made.deliveries → Delivers pipes made old new
+delivers-now pipes made old new eo ef ed = record { offered = eo; more = []; frames = ap (λ v. v.items) ef ∙ sym (append-nil old.frames.items); delivers = ed }
+
+pub delivers-as : (pipes : List Pipe) (made made' : Walked) (old new : Work) → made ≡ made' → Delivers pipes made old new → Delivers pipes made' old new
+delivers-as pipes made made' old new e c = subst (λ (w : Walked). Delivers pipes w old new) e c

@@ -10,7 +10,7 @@ use Rattle.sg_table.specs.Forest.{statement_at}
 use Rattle.sg_pipes.specs.declared.work.Work.{Work}
 use Rattle.sg_pipes.specs.Chosen.{is_for, branches_for}
 use Rattle.sg_pipes.specs.Frames.{run}
-use Rattle.sg_pipes.specs.Turns.{Comes, Works, now}
+use Rattle.sg_pipes.specs.Turns.{Delivers, Works, now}
 
 pub chosen-offered : (at : Places) (inlet : ℕ) (tops : List Top) → siblings_of (branches_at at (branches_for inlet tops)) ≡ offered inlet (map (statement_at at) tops)
 chosen-offered at inlet [] = refl
@@ -22,9 +22,9 @@ chosen-offered at inlet (t ∷ ts) = go (is_for inlet t) (chosen-offered at inle
     go false h = h
 
 -- work that began with nothing waiting is done
-pub done-is : (pipes : List Pipe) (made : Walked) (old mid new : Work) → old.frames.items ≡ [] → Comes pipes made old mid → Works pipes mid new → now new ≡ made
+pub done-is : (pipes : List Pipe) (made : Walked) (old mid new : Work) → old.frames.items ≡ [] → Delivers pipes made old mid → Works pipes mid new → (now new).deliveries ≡ made.deliveries
 done-is pipes made old mid new e c w =
-    sym w.done
+    ap (λ (x : Walked). x.deliveries) (sym w.done
     ∙ ap (λ x. run pipes x (reverse mid.frames.items) (now mid)) (ap (λ v. v.items) c.offered)
-    ∙ ap (λ x. run pipes old.offered.items (reverse x) (now mid)) (c.frames ∙ ap (λ x. x ++ c.more) e)
-    ∙ c.comes
+    ∙ ap (λ x. run pipes old.offered.items (reverse x) (now mid)) (c.frames ∙ ap (λ x. x ++ c.more) e))
+    ∙ c.delivers

@@ -1,5 +1,5 @@
 -- What single pipes do.
-use Rattle.std.specs.Prelude.{ℕ, Bool, true, List, [], ◌∷◌, Option, Some, if◌then◌else◌}
+use Rattle.std.specs.Prelude.{ℕ, Bool, true, false, List, [], ◌∷◌, Option, None, Some, slice_get, if◌then◌else◌}
 use Rattle.sg_msg.specs.Message.{Content}
 use Rattle.sg_filter.specs.Decisions.{decides}
 use Rattle.sg_rewrite.specs.Rewritten.{rewritten}
@@ -33,3 +33,18 @@ start_of (test ∷ tests) other m = if decides test.filter m then Some test.star
 abbrev pub start_at : Pipe → Option ℕ → Content → Option ℕ
 start_at (pipe.If tests next_other next) other m = start_of tests.items other m
 start_at _ other m = other
+
+-- a list ends there
+abbrev pub is_end : Option Pipe → Bool
+is_end (Some pipe.End) = true
+is_end _ = false
+
+abbrev pub only_driver : List ℕ → Option ℕ
+only_driver (driver ∷ []) = Some driver
+only_driver _ = None
+
+-- the driver of a delivery to it alone, with which a list ends
+abbrev pub last_driver : List Pipe → Option Pipe → Option ℕ
+last_driver pipes (Some (pipe.Deliver drivers next)) =
+    if is_end (slice_get pipes next) then only_driver drivers.items else None
+last_driver pipes _ = None

@@ -1,5 +1,5 @@
 -- What a turn of the work does.
-use Rattle.std.specs.Prelude.{◌≡◌, ℕ, Bool, List, ◌++◌, reverse}
+use Rattle.std.specs.Prelude.{◌≡◌, ℕ, Bool, true, false, List, ◌++◌, reverse}
 use Rattle.sg_msg.specs.Message.{Content}
 use Rattle.sg_tree.specs.Walk.{Walked}
 use Rattle.sg_table.specs.declared.pipe.Pipe.{Pipe}
@@ -21,6 +21,17 @@ pub record Comes (pipes : List Pipe) (made : Walked) (old new : Work) : Type 0 w
   pub more : List Frame
   pub frames : new.frames.items ≡ old.frames.items ++ more
   pub comes : run pipes old.offered.items (reverse more) (now new) ≡ made
+
+-- the same of the deliveries alone, where no one waits for what comes out
+pub record Delivers (pipes : List Pipe) (made : Walked) (old new : Work) : Type 0 where
+  pub offered : new.offered ≡ old.offered
+  pub more : List Frame
+  pub frames : new.frames.items ≡ old.frames.items ++ more
+  pub delivers : (run pipes old.offered.items (reverse more) (now new)).deliveries ≡ made.deliveries
+
+abbrev pub ComesTo : Bool → List Pipe → Walked → Work → Work → Type 0
+ComesTo true = Delivers
+ComesTo false = Comes
 
 abbrev pub Turns : List Pipe → Frame → Work → Work → Type 0
 Turns pipes frame old new = Comes pipes (does pipes old.offered.items frame (now old)) old new

@@ -1,7 +1,7 @@
 // What single pipes do.
 ghost use Rattle.std.specs.Prelude.{◌≡◌, ◌<◌, ◌^◌, true, false, [], ◌∷◌, IfOk, IfSome, OnOk, slice_get};
 ghost use Rattle.sg_pipes.specs.Frames.{IsOver, group_of, has_fallback};
-ghost use Rattle.sg_pipes.specs.Pipes.{changed, is_met, lets_pass, rewritten_at, start_at, start_of};
+ghost use Rattle.sg_pipes.specs.Pipes.{changed, is_end, is_met, last_driver, only_driver, lets_pass, rewritten_at, start_at, start_of};
 
 use crate::frame::Group;
 use sg_msg::Message;
@@ -57,6 +57,40 @@ pub(crate) fn rewrite(
         apply(alloc, pipe, message)?;
     }
     Ok(())
+}
+
+// Whether a list ends there.
+fn is_end(pipes: &[Pipe], at: u32) -> bool
+    ensures { result ≡ is_end (slice_get pipes.now at) }
+{
+    match pipes.get(at as usize) {
+        Some(Pipe::End) => true,
+        _ => false,
+    }
+}
+
+fn only_driver(drivers: &[u32]) -> Option<u32>
+    ensures { result ≡ only_driver drivers.now }
+{
+    match drivers {
+        [driver] => Some(*driver),
+        _ => None,
+    }
+}
+
+/// The driver of a delivery to it alone, with which a list ends, if that stands there.
+pub(crate) fn last_driver(pipes: &[Pipe], at: u32) -> Option<u32>
+    ensures { result ≡ last_driver pipes.now (slice_get pipes.now at) }
+{
+    match pipes.get(at as usize) {
+        Some(Pipe::Deliver { drivers, next }) => {
+            if is_end(pipes, *next) {
+                return only_driver(drivers);
+            }
+            None
+        }
+        _ => None,
+    }
 }
 
 /// The sibling at this place of the group.

@@ -1,6 +1,6 @@
 // The work that waits, and its turns.
 ghost use Rattle.std.specs.Prelude.{◌≡◌, ◌||◌, true, false, [], ◌∷◌, ◌++◌, IfOk, OnOk, List};
-ghost use Rattle.sg_tree.specs.Walk.{after_deliveries, branches, stopped, walk};
+ghost use Rattle.sg_tree.specs.Walk.{after_deliveries, branches, deliveries_to, stopped, walk};
 ghost use Rattle.sg_table.specs.Table.{IsTable, steps_at};
 ghost use Rattle.sg_table.specs.declared.pipe.Pipe.{Pipe as APipe};
 ghost use Rattle.sg_pipes.specs.Chosen.{branches_for, is_for};
@@ -8,12 +8,12 @@ ghost use Rattle.sg_pipes.specs.declared.frame.Frame.TheVariants as frame;
 ghost use Rattle.sg_pipes.specs.declared.frame.Group.TheVariants.{Offered};
 ghost use Rattle.sg_pipes.specs.Frames.{IsFirst, does, from};
 ghost use Rattle.sg_pipes.specs.Messages.{messages_of};
-ghost use Rattle.sg_pipes.specs.Turns.{Comes, Passes, Turns, Works, now};
+ghost use Rattle.sg_pipes.specs.Turns.{Comes, ComesTo, Delivers, Passes, Turns, Works, now};
 
 use crate::frame::{Frame, Group, Passed, Trial, Wait};
 use crate::gone::Gone;
 use crate::messages::{Messages, reversed, take_last};
-use crate::pipe::{alone, branch_at, choose, is_over, passes, rewrite};
+use crate::pipe::{alone, branch_at, choose, is_over, last_driver, passes, rewrite};
 use sg_msg::{Message, Offer};
 use sg_table::{Branch, Pipe, Top};
 use sg_tree::deliver;
@@ -154,13 +154,13 @@ impl Work {
         let flow = flow | branch.flow;
         let drop_unmatched = branch.drop_unmatched;
         if left.adds_nothing(drop_unmatched) {
-            return self.walk(pipes, branch.start, message, flow);
+            return self.walk(pipes, branch.start, message, flow, false);
         }
         self.frames.push(Frame::Last {
             left,
             drop_unmatched,
         })?;
-        self.walk(pipes, branch.start, message, flow)
+        self.walk(pipes, branch.start, message, flow, false)
     }
 
     // Walks a sibling of the round, behind which the next one is tried.
@@ -189,7 +189,7 @@ impl Work {
             is_final: branch.is_final,
             drop_unmatched: branch.drop_unmatched,
         })?;
-        self.walk(pipes, branch.start, message, flow)
+        self.walk(pipes, branch.start, message, flow, false)
     }
 
     fn try_next(&mut self, pipes: &mut Vec<Pipe>, trial: Trial) -> Result<(), AllocError>
@@ -229,14 +229,14 @@ impl Work {
         flow: bool,
     ) -> Result<(), AllocError>
         requires { IsTable pipes.old.items }
-        ensures comes { OnOk result (Comes pipes.old.items
+        ensures delivers { OnOk result (Delivers pipes.old.items
             (after_deliveries (now self.old).deliveries
             (branches (from pipes.old.items self.old.offered.items Offered 0) message flow))
             self.old self.new) }
         ensures stays { pipes.new.items ≡ pipes.old.items }
     {
         match alone(&self.offered) {
-            Some(branch) => self.walk(pipes, branch.start, message, flow | branch.flow),
+            Some(branch) => self.walk(pipes, branch.start, message, flow | branch.flow, true),
             None => self.try_next(pipes, first_trial(Group::Offered, message, flow)),
         }
     }
@@ -412,22 +412,44 @@ impl Work {
         }
     }
 
-    // Walks the pipes from there on, until the message is stopped or arrives.
+    // Offers the message itself to the driver.
+    fn hand_over(&mut self, dest: u32, message: Message, flow: bool) -> Result<(), AllocError>
+        ensures { OnOk result ((self.new.offers.items
+            ≡ self.old.offers.items ++ deliveries_to (dest ∷ []) message flow)
+            × (self.new.frames ≡ self.old.frames) × (self.new.offered ≡ self.old.offered)) }
+    {
+        self.offers.push(Offer {
+            dest,
+            message,
+            flow,
+        })?;
+        Ok(())
+    }
+
+    // Walks the pipes from there on, until the message is stopped or arrives. Where no one waits for what comes
+    // out, the last delivery has the message itself.
     fn walk(
         &mut self,
         pipes: &mut Vec<Pipe>,
         start: u32,
         given: Message,
         flow: bool,
+        alone: bool,
     ) -> Result<(), AllocError>
         requires { IsTable pipes.old.items }
-        ensures turns { OnOk result
-            (Turns pipes.old.items (frame.Walk start given flow) self.old self.new) }
+        ensures comes { OnOk result (ComesTo alone pipes.old.items
+            (does pipes.old.items self.old.offered.items (frame.Walk start given flow)
+            (now self.old)) self.old self.new) }
         ensures stays { pipes.new.items ≡ pipes.old.items }
     {
         let mut at = start;
         let mut message = given;
         'elements: for _ in 0..pipes.len() {
+            if alone {
+                if let Some(driver) = last_driver(pipes, at) {
+                    return self.hand_over(driver, message, flow);
+                }
+            }
             match self.pass(pipes, at, &mut message, flow)? {
                 Passed::On(next) => at = next,
                 Passed::Stopped => return Ok(()),
@@ -443,7 +465,7 @@ impl Work {
         ensures stays { pipes.new.items ≡ pipes.old.items }
     {
         match frame {
-            Frame::Walk { at, message, flow } => self.walk(pipes, at, message, flow),
+            Frame::Walk { at, message, flow } => self.walk(pipes, at, message, flow, false),
             Frame::Try(trial) => self.try_next(pipes, trial),
             Frame::Tried {
                 trial,

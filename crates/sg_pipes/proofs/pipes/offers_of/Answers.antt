@@ -19,9 +19,9 @@ returns-clause-offers c =
     let inlet = c.args.inlet in
     let cleared = c.in_ok-clear.ensures in
     let works = subst (λ (ps : List Pipe). Works ps c.offer.new.self c.work.new.self) c.in_ok-offer.ensures.stays c.in_ok-work.ensures.works in
-    let done = done-is all _ _ c.offer.new.self c.work.new.self cleared.1 c.in_ok-offer.ensures.comes works in
+    let done = done-is all _ _ c.offer.new.self c.work.new.self cleared.1 c.in_ok-offer.ensures.delivers works in
     ap (λ (v : Vec Offer Global). v.items) c.replace.ensures.value
-    ∙ ap (λ (w : Walked). w.deliveries) done
+    ∙ done
     ∙ ap (λ (x : List Offer). x ++ (branches (siblings_of (branches_at at c.clear.new.self.offered.items)) m false).deliveries) cleared.2
     ∙ ap (λ (bs : List Branch). (branches (siblings_of (branches_at at bs)) m false).deliveries) (cleared.0 ∙ ap (λ (x : List Top). branches_for inlet x) c.deref.ensures.value)
     ∙ ap (λ (s : Siblings). (branches s m false).deliveries) (chosen-offered at inlet c.args.table.now.tops.items)

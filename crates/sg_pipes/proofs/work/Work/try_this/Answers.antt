@@ -32,4 +32,4 @@ returns-clause-comes c =
     let b = c.args.branch in
     let frame = Tried trial b.is_final b.drop_unmatched in
     let same = ap (λ (x : Content). does pipes old.offered.items frame (after_deliveries old.offers.items (walk (steps_at pipes b.start) x (trial.flow || b.flow)))) c.in_ok-message.ensures in
-    on_ok_weaker c.walk.result (λ h. comes-as pipes _ _ _ _ same (comes-behind pipes _ old _ _ frame refl c.in_ok-push.ensures.items h)) c.walk.ensures.turns
+    on_ok_weaker c.walk.result (λ h. comes-as pipes _ _ _ _ same (comes-behind pipes _ old _ _ frame refl c.in_ok-push.ensures.items h)) c.walk.ensures.comes
