@@ -22,16 +22,16 @@ pub(crate) fn alone() -> Width
     }
 }
 
-/// Over so many threads in all. Sources have three quarters of them, where they are as many: to read
-/// and filter takes longer than to send.
+/// For each kind three quarters of so many threads, for sources where they are as many. More of them hand the
+/// core to one another more often than they gain.
 pub(crate) fn spread_over(threads: usize, sources: usize) -> Width
     requires { 0 < threads }
     ensures { IsWidth result }
 {
-    let readers = (threads - threads / 4).min(sources).max(1);
+    let each = (threads - threads / 4).max(1);
     Width {
-        readers,
-        senders: threads.saturating_sub(readers).max(1),
+        readers: each.min(sources).max(1),
+        senders: each,
         beside: 2,
     }
 }
