@@ -1,5 +1,5 @@
 -- The stores of two sources and two destinations.
-use Rattle.std.proofs.Common.{arith, ◌≡◌, List, [], ◌∷◌, ◌++◌, length, slice_get, ◌<◌, ◌≤◌, ◌*◌, ◌^◌, ℕ, refl, ap, zero, suc, sym, ◌∙◌, subst, Some, None}
+use Rattle.std.proofs.Common.{arith, ◌≡◌, List, [], ◌∷◌, ◌++◌, length, slice_get, ◌<◌, ◌≤◌, ◌^◌, ℕ, refl, ap, zero, suc, sym, ◌∙◌, subst, Some, None}
 use Rattle.sg_device.specs.Inlet.{InletState}
 use Rattle.sg_device.specs.Outlet.{OutletState}
 use Rattle.sg_counter.specs.Bringing.{store_in}
@@ -36,29 +36,28 @@ numbers-tried = record {
 pub numbers : (setup : Setup) (count : ℕ) → setup ≡ tried → count ≡ 2 → NumberStores setup count
 numbers setup count is two = subst (λ s. NumberStores s count) (sym is) (subst (λ n. NumberStores tried n) (sym two) numbers-tried)
 
--- The stores of two sources and a destination, of which some meet.
+-- The stores of a source and a destination that meet.
 
-even-store : (i s : ℕ) → store_in meeting.sources i ≡ Some s → (s ≡ 2 * i) × (i < 2)
-even-store zero s e = let is = some-same 0 s e in (sym is, omega arith)
-even-store (suc zero) s e = let is = some-same 2 s e in (sym is, omega arith)
-even-store (suc (suc i)) s e = absurd (let wrong : None ≡ Some s = e in cc)
+one-store : (i s : ℕ) → store_in meeting.sources i ≡ Some s → (i ≡ 0) × (s ≡ 0)
+one-store zero s e = let is = some-same 0 s e in (refl, sym is)
+one-store (suc i) s e = absurd (let wrong : None ≡ Some s = e in cc)
 
 one-buffer : (d s : ℕ) → buffer_store_in meeting.dests d ≡ Some s → (d ≡ 0) × (s ≡ 1)
 one-buffer zero s e = let is = some-same 1 s e in (refl, sym is)
 one-buffer (suc zero) s e = absurd (let wrong : None ≡ Some s = e in cc)
 one-buffer (suc (suc d)) s e = absurd (let wrong : None ≡ Some s = e in cc)
 
-numbers-meeting : NumberStores meeting 3
+numbers-meeting : NumberStores meeting 2
 numbers-meeting = record {
-  positions = λ i s e. (let h = even-store i s e in omega (arith, h.0, h.1));
+  positions = λ i s e. (let h = one-store i s e in omega (arith, h.1));
   buffers = λ d s e. (let h = one-buffer d s e in omega (arith, h.1));
-  inlets_apart = λ i j s e q. (let h = even-store i s e in let k = even-store j s q in omega (arith, h.0, k.0));
+  inlets_apart = λ i j s e q. (one-store i s e).0 ∙ sym (one-store j s q).0;
   dests_apart = λ d e s h k. (one-buffer d s h).0 ∙ sym (one-buffer e s k).0;
-  apart = λ i d s e q. (let h = even-store i s e in let k = one-buffer d s q in omega (arith, h.0, k.1));
+  apart = λ i d s e q. (let h = one-store i s e in let k = one-buffer d s q in omega (arith, h.1, k.1));
 }
 
-pub meeting-numbers : (setup : Setup) (count : ℕ) → setup ≡ meeting → count ≡ 3 → NumberStores setup count
-meeting-numbers setup count is three = subst (λ s. NumberStores s count) (sym is) (subst (λ n. NumberStores meeting n) (sym three) numbers-meeting)
+pub meeting-numbers : (setup : Setup) (count : ℕ) → setup ≡ meeting → count ≡ 2 → NumberStores setup count
+meeting-numbers setup count is two = subst (λ s. NumberStores s count) (sym is) (subst (λ n. NumberStores meeting n) (sym two) numbers-meeting)
 
 small : (buffer : BufferSetup) → Some (record { store = 1; capacity = 1000 }) ≡ Some buffer → buffer.capacity ≤ 2 ^ 30
 small buffer h =
@@ -80,17 +79,16 @@ capacities-meeting (suc (suc d)) setup buffer get has = absurd (let wrong : None
 pub meeting-capacities : (setup : Setup) → setup ≡ meeting → HaveCapacities setup.dests
 meeting-capacities setup is = subst (λ (s : Setup). HaveCapacities s.dests) (sym is) capacities-meeting
 
--- Lists of two sources, and of two destinations.
+-- Lists of one source, and of two destinations.
 
-pub two-sources : {R I : Type 0} (state : I → InletState) (inlets dests : R → ℕ) (setup : Setup) (held mid none : List (SourceActor R I)) (a b : SourceActor R I)
-    → length setup.sources ≡ 2 → IsSource state inlets dests setup 0 a → IsSource state inlets dests setup 1 b → none ≡ [] → mid ≡ none ++ a ∷ [] → held ≡ mid ++ b ∷ [] → AreSources state inlets dests setup held
-two-sources {R} {I} state inlets dests setup held mid none a b count is second empty e f =
-    subst (AreSources state inlets dests setup) (sym (f ∙ ap (λ l. l ++ b ∷ []) (e ∙ ap (λ l. l ++ a ∷ []) empty))) (record { all = sym count; each = each })
+pub one-source : {R I : Type 0} (state : I → InletState) (inlets dests : R → ℕ) (setup : Setup) (held none : List (SourceActor R I)) (a : SourceActor R I)
+    → length setup.sources ≡ 1 → IsSource state inlets dests setup 0 a → none ≡ [] → held ≡ none ++ a ∷ [] → AreSources state inlets dests setup held
+one-source {R} {I} state inlets dests setup held none a count is empty e =
+    subst (AreSources state inlets dests setup) (sym (e ∙ ap (λ l. l ++ a ∷ []) empty)) (record { all = sym count; each = each })
   where
-    each : (i : ℕ) (x : SourceActor R I) → slice_get (a ∷ b ∷ []) i ≡ Some x → IsSource state inlets dests setup i x
+    each : (i : ℕ) (x : SourceActor R I) → slice_get (a ∷ []) i ≡ Some x → IsSource state inlets dests setup i x
     each zero x there = subst (IsSource state inlets dests setup 0) (some-same a x there) is
-    each (suc zero) x there = subst (IsSource state inlets dests setup 1) (some-same b x there) second
-    each (suc (suc i)) x there = absurd (let wrong : None ≡ Some x = there in cc)
+    each (suc i) x there = absurd (let wrong : None ≡ Some x = there in cc)
 
 pub two-dests : {O : Type 0} (state : O → OutletState) (setup : Setup) (held mid none : List (DestActor O)) (a b : DestActor O)
     → length setup.dests ≡ 2 → IsDest state 0 a → IsDest state 1 b → none ≡ [] → mid ≡ none ++ a ∷ [] → held ≡ mid ++ b ∷ [] → AreDests state setup held

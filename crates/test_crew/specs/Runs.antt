@@ -9,10 +9,10 @@ tried = record {
   dests = record { fifo = 100; buffer = None } ∷ record { fifo = 100; buffer = None } ∷ [];
 }
 
--- two sources with stores of their own, a destination with a disk-buffer, and one with a queue in memory
+-- a source with a store of its own, a destination with a disk-buffer, and one with a queue in memory
 abbrev pub meeting : Setup
 meeting = record {
-  sources = record { window = 1000; store = Some 0 } ∷ record { window = 1000; store = Some 2 } ∷ [];
+  sources = record { window = 100; store = Some 0 } ∷ [];
   dests = record { fifo = 100; buffer = Some (record { store = 1; capacity = 1000 }) } ∷ record { fifo = 100; buffer = None } ∷ [];
 }
 

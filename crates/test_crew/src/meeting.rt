@@ -1,4 +1,4 @@
-// Two sources and two destinations, of which one each wait for each other.
+// A source and a destination whose turns wait for each other.
 ghost use Rattle.std.specs.Prelude.{◌≡◌, ◌<◌, ◌++◌, ◌∷◌, [], IfOk, length};
 ghost use Rattle.sg_memory.specs.Inlet.{inlet_of};
 ghost use Rattle.sg_memory.specs.Outlet.{outlet_of};
@@ -28,14 +28,8 @@ use std::sync::Wait;
 use std::sync::atomic::{AtomicU64, Ordering};
 use std::test::Fail;
 use std::thread;
-use std::thread::{Threads, available_parallelism};
+use std::thread::Threads;
 use std::time::{Clock, Duration};
-
-// How many lines a file has.
-const LINES: u64 = 400;
-
-// One that meets nobody.
-const NEVER: u64 = u64::MAX;
 
 // Which of both has come, and how many have seen the other one.
 #[derive(Drop)]
@@ -57,12 +51,12 @@ fn meet<T: Clock>(rt: &T, mine: &AtomicU64, theirs: &AtomicU64, seen: &AtomicU64
     }
 }
 
-// A file of which one pull meets a send, the one behind so many others.
+// A file whose first pull meets a send.
 #[derive(Drop)]
 struct MeetingInlet<'a, T> {
     rt: &'a T,
     flags: &'a Flags,
-    before: u64,
+    met: bool,
     inner: MemoryInlet,
 }
 
@@ -72,7 +66,8 @@ impl<'a, T: Clock> Inlet for MeetingInlet<'a, T> {
     ghost state = { λ inlet. inlet_of inlet.inner };
 
     fn pull(&mut self, into: &mut [u8]) -> Result<Pull, InletFault> {
-        if self.before == 0 {
+        if !self.met {
+            self.met = true;
             meet(
                 self.rt,
                 &self.flags.pulled,
@@ -80,7 +75,6 @@ impl<'a, T: Clock> Inlet for MeetingInlet<'a, T> {
                 &self.flags.seen,
             );
         }
-        self.before = self.before.wrapping_sub(1);
         self.inner.pull(into)
     }
 
@@ -93,12 +87,12 @@ impl<'a, T: Clock> Inlet for MeetingInlet<'a, T> {
     }
 }
 
-// A destination of which one send meets a pull, the one behind so many others.
+// A destination whose first send meets a pull.
 #[derive(Drop)]
 struct MeetingOutlet<'a, T> {
     rt: &'a T,
     flags: &'a Flags,
-    before: u64,
+    met: bool,
     inner: MemoryOutlet,
 }
 
@@ -108,7 +102,8 @@ impl<'a, T: Clock> Outlet for MeetingOutlet<'a, T> {
     ghost state = { λ outlet. outlet_of outlet.inner };
 
     fn send(&mut self, frames: &Frames) -> Result<(), SendRefusal> {
-        if self.before == 0 {
+        if !self.met {
+            self.met = true;
             meet(
                 self.rt,
                 &self.flags.sent,
@@ -116,7 +111,6 @@ impl<'a, T: Clock> Outlet for MeetingOutlet<'a, T> {
                 &self.flags.seen,
             );
         }
-        self.before = self.before.wrapping_sub(1);
         self.inner.send(frames)
     }
 
@@ -134,12 +128,8 @@ fn setup(alloc: Global) -> Result<Setup, Fail>
 {
     let mut sources = Seq::empty(alloc);
     sources.push(SourceSetup {
-        window: 1000,
+        window: 100,
         store: Some(0),
-    })?;
-    sources.push(SourceSetup {
-        window: 1000,
-        store: Some(2),
     })?;
     let mut dests = Seq::empty(alloc);
     dests.push(DestSetup {
@@ -160,7 +150,6 @@ fn disks(alloc: Global) -> Result<Vec<MemoryDisk>, Fail> {
     let mut disks = Vec::new(alloc);
     disks.push(MemoryDisk::new(alloc, vec![in alloc; 0u8; 128]?)?)?;
     disks.push(MemoryDisk::new(alloc, vec![in alloc; 0u8; 128]?)?)?;
-    disks.push(MemoryDisk::new(alloc, vec![in alloc; 0u8; 128]?)?)?;
     Ok(disks)
 }
 
@@ -169,7 +158,7 @@ fn open(alloc: Global, disks: Vec<MemoryDisk>) -> Result<Core<MemoryDisk>, Fail>
     ensures calls { IfOk result (λ core. core.calls ≡ 0) }
 {
     let setup = setup(alloc)?;
-    if disks.len() != 3 {
+    if disks.len() != 2 {
         return Err(Fail::new("disks"));
     }
     match Core::open(alloc, setup, disks) {
@@ -211,42 +200,31 @@ fn recovered(alloc: Global) -> Result<Core<MemoryDisk>, Fail>
     open(alloc, disks)
 }
 
-// Lines of the first destination, as many as make a round worth its threads together with those of another file.
-fn lines(alloc: Global) -> Result<Vec<u8>, Fail> {
-    let mut text = Vec::new(alloc);
-    for _ in 0..LINES {
-        text.extend_from_slice(b"0\n")?;
-    }
-    Ok(text)
-}
-
 fn source<'a, T: Clock>(
     rt: &'a T,
     alloc: Global,
     flags: &'a Flags,
-    inlet: u32,
-    before: u64,
 ) -> Result<SourceActor<ByDigit, MeetingInlet<'a, T>>, Fail>
-    requires { inlet < 2 }
-    ensures { IfOk result (λ a. IsSource (λ inlet. inlet_of inlet.inner) two two meeting inlet a) }
+    ensures { IfOk result (λ a. IsSource (λ inlet. inlet_of inlet.inner) two two meeting 0 a) }
 {
-    let pace = Pace { piece: 4096, at: 0 };
-    let text = lines(alloc)?;
-    let file = MeetingInlet {
+    let pace = Pace { piece: 64, at: 0 };
+    let mut text = Vec::new(alloc);
+    text.extend_from_slice(b"0\n")?;
+    let inlet = MeetingInlet {
         rt,
         flags,
-        before,
+        met: false,
         inner: MemoryInlet::file(alloc, text, 0, pace, true, Plan::new(Vec::new(alloc)))?,
     };
     let spec = SourceSpec {
-        inlet,
+        inlet: 0,
         kind: FrameKind::Lines,
         limit: 100,
-        fetch: 1000,
+        fetch: 100,
         from: 0,
         stored: true,
     };
-    match SourceActor::new(alloc, file, ByDigit { routed: 0 }, spec) {
+    match SourceActor::new(alloc, inlet, ByDigit { routed: 0 }, spec) {
         Ok(source) => Ok(source),
         Err(_) => Err(Fail::new("memory")),
     }
@@ -257,7 +235,6 @@ fn dest<'a, T: Clock>(
     alloc: Global,
     flags: &'a Flags,
     dest: u32,
-    before: u64,
 ) -> Result<DestActor<MeetingOutlet<'a, T>>, Fail>
     ensures { IfOk result (λ a. IsDest (λ outlet. outlet_of outlet.inner) dest a) }
 {
@@ -269,7 +246,7 @@ fn dest<'a, T: Clock>(
     let outlet = MeetingOutlet {
         rt,
         flags,
-        before,
+        met: dest == 1,
         inner: MemoryOutlet::new(alloc, plan),
     };
     let Ok(template) = Template::read(alloc, b"$MSG ") else {
@@ -337,20 +314,12 @@ fn sources<'a, T: Clock>(
     rt: &'a T,
     alloc: Global,
     flags: &'a Flags,
-    before: u64,
 ) -> Result<Vec<SourceActor<ByDigit, MeetingInlet<'a, T>>>, Fail>
     ensures { IfOk result
         (λ held. AreSources (λ inlet. inlet_of inlet.inner) two two meeting held.items) }
 {
-    let first = source(rt, alloc, flags, 0, before)?;
-    let sources = with_source(Vec::new(alloc), first)?;
-    match source(rt, alloc, flags, 1, NEVER) {
-        Ok(second) => Ok(with_source(sources, second)?),
-        Err(e) => {
-            close_sources(sources);
-            Err(e)
-        }
-    }
+    let first = source(rt, alloc, flags)?;
+    Ok(with_source(Vec::new(alloc), first)?)
 }
 
 fn with_dest<'a, T: Clock>(
@@ -373,13 +342,12 @@ fn dests<'a, T: Clock>(
     rt: &'a T,
     alloc: Global,
     flags: &'a Flags,
-    before: u64,
 ) -> Result<Vec<DestActor<MeetingOutlet<'a, T>>>, Fail>
     ensures { IfOk result (λ held. AreDests (λ outlet. outlet_of outlet.inner) meeting held.items) }
 {
-    let first = dest(rt, alloc, flags, 0, before)?;
+    let first = dest(rt, alloc, flags, 0)?;
     let dests = with_dest(Vec::new(alloc), first)?;
-    match dest(rt, alloc, flags, 1, NEVER) {
+    match dest(rt, alloc, flags, 1) {
         Ok(second) => Ok(with_dest(dests, second)?),
         Err(e) => {
             close_dests(dests);
@@ -388,17 +356,14 @@ fn dests<'a, T: Clock>(
     }
 }
 
-// How many of a pull and a send of one round, the one behind so many others, have seen the other one.
+// How many of a pull and a send of one round have seen the other one.
 fn met<T: Threads + Wait + Sync + Clock>(
     rt: &T,
     alloc: Global,
     flags: &Flags,
-    before: u64,
-) -> Result<u64, Fail>
-    requires { before < 8 }
-{
-    let sources = sources(rt, alloc, flags, before)?;
-    let dests = match dests(rt, alloc, flags, before) {
+) -> Result<u64, Fail> {
+    let sources = sources(rt, alloc, flags)?;
+    let dests = match dests(rt, alloc, flags) {
         Ok(dests) => dests,
         Err(e) => {
             close_sources(sources);
@@ -413,33 +378,17 @@ fn met<T: Threads + Wait + Sync + Clock>(
             return Err(e);
         }
     };
-    close(serve(rt, alloc, core, sources, dests, before + 1));
+    close(serve(rt, alloc, core, sources, dests, 1));
     Ok(flags.seen.load(Ordering::SeqCst))
 }
 
-// How many processors there are.
-fn processors<T: Threads>(rt: &T) -> usize {
-    match available_parallelism(rt) {
-        Ok(count) => count.get(),
-        Err(_) => 1,
-    }
-}
-
-// Behind the first round turns are taken on threads where there are two processors.
 #[test]
 fn actors_in_turn(rt: HostRuntime) -> Result<(), Fail> {
-    for before in 0..2 {
-        let flags = Flags {
-            pulled: AtomicU64::new(0),
-            sent: AtomicU64::new(0),
-            seen: AtomicU64::new(0),
-        };
-        let wanted = if before > 0 && processors(&rt) < 2 {
-            1
-        } else {
-            2
-        };
-        assert!(rt; met(&rt, rt.alloc(), &flags, before)? == wanted, "{before}");
-    }
+    let flags = Flags {
+        pulled: AtomicU64::new(0),
+        sent: AtomicU64::new(0),
+        seen: AtomicU64::new(0),
+    };
+    assert!(rt; met(&rt, rt.alloc(), &flags)? == 2);
     Ok(())
 }

@@ -30,7 +30,7 @@ use std::thread::Threads;
 // stored position of each file. A line that begins with 1 goes to the second destination, and its second
 // letter tells its file: of two files, whose lines come first is free. A file `many N` has N lines, in turn to the
 // one destination and the other, and `all N` is what they take of two such files. The first round of each run is
-// taken on threads, and later ones of the last row.
+// taken on threads.
 const ROWS: &str = "\
 each line to its destination / 0a1$1a2$0a3$ / 1b1$0b2$1b3$ / / / 20 / quiet / 0a1 0a3 0b2 | 1a2 1b1 1b3 | / 12 12
 two empty files / / / / / 20 / quiet / | | / 0 0
