@@ -108,6 +108,12 @@ abbrev pub Fails : (failed failed' : Bool) → (faults faults' : ℕ) → Type 0
 Fails failed failed' faults faults' = (failed ≡ true → failed' ≡ true)
     × (failed ≡ false → failed' ≡ true → Rose faults faults')
 
+-- At most one pull was made. The end isn't forgotten, nor is a pull that failed, which let the count of faults rise.
+pub record PullsAtMost (old new : SourceState) : Type 0 where
+  pub pulls : new.feed.pulls ≤ old.feed.pulls + 1
+  pub ended : old.reader.ended ≡ true → new.reader.ended ≡ true
+  pub failing : Fails old.reader.failed new.reader.failed old.feed.faults new.feed.faults
+
 -- the inlet was pulled once
 pub record PullsOnce (dests : ℕ) (spec : SourceSpec) (old new : SourceState) (idle : Bool) : Type 0 where
   pub rests : Rests dests spec old new

@@ -2,7 +2,7 @@
 ghost use Rattle.std.specs.Prelude.{◌≡◌, ◌≤◌, ◌<◌, ◌+◌, length, max, true};
 ghost use Rattle.sg_actor.specs.Sources.{source, IsReady};
 ghost use Rattle.sg_actor.specs.Bringing.{ReadsOn};
-ghost use Rattle.sg_actor.specs.Steps.{is_spent, is_over, Keeps, Finds, ReadsAll, IsAsBefore, SameRouter, Fails};
+ghost use Rattle.sg_actor.specs.Steps.{is_spent, is_over, Keeps, Finds, PullsAtMost, ReadsAll, IsAsBefore, SameRouter, Fails};
 
 use crate::SourceSpec;
 use crate::admitting::hand_in;
@@ -100,10 +100,8 @@ fn find_work<R: Router, I: Inlet>(
     ensures finds { Finds (source (I.state inlet.old) reader.old buffer.old)
         (source (I.state inlet.new) reader.new buffer.new) result }
     ensures few { length reader.new.held ≤ max (length reader.old.held) most }
-    ensures ended { reader.old.ended ≡ true → reader.new.ended ≡ true }
-    ensures pulls { (I.state inlet.new).pulls ≤ (I.state inlet.old).pulls + 1 }
-    ensures failing { Fails reader.old.failed reader.new.failed
-        (I.state inlet.old).faults (I.state inlet.new).faults }
+    ensures pulled { PullsAtMost (source (I.state inlet.old) reader.old buffer.old)
+        (source (I.state inlet.new) reader.new buffer.new) }
     ensures router { SameRouter (R.offers router.old) (R.offers router.new) (R.inlets router.old)
         (R.inlets router.new) (R.dests router.old) (R.dests router.new) }
 {

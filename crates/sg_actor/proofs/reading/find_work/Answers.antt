@@ -60,9 +60,6 @@ returns-then-pull_once-clause-finds g c =
       pulls.rests.held ∙ (spent-of r c.args.most (sym c.is_spent.ensures ∙ c.if-not-is_spent.false) c.requires.some c.in_ok-read_whole.ensures.reads.0 c.in_ok-read_whole.ensures.reads.1).held,
     )
 
-pub returns-then-pull_once-clause-pulls : goal.returns-then-pull_once-clause-pulls
-returns-then-pull_once-clause-pulls g c = (c.pull_once.ensures (g.R.Router.dests c.args.router.now) c.args.spec.now c.in_ok-read_whole.ensures.keeps.ready).pulls
-
 pub read_whole-requires-2-clause-ready : goal.read_whole-requires-2-clause-ready
 read_whole-requires-2-clause-ready g c =
     let pulls = c.pull_once.ensures (g.R.Router.dests c.args.router.now) c.args.spec.now c.in_ok-read_whole.ensures.keeps.ready in
@@ -76,9 +73,6 @@ returns-in_err-read_whole-2-clause-keeps g c =
     keeps-rest (g.R.Router.offers c.args.router.now) (g.R.Router.offers c.read_whole.new.router) (g.R.Router.dests c.args.router.now) (g.R.Router.dests c.read_whole.new.router) c.args.spec.now
     (source feed c.args.reader.now c.args.buffer.now) (source feed c.read_whole.new.reader c.args.buffer.now) (source feed' c.pull_once.new.reader c.pull_once.new.buffer) (source feed' c.read_whole-2.new.reader c.pull_once.new.buffer)
     c.pull_once.result c.in_ok-read_whole.ensures.keeps c.pull_once.ensures router.same router.dests_same c.in_err-read_whole-2.ensures.keeps
-
-pub returns-in_err-read_whole-2-clause-pulls : goal.returns-in_err-read_whole-2-clause-pulls
-returns-in_err-read_whole-2-clause-pulls g c = (c.pull_once.ensures (g.R.Router.dests c.args.router.now) c.args.spec.now c.in_ok-read_whole.ensures.keeps.ready).pulls
 
 pub returns-clause-keeps : goal.returns-clause-keeps
 returns-clause-keeps g c =
@@ -104,69 +98,6 @@ returns-clause-finds g c =
       λ e. absurd (let differ : true ≡ false = e in cc),
     )
 
-pub returns-clause-pulls : goal.returns-clause-pulls
-returns-clause-pulls g c = (c.pull_once.ensures (g.R.Router.dests c.args.router.now) c.args.spec.now c.in_ok-read_whole.ensures.keeps.ready).pulls
-
-pub returns-in_err-read_whole-clause-failing : goal.returns-in_err-read_whole-clause-failing
-returns-in_err-read_whole-clause-failing g c =
-    let faults = (g.I.Inlet.state c.args.inlet.now).faults in
-    fails-same c.args.reader.now.failed c.read_whole.new.reader.failed faults faults c.in_err-read_whole.ensures.before.failed
-
-pub returns-then-not-is_spent-clause-failing : goal.returns-then-not-is_spent-clause-failing
-returns-then-not-is_spent-clause-failing g c =
-    let faults = (g.I.Inlet.state c.args.inlet.now).faults in
-    fails-same c.args.reader.now.failed c.read_whole.new.reader.failed faults faults c.in_ok-read_whole.ensures.before.failed
-
-pub returns-then-is_over-clause-failing : goal.returns-then-is_over-clause-failing
-returns-then-is_over-clause-failing g c =
-    let faults = (g.I.Inlet.state c.args.inlet.now).faults in
-    fails-same c.args.reader.now.failed c.read_whole.new.reader.failed faults faults c.in_ok-read_whole.ensures.before.failed
-
-pub returns-then-pull_once-clause-failing : goal.returns-then-pull_once-clause-failing
-returns-then-pull_once-clause-failing g c =
-    let faults = (g.I.Inlet.state c.args.inlet.now).faults in
-    let faults' = (g.I.Inlet.state c.pull_once.new.inlet).faults in
-    let pulls = c.pull_once.ensures (g.R.Router.dests c.args.router.now) c.args.spec.now c.in_ok-read_whole.ensures.keeps.ready in
-    fails-within c.args.reader.now.failed c.read_whole.new.reader.failed c.pull_once.new.reader.failed c.pull_once.new.reader.failed faults faults' faults'
-    c.in_ok-read_whole.ensures.before.failed pulls.failing refl (omega arith)
-
-pub returns-in_err-read_whole-2-clause-failing : goal.returns-in_err-read_whole-2-clause-failing
-returns-in_err-read_whole-2-clause-failing g c =
-    let faults = (g.I.Inlet.state c.args.inlet.now).faults in
-    let faults' = (g.I.Inlet.state c.pull_once.new.inlet).faults in
-    let pulls = c.pull_once.ensures (g.R.Router.dests c.args.router.now) c.args.spec.now c.in_ok-read_whole.ensures.keeps.ready in
-    fails-within c.args.reader.now.failed c.read_whole.new.reader.failed c.pull_once.new.reader.failed c.read_whole-2.new.reader.failed faults faults' faults'
-    c.in_ok-read_whole.ensures.before.failed pulls.failing c.in_err-read_whole-2.ensures.before.failed (omega arith)
-
-pub returns-clause-failing : goal.returns-clause-failing
-returns-clause-failing g c =
-    let faults = (g.I.Inlet.state c.args.inlet.now).faults in
-    let faults' = (g.I.Inlet.state c.pull_once.new.inlet).faults in
-    let pulls = c.pull_once.ensures (g.R.Router.dests c.args.router.now) c.args.spec.now c.in_ok-read_whole.ensures.keeps.ready in
-    fails-within c.args.reader.now.failed c.read_whole.new.reader.failed c.pull_once.new.reader.failed c.read_whole-2.new.reader.failed faults faults' faults'
-    c.in_ok-read_whole.ensures.before.failed pulls.failing c.in_ok-read_whole-2.ensures.before.failed (omega arith)
-
-pub returns-in_err-read_whole-clause-ended : goal.returns-in_err-read_whole-clause-ended
-returns-in_err-read_whole-clause-ended g c = λ was. c.in_err-read_whole.ensures.before.ended ∙ was
-
-pub returns-then-not-is_spent-clause-ended : goal.returns-then-not-is_spent-clause-ended
-returns-then-not-is_spent-clause-ended g c = λ was. c.in_ok-read_whole.ensures.before.ended ∙ was
-
-pub returns-then-is_over-clause-ended : goal.returns-then-is_over-clause-ended
-returns-then-is_over-clause-ended g c = λ was. c.in_ok-read_whole.ensures.before.ended ∙ was
-
-pub returns-then-pull_once-clause-ended : goal.returns-then-pull_once-clause-ended
-returns-then-pull_once-clause-ended g c =
-    ended-not c.args.reader.now c.read_whole.new.reader c.pull_once.new.reader c.in_ok-read_whole.ensures.before (sym c.is_over.ensures ∙ c.if-is_over.false)
-
-pub returns-in_err-read_whole-2-clause-ended : goal.returns-in_err-read_whole-2-clause-ended
-returns-in_err-read_whole-2-clause-ended g c =
-    ended-not c.args.reader.now c.read_whole.new.reader c.read_whole-2.new.reader c.in_ok-read_whole.ensures.before (sym c.is_over.ensures ∙ c.if-is_over.false)
-
-pub returns-clause-ended : goal.returns-clause-ended
-returns-clause-ended g c =
-    ended-not c.args.reader.now c.read_whole.new.reader c.read_whole-2.new.reader c.in_ok-read_whole.ensures.before (sym c.is_over.ensures ∙ c.if-is_over.false)
-
 pub returns-then-pull_once-clause-few : goal.returns-then-pull_once-clause-few
 returns-then-pull_once-clause-few g c =
     let pulls = c.pull_once.ensures (g.R.Router.dests c.args.router.now) c.args.spec.now c.in_ok-read_whole.ensures.keeps.ready in
@@ -184,3 +115,63 @@ returns-clause-few g c =
     let pulls = c.pull_once.ensures (g.R.Router.dests c.args.router.now) c.args.spec.now c.in_ok-read_whole.ensures.keeps.ready in
     let same : length c.pull_once.new.reader.held ≡ length c.read_whole.new.reader.held = ap length pulls.rests.held in
     omega (arith, c.in_ok-read_whole.ensures.few, c.in_ok-read_whole-2.ensures.few)
+
+pub returns-in_err-read_whole-clause-pulled : goal.returns-in_err-read_whole-clause-pulled
+returns-in_err-read_whole-clause-pulled g c =
+    let faults = (g.I.Inlet.state c.args.inlet.now).faults in
+    record {
+      pulls = omega arith;
+      ended = λ was. c.in_err-read_whole.ensures.before.ended ∙ was;
+      failing = fails-same c.args.reader.now.failed c.read_whole.new.reader.failed faults faults c.in_err-read_whole.ensures.before.failed;
+    }
+
+pub returns-then-not-is_spent-clause-pulled : goal.returns-then-not-is_spent-clause-pulled
+returns-then-not-is_spent-clause-pulled g c =
+    let faults = (g.I.Inlet.state c.args.inlet.now).faults in
+    record {
+      pulls = omega arith;
+      ended = λ was. c.in_ok-read_whole.ensures.before.ended ∙ was;
+      failing = fails-same c.args.reader.now.failed c.read_whole.new.reader.failed faults faults c.in_ok-read_whole.ensures.before.failed;
+    }
+
+pub returns-then-is_over-clause-pulled : goal.returns-then-is_over-clause-pulled
+returns-then-is_over-clause-pulled g c =
+    let faults = (g.I.Inlet.state c.args.inlet.now).faults in
+    record {
+      pulls = omega arith;
+      ended = λ was. c.in_ok-read_whole.ensures.before.ended ∙ was;
+      failing = fails-same c.args.reader.now.failed c.read_whole.new.reader.failed faults faults c.in_ok-read_whole.ensures.before.failed;
+    }
+
+pub returns-then-pull_once-clause-pulled : goal.returns-then-pull_once-clause-pulled
+returns-then-pull_once-clause-pulled g c =
+    let faults = (g.I.Inlet.state c.args.inlet.now).faults in
+    let faults' = (g.I.Inlet.state c.pull_once.new.inlet).faults in
+    let pulls = c.pull_once.ensures (g.R.Router.dests c.args.router.now) c.args.spec.now c.in_ok-read_whole.ensures.keeps.ready in
+    record {
+      pulls = pulls.pulls;
+      ended = ended-not c.args.reader.now c.read_whole.new.reader c.pull_once.new.reader c.in_ok-read_whole.ensures.before (sym c.is_over.ensures ∙ c.if-is_over.false);
+      failing = fails-within c.args.reader.now.failed c.read_whole.new.reader.failed c.pull_once.new.reader.failed c.pull_once.new.reader.failed faults faults' faults' c.in_ok-read_whole.ensures.before.failed pulls.failing refl (omega arith);
+    }
+
+pub returns-in_err-read_whole-2-clause-pulled : goal.returns-in_err-read_whole-2-clause-pulled
+returns-in_err-read_whole-2-clause-pulled g c =
+    let faults = (g.I.Inlet.state c.args.inlet.now).faults in
+    let faults' = (g.I.Inlet.state c.pull_once.new.inlet).faults in
+    let pulls = c.pull_once.ensures (g.R.Router.dests c.args.router.now) c.args.spec.now c.in_ok-read_whole.ensures.keeps.ready in
+    record {
+      pulls = pulls.pulls;
+      ended = ended-not c.args.reader.now c.read_whole.new.reader c.read_whole-2.new.reader c.in_ok-read_whole.ensures.before (sym c.is_over.ensures ∙ c.if-is_over.false);
+      failing = fails-within c.args.reader.now.failed c.read_whole.new.reader.failed c.pull_once.new.reader.failed c.read_whole-2.new.reader.failed faults faults' faults' c.in_ok-read_whole.ensures.before.failed pulls.failing c.in_err-read_whole-2.ensures.before.failed (omega arith);
+    }
+
+pub returns-clause-pulled : goal.returns-clause-pulled
+returns-clause-pulled g c =
+    let faults = (g.I.Inlet.state c.args.inlet.now).faults in
+    let faults' = (g.I.Inlet.state c.pull_once.new.inlet).faults in
+    let pulls = c.pull_once.ensures (g.R.Router.dests c.args.router.now) c.args.spec.now c.in_ok-read_whole.ensures.keeps.ready in
+    record {
+      pulls = pulls.pulls;
+      ended = ended-not c.args.reader.now c.read_whole.new.reader c.read_whole-2.new.reader c.in_ok-read_whole.ensures.before (sym c.is_over.ensures ∙ c.if-is_over.false);
+      failing = fails-within c.args.reader.now.failed c.read_whole.new.reader.failed c.pull_once.new.reader.failed c.read_whole-2.new.reader.failed faults faults' faults' c.in_ok-read_whole.ensures.before.failed pulls.failing c.in_ok-read_whole-2.ensures.before.failed (omega arith);
+    }
