@@ -2,10 +2,12 @@
 use Rattle.std.proofs.Common.{◌≡◌, ◌≤◌, ℕ, ◌+◌, Bool, List, [], ◌∷◌, ◌++◌, length, Some, None, Option, refl, sym, ap, ◌∙◌, arith, slice_get, subst, inl, inr, true, false, zero, suc}
 use Rattle.std.specs.Prelude.{option_to_list}
 use Rattle.std.proofs.lemmas.List.{append-nil, length-map}
-use Rattle.sg_outside.specs.World.{WorldState}
+use Rattle.sg_outside.specs.World.{WorldState, InletRefused}
 use Rattle.sg_destination.specs.declared.outlet.OutletPlan.{OutletPlan}
 use Rattle.sg_list.proofs.ListLemmas.{some-same}
 use Rattle.sg_device.specs.Inlet.{InletState}
+use Rattle.sg_device.specs.declared.fault.OpenRefusal.{OpenRefusal}
+use Rattle.sg_device.specs.declared.fault.OpenRefusal.TheVariants.{Failed as OpenFailed, NoMemory as OpenNoMemory}
 use Rattle.sg_outside.specs.World.{Files}
 use Rattle.sg_outside.specs.declared.request.InletSpec.{InletSpec}
 use Rattle.sg_machine.specs.declared.setup.Setup.{Setup}
@@ -16,14 +18,14 @@ use Rattle.sg_standing.specs.Sources.{store_at}
 use Rattle.sg_standing.specs.States.{CoreState, setup_of}
 use Rattle.sg_standing.specs.Standing.{StandsFor}
 use Rattle.sg_source.specs.declared.inlet.InletPlan.{InletPlan}
-use Rattle.sg_serve.specs.Actors.{DestView, IsDestFor, AreDestsFor, SourceView, IsSourceFor, AreSourcesFor, BeginsAt, AllBeginAt}
+use Rattle.sg_serve.specs.Actors.{DestView, IsDestFor, AreDestsFor, SourceView, IsSourceFor, AreSourcesFor, BeginsAt, AllBeginAt, OpensAt}
 use Rattle.sg_serve.specs.Devices.{IsFetching, AreFetching}
 use Rattle.sg_serve.specs.Early.{OutletsFail, InletsFail, SourceFails, SourcesFail}
 use Rattle.sg_serve.specs.Rewinds.{AreApartIn, Begins, HasBegun, AwaitsFrom, FailsBehind, position_at, places_of, rewinds_from}
 use Rattle.sg_serve.specs.declared.ending.Device.TheVariants.{Store, Inlet, Dest}
 use Rattle.sg_serve.specs.declared.ending.Early.{Early}
 use Rattle.sg_serve.specs.declared.ending.Early.TheVariants.{OpenFault, Damage, DiskFault, NoMemory}
-use Rattle.sg_serve.proofs.DeviceLemmas.{get-push, rose-wider, map-push}
+use Rattle.sg_serve.proofs.DeviceLemmas.{get-push, inlets-none, inlets-kept, inlets-more, rose-wider, map-push}
 use Rattle.sg_serve.proofs.RewindLemmas.{Steps, step, fails-by, store-of}
 
 pub no-dests : (once : Bool) (plans : List OutletPlan) → AreDestsFor once plans []
@@ -71,10 +73,10 @@ sources-more plans setups views plan setup view are at on is i plan' setup' view
       (subst (λ (t : SourceSetup). IsSourceFor (length views) plan t.store view') twin (subst (λ w. IsSourceFor (length views) plan setup.store w) (sym h.1) is))))
 ]
 
-pub none-begin : (files : Option Files) (positions : ℕ → ℕ) (specs : List InletSpec) → AllBeginAt files positions specs []
+none-begin : (files : Option Files) (positions : ℕ → ℕ) (specs : List InletSpec) → AllBeginAt files positions specs []
 none-begin files positions specs i spec feed p h = let wrong : None ≡ Some feed = h in cc
 
-pub begin-more : (files : Option Files) (positions : ℕ → ℕ) (specs : List InletSpec) (feeds : List InletState) (spec : InletSpec) (feed : InletState) → AllBeginAt files positions specs feeds
+begin-more : (files : Option Files) (positions : ℕ → ℕ) (specs : List InletSpec) (feeds : List InletState) (spec : InletSpec) (feed : InletState) → AllBeginAt files positions specs feeds
     → slice_get specs (length feeds) ≡ Some spec → BeginsAt files spec (positions (length feeds)) feed → AllBeginAt files positions specs (feeds ++ feed ∷ [])
 begin-more files positions specs feeds spec feed are at is i spec' feed' p f = elim (get-push feeds feed i feed' f) [
   | inl h ↦ are i spec' feed' p h
@@ -83,11 +85,28 @@ begin-more files positions specs feeds spec feed are at is i spec' feed' p f = e
       (subst (λ q. BeginsAt files q (positions (length feeds)) feed') same (subst (λ w. BeginsAt files spec (positions (length feeds)) w) (sym h.1) is)))
 ]
 
-pub begin-last : (files : Option Files) (positions : ℕ → ℕ) (specs : List InletSpec) (feeds : List InletState) (spec : InletSpec) (last : Option InletState) (position : ℕ) → AllBeginAt files positions specs feeds
+begin-last : (files : Option Files) (positions : ℕ → ℕ) (specs : List InletSpec) (feeds : List InletState) (spec : InletSpec) (last : Option InletState) (position : ℕ) → AllBeginAt files positions specs feeds
     → slice_get specs (length feeds) ≡ Some spec → position ≡ positions (length feeds) → AllBeginAt files (λ k. position) (spec ∷ []) (option_to_list last) → AllBeginAt files positions specs (feeds ++ option_to_list last)
 begin-last files positions specs feeds spec None position are at same one = subst (λ fs. AllBeginAt files positions specs fs) (sym (append-nil feeds)) are
 begin-last files positions specs feeds spec (Some feed) position are at same one =
     begin-more files positions specs feeds spec feed are at (subst (λ p. BeginsAt files spec p feed) same (one 0 spec feed refl refl))
+
+pub opened-at-none : (world : WorldState) (positions : ℕ → ℕ) (specs : List InletSpec) → OpensAt world world specs positions []
+opened-at-none world positions specs = record { opens = inlets-none world specs; begin = none-begin world.files positions specs }
+
+pub opened-at-refused : (old new : WorldState) (positions : ℕ → ℕ) (specs : List InletSpec) (refusal : OpenRefusal) → InletRefused old new refusal → OpensAt old new specs positions []
+opened-at-refused old new positions specs OpenFailed h = record { opens = inlets-kept old new specs h.0 h.1; begin = none-begin old.files positions specs }
+opened-at-refused old new positions specs OpenNoMemory h = record { opens = inlets-kept old new specs h.0 h.1; begin = none-begin old.files positions specs }
+
+-- one inlet more, where one was opened
+pub opened-at-more : (old mid new : WorldState) (specs : List InletSpec) (positions : ℕ → ℕ) (feeds : List InletState) (spec : InletSpec) (last : Option InletState) (position : ℕ) → OpensAt old mid specs positions feeds
+    → slice_get specs (length feeds) ≡ Some spec → position ≡ positions (length feeds) → OpensAt mid new (spec ∷ []) (λ k. position) (option_to_list last) → OpensAt old new specs positions (feeds ++ option_to_list last)
+opened-at-more old mid new specs positions feeds spec last position front at same one =
+    let files = ap (λ (w : WorldState). w.files) (front.opens).state in
+    record {
+      opens = inlets-more old mid new specs feeds spec (option_to_list last) front.opens at one.opens;
+      begin = begin-last old.files positions specs feeds spec last position front.begin at same (subst (λ fs. AllBeginAt fs (λ k. position) (spec ∷ []) (option_to_list last)) files one.begin);
+    }
 
 pub inlets-fail : (old mid new : WorldState) (n m : ℕ) (early : Early) → old.inlet_faults ≤ mid.inlet_faults → n ≡ m → InletsFail mid new n early → InletsFail old new m early
 inlets-fail old mid new n m (OpenFault (Store k)) later same h = h

@@ -1,8 +1,8 @@
 -- What takes the turns of a plan's sources and destinations, before the first of them.
-use Rattle.std.specs.Prelude.{◌≡◌, ℕ, Bool, Option, is_some, Some, List, slice_get}
+use Rattle.std.specs.Prelude.{◌≡◌, ℕ, Bool, Option, is_some, Some, List, length, slice_get}
 use Rattle.sg_device.specs.Inlet.{InletState, IsFresh}
 use Rattle.sg_device.specs.Outlet.{OutletState, IsNew}
-use Rattle.sg_outside.specs.World.{Files, StandsIn}
+use Rattle.sg_outside.specs.World.{WorldState, Files, StandsIn}
 use Rattle.sg_outside.specs.declared.request.InletSpec.{InletSpec}
 use Rattle.sg_machine.specs.declared.setup.SourceSetup.{SourceSetup}
 use Rattle.sg_source.specs.declared.inlet.InletPlan.{InletPlan}
@@ -12,6 +12,7 @@ use Rattle.sg_actor.specs.SourceTurns.{ActorState, IsNewSource}
 use Rattle.sg_actor.specs.declared.outage.Outage.{Outage}
 use Rattle.sg_actor.specs.declared.rendering.DestSpec.{DestSpec}
 use Rattle.sg_actor.specs.declared.settings.SourceSpec.{SourceSpec}
+use Rattle.sg_serve.specs.Devices.{OpensInlets}
 
 -- Destinations.
 
@@ -60,6 +61,11 @@ AreSourcesFor plans setups views =
     → slice_get views i ≡ Some view
     → IsSourceFor i plan setup.store view
 
+-- a source for each inlet of a plan
+pub record AreAllSources (plans : List InletPlan) (setups : List SourceSetup) (views : List SourceView) : Type 0 where
+  pub all : length views ≡ length plans
+  pub each : AreSourcesFor plans setups views
+
 -- The inlet gives from the stored position on, from its beginning where no record of the file can have ended there.
 pub record BeginsAt (files : Option Files) (spec : InletSpec) (position : ℕ) (feed : InletState) : Type 0 where
   pub fresh : IsFresh feed
@@ -69,3 +75,8 @@ abbrev pub AllBeginAt : Option Files → (ℕ → ℕ) → List InletSpec → Li
 AllBeginAt files positions specs feeds =
     (i : ℕ) (spec : InletSpec) (feed : InletState) → slice_get specs i ≡ Some spec
     → slice_get feeds i ≡ Some feed → BeginsAt files spec (positions i) feed
+
+-- These inlets were opened, in order, each at its stored position.
+pub record OpensAt (old new : WorldState) (specs : List InletSpec) (positions : ℕ → ℕ) (feeds : List InletState) : Type 0 where
+  pub opens : OpensInlets old new specs feeds
+  pub begin : AllBeginAt old.files positions specs feeds

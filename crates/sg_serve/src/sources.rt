@@ -6,11 +6,11 @@ ghost use Rattle.sg_actor.specs.SourceTurns.{actor};
 ghost use Rattle.sg_standing.specs.States.{setup_of};
 ghost use Rattle.sg_standing.specs.Sources.{store_at, begun_in};
 ghost use Rattle.sg_core.specs.Opening.{IsOpen};
-ghost use Rattle.sg_serve.specs.Devices.{inlet_asked, inlets_asked, IsFetching, AreFetching, OpensInlets, ClosesInlets};
+ghost use Rattle.sg_serve.specs.Devices.{inlet_asked, inlets_asked, IsFetching, AreFetching, ClosesInlets};
 ghost use Rattle.sg_serve.specs.Early.{inlet_refusal, SourceFails, SourcesFail};
 ghost use Rattle.sg_serve.specs.declared.ending.Early.TheVariants.{DiskFault};
 ghost use Rattle.sg_serve.specs.Rewinds.{position_at, places_of, rewinds_from, AreApartIn, Begins, HasBegun};
-ghost use Rattle.sg_serve.specs.Actors.{source_view, IsSourceFor, AreSourcesFor, BeginsAt, AllBeginAt};
+ghost use Rattle.sg_serve.specs.Actors.{source_view, IsSourceFor, AreAllSources, OpensAt};
 
 use crate::rewinds::begin;
 use crate::{Device, Early};
@@ -122,20 +122,17 @@ fn open_source<W: World, R: Router + Drop>(
     requires none { begun_in core.old.sources i ≡ 0 }
     requires few { core.old.calls + 1 < 2 ^ 54 }
     requires fetches { IsFetching plan.now }
-    ensures opened { IfOk result (λ made. OpensInlets (W.state world.old) (W.state world.new)
-        (inlet_asked once plan.now.spec ∷ []) (W.Feed.state made.inlet ∷ [])) }
-    ensures at { IfOk result (λ made. BeginsAt (W.state world.old).files
-        (inlet_asked once plan.now.spec) (position_at core.old i) (W.Feed.state made.inlet)) }
+    ensures opened { IfOk result (λ made. OpensAt (W.state world.old) (W.state world.new)
+        (inlet_asked once plan.now.spec ∷ []) (λ _. position_at core.old i)
+        (W.Feed.state made.inlet ∷ [])) }
     ensures begins { IfOk result (λ made. Begins core.old core.new i (position_at core.old i)
         (W.Feed.state made.inlet).place true) }
     ensures source { IfOk result (λ made. IsSourceFor i plan.now setup.store
         (source_view made.spec (actor (W.Feed.state made.inlet) made.reader made.buffer.items
         made.position made.bad_frames) (R.dests made.router))) }
     ensures router { IfOk result (λ made. made.router ≡ router) }
-    ensures refused { IfErr result (λ e. OpensInlets (W.state world.old) (W.state world.new)
-        (inlet_asked once plan.now.spec ∷ []) (option_to_list (option_map W.Feed.state e.0))) }
-    ensures back { IfErr result (λ e. AllBeginAt (W.state world.old).files
-        (λ _. position_at core.old i) (inlet_asked once plan.now.spec ∷ [])
+    ensures refused { IfErr result (λ e. OpensAt (W.state world.old) (W.state world.new)
+        (inlet_asked once plan.now.spec ∷ []) (λ _. position_at core.old i)
         (option_to_list (option_map W.Feed.state e.0))) }
     ensures cause { IfErr result (λ e. SourceFails (W.state world.old) (W.state world.new) core.old
         core.new i setup.store (option_map W.Feed.state e.0) e.1) }
@@ -183,24 +180,20 @@ pub fn open_sources<W: World, R: Router + Drop>(
     requires few { length plans.now ≤ 128 }
     requires fetches { AreFetching plans.now }
     requires apart { AreApartIn setups.now }
-    ensures opened { IfOk result (λ sources. OpensInlets (W.state world.old) (W.state world.new)
-        (inlets_asked once plans.now) (map (λ a. W.Feed.state a.inlet) sources.items)) }
-    ensures all { IfOk result (λ sources. length sources.items ≡ length plans.now) }
-    ensures at { IfOk result (λ sources. AllBeginAt (W.state world.old).files (position_at core.old)
-        (inlets_asked once plans.now) (map (λ a. W.Feed.state a.inlet) sources.items)) }
+    ensures opened { IfOk result (λ sources. OpensAt (W.state world.old) (W.state world.new)
+        (inlets_asked once plans.now) (position_at core.old)
+        (map (λ a. W.Feed.state a.inlet) sources.items)) }
     ensures begun { IfOk result (λ sources. HasBegun core.old core.new
         (rewinds_from (position_at core.old) 0
         (places_of (map (λ a. W.Feed.state a.inlet) sources.items)))) }
-    ensures sources { IfOk result (λ sources. AreSourcesFor plans.now setups.now
+    ensures sources { IfOk result (λ sources. AreAllSources plans.now setups.now
         (map (λ a. source_view a.spec
         (actor (W.Feed.state a.inlet) a.reader a.buffer.items a.position a.bad_frames)
         (R.dests a.router)) sources.items)) }
     ensures routers { IfOk result (λ sources. map (λ a. a.router) sources.items ≡ routers.items) }
-    ensures refused { IfErr result (λ e. OpensInlets (W.state world.old) (W.state world.new)
-        (inlets_asked once plans.now) (map (λ a. W.Feed.state a.inlet) e.0.items
-        ++ option_to_list (option_map W.Feed.state e.1))) }
-    ensures back { IfErr result (λ e. AllBeginAt (W.state world.old).files (position_at core.old)
-        (inlets_asked once plans.now) (map (λ a. W.Feed.state a.inlet) e.0.items
+    ensures refused { IfErr result (λ e. OpensAt (W.state world.old) (W.state world.new)
+        (inlets_asked once plans.now) (position_at core.old)
+        (map (λ a. W.Feed.state a.inlet) e.0.items
         ++ option_to_list (option_map W.Feed.state e.1))) }
     ensures cause { IfErr result (λ e. SourcesFail (W.state world.old) (W.state world.new) core.old
         core.new setups.now (map (λ a. W.Feed.state a.inlet) e.0.items)

@@ -4,8 +4,8 @@ use Rattle.std.proofs.lemmas.List.{length-map}
 use Rattle.sg_actor.specs.SourceTurns.{actor}
 use Rattle.sg_actor.specs.declared.source.SourceActor.{SourceActor}
 use Rattle.sg_standing.specs.States.{setup_of}
-use Rattle.sg_serve.specs.Actors.{source_view, AreSourcesFor, AllBeginAt}
-use Rattle.sg_serve.specs.Devices.{OpensInlets, inlets_asked}
+use Rattle.sg_serve.specs.Actors.{source_view, AreSourcesFor, OpensAt}
+use Rattle.sg_serve.specs.Devices.{inlets_asked}
 use Rattle.sg_serve.specs.Early.{SourcesFail}
 use Rattle.sg_serve.specs.Rewinds.{AreApartIn, position_at, places_of}
 use Rattle.sg_serve.specs.Run.{early_of}
@@ -44,7 +44,8 @@ run_dests-requires-clause-calls g c =
     let feeds = map (λ a. g.W.Feed.Inlet.state a.inlet) sources in
     let few = few-rewinds (position_at c.in-Ok-open.core) 0 (places_of feeds) in
     let long = long-places feeds ∙ length-map sources (λ a. g.W.Feed.Inlet.state a.inlet) in
-    let all = e.all ∙ ap length c.deref.ensures.value in
+    let view = λ (a : SourceActor g.row.R.Denot g.row.W-Feed.Denot). source_view a.spec (actor (g.W.Feed.Inlet.state a.inlet) a.reader a.buffer.items a.position a.bad_frames) (g.R.Router.dests a.router) in
+    let all = sym (length-map sources view) ∙ e.sources.all ∙ ap length c.deref.ensures.value in
     let calls = e.begun.calls in
     let first = c.in-Ok-open.ensures.opened.calls in
     omega (arith, few, long, all, calls, first, c.requires.plan.few_inlets)
@@ -57,8 +58,8 @@ run_dests-requires-clause-sources g c = λ κs lives.
     let view = λ (a : SourceActor g.row.R.Denot g.row.W-Feed.Denot). source_view a.spec (actor (f a.inlet) a.reader a.buffer.items a.position a.bad_frames) (g.R.Router.dests a.router) in
     let di = c.deref.ensures.value in
     let ds = c.as_slice-setups.ensures ∙ c.in-Ok.ensures in
-    let are = subst (λ ps. AreSourcesFor ps c.args.plan.setup.sources (map view sources)) di (subst (λ ss. AreSourcesFor c.deref.result.now ss (map view sources)) ds e.sources) in
-    are-sources f g.R.Router.inlets g.R.Router.dests c.args.plan c.args.routers.items (setup_of c.open_sources.new.core) sources (e.begun.setup ∙ c.in-Ok-open.ensures.opened.setups) c.requires.plan c.requires.routers are e.routers (e.all ∙ ap length di)
+    let are = subst (λ ps. AreSourcesFor ps c.args.plan.setup.sources (map view sources)) di (subst (λ ss. AreSourcesFor c.deref.result.now ss (map view sources)) ds e.sources.each) in
+    are-sources f g.R.Router.inlets g.R.Router.dests c.args.plan c.args.routers.items (setup_of c.open_sources.new.core) sources (e.begun.setup ∙ c.in-Ok-open.ensures.opened.setups) c.requires.plan c.requires.routers are e.routers (sym (length-map sources view) ∙ e.sources.all ∙ ap length di)
 
 pub returns-in-Ok-open_sources : goal.returns-in-Ok-open_sources
 returns-in-Ok-open_sources g c =
@@ -74,13 +75,12 @@ returns-in-Ok-open_sources g c =
     let old = g.W.Machine.state c.args.world.now in
     let mid = g.W.Machine.state c.open_sources.new.world in
     let first = c.in-Ok-open.core in
-    let are = subst (λ ps. AreSourcesFor ps plan.setup.sources (map view sources)) di (subst (λ ss. AreSourcesFor c.deref.result.now ss (map view sources)) ds e.sources) in
-    let opens = subst (λ ps. OpensInlets old mid (inlets_asked plan.once ps) feeds) di e.opened in
-    let at = subst (λ ps. AllBeginAt old.files (position_at first) (inlets_asked plan.once ps) feeds) di e.at in
+    let are = subst (λ ps. AreSourcesFor ps plan.setup.sources (map view sources)) di (subst (λ ss. AreSourcesFor c.deref.result.now ss (map view sources)) ds e.sources.each) in
+    let opened = subst (λ ps. OpensAt old mid (inlets_asked plan.once ps) (position_at first) feeds) di e.opened in
     over-dests f d g.R.Router.offers g.R.Router.inlets g.R.Router.dests old mid (g.W.Machine.state c.run_dests.new.world) plan c.args.routers.items c.args.rounds (map g.W.Store.Disk.state c.args.stores.items)
     (map g.W.Store.Disk.state c.run_dests.result.0.stores.items) first c.open_sources.new.core sources
     (map (λ a. f a.inlet) c.run_dests.result.0.sources.items ++ option_to_list (option_map f c.run_dests.result.0.feed)) (map (λ a. d a.outlet) c.run_dests.result.0.dests.items ++ option_to_list (option_map d c.run_dests.result.0.drain))
-    c.run_dests.result.1 (length-map c.args.stores.items g.W.Store.Disk.state ∙ c.requires.stores) c.in-Ok-open.ensures.opened opens (e.all ∙ ap length di) at e.begun are e.routers c.run_dests.ensures
+    c.run_dests.result.1 (length-map c.args.stores.items g.W.Store.Disk.state ∙ c.requires.stores) c.in-Ok-open.ensures.opened opened.opens (sym (length-map sources view) ∙ e.sources.all ∙ ap length di) opened.begin e.begun are e.routers c.run_dests.ensures
 
 pub returns : goal.returns
 returns g c =
@@ -96,9 +96,8 @@ returns g c =
     let new = g.W.Machine.state c.open_sources.new.world in
     let first = c.in-Ok-open.core in
     let now = c.open_sources.new.core in
-    let opens = subst (λ ps. OpensInlets old new (inlets_asked plan.once ps) (feeds ++ option_to_list last)) di e.refused in
-    let at = subst (λ ps. AllBeginAt old.files (position_at first) (inlets_asked plan.once ps) (feeds ++ option_to_list last)) di e.back in
+    let opened = subst (λ ps. OpensAt old new (inlets_asked plan.once ps) (position_at first) (feeds ++ option_to_list last)) di e.refused in
     let fails = subst (λ ss. SourcesFail old new first now ss feeds last c.in-Err-open_sources.early) ds e.cause in
     rw c.new.ensures.items
     (over-sources f d g.R.Router.offers g.R.Router.inlets g.R.Router.dests old new plan c.args.routers.items c.args.rounds (map g.W.Store.Disk.state c.args.stores.items) (map g.W.Store.Disk.state c.into_stores.result.items) first now feeds last
-    c.in-Err-open_sources.early c.requires.plan (length-map c.args.stores.items g.W.Store.Disk.state ∙ c.requires.stores) c.in-Ok-open.ensures.opened opens at fails c.into_stores.ensures)
+    c.in-Err-open_sources.early c.requires.plan (length-map c.args.stores.items g.W.Store.Disk.state ∙ c.requires.stores) c.in-Ok-open.ensures.opened opened.opens opened.begin fails c.into_stores.ensures)
