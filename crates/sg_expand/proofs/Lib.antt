@@ -15,3 +15,4 @@ pub mod Places
 pub mod PlacesStep
 pub mod PlacesRun
 pub mod Turns
+pub mod Sizes

@@ -4,7 +4,6 @@ pub mod Meanings
 pub mod Briefs
 pub mod Plain
 pub mod Under
-pub mod Sizes
 pub mod Positions
 pub mod Spots
 pub mod Forms

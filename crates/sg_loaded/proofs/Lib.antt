@@ -1,4 +1,3 @@
-mod Sizes
 mod Loads
 mod Refusing
 mod Complete

@@ -1,4 +1,4 @@
-use Rattle.sg_hint.proofs.Sizes.{few-expanded}
+use Rattle.sg_expand.proofs.Sizes.{few-expanded}
 use Rattle.sg_hint.proofs.spot.expand_again.Goals as goal
 
 pub returns-in-Ok-clause-few : goal.returns-in-Ok-clause-few

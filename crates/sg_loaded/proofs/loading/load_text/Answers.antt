@@ -1,5 +1,5 @@
 use Rattle.sg_loaded.proofs.Loads.{loads-both, text-loads, text-faulty, text-unread}
-use Rattle.sg_loaded.proofs.Sizes.{few-tokens}
+use Rattle.sg_expand.proofs.Sizes.{few-tokens}
 use Rattle.sg_loaded.proofs.loading.load_text.Goals as goal
 
 pub load_expanded-requires : goal.load_expanded-requires
