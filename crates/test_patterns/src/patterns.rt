@@ -46,6 +46,19 @@ fn kind_of(word: &str) -> Option<Kind> {
     }
 }
 
+// Whether each letter is that of a flag; `-` is none.
+fn are_flags(word: &str) -> bool {
+    if word == "-" {
+        return true;
+    }
+    for letter in word.chars() {
+        if !(letter == 'i' || letter == 'p' || letter == 's' || letter == 'g') {
+            return false;
+        }
+    }
+    !word.is_empty()
+}
+
 fn flags_of(word: &str) -> Flags {
     Flags {
         ignore_case: word.contains('i'),
@@ -82,6 +95,9 @@ fn holds(alloc: Global, row: &str) -> Result<bool, Fail> {
     let (Some((text, spans)), Some(kind)) = (rest.split_once(" |"), kind_of(head)) else {
         return Ok(false);
     };
+    if !are_flags(letters) {
+        return Ok(false);
+    }
     let mut patterns = Patterns { too_large: 0 };
     let flags = flags_of(letters);
     let mut matcher = Matcher::new(alloc, &mut patterns, kind, pattern.as_bytes(), flags)?;
