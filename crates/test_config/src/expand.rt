@@ -768,6 +768,9 @@ fn head_of(alloc: Global, with_version: bool, with_variable: bool) -> Result<Vec
 #[test]
 fn texts_are_expanded(rt: HostRuntime) -> Result<(), Fail> {
     let alloc = rt.alloc();
+    for row in FILES.lines() {
+        assert!(rt; row.split_once(" => ").is_some(), "{row}");
+    }
     for (rows, with_version, with_variable, with_places) in [
         (VERSIONS, false, false, false),
         (DIRECTIVES, true, false, false),
