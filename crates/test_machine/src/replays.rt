@@ -134,9 +134,10 @@ fn add_record(alloc: Global, draft: &mut Draft, end: u64) -> Result<(), Fail> {
 }
 
 fn add_offer(draft: &mut Draft, offer: Offer) -> Result<(), Fail> {
-    if let Some(admission) = draft.records.last_mut() {
-        admission.offers.push(offer)?;
-    }
+    let Some(admission) = draft.records.last_mut() else {
+        return Err(Fail::from("no record"));
+    };
+    admission.offers.push(offer)?;
     Ok(())
 }
 
@@ -151,6 +152,8 @@ fn add(alloc: Global, draft: &mut Draft, word: &str) -> Result<(), Fail> {
         add_offer(draft, offer)?;
     } else if let Some(store) = word.strip_prefix('x') {
         draft.failed.push(store.parse()?)?;
+    } else {
+        return Err(Fail::from("no such word"));
     }
     Ok(())
 }
@@ -162,11 +165,12 @@ fn number(word: Option<&str>) -> u64 {
     }
 }
 
-fn place(word: Option<&str>) -> u32 {
-    match word {
-        Some(word) => word.parse().unwrap_or(u32::MAX),
-        None => u32::MAX,
+// The capacity of disk-buffers, the greatest number without them.
+fn capacity(word: &str) -> Result<u64, Fail> {
+    if word == "-" {
+        return Ok(u64::MAX);
     }
+    Ok(word.parse()?)
 }
 
 fn admit(inlet: u32, draft: Draft) -> Event {
@@ -184,27 +188,33 @@ fn admit(inlet: u32, draft: Draft) -> Event {
 }
 
 // An act but an Admit, by the letter that stands before its numbers.
-fn plain_act(word: &str) -> Act {
-    let mut words = word.get(1..).unwrap_or("").split(',');
-    let first = place(words.next());
-    let second = words.next();
-    match word.chars().next() {
-        Some('s') => Act::Settle(first, place(second)),
-        Some('m') => Act::Refill(first, place(second)),
-        Some('p') => Act::Store(first, number(second)),
-        Some('w') => Act::Rewind(first),
-        _ => Act::Look,
+fn plain_act(word: &str) -> Result<Act, Fail> {
+    if word == "l" {
+        return Ok(Act::Look);
+    }
+    let (letter, numbers) = word.split_at_checked(1).ok_or("no act")?;
+    let (first, second) = numbers.split_once(',').unwrap_or((numbers, ""));
+    let first: u32 = first.parse()?;
+    match letter {
+        "s" => Ok(Act::Settle(first, second.parse()?)),
+        "m" => Ok(Act::Refill(first, second.parse()?)),
+        "p" => Ok(Act::Store(first, second.parse()?)),
+        "w" if second.is_empty() => Ok(Act::Rewind(first)),
+        _ => Err(Fail::from("no such act")),
     }
 }
 
-fn act(word: &str, draft: Draft) -> Event {
-    match word.strip_prefix('a') {
-        Some(inlet) => admit(place(Some(inlet)), draft),
-        None => Event {
-            act: plain_act(word),
-            failed: draft.failed,
-        },
+fn act(word: &str, draft: Draft) -> Result<Event, Fail> {
+    if let Some(inlet) = word.strip_prefix('a') {
+        return Ok(admit(inlet.parse()?, draft));
     }
+    if !draft.records.is_empty() || !draft.verdicts.is_empty() {
+        return Err(Fail::from("no Admit"));
+    }
+    Ok(Event {
+        act: plain_act(word)?,
+        failed: draft.failed,
+    })
 }
 
 fn event(alloc: Global, text: &str) -> Result<Event, Fail> {
@@ -217,15 +227,16 @@ fn event(alloc: Global, text: &str) -> Result<Event, Fail> {
     for word in rest.split_whitespace() {
         add(alloc, &mut draft, word)?;
     }
-    Ok(act(first, draft))
+    act(first, draft)
 }
 
 fn events(alloc: Global, text: &str) -> Result<Vec<Event>, Fail> {
     let mut events = Vec::new(alloc);
+    if text.trim().is_empty() {
+        return Ok(events);
+    }
     for part in text.split('/') {
-        if !part.trim().is_empty() {
-            events.push(event(alloc, part)?)?;
-        }
+        events.push(event(alloc, part)?)?;
     }
     Ok(events)
 }
@@ -260,6 +271,7 @@ fn source_shows(source: &SourceTally, text: &str) -> bool {
     number(words.next()) == source.records
         && number(words.next()) == source.mark
         && number(words.next()) == stored
+        && words.next().is_none()
 }
 
 fn dest_shows(dest: &DestTally, text: &str) -> bool {
@@ -268,9 +280,13 @@ fn dest_shows(dest: &DestTally, text: &str) -> bool {
         && number(words.next()) == dest.dropped_full
         && number(words.next()) == dest.dropped_disk
         && number(words.next()) == dest.left
+        && words.next().is_none()
 }
 
 fn tally_shows(tally: &Tally, answer: &str) -> bool {
+    if answer.split(';').count() != 3 {
+        return false;
+    }
     let mut parts = answer.split(';');
     let source = match tally.sources.get(0) {
         Some(source) => source_shows(source, parts.next().unwrap_or("")),
@@ -304,9 +320,12 @@ fn comes_to(
 }
 
 fn is_right(alloc: Global, row: &str) -> Result<bool, Fail> {
+    if row.split('|').count() != 5 {
+        return Ok(false);
+    }
     let mut parts = row.split('|').skip(1);
-    let window = place(parts.next().map(|word| word.trim()));
-    let capacity = number(parts.next());
+    let window = parts.next().unwrap_or("").trim().parse()?;
+    let capacity = capacity(parts.next().unwrap_or("").trim())?;
     let events = events(alloc, parts.next().unwrap_or(""))?;
     let answer = parts.next().unwrap_or("").trim();
     let setup = setup(alloc, window, capacity)?;
