@@ -132,12 +132,16 @@ fn names_of(alloc: Global, text: &str) -> Result<Items<Name>, AllocError> {
 }
 
 // `3-5,7-7`
-fn ranges_of(alloc: Global, text: &str) -> Result<Items<(u8, u8)>, AllocError> {
+fn ranges_of(alloc: Global, text: &str) -> Result<Items<(u8, u8)>, Fail> {
     let mut ranges = Items::new(alloc);
+    if text.is_empty() {
+        return Ok(ranges);
+    }
     for range in text.split(',') {
-        if let Some((first, last)) = range.split_once('-') {
-            ranges.push((first.parse().unwrap_or(255), last.parse().unwrap_or(0)))?;
-        }
+        let (first, last) = range.split_once('-').ok_or("no range")?;
+        let first: u8 = first.parse()?;
+        let last: u8 = last.parse()?;
+        ranges.push((first, last))?;
     }
     Ok(ranges)
 }
@@ -148,12 +152,10 @@ fn put(alloc: Global, message: &mut Message, item: &str) -> Result<(), Fail> {
         message.set_tag(tag.as_bytes())?;
         return Ok(());
     }
-    let Some((name, value)) = item.split_once('=') else {
-        return Ok(());
-    };
+    let (name, value) = item.split_once('=').ok_or("no pair")?;
     let name = name.as_bytes();
     if name.is_empty() || name.len() > 255 {
-        return Ok(());
+        return Err(Fail::from("no name"));
     }
     let value = bytes_of(alloc, value)?;
     message.set(name, &value)?;
@@ -171,6 +173,9 @@ fn message_of(alloc: Global, row: &str) -> Result<Option<Message>, Fail> {
         return Ok(None);
     }
     let mut message = Message::new(alloc, pri, STAMP, STAMP)?;
+    if items.is_empty() {
+        return Ok(Some(message));
+    }
     for item in items.split(';') {
         put(alloc, &mut message, item)?;
     }
@@ -180,9 +185,8 @@ fn message_of(alloc: Global, row: &str) -> Result<Option<Message>, Fail> {
 fn messages(alloc: Global) -> Result<Vec<Message>, Fail> {
     let mut all = Vec::new(alloc);
     for row in MESSAGES.lines() {
-        if let Some(message) = message_of(alloc, row)? {
-            all.push(message)?;
-        }
+        let message = message_of(alloc, row)?.ok_or("no message")?;
+        all.push(message)?;
     }
     Ok(all)
 }
@@ -194,6 +198,19 @@ fn kind_of(word: &str) -> Option<Kind> {
         "glob" => Some(Kind::Glob),
         _ => None,
     }
+}
+
+// Whether each letter is that of a flag; `-` is none.
+fn are_flags(word: &str) -> bool {
+    if word == "-" {
+        return true;
+    }
+    for letter in word.chars() {
+        if !(letter == 'i' || letter == 'p' || letter == 's' || letter == 'g') {
+            return false;
+        }
+    }
+    !word.is_empty()
 }
 
 fn flags_of(word: &str) -> Flags {
@@ -227,6 +244,9 @@ fn field_of(alloc: Global, text: &str) -> Result<Option<Expr>, AllocError> {
     let (Some((flags, pattern)), Some(kind)) = (rest.split_once(' '), kind_of(kind)) else {
         return Ok(None);
     };
+    if !are_flags(flags) {
+        return Ok(None);
+    }
     Ok(Some(Expr::Field {
         name: name_of(alloc, name)?,
         pattern: PatternText {
@@ -256,8 +276,11 @@ fn compare_of(alloc: Global, text: &str) -> Result<Option<Expr>, Fail> {
 }
 
 // The last so many, the first of them first.
-fn taken(alloc: Global, read: &mut Vec<Expr>, text: &str) -> Result<Items<Expr>, AllocError> {
-    let count = text.parse::<usize>().unwrap_or(0).min(read.len());
+fn taken(alloc: Global, read: &mut Vec<Expr>, text: &str) -> Result<Items<Expr>, Fail> {
+    let count: usize = text.parse()?;
+    if count > read.len() {
+        return Err(Fail::from("not so many"));
+    }
     let from = read.len() - count;
     Ok(Items::from_vec(read.split_off(from)?))
 }
@@ -271,7 +294,7 @@ fn read_one(alloc: Global, read: &mut Vec<Expr>, call: &str) -> Result<bool, Fai
         "tags" => Some(Expr::Tags(names_of(alloc, text)?)),
         "field" => field_of(alloc, text)?,
         "compare" => compare_of(alloc, text)?,
-        "named" => Some(Expr::Named(text.parse().unwrap_or(u32::MAX))),
+        "named" => Some(Expr::Named(text.parse()?)),
         "and" => Some(Expr::And(taken(alloc, read, text)?)),
         "or" => Some(Expr::Or(taken(alloc, read, text)?)),
         "not" => match read.pop() {
@@ -306,9 +329,8 @@ fn expr_of(alloc: Global, text: &str) -> Result<Option<Expr>, Fail> {
 fn named(alloc: Global) -> Result<Vec<Expr>, Fail> {
     let mut all = Vec::new(alloc);
     for row in NAMED.lines() {
-        if let Some(expr) = expr_of(alloc, row)? {
-            all.push(expr)?;
-        }
+        let expr = expr_of(alloc, row)?.ok_or("no expression")?;
+        all.push(expr)?;
     }
     Ok(all)
 }
