@@ -9,8 +9,9 @@ use Rattle.sg_frame.specs.declared.framer.Framed.{Framed}
 use Rattle.sg_frame.specs.declared.framer.Framed.TheVariants.{Item as Given, More, BadFrame}
 use Rattle.sg_frame.specs.Framing.{Framing}
 use Rattle.sg_frame.specs.Records.{Record}
+use Rattle.sg_route.specs.Offers.{SameOffers}
 use Rattle.sg_actor.specs.Reading.{one_if}
-use Rattle.sg_actor.specs.Sources.{SourceState, source, SameOffers}
+use Rattle.sg_actor.specs.Sources.{SourceState, source}
 use Rattle.sg_actor.specs.Steps.{IsFed, IsDealt, IsLooked, IsSpent, IsAsBefore, is_bad_frame, is_bad, is_spent, is_over, has_pulled, was_idle, Keeps, Pulls}
 use Rattle.sg_actor.specs.declared.reader.Reader.{Reader}
 use Rattle.sg_actor.specs.declared.settings.SourceSpec.{SourceSpec}

@@ -13,11 +13,11 @@ use Rattle.sg_frame.specs.declared.framer.Framed.TheVariants.{Item as Given, Mor
 use Rattle.sg_frame.specs.Items.{Item}
 use Rattle.sg_frame.specs.Framing.{Framing, HasFramed, NextTells, fed}
 use Rattle.sg_frame.specs.Records.{Record, record_of}
-use Rattle.sg_route.specs.Offers.{record_at, AllWithin as RouteWithin}
+use Rattle.sg_route.specs.Offers.{record_at, AllWithin as RouteWithin, SameOffers, SameRouter}
 use Rattle.sg_counter.specs.Bringing.{AllWithin, MayEnter}
 use Rattle.sg_actor.specs.Reading.{items_ahead, bytes_pulled, AreRead}
-use Rattle.sg_actor.specs.Sources.{SourceState, source, Reads, end_of, IsOf, AreOf, HasRead, SameOffers, IsAhead, IsBadFrame, IsReady}
-use Rattle.sg_actor.specs.Steps.{FedBy, LooksBy, IsFed, Rests, Keeps, KeepsAll, IsLooked, SameRouter, HasTaken, TakesOne, IsAsBefore, end_at}
+use Rattle.sg_actor.specs.Sources.{SourceState, source, Reads, end_of, IsOf, AreOf, HasRead, IsAhead, IsBadFrame, IsReady}
+use Rattle.sg_actor.specs.Steps.{FedBy, LooksBy, IsFed, Rests, Keeps, KeepsAll, IsLooked, HasTaken, TakesOne, IsAsBefore, end_at}
 use Rattle.sg_actor.specs.declared.reader.Reader.{Reader}
 use Rattle.sg_actor.specs.declared.settings.SourceSpec.{SourceSpec}
 use Rattle.sg_actor.proofs.ReadLemmas.{read-taken}

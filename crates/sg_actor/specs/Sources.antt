@@ -60,11 +60,6 @@ abbrev pub HasRead : (ℕ → Record → List Offer → Type 0) → SourceSpec �
 HasRead offers spec s done ups = (behind : List Record)
     × (AreOf offers spec behind s.reader.held × Reads s (done ++ behind) ups)
 
--- a router that says the same
-pub record SameOffers (old new : ℕ → Record → List Offer → Type 0) : Type 0 where
-  pub forth : (i : ℕ) (r : Record) (offers : List Offer) → old i r offers → new i r offers
-  pub back : (i : ℕ) (r : Record) (offers : List Offer) → new i r offers → old i r offers
-
 -- what the framer gave last is what stands at the front of its bytes
 abbrev pub IsAhead : Framing → Framed → Type 0
 IsAhead f (Given bytes end at) = IsTimely at × (end ≤ fed f)

@@ -12,7 +12,7 @@ use Rattle.sg_frame.specs.Items.{IsSound}
 use Rattle.sg_frame.specs.Records.{Record}
 use Rattle.sg_frame.specs.Framing.{Framing, HasFramed, Goes, NextTells, fresh, items_left, open_left, with_bytes}
 use Rattle.sg_actor.specs.Reading.{bytes_pulled, one_if}
-use Rattle.sg_actor.specs.Sources.{SourceState, source, Reads, HasRead, SameOffers, IsReady}
+use Rattle.sg_actor.specs.Sources.{SourceState, source, Reads, HasRead, IsReady}
 use Rattle.sg_actor.specs.declared.reader.Reader.{Reader}
 use Rattle.sg_actor.specs.declared.settings.SourceSpec.{SourceSpec}
 use Rattle.sg_actor.specs.declared.reading.Found.{Found}
@@ -159,12 +159,6 @@ abbrev pub TakesOne : {E : Type 0} → Reader → Reader → Result Bool E → T
 TakesOne old new (Ok true) = length new.held ≡ length old.held + 1
 TakesOne old new (Ok false) = (new.held ≡ old.held) × IsLooked new.framer new.ahead
 TakesOne old new (Err e) = new.held ≡ old.held
-
--- a router that knows as much, and says the same
-pub record SameRouter (offers offers' : ℕ → Record → List Offer → Type 0) (inlets inlets' dests dests' : ℕ) : Type 0 where
-  pub same : SameOffers offers offers'
-  pub inlets_same : inlets' ≡ inlets
-  pub dests_same : dests' ≡ dests
 
 -- a bad count is ahead for which the present part isn't given up yet
 abbrev pub is_bad_frame : Framed → Bool

@@ -1,8 +1,9 @@
 // What a source's turn does with its inlet.
 ghost use Rattle.std.specs.Prelude.{◌≡◌, ◌≤◌, ◌<◌, ◌+◌, length, max, true};
+ghost use Rattle.sg_route.specs.Offers.{SameRouter};
 ghost use Rattle.sg_actor.specs.Sources.{source, IsReady};
 ghost use Rattle.sg_actor.specs.Bringing.{ReadsOn};
-ghost use Rattle.sg_actor.specs.Steps.{is_spent, is_over, Keeps, Finds, PullsAtMost, ReadsAll, IsAsBefore, SameRouter, Fails};
+ghost use Rattle.sg_actor.specs.Steps.{is_spent, is_over, Keeps, Finds, PullsAtMost, ReadsAll, IsAsBefore, Fails};
 
 use crate::SourceSpec;
 use crate::admitting::hand_in;

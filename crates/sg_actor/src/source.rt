@@ -1,8 +1,8 @@
 // A source and its turns.
 ghost use Rattle.std.specs.Prelude.{◌≡◌, ◌≤◌, ◌<◌, ◌+◌, ◌&&◌, IfOk, IfErr, length};
 ghost use Rattle.sg_device.specs.Inlet.{IsFresh};
+ghost use Rattle.sg_route.specs.Offers.{SameRouter};
 ghost use Rattle.sg_actor.specs.Sources.{source, IsReady};
-ghost use Rattle.sg_actor.specs.Steps.{SameRouter};
 ghost use Rattle.sg_actor.specs.Bringing.{is_nothing};
 ghost use Rattle.sg_actor.specs.SourceTurns.{actor, FitsSource, TakesTurn, IsNewSource, bad_after};
 ghost use Rattle.sg_actor.specs.Reading.{one_if};

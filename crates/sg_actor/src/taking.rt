@@ -1,7 +1,8 @@
 // Items that become records to be admitted.
 ghost use Rattle.std.specs.Prelude.{◌≡◌, ◌≤◌, ◌<◌, ◌+◌, ◌^◌, length, max};
+ghost use Rattle.sg_route.specs.Offers.{SameRouter};
 ghost use Rattle.sg_actor.specs.Sources.{source};
-ghost use Rattle.sg_actor.specs.Steps.{IsSafe, KeepsAll, HasTaken, TakesOne, TakesAll, SameRouter, end_at};
+ghost use Rattle.sg_actor.specs.Steps.{IsSafe, KeepsAll, HasTaken, TakesOne, TakesAll, end_at};
 
 use crate::SourceSpec;
 use crate::reader::{Reader, look};

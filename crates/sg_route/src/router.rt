@@ -1,8 +1,8 @@
 // Who gives the offers of a record.
-ghost use Rattle.std.specs.Prelude.{◌≡◌, ◌<◌, ◌≤◌, ◌≤ℤ◌, ℕ, List, pos, length, IfOk};
+ghost use Rattle.std.specs.Prelude.{◌<◌, ◌≤◌, ◌≤ℤ◌, ℕ, List, pos, length, IfOk};
 ghost use Rattle.sg_msg.specs.declared.offer.Offer.{Offer as AnOffer};
 ghost use Rattle.sg_frame.specs.Records.{Record};
-ghost use Rattle.sg_route.specs.Offers.{AllWithin, record_at};
+ghost use Rattle.sg_route.specs.Offers.{AllWithin, SameRouter, record_at};
 
 use bytes::Bytes;
 use sg_msg::Offer;
@@ -38,10 +38,6 @@ pub trait Router {
             (λ found. offers self.old inlet (record_at peer.now item at) found.items) }
         ensures bound { IfOk result (λ found. length found.items ≤ 1024) }
         ensures within { IfOk result (λ found. AllWithin (dests self.old) found.items) }
-        ensures stays { (i : ℕ) (record_of : Record) (found : List AnOffer)
-            → offers self.old i record_of found → offers self.new i record_of found }
-        ensures back { (i : ℕ) (record_of : Record) (found : List AnOffer)
-            → offers self.new i record_of found → offers self.old i record_of found }
-        ensures inlets { inlets self.new ≡ inlets self.old }
-        ensures dests { dests self.new ≡ dests self.old };
+        ensures same { SameRouter (offers self.old) (offers self.new) (inlets self.old)
+            (inlets self.new) (dests self.old) (dests self.new) };
 }

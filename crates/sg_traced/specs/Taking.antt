@@ -2,19 +2,10 @@
 use Rattle.std.specs.Prelude.{◌≡◌, ◌≤◌, ℕ, ◌+◌, List, [], ◌++◌, length, Bool, true, false}
 use Rattle.sg_frame.specs.Framing.{Framing, Goes, items_left, open_left, fed}
 use Rattle.sg_frame.specs.Items.{Item, Form, Text, Count, Body, Bad}
-use Rattle.sg_frame.specs.Records.{Record}
-use Rattle.sg_msg.specs.declared.offer.Offer.{Offer}
 use Rattle.sg_traced.specs.declared.target.Target.{Target}
 use Rattle.sg_traced.specs.declared.tracer.Tracer.{Tracer}
 use Rattle.sg_traced.specs.Reading.{AreTimely}
 use Rattle.sg_traced.specs.Rows.{Row, Offering, AreOffered, items_in, rows_text}
-
--- a router that knows as much, and gives no other offers
-pub record SameRouter (offers offers' : ℕ → Record → List Offer → Type 0) (inlets inlets' dests dests' : ℕ) : Type 0 where
-  pub back : (i : ℕ) (of_record : Record) (found : List Offer) → offers' i of_record found
-      → offers i of_record found
-  pub inlets_same : inlets' ≡ inlets
-  pub dests_same : dests' ≡ dests
 
 -- the framer gave these items
 pub record Passes (old new : Framing) (items : List Item) : Type 0 where

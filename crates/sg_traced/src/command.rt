@@ -1,6 +1,6 @@
 // The command.
 ghost use Rattle.std.specs.Prelude.{◌≡◌, ◌<◌, ◌++◌, length, OnOk};
-ghost use Rattle.sg_traced.specs.Taking.{SameRouter};
+ghost use Rattle.sg_route.specs.Offers.{SameRouter};
 ghost use Rattle.sg_traced.specs.Traces.{Ends, Traces, end_text};
 
 use crate::saying::say;

@@ -2,10 +2,10 @@
 ghost use Rattle.std.specs.Prelude.{◌≡◌, ◌≤◌, ◌<◌, ◌≤ℤ◌, ◌+◌, ◌++◌, ◌^◌, pos, length, List, IfOk, OnOk};
 ghost use Rattle.sg_msg.specs.declared.offer.Offer.{Offer as AnOffer};
 ghost use Rattle.sg_frame.specs.Framing.{fed};
-ghost use Rattle.sg_route.specs.Offers.{record_at};
+ghost use Rattle.sg_route.specs.Offers.{record_at, SameRouter};
 ghost use Rattle.sg_traced.specs.Reading.{AreTimely};
 ghost use Rattle.sg_traced.specs.Rows.{offers_text};
-ghost use Rattle.sg_traced.specs.Taking.{SameRouter, TakesAll};
+ghost use Rattle.sg_traced.specs.Taking.{TakesAll};
 
 use crate::lines::append_offers;
 use crate::tracer::Tracer;

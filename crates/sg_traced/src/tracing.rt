@@ -1,8 +1,8 @@
 // The trace of an open file.
 ghost use Rattle.std.specs.Prelude.{◌≡◌, ◌≤◌, ◌<◌, ◌^◌, [], length, true, IfOk};
 ghost use Rattle.sg_frame.specs.Framing.{fed, fresh};
+ghost use Rattle.sg_route.specs.Offers.{SameRouter};
 ghost use Rattle.sg_traced.specs.Pulling.{Pulls};
-ghost use Rattle.sg_traced.specs.Taking.{SameRouter};
 ghost use Rattle.sg_traced.specs.Traces.{TracesTo};
 ghost use Rattle.sg_traced.specs.Tracing.{IsBegun};
 

@@ -9,13 +9,12 @@ use Rattle.sg_machine.specs.declared.event.Admission.{Admission}
 use Rattle.sg_machine.specs.declared.setup.Setup.{Setup}
 use Rattle.sg_frame.specs.Records.{Record}
 use Rattle.sg_list.proofs.ListLemmas.{change-set, slice_get-some, slice_get-below}
-use Rattle.sg_route.specs.Offers.{record_at}
+use Rattle.sg_route.specs.Offers.{record_at, SameOffers, SameRouter}
 use Rattle.sg_counter.specs.Exchanges.{Exchange, OfSource, OfDest}
 use Rattle.sg_counter.specs.declared.calls.CoreCall.{CoreCall}
 use Rattle.sg_counter.specs.declared.calls.CoreReply.{CoreReply}
 use Rattle.sg_actor.specs.Bringing.{AllBy, admitted_in}
-use Rattle.sg_actor.specs.Sources.{AreOf, SameOffers, IsReady}
-use Rattle.sg_actor.specs.Steps.{SameRouter}
+use Rattle.sg_actor.specs.Sources.{AreOf, IsReady}
 use Rattle.sg_actor.specs.Outages.{HasFailures}
 use Rattle.sg_actor.specs.SourceTurns.{ActorState, FitsSource, TurnsWith, TakesTurn}
 use Rattle.sg_actor.specs.DestTurns.{SendsTurn}

@@ -5,8 +5,8 @@ use Rattle.sg_device.specs.Outlet.{OutletState}
 use Rattle.sg_msg.specs.declared.offer.Offer.{Offer}
 use Rattle.sg_machine.specs.declared.setup.Setup.{Setup}
 use Rattle.sg_frame.specs.Records.{Record}
+use Rattle.sg_route.specs.Offers.{SameRouter}
 use Rattle.sg_actor.specs.Sources.{IsReady}
-use Rattle.sg_actor.specs.Steps.{SameRouter}
 use Rattle.sg_actor.specs.Outages.{HasFailures}
 use Rattle.sg_actor.specs.SourceTurns.{ActorState, actor, FitsSource}
 use Rattle.sg_actor.specs.declared.dest.DestActor.{DestActor}

@@ -1,6 +1,7 @@
 use Rattle.std.proofs.Common.{◌≡◌, ◌≤◌, max}
 use Rattle.std.specs.Prelude.{length}
-use Rattle.sg_actor.specs.Steps.{KeepsAll, HasTaken, SameRouter}
+use Rattle.sg_route.specs.Offers.{SameRouter}
+use Rattle.sg_actor.specs.Steps.{KeepsAll, HasTaken}
 use Rattle.sg_actor.proofs.taking.take_items.Given as goal
 
 abbrev pub invariant-loop-count : goal.invariant-loop-count

@@ -40,6 +40,6 @@ items-preserved g c =
     record {
       takes = takes-one (g.R.Router.offers c.args.router.now c.args.reader.inlet) c.args.targets.now c.args.peer.now c.args.tracer.now c.items.tracer new item traced.0
           c.items.invariant.takes c.requires.timely (subst (λ (x : Framing). Gives f x item) (sym done.rest.0) gives)
-          (c.items.invariant.router.back c.args.reader.inlet (record_at c.args.peer.now c.in-Item.bytes c.in-Item.at) traced.0 traced.1.0) traced.1.1 (ap (λ (n : ℕ). n + 1) done.rest.1);
+          (c.items.invariant.router.same.back c.args.reader.inlet (record_at c.args.peer.now c.in-Item.bytes c.in-Item.at) traced.0 traced.1.0) traced.1.1 (ap (λ (n : ℕ). n + 1) done.rest.1);
       router = same-then _ _ _ _ _ _ _ _ _ c.items.invariant.router done.router;
     }

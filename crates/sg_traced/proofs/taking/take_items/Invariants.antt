@@ -1,4 +1,5 @@
-use Rattle.sg_traced.specs.Taking.{SameRouter, Takes}
+use Rattle.sg_route.specs.Offers.{SameRouter}
+use Rattle.sg_traced.specs.Taking.{Takes}
 use Rattle.sg_traced.proofs.taking.take_items.Given as goal
 
 abbrev pub invariant-items : goal.invariant-items

@@ -78,7 +78,7 @@ returns-then-bad-clause-traces g c =
     let said : Tracer = record new { text = c.say_piece.new.text } in
     let n = c.loop-pull._pull in
     let pull = subst (λ (b : Bool). Pulls feed feed' tracer.framer f' (Ok b)) c.if-branch.false c.in_ok-pull_once.ensures.pulls in
-    let takes = takes-back offering other targets c.peer.result.now (record tracer { framer = f' }) new c.in_ok-bad.bad (c.loop-pull.invariant.router.back c.args.reader.inlet) c.in_ok-bad.ensures.takes in
+    let takes = takes-back offering other targets c.peer.result.now (record tracer { framer = f' }) new c.in_ok-bad.bad (c.loop-pull.invariant.router.same.back c.args.reader.inlet) c.in_ok-bad.ensures.takes in
     let one = tracing-taken offering targets kind limit first world feed now tracer n feed' f' new c.in_ok-bad.bad c.peer.result.now c.loop-pull.invariant.tracing pull c.peer.ensures takes in
     let two = tracing-said offering targets kind limit first world feed' now new (n + 1) later said one c.in_ok-say_piece.ensures.says c.in_ok-say_piece.ensures.some refl refl in
     traces-bad offering targets kind limit first world feed' later said (n + 1) two (subst (λ (b : Bool). IsBadIf b (open_left new.framer)) c.if-bad.true takes.1.bad_count)
@@ -102,7 +102,7 @@ loop-pull-preserved g c =
     let said : Tracer = record new { text = c.say_piece.new.text } in
     let n = c.loop-pull._pull in
     let pull = subst (λ (b : Bool). Pulls feed feed' tracer.framer f' (Ok b)) c.if-branch.false c.in_ok-pull_once.ensures.pulls in
-    let takes = takes-back offering other targets c.peer.result.now (record tracer { framer = f' }) new c.in_ok-bad.bad (c.loop-pull.invariant.router.back c.args.reader.inlet) c.in_ok-bad.ensures.takes in
+    let takes = takes-back offering other targets c.peer.result.now (record tracer { framer = f' }) new c.in_ok-bad.bad (c.loop-pull.invariant.router.same.back c.args.reader.inlet) c.in_ok-bad.ensures.takes in
     let one = tracing-taken offering targets kind limit first world feed now tracer n feed' f' new c.in_ok-bad.bad c.peer.result.now c.loop-pull.invariant.tracing pull c.peer.ensures takes in
     record {
       tracing = tracing-said offering targets kind limit first world feed' now new (n + 1) later said one c.in_ok-say_piece.ensures.says c.in_ok-say_piece.ensures.some refl refl;

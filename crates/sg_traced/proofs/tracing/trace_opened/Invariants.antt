@@ -1,4 +1,4 @@
-use Rattle.sg_traced.specs.Taking.{SameRouter}
+use Rattle.sg_route.specs.Offers.{SameRouter}
 use Rattle.sg_traced.specs.Tracing.{IsTracing}
 use Rattle.sg_traced.proofs.tracing.trace_opened.Given as goal
 

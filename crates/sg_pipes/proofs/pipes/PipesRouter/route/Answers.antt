@@ -1,4 +1,4 @@
-use Rattle.std.proofs.Common.{◌≡◌, ℤ, sym, subst, to_z, of_z, w64, arith}
+use Rattle.std.proofs.Common.{◌≡◌, ℤ, ap, length, sym, subst, to_z, of_z, w64, arith}
 use Rattle.std.specs.Prelude.{IfOk}
 use Rattle.std.proofs.lemmas.Int.{ints}
 use Rattle.std.proofs.lemmas.Result.{IfOk-weaker}
@@ -32,8 +32,12 @@ returns-clause-within c =
     IfOk-weaker c.routed.result _ _ (λ found are.
     are-within woods c.args.inlet (record_at c.args.peer.now c.args.item c.args.at) found.items c.args.self.now.within.0 are) offers
 
-pub returns-clause-stays : goal.returns-clause-stays
-returns-clause-stays c = λ i record_of found are. subst (λ (woods : Woods). AreOffers woods i record_of found) (sym c.routed.ensures.stays) are
-
-pub returns-clause-back : goal.returns-clause-back
-returns-clause-back c = λ i record_of found are. subst (λ (woods : Woods). AreOffers woods i record_of found) c.routed.ensures.stays are
+pub returns-clause-same : goal.returns-clause-same
+returns-clause-same c = record {
+  same = record {
+    forth = λ i record_of found are. subst (λ (woods : Woods). AreOffers woods i record_of found) (sym c.routed.ensures.stays) are;
+    back = λ i record_of found are. subst (λ (woods : Woods). AreOffers woods i record_of found) c.routed.ensures.stays are;
+  };
+  inlets_same = ap (λ inlets. length inlets.items) c.routed.ensures.rules.0;
+  dests_same = ap (λ dests. length dests.items) c.routed.ensures.rules.1;
+}
