@@ -1,9 +1,13 @@
 pub mod PlaceLemmas
 pub mod CallerLemmas
 pub mod ListLemmas
+pub mod TurnLemmas
+pub mod KindLemmas
 pub mod SeatLemmas
 pub mod ActorLemmas
-pub mod RoundLemmas
+pub mod PhaseLemmas
 pub mod RunLemmas
 pub mod WorkLemmas
 pub mod TakeLemmas
+pub mod LaneLemmas
+pub mod TogetherLemmas

@@ -5,6 +5,7 @@ use Rattle.std.proofs.lemmas.Option.{slice_get-get_or}
 use Rattle.std.specs.Prelude.{◌||◌}
 use Rattle.sg_list.proofs.ListLemmas.{change-set, length-change, get-change-same, get-change-other, slice_get-below, some-same}
 use Rattle.sg_list.specs.Lists.{change}
+use Rattle.sg_booth.specs.Lists.{total}
 use Rattle.sg_crew.specs.Crews.{any, AllChanged}
 
 module _ {X : Type 0} (passes : X → Bool) where
@@ -70,7 +71,7 @@ changed-none changed old = record { all = refl; each = λ j x y below. absurd (o
 pub item-there : {X : Type 0} (xs : List X) (i : ℕ) (x : X) → i < length xs → x ≡ get_or xs i x → slice_get xs i ≡ Some x
 item-there xs i x below is = slice_get-get_or xs i x below ∙ ap Some (sym is)
 
-last-or : (j n : ℕ) → j < n + 1 → (j ≡ n) ⊎ ((j < n) × (j ≡ n → ⊥))
+pub last-or : (j n : ℕ) → j < n + 1 → (j ≡ n) ⊎ ((j < n) × (j ≡ n → ⊥))
 last-or j n h = elim (cases_eq j n) [ inl e ↦ inl e | inr d ↦ inr (omega (arith, h, d), d) ]
 
 -- the item that is next, as it was
@@ -127,6 +128,14 @@ part-more {X} {Y} g xs i x e = let k : i + 1 ≡ suc i = omega arith in ap (λ n
     next (y ∷ ys) zero e = ap (λ z. g z ∷ []) (some-same y x e)
     next (y ∷ ys) (suc n) e = ap (λ l. g y ∷ l) (next ys n e)
 
+pub total-more : {X : Type 0} (g : X → ℕ) (xs : List X) (i : ℕ) (x : X) → slice_get xs i ≡ Some x → total g (take (i + 1) xs) ≡ total g (take i xs) + g x
+total-more {X} g xs i x e = let k : i + 1 ≡ suc i = omega arith in ap (λ n. total g (take n xs)) k ∙ next xs i e
+  where
+    next : (ys : List X) (n : ℕ) → slice_get ys n ≡ Some x → total g (take (suc n) ys) ≡ total g (take n ys) + g x
+    next [] n e = absurd (let wrong : None ≡ Some x = e in cc)
+    next (y ∷ ys) zero e = let same = ap g (some-same y x e) in omega (arith, same)
+    next (y ∷ ys) (suc n) e = let rest = next ys n e in omega (arith, rest)
+
 pub take-whole : {X : Type 0} (xs : List X) (n : ℕ) → n ≡ length xs → take n xs ≡ xs
 take-whole {X} xs n e = ap (λ k. take k xs) e ∙ whole xs
   where
@@ -157,23 +166,3 @@ back-is {X} new rest n e = ap (λ k. take k (new ++ rest)) (sym e) ∙ first new
     first : (xs : List X) → take (length xs) (xs ++ rest) ≡ xs
     first [] = take-none rest
     first (x ∷ xs) = ap (λ l. x ∷ l) (first xs)
-
--- this holds of each item, by its place
-pub every-all : {X : Type 0} (P : X → Type 0) (xs : List X) → ((j : ℕ) (x : X) → slice_get xs j ≡ Some x → P x) → (i : ℕ) (d : X) → i < length xs → P (get_or xs i d)
-every-all P xs h i d below = h i (get_or xs i d) (slice_get-get_or xs i d below)
-
--- Two items.
-
-pub both-hold : {X : Type 0} (P : X → Type 0) (a b : X) → P a → P b → (k : ℕ) (d : X) → k < 2 → P (get_or (a ∷ b ∷ []) k d)
-both-hold P a b p q zero d below = p
-both-hold P a b p q (suc zero) d below = q
-both-hold P a b p q (suc (suc k)) d below = absurd (omega (arith, below))
-
-pub both-changed : {X : Type 0} (changed : X → X → Type 0) (a b r s : X) (new : List X) → new ≡ r ∷ s ∷ []
-    → ((i : ℕ) (d : X) → i < 2 → changed (get_or (a ∷ b ∷ []) i d) (get_or new i d)) → changed a r × changed b s
-both-changed {X} changed a b r s new e h =
-    let h' = subst (λ xs. (i : ℕ) (d : X) → i < 2 → changed (get_or (a ∷ b ∷ []) i d) (get_or xs i d)) e h in
-    (h' 0 a (omega arith), h' 1 a (omega arith))
-
-pub none-hold : {X : Type 0} (P : X → Type 0) (xs : List X) → xs ≡ [] → (k : ℕ) (d : X) → k < length xs → P (get_or xs k d)
-none-hold P xs e k d below = absurd (let none = ap length e in omega (arith, none, below))

@@ -1,4 +1,4 @@
--- Seats of a round, and the first seat, into which they are joined.
+-- Seats of a phase, and the first seat, into which they are joined.
 use Rattle.std.proofs.Common.{arith, ◌≡◌, ◌≤◌, ◌<◌, ◌+◌, ◌-◌, ℕ, suc, List, [], ◌∷◌, ◌++◌, length, map, refl, ap, sym, ◌∙◌, subst, slice_get, Some, inl, inr, append_assoc, length-append}
 use Rattle.std.proofs.lemmas.List.{append-nil, map-append}
 use Rattle.std.specs.Prelude.{◌*◌}
@@ -42,24 +42,24 @@ behind hub old new (x ∷ made) m =
       ),
     )
 
--- A seat behind the turn of a round, which is this caller's and made these calls.
+-- A seat behind the turns of a phase, which is this caller's and made these calls.
 pub record IsSpent (hub : HubState) (first : SeatState) (who : Caller) (made : List Exchange) (seat : SeatState) : Type 0 where
   pub rises : Rises (length first.seen) seat.own (length seat.seen)
   pub calls : exchanges_of (entries_at seat.seen seat.own) ≡ made
   pub by : AllBy who made
   pub joined : seat.joined ≡ []
-  pub sum : length seat.own + seat.left ≡ 4
+  pub sum : length seat.own + seat.left ≡ 1024
   pub of_hub : IsDeskOf hub first → IsDeskOf hub seat
 
-pub is-spent : (hub : HubState) (first old new : SeatState) (who : Caller) (made : List Exchange) → old ≡ fresh_desk first 4 → Makes (SeatStep hub) old made new → AllBy who made → length made ≤ 4
+pub is-spent : (hub : HubState) (first old new : SeatState) (who : Caller) (made : List Exchange) → old ≡ fresh_desk first 1024 → Makes (SeatStep hub) old made new → AllBy who made → length made ≤ 1024
     → IsSpent hub first who made new
 is-spent hub first old new who made dealt makes by few =
-    let from : Makes (SeatStep hub) (fresh_desk first 4) made new = subst (λ d. Makes (SeatStep hub) d made new) dealt makes in
-    let on : GoesOn hub (fresh_desk first 4) made new = goes-on hub (fresh_desk first 4) new made from in
-    let b = behind hub (fresh_desk first 4) new made from in
+    let from : Makes (SeatStep hub) (fresh_desk first 1024) made new = subst (λ d. Makes (SeatStep hub) d made new) dealt makes in
+    let on : GoesOn hub (fresh_desk first 1024) made new = goes-on hub (fresh_desk first 1024) new made from in
+    let b = behind hub (fresh_desk first 1024) new made from in
     let own : new.own ≡ b.0 = b.1.0 in
     let long : length new.own ≡ length made = ap length own ∙ b.1.1.1 in
-    let left : new.left ≡ 4 - length made = on.left in
+    let left : new.left ≡ 1024 - length made = on.left in
     record {
       rises = subst (λ l. Rises (length first.seen) l (length new.seen)) (sym own) b.1.1.0;
       calls = on.calls;
@@ -117,8 +117,8 @@ each-by : (who : Caller) (made : List Exchange) → AllBy who made → ByCaller 
 each-by who [] h = tt
 each-by who (x ∷ made) h = (h.0, each-by who made h.1)
 
-sums : (seats : List SeatState) → ((j : ℕ) (seat : SeatState) → slice_get seats j ≡ Some seat → length seat.own + seat.left ≡ 4)
-    → length (joined_up (map (λ (seat : SeatState). seat.own) seats)) + total (λ (seat : SeatState). seat.left) seats ≡ 4 * length seats
+sums : (seats : List SeatState) → ((j : ℕ) (seat : SeatState) → slice_get seats j ≡ Some seat → length seat.own + seat.left ≡ 1024)
+    → length (joined_up (map (λ (seat : SeatState). seat.own) seats)) + total (λ (seat : SeatState). seat.left) seats ≡ 1024 * length seats
 sums [] h = omega arith
 sums (s ∷ seats) h =
     let one = h 0 s refl in
@@ -230,7 +230,7 @@ module _ (hub : HubState) (f0 f1 f2 f3 : SeatState) (ss ds : List SeatState) (ma
       calls-of-round ordered all who [] (omega (arith, longer)) tt (λ other e. absurd (none-owns who not-there other e))
 
   -- no turn is lost
-  pub turns-stay : f1.left + (4 * length ss + 4 * length ds) ≡ f0.left → length (places f3) + f3.left ≡ length (places f0) + f0.left
+  pub turns-stay : f1.left + (1024 * length ss + 1024 * length ds) ≡ f0.left → length (places f3) + f3.left ≡ length (places f0) + f0.left
   turns-stay left1 =
       let all : length (places f3) ≡ length (places f0 ++ (joined_up (map (λ (seat : SeatState). seat.own) ss) ++ joined_up (map (λ (seat : SeatState). seat.own) ds))) = ap length places-are in
       let one = length-append (places f0) (joined_up (map (λ (seat : SeatState). seat.own) ss) ++ joined_up (map (λ (seat : SeatState). seat.own) ds)) in
@@ -246,8 +246,8 @@ module _ (hub : HubState) (f0 f1 f2 f3 : SeatState) (ss ds : List SeatState) (ma
 pub with-left : (seat : SeatState) (n : ℕ) → n ≡ seat.left → record seat { left = n } ≡ seat
 with-left seat n e = ap (λ (k : ℕ). record seat { left = k }) e
 
-pub less-left : (first mid new : SeatState) (i : ℕ) → mid ≡ record first { left = first.left - 4 * i } → new ≡ record mid { left = mid.left - 4 }
-    → new ≡ record first { left = first.left - 4 * (i + 1) }
+pub less-left : (first mid new : SeatState) (i : ℕ) → mid ≡ record first { left = first.left - 1024 * i } → new ≡ record mid { left = mid.left - 1024 }
+    → new ≡ record first { left = first.left - 1024 * (i + 1) }
 less-left first mid new i h k =
-    let e : (first.left - 4 * i) - 4 ≡ first.left - 4 * (i + 1) = omega arith in
-    k ∙ (ap (λ (s : SeatState). record s { left = s.left - 4 }) h ∙ ap (λ (n : ℕ). record first { left = n }) e)
+    let e : (first.left - 1024 * i) - 1024 ≡ first.left - 1024 * (i + 1) = omega arith in
+    k ∙ (ap (λ (s : SeatState). record s { left = s.left - 1024 }) h ∙ ap (λ (n : ℕ). record first { left = n }) e)

@@ -1,5 +1,5 @@
 -- A turn at a seat that is lent.
-use Rattle.std.proofs.Common.{◌≡◌, ◌≤◌, ℕ, List, length, Option, Bor}
+use Rattle.std.proofs.Common.{arith, ◌≡◌, ◌≤◌, ℕ, List, length, ap, Option, Some, None, Bor}
 use Rattle.std.specs.Prelude.{Result}
 use Rattle.sg_device.specs.Outlet.{OutletState}
 use Rattle.sg_msg.specs.declared.offer.Offer.{Offer}
@@ -13,14 +13,19 @@ use Rattle.sg_actor.specs.DestTurns.{SendsTurn}
 use Rattle.sg_actor.specs.declared.outage.Outage.{Outage}
 use Rattle.sg_actor.specs.declared.rendering.DestSpec.{DestSpec}
 use Rattle.sg_actor.specs.declared.settings.SourceSpec.{SourceSpec}
+use Rattle.sg_actor.specs.declared.turned.GivenUp.{GivenUp}
 use Rattle.sg_actor.specs.declared.turned.Turned.{Turned}
-use Rattle.sg_turns.specs.Turns.{Turn, answer_of, SourceTurns, dest_state, DestTurns}
+use Rattle.sg_turns.specs.Turns.{Turn, answer_of, SourceTurns, DestState, dest_state, SendsBy, DestTurns}
 use Rattle.sg_turns.proofs.TurnLemmas.{TurnIs, source-turn, dest-turn}
 use Rattle.sg_hub.specs.Seats.{HubState, SeatState, SeatStep}
 use Rattle.sg_hub.specs.declared.seat.HubSeat.{HubSeat}
 use Rattle.sg_hub.proofs.Seated.{same-seat}
 use Rattle.sg_crew.specs.declared.meter.Metered.{Metered}
-use Rattle.sg_crew.proofs.ActorLemmas.{dest-few}
+
+-- a destination's turn makes few calls
+dest-few : (cause : Option GivenUp) (spec : DestSpec) (x y : DestState) (turn : Turn) → SendsBy cause spec x y turn → length turn.made ≤ 4
+dest-few None spec x y turn (taken, (refused, k)) = k.few
+dest-few (Some cause) spec x y turn k = let e = ap length k.0 in omega (arith, e)
 
 -- a call at a seat that is lent, of a destination and of a source
 abbrev pub AtSeat : (D : Type 0) → HubSeat D → CoreCall → CoreReply → HubSeat D → Type 0

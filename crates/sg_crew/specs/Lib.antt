@@ -1,4 +1,3 @@
 pub mod Crews
 pub mod Workers
-pub mod Widths
 pub mod Lanes

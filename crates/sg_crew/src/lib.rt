@@ -1,14 +1,16 @@
 //! A run over a flow core whose sources and destinations take their turns at the same time, each at a seat
-//! of its own.
+//! of its own, on threads that stay over many rounds.
 #![tactic(auto)]
 
 mod gather;
 mod lanes;
+mod look;
+mod meeting;
 mod meter;
-mod round;
+mod phase;
 mod rounds;
 mod run;
-mod width;
+mod together;
 mod work;
 mod worker;
 

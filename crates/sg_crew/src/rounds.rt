@@ -4,12 +4,10 @@ ghost use Rattle.sg_booth.specs.Desks.{first_desk};
 ghost use Rattle.sg_standing.specs.States.{setup_of};
 ghost use Rattle.sg_turns.specs.Actors.{AreSources, AreDests, SourceTook, DestTook};
 ghost use Rattle.sg_crew.specs.Workers.{actors_of, AreCrew};
-ghost use Rattle.sg_crew.specs.Widths.{IsWidth};
 ghost use Rattle.sg_crew.specs.Crews.{HasServed, IsFirst};
 
-use crate::gather::Round;
-use crate::round::take_round;
-use crate::width::{Width, alone, spread_over};
+use crate::meeting::WORTH;
+use crate::phase::{MOST, Phase, take_phase};
 use crate::worker::Worker;
 use sg_actor::{DestActor, SourceActor};
 use sg_device::{Disk, Inlet, Outlet};
@@ -20,20 +18,32 @@ use std::alloc::Global;
 use std::sync::Wait;
 use std::thread::Threads;
 
-// How many records have to be spread over sources so that their turns are worth starting threads: with those of
-// the busiest source they take 400 to 1,000 microseconds, and starting three threads about 100.
-const WORTH: usize = 300;
-
-// In how many threads the next turns are taken: where fewer records were spread, on this one.
-fn width_after(round: Round, threads: usize, sources: usize) -> Width
-    requires { 0 < threads }
-    ensures { IsWidth result }
-{
-    if threads < 2 || round.spread < WORTH {
-        alone()
+// On how many threads the turns behind a phase are taken, where there may be so many: on this one where too few records
+// were spread over sources, unless the phase ended for its length alone.
+fn threads_after(phase: Phase, threads: usize) -> usize {
+    if phase.spread < WORTH && phase.rounds < MOST {
+        1
     } else {
-        spread_over(threads, sources)
+        threads
     }
+}
+
+// How many rounds a phase has at most where so many are left: one on this thread, and on threads all but one, so that
+// the last round is a phase of its own.
+fn rounds_of(left: u64, threads: usize) -> u64
+    requires { 0 < left }
+    ensures most { result ≤ 256 }
+    ensures some { 0 < result }
+    ensures left { result ≤ left }
+    ensures last { 1 < result → result < left }
+{
+    if threads < 2 {
+        return 1;
+    }
+    if left < 3 {
+        return 1;
+    }
+    (left - 1).min(MOST)
 }
 
 /// Runs so many rounds at most. The first quiet one is the last, and so is one in which a turn finds no
@@ -54,12 +64,11 @@ pub(crate) fn run_rounds<
     rounds: u64,
     threads: usize,
 ) -> Ended
-    requires threads { 0 < threads }
     requires some { 0 < rounds }
     requires first { first.old ≡ first_desk hub.now }
     requires few_sources { length sources.old.items ≤ 128 }
     requires few_dests { length dests.old.items ≤ 64 }
-    requires turns { 768 * rounds < hub.now.turns }
+    requires turns { 196608 * rounds < hub.now.turns }
     requires sources { AreSources I.state R.inlets R.dests (setup_of hub.now.made)
         (actors_of sources.old.items) }
     requires dests { AreDests O.state (setup_of hub.now.made) (actors_of dests.old.items) }
@@ -70,16 +79,23 @@ pub(crate) fn run_rounds<
     ensures crew { AreCrew I.state R.inlets R.dests O.state hub.entry.now sources.old.items
         sources.new.items dests.old.items dests.new.items }
 {
-    let mut width = spread_over(threads, sources.len());
-    for _round in 0..rounds {
-        let round = take_round(rt, alloc, hub, first, sources, dests, width);
-        if round.starved {
+    let mut left = rounds;
+    let mut threads = threads;
+    let mut beside = threads;
+    while left > 0 {
+        let most = rounds_of(left, beside);
+        let phase = take_phase(rt, alloc, hub, first, sources, dests, beside, most);
+        if phase.starved {
             return Ended::NoMemory;
         }
-        if !round.busy {
+        if phase.busy == 0 {
             return Ended::Quiet;
         }
-        width = width_after(round, threads, sources.len());
+        left -= phase.rounds;
+        if phase.alone {
+            threads = 1;
+        }
+        beside = threads_after(phase, threads);
     }
     Ended::RoundsSpent
 }

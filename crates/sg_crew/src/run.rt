@@ -49,12 +49,11 @@ fn leave<A, D: Disk>(room: Room<A, D>)
     actors.destroy_empty();
 }
 
-// How many threads take turns of one kind.
-fn threads<T: Threads>(rt: &T) -> usize
-    ensures { 0 < result }
-{
+// How many threads may take turns: as many as there are processors, and no more than sources or destinations, whichever
+// are more.
+fn threads<T: Threads>(rt: &T, sources: usize, dests: usize) -> usize {
     match available_parallelism(rt) {
-        Ok(count) => count.get(),
+        Ok(count) => count.get().min(sources.max(dests)),
         Err(_) => 1,
     }
 }
@@ -79,7 +78,7 @@ fn serve_at<
 ) -> Served<R, I, O, D>
     requires some { 0 < rounds }
     requires first { first ≡ first_desk hub }
-    requires turns { 768 * rounds < hub.turns }
+    requires turns { 196608 * rounds < hub.turns }
     requires few_sources { length sources.items ≤ 128 }
     requires few_dests { length dests.items ≤ 64 }
     requires sources { AreSources I.state R.inlets R.dests (setup_of hub.made) sources.items }
@@ -109,7 +108,7 @@ fn serve_at<
     } = dests_room;
     let mut readers = seat_all(&hub, &mut first, sources, readers);
     let mut senders = seat_all(&hub, &mut first, dests, senders);
-    let count = threads(rt);
+    let count = threads(rt, readers.len(), senders.len());
     let ended = run_rounds(
         rt,
         alloc,
@@ -188,10 +187,10 @@ fn serve_in<
 }
 
 /// Moves what the sources' inlets give through the core to the destinations' outlets, so many rounds at
-/// most, 1 to 2^36. In a round each source and each destination takes one turn, all at the same time; where
-/// sources brought in few records beside each other's in the round before, one after the other on this
-/// thread. The first quiet round, in which no turn does anything and none is idle, is the last, and so is
-/// one in which a turn finds no memory.
+/// most, 1 to 2^36. In a round each source and each destination takes one turn, all at the same time, on
+/// threads that stay for many rounds; where sources brought in few records beside each other's, one after
+/// the other on this thread. The first quiet round, in which no turn does anything and none is idle, is the
+/// last, and so is one in which a turn finds no memory.
 ///
 /// There is one source for each inlet of the core, and one destination for each of its destinations, in
 /// the order of their numbers. Where there is no memory for the threads' places, the turns are taken on this

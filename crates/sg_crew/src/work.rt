@@ -1,12 +1,12 @@
-// Turns at seats, at the same time.
-ghost use Rattle.std.specs.Prelude.{◌≡◌, ◌<◌, ℕ, All, length, slice_index_or};
+// Turns at seats.
+ghost use Rattle.std.specs.Prelude.{◌≡◌, ◌<◌, ◌+◌, ◌^◌};
+ghost use Rattle.sg_actor.specs.Reading.{one_if};
 ghost use Rattle.sg_turns.specs.Turns.{answer_of};
-ghost use Rattle.sg_crew.specs.Crews.{AllChanged};
-ghost use Rattle.sg_crew.specs.Widths.{IsWidth};
-ghost use Rattle.sg_crew.specs.Workers.{MayRead, MaySend, HasRead, HasSent};
+ghost use Rattle.sg_turns.specs.Serving.{is_busy_answer};
+ghost use Rattle.sg_crew.specs.Crews.{AllChanged, Every};
+ghost use Rattle.sg_crew.specs.Workers.{MayRead, MaySend, ReadsOnce, SendsOnce};
 
 use crate::meter::Metered;
-use crate::width::Width;
 use crate::worker::Worker;
 use sg_actor::{DestActor, SourceActor, Turned};
 use sg_device::{Disk, Inlet, NoMemory, Outlet};
@@ -14,7 +14,6 @@ use sg_hub::{Hub, HubSeat};
 use sg_route::Router;
 use std::alloc::Global;
 use std::sync::Wait;
-use std::thread::{Threads, for_each_mut};
 
 // What a turn came to, None where it found no memory.
 fn answer(turn: Result<Turned, NoMemory>) -> Option<Turned>
@@ -26,6 +25,25 @@ fn answer(turn: Result<Turned, NoMemory>) -> Option<Turned>
     }
 }
 
+// How many turns did something or were idle, with one more.
+fn with_turn(busy: u64, turn: Option<Turned>) -> u64
+    requires { busy < 2 ^ 32 }
+    ensures { result ≡ busy + one_if (is_busy_answer turn) }
+{
+    match turn {
+        Some(turned) => {
+            if turned.did {
+                return busy + 1;
+            }
+            if turned.idle {
+                return busy + 1;
+            }
+            busy
+        }
+        None => busy,
+    }
+}
+
 // A source's turn at its seat.
 fn read_one<T: Wait, R: Router, I: Inlet, D: Disk>(
     rt: &T,
@@ -34,21 +52,26 @@ fn read_one<T: Wait, R: Router, I: Inlet, D: Disk>(
     worker: &mut Worker<SourceActor<R, I>, D>,
 )
     requires { MayRead I.state R.inlets R.dests hub.now worker.old }
-    ensures { HasRead I.state R.offers R.inlets R.dests hub.entry.now worker.old worker.new }
+    ensures { ReadsOnce I.state R.offers R.inlets R.dests hub.entry.now worker.old worker.new }
 {
     let Worker {
         actor,
         seat,
         turn,
         records,
+        turns,
+        busy,
     } = worker;
     let mut counter = Metered {
         hub,
         seat,
         records: 0,
     };
-    *turn = answer(actor.turn(rt, alloc, &mut counter));
+    let answered = answer(actor.turn(rt, alloc, &mut counter));
     *records = counter.records;
+    *turn = answered;
+    *turns += 1;
+    *busy = with_turn(*busy, answered);
 }
 
 // A destination's turn at its seat.
@@ -59,86 +82,51 @@ fn send_one<T: Wait, O: Outlet, D: Disk>(
     worker: &mut Worker<DestActor<O>, D>,
 )
     requires { MaySend O.state hub.now worker.old }
-    ensures { HasSent O.state hub.entry.now worker.old worker.new }
+    ensures { SendsOnce O.state hub.entry.now worker.old worker.new }
 {
     let Worker {
         actor,
         seat,
         turn,
         records: _,
+        turns,
+        busy,
     } = worker;
     let mut counter = HubSeat { hub, seat };
-    *turn = answer(actor.turn(rt, alloc, &mut counter));
+    let answered = answer(actor.turn(rt, alloc, &mut counter));
+    *turn = answered;
+    *turns += 1;
+    *busy = with_turn(*busy, answered);
 }
 
-// Each source takes a turn, at the same time.
-fn read_each<T: Threads + Wait + Sync, R: Router + Send, I: Inlet + Send, D: Disk + Send>(
+/// Each source takes a turn.
+pub(crate) fn read_each<T: Wait, R: Router, I: Inlet, D: Disk>(
     rt: &T,
     alloc: Global,
     hub: &Hub<D>,
-    threads: usize,
-    workers: &mut [Worker<SourceActor<R, I>, D>],
+    workers: &mut Vec<Worker<SourceActor<R, I>, D>>,
 )
-    requires threads { 0 < threads }
-    requires may { All (MayRead I.state R.inlets R.dests hub.now) workers.old }
-    ensures all { length workers.new ≡ length workers.old }
-    ensures worked { (i : ℕ) (d : _) → i < length workers.old
-        → HasRead I.state R.offers R.inlets R.dests hub.entry.now (slice_index_or workers.old i d)
-        (slice_index_or workers.new i d) }
+    requires may { Every (MayRead I.state R.inlets R.dests hub.now) workers.old.items }
+    ensures read { AllChanged (ReadsOnce I.state R.offers R.inlets R.dests hub.entry.now)
+        workers.old.items workers.new.items }
 {
-    for_each_mut(
-        rt,
-        workers,
-        threads,
-        &|_, worker| read_one(rt, alloc, hub, worker),
-    );
+    for i in 0..workers.len() {
+        read_one(rt, alloc, hub, &mut workers[i]);
+    }
 }
 
-// Each destination takes a turn, at the same time.
-fn send_each<T: Threads + Wait + Sync, O: Outlet + Send, D: Disk + Send>(
+/// Each destination takes a turn.
+pub(crate) fn send_each<T: Wait, O: Outlet, D: Disk>(
     rt: &T,
     alloc: Global,
     hub: &Hub<D>,
-    threads: usize,
-    workers: &mut [Worker<DestActor<O>, D>],
+    workers: &mut Vec<Worker<DestActor<O>, D>>,
 )
-    requires threads { 0 < threads }
-    requires may { All (MaySend O.state hub.now) workers.old }
-    ensures all { length workers.new ≡ length workers.old }
-    ensures worked { (i : ℕ) (d : _) → i < length workers.old
-        → HasSent O.state hub.entry.now (slice_index_or workers.old i d)
-        (slice_index_or workers.new i d) }
+    requires may { Every (MaySend O.state hub.now) workers.old.items }
+    ensures sent { AllChanged (SendsOnce O.state hub.entry.now) workers.old.items
+        workers.new.items }
 {
-    for_each_mut(
-        rt,
-        workers,
-        threads,
-        &|_, worker| send_one(rt, alloc, hub, worker),
-    );
-}
-
-/// Each source and each destination takes a turn, at the same time.
-pub(crate) fn work<
-    T: Threads + Wait + Sync,
-    R: Router + Send,
-    I: Inlet + Send,
-    O: Outlet + Send,
-    D: Disk + Send,
->(
-    rt: &T,
-    alloc: Global,
-    hub: &Hub<D>,
-    width: Width,
-    sources: &mut Vec<Worker<SourceActor<R, I>, D>>,
-    dests: &mut Vec<Worker<DestActor<O>, D>>,
-)
-    requires width { IsWidth width }
-    requires read { All (MayRead I.state R.inlets R.dests hub.now) sources.old.items }
-    requires send { All (MaySend O.state hub.now) dests.old.items }
-    ensures read { AllChanged (HasRead I.state R.offers R.inlets R.dests hub.entry.now)
-        sources.old.items sources.new.items }
-    ensures send { AllChanged (HasSent O.state hub.entry.now) dests.old.items dests.new.items }
-{
-    read_each(rt, alloc, hub, width.readers, sources);
-    send_each(rt, alloc, hub, width.senders, dests);
+    for i in 0..workers.len() {
+        send_one(rt, alloc, hub, &mut workers[i]);
+    }
 }

@@ -9,12 +9,15 @@ use sg_hub::{Hub, Seat};
 use std::collections::VecDeque;
 
 /// An actor, its seat, and what its last turn came to: None where it found no memory, or there was none;
-/// and how many records a source brought in then.
+/// and how many records a source brought in then. How many turns of the phase it has taken, and how many of them
+/// did something or were idle.
 pub(crate) struct Worker<A, D: Disk> {
     pub(crate) actor: A,
     pub(crate) seat: Seat<D>,
     pub(crate) turn: Option<Turned>,
     pub(crate) records: usize,
+    pub(crate) turns: u64,
+    pub(crate) busy: u64,
 }
 
 /// Each actor gets a seat, which has no turns yet.
@@ -40,6 +43,8 @@ pub(crate) fn seat_all<A, D: Disk>(
             seat,
             turn: None,
             records: 0,
+            turns: 0,
+            busy: 0,
         });
     }
     rest.destroy_empty();
@@ -60,6 +65,8 @@ pub(crate) fn free_all<A, D: Disk>(workers: Vec<Worker<A, D>>, room: Vec<A>) -> 
             seat: _,
             turn: _,
             records: _,
+            turns: _,
+            busy: _,
         } = worker;
         actors.push_reserved(actor);
     }

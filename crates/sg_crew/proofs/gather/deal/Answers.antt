@@ -9,7 +9,7 @@ use Rattle.sg_crew.proofs.gather.deal.Goals as goal
 
 pub loop-i-init : goal.loop-i-init
 loop-i-init g c = record {
-  first = sym (with-left c.args.first.now (c.args.first.now.left - 4 * 0) (omega arith));
+  first = sym (with-left c.args.first.now (c.args.first.now.left - 1024 * 0) (omega arith));
   workers = changed-none (IsDealt c.args.first.now) c.args.workers.now.items;
 }
 
@@ -21,7 +21,7 @@ loop-i-preserved g c =
     record {
       first = less-left c.args.first.now c.loop-i.first c.deal_one.new.first c.loop-i.i i.first c.deal_one.ensures.first;
       workers = changed-more (IsDealt c.args.first.now) c.args.workers.now.items c.loop-i.workers.items c.loop-i.i c.index_mut.result.now c.deal_one.new.worker i.workers below
-          c.index_mut.ensures.value (c.deal_one.ensures.actor, c.deal_one.ensures.seat ∙ ap (λ (s : SeatState). fresh_desk s 4) i.first);
+          c.index_mut.ensures.value (let d = c.deal_one.ensures.dealt in (d.0, d.1 ∙ ap (λ (s : SeatState). fresh_desk s 1024) i.first, d.2, d.3));
     }
 
 pub returns-clause-workers : goal.returns-clause-workers

@@ -6,6 +6,6 @@ use Rattle.sg_crew.proofs.gather.deal.Given as goal
 
 abbrev pub invariant-loop-i : goal.invariant-loop-i
 invariant-loop-i g l = record {
-  first : l.first ≡ record l.initial.first { left = l.initial.first.left - 4 * l.i };
+  first : l.first ≡ record l.initial.first { left = l.initial.first.left - 1024 * l.i };
   workers : ChangedFirst (IsDealt l.initial.first) l.initial.workers.items l.workers.items l.i;
 }

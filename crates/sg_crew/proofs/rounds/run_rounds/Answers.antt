@@ -1,166 +1,133 @@
-use Rattle.std.proofs.Common.{arith, ◌≡◌, ◌+◌, length, refl, sym, ap, ◌∙◌, subst}
+use Rattle.std.proofs.Common.{arith, ◌≡◌, ◌+◌, ◌-◌, length, refl, sym, ap, ◌∙◌, subst}
 use Rattle.sg_booth.specs.Desks.{IsDeskOf, AreOrdered, places}
 use Rattle.sg_turns.specs.Actors.{SourceTakes, DestTakes, SourceTook, DestTook}
 use Rattle.sg_turns.proofs.ActorLemmas.{source-none, source-more, dest-none, dest-more}
-use Rattle.sg_turns.proofs.RoundLemmas.{busy-is, calm-is}
 use Rattle.sg_hub.specs.Seats.{SeatState}
 use Rattle.sg_crew.specs.Workers.{actors_of}
-use Rattle.sg_crew.proofs.RunLemmas.{run-none, run-more, run-quiet, run-out, run-spent}
+use Rattle.sg_crew.proofs.RunLemmas.{HasRun, run-none, run-more, run-quiet, run-out, run-spent}
 use Rattle.sg_crew.proofs.rounds.run_rounds.Goals as goal
 
-pub loop-round-init : goal.loop-round-init
-loop-round-init g c =
+pub loop-left-init : goal.loop-left-init
+loop-left-init g c =
     let state = g.I.Inlet.state in
     let offers = g.R.Router.offers in
     let inlets = g.R.Router.inlets in
     let dests = g.R.Router.dests in
     let is = c.requires.first in
+    let source = SourceTook state offers inlets dests in
+    let dest = DestTook g.O.Outlet.state in
+    let as' = actors_of c.args.sources.now.items in
+    let bs = actors_of c.args.dests.now.items in
+    let zero : 0 ≡ c.args.rounds - c.args.rounds = omega arith in
     record {
       hub = refl;
-      width = c.spread_over-width.ensures;
       first = subst (IsDeskOf c.args.hub.now) (sym is) (refl, refl);
       ordered = subst AreOrdered (sym is) (omega arith, tt);
       sum = subst (λ (s : SeatState). length (places s) + s.left ≡ c.args.hub.now.turns) (sym is) (omega arith);
+      few = omega arith;
       left = (let left = ap (λ (s : SeatState). s.left) is in omega (arith, left));
       sources = c.requires.sources;
       dests = c.requires.dests;
       all_sources = refl;
       all_dests = refl;
-      run = run-none (SourceTook state offers inlets dests) (DestTook g.O.Outlet.state) (SourceTakes state offers inlets dests) (DestTakes g.O.Outlet.state)
+      run = subst (λ n. HasRun source dest c.args.first.now as' as' bs bs n c.args.rounds) zero
+          (run-none source dest (SourceTakes state offers inlets dests) (DestTakes g.O.Outlet.state)
           (source-none state offers inlets dests) (dest-none g.O.Outlet.state) (source-more state offers inlets dests) (dest-more g.O.Outlet.state)
-          c.args.first.now (actors_of c.args.sources.now.items) (actors_of c.args.dests.now.items) (ap (λ (s : SeatState). s.seen) is);
+          c.args.first.now as' bs c.args.rounds (ap (λ (s : SeatState). s.seen) is));
     }
 
-pub take_round-round-requires-clause-left : goal.take_round-round-requires-clause-left
-take_round-round-requires-clause-left g c =
-    let i = c.loop-round.invariant in
-    let sources = i.all_sources in
-    let dests = i.all_dests in
-    let turns = c.requires.turns in
-    let same = ap (λ h. h.turns) i.hub in
-    omega (arith, sources, dests, turns, same, i.left, c.requires.few_sources, c.requires.few_dests)
+pub take_phase-phase-requires-clause-few_sources : goal.take_phase-phase-requires-clause-few_sources
+take_phase-phase-requires-clause-few_sources g c = let sources = c.loop-left.invariant.all_sources in omega (arith, sources, c.requires.few_sources)
 
-pub loop-round-preserved : goal.loop-round-preserved
-loop-round-preserved g c =
+pub take_phase-phase-requires-clause-few_dests : goal.take_phase-phase-requires-clause-few_dests
+take_phase-phase-requires-clause-few_dests g c = let dests = c.loop-left.invariant.all_dests in omega (arith, dests, c.requires.few_dests)
+
+pub take_phase-phase-requires-clause-left : goal.take_phase-phase-requires-clause-left
+take_phase-phase-requires-clause-left g c =
+    let i = c.loop-left.invariant in
+    let same = ap (λ h. h.turns) i.hub in
+    let left = i.left in
+    let few = i.few in
+    omega (arith, same, left, few, c.requires.turns, c.loop-left-test.true)
+
+pub loop-left-preserved : goal.loop-left-preserved
+loop-left-preserved g c =
     let state = g.I.Inlet.state in
     let offers = g.R.Router.offers in
     let inlets = g.R.Router.inlets in
     let dests = g.R.Router.dests in
-    let i = c.loop-round.invariant in
-    let e = c.take_round-round.ensures in
-    let k = e.took in
+    let i = c.loop-left.invariant in
+    let e = c.take_phase-phase.ensures in
+    let most = c.rounds_of-most.ensures in
+    let n = c.take_phase-phase.result.rounds in
+    let within = e.phase.few in
+    let least = e.phase.some in
+    let few = i.few in
+    let below = most.left in
+    let left = i.left in
+    let more = e.first.left in
+    let left' = c.loop-left.left - n in
+    let number : (c.args.rounds - c.loop-left.left) + n ≡ c.args.rounds - left' = omega (arith, few, below, within) in
+    let taken : left' + n ≡ c.loop-left.left = omega (arith, below, within) in
+    let source = SourceTook state offers inlets dests in
+    let dest = DestTook g.O.Outlet.state in
     record {
       hub = i.hub;
-      width = c.width_after-width.ensures;
       first = e.first.of_hub;
       ordered = e.first.ordered;
       sum = e.first.sum ∙ i.sum;
-      left = (let sources = i.all_sources in let dests = i.all_dests in let left = e.first.left in omega (arith, sources, dests, i.left, left, c.requires.few_sources, c.requires.few_dests));
+      few = omega (arith, few);
+      left = omega (arith, left, more, within, least, below);
       sources = e.crew.sources;
       dests = e.crew.dests;
       all_sources = e.crew.all_sources ∙ i.all_sources;
       all_dests = e.crew.all_dests ∙ i.all_dests;
-      run = run-more (SourceTook state offers inlets dests) (DestTook g.O.Outlet.state) (SourceTakes state offers inlets dests) (DestTakes g.O.Outlet.state)
+      run = subst (λ k. HasRun source dest c.take_phase-phase.new.first (actors_of c.args.sources.now.items) (actors_of c.take_phase-phase.new.sources.items)
+          (actors_of c.args.dests.now.items) (actors_of c.take_phase-phase.new.dests.items) k left') number
+          (run-more source dest (SourceTakes state offers inlets dests) (DestTakes g.O.Outlet.state)
           (source-none state offers inlets dests) (dest-none g.O.Outlet.state) (source-more state offers inlets dests) (dest-more g.O.Outlet.state)
-          c.loop-round.first c.take_round-round.new.first (actors_of c.args.sources.now.items) (actors_of c.loop-round.sources.items) (actors_of c.take_round-round.new.sources.items)
-          (actors_of c.args.dests.now.items) (actors_of c.loop-round.dests.items) (actors_of c.take_round-round.new.dests.items) c.take_round-round.result.busy c.take_round-round.result.starved
-          c.loop-round._round c.args.rounds i.run k (busy-is c.take_round-round.result.busy c.if-not-round.false) c.if-round.false;
+          c.loop-left.first c.take_phase-phase.new.first (actors_of c.args.sources.now.items) (actors_of c.loop-left.sources.items) (actors_of c.take_phase-phase.new.sources.items)
+          (actors_of c.args.dests.now.items) (actors_of c.loop-left.dests.items) (actors_of c.take_phase-phase.new.dests.items)
+          n c.take_phase-phase.result.busy c.take_phase-phase.result.starved (c.args.rounds - c.loop-left.left) c.loop-left.left left' c.args.rounds c.rounds_of-most.result
+          i.run e.took e.phase c.if-phase.false c.if-phase-eq0.false taken most.last);
     }
 
-pub returns-then-round-clause-served : goal.returns-then-round-clause-served
-returns-then-round-clause-served g c =
+pub returns-then-phase-clause-served : goal.returns-then-phase-clause-served
+returns-then-phase-clause-served g c =
     let state = g.I.Inlet.state in
     let offers = g.R.Router.offers in
     let inlets = g.R.Router.inlets in
     let dests = g.R.Router.dests in
+    let i = c.loop-left.invariant in
+    let e = c.take_phase-phase.ensures in
+    let few = i.few in
     run-out (SourceTook state offers inlets dests) (DestTook g.O.Outlet.state) (SourceTakes state offers inlets dests) (DestTakes g.O.Outlet.state)
     (source-none state offers inlets dests) (dest-none g.O.Outlet.state) (source-more state offers inlets dests) (dest-more g.O.Outlet.state)
-    c.loop-round.first c.take_round-round.new.first (actors_of c.args.sources.now.items) (actors_of c.loop-round.sources.items) (actors_of c.take_round-round.new.sources.items)
-    (actors_of c.args.dests.now.items) (actors_of c.loop-round.dests.items) (actors_of c.take_round-round.new.dests.items) c.take_round-round.result.busy c.take_round-round.result.starved
-    c.loop-round._round c.args.rounds c.loop-round.invariant.run c.take_round-round.ensures.took c.if-round.true (omega arith)
+    c.loop-left.first c.take_phase-phase.new.first (actors_of c.args.sources.now.items) (actors_of c.loop-left.sources.items) (actors_of c.take_phase-phase.new.sources.items)
+    (actors_of c.args.dests.now.items) (actors_of c.loop-left.dests.items) (actors_of c.take_phase-phase.new.dests.items)
+    c.take_phase-phase.result.rounds c.take_phase-phase.result.busy c.take_phase-phase.result.starved (c.args.rounds - c.loop-left.left) c.loop-left.left 0 c.args.rounds c.rounds_of-most.result
+    i.run e.took e.phase c.if-phase.true (omega (arith, few)) c.rounds_of-most.ensures.left
 
-pub returns-then-round-clause-first : goal.returns-then-round-clause-first
-returns-then-round-clause-first g c =
-    let i = c.loop-round.invariant in
-    let e = c.take_round-round.ensures in
-    let sources = i.all_sources in
-    let dests = i.all_dests in
-    let same = ap (λ h. h.turns) i.hub in
-    let left = e.first.left in
-    record {
-      of_hub = e.first.of_hub;
-      ordered = e.first.ordered;
-      sum = e.first.sum ∙ i.sum;
-      left = omega (arith, sources, dests, same, i.left, left, c.requires.turns, c.requires.few_sources, c.requires.few_dests);
-    }
-
-pub returns-then-round-clause-crew : goal.returns-then-round-clause-crew
-returns-then-round-clause-crew g c =
-    let i = c.loop-round.invariant in
-    let e = c.take_round-round.ensures in
-    record {
-      sources = e.crew.sources;
-      dests = e.crew.dests;
-      all_sources = e.crew.all_sources ∙ i.all_sources;
-      all_dests = e.crew.all_dests ∙ i.all_dests;
-    }
-
-pub returns-then-not-round-clause-served : goal.returns-then-not-round-clause-served
-returns-then-not-round-clause-served g c =
+pub returns-then-phase-eq0-clause-served : goal.returns-then-phase-eq0-clause-served
+returns-then-phase-eq0-clause-served g c =
     let state = g.I.Inlet.state in
     let offers = g.R.Router.offers in
     let inlets = g.R.Router.inlets in
     let dests = g.R.Router.dests in
+    let i = c.loop-left.invariant in
+    let e = c.take_phase-phase.ensures in
+    let few = i.few in
     run-quiet (SourceTook state offers inlets dests) (DestTook g.O.Outlet.state) (SourceTakes state offers inlets dests) (DestTakes g.O.Outlet.state)
     (source-none state offers inlets dests) (dest-none g.O.Outlet.state) (source-more state offers inlets dests) (dest-more g.O.Outlet.state)
-    c.loop-round.first c.take_round-round.new.first (actors_of c.args.sources.now.items) (actors_of c.loop-round.sources.items) (actors_of c.take_round-round.new.sources.items)
-    (actors_of c.args.dests.now.items) (actors_of c.loop-round.dests.items) (actors_of c.take_round-round.new.dests.items) c.take_round-round.result.busy c.take_round-round.result.starved
-    c.loop-round._round c.args.rounds c.loop-round.invariant.run c.take_round-round.ensures.took (calm-is c.take_round-round.result.busy c.if-not-round.true) c.if-round.false (omega arith)
-
-pub returns-then-not-round-clause-first : goal.returns-then-not-round-clause-first
-returns-then-not-round-clause-first g c =
-    let i = c.loop-round.invariant in
-    let e = c.take_round-round.ensures in
-    let sources = i.all_sources in
-    let dests = i.all_dests in
-    let same = ap (λ h. h.turns) i.hub in
-    let left = e.first.left in
-    record {
-      of_hub = e.first.of_hub;
-      ordered = e.first.ordered;
-      sum = e.first.sum ∙ i.sum;
-      left = omega (arith, sources, dests, same, i.left, left, c.requires.turns, c.requires.few_sources, c.requires.few_dests);
-    }
-
-pub returns-then-not-round-clause-crew : goal.returns-then-not-round-clause-crew
-returns-then-not-round-clause-crew g c =
-    let i = c.loop-round.invariant in
-    let e = c.take_round-round.ensures in
-    record {
-      sources = e.crew.sources;
-      dests = e.crew.dests;
-      all_sources = e.crew.all_sources ∙ i.all_sources;
-      all_dests = e.crew.all_dests ∙ i.all_dests;
-    }
+    c.loop-left.first c.take_phase-phase.new.first (actors_of c.args.sources.now.items) (actors_of c.loop-left.sources.items) (actors_of c.take_phase-phase.new.sources.items)
+    (actors_of c.args.dests.now.items) (actors_of c.loop-left.dests.items) (actors_of c.take_phase-phase.new.dests.items)
+    c.take_phase-phase.result.rounds c.take_phase-phase.result.busy c.take_phase-phase.result.starved (c.args.rounds - c.loop-left.left) c.loop-left.left 0 c.args.rounds c.rounds_of-most.result
+    i.run e.took e.phase c.if-phase.false c.if-phase-eq0.true (omega (arith, few)) c.rounds_of-most.ensures.left
 
 pub returns-clause-served : goal.returns-clause-served
 returns-clause-served g c =
-    run-spent (SourceTook g.I.Inlet.state g.R.Router.offers g.R.Router.inlets g.R.Router.dests) (DestTook g.O.Outlet.state) c.loop-round.first
-    (actors_of c.args.sources.now.items) (actors_of c.loop-round.sources.items) (actors_of c.args.dests.now.items) (actors_of c.loop-round.dests.items)
-    c.loop-round._round c.args.rounds c.loop-round.invariant.run (omega arith) c.requires.some
-
-pub returns-clause-first : goal.returns-clause-first
-returns-clause-first g c =
-    let i = c.loop-round.invariant in
-    let same = ap (λ h. h.turns) i.hub in
-    record {
-      of_hub = i.first;
-      ordered = i.ordered;
-      sum = i.sum;
-      left = omega (arith, same, i.left, c.requires.turns);
-    }
-
-pub returns-clause-crew : goal.returns-clause-crew
-returns-clause-crew g c =
-    let i = c.loop-round.invariant in
-    record { sources = i.sources; dests = i.dests; all_sources = i.all_sources; all_dests = i.all_dests }
+    let i = c.loop-left.invariant in
+    let over = c.loop-left-test.false in
+    run-spent (SourceTook g.I.Inlet.state g.R.Router.offers g.R.Router.inlets g.R.Router.dests) (DestTook g.O.Outlet.state) c.loop-left.first
+    (actors_of c.args.sources.now.items) (actors_of c.loop-left.sources.items) (actors_of c.args.dests.now.items) (actors_of c.loop-left.dests.items)
+    (c.args.rounds - c.loop-left.left) c.loop-left.left c.args.rounds i.run (omega (arith, over)) (omega (arith, over)) c.requires.some

@@ -1,4 +1,6 @@
-use Rattle.std.proofs.Common.{◌∙◌, sym}
+use Rattle.std.proofs.Common.{◌+◌, refl, ap, sym, ◌∙◌}
+use Rattle.sg_actor.specs.Reading.{one_if}
+use Rattle.sg_turns.specs.Serving.{is_busy_answer}
 use Rattle.sg_crew.proofs.WorkLemmas.{send-lent}
 use Rattle.sg_crew.proofs.work.send_one.Goals as goal
 
@@ -19,6 +21,10 @@ returns g c =
         makes = t.makes;
         own = t.own;
         few = t.few;
-        answered = t.answered ∙ sym c.answer.ensures;
+        answered = t.answered ∙ sym c.answer-answered.ensures;
+      };
+      counted = record {
+        turns = refl;
+        busy = c.with_turn.ensures ∙ ap (λ a. c.args.worker.now.busy + one_if (is_busy_answer a)) (sym (t.answered ∙ sym c.answer-answered.ensures));
       };
     }

@@ -1,35 +1,34 @@
 use Rattle.std.proofs.Common.{rules, arith, ◌≡◌, ◌++◌, refl, ap, sym, ◌∙◌, subst, append_assoc}
-use Rattle.std.specs.Prelude.{◌||◌, not, is_some}
+use Rattle.std.specs.Prelude.{◌||◌, ◌+◌, not, is_some}
 use Rattle.sg_booth.specs.Desks.{IsDeskOf, fresh_desk}
 use Rattle.sg_counter.specs.Exchanges.{OfSource, OfDest}
 use Rattle.sg_turns.specs.Actors.{SourceTakes, DestTakes}
-use Rattle.sg_turns.specs.Serving.{is_busy_answer}
-use Rattle.sg_turns.proofs.RoundLemmas.{turn-of}
 use Rattle.sg_hub.specs.Seats.{SeatState}
-use Rattle.sg_crew.specs.Crews.{any}
-use Rattle.sg_crew.specs.Workers.{actor_of, seat_of, turn_of, actors_of, turns_of, MayRead, MaySend, HasStayed}
-use Rattle.sg_crew.proofs.ListLemmas.{every-all, part-stays}
-use Rattle.sg_crew.proofs.RoundLemmas.{round-is, round-turns}
-use Rattle.sg_crew.proofs.TakeLemmas.{dealt-seat, dealt-actors, may-read, sources-took, sources-stay, may-send, dests-took, dests-stay, may-join, round-as}
-use Rattle.sg_crew.proofs.round.take_round.Goals as goal
+use Rattle.sg_crew.specs.Crews.{any, HasPhaseWith}
+use Rattle.sg_crew.specs.Workers.{actor_of, actors_of, turns_of, busy_sum, HasStayed}
+use Rattle.sg_crew.proofs.ListLemmas.{part-stays}
+use Rattle.sg_crew.proofs.PhaseLemmas.{turns-of, phase-is, phase-turns}
+use Rattle.sg_crew.proofs.TakeLemmas.{dealt-seat, dealt-actors, may-read, sources-took, sources-stay, may-send, dests-took, dests-stay, may-join, phase-as}
+use Rattle.sg_crew.proofs.phase.take_phase.Goals as goal
+
+pub deal-requires-clause-left : goal.deal-requires-clause-left
+deal-requires-clause-left g c = omega (arith, c.requires.left, c.requires.few_sources)
 
 pub deal-requires-2-clause-first : goal.deal-requires-2-clause-first
 deal-requires-2-clause-first g c = subst (IsDeskOf c.args.hub.now) (sym c.deal.ensures.first) (c.requires.first.0, c.requires.first.1)
 
 pub deal-requires-2-clause-left : goal.deal-requires-2-clause-left
-deal-requires-2-clause-left g c = let left = ap (λ (s : SeatState). s.left) c.deal.ensures.first in omega (arith, left, c.requires.left)
+deal-requires-2-clause-left g c = let left = ap (λ (s : SeatState). s.left) c.deal.ensures.first in omega (arith, left, c.requires.left, c.requires.few_sources, c.requires.few_dests)
 
-pub take_turns-requires-clause-read : goal.take_turns-requires-clause-read
-take_turns-requires-clause-read g c = λ κs lives.
-    every-all (MayRead g.I.Inlet.state g.R.Router.inlets g.R.Router.dests c.args.hub.now) c.deal.new.workers.items
-    (may-read g.I.Inlet.state g.R.Router.offers g.R.Router.inlets g.R.Router.dests c.args.hub.now c.args.first.now c.args.first.now refl c.args.sources.now.items c.deal.new.workers.items c.deal.ensures.workers
-    c.requires.sources c.requires.first)
+pub take_turns-taken-requires-clause-read : goal.take_turns-taken-requires-clause-read
+take_turns-taken-requires-clause-read g c = λ κs lives.
+    may-read g.I.Inlet.state g.R.Router.offers g.R.Router.inlets g.R.Router.dests c.args.hub.now c.args.first.now c.args.first.now refl c.args.sources.now.items c.deal.new.workers.items c.deal.ensures.workers
+    c.requires.sources c.requires.first
 
-pub take_turns-requires-clause-send : goal.take_turns-requires-clause-send
-take_turns-requires-clause-send g c = λ κs lives.
-    every-all (MaySend g.O.Outlet.state c.args.hub.now) c.deal-2.new.workers.items
-    (may-send g.O.Outlet.state c.args.hub.now c.args.first.now c.deal.new.first (ap (λ (s : SeatState). fresh_desk s 4) c.deal.ensures.first) c.args.dests.now.items c.deal-2.new.workers.items c.deal-2.ensures.workers
-    c.requires.dests c.requires.first)
+pub take_turns-taken-requires-clause-send : goal.take_turns-taken-requires-clause-send
+take_turns-taken-requires-clause-send g c = λ κs lives.
+    may-send g.O.Outlet.state c.args.hub.now c.args.first.now c.deal.new.first (ap (λ (s : SeatState). fresh_desk s 1024) c.deal.ensures.first) c.args.dests.now.items c.deal-2.new.workers.items c.deal-2.ensures.workers
+    c.requires.dests c.requires.first
 
 pub gather-read-requires-clause-first : goal.gather-read-requires-clause-first
 gather-read-requires-clause-first g c =
@@ -39,7 +38,7 @@ pub gather-read-requires-clause-left : goal.gather-read-requires-clause-left
 gather-read-requires-clause-left g c =
     let one = ap (λ (s : SeatState). s.left) c.deal.ensures.first in
     let two = ap (λ (s : SeatState). s.left) c.deal-2.ensures.first in
-    omega (arith, one, two, c.requires.left)
+    omega (arith, one, two, c.requires.left, c.requires.few_sources, c.requires.few_dests)
 
 pub gather-read-requires-clause-seats : goal.gather-read-requires-clause-seats
 gather-read-requires-clause-seats g c =
@@ -48,8 +47,8 @@ gather-read-requires-clause-seats g c =
     let inlets = g.R.Router.inlets in
     let dests = g.R.Router.dests in
     let t = sources-took state offers inlets dests c.args.hub.now c.args.first.now c.args.first.now refl c.args.sources.now.items c.deal.new.workers.items c.deal.ensures.workers c.requires.sources
-    c.take_turns.new.sources.items c.take_turns.ensures.read in
-    may-join (SourceTakes state offers inlets dests) OfSource c.args.hub.now c.args.first.now c.deal.new.workers.items c.take_turns.new.sources.items t.0 t.1
+    c.take_turns-taken.new.sources.items c.take_turns-taken.ensures.read in
+    may-join (SourceTakes state offers inlets dests) OfSource c.args.hub.now c.args.first.now c.deal.new.workers.items c.take_turns-taken.new.sources.items t.0 t.1
     (dealt-seat c.args.first.now c.args.first.now refl c.args.sources.now.items c.deal.new.workers.items c.deal.ensures.workers) c.requires.first
 
 pub gather-sent-requires-clause-first : goal.gather-sent-requires-clause-first
@@ -63,15 +62,21 @@ gather-sent-requires-clause-left g c =
     let one = ap (λ (s : SeatState). s.left) c.deal.ensures.first in
     let two = ap (λ (s : SeatState). s.left) c.deal-2.ensures.first in
     let three = c.gather-read.ensures.gathered.left in
-    omega (arith, one, two, three, c.requires.left)
+    omega (arith, one, two, three, c.requires.left, c.requires.few_sources, c.requires.few_dests)
 
 pub gather-sent-requires-clause-seats : goal.gather-sent-requires-clause-seats
 gather-sent-requires-clause-seats g c =
-    let same = ap (λ (s : SeatState). fresh_desk s 4) c.deal.ensures.first in
+    let same = ap (λ (s : SeatState). fresh_desk s 1024) c.deal.ensures.first in
     let u = dests-took g.O.Outlet.state c.args.hub.now c.args.first.now c.deal.new.first same c.args.dests.now.items c.deal-2.new.workers.items c.deal-2.ensures.workers c.requires.dests
-    c.take_turns.new.dests.items c.take_turns.ensures.send in
-    may-join (DestTakes g.O.Outlet.state) OfDest c.args.hub.now c.args.first.now c.deal-2.new.workers.items c.take_turns.new.dests.items u.0 u.1
+    c.take_turns-taken.new.dests.items c.take_turns-taken.ensures.sent in
+    may-join (DestTakes g.O.Outlet.state) OfDest c.args.hub.now c.args.first.now c.deal-2.new.workers.items c.take_turns-taken.new.dests.items u.0 u.1
     (dealt-seat c.args.first.now c.deal.new.first same c.args.dests.now.items c.deal-2.new.workers.items c.deal-2.ensures.workers) c.requires.first
+
+pub gather-read-requires-clause-few : goal.gather-read-requires-clause-few
+gather-read-requires-clause-few g c = let one = c.take_turns-taken.ensures.read.all in let two = c.deal.ensures.workers.all in omega (arith, one, two, c.requires.few_sources)
+
+pub gather-sent-requires-clause-few : goal.gather-sent-requires-clause-few
+gather-sent-requires-clause-few g c = let one = c.take_turns-taken.ensures.sent.all in let two = c.deal-2.ensures.workers.all in omega (arith, one, two, c.requires.few_dests)
 
 pub returns-clause-took : goal.returns-clause-took
 returns-clause-took g c =
@@ -83,16 +88,16 @@ returns-clause-took g c =
     let f0 = c.args.first.now in
     let s0 = c.args.sources.now.items in
     let s1 = c.deal.new.workers.items in
-    let s2 = c.take_turns.new.sources.items in
-    let t = sources-took state offers inlets dests hub f0 f0 refl s0 s1 c.deal.ensures.workers c.requires.sources s2 c.take_turns.ensures.read in
+    let s2 = c.take_turns-taken.new.sources.items in
+    let t = sources-took state offers inlets dests hub f0 f0 refl s0 s1 c.deal.ensures.workers c.requires.sources s2 c.take_turns-taken.ensures.read in
     let s3 = c.gather-read.new.workers.items in
-    let same = ap (λ (s : SeatState). fresh_desk s 4) c.deal.ensures.first in
+    let same = ap (λ (s : SeatState). fresh_desk s 1024) c.deal.ensures.first in
     let m = c.deal.new.first in
     let d0 = c.args.dests.now.items in
     let d1 = c.deal-2.new.workers.items in
-    let d2 = c.take_turns.new.dests.items in
+    let d2 = c.take_turns-taken.new.dests.items in
     let d3 = c.gather-sent.new.workers.items in
-    let u = dests-took g.O.Outlet.state hub f0 m same d0 d1 c.deal-2.ensures.workers c.requires.dests d2 c.take_turns.ensures.send in
+    let u = dests-took g.O.Outlet.state hub f0 m same d0 d1 c.deal-2.ensures.workers c.requires.dests d2 c.take_turns-taken.ensures.sent in
     let f1 = c.deal-2.new.first in
     let f2 = c.gather-read.new.first in
     let f3 = c.gather-sent.new.first in
@@ -105,17 +110,27 @@ returns-clause-took g c =
     let seen : f3.seen ≡ f0.seen ++ more = gd.seen.1 ∙ (ap (λ l. l ++ gd.seen.0) (gs.seen.1 ∙ ap (λ l. l ++ gs.seen.0) seen1) ∙ append_assoc f0.seen gs.seen.0 gd.seen.0) in
     let sat = dealt-seat f0 f0 refl s0 s1 c.deal.ensures.workers in
     let sat' = dealt-seat f0 m same d0 d1 c.deal-2.ensures.workers in
-    let busy = c.both.ensures.busy ∙ (ap (λ b. b || c.gather-sent.result.busy) c.gather-read.ensures.busy ∙ ap (λ b. any is_busy_answer (turns_of s2) || b) c.gather-sent.ensures.busy) in
-    let starved = c.both.ensures.starved ∙ (ap (λ b. b || c.gather-sent.result.starved) c.gather-read.ensures.starved ∙ ap (λ b. any (λ a. not (is_some a)) (turns_of s2) || b) c.gather-sent.ensures.starved) in (
+    let even = c.is_even.ensures c.hold_to.ensures.even in
+    let e = c.joined-phase.ensures in
+    let one = c.gather-read.ensures.busy in
+    let two = c.gather-sent.ensures.busy in
+    let sum = e.busy in
+    let busy : c.joined-phase.result.busy ≡ busy_sum s2 + busy_sum d2 = omega (arith, one, two, sum) in
+    let starved = e.starved ∙ (ap (λ b. b || c.gather-sent.result.starved) c.gather-read.ensures.starved ∙ ap (λ b. any (λ a. not (is_some a)) (turns_of s2) || b) c.gather-sent.ensures.starved) in
+    let number = c.take_turns-taken.result.rounds in
+    let is = sym e.rounds in (
       more,
       (
-        turn-of t.0 u.0,
-        round-as (SourceTakes state offers inlets dests) (DestTakes g.O.Outlet.state) f0 f3 (actors_of s1) (actors_of s2) (actors_of s0) (actors_of s3) (actors_of d1) (actors_of d2) (actors_of d0) (actors_of d3)
-            c.both.result.busy c.both.result.starved more (turn-of t.0 u.0)
+        turns-of t.0 u.0,
+        subst (λ n. HasPhaseWith (SourceTakes state offers inlets dests) (DestTakes g.O.Outlet.state) f0 f3 (actors_of s0) (actors_of s3) (actors_of d0) (actors_of d3) n
+            c.joined-phase.result.busy c.joined-phase.result.starved more (turns-of t.0 u.0)) is
+            (phase-as (SourceTakes state offers inlets dests) (DestTakes g.O.Outlet.state) f0 f3 (actors_of s1) (actors_of s2) (actors_of s0) (actors_of s3) (actors_of d1) (actors_of d2) (actors_of d0) (actors_of d3)
+            number c.joined-phase.result.busy c.joined-phase.result.starved more (turns-of t.0 u.0)
             (dealt-actors f0 f0 refl s0 s1 c.deal.ensures.workers) (part-stays HasStayed actor_of (λ x y h. h) s2 s3 c.gather-read.ensures.actors)
             (dealt-actors f0 m same d0 d1 c.deal-2.ensures.workers) (part-stays HasStayed actor_of (λ x y h. h) d2 d3 c.gather-sent.ensures.actors)
-            (round-is (SourceTakes state offers inlets dests) (DestTakes g.O.Outlet.state) actor_of seat_of turn_of actor_of seat_of turn_of hub f0 f1 f2 f3 s1 s2 d1 d2 t.0 u.0
-            seen1 own1 joined1 sat sat' t.1 u.1 gs gd c.both.result.busy c.both.result.starved more seen c.requires.ordered busy starved),
+            (phase-is (SourceTakes state offers inlets dests) (DestTakes g.O.Outlet.state) hub f0 f1 f2 f3 s1 s2 d1 d2 t.0 u.0
+            seen1 own1 joined1 sat sat' t.1 u.1 gs gd number c.joined-phase.result.busy c.joined-phase.result.starved more seen c.requires.ordered
+            (c.gather-read.ensures.even even.0) (c.gather-sent.ensures.even even.1) busy starved)),
       ),
     )
 
@@ -129,16 +144,16 @@ returns-clause-first g c =
     let f0 = c.args.first.now in
     let s0 = c.args.sources.now.items in
     let s1 = c.deal.new.workers.items in
-    let s2 = c.take_turns.new.sources.items in
-    let t = sources-took state offers inlets dests hub f0 f0 refl s0 s1 c.deal.ensures.workers c.requires.sources s2 c.take_turns.ensures.read in
+    let s2 = c.take_turns-taken.new.sources.items in
+    let t = sources-took state offers inlets dests hub f0 f0 refl s0 s1 c.deal.ensures.workers c.requires.sources s2 c.take_turns-taken.ensures.read in
     let s3 = c.gather-read.new.workers.items in
-    let same = ap (λ (s : SeatState). fresh_desk s 4) c.deal.ensures.first in
+    let same = ap (λ (s : SeatState). fresh_desk s 1024) c.deal.ensures.first in
     let m = c.deal.new.first in
     let d0 = c.args.dests.now.items in
     let d1 = c.deal-2.new.workers.items in
-    let d2 = c.take_turns.new.dests.items in
+    let d2 = c.take_turns-taken.new.dests.items in
     let d3 = c.gather-sent.new.workers.items in
-    let u = dests-took g.O.Outlet.state hub f0 m same d0 d1 c.deal-2.ensures.workers c.requires.dests d2 c.take_turns.ensures.send in
+    let u = dests-took g.O.Outlet.state hub f0 m same d0 d1 c.deal-2.ensures.workers c.requires.dests d2 c.take_turns-taken.ensures.sent in
     let f1 = c.deal-2.new.first in
     let f2 = c.gather-read.new.first in
     let f3 = c.gather-sent.new.first in
@@ -162,9 +177,9 @@ returns-clause-first g c =
     record {
       of_hub = (gd.booth ∙ (gs.booth ∙ of_hub.0), gd.made ∙ (gs.made ∙ of_hub.1));
       ordered = search rules;
-      sum = round-turns (SourceTakes state offers inlets dests) (DestTakes g.O.Outlet.state) actor_of seat_of turn_of actor_of seat_of turn_of hub f0 f1 f2 f3 s1 s2 d1 d2 t.0 u.0
-          seen1 own1 joined1 sat sat' t.1 u.1 gs gd more seen (omega (arith, one, two, all, all', c.requires.left));
-      left = omega (arith, one, two, three, four, c.requires.left);
+      sum = phase-turns (SourceTakes state offers inlets dests) (DestTakes g.O.Outlet.state) hub f0 f1 f2 f3 s1 s2 d1 d2 t.0 u.0
+          seen1 own1 joined1 sat sat' t.1 u.1 gs gd more seen (omega (arith, one, two, all, all', c.requires.left, c.requires.few_sources, c.requires.few_dests));
+      left = omega (arith, one, two, three, four, c.requires.left, c.requires.few_sources, c.requires.few_dests);
     }
 
 pub returns-clause-crew : goal.returns-clause-crew
@@ -177,17 +192,17 @@ returns-clause-crew g c =
     let f0 = c.args.first.now in
     let s0 = c.args.sources.now.items in
     let s1 = c.deal.new.workers.items in
-    let s2 = c.take_turns.new.sources.items in
-    let t = sources-took state offers inlets dests hub f0 f0 refl s0 s1 c.deal.ensures.workers c.requires.sources s2 c.take_turns.ensures.read in
+    let s2 = c.take_turns-taken.new.sources.items in
+    let t = sources-took state offers inlets dests hub f0 f0 refl s0 s1 c.deal.ensures.workers c.requires.sources s2 c.take_turns-taken.ensures.read in
     let m = c.deal.new.first in
-    let same = ap (λ (s : SeatState). fresh_desk s 4) c.deal.ensures.first in
+    let same = ap (λ (s : SeatState). fresh_desk s 1024) c.deal.ensures.first in
     let d0 = c.args.dests.now.items in
     let d1 = c.deal-2.new.workers.items in
-    let d2 = c.take_turns.new.dests.items in
-    let u = dests-took g.O.Outlet.state hub f0 m same d0 d1 c.deal-2.ensures.workers c.requires.dests d2 c.take_turns.ensures.send in
+    let d2 = c.take_turns-taken.new.dests.items in
+    let u = dests-took g.O.Outlet.state hub f0 m same d0 d1 c.deal-2.ensures.workers c.requires.dests d2 c.take_turns-taken.ensures.sent in
     record {
       sources = sources-stay state offers inlets dests hub f0 f0 refl s0 s1 c.deal.ensures.workers c.requires.sources s2 c.gather-read.new.workers.items t.0 t.1 c.gather-read.ensures.actors;
       dests = dests-stay g.O.Outlet.state hub f0 m same d0 d1 c.deal-2.ensures.workers c.requires.dests d2 c.gather-sent.new.workers.items u.0 u.1 c.gather-sent.ensures.actors;
-      all_sources = c.gather-read.ensures.actors.all ∙ (c.take_turns.ensures.read.all ∙ c.deal.ensures.workers.all);
-      all_dests = c.gather-sent.ensures.actors.all ∙ (c.take_turns.ensures.send.all ∙ c.deal-2.ensures.workers.all);
+      all_sources = c.gather-read.ensures.actors.all ∙ (c.take_turns-taken.ensures.read.all ∙ c.deal.ensures.workers.all);
+      all_dests = c.gather-sent.ensures.actors.all ∙ (c.take_turns-taken.ensures.sent.all ∙ c.deal-2.ensures.workers.all);
     }
