@@ -2,7 +2,7 @@
 ghost use Rattle.std.specs.Prelude.{◌≡◌, ◌≤◌, ◌<◌, ◌+◌, ◌^◌, IfOk, OnOk, length};
 ghost use Rattle.sg_counter.specs.Bringing.{AllWithin, AllMayEnter};
 
-use crate::sinks::{letter, message, number, shows, small};
+use crate::sinks::{capacity, letter, message, number, shows, small};
 use sg_list::Seq;
 use sg_machine::{Admission, BufferSetup, DestSetup};
 use sg_msg::Offer;
@@ -83,11 +83,11 @@ fn offers(alloc: Global, text: &str) -> Result<Vec<Offer>, Fail>
         let (dest, size) = word
             .split_once(if flow { 'f' } else { 'n' })
             .unwrap_or(("9", ""));
-        let dest = small(dest);
+        let dest = small(dest)?;
         if dest >= 2 || offers.len() >= 1024 {
             return Err(Fail::from("no such offer"));
         }
-        add_offer(alloc, &mut offers, dest, number(size), flow)?;
+        add_offer(alloc, &mut offers, dest, number(size)?, flow)?;
     }
     Ok(offers)
 }
@@ -112,7 +112,7 @@ fn records(alloc: Global, text: &str) -> Result<Vec<Admission>, Fail>
     for part in text.split('r').skip(1) {
         let (end, rest) = part.split_once(' ').unwrap_or((part, ""));
         let offers = offers(alloc, rest)?;
-        add_record(&mut records, small(end), offers)?;
+        add_record(&mut records, small(end)?, offers)?;
     }
     Ok(records)
 }
@@ -167,12 +167,18 @@ fn enter(alloc: Global, sinks: &mut Seq<Sink>, next: u64, text: &str) -> Result<
     say(alloc, taken, &answers)
 }
 
+// Whether there is nothing before the records, or that the store fails.
+fn is_batch(text: &str) -> bool {
+    let begin = text.split('r').next().unwrap_or("").trim();
+    begin.is_empty() || begin == "x"
+}
+
 // The batches one after another; what the last one came to.
 fn enter_all(alloc: Global, sinks: &mut Seq<Sink>, text: &str) -> Result<Option<Said>, Fail> {
     let mut said = None;
     let mut next = 0;
     for batch in text.split('/') {
-        if next > 1000 {
+        if next > 1000 || !is_batch(batch) {
             return Ok(None);
         }
         said = Some(enter(alloc, sinks, next, batch)?);
@@ -182,8 +188,11 @@ fn enter_all(alloc: Global, sinks: &mut Seq<Sink>, text: &str) -> Result<Option<
 }
 
 fn is_right(alloc: Global, row: &str) -> Result<bool, Fail> {
+    if row.split('|').count() != 8 {
+        return Ok(false);
+    }
     let mut parts = row.split('|').skip(1);
-    let capacity = number(parts.next().unwrap_or("")) as u64;
+    let capacity = capacity(parts.next().unwrap_or(""))?;
     let mut sinks = destinations(alloc, capacity)?;
     let Some(said) = enter_all(alloc, &mut sinks, parts.next().unwrap_or(""))? else {
         return Ok(false);
@@ -193,17 +202,20 @@ fn is_right(alloc: Global, row: &str) -> Result<bool, Fail> {
             && said.verdicts.as_str() == parts.next().unwrap_or("").trim()
             && said.left.as_str().trim() == parts.next().unwrap_or("").trim()
             && shows_both(
+                alloc,
                 &sinks,
                 parts.next().unwrap_or(""),
                 parts.next().unwrap_or(""),
-            ),
+            )?,
     )
 }
 
-fn shows_both(sinks: &Seq<Sink>, first: &str, second: &str) -> bool {
+fn shows_both(alloc: Global, sinks: &Seq<Sink>, first: &str, second: &str) -> Result<bool, Fail> {
     match (sinks.get(0), sinks.get(1)) {
-        (Some(sink), Some(queue)) => shows(sink, first) && shows(queue, second),
-        _ => false,
+        (Some(sink), Some(queue)) => {
+            Ok(shows(alloc, sink, first)? && shows(alloc, queue, second)?)
+        }
+        _ => Ok(false),
     }
 }
 

@@ -44,8 +44,16 @@ pub(crate) fn message(alloc: Global, size: usize) -> Result<Message, Fail> {
     Ok(message)
 }
 
-pub(crate) fn number(word: &str) -> usize {
-    word.trim().parse().unwrap_or(0)
+pub(crate) fn number(word: &str) -> Result<usize, Fail> {
+    Ok(word.trim().parse()?)
+}
+
+// The capacity of a disk-buffer, 0 without one.
+pub(crate) fn capacity(word: &str) -> Result<u64, Fail> {
+    if word.trim() == "-" {
+        return Ok(0);
+    }
+    Ok(word.trim().parse()?)
 }
 
 pub(crate) fn letter(verdict: Verdict) -> char {
@@ -58,13 +66,17 @@ pub(crate) fn letter(verdict: Verdict) -> char {
     }
 }
 
-// A number below 2^32, else 0.
-pub(crate) fn small(word: &str) -> u32 {
-    word.trim().parse().unwrap_or(0)
+// A number below 2^32.
+pub(crate) fn small(word: &str) -> Result<u32, Fail> {
+    Ok(word.trim().parse()?)
 }
 
 fn offer(alloc: Global, sink: &mut Sink, word: &str) -> Result<char, Fail> {
-    let size = number(word.get(1..).unwrap_or("").trim_end_matches('x'));
+    if !(word.starts_with('f') || word.starts_with('n')) {
+        return Err(Fail::from("no such call"));
+    }
+    let size = word.get(1..).unwrap_or("");
+    let size = number(size.strip_suffix('x').unwrap_or(size))?;
     let offer = Offer {
         dest: 0,
         message: message(alloc, size)?,
@@ -118,7 +130,7 @@ fn refill(sink: &mut Sink) -> char {
 // The answer of a call, None where it has none.
 fn call(alloc: Global, sink: &mut Sink, word: &str) -> Result<Option<char>, Fail> {
     if let Some(n) = word.strip_prefix('s') {
-        return Ok(if settle(sink, number(n)) {
+        return Ok(if settle(sink, number(n)?) {
             None
         } else {
             Some('!')
@@ -130,21 +142,25 @@ fn call(alloc: Global, sink: &mut Sink, word: &str) -> Result<Option<char>, Fail
     Ok(Some(offer(alloc, sink, word)?))
 }
 
-pub(crate) fn shows(sink: &Sink, text: &str) -> bool {
-    let mut words = text.split_whitespace().map(number);
+pub(crate) fn shows(alloc: Global, sink: &Sink, text: &str) -> Result<bool, Fail> {
     let (full, disk) = sink.dropped();
-    words.next() == Some(sink.taken() as usize)
-        && words.next() == Some(sink.spooled())
-        && words.next() == Some(sink.used() as usize)
-        && words.next() == Some(sink.waiting())
-        && words.next() == Some(full as usize)
-        && words.next() == Some(disk as usize)
+    let said = format!(in alloc;
+        "{} {} {} {} {full} {disk}",
+        sink.taken(),
+        sink.spooled(),
+        sink.used(),
+        sink.waiting()
+    )?;
+    Ok(said.as_str() == text.trim())
 }
 
 fn is_right(alloc: Global, row: &str) -> Result<bool, Fail> {
+    if row.split('|').count() != 6 {
+        return Ok(false);
+    }
     let mut parts = row.split('|').skip(1);
-    let fifo = small(parts.next().unwrap_or(""));
-    let capacity = number(parts.next().unwrap_or("")) as u64;
+    let fifo = small(parts.next().unwrap_or(""))?;
+    let capacity = capacity(parts.next().unwrap_or(""))?;
     let buffer = BufferSetup { store: 0, capacity };
     let setup = DestSetup {
         fifo,
@@ -159,7 +175,7 @@ fn is_right(alloc: Global, row: &str) -> Result<bool, Fail> {
     }
     Ok(
         answers.as_str() == parts.next().unwrap_or("").trim()
-            && shows(&sink, parts.next().unwrap_or("")),
+            && shows(alloc, &sink, parts.next().unwrap_or(""))?,
     )
 }
 
