@@ -13,7 +13,7 @@ use Rattle.sg_frame.specs.declared.framer.Framed.TheVariants.{Item as Given, Mor
 use Rattle.sg_frame.specs.Items.{Item}
 use Rattle.sg_frame.specs.Framing.{Framing, HasFramed, NextTells, fed}
 use Rattle.sg_frame.specs.Records.{Record, record_of}
-use Rattle.sg_route.specs.Offers.{record_at, AllWithin as RouteWithin, SameOffers, SameRouter}
+use Rattle.sg_route.specs.Offers.{record_at, AllWithin as RouteWithin, SameOffers}
 use Rattle.sg_counter.specs.Bringing.{AllWithin, MayEnter}
 use Rattle.sg_actor.specs.Reading.{items_ahead, bytes_pulled, AreRead}
 use Rattle.sg_actor.specs.Sources.{SourceState, source, Reads, end_of, IsOf, AreOf, HasRead, IsAhead, IsBadFrame, IsReady}
@@ -244,16 +244,6 @@ keeps-on offers offers' dests dests' spec feed a b c h same count k = λ buffer 
     let first = h buffer ready in
     let second = (subst (λ d. KeepsAll offers' d spec feed b c) count k) buffer first.ready in
     keeps-then offers dests spec (source feed a buffer) (source feed b buffer) (source feed c buffer) first (keeps-as offers offers' dests spec (source feed b buffer) (source feed c buffer) same second)
-
-pub same-none : (offers : ℕ → Record → List Offer → Type 0) (inlets dests : ℕ) → SameRouter offers offers inlets inlets dests dests
-same-none offers inlets dests = record { same = record { forth = λ i r os h. h; back = λ i r os h. h }; inlets_same = refl; dests_same = refl }
-
-pub same-then : (f g h : ℕ → Record → List Offer → Type 0) (i j k d e m : ℕ) → SameRouter f g i j d e → SameRouter g h j k e m → SameRouter f h i k d m
-same-then f g h i j k d e m a b = record {
-  same = record { forth = λ n r os x. b.same.forth n r os (a.same.forth n r os x); back = λ n r os x. a.same.back n r os (b.same.back n r os x) };
-  inlets_same = b.inlets_same ∙ a.inlets_same;
-  dests_same = b.dests_same ∙ a.dests_same;
-}
 
 pub taken-then : (a b c : Reader) → HasTaken a b → HasTaken b c → HasTaken a c
 taken-then a b c h k = record {

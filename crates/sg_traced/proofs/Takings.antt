@@ -6,7 +6,7 @@ use Rattle.sg_frame.specs.Framing.{Framing, HasFramed, Goes, Gives}
 use Rattle.sg_frame.specs.Items.{Item}
 use Rattle.sg_frame.specs.Records.{Record}
 use Rattle.sg_msg.specs.declared.offer.Offer.{Offer}
-use Rattle.sg_route.specs.Offers.{AllWithin, record_at, SameRouter}
+use Rattle.sg_route.specs.Offers.{AllWithin, record_at}
 use Rattle.sg_traced.specs.declared.target.Target.{Target}
 use Rattle.sg_traced.specs.declared.tracer.Tracer.{Tracer}
 use Rattle.sg_traced.specs.Reading.{AreTimely}
@@ -117,17 +117,3 @@ takes-one offering targets peer old mid new item offers (rows, by) timely gives 
       count = omega (arith, number, by.count, length-append rows (row ∷ []));
     } in
     (all, done)
-
--- routers
-pub same-none : (offers : ℕ → Record → List Offer → Type 0) (inlets dests : ℕ) → SameRouter offers offers inlets inlets dests dests
-same-none offers inlets dests = record { same = record { forth = λ i r os h. h; back = λ i r os h. h }; inlets_same = refl; dests_same = refl }
-
-pub same-then : (a b c : ℕ → Record → List Offer → Type 0) (ia ib ic da db dc : ℕ) → SameRouter a b ia ib da db → SameRouter b c ib ic db dc → SameRouter a c ia ic da dc
-same-then a b c ia ib ic da db dc s t = record {
-  same = record {
-    forth = λ i r os h. t.same.forth i r os (s.same.forth i r os h);
-    back = λ i r os h. s.same.back i r os (t.same.back i r os h);
-  };
-  inlets_same = t.inlets_same ∙ s.inlets_same;
-  dests_same = t.dests_same ∙ s.dests_same;
-}

@@ -10,6 +10,7 @@ use Rattle.sg_machine.specs.declared.setup.Setup.{Setup}
 use Rattle.sg_frame.specs.Records.{Record}
 use Rattle.sg_list.proofs.ListLemmas.{change-set, slice_get-some, slice_get-below}
 use Rattle.sg_route.specs.Offers.{record_at, SameOffers, SameRouter}
+use Rattle.sg_route.proofs.Routers.{router-same, router-then}
 use Rattle.sg_counter.specs.Exchanges.{Exchange, OfSource, OfDest}
 use Rattle.sg_counter.specs.declared.calls.CoreCall.{CoreCall}
 use Rattle.sg_counter.specs.declared.calls.CoreReply.{CoreReply}
@@ -91,19 +92,6 @@ sent-push : (spec : DestSpec) (x y z : DestState) (turns : List Turn) (turn : Tu
     → SentTurns spec x y turns → DestTurns spec y z turn → SentTurns spec x z (turns ++ turn ∷ [])
 sent-push spec x y z [] turn h k = (z, (subst (λ a. DestTurns spec a z turn) h k, refl))
 sent-push spec x y z (t ∷ turns) turn h k = (h.0, (h.1.0, sent-push spec h.0 y z turns turn h.1.1 k))
-
-router-same : (offers : ℕ → Record → List Offer → Type 0) (inlets dests : ℕ) → SameRouter offers offers inlets inlets dests dests
-router-same offers inlets dests = record { same = record { forth = λ i r o h. h; back = λ i r o h. h }; inlets_same = refl; dests_same = refl }
-
-router-then : (o p q : ℕ → Record → List Offer → Type 0) (i j k d e f : ℕ) → SameRouter o p i j d e → SameRouter p q j k e f → SameRouter o q i k d f
-router-then o p q i j k d e f h g = record {
-  same = record {
-    forth = λ n r offers is. g.same.forth n r offers (h.same.forth n r offers is);
-    back = λ n r offers is. h.same.back n r offers (g.same.back n r offers is);
-  };
-  inlets_same = g.inlets_same ∙ h.inlets_same;
-  dests_same = g.dests_same ∙ h.dests_same;
-}
 
 pub source-none : {R I : Type 0} (state : I → InletState) (offers : R → ℕ → Record → List Offer → Type 0) (inlets dests : R → ℕ) (a : SourceActor R I)
     → SourceTook state offers inlets dests a a []

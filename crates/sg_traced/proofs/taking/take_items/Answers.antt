@@ -5,15 +5,16 @@ use Rattle.sg_frame.specs.Framing.{Framing, Gives, NextTells}
 use Rattle.sg_frame.specs.Items.{Item}
 use Rattle.sg_frame.specs.declared.framer.Framed.{Framed}
 use Rattle.sg_route.specs.Offers.{record_at}
+use Rattle.sg_route.proofs.Routers.{router-same, router-then}
 use Rattle.sg_traced.specs.declared.tracer.Tracer.{Tracer}
 use Rattle.sg_traced.proofs.Times.{gives-timely}
-use Rattle.sg_traced.proofs.Takings.{takes-none, takes-one, same-none, same-then}
+use Rattle.sg_traced.proofs.Takings.{takes-none, takes-one}
 use Rattle.sg_traced.proofs.taking.take_items.Goals as goal
 
 pub items-init : goal.items-init
 items-init g c = record {
   takes = takes-none (g.R.Router.offers c.args.router.now c.args.reader.inlet) c.args.targets.now c.args.peer.now c.args.tracer.now;
-  router = same-none (g.R.Router.offers c.args.router.now) (g.R.Router.inlets c.args.router.now) (g.R.Router.dests c.args.router.now);
+  router = router-same (g.R.Router.offers c.args.router.now) (g.R.Router.inlets c.args.router.now) (g.R.Router.dests c.args.router.now);
 }
 
 pub trace_record-requires-clause-moment : goal.trace_record-requires-clause-moment
@@ -41,5 +42,5 @@ items-preserved g c =
       takes = takes-one (g.R.Router.offers c.args.router.now c.args.reader.inlet) c.args.targets.now c.args.peer.now c.args.tracer.now c.items.tracer new item traced.0
           c.items.invariant.takes c.requires.timely (subst (λ (x : Framing). Gives f x item) (sym done.rest.0) gives)
           (c.items.invariant.router.same.back c.args.reader.inlet (record_at c.args.peer.now c.in-Item.bytes c.in-Item.at) traced.0 traced.1.0) traced.1.1 (ap (λ (n : ℕ). n + 1) done.rest.1);
-      router = same-then _ _ _ _ _ _ _ _ _ c.items.invariant.router done.router;
+      router = router-then _ _ _ _ _ _ _ _ _ c.items.invariant.router done.router;
     }

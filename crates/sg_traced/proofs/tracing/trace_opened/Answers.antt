@@ -1,17 +1,18 @@
 use Rattle.std.proofs.Common.{◌<◌, ◌+◌, ◌^◌, ℕ, Bool, Ok, refl, subst, arith}
 use Rattle.sg_frame.specs.Framing.{open_left}
+use Rattle.sg_route.proofs.Routers.{router-same, router-then}
 use Rattle.sg_traced.specs.declared.tracer.Tracer.{Tracer}
 use Rattle.sg_traced.specs.Pulling.{Pulls}
 use Rattle.sg_traced.specs.Rows.{items_in}
 use Rattle.sg_traced.specs.Taking.{IsBadIf}
-use Rattle.sg_traced.proofs.Takings.{items-count, takes-back, same-none, same-then}
+use Rattle.sg_traced.proofs.Takings.{items-count, takes-back}
 use Rattle.sg_traced.proofs.Tracings.{err-is, tracing-begun, traces-ended, traces-failed, tracing-taken, tracing-said, traces-bad}
 use Rattle.sg_traced.proofs.tracing.trace_opened.Goals as goal
 
 pub loop-pull-init : goal.loop-pull-init
 loop-pull-init g c = record {
   tracing = tracing-begun (g.R.Router.offers c.args.router.now c.args.reader.inlet) c.args.targets.now c.args.reader.kind c.args.reader.limit (g.W.Feed.Inlet.state c.args.feed.now) (g.W.Machine.state c.args.world.now) c.args.tracer.now c.requires.begun;
-  router = same-none (g.R.Router.offers c.args.router.now) (g.R.Router.inlets c.args.router.now) (g.R.Router.dests c.args.router.now);
+  router = router-same (g.R.Router.offers c.args.router.now) (g.R.Router.inlets c.args.router.now) (g.R.Router.dests c.args.router.now);
 }
 
 pub returns-in_err-pull_once-clause-traces : goal.returns-in_err-pull_once-clause-traces
@@ -106,5 +107,5 @@ loop-pull-preserved g c =
     let one = tracing-taken offering targets kind limit first world feed now tracer n feed' f' new c.in_ok-bad.bad c.peer.result.now c.loop-pull.invariant.tracing pull c.peer.ensures takes in
     record {
       tracing = tracing-said offering targets kind limit first world feed' now new (n + 1) later said one c.in_ok-say_piece.ensures.says c.in_ok-say_piece.ensures.some refl refl;
-      router = same-then _ _ _ _ _ _ _ _ _ c.loop-pull.invariant.router c.in_ok-bad.ensures.router;
+      router = router-then _ _ _ _ _ _ _ _ _ c.loop-pull.invariant.router c.in_ok-bad.ensures.router;
     }
