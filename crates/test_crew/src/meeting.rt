@@ -1,4 +1,4 @@
-// A source and a destination whose turns wait for each other.
+// A source and a destination whose turns wait for each other in two rounds.
 ghost use Rattle.std.specs.Prelude.{◌≡◌, ◌<◌, ◌++◌, ◌∷◌, [], IfOk, length};
 ghost use Rattle.sg_memory.specs.Inlet.{inlet_of};
 ghost use Rattle.sg_memory.specs.Outlet.{outlet_of};
@@ -31,7 +31,10 @@ use std::thread;
 use std::thread::Threads;
 use std::time::{Clock, Duration};
 
-// Which of both has come, and how many have seen the other one.
+// In how many rounds they meet.
+const MEETINGS: u64 = 2;
+
+// How often each of both has come, and how often one has seen the other one.
 #[derive(Drop)]
 struct Flags {
     pulled: AtomicU64,
@@ -39,11 +42,11 @@ struct Flags {
     seen: AtomicU64,
 }
 
-// Comes, and looks for the other one for ten seconds at most.
+// Comes once more, and looks for ten seconds at most whether the other one has come as often.
 fn meet<T: Clock>(rt: &T, mine: &AtomicU64, theirs: &AtomicU64, seen: &AtomicU64) {
-    mine.store(1, Ordering::SeqCst);
+    let before = mine.fetch_add(1, Ordering::SeqCst);
     for _look in 0..10_000u64 {
-        if theirs.load(Ordering::SeqCst) == 1 {
+        if theirs.load(Ordering::SeqCst) > before {
             seen.fetch_add(1, Ordering::SeqCst);
             return;
         }
@@ -51,12 +54,12 @@ fn meet<T: Clock>(rt: &T, mine: &AtomicU64, theirs: &AtomicU64, seen: &AtomicU64
     }
 }
 
-// A file whose first pull meets a send.
+// A file whose first pulls each meet a send.
 #[derive(Drop)]
 struct MeetingInlet<'a, T> {
     rt: &'a T,
     flags: &'a Flags,
-    met: bool,
+    meetings: u64,
     inner: MemoryInlet,
 }
 
@@ -66,8 +69,8 @@ impl<'a, T: Clock> Inlet for MeetingInlet<'a, T> {
     ghost state = { λ inlet. inlet_of inlet.inner };
 
     fn pull(&mut self, into: &mut [u8]) -> Result<Pull, InletFault> {
-        if !self.met {
-            self.met = true;
+        if self.meetings > 0 {
+            self.meetings -= 1;
             meet(
                 self.rt,
                 &self.flags.pulled,
@@ -87,12 +90,12 @@ impl<'a, T: Clock> Inlet for MeetingInlet<'a, T> {
     }
 }
 
-// A destination whose first send meets a pull.
+// A destination whose first sends each meet a pull.
 #[derive(Drop)]
 struct MeetingOutlet<'a, T> {
     rt: &'a T,
     flags: &'a Flags,
-    met: bool,
+    meetings: u64,
     inner: MemoryOutlet,
 }
 
@@ -102,8 +105,8 @@ impl<'a, T: Clock> Outlet for MeetingOutlet<'a, T> {
     ghost state = { λ outlet. outlet_of outlet.inner };
 
     fn send(&mut self, frames: &Frames) -> Result<(), SendRefusal> {
-        if !self.met {
-            self.met = true;
+        if self.meetings > 0 {
+            self.meetings -= 1;
             meet(
                 self.rt,
                 &self.flags.sent,
@@ -207,13 +210,13 @@ fn source<'a, T: Clock>(
 ) -> Result<SourceActor<ByDigit, MeetingInlet<'a, T>>, Fail>
     ensures { IfOk result (λ a. IsSource (λ inlet. inlet_of inlet.inner) two two meeting 0 a) }
 {
-    let pace = Pace { piece: 64, at: 0 };
+    let pace = Pace { piece: 2, at: 0 };
     let mut text = Vec::new(alloc);
-    text.extend_from_slice(b"0\n")?;
+    text.extend_from_slice(b"0\n0\n")?;
     let inlet = MeetingInlet {
         rt,
         flags,
-        met: false,
+        meetings: MEETINGS,
         inner: MemoryInlet::file(alloc, text, 0, pace, true, Plan::new(Vec::new(alloc)))?,
     };
     let spec = SourceSpec {
@@ -246,7 +249,7 @@ fn dest<'a, T: Clock>(
     let outlet = MeetingOutlet {
         rt,
         flags,
-        met: dest == 1,
+        meetings: if dest == 0 { MEETINGS } else { 0 },
         inner: MemoryOutlet::new(alloc, plan),
     };
     let Ok(template) = Template::read(alloc, b"$MSG ") else {
@@ -356,7 +359,9 @@ fn dests<'a, T: Clock>(
     }
 }
 
-// How many of a pull and a send of one round have seen the other one.
+// How often a pull or a send has seen the other one of its round. The destination has an entry of an earlier run for the
+// first round, and for the second one the line of the first, since its frames are taken before they meet. The third
+// round is the last, which is never one of several on the same threads.
 fn met<T: Threads + Wait + Sync + Clock>(
     rt: &T,
     alloc: Global,
@@ -378,7 +383,7 @@ fn met<T: Threads + Wait + Sync + Clock>(
             return Err(e);
         }
     };
-    close(serve(rt, alloc, core, sources, dests, 1));
+    close(serve(rt, alloc, core, sources, dests, MEETINGS + 1));
     Ok(flags.seen.load(Ordering::SeqCst))
 }
 
@@ -389,6 +394,6 @@ fn actors_in_turn(rt: HostRuntime) -> Result<(), Fail> {
         sent: AtomicU64::new(0),
         seen: AtomicU64::new(0),
     };
-    assert!(rt; met(&rt, rt.alloc(), &flags)? == 2);
+    assert!(rt; met(&rt, rt.alloc(), &flags)? == 2 * MEETINGS);
     Ok(())
 }
