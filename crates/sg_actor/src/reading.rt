@@ -151,8 +151,7 @@ pub(crate) fn read_on<T: Wait, C: Counter, R: Router, I: Inlet>(
     requires source { spec.now.inlet < length (C.setup counter.old).sources }
     requires inlet { spec.now.inlet < R.inlets router.old }
     requires dests { R.dests router.old ≡ length (C.setup counter.old).dests }
-    requires some { 0 < spec.now.fetch }
-    requires most { spec.now.fetch ≤ 1000 }
+    requires fetch { (0 < spec.now.fetch) × (spec.now.fetch ≤ 1000) }
     requires ready { IsReady (R.dests router.old) spec.now
         (source (I.state inlet.old) reader.old buffer.old) }
     ensures reads { ReadsOn (R.offers router.old) (R.dests router.old) spec.now C.step counter.old

@@ -69,7 +69,8 @@ pub enum Replaced {
 /// Puts bytes behind the others, where these aren't more than there is room for already.
 fn push_capped(whole: &mut Vec<u8>, bytes: &[u8], room: u64) -> Result<(), NoMemory>
     ensures { OnOk result
-        ((made : List ℕ) → IsCapped room made whole.old.items → IsCapped room (made ++ bytes.now) whole.new.items) }
+        ((made : List ℕ) → IsCapped room made whole.old.items
+        → IsCapped room (made ++ bytes.now) whole.new.items) }
 {
     if whole.len() as u64 <= room {
         whole.extend_from_slice(bytes)?;
@@ -80,7 +81,8 @@ fn push_capped(whole: &mut Vec<u8>, bytes: &[u8], room: u64) -> Result<(), NoMem
 /// The texts of the tokens, each behind a space.
 fn push_spaced(whole: &mut Vec<u8>, tokens: &[Token], room: u64) -> Result<(), NoMemory>
     ensures { OnOk result
-        ((made : List ℕ) → IsCapped room made whole.old.items → IsCapped room (made ++ spaced tokens.now) whole.new.items) }
+        ((made : List ℕ) → IsCapped room made whole.old.items
+        → IsCapped room (made ++ spaced tokens.now) whole.new.items) }
 {
     for token in tokens {
         push_capped(whole, b" ", room)?;
@@ -92,7 +94,8 @@ fn push_spaced(whole: &mut Vec<u8>, tokens: &[Token], room: u64) -> Result<(), N
 /// The texts of a value's tokens, with one space between them.
 fn push_joined(whole: &mut Vec<u8>, value: &[Token], room: u64) -> Result<(), NoMemory>
     ensures { OnOk result
-        ((made : List ℕ) → IsCapped room made whole.old.items → IsCapped room (made ++ joined value.now) whole.new.items) }
+        ((made : List ℕ) → IsCapped room made whole.old.items
+        → IsCapped room (made ++ joined value.now) whole.new.items) }
 {
     if whole.len() as u64 > room {
         return Ok(());

@@ -28,7 +28,8 @@ impl Recode for Upgrade {
             → IfOk result (λ spelled. Spells2 kept spelled.items) }
 
         // Every other payload stays.
-        ensures others { ((kept : Entry) → Spells1 kept payload.now → length payload.now ≤ 2 ^ 30 → ⊥)
+        ensures others { ((kept : Entry) → Spells1 kept payload.now
+            → length payload.now ≤ 2 ^ 30 → ⊥)
             → IfOk result (λ spelled. spelled.items ≡ payload.now) }
     {
         if is_older(payload) {

@@ -45,7 +45,8 @@ pub fn check_file<W: World + Builder>(
     // Files were read, patterns were made, text was said, and nothing else.
     ensures only { OnlyChecks (W.state world.old) (W.state world.new) }
     // What is one is said to be one, where nothing fails and memory is there.
-    ensures complete { (files : Files) (config : Meant) → (W.state world.old).files ≡ Some files → Configures (W.state world.old) file.now config → CanBeCompiled config
+    ensures complete { (files : Files) (config : Meant) → (W.state world.old).files ≡ Some files
+        → Configures (W.state world.old) file.now config → CanBeCompiled config
         → IsUntroubled (W.state world.old) (W.state world.new) → IsComplete result }
 {
     match load_file(alloc, file, world) {

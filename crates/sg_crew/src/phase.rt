@@ -2,7 +2,7 @@
 ghost use Rattle.std.specs.Prelude.{◌≡◌, ◌≤◌, ◌<◌, ◌+◌, ◌-◌, ◌^◌, ◌||◌, true, length};
 ghost use Rattle.sg_booth.specs.Desks.{IsDeskOf, AreOrdered, places};
 ghost use Rattle.sg_standing.specs.States.{setup_of};
-ghost use Rattle.sg_turns.specs.Actors.{AreSources, AreDests, SourceTakes, DestTakes};
+ghost use Rattle.sg_turns.specs.Actors.{AreFewActors, AreSources, AreDests, SourceTakes, DestTakes};
 ghost use Rattle.sg_crew.specs.Workers.{actors_of, AreCrew};
 ghost use Rattle.sg_crew.specs.Crews.{HasPhase, IsPhase, IsFirst};
 
@@ -79,8 +79,8 @@ fn is_phase(phase: Phase, most: u64) -> bool
     phase.rounds <= phase.busy
 }
 
-// The meeting of the threads promises nothing, so what they did is looked at behind them. No run comes to other turns
-// than those of a phase: one that did would wait here for ever, and promise nothing false.
+// The meeting of the threads promises nothing, so what they did is looked at behind them. A run whose turns aren't those
+// of a phase would wait here for ever, and promise nothing false.
 fn hold_to<T: Wait>(rt: &T, even: bool, phase: Phase, most: u64)
     requires { phase.busy < 2 ^ 32 }
     ensures even { even ≡ true }
@@ -114,10 +114,8 @@ pub(crate) fn take_phase<
 ) -> Phase
     requires most { most ≤ 256 }
     requires first { IsDeskOf hub.now first.old }
-    requires ordered { AreOrdered first.old }
-    requires few_sources { length sources.old.items ≤ 128 }
-    requires few_dests { length dests.old.items ≤ 64 }
-    requires left { 196608 < first.old.left }
+    requires seat { AreOrdered first.old × (196608 < first.old.left) }
+    requires few { AreFewActors (length sources.old.items) (length dests.old.items) }
     requires sources { AreSources I.state R.inlets R.dests (setup_of hub.now.made)
         (actors_of sources.old.items) }
     requires dests { AreDests O.state (setup_of hub.now.made) (actors_of dests.old.items) }

@@ -2,7 +2,7 @@
 ghost use Rattle.std.specs.Prelude.{◌≡◌, ◌≤◌, ◌<◌, ◌*◌, length};
 ghost use Rattle.sg_booth.specs.Desks.{first_desk};
 ghost use Rattle.sg_standing.specs.States.{setup_of};
-ghost use Rattle.sg_turns.specs.Actors.{AreSources, AreDests, SourceTook, DestTook};
+ghost use Rattle.sg_turns.specs.Actors.{AreFewActors, AreSources, AreDests, SourceTook, DestTook};
 ghost use Rattle.sg_crew.specs.Workers.{actors_of, AreCrew};
 ghost use Rattle.sg_crew.specs.Crews.{HasServed, IsFirst};
 
@@ -66,8 +66,7 @@ pub(crate) fn run_rounds<
 ) -> Ended
     requires some { 0 < rounds }
     requires first { first.old ≡ first_desk hub.now }
-    requires few_sources { length sources.old.items ≤ 128 }
-    requires few_dests { length dests.old.items ≤ 64 }
+    requires few { AreFewActors (length sources.old.items) (length dests.old.items) }
     requires turns { 196608 * rounds < hub.now.turns }
     requires sources { AreSources I.state R.inlets R.dests (setup_of hub.now.made)
         (actors_of sources.old.items) }

@@ -1,10 +1,11 @@
 // A run over a flow core.
-ghost use Rattle.std.specs.Prelude.{◌≡◌, ◌≤◌, ◌<◌, ◌+◌, ◌*◌, ◌-◌, ◌^◌, [], IfOk, length, vec_capacity};
+ghost use Rattle.std.specs.Prelude.{◌≡◌, ◌≤◌, ◌<◌, ◌+◌, ◌*◌, ◌-◌, ◌^◌, [], IfOk, length};
 ghost use Rattle.sg_booth.specs.Desks.{first_desk};
 ghost use Rattle.sg_standing.specs.States.{setup_of};
 ghost use Rattle.sg_core.specs.Calls.{Serves as CoreServes};
-ghost use Rattle.sg_turns.specs.Actors.{AreSources, AreDests, SourceTook, DestTook};
+ghost use Rattle.sg_turns.specs.Actors.{AreFewActors, AreSources, AreDests, SourceTook, DestTook};
 ghost use Rattle.sg_turns.specs.Serving.{Serves};
+ghost use Rattle.sg_crew.specs.Rooms.{IsRoom};
 
 use crate::rounds::run_rounds;
 use crate::worker::{Worker, free_all, seat_all};
@@ -26,9 +27,7 @@ struct Room<A, D: Disk> {
 
 // Room for so many actors.
 fn make_room<A, D: Disk>(alloc: Global, count: usize) -> Result<Room<A, D>, AllocError>
-    ensures empty { IfOk result (λ room. (room.workers.items ≡ []) × (room.actors.items ≡ [])) }
-    ensures fits { IfOk result
-        (λ room. (count ≤ vec_capacity room.workers) × (count ≤ vec_capacity room.actors)) }
+    ensures { IfOk result (λ room. IsRoom count room) }
 {
     let workers = Vec::with_capacity(alloc, count)?;
     match Vec::with_capacity(alloc, count) {
@@ -76,19 +75,13 @@ fn serve_at<
     dests_room: Room<DestActor<O>, D>,
     rounds: u64,
 ) -> Served<R, I, O, D>
-    requires some { 0 < rounds }
     requires first { first ≡ first_desk hub }
-    requires turns { 196608 * rounds < hub.turns }
-    requires few_sources { length sources.items ≤ 128 }
-    requires few_dests { length dests.items ≤ 64 }
+    requires turns { (0 < rounds) × (196608 * rounds < hub.turns) }
+    requires few { AreFewActors (length sources.items) (length dests.items) }
     requires sources { AreSources I.state R.inlets R.dests (setup_of hub.made) sources.items }
     requires dests { AreDests O.state (setup_of hub.made) dests.items }
-    requires sources_room { (sources_room.workers.items ≡ []) × (sources_room.actors.items ≡ [])
-        × (length sources.items ≤ vec_capacity sources_room.workers)
-        × (length sources.items ≤ vec_capacity sources_room.actors) }
-    requires dests_room { (dests_room.workers.items ≡ []) × (dests_room.actors.items ≡ [])
-        × (length dests.items ≤ vec_capacity dests_room.workers)
-        × (length dests.items ≤ vec_capacity dests_room.actors) }
+    requires rooms { (IsRoom (length sources.items) sources_room)
+        × (IsRoom (length dests.items) dests_room) }
     ensures serves { Serves (SourceTook I.state R.offers R.inlets R.dests) (DestTook O.state)
         CoreServes hub.made result.core sources.items result.sources.items dests.items
         result.dests.items rounds result.ended }
@@ -145,19 +138,13 @@ fn serve_in<
     dests_room: Room<DestActor<O>, D>,
     rounds: u64,
 ) -> Served<R, I, O, D>
-    requires some { 0 < rounds }
-    requires rounds { rounds ≤ 2 ^ 36 }
+    requires rounds { (0 < rounds) × (rounds ≤ 2 ^ 36) }
     requires calls { core.calls ≤ 2 ^ 50 }
-    requires few_sources { length sources.items ≤ 128 }
-    requires few_dests { length dests.items ≤ 64 }
+    requires few { AreFewActors (length sources.items) (length dests.items) }
     requires sources { AreSources I.state R.inlets R.dests (setup_of core) sources.items }
     requires dests { AreDests O.state (setup_of core) dests.items }
-    requires sources_room { (sources_room.workers.items ≡ []) × (sources_room.actors.items ≡ [])
-        × (length sources.items ≤ vec_capacity sources_room.workers)
-        × (length sources.items ≤ vec_capacity sources_room.actors) }
-    requires dests_room { (dests_room.workers.items ≡ []) × (dests_room.actors.items ≡ [])
-        × (length dests.items ≤ vec_capacity dests_room.workers)
-        × (length dests.items ≤ vec_capacity dests_room.actors) }
+    requires rooms { (IsRoom (length sources.items) sources_room)
+        × (IsRoom (length dests.items) dests_room) }
     ensures serves { Serves (SourceTook I.state R.offers R.inlets R.dests) (DestTook O.state)
         CoreServes core result.core sources.items result.sources.items dests.items
         result.dests.items rounds result.ended }
@@ -212,8 +199,7 @@ pub fn serve<
     requires some { 0 < rounds }
     requires rounds { rounds ≤ 2 ^ 36 }
     requires calls { core.calls ≤ 2 ^ 50 }
-    requires few_sources { length sources.items ≤ 128 }
-    requires few_dests { length dests.items ≤ 64 }
+    requires few { AreFewActors (length sources.items) (length dests.items) }
     requires sources { AreSources I.state R.inlets R.dests (setup_of core) sources.items }
     requires dests { AreDests O.state (setup_of core) dests.items }
     ensures serves { Serves (SourceTook I.state R.offers R.inlets R.dests) (DestTook O.state)

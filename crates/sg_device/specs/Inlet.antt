@@ -60,6 +60,11 @@ PullIsWhole room (Ok Idle) = Unit {0}
 PullIsWhole room (Ok End) = Unit {0}
 PullIsWhole room (Err e) = Unit {0}
 
+-- the buffer stays as long, and what a pull brings is at its front and at most all of it
+pub record PullFills (old new : List ℕ) (result : Result Pull InletFault) : Type 0 where
+  pub size : length new ≡ length old
+  pub whole : PullIsWhole (length old) result
+
 -- Bytes go behind the last part, Next begins one, and nothing else changes the parts.
 abbrev pub PullTells : InletState → InletState → List ℕ → Result Pull InletFault → Type 0
 PullTells old new into (Ok (Bytes len at)) = (new.told
@@ -111,6 +116,11 @@ PullCounts old new (Err e) = (new.pulls ≡ old.pulls) × (new.idles ≡ old.idl
 abbrev pub PullFaults : InletState → InletState → Result Pull InletFault → Type 0
 PullFaults old new (Ok pull) = old.faults ≤ new.faults
 PullFaults old new (Err e) = (old.faults ≤ new.faults) × Rose old.faults new.faults
+
+-- what a pull adds to the counts, and to that of faults
+pub record PullAdds (old new : InletState) (result : Result Pull InletFault) : Type 0 where
+  pub counts : PullCounts old new result
+  pub faults : PullFaults old new result
 
 -- so many parts of this peer, with nothing given
 abbrev pub empty_parts : ℕ → List ℕ → List Part

@@ -1,6 +1,6 @@
 // Where bytes come from.
 ghost use Rattle.std.specs.Prelude.{◌≡◌, ◌<◌, length};
-ghost use Rattle.sg_device.specs.Inlet.{InletState, PullIsWhole, PullTells, PullMoves, PullLeaves, PullCounts, PullFaults, HangsUp};
+ghost use Rattle.sg_device.specs.Inlet.{InletState, PullFills, PullTells, PullMoves, PullLeaves, PullAdds, HangsUp};
 
 use crate::InletFault;
 
@@ -27,13 +27,11 @@ pub trait Inlet {
     /// them in the buffer afterwards isn't said.
     fn pull(&mut self, into: &mut [u8]) -> Result<Pull, InletFault>
         requires { 0 < length into.old }
-        ensures whole { PullIsWhole (length into.old) result }
-        ensures size { length into.new ≡ length into.old }
+        ensures fills { PullFills into.old into.new result }
         ensures told { PullTells (state self.old) (state self.new) into.new result }
         ensures place { PullMoves (state self.old) (state self.new) result }
         ensures left { PullLeaves (state self.old) (state self.new) into.new result }
-        ensures counts { PullCounts (state self.old) (state self.new) result }
-        ensures faults { PullFaults (state self.old) (state self.new) result };
+        ensures adds { PullAdds (state self.old) (state self.new) result };
 
     /// The name of the peer that the present part comes from, as text.
     fn peer(&self) -> &[u8]

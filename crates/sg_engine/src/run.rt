@@ -2,7 +2,7 @@
 ghost use Rattle.std.specs.Prelude.{◌≡◌, ◌≤◌, ◌<◌, ◌^◌, length};
 ghost use Rattle.sg_standing.specs.States.{setup_of};
 ghost use Rattle.sg_core.specs.Calls.{Serves as CoreServes};
-ghost use Rattle.sg_turns.specs.Actors.{AreSources, AreDests, SourceTook, DestTook};
+ghost use Rattle.sg_turns.specs.Actors.{AreFewActors, AreSources, AreDests, SourceTook, DestTook};
 ghost use Rattle.sg_turns.specs.Serving.{Serves};
 
 use sg_actor::{DestActor, SourceActor};
@@ -38,8 +38,7 @@ pub fn serve<T: Wait, R: Router, I: Inlet, O: Outlet, D: Disk>(
     requires some { 0 < rounds }
     requires rounds { rounds ≤ 2 ^ 36 }
     requires calls { core.calls ≤ 2 ^ 50 }
-    requires few_sources { length sources.items ≤ 128 }
-    requires few_dests { length dests.items ≤ 64 }
+    requires few { AreFewActors (length sources.items) (length dests.items) }
     requires sources { AreSources I.state R.inlets R.dests (setup_of core) sources.items }
     requires dests { AreDests O.state (setup_of core) dests.items }
     ensures serves { Serves (SourceTook I.state R.offers R.inlets R.dests) (DestTook O.state)

@@ -25,7 +25,8 @@ impl Expander {
         requires { 1 < length rest.now.tokens }
         ensures depth { OnOk result (rest.now.context.depth < 15) }
         ensures names { OnOk result (length self.new.names < 65536) }
-        ensures value { NamesFile (include_read rest.now.context rest.now.tokens (state_of self.old))
+        ensures value { NamesFile (include_read rest.now.context rest.now.tokens
+            (state_of self.old))
             (line_at rest.now.tokens 0) (drop 2 rest.now.tokens) self.old self.new result }
     {
         let line = rest.tokens.line(0);
@@ -69,7 +70,8 @@ impl Expander {
     /// Expands the file that an `@include` names, and what stands behind it later.
     pub fn include<F: Files>(&mut self, files: &mut F, rest: Rest) -> Result<(), Stop>
         requires { 1 < length rest.tokens }
-        ensures does { DoesStep (include_read rest.context rest.tokens (state_of self.old)) rest.context rest.fresh
+        ensures does { DoesStep (include_read rest.context rest.tokens (state_of self.old))
+            rest.context rest.fresh
             self.old (F.state files.old) self.new (F.state files.new) result }
         ensures reads { OnlyReads (F.state files.old) (F.state files.new) }
     {

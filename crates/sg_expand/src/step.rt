@@ -57,7 +57,8 @@ fn is_tick_at(tokens: &Part, place: usize) -> bool
 impl Expander {
     /// Does what the front of these tokens asks for.
     pub fn step<F: Files>(&mut self, files: &mut F, rest: Rest) -> Result<(), Stop>
-        ensures does { DoesStep (step rest.context rest.fresh rest.tokens (state_of self.old)) rest.context rest.fresh
+        ensures does { DoesStep (step rest.context rest.fresh rest.tokens (state_of self.old))
+            rest.context rest.fresh
             self.old (F.state files.old) self.new (F.state files.new) result }
         ensures reads { OnlyReads (F.state files.old) (F.state files.new) }
     {
@@ -145,7 +146,8 @@ impl Expander {
     fn define(&mut self, rest: Rest) -> Result<(), Stop>
         requires { 2 < length rest.tokens }
         ensures { Does
-            (define_read rest.fresh rest.tokens (state_of self.old) (text_of rest.context (state_of self.old) rest.tokens 2))
+            (define_read rest.fresh rest.tokens (state_of self.old)
+            (text_of rest.context (state_of self.old) rest.tokens 2))
             rest.context self.old self.new result }
     {
         let line = rest.tokens.line(0);
@@ -166,7 +168,8 @@ impl Expander {
     fn set_variable(&mut self, tokens: &Part, text: Name) -> Result<(), NoMemory>
         requires { 2 < length tokens.now }
         ensures { OnOk result (self.new ≡ record self.old {
-          variables = map.insert self.old.variables (text_at tokens.now 1) (retold (slice_get tokens.now 2) text);
+          variables = map.insert self.old.variables (text_at tokens.now 1)
+              (retold (slice_get tokens.now 2) text);
         }) }
     {
         let name = tokens.text(1).to_vec(self.alloc)?;
@@ -208,7 +211,8 @@ impl Expander {
 
     fn emit_variable(&mut self, rest: &Rest) -> Result<(), Stop>
         requires { 0 < length rest.now.tokens }
-        ensures { EmitsToken (reached rest.now.context.scope self.old.variables (text_at rest.now.tokens 0))
+        ensures { EmitsToken (reached rest.now.context.scope self.old.variables
+            (text_at rest.now.tokens 0))
             (line_at rest.now.tokens 0) self.old self.new result }
     {
         match find(
@@ -224,7 +228,8 @@ impl Expander {
     fn emit_text(&mut self, rest: &Rest) -> Result<(), Stop>
         requires { 0 < length rest.now.tokens }
         ensures { EmitsToken
-            (option_map (retold (slice_get rest.now.tokens 0)) (text_in rest.now.context.scope self.old.variables rest.now.tokens 0))
+            (option_map (retold (slice_get rest.now.tokens 0))
+            (text_in rest.now.context.scope self.old.variables rest.now.tokens 0))
             (line_at rest.now.tokens 0) self.old self.new result }
     {
         let line = rest.tokens.line(0);

@@ -157,7 +157,8 @@ impl Expander {
     }
 
     fn expand_body(&mut self, call: Call) -> Result<(), Stop>
-        ensures { Pushes (tokens_frame (body_context call.context call.bound call.serial) true (trimmed call.body) ∷ [])
+        ensures { Pushes (tokens_frame (body_context call.context call.bound call.serial) true
+            (trimmed call.body) ∷ [])
             self.old self.new result }
     {
         let context = Context {

@@ -18,6 +18,11 @@ EndsBy old (Ok Idle) = old.once ≡ false
 EndsBy old (Ok End) = IsTrue (old.once || old.counts.ended || old.counts.hung)
 EndsBy old (Err e) = Unit {0}
 
+-- it ends as it was opened to
+pub record EndsAsOpened (old new : FileInlet) (result : Result Pull InletFault) : Type 0 where
+  pub ends : EndsBy old result
+  pub once : new.once ≡ old.once
+
 -- it brought no bytes
 abbrev pub IsNoBytes : Result Pull InletFault → Type 0
 IsNoBytes (Ok (Bytes len at)) = ⊥

@@ -1,8 +1,8 @@
 // A real file that is read.
 ghost use Rattle.std.specs.Prelude.{◌≡◌, ◌≤◌, ◌<◌, length, codes, true, IfOk, IsErr};
-ghost use Rattle.sg_device.specs.Inlet.{PullIsWhole, PullTells, PullMoves, PullLeaves, PullCounts, PullFaults};
+ghost use Rattle.sg_device.specs.Inlet.{PullIsWhole, PullFills, PullTells, PullMoves, PullLeaves, PullAdds};
 ghost use Rattle.sg_file.specs.Counts.{inlet_state, new_inlet};
-ghost use Rattle.sg_file.specs.Inlet.{inlet_of, EndsBy, IsNoBytes};
+ghost use Rattle.sg_file.specs.Inlet.{inlet_of, EndsBy, EndsAsOpened, IsNoBytes};
 ghost use Rattle.sg_file.specs.Seeking.{StartsAt};
 
 use crate::clock::moment;
@@ -193,15 +193,12 @@ impl Inlet for FileInlet {
 
     fn pull(&mut self, into: &mut [u8]) -> Result<Pull, InletFault>
         requires { 0 < length into.old }
-        ensures whole { PullIsWhole (length into.old) result }
-        ensures size { length into.new ≡ length into.old }
+        ensures fills { PullFills into.old into.new result }
         ensures told { PullTells (inlet_of self.old) (inlet_of self.new) into.new result }
         ensures place { PullMoves (inlet_of self.old) (inlet_of self.new) result }
         ensures left { PullLeaves (inlet_of self.old) (inlet_of self.new) into.new result }
-        ensures counts { PullCounts (inlet_of self.old) (inlet_of self.new) result }
-        ensures faults { PullFaults (inlet_of self.old) (inlet_of self.new) result }
-        ensures ends { EndsBy self.old result }
-        ensures once { self.new.once ≡ self.old.once }
+        ensures adds { PullAdds (inlet_of self.old) (inlet_of self.new) result }
+        ensures ends { EndsAsOpened self.old self.new result }
     {
         let got = self.read_more(into);
         self.counts.answer(got, &mut self.nobody)

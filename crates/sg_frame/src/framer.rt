@@ -47,7 +47,12 @@ impl Model for Framer {
 
     ghost Value = { Framing };
 
-    ghost view = { λ f. record { kind = f.kind; limit = f.limit; place = f.place; held = zip f.kept.items (moments f.place f.runs.items) } };
+    ghost view = { λ f. record {
+      kind = f.kind;
+      limit = f.limit;
+      place = f.place;
+      held = zip f.kept.items (moments f.place f.runs.items);
+    } };
 
     ghost invariant = { λ f. IsKept f.limit f.place f.scanned f.kept.items f.runs.items };
 }

@@ -60,7 +60,8 @@ pub struct HostOpener {
 fn find(paths: &[Name], path: &[u8]) -> Option<usize>
     ensures { MatchOption result
         (without_path path.now paths.now ≡ paths.now)
-        (λ i. (i < length paths.now) × (without_path path.now paths.now ≡ take i paths.now ++ drop (i + 1) paths.now)) }
+        (λ i. (i < length paths.now) × (without_path path.now paths.now ≡ take i paths.now
+        ++ drop (i + 1) paths.now)) }
 {
     for i in 0..paths.len() {
         if paths[i].bytes() == path {

@@ -136,7 +136,8 @@ impl<'a, D: Disk> Counter for HubSeat<'a, D> {
 
     ghost left = { λ s. s.seat.now.left };
 
-    ghost step = { λ old call reply new. (new.seat.ghost_name ≡ old.seat.ghost_name) × (new.hub ≡ old.hub) × SeatStep old.hub.now old.seat.now call reply new.seat.now };
+    ghost step = { λ old call reply new. (new.seat.ghost_name ≡ old.seat.ghost_name)
+        × (new.hub ≡ old.hub) × SeatStep old.hub.now old.seat.now call reply new.seat.now };
 
     fn credit<T: Wait>(&mut self, rt: &T, i: u32) -> u64 {
         credit_at(self.hub, rt, self.seat, i)

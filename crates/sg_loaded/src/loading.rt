@@ -79,7 +79,8 @@ fn load_text<W: Files + Builder>(
     text: &[u8],
     world: &mut W,
 ) -> Result<Loaded, Unloaded>
-    ensures loads { (first : WorldState) → OnlyReads first (W.state world.old) → IsContent first.files file.now text.now
+    ensures loads { (first : WorldState) → OnlyReads first (W.state world.old)
+        → IsContent first.files file.now text.now
         → LoadsFile first (W.state world.new) file.now result }
     ensures only { OnlyLoads (W.state world.old) (W.state world.new) }
 {
@@ -125,7 +126,8 @@ pub fn load_file<W: Files + Builder>(
     // Files were read, patterns were made, and nothing else.
     ensures only { OnlyLoads (W.state world.old) (W.state world.new) }
     // What is a configuration is loaded, where nothing fails and memory is there.
-    ensures complete { (files : Content) (config : Meant) → (W.state world.old).files ≡ Some files → Configures (W.state world.old) file.now config → CanBeCompiled config
+    ensures complete { (files : Content) (config : Meant) → (W.state world.old).files ≡ Some files
+        → Configures (W.state world.old) file.now config → CanBeCompiled config
         → IsUntroubled (W.state world.old) (W.state world.new) → IsComplete result }
 {
     expansions_are_one();

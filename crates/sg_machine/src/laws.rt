@@ -65,7 +65,8 @@ pub fn marks_hold()
 /// Where the positions and the lists in the stores are what the events may leave, they are safe: no
 /// position has passed a record with an offer that is neither settled nor in its disk-buffer.
 pub fn safety_holds()
-    ensures { (setup : Setup) (opening : Opening) (events : List Event) (event : Event) (images : Images)
+    ensures { (setup : Setup) (opening : Opening) (events : List Event) (event : Event)
+        (images : Images)
         → are_legal (opened setup opening) (events ++ event ∷ []) ≡ true
         → ImagesAt (opened setup opening) events event images
         → Safe (opened setup opening) events event images }

@@ -6,7 +6,7 @@ use Rattle.sg_device.specs.declared.inlet.Pull.{Pull}
 use Rattle.sg_device.specs.declared.inlet.Pull.TheVariants.{Bytes, Next, Idle, End}
 use Rattle.sg_memory.specs.Part.{part_of, peer_of, given_of, left_of, total_given}
 use Rattle.sg_memory.specs.Parts.{begun}
-use Rattle.sg_memory_disk.specs.Plan.{failing, fails_now}
+use Rattle.sg_memory_disk.specs.Plan.{failing, fails_now, after_call}
 use Rattle.sg_memory.specs.declared.inlet.MemoryInlet.{MemoryInlet}
 use Rattle.sg_memory.specs.declared.inlet.Pace.{Pace}
 
@@ -93,3 +93,8 @@ pull_gives inlet room =
 abbrev pub Pulls : Bool → Pull → Result Pull InletFault → Type 0
 Pulls fails gives (Ok pull) = (fails ≡ false) × (pull ≡ gives)
 Pulls fails gives (Err e) = fails ≡ true
+
+-- with so much room it fails and gives as its plan and its bytes say, and the plan goes on by this call
+pub record PullsByPlan (old new : MemoryInlet) (room : ℕ) (result : Result Pull InletFault) : Type 0 where
+  pub pulls : Pulls (pull_fails old) (pull_gives old room) result
+  pub plan : new.plan ≡ after_call old.plan

@@ -116,23 +116,19 @@ impl MemoryInlet {
 }
 
 impl Inlet for MemoryInlet {
-    ghost use Rattle.sg_device.specs.Inlet.{PullIsWhole, PullTells, PullMoves, PullLeaves, PullCounts, PullFaults};
-    ghost use Rattle.sg_memory.specs.Inlet.{inlet_of, pull_fails, pull_gives, Pulls};
-    ghost use Rattle.sg_memory_disk.specs.Plan.{after_call};
+    ghost use Rattle.sg_device.specs.Inlet.{PullFills, PullTells, PullMoves, PullLeaves, PullAdds};
+    ghost use Rattle.sg_memory.specs.Inlet.{inlet_of, PullsByPlan};
 
     ghost state = { inlet_of };
 
     fn pull(&mut self, into: &mut [u8]) -> Result<Pull, InletFault>
         requires { 0 < length into.old }
-        ensures whole { PullIsWhole (length into.old) result }
-        ensures size { length into.new ≡ length into.old }
+        ensures fills { PullFills into.old into.new result }
         ensures told { PullTells (inlet_of self.old) (inlet_of self.new) into.new result }
         ensures place { PullMoves (inlet_of self.old) (inlet_of self.new) result }
         ensures left { PullLeaves (inlet_of self.old) (inlet_of self.new) into.new result }
-        ensures counts { PullCounts (inlet_of self.old) (inlet_of self.new) result }
-        ensures faults { PullFaults (inlet_of self.old) (inlet_of self.new) result }
-        ensures pulls { Pulls (pull_fails self.old) (pull_gives self.old (length into.old)) result }
-        ensures plan { self.new.plan ≡ after_call self.old.plan }
+        ensures adds { PullAdds (inlet_of self.old) (inlet_of self.new) result }
+        ensures planned { PullsByPlan self.old self.new (length into.old) result }
     {
         if self.plan.next() || self.pulls == u64::MAX {
             self.faults = self.faults.saturating_add(1);

@@ -1,8 +1,8 @@
 // Open devices, with the memory for their closing.
 ghost use Rattle.std.specs.Prelude.{◌≡◌, ◌≢◌, ◌<◌, [], length};
-ghost use Rattle.sg_device.specs.Inlet.{PullIsWhole, PullTells, PullMoves, PullLeaves, PullCounts, PullFaults};
+ghost use Rattle.sg_device.specs.Inlet.{PullFills, PullTells, PullMoves, PullLeaves, PullAdds};
 ghost use Rattle.sg_device.specs.Outlet.{Sends};
-ghost use Rattle.sg_memory.specs.Inlet.{pull_fails, pull_gives, Pulls};
+ghost use Rattle.sg_memory.specs.Inlet.{PullsByPlan};
 ghost use Rattle.sg_memory.specs.Open.{feed_of, drain_of, opener_of};
 ghost use Rattle.sg_memory.specs.Outlet.{SendFails};
 ghost use Rattle.sg_memory_disk.specs.Plan.{after_call, fails_now};
@@ -26,16 +26,12 @@ impl Inlet for MemoryFeed {
 
     fn pull(&mut self, into: &mut [u8]) -> Result<Pull, InletFault>
         requires { 0 < length into.old }
-        ensures whole { PullIsWhole (length into.old) result }
-        ensures size { length into.new ≡ length into.old }
+        ensures fills { PullFills into.old into.new result }
         ensures told { PullTells (feed_of self.old) (feed_of self.new) into.new result }
         ensures place { PullMoves (feed_of self.old) (feed_of self.new) result }
         ensures left { PullLeaves (feed_of self.old) (feed_of self.new) into.new result }
-        ensures counts { PullCounts (feed_of self.old) (feed_of self.new) result }
-        ensures faults { PullFaults (feed_of self.old) (feed_of self.new) result }
-        ensures pulls { Pulls (pull_fails self.old.inlet)
-            (pull_gives self.old.inlet (length into.old)) result }
-        ensures plan { self.new.inlet.plan ≡ after_call self.old.inlet.plan }
+        ensures adds { PullAdds (feed_of self.old) (feed_of self.new) result }
+        ensures planned { PullsByPlan self.old.inlet self.new.inlet (length into.old) result }
     {
         self.inlet.pull(into)
     }

@@ -177,7 +177,8 @@ impl MemoryWorld {
         from: u64,
     ) -> Result<(MemoryFeed, u64), OpenRefusal>
         ensures opens { MatchResult result
-            (λ opened. InletOpens (world_of self.old) (world_of self.new) spec.now from (feed_of opened.0) opened.1)
+            (λ opened. InletOpens (world_of self.old) (world_of self.new) spec.now from
+            (feed_of opened.0) opened.1)
             (λ refusal. InletRefused (world_of self.old) (world_of self.new) refusal) }
         ensures fails { OpenFails
             (fails_now self.old.plans.inlet_opens || lacks_file self.old.files.items spec.now)
@@ -264,7 +265,8 @@ impl MemoryWorld {
     ) -> Result<(MemoryFeed, u64), NoMemory>
         requires { inlet_of inlet ≡ opened_state opened }
         ensures opens { MatchResult result
-            (λ feed. (world_of self.new ≡ with_inlet (world_of self.old) opened) × (feed_of feed.0 ≡ inlet_of inlet) × (feed.1 ≡ opened.from))
+            (λ feed. (world_of self.new ≡ with_inlet (world_of self.old) opened)
+            × (feed_of feed.0 ≡ inlet_of inlet) × (feed.1 ≡ opened.from))
             (λ _. world_of self.new ≡ world_of self.old) }
         ensures plan { IfOk result
             (λ feed. failing feed.0.inlet.plan ≡ first_failing self.old.plans.inlets.items) }
@@ -316,7 +318,8 @@ impl MemoryWorld {
         spec: &OutletSpec,
     ) -> Result<MemoryOpener, OpenRefusal>
         ensures opens { MatchResult result
-            (λ opener. PathsOpen (world_of self.old) (world_of self.new) spec.now (opener_of opener))
+            (λ opener. PathsOpen (world_of self.old) (world_of self.new) spec.now
+            (opener_of opener))
             (λ refusal. PathsRefused (world_of self.old) (world_of self.new) refusal) }
         ensures fails { OpenFails (fails_now self.old.plans.paths_opens) result }
         ensures goes { IfOk result

@@ -18,5 +18,6 @@ pub fn packed_unpacks()
 /// A frame of `Shape::ByPath` is the path and the text that its two templates give.
 pub fn frames_keep_paths()
     ensures { (path text : List Part) (content : Content) (env : Env)
-        → unpacked (frame_of (ByPath path text) content env) ≡ (path_of path content env, render_of text content env) }
+        → unpacked (frame_of (ByPath path text) content env)
+        ≡ (path_of path content env, render_of text content env) }
 {}

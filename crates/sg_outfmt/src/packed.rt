@@ -55,7 +55,8 @@ fn append_path(
     out: &mut Vec<u8>,
 ) -> Result<(), AllocError>
     ensures ok { OnOk result (out.new.items ≡ out.old.items
-        ++ (length_bytes (length (path_of path.now message.now env.now)) ++ path_of path.now message.now env.now)) }
+        ++ (length_bytes (length (path_of path.now message.now env.now))
+        ++ path_of path.now message.now env.now)) }
     ensures err { OnErr result (BeginsWith out.old.items out.new.items) }
 {
     let before = out.len();

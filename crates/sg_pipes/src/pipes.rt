@@ -117,7 +117,8 @@ impl Router for Pipes {
 
     ghost dests = { λ pipes. length pipes.table.dests.items };
 
-    ghost offers = { λ pipes inlet record_of found. AreOffers (forest_of pipes.table) inlet record_of found };
+    ghost offers = { λ pipes inlet record_of found. AreOffers (forest_of pipes.table)
+        inlet record_of found };
 
     fn route(
         &mut self,

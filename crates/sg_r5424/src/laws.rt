@@ -22,7 +22,8 @@ pub fn records_say_one_message()
 pub fn lines_are_records()
     ensures { (message : Content) (env : Env) → IsContent message → HasYear message env
         → (at : ℤ) (peer : List ℕ) (opts : ReadOpts)
-        → (said : Content) × (Is5424 (line_text message env) at peer opts said × SaysAgain opts message said) }
+        → (said : Content) × (Is5424 (line_text message env) at peer opts said
+        × SaysAgain opts message said) }
 {}
 
 /// A record whose structured data is of RFC 5424's own form has a place in a line for all of it, so the
@@ -36,8 +37,10 @@ pub fn lines_are_records()
 pub fn data_is_said_again()
     ensures keeps { (item : List ℕ) (at : ℤ) (peer : List ℕ) (opts : ReadOpts) (message : Content)
         → ReadsOwnForm item at peer opts message → KeepsData message.pairs }
-    ensures again { (item : List ℕ) (at : ℤ) (peer : List ℕ) (opts : ReadOpts) (message : Content) (env : Env)
+    ensures again { (item : List ℕ) (at : ℤ) (peer : List ℕ) (opts : ReadOpts) (message : Content)
+        (env : Env)
         → ReadsOwnForm item at peer opts message → IsContent message → HasYear message env
         → (later : ℤ) (next : List ℕ) (options : ReadOpts)
-        → (said : Content) × (Is5424 (line_text message env) later next options said × (data_pairs said.pairs ≡ data_pairs message.pairs)) }
+        → (said : Content) × (Is5424 (line_text message env) later next options said
+        × (data_pairs said.pairs ≡ data_pairs message.pairs)) }
 {}

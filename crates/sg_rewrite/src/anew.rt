@@ -19,7 +19,8 @@ fn keep(
 ) -> Result<(), NoMemory>
     requires { IsName name.now }
     ensures { OnOk result (builder.new ≡ record builder.old {
-      put = builder.old.put ++ unpicked globs.now ((record { name = name.now; value = value.now }) ∷ []);
+      put = builder.old.put ++ unpicked globs.now
+          ((record { name = name.now; value = value.now }) ∷ []);
     }) }
 {
     if is_picked(globs, name) {

@@ -72,7 +72,8 @@ fn set_picked(
 ) -> Result<(), NoMemory>
     requires { IsName name.now }
     ensures { OnOk result (message.new
-        ≡ (if is_picked globs.now name.now then with_text text.now name.now message.old else message.old)) }
+        ≡ (if is_picked globs.now name.now then with_text text.now name.now message.old
+        else message.old)) }
 {
     if is_picked(globs, name) {
         set_text(alloc, name, text, message, buffers)?;
@@ -108,7 +109,8 @@ pub(crate) fn set_group(
 fn unset_picked(globs: &[Name], name: &[u8], message: &mut Message) -> Result<(), NoMemory>
     requires { IsName name.now }
     ensures { OnOk result (message.new
-        ≡ (if is_picked globs.now name.now then without_value name.now message.old else message.old)) }
+        ≡ (if is_picked globs.now name.now then without_value name.now message.old
+        else message.old)) }
 {
     if is_picked(globs, name) {
         unset(message, name)?;

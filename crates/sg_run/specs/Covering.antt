@@ -36,8 +36,8 @@ pub record StaysCovered {offers : Offers} {files : Option Files} {plan : RunPlan
   pub leaves : LeavesCovered happened bytes taken passes places
   pub clean : CleanSo plan reached ending bytes
 
--- What is covered by these routers stays so, over stores that tell their bytes and a machine that tells its files: at the return, and at every
--- moment before it.
+-- What is covered by these routers stays so, over stores that tell their bytes and a machine that tells its files: at the return, and, where the
+-- core was opened, at every moment since then.
 pub record Covers {R : Type 0} (offers : R → ℕ → Record → List Offer → Type 0) (files : Option Files) (plan : RunPlan) (by : List R) (reached : Reached) (ending : PlanEnded) : Type 0 where
   -- without a core nothing was taken, and no record came in
   pub unopened : (bytes : ℕ → List ℕ) (taken : List Taken) (passes : List Pass) (places : ℕ → ℕ)

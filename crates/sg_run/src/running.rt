@@ -51,8 +51,7 @@ fn run_by<T: Threads + Wait + Sync, W: World>(
     requires files { ReadsFiles config once }
     requires routers { AreRouters config routers.items }
     requires lines { AreLines config lines }
-    requires some { 0 < rounds }
-    requires rounds { rounds ≤ 2 ^ 36 }
+    requires rounds { (0 < rounds) × (rounds ≤ 2 ^ 36) }
     ensures { RunsBy W.Feed.state W.Drain.state (W.state world.old) (W.state world.new) config once
         rounds result }
 {

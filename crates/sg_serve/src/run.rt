@@ -2,7 +2,7 @@
 ghost use Rattle.std.specs.Prelude.{◌≡◌, ◌≤◌, ◌<◌, ◌^◌, ◌++◌, map, length, option_map, option_to_list};
 ghost use Rattle.sg_outside.specs.World.{WorldState};
 ghost use Rattle.sg_standing.specs.States.{setup_of};
-ghost use Rattle.sg_turns.specs.Actors.{AreSources};
+ghost use Rattle.sg_turns.specs.Actors.{AreFewActors, AreSources};
 ghost use Rattle.sg_serve.specs.Devices.{AreNotByPath};
 ghost use Rattle.sg_serve.specs.Plan.{IsRunnable, AllKnow};
 ghost use Rattle.sg_serve.specs.Run.{early_of, ClosesAll, RunsPlan, RunsOver, RunsDests};
@@ -48,17 +48,20 @@ fn run_dests<T: Threads + Wait + Sync, W: World, R: Router + Send + Drop>(
     rounds: u64,
     world: &mut W,
 ) -> (Held<W::Store, R, W::Feed, W::Drain>, PlanEnded)
-    requires some { 0 < rounds }
-    requires rounds { rounds ≤ 2 ^ 36 }
+    requires rounds { (0 < rounds) × (rounds ≤ 2 ^ 36) }
     requires calls { core.calls ≤ 2 ^ 50 }
-    requires stores { stores ≡ length core.stores }
-    requires few_sources { length sources.items ≤ 128 }
-    requires few_dests { length outlets.items ≤ 64 }
-    requires count { length outlets.items ≡ length (setup_of core).dests }
+    requires counts { (stores ≡ length core.stores)
+        × (length outlets.items ≡ length (setup_of core).dests) }
+    requires few { AreFewActors (length sources.items) (length outlets.items) }
     requires paths { AreNotByPath outlets.items }
     requires sources { AreSources W.Feed.state R.inlets R.dests (setup_of core) sources.items }
-    ensures { RunsDests W.Feed.state W.Drain.state R.offers R.inlets R.dests (W.state world.old) (W.state world.new) once outlets.items rounds core sources.items (map W.Store.state result.0.stores.items)
-        (map (λ a. W.Feed.state a.inlet) result.0.sources.items ++ option_to_list (option_map W.Feed.state result.0.feed)) (map (λ a. W.Drain.state a.outlet) result.0.dests.items ++ option_to_list (option_map W.Drain.state result.0.drain)) result.1 }
+    ensures { RunsDests W.Feed.state W.Drain.state R.offers R.inlets R.dests (W.state world.old)
+        (W.state world.new) once outlets.items rounds core sources.items
+        (map W.Store.state result.0.stores.items)
+        (map (λ a. W.Feed.state a.inlet) result.0.sources.items
+        ++ option_to_list (option_map W.Feed.state result.0.feed))
+        (map (λ a. W.Drain.state a.outlet) result.0.dests.items
+        ++ option_to_list (option_map W.Drain.state result.0.drain)) result.1 }
 {
     let dests = match open_dests(alloc, outlets, once, world) {
         Ok(dests) => dests,
@@ -105,8 +108,13 @@ fn run_core<T: Threads + Wait + Sync, W: World, R: Router + Send + Drop>(
     requires plan { IsRunnable plan }
     requires stores { length stores.items ≡ length plan.stores.items }
     requires routers { AllKnow R.inlets R.dests plan routers.items }
-    ensures { RunsOver W.Feed.state W.Drain.state R.offers R.inlets R.dests (W.state world.old) (W.state world.new) plan routers.items rounds (map W.Store.state stores.items) (map W.Store.state result.0.stores.items)
-        (map (λ a. W.Feed.state a.inlet) result.0.sources.items ++ option_to_list (option_map W.Feed.state result.0.feed)) (map (λ a. W.Drain.state a.outlet) result.0.dests.items ++ option_to_list (option_map W.Drain.state result.0.drain)) result.1 }
+    ensures { RunsOver W.Feed.state W.Drain.state R.offers R.inlets R.dests (W.state world.old)
+        (W.state world.new) plan routers.items rounds (map W.Store.state stores.items)
+        (map W.Store.state result.0.stores.items)
+        (map (λ a. W.Feed.state a.inlet) result.0.sources.items
+        ++ option_to_list (option_map W.Feed.state result.0.feed))
+        (map (λ a. W.Drain.state a.outlet) result.0.dests.items
+        ++ option_to_list (option_map W.Drain.state result.0.drain)) result.1 }
 {
     let RunPlan {
         setup,
@@ -162,8 +170,14 @@ fn run_stores<T: Threads + Wait + Sync, W: World, R: Router + Send + Drop>(
     requires rounds { rounds ≤ 2 ^ 36 }
     requires plan { IsRunnable plan }
     requires routers { AllKnow R.inlets R.dests plan routers.items }
-    ensures { (closed : WorldState) → ClosesAll (W.state world.new) closed (map W.Store.state result.0.stores.items) (map (λ a. W.Feed.state a.inlet) result.0.sources.items ++ option_to_list (option_map W.Feed.state result.0.feed))
-        (map (λ a. W.Drain.state a.outlet) result.0.dests.items ++ option_to_list (option_map W.Drain.state result.0.drain)) → RunsPlan W.Feed.state W.Drain.state R.offers R.inlets R.dests (W.state world.old) closed plan routers.items rounds result.1 }
+    ensures { (closed : WorldState) → ClosesAll (W.state world.new) closed
+        (map W.Store.state result.0.stores.items)
+        (map (λ a. W.Feed.state a.inlet) result.0.sources.items
+        ++ option_to_list (option_map W.Feed.state result.0.feed))
+        (map (λ a. W.Drain.state a.outlet) result.0.dests.items
+        ++ option_to_list (option_map W.Drain.state result.0.drain))
+        → RunsPlan W.Feed.state W.Drain.state R.offers R.inlets R.dests (W.state world.old) closed
+        plan routers.items rounds result.1 }
 {
     match open_stores(alloc, &plan.stores, world) {
         Ok(stores) => run_core(rt, alloc, plan, stores, routers, rounds, world),

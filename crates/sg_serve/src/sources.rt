@@ -175,8 +175,8 @@ pub fn open_sources<W: World, R: Router + Drop>(
 ) -> Result<Vec<SourceActor<R, W::Feed>>, (Vec<SourceActor<R, W::Feed>>, Option<W::Feed>, Early)>
     requires open { (disks : List DiskState) × IsOpen (setup_of core.old) disks core.old }
     requires setups { (setup_of core.old).sources ≡ setups.now }
-    requires count { length setups.now ≡ length plans.now }
-    requires routers { length routers.items ≡ length plans.now }
+    requires counts { (length setups.now ≡ length plans.now)
+        × (length routers.items ≡ length plans.now) }
     requires few { length plans.now ≤ 128 }
     requires fetches { AreFetching plans.now }
     requires apart { AreApartIn setups.now }

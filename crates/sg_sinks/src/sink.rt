@@ -51,7 +51,9 @@ impl Model for Sink {
       room = s.room;
     } };
 
-    ghost invariant = { λ s. IsRoomy s.taken (s.dropped_full + s.dropped_disk) s.lengths.items (record { len = deque_len s.lengths; capacity = deque_capacity s.lengths }) s.used s.queue (record { len = deque_len s.blocks; capacity = deque_capacity s.blocks }) s.room };
+    ghost invariant = { λ s. IsRoomy s.taken (s.dropped_full + s.dropped_disk) s.lengths.items
+        (record { len = deque_len s.lengths; capacity = deque_capacity s.lengths }) s.used s.queue
+        (record { len = deque_len s.blocks; capacity = deque_capacity s.blocks }) s.room };
 }
 
 impl Sink {

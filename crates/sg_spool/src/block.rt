@@ -19,7 +19,8 @@ impl Model for Block {
 
     ghost view = { λ b. payload_of b.bytes.items };
 
-    ghost invariant = { λ b. IsPayload (payload_of b.bytes.items) × (b.bytes.items ≡ 1 ∷ block_of (payload_of b.bytes.items)) };
+    ghost invariant = { λ b. IsPayload (payload_of b.bytes.items)
+        × (b.bytes.items ≡ 1 ∷ block_of (payload_of b.bytes.items)) };
 }
 
 impl Block {

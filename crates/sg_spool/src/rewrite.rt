@@ -28,7 +28,8 @@ pub trait Recode {
         ensures stays { (bytes : List ℕ) → meaning self.new bytes ≡ meaning self.old bytes };
 
     /// A payload of 1 to 2^30 + 64 bytes has a new one of as many.
-    ghost fits: { (recode : Self) (payload : List ℕ) → IsPayload payload → IsPayload (meaning recode payload) };
+    ghost fits: { (recode : Self) (payload : List ℕ) → IsPayload payload
+        → IsPayload (meaning recode payload) };
 }
 
 // Spells the entries anew behind all that the list uses, makes them stable, and then puts the cell.

@@ -46,9 +46,22 @@ impl<D: Disk> Model for Spool<D> {
 
     ghost Value = { View D };
 
-    ghost view = { λ s. record { disk = s.disk; capacity = s.capacity; rows = s.rows; front = option_map (λ v. v.items) s.front; closed = s.closed } };
+    ghost view = { λ s. record {
+      disk = s.disk;
+      capacity = s.capacity;
+      rows = s.rows;
+      front = option_map (λ v. v.items) s.front;
+      closed = s.closed;
+    } };
 
-    ghost invariant = { λ s. IsSound D.state s.cell (record { disk = s.disk; capacity = s.capacity; rows = s.rows; front = option_map (λ v. v.items) s.front; closed = s.closed }) };
+    ghost invariant = { λ s. IsSound D.state s.cell
+        (record {
+          disk = s.disk;
+          capacity = s.capacity;
+          rows = s.rows;
+          front = option_map (λ v. v.items) s.front;
+          closed = s.closed;
+        }) };
 }
 
 impl<D: Disk> Spool<D> {

@@ -91,8 +91,11 @@ fn stage_behind<D: Disk>(disk: &mut D, rows: Rows, block: &Block) -> Result<(), 
         → rows.staged ≡ length staged
         → WhereTold (content (D.state disk.old)) (IsStaged cell rows.list rows.ahead list staged)
         → WhereTold (content (D.state disk.new)) (IsStaged cell rows.list
-        (record
-        { jump = rows.ahead.jump; head = rows.ahead.head; end = rows.ahead.end + 5 + length block.now })
+        (record {
+          jump = rows.ahead.jump;
+          head = rows.ahead.head;
+          end = rows.ahead.end + 5 + length block.now;
+        })
         list (staged ++ block.now ∷ []))) }
     ensures short { (most : ℕ) → rows.ahead.end + length block.now + 6 ≤ most
         → Elapses (Grows most) (D.state disk.old) (D.state disk.new) }

@@ -19,7 +19,8 @@ pub struct Stable<D: Disk> {
     pub cell: Pair,
     /// The position that was put last, also where that failed.
     pub tried: u64,
-    ghost whole: { cell.closed ≡ false → EachNow (D.state disk) (HasCell cell.selector cell.value) },
+    ghost whole: { cell.closed ≡ false → EachNow (D.state disk)
+        (HasCell cell.selector cell.value) },
     ghost stands: { EachNow (D.state disk) (IsEither cell.value tried) },
 }
 

@@ -39,7 +39,10 @@ impl<D: Disk> Model for Store<D> {
 
     ghost view = { λ s. elim s.held [ Position store ↦ store | Buffer store ↦ store ] };
 
-    ghost invariant = { λ s. elim s.held [ Position store ↦ store.buffer ≡ None | Buffer store ↦ IsBuffer store ] };
+    ghost invariant = { λ s. elim s.held [
+      | Position store ↦ store.buffer ≡ None
+      | Buffer store ↦ IsBuffer store
+    ] };
 }
 
 // What is found in a position store.

@@ -27,7 +27,8 @@ fn fans_of(alloc: Global, pipes: &[Pipe]) -> Result<Vec<Fan>, AllocError>
 fn check_tops(fans: &[Fan], paths: &[Path], tops: &[Top]) -> Result<(), PathRefusal>
     requires { length tops.now ≡ length paths.now }
     ensures { (named : List AnExpr) (steps : List SomeSteps) → fans.now ≡ map fan steps
-        → map (statement_at (place steps)) tops.now ≡ map (top_view named) paths.now → ChecksBounds named paths.now result }
+        → map (statement_at (place steps)) tops.now ≡ map (top_view named) paths.now
+        → ChecksBounds named paths.now result }
 {
     let mut offers = 0;
     for i in 0..paths.len() {

@@ -53,8 +53,11 @@ pub(crate) fn fan_at(fans: &[Fan], at: u32) -> Fan
 }
 
 fn beside(a: Fan, b: Fan) -> Fan
-    ensures { result ≡ record
-        { offers = cut (a.offers + b.offers); out = cut (a.out + b.out); most = max a.most b.most } }
+    ensures { result ≡ record {
+      offers = cut (a.offers + b.offers);
+      out = cut (a.out + b.out);
+      most = max a.most b.most;
+    } }
 {
     Fan {
         offers: sum(a.offers, b.offers),
@@ -65,8 +68,11 @@ fn beside(a: Fan, b: Fan) -> Fan
 
 // What comes out walks the rest.
 fn onward(first: Fan, rest: Fan) -> Fan
-    ensures { result ≡ record
-        { offers = cut (first.offers + cut (first.out * rest.offers)); out = cut (first.out * rest.out); most = max 1 (max first.most (cut (first.out * rest.most))) } }
+    ensures { result ≡ record {
+      offers = cut (first.offers + cut (first.out * rest.offers));
+      out = cut (first.out * rest.out);
+      most = max 1 (max first.most (cut (first.out * rest.most)));
+    } }
 {
     Fan {
         offers: sum(first.offers, product(first.out, rest.offers)),

@@ -1,4 +1,4 @@
--- The path of a file, from a template over a message: no macro's text can leave the directory that the template names
+-- The path of a file, from a template over a message: a macro's text in it has no `/`, no NUL and no dot at its front
 -- (a file's name has no `/` and no NUL, and `.` and `..` are directories: POSIX.1-2017, 3.170 and 4.13).
 use Rattle.std.specs.Prelude.{ℕ, ◌==◌, ◌||◌, not, Bool, if◌then◌else◌, List, [], ◌∷◌, take, map, codes}
 use Rattle.std.specs.List.{flat_map}

@@ -111,7 +111,8 @@ fn split_name(text: &[u8]) -> SdName<'_>
 
 // The name, where it is of the grammar.
 fn checked(found: SdName<'_>) -> Option<SdName<'_>>
-    ensures { option_map (λ name. record { id = name.id.now; param = option_copied name.param }) result
+    ensures { option_map (λ name. record { id = name.id.now; param = option_copied name.param })
+        result
         ≡ checked (record { id = found.entry.id.now; param = option_copied found.entry.param }) }
 {
     if is_sd_name(found.id) && is_param_name(found.param) {
@@ -124,7 +125,8 @@ fn checked(found: SdName<'_>) -> Option<SdName<'_>>
 // What the name of a pair says, where it is of the grammar.
 #[tactic(auto, unfolding(crate::specs::Elements::sd_name))]
 fn sd_name(name: &[u8]) -> Option<SdName<'_>>
-    ensures { option_map (λ found. record { id = found.id.now; param = option_copied found.param }) result
+    ensures { option_map (λ found. record { id = found.id.now; param = option_copied found.param })
+        result
         ≡ sd_name name.now }
 {
     match name.strip_prefix(b".SDATA.") {
@@ -223,7 +225,8 @@ fn append_item<'n>(
     value: &[u8],
     out: &mut Vec<u8>,
 ) -> Result<Option<&'n [u8]>, AllocError>
-    ensures ok { IfOk result (λ last. (rest : List Item) → out.new.items ++ elements_text (option_copied last) rest
+    ensures ok { IfOk result (λ last. (rest : List Item)
+        → out.new.items ++ elements_text (option_copied last) rest
         ≡ out.old.items ++ elements_text (option_copied current.entry)
         (cons_option (item_of (record { name = name.entry.now; value = value.now })) rest)) }
     ensures begins { BeginsWith out.old.items out.new.items }

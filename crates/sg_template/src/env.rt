@@ -20,7 +20,8 @@ pub struct Env {
     /// What `$_` stands for: the value that a field had.
     pub old: Option<Name>,
     pub ghost at_most_six: { digits ≤ 6 },
-    pub ghost zone_in_range: { ForSome zone (λ offset. (negsuc 1438 ≤ℤ offset) × (offset ≤ℤ pos 1439)) },
+    pub ghost zone_in_range: { ForSome zone (λ offset. (negsuc 1438 ≤ℤ offset)
+        × (offset ≤ℤ pos 1439)) },
 }
 
 impl Env {

@@ -24,7 +24,8 @@ fn append_pid(pid: &[u8], out: &mut Vec<u8>) -> Result<(), AllocError>
 #[tactic(auto, using(crate::proofs::Appending::appending))]
 pub(crate) fn append_header(message: &Message, out: &mut Vec<u8>) -> Result<(), AllocError>
     ensures ok { OnOk result (out.new.items ≡ out.old.items
-        ++ header_text (text_of (codes "PROGRAM") message.now.pairs) (text_of (codes "PID") message.now.pairs)) }
+        ++ header_text (text_of (codes "PROGRAM") message.now.pairs)
+        (text_of (codes "PID") message.now.pairs)) }
     ensures err { OnErr result (BeginsWith out.old.items out.new.items) }
 {
     let program = text_of(message, b"PROGRAM");

@@ -8,8 +8,10 @@ use crate::number::{after, two_digits};
 // The microseconds of a fraction, 0 where there is none, and what follows.
 pub(crate) fn fraction(text: &[u8]) -> Option<(u32, &[u8])>
     ensures reading { MatchOption result
-        ((micros : ℕ) (fraction zone rest : List ℕ) (offset : ℤ) → IsFraction fraction micros → IsZone zone offset → ¬ (text.now ≡ fraction ++ (zone ++ rest)))
-        (λ read. (fraction : List ℕ) × IsFraction fraction read.0 × (read.0 < 1000000) × (text.now ≡ fraction ++ read.1.now)) }
+        ((micros : ℕ) (fraction zone rest : List ℕ) (offset : ℤ) → IsFraction fraction micros
+        → IsZone zone offset → ¬ (text.now ≡ fraction ++ (zone ++ rest)))
+        (λ read. (fraction : List ℕ) × IsFraction fraction read.0 × (read.0 < 1000000)
+        × (text.now ≡ fraction ++ read.1.now)) }
     ensures only { IfSome result (λ read. (micros : ℕ) (fraction zone rest : List ℕ) (offset : ℤ)
         → IsFraction fraction micros → IsZone zone offset → text.now ≡ fraction ++ (zone ++ rest)
         → read.1.now ≡ zone ++ rest) }

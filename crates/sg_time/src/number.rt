@@ -64,8 +64,10 @@ fn four_digits(text: &[u8]) -> Option<(u16, &[u8])>
 // A date of the years 1 to 9998 as YYYY-MM-DD, and what follows.
 pub(crate) fn date(text: &[u8]) -> Option<(Date, &[u8])>
     ensures { MatchOption result
-        ((date : ADate) (rest : List ℕ) → IsBetween (pos 1) (pos 9998) date.year → ¬ (text.now ≡ date_form date ++ rest))
-        (λ read. IsBetween (pos 1) (pos 9998) read.0.year × (text.now ≡ date_form read.0 ++ read.1.now)) }
+        ((date : ADate) (rest : List ℕ) → IsBetween (pos 1) (pos 9998) date.year
+        → ¬ (text.now ≡ date_form date ++ rest))
+        (λ read. IsBetween (pos 1) (pos 9998) read.0.year
+        × (text.now ≡ date_form read.0 ++ read.1.now)) }
 {
     let Some((year, text)) = four_digits(text) else {
         return None;

@@ -52,7 +52,8 @@ pub fn read_iso(text: &[u8]) -> Option<(Stamp, usize)>
 pub fn read_bsd(text: &[u8], received: Stamp) -> Option<(Stamp, usize)>
     requires { IsValid received }
     ensures reading { MatchOption result
-        ((stamp : AStamp) (len : ℕ) → ¬ IsBsd text.now (local_time received) received.offset stamp len)
+        ((stamp : AStamp) (len : ℕ)
+        → ¬ IsBsd text.now (local_time received) received.offset stamp len)
         (λ read. IsBsd text.now (local_time received) received.offset read.0 read.1) }
     ensures valid { IfSome result (λ read. IsValid read.0) }
     ensures within { IfSome result (λ read. read.1 ≤ length text.now) }
@@ -82,7 +83,8 @@ pub fn read_bsd(text: &[u8], received: Stamp) -> Option<(Stamp, usize)>
 // The month whose name in three letters stands at the front, and what follows.
 fn month(text: &[u8]) -> Option<(u8, &[u8])>
     ensures { MatchOption result
-        ((month : ℕ) (rest : List ℕ) → IsInRange 1 12 month → ¬ (text.now ≡ month_name month ++ rest))
+        ((month : ℕ) (rest : List ℕ) → IsInRange 1 12 month
+        → ¬ (text.now ≡ month_name month ++ rest))
         (λ read. IsInRange 1 12 read.0 × (text.now ≡ month_name read.0 ++ read.1.now)) }
 {
     let Some((name, rest)) = text.split_first_chunk::<3>() else {
@@ -100,7 +102,8 @@ fn month(text: &[u8]) -> Option<(u8, &[u8])>
 fn day_of_month(text: &[u8]) -> Option<(u8, &[u8])>
     ensures { MatchOption result
         ((n : ℕ) (day rest : List ℕ) → n < 100 → IsDay day n → ¬ (text.now ≡ day ++ rest))
-        (λ read. (read.0 < 100) × ((day : List ℕ) × IsDay day read.0 × (text.now ≡ day ++ read.1.now))) }
+        (λ read. (read.0 < 100) × ((day : List ℕ) × IsDay day read.0
+        × (text.now ≡ day ++ read.1.now))) }
 {
     if let Some(text) = after(text, b' ') {
         let Some((day, rest)) = one_digit(text) else {
@@ -120,8 +123,10 @@ fn date_by_receipt(received: LocalTime, month: u8, day: u8) -> Option<Date>
     requires month { IsInRange 1 12 month }
     requires day { day < 100 }
     ensures { MatchOption result
-        ((date : ADate) → pos 0 ≤ℤ date.year → date.year ≡ receipt_year received month → date.month ≡ month → ¬ (date.day ≡ day))
-        (λ date. (pos 0 ≤ℤ date.year) × (date.year ≡ receipt_year received month) × (date.month ≡ month) × (date.day ≡ day)) }
+        ((date : ADate) → pos 0 ≤ℤ date.year → date.year ≡ receipt_year received month
+        → date.month ≡ month → ¬ (date.day ≡ day))
+        (λ date. (pos 0 ≤ℤ date.year) × (date.year ≡ receipt_year received month)
+        × (date.month ≡ month) × (date.day ≡ day)) }
 {
     let year = year_by_receipt(received, month);
     if year < 0 {

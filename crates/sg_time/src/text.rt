@@ -81,7 +81,8 @@ fn append(front: &[u8], back: &[u8], out: &mut Vec<u8>) -> Result<(), AllocError
 // YYYY-MM-DDThh:mm:ss.ffffff
 fn iso_whole(local: LocalTime) -> [u8; 26]
     ensures { result ≡ date_text local.year local.month local.day ++ codes "T"
-        ++ clock_text local.hour local.minute local.second ++ (codes "." ++ digits_of 6 local.microsecond) }
+        ++ clock_text local.hour local.minute local.second
+        ++ (codes "." ++ digits_of 6 local.microsecond) }
 {
     let [y0, y1, y2, y3] = four_digits(local.year);
     let [mo0, mo1] = two_digits(local.month);
@@ -100,7 +101,8 @@ fn iso_whole(local: LocalTime) -> [u8; 26]
 fn bsd_whole(local: LocalTime) -> [u8; 22]
     requires { IsShown local }
     ensures { result ≡ month_name local.month ++ codes " " ++ day_text local.day ++ codes " "
-        ++ clock_text local.hour local.minute local.second ++ (codes "." ++ digits_of 6 local.microsecond) }
+        ++ clock_text local.hour local.minute local.second
+        ++ (codes "." ++ digits_of 6 local.microsecond) }
 {
     let [n0, n1, n2] = month_abbrev(local.month);
     let [d0, d1] = padded_day(local.day);

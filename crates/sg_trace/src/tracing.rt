@@ -114,8 +114,11 @@ pub fn trace_input<W: World>(
     ensures traces { TracesFile (W.state world.old) (W.state world.new) file.now source.now
         input.now result }
     // A configuration that has the source traces INPUT to its end, where nothing fails and memory is there.
-    ensures complete { (files : Files) (config : Meant) (i : ℕ) → (W.state world.old).files ≡ Some files → Configures (W.state world.old) file.now config → CanBeCompiled config
-        → first_of 0 source.now config.inlets.items ≡ Some i → IsUntroubled (W.state world.old) (W.state world.new) input.now → IsComplete result }
+    ensures complete { (files : Files) (config : Meant) (i : ℕ)
+        → (W.state world.old).files ≡ Some files → Configures (W.state world.old) file.now config
+        → CanBeCompiled config
+        → first_of 0 source.now config.inlets.items ≡ Some i
+        → IsUntroubled (W.state world.old) (W.state world.new) input.now → IsComplete result }
 {
     expansions_are_one();
     texts_mean_one();

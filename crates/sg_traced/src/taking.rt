@@ -30,8 +30,10 @@ fn trace_record<R: Router>(
     requires inlet { inlet < R.inlets router.old }
     requires dests { R.dests router.old ≡ length targets.now }
     requires moment { (pos 0 ≤ℤ at) × (at ≤ℤ pos 250_000_000_000_000_000) }
-    ensures traced { OnOk result ((offers : List AnOffer) × (R.offers router.old inlet (record_at peer.now item at) offers
-        × (tracer.new.text.items ≡ tracer.old.text.items ++ offers_text targets.now tracer.old.number offers))) }
+    ensures traced { OnOk result ((offers : List AnOffer)
+        × (R.offers router.old inlet (record_at peer.now item at) offers
+        × (tracer.new.text.items ≡ tracer.old.text.items
+        ++ offers_text targets.now tracer.old.number offers))) }
     ensures rest { (tracer.new.framer ≡ tracer.old.framer)
         × (tracer.new.number ≡ tracer.old.number) }
     ensures router { SameRouter (R.offers router.old) (R.offers router.new) (R.inlets router.old)

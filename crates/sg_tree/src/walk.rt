@@ -136,7 +136,8 @@ fn rest<B: Builder>(
     offers: &mut Vec<Offer>,
 ) -> Result<Gone, PathRefusal>
     ensures { IfOk result (λ gone. Gives offers.old.items offers.new.items gone
-        (then_each (record { deliveries = []; out = first.out.items; processed = first.processed }) (λ n. walk (steps_view named.now elements.now embedded.now) n flow))) }
+        (then_each (record { deliveries = []; out = first.out.items; processed = first.processed })
+        (λ n. walk (steps_view named.now elements.now embedded.now) n flow))) }
 {
     let mut gone = Gone {
         out: Vec::new(alloc),
@@ -225,7 +226,8 @@ pub(crate) fn one<B: Builder>(
     offers: &mut Vec<Offer>,
 ) -> Result<Gone, PathRefusal>
     ensures { IfOk result (λ gone. Gives offers.old.items offers.new.items gone
-        (counted (marks path.now) (walk (own_steps named.now path.now) message.now (flow || (marks path.now).flow)))) }
+        (counted (marks path.now) (walk (own_steps named.now path.now) message.now
+        (flow || (marks path.now).flow)))) }
 {
     let shared = message.share()?;
     let mut gone = walk(

@@ -1,5 +1,5 @@
 -- The actors of a run.
-use Rattle.std.specs.Prelude.{◌≡◌, ℕ, Some, List, length, slice_get}
+use Rattle.std.specs.Prelude.{◌≡◌, ◌≤◌, ℕ, Some, List, length, slice_get}
 use Rattle.sg_device.specs.Inlet.{InletState}
 use Rattle.sg_device.specs.Outlet.{OutletState}
 use Rattle.sg_msg.specs.declared.offer.Offer.{Offer}
@@ -12,6 +12,10 @@ use Rattle.sg_actor.specs.SourceTurns.{ActorState, actor, FitsSource}
 use Rattle.sg_actor.specs.declared.dest.DestActor.{DestActor}
 use Rattle.sg_actor.specs.declared.source.SourceActor.{SourceActor}
 use Rattle.sg_turns.specs.Turns.{Turn, SourceTurns, TookTurns, DestState, dest_state, DestTurns, SentTurns}
+
+-- as many sources and destinations as a run takes at most
+abbrev pub AreFewActors : ℕ → ℕ → Type 0
+AreFewActors sources dests = (sources ≤ 128) × (dests ≤ 64)
 
 -- what turns see of a source, and of a destination
 abbrev pub source_seen : {R I : Type 0} → (I → InletState) → SourceActor R I → ActorState

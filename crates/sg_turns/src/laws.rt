@@ -47,7 +47,8 @@ pub fn sources_rest<R: Router>(router: &R)
 
 /// At the end of such a run a destination is given up, or no entry is left for it.
 pub fn dests_rest()
-    ensures { (spec : ADestSpec) (old new : DestState) (turns : List Turn) (before last : List Exchange)
+    ensures { (spec : ADestSpec) (old new : DestState) (turns : List Turn)
+        (before last : List Exchange)
         → DestRests spec old new turns before last }
 {}
 

@@ -1,6 +1,6 @@
 // The rounds of a run, over any counter.
 ghost use Rattle.std.specs.Prelude.{◌≡◌, ◌≤◌, ◌<◌, ◌+◌, ◌*◌, length};
-ghost use Rattle.sg_turns.specs.Actors.{AreSources, AreDests, SourceTook, DestTook};
+ghost use Rattle.sg_turns.specs.Actors.{AreFewActors, AreSources, AreDests, SourceTook, DestTook};
 ghost use Rattle.sg_turns.specs.Serving.{Serves};
 
 use crate::ended::Ended;
@@ -25,8 +25,7 @@ pub fn run_rounds<T: Wait, R: Router, I: Inlet, O: Outlet, C: Counter>(
     requires some { 0 < rounds }
     requires sources { AreSources I.state R.inlets R.dests (C.setup counter.old) sources.old.items }
     requires dests { AreDests O.state (C.setup counter.old) dests.old.items }
-    requires few_sources { length sources.old.items ≤ 128 }
-    requires few_dests { length dests.old.items ≤ 64 }
+    requires few { AreFewActors (length sources.old.items) (length dests.old.items) }
     requires left { 768 * rounds ≤ C.left counter.old }
     ensures serves { Serves (SourceTook I.state R.offers R.inlets R.dests) (DestTook O.state) C.step
         counter.old counter.new sources.old.items sources.new.items dests.old.items dests.new.items

@@ -35,9 +35,15 @@ impl Model for Tracker {
 
     ghost Value = { Window };
 
-    ghost view = { λ t. record { limit = t.window; begun = t.begun; mark = t.mark; waiting = t.ring.items } };
+    ghost view = { λ t. record {
+      limit = t.window;
+      begun = t.begun;
+      mark = t.mark;
+      waiting = t.ring.items;
+    } };
 
-    ghost invariant = { λ t. (deque_len t.ring ≤ t.window) × (t.window ≤ deque_capacity t.ring) × (deque_len t.ring ≤ t.begun) × (outstanding t.ring.items ≡ t.ring.items) };
+    ghost invariant = { λ t. (deque_len t.ring ≤ t.window) × (t.window ≤ deque_capacity t.ring)
+        × (deque_len t.ring ≤ t.begun) × (outstanding t.ring.items ≡ t.ring.items) };
 }
 
 impl Tracker {

@@ -27,7 +27,8 @@ pub trait World: Files + Builder {
     /// bytes, all of them stable.
     fn open_store(&mut self, alloc: Global, spec: &StoreSpec) -> Result<Self::Store, OpenRefusal>
         ensures { MatchResult result
-            (λ store. StoreOpens (Self.state self.old) (Self.state self.new) spec.now (Self.Store.state store))
+            (λ store. StoreOpens (Self.state self.old) (Self.state self.new) spec.now
+            (Self.Store.state store))
             (λ refusal. StoreRefused (Self.state self.old) (Self.state self.new) refusal) };
 
     /// Opens an inlet for reading from a place on, in bytes, and answers the place from which it
@@ -40,21 +41,24 @@ pub trait World: Files + Builder {
         from: u64,
     ) -> Result<(Self::Feed, u64), OpenRefusal>
         ensures { MatchResult result
-            (λ opened. InletOpens (Self.state self.old) (Self.state self.new) spec.now from (Self.Feed.state opened.0) opened.1)
+            (λ opened. InletOpens (Self.state self.old) (Self.state self.new) spec.now from
+            (Self.Feed.state opened.0) opened.1)
             (λ refusal. InletRefused (Self.state self.old) (Self.state self.new) refusal) };
 
     /// Opens an outlet for one file or one connection.
     fn open_outlet(&mut self, alloc: Global, spec: &OutletSpec) -> Result<Self::Drain, OpenRefusal>
         requires { IsByPath spec.now → ⊥ }
         ensures { MatchResult result
-            (λ drain. OutletOpens (Self.state self.old) (Self.state self.new) spec.now (Self.Drain.state drain))
+            (λ drain. OutletOpens (Self.state self.old) (Self.state self.new) spec.now
+            (Self.Drain.state drain))
             (λ refusal. OutletRefused (Self.state self.old) (Self.state self.new) refusal) };
 
     /// Opens an opener of files by their paths.
     fn open_paths(&mut self, alloc: Global, spec: &OutletSpec) -> Result<Self::Paths, OpenRefusal>
         requires { IsByPath spec.now }
         ensures { MatchResult result
-            (λ opener. PathsOpen (Self.state self.old) (Self.state self.new) spec.now (Self.Paths.state opener))
+            (λ opener. PathsOpen (Self.state self.old) (Self.state self.new) spec.now
+            (Self.Paths.state opener))
             (λ refusal. PathsRefused (Self.state self.old) (Self.state self.new) refusal) };
 
     /// Closes a store. It takes no memory.

@@ -12,13 +12,13 @@ use Rattle.sg_crew.proofs.TakeLemmas.{dealt-seat, dealt-actors, may-read, source
 use Rattle.sg_crew.proofs.phase.take_phase.Goals as goal
 
 pub deal-requires-clause-left : goal.deal-requires-clause-left
-deal-requires-clause-left g c = omega (arith, c.requires.left, c.requires.few_sources)
+deal-requires-clause-left g c = omega (arith, c.requires.seat.1, c.requires.few.0)
 
 pub deal-requires-2-clause-first : goal.deal-requires-2-clause-first
 deal-requires-2-clause-first g c = subst (IsDeskOf c.args.hub.now) (sym c.deal.ensures.first) (c.requires.first.0, c.requires.first.1)
 
 pub deal-requires-2-clause-left : goal.deal-requires-2-clause-left
-deal-requires-2-clause-left g c = let left = ap (λ (s : SeatState). s.left) c.deal.ensures.first in omega (arith, left, c.requires.left, c.requires.few_sources, c.requires.few_dests)
+deal-requires-2-clause-left g c = let left = ap (λ (s : SeatState). s.left) c.deal.ensures.first in omega (arith, left, c.requires.seat.1, c.requires.few.0, c.requires.few.1)
 
 pub take_turns-taken-requires-clause-read : goal.take_turns-taken-requires-clause-read
 take_turns-taken-requires-clause-read g c = λ κs lives.
@@ -38,7 +38,7 @@ pub gather-read-requires-clause-left : goal.gather-read-requires-clause-left
 gather-read-requires-clause-left g c =
     let one = ap (λ (s : SeatState). s.left) c.deal.ensures.first in
     let two = ap (λ (s : SeatState). s.left) c.deal-2.ensures.first in
-    omega (arith, one, two, c.requires.left, c.requires.few_sources, c.requires.few_dests)
+    omega (arith, one, two, c.requires.seat.1, c.requires.few.0, c.requires.few.1)
 
 pub gather-read-requires-clause-seats : goal.gather-read-requires-clause-seats
 gather-read-requires-clause-seats g c =
@@ -62,7 +62,7 @@ gather-sent-requires-clause-left g c =
     let one = ap (λ (s : SeatState). s.left) c.deal.ensures.first in
     let two = ap (λ (s : SeatState). s.left) c.deal-2.ensures.first in
     let three = c.gather-read.ensures.gathered.left in
-    omega (arith, one, two, three, c.requires.left, c.requires.few_sources, c.requires.few_dests)
+    omega (arith, one, two, three, c.requires.seat.1, c.requires.few.0, c.requires.few.1)
 
 pub gather-sent-requires-clause-seats : goal.gather-sent-requires-clause-seats
 gather-sent-requires-clause-seats g c =
@@ -73,10 +73,10 @@ gather-sent-requires-clause-seats g c =
     (dealt-seat c.args.first.now c.deal.new.first same c.args.dests.now.items c.deal-2.new.workers.items c.deal-2.ensures.workers) c.requires.first
 
 pub gather-read-requires-clause-few : goal.gather-read-requires-clause-few
-gather-read-requires-clause-few g c = let one = c.take_turns-taken.ensures.read.all in let two = c.deal.ensures.workers.all in omega (arith, one, two, c.requires.few_sources)
+gather-read-requires-clause-few g c = let one = c.take_turns-taken.ensures.read.all in let two = c.deal.ensures.workers.all in omega (arith, one, two, c.requires.few.0)
 
 pub gather-sent-requires-clause-few : goal.gather-sent-requires-clause-few
-gather-sent-requires-clause-few g c = let one = c.take_turns-taken.ensures.sent.all in let two = c.deal-2.ensures.workers.all in omega (arith, one, two, c.requires.few_dests)
+gather-sent-requires-clause-few g c = let one = c.take_turns-taken.ensures.sent.all in let two = c.deal-2.ensures.workers.all in omega (arith, one, two, c.requires.few.1)
 
 pub returns-clause-took : goal.returns-clause-took
 returns-clause-took g c =
@@ -129,7 +129,7 @@ returns-clause-took g c =
             (dealt-actors f0 f0 refl s0 s1 c.deal.ensures.workers) (part-stays HasStayed actor_of (λ x y h. h) s2 s3 c.gather-read.ensures.actors)
             (dealt-actors f0 m same d0 d1 c.deal-2.ensures.workers) (part-stays HasStayed actor_of (λ x y h. h) d2 d3 c.gather-sent.ensures.actors)
             (phase-is (SourceTakes state offers inlets dests) (DestTakes g.O.Outlet.state) hub f0 f1 f2 f3 s1 s2 d1 d2 t.0 u.0
-            seen1 own1 joined1 sat sat' t.1 u.1 gs gd number c.joined-phase.result.busy c.joined-phase.result.starved more seen c.requires.ordered
+            seen1 own1 joined1 sat sat' t.1 u.1 gs gd number c.joined-phase.result.busy c.joined-phase.result.starved more seen c.requires.seat.0
             (c.gather-read.ensures.even even.0) (c.gather-sent.ensures.even even.1) busy starved)),
       ),
     )
@@ -178,8 +178,8 @@ returns-clause-first g c =
       of_hub = (gd.booth ∙ (gs.booth ∙ of_hub.0), gd.made ∙ (gs.made ∙ of_hub.1));
       ordered = search rules;
       sum = phase-turns (SourceTakes state offers inlets dests) (DestTakes g.O.Outlet.state) hub f0 f1 f2 f3 s1 s2 d1 d2 t.0 u.0
-          seen1 own1 joined1 sat sat' t.1 u.1 gs gd more seen (omega (arith, one, two, all, all', c.requires.left, c.requires.few_sources, c.requires.few_dests));
-      left = omega (arith, one, two, three, four, c.requires.left, c.requires.few_sources, c.requires.few_dests);
+          seen1 own1 joined1 sat sat' t.1 u.1 gs gd more seen (omega (arith, one, two, all, all', c.requires.seat.1, c.requires.few.0, c.requires.few.1));
+      left = omega (arith, one, two, three, four, c.requires.seat.1, c.requires.few.0, c.requires.few.1);
     }
 
 pub returns-clause-crew : goal.returns-clause-crew

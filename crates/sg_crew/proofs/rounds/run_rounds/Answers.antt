@@ -36,19 +36,19 @@ loop-left-init g c =
           c.args.first.now as' bs c.args.rounds (ap (λ (s : SeatState). s.seen) is));
     }
 
-pub take_phase-phase-requires-clause-few_sources : goal.take_phase-phase-requires-clause-few_sources
-take_phase-phase-requires-clause-few_sources g c = let sources = c.loop-left.invariant.all_sources in omega (arith, sources, c.requires.few_sources)
+pub take_phase-phase-requires-clause-few : goal.take_phase-phase-requires-clause-few
+take_phase-phase-requires-clause-few g c = λ κs lives.
+    let sources = c.loop-left.invariant.all_sources in
+    let dests = c.loop-left.invariant.all_dests in
+    (omega (arith, sources, c.requires.few.0), omega (arith, dests, c.requires.few.1))
 
-pub take_phase-phase-requires-clause-few_dests : goal.take_phase-phase-requires-clause-few_dests
-take_phase-phase-requires-clause-few_dests g c = let dests = c.loop-left.invariant.all_dests in omega (arith, dests, c.requires.few_dests)
-
-pub take_phase-phase-requires-clause-left : goal.take_phase-phase-requires-clause-left
-take_phase-phase-requires-clause-left g c =
+pub take_phase-phase-requires-clause-seat : goal.take_phase-phase-requires-clause-seat
+take_phase-phase-requires-clause-seat g c = λ κs lives.
     let i = c.loop-left.invariant in
     let same = ap (λ h. h.turns) i.hub in
     let left = i.left in
     let few = i.few in
-    omega (arith, same, left, few, c.requires.turns, c.loop-left-test.true)
+    (i.ordered, omega (arith, same, left, few, c.requires.turns, c.loop-left-test.true))
 
 pub loop-left-preserved : goal.loop-left-preserved
 loop-left-preserved g c =

@@ -13,28 +13,24 @@ pub seat_all-readers-requires-clause-first : goal.seat_all-readers-requires-clau
 seat_all-readers-requires-clause-first g c = subst (IsDeskOf c.args.hub) (sym c.requires.first) (refl, refl)
 
 pub seat_all-readers-requires-clause-left : goal.seat_all-readers-requires-clause-left
-seat_all-readers-requires-clause-left g c = let left = ap (λ (s : SeatState). s.left) c.requires.first in omega (arith, left, c.requires.turns)
+seat_all-readers-requires-clause-left g c = let left = ap (λ (s : SeatState). s.left) c.requires.first in omega (arith, left, c.requires.turns.1)
 
 pub seat_all-senders-requires-clause-first : goal.seat_all-senders-requires-clause-first
 seat_all-senders-requires-clause-first g c = subst (IsDeskOf c.args.hub) (sym (c.seat_all-readers.ensures.first ∙ c.requires.first)) (refl, refl)
 
 pub seat_all-senders-requires-clause-left : goal.seat_all-senders-requires-clause-left
-seat_all-senders-requires-clause-left g c = let left = ap (λ (s : SeatState). s.left) (c.seat_all-readers.ensures.first ∙ c.requires.first) in omega (arith, left, c.requires.turns)
+seat_all-senders-requires-clause-left g c = let left = ap (λ (s : SeatState). s.left) (c.seat_all-readers.ensures.first ∙ c.requires.first) in omega (arith, left, c.requires.turns.1)
 
 pub run_rounds-ended-requires-clause-first : goal.run_rounds-ended-requires-clause-first
 run_rounds-ended-requires-clause-first g c = λ κs lives. c.seat_all-senders.ensures.first ∙ (c.seat_all-readers.ensures.first ∙ c.requires.first)
 
-pub run_rounds-ended-requires-clause-few_sources : goal.run_rounds-ended-requires-clause-few_sources
-run_rounds-ended-requires-clause-few_sources g c =
-    let one = length-map actor_of c.seat_all-readers.result.items in
-    let two = ap length c.seat_all-readers.ensures.actors in
-    omega (arith, one, two, c.requires.few_sources)
-
-pub run_rounds-ended-requires-clause-few_dests : goal.run_rounds-ended-requires-clause-few_dests
-run_rounds-ended-requires-clause-few_dests g c =
-    let one = length-map actor_of c.seat_all-senders.result.items in
-    let two = ap length c.seat_all-senders.ensures.actors in
-    omega (arith, one, two, c.requires.few_dests)
+pub run_rounds-ended-requires-clause-few : goal.run_rounds-ended-requires-clause-few
+run_rounds-ended-requires-clause-few g c = λ κs lives.
+    let sources = length-map actor_of c.seat_all-readers.result.items in
+    let readers = ap length c.seat_all-readers.ensures.actors in
+    let dests = length-map actor_of c.seat_all-senders.result.items in
+    let senders = ap length c.seat_all-senders.ensures.actors in
+    (omega (arith, sources, readers, c.requires.few.0), omega (arith, dests, senders, c.requires.few.1))
 
 pub run_rounds-ended-requires-clause-sources : goal.run_rounds-ended-requires-clause-sources
 run_rounds-ended-requires-clause-sources g c = λ κs lives.
@@ -48,7 +44,7 @@ free_all-requires-clause-fits g c =
     let one = length-map actor_of c.seat_all-readers.result.items in
     let two = ap length c.seat_all-readers.ensures.actors in
     let three = c.run_rounds-ended.ensures.crew.all_sources in
-    let room = c.requires.sources_room.3 in
+    let room = c.requires.rooms.0.3 in
     omega (arith, one, two, three, room)
 
 pub free_all-requires-2-clause-fits : goal.free_all-requires-2-clause-fits
@@ -56,7 +52,7 @@ free_all-requires-2-clause-fits g c =
     let one = length-map actor_of c.seat_all-senders.result.items in
     let two = ap length c.seat_all-senders.ensures.actors in
     let three = c.run_rounds-ended.ensures.crew.all_dests in
-    let room = c.requires.dests_room.3 in
+    let room = c.requires.rooms.1.3 in
     omega (arith, one, two, three, room)
 
 pub returns-clause-serves : goal.returns-clause-serves

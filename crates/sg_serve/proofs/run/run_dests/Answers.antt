@@ -8,26 +8,26 @@ use Rattle.sg_serve.proofs.run.run_dests.Goals as goal
 
 pub serve-ended-requires-clause-dests : goal.serve-ended-requires-clause-dests
 serve-ended-requires-clause-dests g c = λ κs lives.
-    are-dests g.W.Drain.Outlet.state c.args.once c.args.outlets.items (setup_of c.args.core) c.in-Ok.dests.items c.in-Ok.ensures.new c.in-Ok.ensures.all c.requires.count
+    are-dests g.W.Drain.Outlet.state c.args.once c.args.outlets.items (setup_of c.args.core) c.in-Ok.dests.items c.in-Ok.ensures.new c.in-Ok.ensures.all c.requires.counts.1
 
 pub count_all-requires-clause-stores : goal.count_all-requires-clause-stores
 count_all-requires-clause-stores g c =
     let s = c.serve-ended.ensures.serves in
     let go = calls-go c.args.core c.serve-ended.result.core s.0 s.1.1.1.took.makes in
-    c.requires.stores ∙ sym go.count
+    c.requires.counts.0 ∙ sym go.count
 
 pub count_all-requires-clause-few_sources : goal.count_all-requires-clause-few_sources
 count_all-requires-clause-few_sources g c =
     let all = c.serve-ended.ensures.serves.1.1.1.took.all_sources in
     let n = ap length c.deref.ensures.value in
-    omega (arith, all, n, c.requires.few_sources)
+    omega (arith, all, n, c.requires.few.0)
 
 pub count_all-requires-clause-few_dests : goal.count_all-requires-clause-few_dests
 count_all-requires-clause-few_dests g c =
     let all = c.serve-ended.ensures.serves.1.1.1.took.all_dests in
     let n = ap length c.deref-2.ensures.value in
     let m = c.in-Ok.ensures.all in
-    omega (arith, all, n, m, c.requires.few_dests)
+    omega (arith, all, n, m, c.requires.few.1)
 
 pub returns-in-Err : goal.returns-in-Err
 returns-in-Err g c =

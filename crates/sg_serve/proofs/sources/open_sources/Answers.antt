@@ -40,7 +40,7 @@ pub open_source-requires-clause-store : goal.open_source-requires-clause-store
 open_source-requires-clause-store g c = λ κs lives.
     let inv = c.loop-i.invariant in
     let setups = c.args.setups.now in
-    let low : c.loop-i.i < length setups = (let t = c.loop-i-test.true in let m = c.requires.count in omega (arith, t, m)) in
+    let low : c.loop-i.i < length setups = (let t = c.loop-i-test.true in let m = c.requires.counts.0 in omega (arith, t, m)) in
     let there = c.setup_at.ensures in
     let is = ap (λ (t : Setup). t.sources) inv.begun.setup ∙ c.requires.setups in
     store-by-setup c.loop-i.core setups c.loop-i.i c.setup_at.result is there
@@ -87,7 +87,7 @@ returns-in-Err-open_source-clause-cause g c =
     let feeds = map (λ a. f a.inlet) held in
     let n : c.loop-i.i ≡ length feeds = sym inv.count ∙ sym (length-map held (λ a. f a.inlet)) in
     let setups = c.args.setups.now in
-    let low : c.loop-i.i < length setups = (let t = c.loop-i-test.true in let m = c.requires.count in omega (arith, t, m)) in
+    let low : c.loop-i.i < length setups = (let t = c.loop-i-test.true in let m = c.requires.counts.0 in omega (arith, t, m)) in
     let there = c.setup_at.ensures in
     let is = ap (λ (t : Setup). t.sources) inv.begun.setup ∙ c.requires.setups in
     let whole = c.requires.open.1 in
@@ -109,7 +109,7 @@ loop-i-preserved g c =
     let source = c.in-Ok-open_source.source in
     let e = c.in-Ok-open_source.ensures in
     let there = slice_get_read plans (length plans) i plan refl c.loop-i-test.true c.index-plans-i.is in
-    let low : i < length setups = (let t = c.loop-i-test.true in let m = c.requires.count in omega (arith, t, m)) in
+    let low : i < length setups = (let t = c.loop-i-test.true in let m = c.requires.counts.0 in omega (arith, t, m)) in
     let on = c.setup_at.ensures in
     let asked = slice_get-map (λ plan. inlet_asked once plan.spec) plans i plan there in
     let feeds = map (λ a. f a.inlet) held in

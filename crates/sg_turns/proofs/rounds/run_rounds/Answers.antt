@@ -36,7 +36,7 @@ take_round-round-requires-clause-left g c =
     let took = c.loop-round.invariant.runs.1.1.took in
     let sources = took.all_sources in
     let dests = took.all_dests in
-    omega (arith, sources, dests, c.loop-round.invariant.left, c.requires.left, c.requires.few_sources, c.requires.few_dests)
+    omega (arith, sources, dests, c.loop-round.invariant.left, c.requires.left, c.requires.few.0, c.requires.few.1)
 
 pub loop-round-preserved : goal.loop-round-preserved
 loop-round-preserved g c =
@@ -62,7 +62,7 @@ loop-round-preserved g c =
       sources = c.take_round-round.ensures.sources;
       dests = c.take_round-round.ensures.dests;
       setup = c.take_round-round.ensures.setup ∙ c.loop-round.invariant.setup;
-      left = omega (arith, all_sources, all_dests, c.loop-round.invariant.left, c.take_round-round.ensures.left, c.requires.few_sources, c.requires.few_dests);
+      left = omega (arith, all_sources, all_dests, c.loop-round.invariant.left, c.take_round-round.ensures.left, c.requires.few.0, c.requires.few.1);
     }
 
 pub returns-then-round-clause-serves : goal.returns-then-round-clause-serves

@@ -34,8 +34,8 @@ returns-then-left-gt0-clause-left c =
     let some : 0 < length (left_of parts.present) = grind (arith, c.left.ensures, c.if-left-gt0.true) in
     left-told old.single (left_of parts.present) next (left_of now) (gives_left parts.present now len next some c.give-len.ensures.present c.give-len.ensures.front)
 
-pub returns-then-left-gt0-clause-counts : goal.returns-then-left-gt0-clause-counts
-returns-then-left-gt0-clause-counts c =
+pub returns-then-left-gt0-clause-adds : goal.returns-then-left-gt0-clause-adds
+returns-then-left-gt0-clause-adds c =
     let old = c.args.self.now in
     let parts = old.parts in
     let now = c.give-len.new.self.present in
@@ -45,14 +45,14 @@ returns-then-left-gt0-clause-counts c =
     let total : total_given (begun c.give-len.new.self) ≡ total_given (begun parts) + len = ap total_given past ∙ gives_total parts.past.items parts.present now len some c.give-len.ensures.present in
     let count : length (begun c.give-len.new.self) ≡ max (length (begun parts)) 1 = ap (λ (l : List MemoryPart). length l) past ∙ gives_count parts.past.items parts.present now len some c.give-len.ensures.present in
     let hung : old.hung ≡ false = search rules in
-    (refl, refl, total, count, c.if-self-2.false, c.if-self-2.false, hung, hung, refl)
+    record { counts = (refl, refl, total, count, c.if-self-2.false, c.if-self-2.false, hung, hung, refl); faults = omega arith }
 
-pub returns-then-begin-clause-counts : goal.returns-then-begin-clause-counts
-returns-then-begin-clause-counts c =
+pub returns-then-begin-clause-adds : goal.returns-then-begin-clause-adds
+returns-then-begin-clause-adds c =
     let old = c.args.self.now in
     let parts = old.parts in
     let begins = c.if-begin.ensures in
     let total : total_given (begun c.begin.new.self) ≡ total_given (begun parts) = begins_total (begun parts) c.begin.new.self.past.items c.begin.new.self.present begins.0 begins.2 in
     let count : length (begun c.begin.new.self) ≡ length (begun parts) + 1 = begins_count (begun parts) c.begin.new.self.past.items c.begin.new.self.present begins.0 begins.1 in
     let single : old.single ≡ false = not-single old.single parts.waiting.items (length c.begin.new.self.waiting.items) old.alone begins.3 in
-    (refl, refl, total, count, c.if-self-2.false, c.if-self-2.false, refl, single, single)
+    record { counts = (refl, refl, total, count, c.if-self-2.false, c.if-self-2.false, refl, single, single); faults = omega arith }
