@@ -33,7 +33,8 @@ a failed store | a | | 0 | | broken | f- - | | store";
 fn numbers(alloc: Global, words: &str) -> Result<Vec<u64>, Fail> {
     let mut numbers = Vec::new(alloc);
     for word in words.split_whitespace() {
-        numbers.push(word.parse().unwrap_or(u64::MAX))?;
+        let number: u64 = word.parse()?;
+        numbers.push(number)?;
     }
     Ok(numbers)
 }
@@ -100,6 +101,16 @@ fn take_turns<T: Wait, O: Outlet>(
     Ok(())
 }
 
+// Whether each of these words says how the destination is.
+fn are_known(how: &str) -> bool {
+    for word in how.split_whitespace() {
+        if word != "gives-up" && word != "broken" {
+            return false;
+        }
+    }
+    true
+}
+
 fn is_cause(given_up: Option<GivenUp>, word: &str) -> bool {
     match given_up {
         None => word == "-",
@@ -110,16 +121,22 @@ fn is_cause(given_up: Option<GivenUp>, word: &str) -> bool {
 
 // Whether the turns are those of the row.
 fn shows<T: Wait>(rt: &T, alloc: Global, row: &str) -> Result<bool, Fail> {
+    if row.split('|').count() != 9 {
+        return Ok(false);
+    }
     let mut cells = row.split('|');
     let _shown = cells.next();
     let texts = cells.next().unwrap_or("");
     let fails = Plan::new(numbers(alloc, cells.next().unwrap_or(""))?);
-    let first = cells.next().unwrap_or("").trim().parse().unwrap_or(0);
+    let first = cells.next().unwrap_or("").trim().parse()?;
     let laters = Plan::new(numbers(alloc, cells.next().unwrap_or(""))?);
     let how = cells.next().unwrap_or("");
     let turns = cells.next().unwrap_or("").trim();
     let taken = cells.next().unwrap_or("").trim();
     let cause = cells.next().unwrap_or("").trim();
+    if !are_known(how) {
+        return Ok(false);
+    }
     let mut core = core(alloc, texts, how.contains("broken"))?;
     let outlet = MemoryOutlet::new(
         alloc,

@@ -42,8 +42,29 @@ a bad count behind the last that is taken | slot counted ends | 1 | 100 | 1 ax |
 a bad count alone | slot counted idle | 100 | 100 | x/1 a | c+ c+ c+ ca1@0+ c+~ c~ | 1
 a part of bad counts | slot counted idle | 100 | 100 | x/y | c+ c+ c+ c+ c~ c~ | 2";
 
-fn number(word: &str) -> u64 {
-    word.trim().parse().unwrap_or(0)
+fn number(word: &str) -> Result<u64, Fail> {
+    Ok(word.trim().parse()?)
+}
+
+// Whether these words say of what kind the inlet is, how it is cut into records, how it ends, and what
+// fails.
+fn are_known(how: &str) -> bool {
+    let mut words = how.split_whitespace();
+    let kind = words.next().unwrap_or("");
+    let cut = words.next().unwrap_or("");
+    let end = words.next().unwrap_or("");
+    if !(kind == "file" || kind == "slot")
+        || !(cut == "lines" || cut == "counted")
+        || !(end == "ends" || end == "idle")
+    {
+        return false;
+    }
+    match words.next() {
+        None => true,
+        Some(word) => {
+            words.next().is_none() && (word == "refused" || word == "broken" || word == "fails")
+        }
+    }
 }
 
 fn bytes_of(alloc: Global, text: &str) -> Result<Vec<u8>, Fail> {
@@ -153,14 +174,20 @@ fn take_turns<T: Wait, R: Router, I: Inlet>(
 
 // Whether the turns are those of the row.
 fn shows<T: Wait>(rt: &T, alloc: Global, row: &str) -> Result<bool, Fail> {
+    if row.split('|').count() != 7 {
+        return Ok(false);
+    }
     let mut cells = row.split('|');
     let _shown = cells.next();
     let how = cells.next().unwrap_or("");
-    let fetch = number(cells.next().unwrap_or(""));
-    let window = number(cells.next().unwrap_or(""));
+    let fetch = number(cells.next().unwrap_or(""))?;
+    let window = number(cells.next().unwrap_or(""))?;
     let text = cells.next().unwrap_or("").trim();
     let turns = cells.next().unwrap_or("").trim();
-    let bad = number(cells.next().unwrap_or(""));
+    let bad = number(cells.next().unwrap_or(""))?;
+    if !are_known(how) || fetch == 0 || fetch > 1000 {
+        return Ok(false);
+    }
     let stored = how.contains("file");
     let spec = SourceSpec {
         inlet: 0,

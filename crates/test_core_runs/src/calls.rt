@@ -307,19 +307,88 @@ fn say_syncs(alloc: Global, disks: &[MemoryDisk], out: &mut String) -> Result<()
     Ok(())
 }
 
+// Whether these are so many numbers.
+fn are_numbers(text: &str, count: usize) -> bool {
+    for word in text.split(',') {
+        if word.parse::<u32>().is_err() {
+            return false;
+        }
+    }
+    text.split(',').count() == count
+}
+
+fn is_size(word: &str) -> bool {
+    match word.parse::<u32>() {
+        Ok(size) => size <= 1 << 30,
+        Err(_) => false,
+    }
+}
+
+// Whether it is the end of a record, or an offer.
+fn is_entry(word: &str) -> bool {
+    if let Some(end) = word.strip_prefix('r') {
+        return are_numbers(end, 1);
+    }
+    let Some(offer) = word.strip_prefix('d') else {
+        return false;
+    };
+    match offer.split_once(if offer.contains('f') { 'f' } else { 'n' }) {
+        Some((dest, size)) => matches!(dest, "0" | "1" | "2") && is_size(size),
+        None => false,
+    }
+}
+
+// Whether these are records, the first one first.
+fn are_records(text: &str) -> bool {
+    for word in text.split_whitespace() {
+        if !is_entry(word) {
+            return false;
+        }
+    }
+    text.starts_with('r')
+}
+
+// Whether these words are a call.
+fn is_call(text: &str) -> bool {
+    let (first, rest) = text.split_once(' ').unwrap_or((text, ""));
+    let (letter, numbers) = first.split_at_checked(1).unwrap_or(("", ""));
+    match letter {
+        "a" => are_numbers(numbers, 1) && are_records(rest),
+        "m" => are_numbers(numbers, 1) && rest.is_empty(),
+        "p" => are_numbers(numbers, 1) && rest.is_empty(),
+        "c" => are_numbers(numbers, 1) && rest.is_empty(),
+        "f" => are_numbers(numbers, 2) && rest.is_empty(),
+        "s" => are_numbers(numbers, 3) && rest.is_empty(),
+        _ => false,
+    }
+}
+
+fn are_calls(text: &str) -> bool {
+    for part in text.split('/') {
+        if !is_call(part.trim()) {
+            return false;
+        }
+    }
+    true
+}
+
 /// What the calls of a row answer.
 pub(crate) fn said<T: Wait>(rt: &T, alloc: Global, row: &str) -> Result<String, AllocError> {
     let mut parts = row.split('|').skip(1);
     let window = number(Some(parts.next().unwrap_or("").trim()));
     let fifo = number(Some(parts.next().unwrap_or("").trim()));
     let capacity = u64::from(number(Some(parts.next().unwrap_or("").trim())));
-    if window == 0 || capacity > 1 << 30 {
+    let text = parts.next().unwrap_or("");
+    if row.split('|').count() != 5 || !are_calls(text) {
+        return format!(in alloc; "not understood");
+    }
+    if window == 0 || window == u32::MAX || fifo == u32::MAX || capacity > 1 << 30 {
         return format!(in alloc; "no such setup");
     }
     let Ok(mut core) = open(alloc, window, fifo, capacity, SECOND, disks(alloc)?) else {
         return format!(in alloc; "not opened");
     };
-    let said = call_all(rt, alloc, &mut core, parts.next().unwrap_or(""));
+    let said = call_all(rt, alloc, &mut core, text);
     let disks = core.into_stores();
     let mut said = said?;
     say_syncs(alloc, &disks, &mut said)?;

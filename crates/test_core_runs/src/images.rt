@@ -24,6 +24,16 @@ pub(crate) struct Told {
     pub(crate) right: bool,
 }
 
+/// Whether these are letters for picks, or a `-` for none.
+pub(crate) fn are_picks(letters: &str) -> bool {
+    for letter in letters.as_bytes() {
+        if !matches!(*letter, b'o' | b'n' | b'1' | b'0') {
+            return letters == "-";
+        }
+    }
+    !letters.is_empty()
+}
+
 /// The picks of these letters; none for any other.
 pub(crate) fn picks(alloc: Global, letters: &str) -> Result<Vec<Pick>, AllocError> {
     let mut picks = Vec::new(alloc);

@@ -42,6 +42,40 @@ fn add_words(alloc: Global, bytes: &mut Vec<u8>, words: &str) -> Result<(), Allo
     Ok(())
 }
 
+// Whether these are hexadecimal words.
+fn are_words(words: &str) -> bool {
+    for word in words.split(' ') {
+        for digit in word.as_bytes() {
+            if !matches!(*digit, b'0'..=b'9' | b'a'..=b'f') {
+                return false;
+            }
+        }
+        if word.len() % 2 != 0 {
+            return false;
+        }
+    }
+    true
+}
+
+// Whether it is a part of a store.
+fn is_part(part: &str) -> bool {
+    let (place, words) = part.split_once(' ').unwrap_or(("", ""));
+    match place.parse::<usize>() {
+        Ok(place) => place <= 1 << 20 && are_words(words),
+        Err(_) => false,
+    }
+}
+
+/// Whether these are the parts of a store.
+pub(crate) fn are_parts(parts: &str) -> bool {
+    for part in parts.split(';') {
+        if !is_part(part.trim()) {
+            return false;
+        }
+    }
+    true
+}
+
 /// The disks of a core, of which that of destination 0 has these bytes and fails behind so many calls.
 pub(crate) fn disks_with(
     alloc: Global,
@@ -199,6 +233,9 @@ fn stop_opening(
 /// what that leaves, and once more when these are settled. Then its opening is stopped behind each number of calls
 /// up to 30: how often it is refused, and how many images have the same texts.
 pub(crate) fn said(alloc: Global, parts: &str) -> Result<String, AllocError> {
+    if !are_parts(parts) {
+        return format!(in alloc; "not understood");
+    }
     let (first, disks) = found(alloc, disks_with(alloc, parts, None)?, false)?;
     let changes = changes(alloc, &disks)?;
     if disks.len() != 5 {

@@ -3,8 +3,8 @@ ghost use Rattle.std.specs.Prelude.{◌≡◌, ◌≤◌, IfOk, length};
 
 use crate::cores::disks;
 use crate::draws::Draws;
-use crate::images::{PICKS, Told, look_into, open_again, picks};
-use crate::migration::{disks_with, over_older};
+use crate::images::{PICKS, Told, are_picks, look_into, open_again, picks};
+use crate::migration::{are_parts, disks_with, over_older};
 use crate::openings::Found;
 use crate::runs::{Ended, run_over, unbegun};
 use crate::steps::Run;
@@ -94,6 +94,31 @@ fn number(word: Option<&str>) -> u64 {
         Some(word) => word.parse().unwrap_or(0),
         None => 0,
     }
+}
+
+// Whether these are so many numbers.
+fn are_numbers(text: &str, count: usize) -> bool {
+    for word in text.split(' ') {
+        if word.parse::<u64>().is_err() {
+            return false;
+        }
+    }
+    text.split(' ').count() == count
+}
+
+// Whether these are the words of a row of `failures`.
+fn are_failures(row: &str) -> bool {
+    let Some((rest, more)) = row.rsplit_once(' ') else {
+        return false;
+    };
+    let Some((numbers, tear)) = rest.rsplit_once(' ') else {
+        return false;
+    };
+    are_numbers(numbers, 4) && are_picks(tear) && are_numbers(more, 1)
+}
+
+fn not_understood(alloc: Global) -> Result<String, AllocError> {
+    format!(in alloc; "not understood")
 }
 
 // One of the disks, or none, stops behind some calls.
@@ -189,6 +214,9 @@ fn fresh(alloc: Global) -> Ended {
 
 /// `SEED COUNT STEPS MORE`: so many runs with seeds from that one on.
 pub(crate) fn runs(alloc: Global, row: &str) -> Result<String, AllocError> {
+    if !are_numbers(row, 4) {
+        return not_understood(alloc);
+    }
     let mut words = row.split(' ');
     let seed = number(words.next());
     let count = number(words.next());
@@ -215,6 +243,9 @@ pub(crate) fn runs(alloc: Global, row: &str) -> Result<String, AllocError> {
 
 /// `SEED STEPS MORE`: the run of that seed, ended behind each of its steps.
 pub(crate) fn moments(alloc: Global, row: &str) -> Result<String, AllocError> {
+    if !are_numbers(row, 3) {
+        return not_understood(alloc);
+    }
     let mut words = row.split(' ');
     let seed = number(words.next());
     let steps = number(words.next()).min(MOST);
@@ -277,6 +308,9 @@ fn failing(
 /// `SEED STORE CALLS STEPS TEAR MORE`: for each number of calls up to that one a run in which the store fails behind so
 /// many, for good or once; and the same run, ended with the step in which it fails.
 pub(crate) fn failures(alloc: Global, row: &str, stops: bool) -> Result<String, AllocError> {
+    if !are_failures(row) {
+        return not_understood(alloc);
+    }
     let mut words = row.split(' ');
     let seed = number(words.next());
     let store = number(words.next());
@@ -284,6 +318,9 @@ pub(crate) fn failures(alloc: Global, row: &str, stops: bool) -> Result<String, 
     let steps = number(words.next()).min(MOST);
     let tear = words.next().unwrap_or("");
     let more = number(words.next()).min(MOST);
+    if store >= 5 {
+        return not_understood(alloc);
+    }
     let mut sums = Sums::new();
     for call in 0..calls {
         let seed = seed.wrapping_add(call);
@@ -319,7 +356,10 @@ pub(crate) fn failures(alloc: Global, row: &str, stops: bool) -> Result<String, 
 /// format, whose store stops behind so many. It has these bytes, which are those of so many entries: the first three of
 /// an entry's text are its number, as is the moment it was sent.
 pub(crate) fn older(alloc: Global, row: &str) -> Result<String, AllocError> {
-    let (words, parts) = row.split_once('|').unwrap_or((row, ""));
+    let (words, parts) = row.split_once(" | ").unwrap_or((row, ""));
+    if !are_numbers(words, 5) || !are_parts(parts) {
+        return not_understood(alloc);
+    }
     let mut words = words.split(' ');
     let seed = number(words.next());
     let calls = number(words.next());

@@ -46,7 +46,8 @@ thousands of lines / many 2000 / many 2000 / / / 200 / quiet / all 2000 / 12890 
 fn numbers(alloc: Global, words: &str) -> Result<Vec<u64>, Fail> {
     let mut numbers = Vec::new(alloc);
     for word in words.split_whitespace() {
-        numbers.push(word.parse().unwrap_or(u64::MAX))?;
+        let number: u64 = word.parse()?;
+        numbers.push(number)?;
     }
     Ok(numbers)
 }
@@ -71,7 +72,7 @@ fn lines_of(alloc: Global, file: &str, count: u64) -> Result<Vec<u8>, Fail> {
 
 fn bytes_of(alloc: Global, file: &str, text: &str) -> Result<Vec<u8>, Fail> {
     match text.trim().strip_prefix("many ") {
-        Some(count) => lines_of(alloc, file, count.parse().unwrap_or(0)),
+        Some(count) => lines_of(alloc, file, count.parse()?),
         None => spelled(alloc, text.trim()),
     }
 }
@@ -312,7 +313,7 @@ fn wanted(alloc: Global, frames: &str) -> Result<Vec<u8>, Fail> {
         bytes.extend_from_slice(frames.as_bytes())?;
         return Ok(bytes);
     };
-    let count = count.parse().unwrap_or(0);
+    let count: u64 = count.parse()?;
     add_lines(alloc, &mut bytes, 0, "a", count)?;
     add_lines(alloc, &mut bytes, 0, "b", count)?;
     bytes.extend_from_slice(b"| ")?;
@@ -353,11 +354,14 @@ fn came(
 
 // Whether the run is that of the row.
 fn shows<T: Threads + Wait + Sync>(rt: &T, alloc: Global, row: &str) -> Result<bool, Fail> {
+    if row.split('/').count() != 9 {
+        return Ok(false);
+    }
     let mut cells = row.split('/');
     let _shown = cells.next();
     let texts = [cells.next().unwrap_or(""), cells.next().unwrap_or("")];
     let fails = cells.next().unwrap_or("");
-    let gives_up = cells.next().unwrap_or("").contains("gives-up");
+    let gives_up = cells.next().unwrap_or("").trim();
     let rounds = cells
         .next()
         .unwrap_or("")
@@ -367,11 +371,11 @@ fn shows<T: Threads + Wait + Sync>(rt: &T, alloc: Global, row: &str) -> Result<b
     let end = cells.next().unwrap_or("").trim();
     let frames = cells.next().unwrap_or("").trim();
     let positions = cells.next().unwrap_or("").trim();
-    if rounds == 0 || rounds > 1000 {
+    if rounds == 0 || rounds > 1000 || !(gives_up.is_empty() || gives_up == "gives-up") {
         return Ok(false);
     }
     let sources = sources(alloc, texts)?;
-    let dests = match dests(alloc, fails, gives_up) {
+    let dests = match dests(alloc, fails, !gives_up.is_empty()) {
         Ok(dests) => dests,
         Err(e) => {
             close_sources(sources);

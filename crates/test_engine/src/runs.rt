@@ -39,7 +39,8 @@ a destination that fails for ever / 0a$ / 1c$ / 0 1 2 3 4 5 6 7 8 9 / / 8 / spen
 fn numbers(alloc: Global, words: &str) -> Result<Vec<u64>, Fail> {
     let mut numbers = Vec::new(alloc);
     for word in words.split_whitespace() {
-        numbers.push(word.parse().unwrap_or(u64::MAX))?;
+        let number: u64 = word.parse()?;
+        numbers.push(number)?;
     }
     Ok(numbers)
 }
@@ -282,11 +283,14 @@ fn came(
 
 // Whether the run is that of the row.
 fn shows<T: Wait>(rt: &T, alloc: Global, row: &str) -> Result<bool, Fail> {
+    if row.split('/').count() != 9 {
+        return Ok(false);
+    }
     let mut cells = row.split('/');
     let _shown = cells.next();
     let texts = [cells.next().unwrap_or(""), cells.next().unwrap_or("")];
     let fails = cells.next().unwrap_or("");
-    let gives_up = cells.next().unwrap_or("").contains("gives-up");
+    let gives_up = cells.next().unwrap_or("").trim();
     let rounds = cells
         .next()
         .unwrap_or("")
@@ -296,11 +300,11 @@ fn shows<T: Wait>(rt: &T, alloc: Global, row: &str) -> Result<bool, Fail> {
     let end = cells.next().unwrap_or("").trim();
     let frames = cells.next().unwrap_or("").trim();
     let positions = cells.next().unwrap_or("").trim();
-    if rounds == 0 || rounds > 1000 {
+    if rounds == 0 || rounds > 1000 || !(gives_up.is_empty() || gives_up == "gives-up") {
         return Ok(false);
     }
     let sources = sources(alloc, texts)?;
-    let dests = match dests(alloc, fails, gives_up) {
+    let dests = match dests(alloc, fails, !gives_up.is_empty()) {
         Ok(dests) => dests,
         Err(e) => {
             close_sources(sources);

@@ -4,7 +4,7 @@ use crate::{destinations, ledgers, sources, stores};
 use std::test::Fail;
 
 // A step, and what it comes to.
-const STEPS: &str = "
+const STEPS: &str = "\
 store lock = opened refused refused opened
 store fresh = opened 128 zeros mode 600 names 1
 store existing = opened 3 bytes mode 644
@@ -61,12 +61,11 @@ machine said = said
 #[test]
 fn files(rt: HostRuntime) -> Result<(), Fail> {
     for line in STEPS.lines() {
-        if let Some((step, want)) = line.split_once(" = ") {
-            let folder = Folder::new(rt)?;
-            let got = take(&folder, step)?;
-            folder.remove()?;
-            assert_eq!(rt; (step, got.as_str()), (step, want));
-        }
+        let (step, want) = line.split_once(" = ").ok_or("no answer")?;
+        let folder = Folder::new(rt)?;
+        let got = take(&folder, step)?;
+        folder.remove()?;
+        assert_eq!(rt; (step, got.as_str()), (step, want));
     }
     Ok(())
 }

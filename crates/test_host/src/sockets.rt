@@ -3,7 +3,7 @@ use crate::{peers, slots};
 use std::test::Fail;
 
 // A step, and what it comes to.
-const STEPS: &str = "
+const STEPS: &str = "\
 slot served = next 127.0.0.1:ab:cd:-
 slot second = next 127.0.0.1:ab:next 127.0.0.1:ef:-
 slot once = next 127.0.0.1:ab:.:.:
@@ -22,10 +22,9 @@ peer name = refused
 #[test]
 fn sockets(rt: HostRuntime) -> Result<(), Fail> {
     for line in STEPS.lines() {
-        if let Some((step, want)) = line.split_once(" = ") {
-            let got = take(rt, step)?;
-            assert_eq!(rt; (step, got.as_str()), (step, want));
-        }
+        let (step, want) = line.split_once(" = ").ok_or("no answer")?;
+        let got = take(rt, step)?;
+        assert_eq!(rt; (step, got.as_str()), (step, want));
     }
     Ok(())
 }

@@ -107,6 +107,62 @@ fn admit(alloc: Global, inlet: u32, text: &str) -> Result<Option<CoreCall>, Allo
     }))
 }
 
+// Whether these are so many numbers.
+fn are_numbers(text: &str, count: usize) -> bool {
+    for word in text.split(',') {
+        if word.parse::<u32>().is_err() {
+            return false;
+        }
+    }
+    text.split(',').count() == count
+}
+
+fn is_size(word: &str) -> bool {
+    match word.parse::<u32>() {
+        Ok(size) => size <= 1 << 30,
+        Err(_) => false,
+    }
+}
+
+// Whether it is the end of a record, or an offer.
+fn is_entry(word: &str) -> bool {
+    if let Some(end) = word.strip_prefix('r') {
+        return are_numbers(end, 1);
+    }
+    let Some(offer) = word.strip_prefix('d') else {
+        return false;
+    };
+    match offer.split_once(if offer.contains('f') { 'f' } else { 'n' }) {
+        Some((dest, size)) => matches!(dest, "0" | "1") && is_size(size),
+        None => false,
+    }
+}
+
+// Whether these are records, the first one first.
+fn are_records(text: &str) -> bool {
+    for word in text.split_whitespace() {
+        if !is_entry(word) {
+            return false;
+        }
+    }
+    text.starts_with('r')
+}
+
+/// Whether these words are a call.
+pub(crate) fn is_call(text: &str) -> bool {
+    let (first, rest) = text.split_once(' ').unwrap_or((text, ""));
+    let (letter, numbers) = first.split_at_checked(1).unwrap_or(("", ""));
+    match letter {
+        "a" => are_numbers(numbers, 1) && are_records(rest),
+        "m" => are_numbers(numbers, 1) && rest.is_empty(),
+        "p" => are_numbers(numbers, 1) && rest.is_empty(),
+        "c" => are_numbers(numbers, 1) && rest.is_empty(),
+        "f" => are_numbers(numbers, 2) && rest.is_empty(),
+        "s" => are_numbers(numbers, 3) && rest.is_empty(),
+        _ => false,
+    }
+}
+
 /// The call of these words, where they are one.
 pub(crate) fn read_call(alloc: Global, text: &str) -> Result<Option<CoreCall>, AllocError>
     ensures { IfOk result (λ call. IfSome call MayAsk) }

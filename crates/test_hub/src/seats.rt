@@ -5,7 +5,7 @@ ghost use Rattle.sg_standing.specs.States.{setup_of};
 ghost use Rattle.sg_hub.specs.Seats.{SeatStep};
 ghost use Rattle.test_hub.specs.Cores.{IsTried, MayAsk};
 
-use crate::calls::{ask, number, read_call, say, say_number, say_reply};
+use crate::calls::{ask, is_call, number, read_call, say, say_number, say_reply};
 use crate::cores::open;
 use sg_core::Core;
 use sg_counter::{CoreCall, CoreReply};
@@ -229,6 +229,27 @@ fn at_hub<T: Wait>(
     with_tally(alloc, said, hub.close(rt, one))
 }
 
+// Whether it is a call at one of the seats, or that they meet.
+fn is_part(alloc: Global, text: &str) -> Result<bool, AllocError> {
+    if text == "meet" {
+        return Ok(true);
+    }
+    let (seat, words) = text.split_once(' ').unwrap_or((text, ""));
+    if !(seat == "1" || seat == "2") || !is_call(words) {
+        return Ok(false);
+    }
+    Ok(read_call(alloc, words)?.is_some())
+}
+
+fn are_parts(alloc: Global, text: &str) -> Result<bool, AllocError> {
+    for part in text.split('/') {
+        if !is_part(alloc, part.trim())? {
+            return Ok(false);
+        }
+    }
+    Ok(true)
+}
+
 /// What the calls of a row answer at two seats, which is what they answer at a core.
 pub(crate) fn said<T: Wait>(rt: &T, alloc: Global, row: &str) -> Result<String, AllocError> {
     let mut parts = row.split('|').skip(1);
@@ -236,7 +257,10 @@ pub(crate) fn said<T: Wait>(rt: &T, alloc: Global, row: &str) -> Result<String, 
     let fifo = number(Some(parts.next().unwrap_or("").trim()));
     let capacity = u64::from(number(Some(parts.next().unwrap_or("").trim())));
     let text = parts.next().unwrap_or("");
-    if window == 0 || capacity > 1 << 30 {
+    if row.split('|').count() != 5 || !are_parts(alloc, text)? {
+        return format!(in alloc; "not understood");
+    }
+    if window == 0 || window == u32::MAX || fifo == u32::MAX || capacity > 1 << 30 {
         return format!(in alloc; "no such setup");
     }
     let mut core = open(alloc, window, fifo, capacity)?;

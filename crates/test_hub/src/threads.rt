@@ -4,7 +4,7 @@ ghost use Rattle.sg_booth.specs.Desks.{IsDeskOf};
 ghost use Rattle.sg_standing.specs.States.{setup_of};
 ghost use Rattle.test_hub.specs.Cores.{IsTried, MayAsk};
 
-use crate::calls::{number, say_number};
+use crate::calls::say_number;
 use crate::cores::{add_record, open};
 use crate::seats::ask_at;
 use sg_core::Core;
@@ -113,8 +113,10 @@ pub(crate) fn said<R: Threads + Wait + Sync>(
     alloc: Global,
     row: &str,
 ) -> Result<String, AllocError> {
-    let count = u64::from(number(Some(row.trim())));
-    let core = filled(rt, alloc, open(alloc, 100, 0, 400)?, count);
+    let Ok(count) = row.trim().parse::<u32>() else {
+        return format!(in alloc; "no such count");
+    };
+    let core = filled(rt, alloc, open(alloc, 100, 0, 400)?, u64::from(count));
     let mut out = String::new(alloc);
     let tally = core.tally(alloc);
     let calls = core.calls();

@@ -16,6 +16,16 @@ const BEHIND_ONE: [u8; 8] = [0, 0, 0, 0, 0, 0, 0, 4];
 const ENTRY: &str =
     "010000002f01010000000000000000000000040d0000000000000000000000000001000000074d455353414745000000036f6e65";
 
+/// Whether these are letters for picks.
+pub(crate) fn are_picks(letters: &str) -> bool {
+    for letter in letters.as_bytes() {
+        if !matches!(*letter, b'o' | b'n' | b'1' | b'0') {
+            return false;
+        }
+    }
+    !letters.is_empty()
+}
+
 /// The picks of these letters; none for any other.
 pub(crate) fn picks(alloc: Global, letters: &str) -> Result<Vec<Pick>, NoMemory> {
     let mut picks = Vec::new(alloc);

@@ -1,6 +1,6 @@
 // What rows come to.
 use crate::due::Due;
-use crate::images::{begun, left, picks};
+use crate::images::{are_picks, begun, left, picks};
 use crate::runs::{NEVER, Ran, Stops, run};
 use sg_device::NoMemory;
 use sg_memory_disk::MemoryStores;
@@ -147,6 +147,9 @@ fn sum_up<T: Threads + Wait + Sync>(
     let begin = words.next().unwrap_or("");
     let store = words.next().unwrap_or("");
     let tear = words.next().unwrap_or("");
+    if words.next().is_some() || !(tear == "-" || are_picks(tear)) {
+        return Ok(None);
+    }
     let mut sums = Sums {
         stopped: 0,
         early: 0,
@@ -197,6 +200,30 @@ fn count(word: Option<&str>) -> Option<u64> {
     }
 }
 
+fn is_count(word: Option<&str>) -> bool {
+    match word {
+        Some(word) => word == "-" || word.parse::<u64>().is_ok(),
+        None => false,
+    }
+}
+
+// Whether these are the words of a stop.
+fn is_stop(text: &str) -> bool {
+    let mut words = text.split_whitespace();
+    let devices = is_count(words.next()) && is_count(words.next()) && is_count(words.next());
+    let stores = are_picks(words.next().unwrap_or("")) && are_picks(words.next().unwrap_or(""));
+    devices && stores && words.next().is_none()
+}
+
+fn are_stops(text: &str) -> bool {
+    for part in text.split('/') {
+        if !is_stop(part) {
+            return false;
+        }
+    }
+    true
+}
+
 // A run that stops as these words say, and what a crash leaves of its stores.
 fn stop_once<T: Threads + Wait + Sync>(
     rt: &T,
@@ -228,6 +255,9 @@ pub(crate) fn chain<T: Threads + Wait + Sync>(
     row: &str,
 ) -> Result<Option<String>, NoMemory> {
     let (begin, rest) = row.split_once(' ').unwrap_or((row, ""));
+    if !are_stops(rest) {
+        return Ok(None);
+    }
     let Some(mut stores) = begun(alloc, begin)? else {
         return Ok(None);
     };

@@ -72,7 +72,9 @@ fn parsed(alloc: Global, tokens: &[Token], whole: bool) -> io::Result<Vec<u8>> {
 
 // What a line of standard input comes to.
 fn answer(alloc: Global, line: &str) -> io::Result<Vec<u8>> {
-    let row = text::read_row(alloc, line)?;
+    let Some(row) = text::read_row(alloc, line)? else {
+        return text::copied(alloc, b"not understood");
+    };
     if row.text.len() > TEXT_LIMIT {
         return text::copied(alloc, b"too long");
     }

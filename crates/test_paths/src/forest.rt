@@ -13,27 +13,49 @@ struct Stack {
     paths: Vec<Path>,
 }
 
-fn numbers(alloc: Global, text: &str, between: char) -> Result<Vec<u32>, AllocError> {
+// Numbers; `-` is none of them.
+fn numbers(alloc: Global, text: &str, between: char) -> Result<Option<Vec<u32>>, AllocError> {
     let mut all = Vec::new(alloc);
-    for word in text.split(between) {
-        if let Ok(number) = word.parse::<u32>() {
-            all.push(number)?;
-        }
+    if text == "-" {
+        return Ok(Some(all));
     }
-    Ok(all)
+    for word in text.split(between) {
+        let Ok(number) = word.parse::<u32>() else {
+            return Ok(None);
+        };
+        all.push(number)?;
+    }
+    Ok(Some(all))
 }
 
 // The last so many, taken off the list, in their order.
-fn last<T: Drop>(alloc: Global, list: &mut Vec<T>, count: &str) -> Result<Vec<T>, AllocError> {
+fn last<T: Drop>(
+    alloc: Global,
+    list: &mut Vec<T>,
+    count: &str,
+) -> Result<Option<Vec<T>>, AllocError> {
     let mut taken = Vec::new(alloc);
-    let count = count.parse::<usize>().unwrap_or(0);
+    let Ok(count) = count.parse::<usize>() else {
+        return Ok(None);
+    };
     for _ in 0..count {
-        if let Some(item) = list.pop() {
-            taken.push(item)?;
-        }
+        let Some(item) = list.pop() else {
+            return Ok(None);
+        };
+        taken.push(item)?;
     }
     taken.reverse();
-    Ok(taken)
+    Ok(Some(taken))
+}
+
+// Whether each letter is that of a flag; `-` is none.
+fn are_flags(text: &str) -> bool {
+    for letter in text.chars() {
+        if !matches!(letter, 'f' | 'b' | 'c' | 'w' | 'd') {
+            return text == "-";
+        }
+    }
+    !text.is_empty()
 }
 
 fn path_of(elements: Vec<Element>, embedded: Vec<Path>, sources: Vec<u32>, flags: &str) -> Path {
@@ -54,7 +76,12 @@ fn put_channel(alloc: Global, stack: &mut Stack, rest: &str) -> Result<bool, All
     let Some((count, flags)) = rest.split_once(' ') else {
         return Ok(false);
     };
-    let elements = last(alloc, &mut stack.elements, count)?;
+    let Some(elements) = last(alloc, &mut stack.elements, count)? else {
+        return Ok(false);
+    };
+    if !are_flags(flags) {
+        return Ok(false);
+    }
     let path = path_of(elements, Vec::new(alloc), Vec::new(alloc), flags);
     stack.paths.push(path)?;
     Ok(true)
@@ -70,9 +97,19 @@ fn put_log(alloc: Global, stack: &mut Stack, rest: &str) -> Result<bool, AllocEr
     let Some((logs, flags)) = rest.split_once(' ') else {
         return Ok(false);
     };
-    let elements = last(alloc, &mut stack.elements, count)?;
-    let embedded = last(alloc, &mut stack.paths, logs)?;
-    let path = path_of(elements, embedded, numbers(alloc, sources, ',')?, flags);
+    let Some(elements) = last(alloc, &mut stack.elements, count)? else {
+        return Ok(false);
+    };
+    let Some(embedded) = last(alloc, &mut stack.paths, logs)? else {
+        return Ok(false);
+    };
+    let Some(sources) = numbers(alloc, sources, ',')? else {
+        return Ok(false);
+    };
+    if !are_flags(flags) {
+        return Ok(false);
+    }
+    let path = path_of(elements, embedded, sources, flags);
     stack.paths.push(path)?;
     Ok(true)
 }
@@ -84,7 +121,9 @@ fn put_branches(
     count: &str,
     other: Option<Vec<Element>>,
 ) -> Result<bool, AllocError> {
-    let elements = last(alloc, &mut stack.elements, count)?;
+    let Some(elements) = last(alloc, &mut stack.elements, count)? else {
+        return Ok(false);
+    };
     let mut branches = Vec::new(alloc);
     branches.push((contains(alloc, text)?, elements))?;
     stack.elements.push(Element::If { branches, other })?;
@@ -105,7 +144,9 @@ fn put_else(alloc: Global, stack: &mut Stack, rest: &str) -> Result<bool, AllocE
     let Some((count, others)) = counts.split_once(' ') else {
         return Ok(false);
     };
-    let other = last(alloc, &mut stack.elements, others)?;
+    let Some(other) = last(alloc, &mut stack.elements, others)? else {
+        return Ok(false);
+    };
     put_branches(alloc, stack, text, count, Some(other))
 }
 
@@ -118,7 +159,9 @@ fn put_first(alloc: Global, stack: &mut Stack, rest: &str) -> Result<bool, Alloc
         return Ok(false);
     };
     let mut branches = branches;
-    let elements = last(alloc, &mut stack.elements, count)?;
+    let Some(elements) = last(alloc, &mut stack.elements, count)? else {
+        return Ok(false);
+    };
     branches.insert(0, (contains(alloc, text)?, elements))?;
     stack.elements.push(Element::If { branches, other })?;
     Ok(true)
@@ -145,10 +188,6 @@ fn put_when(alloc: Global, stack: &mut Stack, rest: &str) -> Result<bool, AllocE
     put_rule(alloc, stack, Some(condition), new)
 }
 
-fn named(number: &str) -> Expr {
-    Expr::Named(number.parse::<u32>().unwrap_or(9))
-}
-
 // An element of one part.
 fn element_of(
     alloc: Global,
@@ -159,9 +198,18 @@ fn element_of(
     match word {
         "has" => Ok(Some(Element::Filter(contains(alloc, rest)?))),
         "tagged" => Ok(Some(Element::Filter(tagged(alloc, rest)?))),
-        "is" => Ok(Some(Element::Filter(named(rest)))),
-        "to" => Ok(Some(Element::Deliver(numbers(alloc, rest, ' ')?))),
-        "junction" => Ok(Some(Element::Junction(last(alloc, &mut stack.paths, rest)?))),
+        "is" => match rest.parse::<u32>() {
+            Ok(number) => Ok(Some(Element::Filter(Expr::Named(number)))),
+            Err(_) => Ok(None),
+        },
+        "to" => match numbers(alloc, rest, ' ')? {
+            Some(dests) => Ok(Some(Element::Deliver(dests))),
+            None => Ok(None),
+        },
+        "junction" => match last(alloc, &mut stack.paths, rest)? {
+            Some(channels) => Ok(Some(Element::Junction(channels))),
+            None => Ok(None),
+        },
         _ => Ok(None),
     }
 }

@@ -70,7 +70,9 @@ fn answer(alloc: Global, line: &str) -> Result<Vec<u8>, AllocError> {
     let Some(forest) = forest::read(alloc, parts)? else {
         return copied(alloc, b"not understood");
     };
-    let inlet = inlet.parse::<u32>().unwrap_or(u32::MAX);
+    let Ok(inlet) = inlet.parse::<u32>() else {
+        return copied(alloc, b"no inlet");
+    };
     offered(alloc, &forest, inlet, records)
 }
 

@@ -23,25 +23,27 @@ fn repeated(out: &mut Vec<u8>, piece: &[u8], count: u32) -> io::Result<()> {
     Ok(())
 }
 
-fn long(alloc: Global, count: u32, parts: &str) -> io::Result<Vec<u8>> {
+// A text of so many pieces; none where its parts aren't there.
+fn long(alloc: Global, count: u32, parts: &str) -> io::Result<Option<Vec<u8>>> {
     let mut out = Vec::new(alloc);
     let Some((head, rest)) = parts.split_once('|') else {
-        return Ok(out);
+        return Ok(None);
     };
     let Some((piece, tail)) = rest.split_once('|') else {
-        return Ok(out);
+        return Ok(None);
     };
     out.extend_from_slice(head.as_bytes())?;
     repeated(&mut out, piece.as_bytes(), count)?;
     out.extend_from_slice(tail.as_bytes())?;
-    broken(alloc, &out)
+    Ok(Some(broken(alloc, &out)?))
 }
 
-pub(crate) fn read_row(alloc: Global, line: &str) -> io::Result<Vec<u8>> {
+/// The text of a line, where it is understood.
+pub(crate) fn read_row(alloc: Global, line: &str) -> io::Result<Option<Vec<u8>>> {
     if let Some((count, parts)) = line.split_once(' ') {
         if let Ok(count) = count.parse() {
             return long(alloc, count, parts);
         }
     }
-    broken(alloc, line.as_bytes())
+    Ok(Some(broken(alloc, line.as_bytes())?))
 }

@@ -64,7 +64,9 @@ fn parsed(alloc: Global, tokens: &[Token]) -> io::Result<Vec<u8>> {
 
 // What a line of standard input comes to.
 fn answer(alloc: Global, line: &str) -> io::Result<Vec<u8>> {
-    let text = text::read_row(alloc, line)?;
+    let Some(text) = text::read_row(alloc, line)? else {
+        return text::copied(alloc, b"not understood");
+    };
     if text.len() > TEXT_LIMIT {
         return text::copied(alloc, b"too long");
     }

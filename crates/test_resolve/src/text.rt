@@ -34,23 +34,25 @@ fn push_piece(alloc: Global, out: &mut Vec<u8>, piece: &[u8], number: u32) -> io
     Ok(())
 }
 
-fn long(alloc: Global, count: u32, parts: &str) -> io::Result<Vec<u8>> {
+// A text of so many pieces; none where its parts aren't there.
+fn long(alloc: Global, count: u32, parts: &str) -> io::Result<Option<Vec<u8>>> {
     let mut out = Vec::new(alloc);
     let Some((head, rest)) = parts.split_once('|') else {
-        return Ok(out);
+        return Ok(None);
     };
     let Some((piece, tail)) = rest.split_once('|') else {
-        return Ok(out);
+        return Ok(None);
     };
     push_broken(&mut out, head.as_bytes())?;
     for number in 0..count {
         push_piece(alloc, &mut out, piece.as_bytes(), number)?;
     }
     push_broken(&mut out, tail.as_bytes())?;
-    Ok(out)
+    Ok(Some(out))
 }
 
-pub(crate) fn read_row(alloc: Global, line: &str) -> io::Result<Vec<u8>> {
+/// The text of a line, where it is understood.
+pub(crate) fn read_row(alloc: Global, line: &str) -> io::Result<Option<Vec<u8>>> {
     if let Some((count, parts)) = line.split_once(' ') {
         if let Ok(count) = count.parse() {
             return long(alloc, count, parts);
@@ -58,5 +60,5 @@ pub(crate) fn read_row(alloc: Global, line: &str) -> io::Result<Vec<u8>> {
     }
     let mut out = Vec::new(alloc);
     push_broken(&mut out, line.as_bytes())?;
-    Ok(out)
+    Ok(Some(out))
 }

@@ -121,12 +121,10 @@ fn put(alloc: Global, message: &mut Message, item: &str) -> Result<(), Fail> {
         message.set_tag(tag.as_bytes())?;
         return Ok(());
     }
-    let Some((name, value)) = item.split_once('=') else {
-        return Ok(());
-    };
+    let (name, value) = item.split_once('=').ok_or("no pair")?;
     let name = name.as_bytes();
     if name.is_empty() || name.len() > 255 {
-        return Ok(());
+        return Err(Fail::from("no name"));
     }
     let value = bytes_of(alloc, value)?;
     message.set(name, &value)?;
@@ -144,6 +142,9 @@ fn message_of(alloc: Global, row: &str) -> Result<Option<Message>, Fail> {
         return Ok(None);
     }
     let mut message = Message::new(alloc, pri, SENT, RECEIVED)?;
+    if items.is_empty() {
+        return Ok(Some(message));
+    }
     for item in items.split(';') {
         put(alloc, &mut message, item)?;
     }
@@ -215,6 +216,19 @@ fn kind_of(word: &str) -> Option<Kind> {
     }
 }
 
+// Whether each letter is that of a flag; `-` is none.
+fn are_flags(word: &str) -> bool {
+    if word == "-" {
+        return true;
+    }
+    for letter in word.chars() {
+        if !(letter == 'i' || letter == 'p' || letter == 's' || letter == 'g') {
+            return false;
+        }
+    }
+    !word.is_empty()
+}
+
 fn flags_of(word: &str) -> Flags {
     Flags {
         ignore_case: word.contains('i'),
@@ -237,6 +251,9 @@ fn subst_of(
     let Some(kind) = kind_of(kind) else {
         return Ok(None);
     };
+    if !are_flags(flags) {
+        return Ok(None);
+    }
     let pattern = PatternText {
         kind,
         text: name_of(alloc, pattern)?,
@@ -358,6 +375,33 @@ fn gives(
     Ok(same && found.as_slice() == expected && before.as_slice() == after.as_slice())
 }
 
+// Whether a rewrite by these words has the pattern and the template that stand there.
+fn has_these(words: &str, pattern: &str, text: &str) -> bool {
+    match words {
+        "set" => pattern.is_empty(),
+        "groupset" => pattern.is_empty(),
+        "unset" => pattern.is_empty() && text.is_empty(),
+        "groupunset" => pattern.is_empty() && text.is_empty(),
+        "set-tag" => pattern.is_empty() && text.is_empty(),
+        "clear-tag" => pattern.is_empty() && text.is_empty(),
+        _ => true,
+    }
+}
+
+// The rewrite of a row, if its words are understood and nothing else stands there.
+fn row_op(
+    alloc: Global,
+    words: &str,
+    name: &str,
+    pattern: &str,
+    text: &str,
+) -> Result<Option<Op>, Fail> {
+    if has_these(words, pattern, text) {
+        return op_of(alloc, words, name, pattern, text);
+    }
+    Ok(None)
+}
+
 // Whether a row holds, and whether it was understood.
 fn holds(alloc: Global, row: &str) -> Result<bool, Fail> {
     let Some((head, rest)) = row.split_once(" ~ ") else {
@@ -373,7 +417,7 @@ fn holds(alloc: Global, row: &str) -> Result<bool, Fail> {
     let Some((text, expected)) = rest.split_once(" ~ ") else {
         return Ok(false);
     };
-    let Some(op) = op_of(alloc, words, name, pattern, text)? else {
+    let Some(op) = row_op(alloc, words, name, pattern, text)? else {
         return Ok(false);
     };
     let (Some(mut rewrite), Some(message)) = (rewrite_of(alloc, &op)?, message_at(alloc, place)?)

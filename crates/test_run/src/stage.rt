@@ -115,7 +115,8 @@ impl Stage {
             "store" => self.put_store(rest)?,
             "fail" => self.fail(rest)?,
             "rounds" => self.set_rounds(rest),
-            _ => word.is_empty() || word == "#",
+            "" => rest.trim().is_empty(),
+            _ => word == "#",
         };
         if understood {
             Ok(Heard::Setting)

@@ -190,7 +190,10 @@ fn fail(alloc: Global, fails: &str, world: &mut MemoryWorld) -> Result<bool, NoM
         }
         return Ok(fails == "none");
     };
-    let plan = call(alloc, number.parse().unwrap_or(0))?;
+    let Ok(number) = number.parse() else {
+        return Ok(false);
+    };
+    let plan = call(alloc, number)?;
     match kind {
         "store" => world.stores.opens = plan,
         "inlet" => world.plans.inlet_opens = plan,
@@ -252,6 +255,9 @@ fn has_taken(world: &MemoryWorld, frames: &str) -> bool {
 }
 
 fn shows<T: Threads + Wait + Sync>(rt: &T, alloc: Global, row: &str) -> Result<bool, NoMemory> {
+    if row.split(';').count() != 4 {
+        return Ok(false);
+    }
     let (fails, rest) = row.split_once(';').unwrap_or((row, ""));
     let (how, rest) = rest.split_once(';').unwrap_or((rest, ""));
     let (what, frames) = rest.split_once(';').unwrap_or((rest, ""));

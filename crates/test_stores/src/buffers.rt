@@ -49,7 +49,11 @@ fn is_head(head: &Head, line: &str) -> Result<bool, Fail> {
     let mut words = line.split(' ');
     let source: u32 = words.next().ok_or("no source")?.parse()?;
     let end: u64 = words.next().ok_or("no end")?.parse()?;
-    let flow = words.next().ok_or("no flow-control")? == "true";
+    let flow = match words.next() {
+        Some("true") => true,
+        Some("false") => false,
+        _ => return Err(Fail::from("no flow-control")),
+    };
     let length: u64 = words.next().ok_or("no length")?.parse()?;
     Ok(
         *head

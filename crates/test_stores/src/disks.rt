@@ -86,7 +86,7 @@ fn text(alloc: Global, bytes: &[u8]) -> Result<String, Fail> {
     Ok(text)
 }
 
-// What a row's calls leave: the bytes as a read gives them, and the image.
+// The row, with what its calls leave: the bytes as a read gives them, and the image.
 fn leaves(alloc: Global, row: &str) -> Result<String, Fail> {
     let (calls, rest) = row.split_once(' ').ok_or("no calls")?;
     let (failing, rest) = rest.split_once(' ').ok_or("no failing call")?;
@@ -99,7 +99,12 @@ fn leaves(alloc: Global, row: &str) -> Result<String, Fail> {
         call(&mut disk, word)?;
     }
     let image = disk.image(&picks(alloc, wanted)?)?;
-    Ok(format!(in alloc; " {} {}", text(alloc, disk.bytes())?, text(alloc, &image)?)?)
+    let (read, image) = (text(alloc, disk.bytes())?, text(alloc, &image)?);
+    Ok(format!(in alloc;
+        "{calls} {failing} {tears} {wanted} {} {}",
+        read.as_str(),
+        image.as_str()
+    )?)
 }
 
 // Whether a store that stops after a call is left as it was synced last, and stands there again.
@@ -136,7 +141,7 @@ fn disks_in_memory(rt: HostRuntime) -> Result<(), Fail> {
     let alloc = rt.alloc();
     for row in DISKS.lines() {
         let left = leaves(alloc, row)?;
-        assert!(rt; row.ends_with(left.as_str()), "{row}:{}", left.as_str());
+        assert_eq!(rt; left.as_str(), row);
     }
     assert!(rt; stops(alloc)?);
     Ok(())

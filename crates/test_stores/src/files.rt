@@ -61,11 +61,12 @@ fn perform(alloc: Global, spool: &mut Spool<FileDisk>, call: &str) -> Result<(),
     match name {
         "advance" => advance(spool, texts.parse()?),
         "stage" => stage(alloc, spool, texts),
-        _ => {
+        "commit" => {
             stage(alloc, spool, texts)?;
             spool.commit()?;
             Ok(())
         }
+        _ => Err(Fail::from("no such call")),
     }
 }
 

@@ -118,19 +118,19 @@ fn request(alloc: Global, word: &str) -> Result<InletSpec, Fail> {
     })
 }
 
-// What a row's inlet gives: its place, a space, and what the pulls give.
+// The row, with what its inlet gives: its place, a space, and what the pulls give.
 fn gives(alloc: Global, world: &mut MemoryWorld, row: &str) -> Result<String, Fail> {
     let (spec, rest) = row.split_once(' ').ok_or("no request")?;
     let (from, rest) = rest.split_once(' ').ok_or("no place")?;
     let (pulls, _) = rest.split_once(' ').ok_or("no pulls")?;
     let Ok((mut feed, place)) = world.open_inlet(alloc, &request(alloc, spec)?, from.parse()?)
     else {
-        return Ok(String::from_str(alloc, "- -")?);
+        return Ok(format!(in alloc; "{spec} {from} {pulls} - -")?);
     };
     is_send(&feed);
     let given = pulled(alloc, &mut feed, spec.ends_with('#'), pulls.parse()?)?;
     world.close_inlet(feed);
-    Ok(format!(in alloc; "{place} {}", str::from_utf8(&given)?)?)
+    Ok(format!(in alloc; "{spec} {from} {pulls} {place} {}", str::from_utf8(&given)?)?)
 }
 
 // Frames of these words.
@@ -189,7 +189,7 @@ fn devices_in_memory(rt: HostRuntime) -> Result<(), Fail> {
     let mut world = machine(alloc)?;
     for row in INLETS.lines() {
         let given = gives(alloc, &mut world, row)?;
-        assert!(rt; row.ends_with(given.as_str()), "{row} {}", given.as_str());
+        assert_eq!(rt; given.as_str(), row);
     }
     assert_eq!(rt; outlet(alloc, &mut world)?.as_slice(), b"+l!r+r".as_slice());
     assert_eq!(rt; taken(alloc, &world)?.as_slice(), b"abcdf".as_slice());

@@ -107,12 +107,18 @@ fn answer(alloc: Global, line: &str) -> Result<Vec<u8>, AllocError> {
         out.extend_from_slice(b"no limit")?;
         return Ok(out);
     };
-    let kind = if kind == "counted" {
-        FrameKind::Counted
-    } else {
-        FrameKind::Lines
+    let kind = match kind {
+        "counted" => FrameKind::Counted,
+        "lines" => FrameKind::Lines,
+        _ => {
+            out.extend_from_slice(b"no such kind")?;
+            return Ok(out);
+        }
     };
-    let limit = limit.parse::<u32>().unwrap_or(0);
+    let Ok(limit) = limit.parse::<u32>() else {
+        out.extend_from_slice(b"no such limit")?;
+        return Ok(out);
+    };
     traced(alloc, kind, limit, text, &mut out)?;
     Ok(out)
 }
