@@ -1,6 +1,7 @@
 pub mod Running
 pub mod Steps
 pub mod Trying
+pub mod Picking
 pub mod Over
 pub mod Piping
 pub mod Kept

@@ -5,7 +5,7 @@ use Rattle.std.specs.Prelude.{◌&&◌, ◌||◌, cond, slice_get}
 use Rattle.std.proofs.lemmas.List.{append-nil}
 use Rattle.sg_msg.specs.Message.{Content}
 use Rattle.sg_msg.specs.declared.offer.Offer.{Offer}
-use Rattle.sg_tree.specs.Walk.{Walked, Siblings, no_siblings, sibling, walk, round, both, after_deliveries, counted, up_to_final}
+use Rattle.sg_tree.specs.Walk.{Walked, Siblings, no_siblings, sibling, walk, round, both, after_deliveries, counted, up_to_final, stopped}
 use Rattle.sg_tree.proofs.Going.{walked}
 use Rattle.sg_tree.proofs.Turning.{in-round}
 use Rattle.sg_table.specs.declared.pipe.Branch.{Branch}
@@ -80,6 +80,14 @@ module _ (pipes : List Pipe) (offered : List Branch) (trial : Trial) (d : List O
 
     pub passes : beq b.fallback trial.late ≡ false → trying trial.late start rest all trial.message trial.flow ≡ tries pipes offered trial start
     passes h = sym (round-passes trial.late start (from pipes offered trial.group trial.index) rest all trial.message trial.flow (turned false h))
+
+    -- a sibling that stops the message leaves nothing
+    pub leaves-none : beq b.fallback trial.late ≡ true → walk (steps_at pipes b.start) trial.message (trial.flow || b.flow) ≡ stopped → b.drop_unmatched ≡ false
+        → trying trial.late start rest all trial.message trial.flow ≡ tries pipes offered trial start
+    leaves-none h stops dropped =
+        let more = round rest trial.late trial.message trial.flow in
+        sym (round-passes trial.late start (from pipes offered trial.group trial.index) rest all trial.message trial.flow
+        (turned true h ∙ ap (λ (w : Walked). up_to_final b.is_final (counted (marks b) w) more) stops ∙ ap (λ (x : Bool). up_to_final b.is_final (record stopped { processed = x }) more) dropped))
 
     left-mine : both start mine ≡ with_left trial.left (record { deliveries = d ++ mine.deliveries; out = mine.out; processed = mine.processed })
     left-mine =

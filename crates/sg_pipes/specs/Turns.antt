@@ -1,15 +1,18 @@
 -- What a turn of the work does.
-use Rattle.std.specs.Prelude.{◌≡◌, ℕ, Bool, true, false, List, ◌++◌, reverse}
+use Rattle.std.specs.Prelude.{◌≡◌, ◌||◌, ℕ, Bool, true, false, List, ◌++◌, reverse, Option, Some, None, slice_get}
 use Rattle.sg_msg.specs.Message.{Content}
-use Rattle.sg_tree.specs.Walk.{Walked}
+use Rattle.sg_tree.specs.Walk.{Walked, walk, stopped, after_deliveries}
+use Rattle.sg_table.specs.declared.pipe.Branch.{Branch}
 use Rattle.sg_table.specs.declared.pipe.Pipe.{Pipe}
+use Rattle.sg_table.specs.Table.{steps_at}
 use Rattle.sg_pipes.specs.declared.frame.Frame.{Frame}
-use Rattle.sg_pipes.specs.declared.frame.Frame.TheVariants.{Walk}
+use Rattle.sg_pipes.specs.declared.frame.Frame.TheVariants.{Walk, Try, Tried}
 use Rattle.sg_pipes.specs.declared.frame.Passed.{Passed}
+use Rattle.sg_pipes.specs.declared.frame.Trial.{Trial}
 use Rattle.sg_pipes.specs.declared.frame.Passed.TheVariants.{On, Stopped, Arrived}
 use Rattle.sg_pipes.specs.declared.work.Work.{Work}
 use Rattle.sg_pipes.specs.Messages.{messages_of}
-use Rattle.sg_pipes.specs.Frames.{run, does}
+use Rattle.sg_pipes.specs.Frames.{run, does, group_of}
 
 -- all that was left so far
 abbrev pub now : Work → Walked
@@ -49,3 +52,27 @@ Passes pipes at before after flow old new (On next) =
     × (new.frames ≡ old.frames) × (new.offered ≡ old.offered)
 Passes pipes at before after flow old new Stopped = Turns pipes (Walk at before flow) old new
 Passes pipes at before after flow old new Arrived = (new ≡ old) × (after ≡ before)
+
+-- what a filter does with the message, where one stands there
+abbrev pub Filters : List Pipe → ℕ → Content → Passed → Type 0
+Filters pipes at m (On next) = (flow : Bool)
+    → walk (steps_at pipes next) m flow ≡ walk (steps_at pipes at) m flow
+Filters pipes at m Stopped = (flow : Bool) → walk (steps_at pipes at) m flow ≡ stopped
+Filters pipes at m Arrived = Unit {0}
+
+-- where a list goes on for the message, None where it stops it
+abbrev pub Enters : List Pipe → ℕ → Content → Option ℕ → Type 0
+Enters pipes start m (Some next) = (flow : Bool)
+    → walk (steps_at pipes next) m flow ≡ walk (steps_at pipes start) m flow
+Enters pipes start m None = (flow : Bool) → walk (steps_at pipes start) m flow ≡ stopped
+
+-- The next sibling that is walked, from where its list goes on, or none of the round: what is left then is what the siblings from the old place on leave.
+abbrev pub Picks : List Pipe → List Branch → Trial → Trial → Option Branch → Type 0
+Picks pipes offered old new (Some branch) = (new ≡ record old { index = new.index })
+    × ((before : Walked) → does pipes offered (Tried new branch.is_final branch.drop_unmatched)
+    (after_deliveries before.deliveries
+    (walk (steps_at pipes branch.start) old.message (old.flow || branch.flow)))
+    ≡ does pipes offered (Try old) before)
+Picks pipes offered old new None = (new ≡ record old { index = new.index })
+    × (slice_get (group_of offered pipes old.group) new.index ≡ None)
+    × ((before : Walked) → does pipes offered (Try new) before ≡ does pipes offered (Try old) before)

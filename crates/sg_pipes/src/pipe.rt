@@ -1,9 +1,11 @@
 // What single pipes do.
 ghost use Rattle.std.specs.Prelude.{◌≡◌, ◌<◌, ◌^◌, true, false, [], ◌∷◌, IfOk, IfSome, OnOk, slice_get};
+ghost use Rattle.sg_table.specs.Table.{IsTable};
 ghost use Rattle.sg_pipes.specs.Frames.{IsOver, group_of, has_fallback};
 ghost use Rattle.sg_pipes.specs.Pipes.{changed, is_end, is_met, last_driver, only_driver, lets_pass, rewritten_at, start_at, start_of};
+ghost use Rattle.sg_pipes.specs.Turns.{Enters, Filters};
 
-use crate::frame::Group;
+use crate::frame::{Group, Passed};
 use sg_msg::Message;
 use sg_table::{Branch, Pipe, Test};
 use std::alloc::{AllocError, Global};
@@ -17,6 +19,50 @@ pub(crate) fn passes(pipe: &mut Pipe, message: &Message) -> Result<bool, AllocEr
         Pipe::Filter { filter, .. } => filter.holds(message),
         _ => Ok(true),
     }
+}
+
+// Whether the message goes on behind a filter that stands there, is stopped by it, or there is none.
+fn filter_at(pipes: &mut Vec<Pipe>, at: u32, message: &Message) -> Result<Passed, AllocError>
+    requires { IsTable pipes.old.items }
+    ensures filters { IfOk result (λ passed. Filters pipes.old.items at message.now passed) }
+    ensures stays { pipes.new.items ≡ pipes.old.items }
+{
+    let place = at as usize;
+    if place >= pipes.len() {
+        return Ok(Passed::Arrived);
+    }
+    match &pipes[place] {
+        Pipe::Filter { next, .. } => {
+            let next = *next;
+            if passes(&mut pipes[place], message)? {
+                Ok(Passed::On(next))
+            } else {
+                Ok(Passed::Stopped)
+            }
+        }
+        _ => Ok(Passed::Arrived),
+    }
+}
+
+/// Where a list goes on for the message behind the filters that it begins with, None where one of them stops it.
+pub(crate) fn enter(
+    pipes: &mut Vec<Pipe>,
+    start: u32,
+    message: &Message,
+) -> Result<Option<u32>, AllocError>
+    requires { IsTable pipes.old.items }
+    ensures enters { IfOk result (λ at. Enters pipes.old.items start message.now at) }
+    ensures stays { pipes.new.items ≡ pipes.old.items }
+{
+    let mut at = start;
+    for _ in 0..pipes.len() {
+        match filter_at(pipes, at, message)? {
+            Passed::On(next) => at = next,
+            Passed::Stopped => return Ok(None),
+            Passed::Arrived => return Ok(Some(at)),
+        }
+    }
+    Ok(Some(at))
 }
 
 // Whether the message meets the condition of a rewrite, if it has one.

@@ -8,12 +8,12 @@ ghost use Rattle.sg_pipes.specs.declared.frame.Frame.TheVariants as frame;
 ghost use Rattle.sg_pipes.specs.declared.frame.Group.TheVariants.{Offered};
 ghost use Rattle.sg_pipes.specs.Frames.{IsFirst, does, from};
 ghost use Rattle.sg_pipes.specs.Messages.{messages_of};
-ghost use Rattle.sg_pipes.specs.Turns.{Comes, ComesTo, Delivers, Passes, Turns, Works, now};
+ghost use Rattle.sg_pipes.specs.Turns.{Comes, ComesTo, Delivers, Passes, Picks, Turns, Works, now};
 
 use crate::frame::{Frame, Group, Passed, Trial, Wait};
 use crate::gone::Gone;
 use crate::messages::{Messages, reversed, take_last};
-use crate::pipe::{alone, branch_at, choose, is_over, last_driver, passes, rewrite};
+use crate::pipe::{alone, branch_at, choose, enter, is_over, last_driver, passes, rewrite};
 use sg_msg::{Message, Offer};
 use sg_table::{Branch, Pipe, Top};
 use sg_tree::deliver;
@@ -62,6 +62,34 @@ fn first_trial(group: Group, message: Message, flow: bool) -> Trial
         flow,
         left: Gone::nothing(),
     }
+}
+
+// The next sibling that is walked, from where its list goes on behind its first filters. Those of the other round, and
+// those whose first filters stop the message, so that they leave nothing, are passed over.
+fn pick(
+    offered: &[Branch],
+    pipes: &mut Vec<Pipe>,
+    trial: &mut Trial,
+) -> Result<Option<Branch>, AllocError>
+    requires { IsTable pipes.old.items }
+    ensures picks { IfOk result
+        (λ branch. Picks pipes.old.items offered.now trial.old trial.new branch) }
+    ensures stays { pipes.new.items ≡ pipes.old.items }
+{
+    while let Some(branch) = branch_at(offered, pipes, trial.group, trial.index) {
+        trial.index += 1;
+        if branch.fallback == trial.late {
+            match enter(pipes, branch.start, &trial.message)? {
+                Some(start) => return Ok(Some(Branch { start, ..branch })),
+                None => {
+                    if branch.drop_unmatched {
+                        return Ok(Some(branch));
+                    }
+                }
+            }
+        }
+    }
+    Ok(None)
 }
 
 impl Work {
@@ -199,7 +227,7 @@ impl Work {
         ensures stays { pipes.new.items ≡ pipes.old.items }
     {
         let mut trial = trial;
-        match branch_at(&self.offered, pipes, trial.group, trial.index) {
+        match pick(&self.offered, pipes, &mut trial)? {
             None => {
                 if trial.late | trial.left.processed {
                     self.back = trial.left;
@@ -210,14 +238,7 @@ impl Work {
                 self.frames.push(Frame::Try(trial))?;
                 Ok(())
             }
-            Some(branch) => {
-                trial.index += 1;
-                if branch.fallback == trial.late {
-                    return self.try_this(pipes, trial, branch);
-                }
-                self.frames.push(Frame::Try(trial))?;
-                Ok(())
-            }
+            Some(branch) => self.try_this(pipes, trial, branch),
         }
     }
 

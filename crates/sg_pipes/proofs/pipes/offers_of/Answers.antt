@@ -1,7 +1,7 @@
 use Rattle.std.proofs.Common.{Vec, false, List, ◌++◌, ap, subst, ◌∙◌}
 use Rattle.std.specs.declared.alloc.Global.{Global}
 use Rattle.sg_msg.specs.declared.offer.Offer.{Offer}
-use Rattle.sg_tree.specs.Walk.{Walked, Siblings, branches}
+use Rattle.sg_tree.specs.Walk.{Siblings, branches}
 use Rattle.sg_table.specs.declared.pipe.Branch.{Branch}
 use Rattle.sg_table.specs.declared.pipe.Pipe.{Pipe}
 use Rattle.sg_table.specs.declared.pipe.Top.{Top}
