@@ -8,7 +8,7 @@
         --program PATH           another build of syslogr
         --keep FOLDER            works there, and leaves what the last round wrote
 
-Both programs get the same statements. A record counts as moved once its destinations have it, or where its peer is
+Both programs get the same statements, and `syslogr` what its launcher sets. A record counts as moved once its destinations have it, or where its peer is
 away, its disk-buffer. syslogr is run with `--once`, and measured to its end; syslog-ng doesn't end at the end of its
 input, and is measured to the moment when the last record was there. Each must have written the lines that it should,
 and the last column tells how the outputs compare.
@@ -35,6 +35,8 @@ TOP = os.path.dirname(os.path.dirname(os.path.abspath(__file__)))
 PROGRAM = os.path.join(TOP, "crates", "sg_top", "out", "sg_top")
 PULLS = "log-fetch-limit(1000) log-iw-size(10000)"
 LIMIT = 120
+# As the launcher sets it.
+TUNABLES = "glibc.malloc.tcache_count=1000"
 HOST = "127.0.0.1"
 
 OPTIONS = "options { keep-hostname(yes); use-dns(no); };\n"
@@ -265,9 +267,9 @@ class Run:
         if self.job.connections:
             Feeder(self.port, self.texts)
 
-    def start(self, words, preload=None):
+    def start(self, words, settings=None):
         log = open(self.path("said"), "wb")
-        environment = dict(os.environ, TZ="UTC", **({"LD_PRELOAD": preload} if preload else {}))
+        environment = dict(os.environ, TZ="UTC", **(settings or {}))
         return subprocess.Popen(words, cwd=self.folder, stdout=log, stderr=subprocess.STDOUT, env=environment)
 
     def fail(self, why):
@@ -276,7 +278,8 @@ class Run:
     def syslogr(self, program, preload=None):
         self.configure("4.2")
         start = time.monotonic()
-        child = self.start([program, "run", "conf", "--once"], preload)
+        settings = dict({"GLIBC_TUNABLES": TUNABLES}, **({"LD_PRELOAD": preload} if preload else {}))
+        child = self.start([program, "run", "conf", "--once"], settings)
         self.feed()
         timer = threading.Timer(LIMIT, child.kill)
         timer.start()
