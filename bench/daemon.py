@@ -8,10 +8,10 @@
         --program PATH           another build of syslogr
         --keep FOLDER            works there, and leaves what the last round wrote
 
-Both programs get the same statements, and `syslogr` what its launcher sets. A record counts as moved once its destinations have it, or where its peer is
-away, its disk-buffer. syslogr is run with `--once`, and measured to its end; syslog-ng doesn't end at the end of its
-input, and is measured to the moment when the last record was there. Each must have written the lines that it should,
-and the last column tells how the outputs compare.
+Both programs get the same statements, and syslogr the environment that its launcher sets. A record counts as moved once
+its destinations have it, or where its peer is away, its disk-buffer. syslogr is run with `--once`, and measured to its
+end; syslog-ng doesn't end at the end of its input, and is measured to the moment when the last record was there. Each
+must have written the lines that it should, and the last column tells how the outputs compare.
 
 syslogr syncs its stores, and syslog-ng none of its files: where gcc is installed, its rate without syncs is shown too.
 What a run of one record takes is taken off the times, so that the figures are those of the records alone; the table
@@ -35,7 +35,7 @@ TOP = os.path.dirname(os.path.dirname(os.path.abspath(__file__)))
 PROGRAM = os.path.join(TOP, "crates", "sg_top", "out", "sg_top")
 PULLS = "log-fetch-limit(1000) log-iw-size(10000)"
 LIMIT = 120
-# As the launcher sets it.
+# GLIBC_TUNABLES, as the launcher sets it.
 TUNABLES = "glibc.malloc.tcache_count=1000"
 HOST = "127.0.0.1"
 
