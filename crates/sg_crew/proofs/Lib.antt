@@ -9,5 +9,5 @@ pub mod PhaseLemmas
 pub mod RunLemmas
 pub mod WorkLemmas
 pub mod TakeLemmas
-pub mod LaneLemmas
+pub mod PoolLemmas
 pub mod TogetherLemmas

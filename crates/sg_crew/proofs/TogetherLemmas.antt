@@ -1,103 +1,106 @@
--- Rounds of the workers of one lane.
-use Rattle.std.proofs.Common.{arith, ◌≡◌, ◌<◌, ◌+◌, ℕ, Bool, false, List, slice_get, Some}
-use Rattle.std.specs.Prelude.{not, is_some}
+-- Turns of workers that threads share.
+use Rattle.std.proofs.Common.{arith, ◌≡◌, ◌<◌, ℕ, zero, suc, true, List, slice_get, Option, Some, None, refl, sym, ◌∙◌, subst}
+use Rattle.std.specs.Prelude.{is_some, false}
 use Rattle.sg_device.specs.Inlet.{InletState}
 use Rattle.sg_device.specs.Outlet.{OutletState}
 use Rattle.sg_msg.specs.declared.offer.Offer.{Offer}
 use Rattle.sg_frame.specs.Records.{Record}
-use Rattle.sg_list.proofs.ListLemmas.{slice_get-some, slice_get-below, slice_get-map}
+use Rattle.sg_list.proofs.ListLemmas.{some-same}
 use Rattle.sg_actor.specs.declared.dest.DestActor.{DestActor}
 use Rattle.sg_actor.specs.declared.source.SourceActor.{SourceActor}
 use Rattle.sg_actor.specs.declared.turned.Turned.{Turned}
 use Rattle.sg_hub.specs.Seats.{HubState}
-use Rattle.sg_crew.specs.Crews.{any, AllChanged, Every}
-use Rattle.sg_crew.specs.Workers.{turn_of, turns_of, MayRead, MaySend, Begins, ReadsOnce, SendsOnce, HasRead, HasSent}
+use Rattle.sg_crew.specs.Crews.{AllChanged, Every}
+use Rattle.sg_crew.specs.Pools.{MayGoOn, KeepsReads, KeepsSends}
+use Rattle.sg_crew.specs.Workers.{MayRead, MaySend, Begins, ReadsOnce, SendsOnce, HasRead, HasSent}
 use Rattle.sg_crew.specs.declared.worker.Worker.{Worker}
-use Rattle.sg_crew.proofs.ListLemmas.{any-none}
-use Rattle.sg_crew.proofs.TurnLemmas.{is-there}
 use Rattle.sg_crew.proofs.KindLemmas.{read-first, read-more, may-read-more, send-first, send-more, may-send-more}
-use Rattle.sg_crew.proofs.LaneLemmas.{changed-then, changed-as}
 
--- one of these found no memory
-abbrev pub starved_of : {A D : Type 0} → List (Worker A D) → Bool
-starved_of ws = any (λ turn. not (is_some turn)) (turns_of ws)
-
-fed-at : {A D : Type 0} (ys : List (Worker A D)) → starved_of ys ≡ false → (j : ℕ) (y : Worker A D) → slice_get ys j ≡ Some y → (turned : Turned) × (y.turn ≡ Some turned)
-fed-at ys fed j y e = is-there y.turn (any-none (λ o. not (is_some o)) (turns_of ys) fed j y.turn (slice_get-map turn_of ys j y e))
+some-there : (a : Option Turned) → is_some a ≡ true → (turned : Turned) × (a ≡ Some turned)
+some-there None h = absurd (let wrong : false ≡ true = h in cc)
+some-there (Some turned) h = (turned, refl)
 
 module _ {R I D : Type 0} (state : I → InletState) (offers : R → ℕ → Record → List Offer → Type 0) (inlets dests : R → ℕ) (hub : HubState) where
-  -- so many turns
-  abbrev pub ReadFor : ℕ → Worker (SourceActor R I) D → Worker (SourceActor R I) D → Type 0
-  ReadFor k w v = HasRead state offers inlets dests hub w v × (v.turns ≡ k)
-
   abbrev pub MayStartRead : Worker (SourceActor R I) D → Type 0
   MayStartRead w = MayRead state inlets dests hub w × Begins w
 
-  module _ (xs ys : List (Worker (SourceActor R I) D)) (may : Every MayStartRead xs) where
-    pub reads-first : AllChanged (ReadsOnce state offers inlets dests hub) xs ys → AllChanged (ReadFor 1) xs ys
-    reads-first h = changed-as (ReadsOnce state offers inlets dests hub) (ReadFor 1) xs ys h
-        (λ j x y before after r.
-        let b = (may j x before).1 in
-        let none = b.0 in
-        let turns = r.counted.turns in
-        (read-first state offers inlets dests hub x y b r, omega (arith, none, turns)))
+  -- the source that was in this place of the list, behind turns, if there were any
+  pub record ReadSoFar (olds : List (Worker (SourceActor R I) D)) (j : ℕ) (v : Worker (SourceActor R I) D) : Type 0 where
+    pub old : Worker (SourceActor R I) D
+    pub there : slice_get olds j ≡ Some old
+    pub fresh : v.turns ≡ 0 → v ≡ old
+    pub has_read : 0 < v.turns → HasRead state offers inlets dests hub old v
 
-    pub reads-may : (k : ℕ) → k < 256 → AllChanged (ReadFor k) xs ys → Every (MayRead state inlets dests hub) ys
-    reads-may k below h j y after =
-        let under = slice_get-below ys j y after in
-        let all = h.all in
-        let x = slice_get-some xs j (omega (arith, under, all)) in
-        let r = h.each j x.0 y x.1 after in
-        let turns = r.1 in
-        let m = may j x.0 x.1 in
-        may-read-more state offers inlets dests hub x.0 y m.0 m.1 r.0 (omega (arith, turns, below))
+  module _ (xs : List (Worker (SourceActor R I) D)) (may : Every MayStartRead xs) where
+    may-read-on : (j : ℕ) (w : Worker (SourceActor R I) D) → ReadSoFar xs j w → MayGoOn w → (n : ℕ) → w.turns ≡ n → MayRead state inlets dests hub w
+    may-read-on j w k g zero e = subst (MayRead state inlets dests hub) (sym (k.fresh e)) (may j k.old k.there).0
+    may-read-on j w k g (suc n) e = let m = may j k.old k.there in may-read-more state offers inlets dests hub k.old w m.0 m.1 (k.has_read (omega (arith, e))) g.0
 
-    pub reads-more : (k : ℕ) → k < 256 → starved_of ys ≡ false → (zs : List (Worker (SourceActor R I) D)) → AllChanged (ReadFor k) xs ys → AllChanged (ReadsOnce state offers inlets dests hub) ys zs
-        → AllChanged (ReadFor (k + 1)) xs zs
-    reads-more k below fed zs h once = changed-then (ReadFor k) (ReadsOnce state offers inlets dests hub) (ReadFor (k + 1)) xs ys zs h once
-        (λ j x y z before mid after r o.
-        let t = fed-at ys fed j y mid in
-        let turns = r.1 in
-        let one = o.counted.turns in
-        (read-more state offers inlets dests hub x y z t.0 r.0 t.1 (omega (arith, turns, below)) o, omega (arith, turns, one)))
+    reads-again : (j : ℕ) (w v : Worker (SourceActor R I) D) → ReadSoFar xs j w → MayGoOn w → ReadsOnce state offers inlets dests hub w v → (n : ℕ) → w.turns ≡ n
+        → (old : Worker (SourceActor R I) D) × ((slice_get xs j ≡ Some old) × HasRead state offers inlets dests hub old v)
+    reads-again j w v k g r zero e =
+        (k.old, (k.there, read-first state offers inlets dests hub k.old v (may j k.old k.there).1 (subst (λ x. ReadsOnce state offers inlets dests hub x v) (k.fresh e) r)))
+    reads-again j w v k g r (suc n) e =
+        let some : 0 < w.turns = omega (arith, e) in
+        let t = some-there w.turn (g.1 some) in
+        (k.old, (k.there, read-more state offers inlets dests hub k.old w v t.0 (k.has_read some) t.1 g.0 r))
 
-    pub reads-all : (k : ℕ) → AllChanged (ReadFor k) xs ys → AllChanged (HasRead state offers inlets dests hub) xs ys
-    reads-all k h = changed-as (ReadFor k) (HasRead state offers inlets dests hub) xs ys h (λ j x y before after r. r.0)
+    pub keeps-reads : KeepsReads state offers inlets dests hub xs (ReadSoFar xs)
+    keeps-reads = record {
+      begins = λ j w e.
+          let none = (may j w e).1.0 in
+          record { old = w; there = e; fresh = λ zero. refl; has_read = λ some. absurd (omega (arith, none, some)) };
+      goes_on = record {
+        may = λ j w k g. may-read-on j w k g w.turns refl;
+        again = λ j w v k g r.
+            let s = reads-again j w v k g r w.turns refl in
+            let one = r.counted.turns in
+            record { old = s.0; there = s.1.0; fresh = λ none. absurd (omega (arith, none, one)); has_read = λ some. s.1.1 };
+      };
+      tells = λ j w v e k some. subst (λ x. HasRead state offers inlets dests hub x v) (some-same k.old w (sym k.there ∙ e)) (k.has_read some);
+    }
+
+    pub reads-once : (ys : List (Worker (SourceActor R I) D)) → AllChanged (ReadsOnce state offers inlets dests hub) xs ys → AllChanged (HasRead state offers inlets dests hub) xs ys
+    reads-once ys h = record { all = h.all; each = λ j x y before after. read-first state offers inlets dests hub x y (may j x before).1 (h.each j x y before after) }
 
 module _ {O D : Type 0} (state : O → OutletState) (hub : HubState) where
-  abbrev pub SentFor : ℕ → Worker (DestActor O) D → Worker (DestActor O) D → Type 0
-  SentFor k w v = HasSent state hub w v × (v.turns ≡ k)
-
   abbrev pub MayStartSend : Worker (DestActor O) D → Type 0
   MayStartSend w = MaySend state hub w × Begins w
 
-  module _ (xs ys : List (Worker (DestActor O) D)) (may : Every MayStartSend xs) where
-    pub sends-first : AllChanged (SendsOnce state hub) xs ys → AllChanged (SentFor 1) xs ys
-    sends-first h = changed-as (SendsOnce state hub) (SentFor 1) xs ys h
-        (λ j x y before after r.
-        let b = (may j x before).1 in
-        let none = b.0 in
-        let turns = r.counted.turns in
-        (send-first state hub x y b r, omega (arith, none, turns)))
+  -- the destination that was in this place of the list, behind turns, if there were any
+  pub record SentSoFar (olds : List (Worker (DestActor O) D)) (j : ℕ) (v : Worker (DestActor O) D) : Type 0 where
+    pub old : Worker (DestActor O) D
+    pub there : slice_get olds j ≡ Some old
+    pub fresh : v.turns ≡ 0 → v ≡ old
+    pub has_sent : 0 < v.turns → HasSent state hub old v
 
-    pub sends-may : (k : ℕ) → k < 256 → AllChanged (SentFor k) xs ys → Every (MaySend state hub) ys
-    sends-may k below h j y after =
-        let under = slice_get-below ys j y after in
-        let all = h.all in
-        let x = slice_get-some xs j (omega (arith, under, all)) in
-        let r = h.each j x.0 y x.1 after in
-        let turns = r.1 in
-        let m = may j x.0 x.1 in
-        may-send-more state hub x.0 y m.0 m.1 r.0 (omega (arith, turns, below))
+  module _ (xs : List (Worker (DestActor O) D)) (may : Every MayStartSend xs) where
+    may-send-on : (j : ℕ) (w : Worker (DestActor O) D) → SentSoFar xs j w → MayGoOn w → (n : ℕ) → w.turns ≡ n → MaySend state hub w
+    may-send-on j w k g zero e = subst (MaySend state hub) (sym (k.fresh e)) (may j k.old k.there).0
+    may-send-on j w k g (suc n) e = let m = may j k.old k.there in may-send-more state hub k.old w m.0 m.1 (k.has_sent (omega (arith, e))) g.0
 
-    pub sends-more : (k : ℕ) → k < 256 → starved_of ys ≡ false → (zs : List (Worker (DestActor O) D)) → AllChanged (SentFor k) xs ys → AllChanged (SendsOnce state hub) ys zs
-        → AllChanged (SentFor (k + 1)) xs zs
-    sends-more k below fed zs h once = changed-then (SentFor k) (SendsOnce state hub) (SentFor (k + 1)) xs ys zs h once
-        (λ j x y z before mid after r o.
-        let t = fed-at ys fed j y mid in
-        let turns = r.1 in
-        let one = o.counted.turns in
-        (send-more state hub x y z t.0 r.0 t.1 (omega (arith, turns, below)) o, omega (arith, turns, one)))
+    sends-again : (j : ℕ) (w v : Worker (DestActor O) D) → SentSoFar xs j w → MayGoOn w → SendsOnce state hub w v → (n : ℕ) → w.turns ≡ n
+        → (old : Worker (DestActor O) D) × ((slice_get xs j ≡ Some old) × HasSent state hub old v)
+    sends-again j w v k g r zero e = (k.old, (k.there, send-first state hub k.old v (may j k.old k.there).1 (subst (λ x. SendsOnce state hub x v) (k.fresh e) r)))
+    sends-again j w v k g r (suc n) e =
+        let some : 0 < w.turns = omega (arith, e) in
+        let t = some-there w.turn (g.1 some) in
+        (k.old, (k.there, send-more state hub k.old w v t.0 (k.has_sent some) t.1 g.0 r))
 
-    pub sends-all : (k : ℕ) → AllChanged (SentFor k) xs ys → AllChanged (HasSent state hub) xs ys
-    sends-all k h = changed-as (SentFor k) (HasSent state hub) xs ys h (λ j x y before after r. r.0)
+    pub keeps-sends : KeepsSends state hub xs (SentSoFar xs)
+    keeps-sends = record {
+      begins = λ j w e.
+          let none = (may j w e).1.0 in
+          record { old = w; there = e; fresh = λ zero. refl; has_sent = λ some. absurd (omega (arith, none, some)) };
+      goes_on = record {
+        may = λ j w k g. may-send-on j w k g w.turns refl;
+        again = λ j w v k g r.
+            let s = sends-again j w v k g r w.turns refl in
+            let one = r.counted.turns in
+            record { old = s.0; there = s.1.0; fresh = λ none. absurd (omega (arith, none, one)); has_sent = λ some. s.1.1 };
+      };
+      tells = λ j w v e k some. subst (λ x. HasSent state hub x v) (some-same k.old w (sym k.there ∙ e)) (k.has_sent some);
+    }
+
+    pub sends-once : (ys : List (Worker (DestActor O) D)) → AllChanged (SendsOnce state hub) xs ys → AllChanged (HasSent state hub) xs ys
+    sends-once ys h = record { all = h.all; each = λ j x y before after. send-first state hub x y (may j x before).1 (h.each j x y before after) }

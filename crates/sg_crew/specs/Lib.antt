@@ -1,4 +1,4 @@
 pub mod Crews
 pub mod Workers
 pub mod Rooms
-pub mod Lanes
+pub mod Pools

@@ -3,11 +3,12 @@
 #![tactic(auto)]
 
 mod gather;
-mod lanes;
+mod hold;
 mod look;
 mod meeting;
 mod meter;
 mod phase;
+mod pool;
 mod rounds;
 mod run;
 mod together;

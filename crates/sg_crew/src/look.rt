@@ -1,7 +1,4 @@
 // What turns of a round came to.
-ghost use Rattle.std.specs.Prelude.{◌≡◌, ◌||◌, false, not, is_some};
-ghost use Rattle.sg_crew.specs.Crews.{any};
-ghost use Rattle.sg_crew.specs.Workers.{turns_of};
 
 use crate::worker::Worker;
 use sg_device::Disk;
@@ -18,10 +15,8 @@ pub(crate) struct Came {
     pub(crate) top: u64,
 }
 
-// With one worker's turn more.
-fn with_one<A, D: Disk>(came: Came, worker: &Worker<A, D>) -> Came
-    ensures { result.starved ≡ (came.starved || not (is_some worker.now.turn)) }
-{
+/// With one worker's last turn more.
+pub(crate) fn with_one<A, D: Disk>(came: Came, worker: &Worker<A, D>) -> Came {
     let records = worker.records as u64;
     Came {
         busy: match worker.turn {
@@ -34,22 +29,8 @@ fn with_one<A, D: Disk>(came: Came, worker: &Worker<A, D>) -> Came
     }
 }
 
-/// What the last turns of these workers came to, with what others came to.
-pub(crate) fn with_all<A, D: Disk>(came: Came, workers: &Vec<Worker<A, D>>) -> Came
-    ensures { result.starved
-        ≡ (came.starved || any (λ turn. not (is_some turn)) (turns_of workers.now.items)) }
-{
-    let mut came = came;
-    for i in 0..workers.len() {
-        came = with_one(came, &workers[i]);
-    }
-    came
-}
-
 /// What no turns come to.
-pub(crate) fn nothing() -> Came
-    ensures { result.starved ≡ false }
-{
+pub(crate) fn nothing() -> Came {
     Came {
         busy: 0,
         starved: false,

@@ -6,8 +6,9 @@ use std::sync::Wait;
 use std::sync::atomic::{AtomicU64, Ordering};
 use std::time::Duration;
 
-// How often a thread looks whether the others have come before it sleeps: about a round's time.
-const LOOKS: u32 = 40_000;
+// How often a thread looks whether the others have come before it sleeps. A look with its pause takes 8 to 60 ns, by the
+// processor: so many take about as long as a turn of another thread, which is what it waits for as a rule.
+const LOOKS: u32 = 4_000;
 
 // How often, and for how many milliseconds each time, a thread waits for the others before the first round.
 const WAITS: u32 = 10;
@@ -31,7 +32,9 @@ const APART: u64 = 2;
 /// A meeting of so many threads.
 #[derive(Drop)]
 pub(crate) struct Meeting {
-    lanes: u64,
+    threads: u64,
+    // How many rounds there are at most.
+    most: u64,
     // Before the first round.
     registered: AtomicU64,
     state: AtomicU64,
@@ -88,9 +91,10 @@ fn raise(word: &AtomicU64, to: u64, tries: u64) {
 }
 
 impl Meeting {
-    pub(crate) fn new(lanes: u64) -> Meeting {
+    pub(crate) fn new(threads: u64, most: u64) -> Meeting {
         Meeting {
-            lanes,
+            threads,
+            most,
             registered: AtomicU64::new(0),
             state: AtomicU64::new(OPEN),
             arrived: AtomicU64::new(0),
@@ -112,7 +116,7 @@ impl Meeting {
             .registered
             .fetch_add(1, Ordering::SeqCst)
             .wrapping_add(1)
-            == self.lanes
+            == self.threads
         {
             self.settle(TOGETHER);
         } else {
@@ -145,12 +149,12 @@ impl Meeting {
     pub(crate) fn meet<T: Wait>(&self, rt: &T, came: Came) -> bool {
         let seen = self.number.load(Ordering::SeqCst);
         self.records.fetch_add(came.records, Ordering::SeqCst);
-        raise(&self.top, came.top, self.lanes);
+        raise(&self.top, came.top, self.threads);
         self.busy.fetch_add(came.busy, Ordering::SeqCst);
         if came.starved {
             self.starved.fetch_add(1, Ordering::SeqCst);
         }
-        if self.arrived.fetch_add(1, Ordering::SeqCst).wrapping_add(1) == self.lanes {
+        if self.arrived.fetch_add(1, Ordering::SeqCst).wrapping_add(1) == self.threads {
             self.decide();
         } else {
             wait(rt, &self.number, seen);
@@ -171,7 +175,8 @@ impl Meeting {
             0
         };
         self.poor.store(poor, Ordering::SeqCst);
-        let goes_on = busy > 1 && starved == 0 && poor < POOR;
+        let left = self.rounds.load(Ordering::SeqCst) < self.most;
+        let goes_on = left && busy > 1 && starved == 0 && poor < POOR;
         if goes_on {
             self.rounds.fetch_add(1, Ordering::SeqCst);
         }

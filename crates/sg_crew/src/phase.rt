@@ -7,8 +7,9 @@ ghost use Rattle.sg_crew.specs.Workers.{actors_of, AreCrew};
 ghost use Rattle.sg_crew.specs.Crews.{HasPhase, IsPhase, IsFirst};
 
 use crate::gather::{Part, deal, gather, spread_of};
+use crate::hold::hold;
 use crate::together::{Taken, take_turns};
-use crate::worker::Worker;
+use crate::worker::{TURNS, Worker};
 use sg_actor::{DestActor, SourceActor};
 use sg_device::{Disk, Inlet, Outlet};
 use sg_hub::{Hub, Seat};
@@ -18,7 +19,7 @@ use std::sync::Wait;
 use std::thread::Threads;
 
 /// How many rounds a phase has at most.
-pub(crate) const MOST: u64 = 256;
+pub(crate) const MOST: u64 = TURNS;
 
 /// What a phase came to.
 #[derive(Clone, Copy, Drop)]
@@ -79,22 +80,6 @@ fn is_phase(phase: Phase, most: u64) -> bool
     phase.rounds <= phase.busy
 }
 
-// The meeting of the threads promises nothing, so what they did is looked at behind them. A run whose turns aren't those
-// of a phase would wait here for ever, and promise nothing false.
-fn hold_to<T: Wait>(rt: &T, even: bool, phase: Phase, most: u64)
-    requires { phase.busy < 2 ^ 32 }
-    ensures even { even ≡ true }
-    ensures phase { IsPhase most phase.rounds phase.busy phase.starved }
-{
-    if even {
-        if is_phase(phase, most) {
-            return;
-        }
-    }
-    for _ in rt.forever() {}
-    unreachable!()
-}
-
 /// A phase of so many rounds at most, on so many threads. Behind it the first seat has seen all its calls.
 pub(crate) fn take_phase<
     T: Threads + Wait + Sync,
@@ -112,7 +97,6 @@ pub(crate) fn take_phase<
     threads: usize,
     most: u64,
 ) -> Phase
-    requires most { most ≤ 256 }
     requires first { IsDeskOf hub.now first.old }
     requires seat { AreOrdered first.old × (196608 < first.old.left) }
     requires few { AreFewActors (length sources.old.items) (length dests.old.items) }
@@ -137,6 +121,7 @@ pub(crate) fn take_phase<
     let sent = gather(hub, first, dests, taken.rounds);
     let _left = first.left();
     let phase = joined(taken, read, sent, spread);
-    hold_to(rt, is_even(read, sent), phase, most);
+    hold(rt, is_even(read, sent));
+    hold(rt, is_phase(phase, most));
     phase
 }

@@ -32,7 +32,6 @@ fn threads_after(phase: Phase, threads: usize) -> usize {
 // the last round is a phase of its own.
 fn rounds_of(left: u64, threads: usize) -> u64
     requires { 0 < left }
-    ensures most { result ≤ 256 }
     ensures some { 0 < result }
     ensures left { result ≤ left }
     ensures last { 1 < result → result < left }

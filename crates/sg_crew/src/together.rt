@@ -1,20 +1,22 @@
 // Turns of all workers, on threads that meet behind each round, or on this one.
-ghost use Rattle.std.specs.Prelude.{◌≡◌, ◌≤◌, ◌<◌, ℕ, length, not, is_some, ◌||◌, MatchOption, slice_index_or};
+ghost use Rattle.std.specs.Prelude.{◌≡◌, ◌≤◌, ◌<◌, [], length, vec_capacity, MatchOption};
 ghost use denote.Param.Send.{IsSend, IsSync};
-ghost use Rattle.sg_crew.specs.Crews.{any, AllChanged, Every};
-ghost use Rattle.sg_crew.specs.Workers.{MayRead, MaySend, Begins, HasRead, HasSent, ReadsOnce, SendsOnce, turns_of};
-ghost use Rattle.sg_crew.specs.Lanes.{MayTake, HasTaken};
+ghost use Rattle.sg_crew.specs.Crews.{AllChanged, Every};
+ghost use Rattle.sg_crew.specs.Workers.{MayRead, MaySend, Begins, HasRead, HasSent};
+ghost use Rattle.sg_crew.specs.Pools.{ReadsOn, SendsOn, KeepsReads, KeepsSends};
 
-use crate::lanes::{Lane, collect, deal_out};
-use crate::look::{Came, nothing, with_all};
+use crate::hold::hold;
+use crate::look::{Came, nothing};
 use crate::meeting::Meeting;
-use crate::work::{read_each, send_each};
+use crate::pool::{Kept, Slot, collect, share};
+use crate::work::{read_each, read_held, send_each, send_held};
 use crate::worker::Worker;
 use sg_actor::{DestActor, SourceActor};
 use sg_device::{Disk, Inlet, Outlet};
 use sg_hub::Hub;
 use sg_route::Router;
 use std::alloc::Global;
+use std::marker::Brand;
 use std::sync::Wait;
 use std::thread::{Threads, for_each_mut};
 
@@ -25,124 +27,220 @@ pub(crate) struct Taken {
     pub(crate) alone: bool,
 }
 
-// Each source takes a turn, then each destination.
-fn take_each<T: Wait, R: Router, I: Inlet, O: Outlet, D: Disk>(
+/// Where a thread begins to look for turns in each round.
+#[derive(Clone, Copy, Drop)]
+struct Start {
+    source: usize,
+    dest: usize,
+}
+
+// The place that comes so many behind that one, in turn.
+fn place_behind(from: usize, k: usize, count: usize) -> usize
+    requires { 0 < count }
+    ensures { result < count }
+{
+    from.wrapping_add(k) % count
+}
+
+// The turns of sources that no other thread has claimed in the round. What they came to joins what came before.
+fn read_claimed<T: Wait, R: Router, I: Inlet, D: Disk, K: Kept<Worker<SourceActor<R, I>, D>>>(
     rt: &T,
     alloc: Global,
     hub: &Hub<D>,
-    sources: &mut Vec<Worker<SourceActor<R, I>, D>>,
-    dests: &mut Vec<Worker<DestActor<O>, D>>,
+    slots: &[Slot<Worker<SourceActor<R, I>, D>, K>],
+    round: u64,
+    from: usize,
+    came: Came,
 ) -> Came
-    requires read { Every (MayRead I.state R.inlets R.dests hub.now) sources.old.items }
-    requires send { Every (MaySend O.state hub.now) dests.old.items }
-    ensures read { AllChanged (ReadsOnce I.state R.offers R.inlets R.dests hub.entry.now)
-        sources.old.items sources.new.items }
-    ensures sent { AllChanged (SendsOnce O.state hub.entry.now) dests.old.items dests.new.items }
-    ensures starved { result.starved
-        ≡ (any (λ turn. not (is_some turn)) (turns_of sources.new.items)
-        || any (λ turn. not (is_some turn)) (turns_of dests.new.items)) }
+    requires { ReadsOn I.state R.offers R.inlets R.dests hub.now K.kept }
 {
-    read_each(rt, alloc, hub, sources);
-    send_each(rt, alloc, hub, dests);
-    with_all(with_all(nothing(), sources), dests)
+    let mut came = came;
+    for k in 0..slots.len() {
+        let slot = &slots[place_behind(from, k, slots.len())];
+        if slot.claim(round) {
+            let mut held = slot.held.lock(rt);
+            came = read_held(rt, alloc, hub, &mut *held, came);
+        }
+    }
+    came
 }
 
-// How many rounds a lane has at most: one, unless the lanes are together.
-fn most_of(together: bool, most: u64) -> u64
-    requires { most ≤ 256 }
-    ensures { result ≤ 256 }
-{
-    if together { most } else { 1 }
-}
-
-// The rounds of a lane: behind each it meets the others, and takes another one where they all do. It leaves behind a
-// round in which a turn of its own found no memory.
-fn take_lane<T: Wait, R: Router, I: Inlet, O: Outlet, D: Disk>(
+// The turns of destinations that no other thread has claimed in the round.
+fn send_claimed<T: Wait, O: Outlet, D: Disk, K: Kept<Worker<DestActor<O>, D>>>(
     rt: &T,
     alloc: Global,
     hub: &Hub<D>,
-    meeting: &Meeting,
-    most: u64,
-    lane: &mut Lane<Worker<SourceActor<R, I>, D>, Worker<DestActor<O>, D>>,
-)
-    requires few { most ≤ 256 }
-    requires may { MayTake I.state R.inlets R.dests O.state hub.now lane.old }
-    ensures taken { HasTaken I.state R.offers R.inlets R.dests O.state hub.entry.now lane.old
-        lane.new }
+    slots: &[Slot<Worker<DestActor<O>, D>, K>],
+    round: u64,
+    from: usize,
+    came: Came,
+) -> Came
+    requires { SendsOn O.state hub.now K.kept }
 {
-    let most = most_of(meeting.register(rt), most);
-    let mut came = take_each(rt, alloc, hub, &mut lane.sources, &mut lane.dests);
-    for _round in 1..most {
-        let goes_on = meeting.meet(rt, came);
-        if came.starved {
-            return;
+    let mut came = came;
+    for k in 0..slots.len() {
+        let slot = &slots[place_behind(from, k, slots.len())];
+        if slot.claim(round) {
+            let mut held = slot.held.lock(rt);
+            came = send_held(rt, alloc, hub, &mut *held, came);
         }
-        if !goes_on {
-            return;
-        }
-        came = take_each(rt, alloc, hub, &mut lane.sources, &mut lane.dests);
     }
+    came
 }
 
-// All lanes, each on a thread.
-fn take_lanes<
-    T: Threads + Wait + Sync,
-    R: Router + Send,
-    I: Inlet + Send,
-    O: Outlet + Send,
-    D: Disk + Send,
+// The rounds of a thread: in each it takes turns that no other thread has claimed, the sources' first, and meets the other
+// threads. Where these don't all come, those that do take the turns of one round.
+fn take_rounds<
+    T: Wait,
+    R: Router,
+    I: Inlet,
+    O: Outlet,
+    D: Disk,
+    K: Kept<Worker<SourceActor<R, I>, D>>,
+    L: Kept<Worker<DestActor<O>, D>>,
 >(
     rt: &T,
     alloc: Global,
     hub: &Hub<D>,
     meeting: &Meeting,
     most: u64,
-    lanes: &mut [Lane<Worker<SourceActor<R, I>, D>, Worker<DestActor<O>, D>>],
+    sources: &[Slot<Worker<SourceActor<R, I>, D>, K>],
+    dests: &[Slot<Worker<DestActor<O>, D>, L>],
+    start: Start,
 )
-    requires few { most ≤ 256 }
-    requires may { Every (MayTake I.state R.inlets R.dests O.state hub.now) lanes.old }
-    ensures all { length lanes.new ≡ length lanes.old }
-    ensures taken { (i : ℕ) (d : _) → i < length lanes.old → HasTaken I.state R.offers R.inlets
-        R.dests O.state hub.entry.now (slice_index_or lanes.old i d)
-        (slice_index_or lanes.new i d) }
+    requires read { ReadsOn I.state R.offers R.inlets R.dests hub.now K.kept }
+    requires send { SendsOn O.state hub.now L.kept }
 {
-    let threads = lanes.len().max(1);
-    let take = |_place: usize, lane: &mut Lane<
-        Worker<SourceActor<R, I>, D>,
-        Worker<DestActor<O>, D>,
-    >|
-        requires { IsSync T.row × IsSend R.row × IsSend I.row × IsSend O.row × IsSend D.row
-            × (most ≤ 256) × MayTake I.state R.inlets R.dests O.state hub.now lane.now }
-        ensures { HasTaken I.state R.offers R.inlets R.dests O.state hub.entry.now lane.entry.now
-            lane.exit.now }
-    { take_lane(rt, alloc, hub, meeting, most, lane) };
-    for_each_mut(rt, lanes, threads, &take);
+    let together = meeting.register(rt);
+    for round in 0..most {
+        let came = read_claimed(rt, alloc, hub, sources, round, start.source, nothing());
+        let came = send_claimed(rt, alloc, hub, dests, round, start.dest, came);
+        if !together {
+            return;
+        }
+        if !meeting.meet(rt, came) {
+            return;
+        }
+    }
 }
 
-// The same for a list of lanes.
+// The rounds of all threads.
 fn take_all<
     T: Threads + Wait + Sync,
     R: Router + Send,
     I: Inlet + Send,
     O: Outlet + Send,
     D: Disk + Send,
+    K: Kept<Worker<SourceActor<R, I>, D>> + Send,
+    L: Kept<Worker<DestActor<O>, D>> + Send,
 >(
     rt: &T,
     alloc: Global,
     hub: &Hub<D>,
     meeting: &Meeting,
     most: u64,
-    lanes: &mut Vec<Lane<Worker<SourceActor<R, I>, D>, Worker<DestActor<O>, D>>>,
+    sources: &[Slot<Worker<SourceActor<R, I>, D>, K>],
+    dests: &[Slot<Worker<DestActor<O>, D>, L>],
+    starts: &mut [Start],
 )
-    requires few { most ≤ 256 }
-    requires may { Every (MayTake I.state R.inlets R.dests O.state hub.now) lanes.old.items }
-    ensures { AllChanged (HasTaken I.state R.offers R.inlets R.dests O.state hub.entry.now)
-        lanes.old.items lanes.new.items }
+    requires read { ReadsOn I.state R.offers R.inlets R.dests hub.now K.kept }
+    requires send { SendsOn O.state hub.now L.kept }
 {
-    take_lanes(rt, alloc, hub, meeting, most, lanes);
+    let threads = starts.len().max(1);
+    let take = |_place: usize, start: &mut Start|
+        requires { IsSync T.row × IsSend R.row × IsSend I.row × IsSend O.row × IsSend D.row
+            × IsSend K.row × IsSend L.row
+            × ReadsOn I.state R.offers R.inlets R.dests hub.now K.kept
+            × SendsOn O.state hub.now L.kept }
+    { take_rounds(rt, alloc, hub, meeting, most, sources, dests, *start) };
+    for_each_mut(rt, starts, threads, &take);
 }
 
-// So many rounds at most on so many threads; None, and nothing is done, where there is no memory for the lanes.
+// Where so many threads begin, spread over the sources and over the destinations.
+fn starts_of(alloc: Global, threads: usize, sources: usize, dests: usize) -> Option<Vec<Start>>
+    requires { 0 < threads }
+{
+    let Ok(mut starts) = Vec::with_capacity(alloc, threads) else {
+        return None;
+    };
+    for k in 0..threads {
+        starts.push_reserved(Start {
+            source: k.wrapping_mul(sources) / threads,
+            dest: k.wrapping_mul(dests) / threads,
+        });
+    }
+    Some(starts)
+}
+
+// Each has taken a turn, as is looked at behind the threads.
+fn hold_to_turns<A, D: Disk, T: Wait>(rt: &T, workers: &[Worker<A, D>])
+    ensures { Every (λ w. 0 < w.turns) workers.now }
+{
+    for worker in workers {
+        hold(rt, worker.turns > 0);
+    }
+}
+
+// So many rounds at most on so many threads; None, and nothing is done, where there is no memory for that. What is kept
+// of the workers from turn to turn is the caller's choice.
+fn take_kept<
+    T: Threads + Wait + Sync,
+    R: Router + Send,
+    I: Inlet + Send,
+    O: Outlet + Send,
+    D: Disk + Send,
+    K: Kept<Worker<SourceActor<R, I>, D>> + Send,
+    L: Kept<Worker<DestActor<O>, D>> + Send,
+>(
+    rt: &T,
+    alloc: Global,
+    hub: &Hub<D>,
+    threads: usize,
+    most: u64,
+    sources: &mut Vec<Worker<SourceActor<R, I>, D>>,
+    dests: &mut Vec<Worker<DestActor<O>, D>>,
+) -> Option<Taken>
+    requires some { 0 < threads }
+    requires read { KeepsReads I.state R.offers R.inlets R.dests hub.now sources.old.items K.kept }
+    requires send { KeepsSends O.state hub.now dests.old.items L.kept }
+    ensures read { MatchOption result (sources.new.items ≡ sources.old.items)
+        (λ _. AllChanged (HasRead I.state R.offers R.inlets R.dests hub.entry.now)
+        sources.old.items sources.new.items) }
+    ensures sent { MatchOption result (dests.new.items ≡ dests.old.items)
+        (λ _. AllChanged (HasSent O.state hub.entry.now) dests.old.items dests.new.items) }
+{
+    let mut starts = starts_of(alloc, threads, sources.len(), dests.len())?;
+    let Ok(reader_room) = Vec::with_capacity(alloc, sources.len()) else {
+        return None;
+    };
+    let Ok(sender_room) = Vec::with_capacity(alloc, dests.len()) else {
+        reader_room.destroy_empty();
+        return None;
+    };
+    let readers: Vec<Slot<_, K>> = share(sources, reader_room);
+    let senders: Vec<Slot<_, L>> = share(dests, sender_room);
+    let meeting = Meeting::new(threads as u64, most);
+    take_all(
+        rt,
+        alloc,
+        hub,
+        &meeting,
+        most,
+        &readers,
+        &senders,
+        &mut starts,
+    );
+    collect(rt, readers, sources);
+    collect(rt, senders, dests);
+    hold_to_turns(rt, sources);
+    hold_to_turns(rt, dests);
+    Some(Taken {
+        rounds: meeting.rounds(),
+        alone: meeting.is_apart(),
+    })
+}
+
+// The same, for turns as the caller knows them.
 fn take_beside<
     T: Threads + Wait + Sync,
     R: Router + Send,
@@ -158,7 +256,7 @@ fn take_beside<
     sources: &mut Vec<Worker<SourceActor<R, I>, D>>,
     dests: &mut Vec<Worker<DestActor<O>, D>>,
 ) -> Option<Taken>
-    requires few { most ≤ 256 }
+    requires some { 0 < threads }
     requires read { Every (λ w. MayRead I.state R.inlets R.dests hub.now w × Begins w)
         sources.old.items }
     requires send { Every (λ w. MaySend O.state hub.now w × Begins w) dests.old.items }
@@ -168,25 +266,7 @@ fn take_beside<
     ensures sent { MatchOption result (dests.new.items ≡ dests.old.items)
         (λ _. AllChanged (HasSent O.state hub.entry.now) dests.old.items dests.new.items) }
 {
-    let Ok(mut lanes) = Vec::with_capacity(alloc, threads) else {
-        return None;
-    };
-    deal_out(alloc, threads, sources, dests, &mut lanes);
-    if !sources.is_empty() {
-        collect(sources, dests, lanes);
-        return None;
-    }
-    if !dests.is_empty() {
-        collect(sources, dests, lanes);
-        return None;
-    }
-    let meeting = Meeting::new(lanes.len() as u64);
-    take_all(rt, alloc, hub, &meeting, most, &mut lanes);
-    collect(sources, dests, lanes);
-    Some(Taken {
-        rounds: meeting.rounds(),
-        alone: meeting.is_apart(),
-    })
+    take_kept::<T, R, I, O, D, Brand, Brand>(rt, alloc, hub, threads, most, sources, dests)
 }
 
 // Each source and each destination takes one turn, on this thread.
@@ -204,7 +284,8 @@ fn take_alone<T: Wait, R: Router, I: Inlet, O: Outlet, D: Disk>(
         sources.old.items sources.new.items }
     ensures sent { AllChanged (HasSent O.state hub.entry.now) dests.old.items dests.new.items }
 {
-    let _came = take_each(rt, alloc, hub, sources, dests);
+    read_each(rt, alloc, hub, sources);
+    send_each(rt, alloc, hub, dests);
     Taken {
         rounds: 1,
         alone: false,
@@ -228,7 +309,6 @@ pub(crate) fn take_turns<
     sources: &mut Vec<Worker<SourceActor<R, I>, D>>,
     dests: &mut Vec<Worker<DestActor<O>, D>>,
 ) -> Taken
-    requires few { most ≤ 256 }
     requires read { Every (λ w. MayRead I.state R.inlets R.dests hub.now w × Begins w)
         sources.old.items }
     requires send { Every (λ w. MaySend O.state hub.now w × Begins w) dests.old.items }

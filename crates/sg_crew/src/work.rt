@@ -1,13 +1,16 @@
 // Turns at seats.
-ghost use Rattle.std.specs.Prelude.{◌≡◌, ◌<◌, ◌+◌, ◌^◌};
+ghost use Rattle.std.specs.Prelude.{◌≡◌, ◌<◌, ◌+◌, ◌^◌, true};
 ghost use Rattle.sg_actor.specs.Reading.{one_if};
 ghost use Rattle.sg_turns.specs.Turns.{answer_of};
 ghost use Rattle.sg_turns.specs.Serving.{is_busy_answer};
 ghost use Rattle.sg_crew.specs.Crews.{AllChanged, Every};
 ghost use Rattle.sg_crew.specs.Workers.{MayRead, MaySend, ReadsOnce, SendsOnce};
+ghost use Rattle.sg_crew.specs.Pools.{MayGoOn, ReadsOn, SendsOn};
 
+use crate::look::{Came, with_one};
 use crate::meter::Metered;
-use crate::worker::Worker;
+use crate::pool::{Held, Kept};
+use crate::worker::{TURNS, Worker};
 use sg_actor::{DestActor, SourceActor, Turned};
 use sg_device::{Disk, Inlet, NoMemory, Outlet};
 use sg_hub::{Hub, HubSeat};
@@ -129,4 +132,54 @@ pub(crate) fn send_each<T: Wait, O: Outlet, D: Disk>(
     for i in 0..workers.len() {
         send_one(rt, alloc, hub, &mut workers[i]);
     }
+}
+
+// Whether the worker may take one more turn of a phase.
+fn may_go_on<A, D: Disk>(worker: &Worker<A, D>) -> bool
+    ensures { result ≡ true → MayGoOn worker.now }
+{
+    if worker.turns == 0 {
+        return true;
+    }
+    worker.turns < TURNS && worker.turn.is_some()
+}
+
+/// A shared source takes a turn, if it may. What the turn came to joins what came before.
+pub(crate) fn read_held<
+    T: Wait,
+    R: Router,
+    I: Inlet,
+    D: Disk,
+    K: Kept<Worker<SourceActor<R, I>, D>>,
+>(
+    rt: &T,
+    alloc: Global,
+    hub: &Hub<D>,
+    held: &mut Held<Worker<SourceActor<R, I>, D>, K>,
+    came: Came,
+) -> Came
+    requires { ReadsOn I.state R.offers R.inlets R.dests hub.now K.kept }
+{
+    if !may_go_on(&held.worker) {
+        return came;
+    }
+    read_one(rt, alloc, hub, &mut held.worker);
+    with_one(came, &held.worker)
+}
+
+/// A shared destination takes a turn, if it may. What the turn came to joins what came before.
+pub(crate) fn send_held<T: Wait, O: Outlet, D: Disk, K: Kept<Worker<DestActor<O>, D>>>(
+    rt: &T,
+    alloc: Global,
+    hub: &Hub<D>,
+    held: &mut Held<Worker<DestActor<O>, D>, K>,
+    came: Came,
+) -> Came
+    requires { SendsOn O.state hub.now K.kept }
+{
+    if !may_go_on(&held.worker) {
+        return came;
+    }
+    send_one(rt, alloc, hub, &mut held.worker);
+    with_one(came, &held.worker)
 }

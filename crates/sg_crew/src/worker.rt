@@ -8,6 +8,9 @@ use sg_device::Disk;
 use sg_hub::{Hub, Seat};
 use std::collections::VecDeque;
 
+/// How many turns a worker takes in a phase at most.
+pub(crate) const TURNS: u64 = 256;
+
 /// An actor, its seat, and what its last turn came to: None where it found no memory, or there was none;
 /// and how many records a source brought in then. How many turns of the phase it has taken, and how many of them
 /// did something or were idle.

@@ -1,19 +1,31 @@
-use Rattle.std.proofs.Common.{drop, length, sym, ◌∙◌, subst}
-use Rattle.sg_crew.specs.Crews.{AllChanged, Every}
-use Rattle.sg_crew.specs.Lanes.{MayTake, HasTaken}
-use Rattle.sg_crew.proofs.ListLemmas.{all-changed, back-is}
+use denote.Param.Send.{sendable}
+use Rattle.std.proofs.Crossing.{crosses}
+use Rattle.sg_hub.proofs.Crosses.{hub_sync}
+use Rattle.sg_crew.proofs.worker.Worker.TheSendSync.{the_send as worker_send}
+use Rattle.sg_actor.proofs.dest.DestActor.TheSendSync.{the_send as dest_send}
+use Rattle.sg_actor.proofs.source.SourceActor.TheSendSync.{the_send as source_send}
 use Rattle.sg_crew.proofs.together.take_all.Goals as goal
 
-pub take_lanes-requires-clause-may : goal.take_lanes-requires-clause-may
-take_lanes-requires-clause-may g c = λ κs lives.
-    subst (Every (MayTake g.I.Inlet.state g.R.Router.inlets g.R.Router.dests g.O.Outlet.state c.args.hub.now)) (sym c.deref_mut.ensures.value) c.requires.may
+pub for_each_mut-requires-sync-F : goal.for_each_mut-requires-sync-F
+for_each_mut-requires-sync-F g c κs within =
+    let sync = c.type_bounds.sync-T in
+    let r = c.type_bounds.send-R in
+    let i = c.type_bounds.send-I in
+    let o = c.type_bounds.send-O in
+    let d = c.type_bounds.send-D in
+    let k = c.type_bounds.send-K in
+    let l = c.type_bounds.send-L in
+    search (sendable, crosses, hub_sync, worker_send, source_send, dest_send) depth 60 fits 40000
 
-pub returns : goal.returns
-returns g c =
-    let e = c.take_lanes.ensures in
-    let old = c.args.lanes.now.items in
-    let new = c.take_lanes.new.lanes in
-    let is = c.deref_mut.ensures.value in
-    let rel = HasTaken g.I.Inlet.state g.R.Router.offers g.R.Router.inlets g.R.Router.dests g.O.Outlet.state c.args.hub.now in
-    let changed = subst (λ xs. AllChanged rel xs new) is (all-changed rel c.deref_mut.result.now new e.all e.taken) in
-    subst (AllChanged rel old) (sym (back-is new (drop (length new) old) c.args.lanes.now.len (e.all ∙ c.deref_mut.ensures.len))) changed
+pub for_each_mut-requires-clause-accepts : goal.for_each_mut-requires-clause-accepts
+for_each_mut-requires-clause-accepts g c κs within i p below is =
+    let sync = c.type_bounds.sync-T in
+    let r = c.type_bounds.send-R in
+    let j = c.type_bounds.send-I in
+    let o = c.type_bounds.send-O in
+    let d = c.type_bounds.send-D in
+    let k = c.type_bounds.send-K in
+    let l = c.type_bounds.send-L in
+    let read = c.requires.read in
+    let send = c.requires.send in
+    (search sendable depth 20, search sendable depth 20, search sendable depth 20, search sendable depth 20, search sendable depth 20, search sendable depth 20, search sendable depth 20, read, send)
