@@ -3,10 +3,10 @@
 
     tests/starved.py [PROGRAM]     by default the program that syslogr builds
 
-It does so with a run of two lines, a run of five lines through a disk-buffer, `drill 8`, and `check` of a distribution's
-configuration. Each run must end with status 11 and say nothing, or end and say as it does where no allocation is refused. Where
-lines are moved, a run behind it, with no allocation refused, must end with status 0, and then each line stands in the destination's
-file once at least, in order, and nothing else. It says how many runs of each kind there were, and ends with status 1 where one is
+It does so with a run of two lines, a run of five lines through a disk-buffer, a run of four files to a destination each, whose
+rounds are taken on threads, `drill 8`, and `check` of a distribution's configuration. Each run must end with status 11 and say nothing, or end and say as it does where no allocation is refused. Where
+lines are moved, a run behind it, with no allocation refused, must end with status 0, and then each line stands in its destination's
+file once at least, in order, and nothing else. A run that hasn't ended after a minute is wrong. It says how many runs of each kind there were, and ends with status 1 where one is
 not so. It needs a C compiler (tests/starve.c).
 """
 import concurrent.futures
@@ -26,6 +26,17 @@ destination d { file("out" template("$MSG\\n")%s); };
 log { source(s); destination(d); flags(flow-control); };
 """
 
+FOUR = "@version: 4.2\n" + "".join(
+    'source s%d { file("in%d" flags(no-parse)); };\ndestination d%d { file("out%d" template("$MSG\\n")); };\n'
+    "log { source(s%d); destination(d%d); flags(flow-control); };\n" % ((k,) * 6)
+    for k in range(4)
+)
+
+
+def lines_of(k):
+    return ["line %d of file %d" % (n, k) for n in range(250)]
+
+
 DISTRIBUTION = """@version: 4.2
 @include "scl.conf"
 options { chain_hostnames(off); flush_lines(0); use_dns(no);
@@ -44,24 +55,33 @@ log { source(s_src); filter(f_syslog); destination(d_syslog); };
 log { source(s_src); filter(f_error); destination(d_error); };
 """
 
-# A name, the words, the files, and the lines that are moved.
+# A name, the words, the files, and the lines that each destination's file gets.
 CASES = [
-    ("two lines", ["run", "c", "--once"], {"c": A % "", "in": "one\ntwo\n"}, ["one", "two"]),
+    ("two lines", ["run", "c", "--once"], {"c": A % "", "in": "one\ntwo\n"}, {"out": ["one", "two"]}),
     (
         "five lines through a disk-buffer",
         ["run", "c", "--once"],
         {"c": A % " disk-buffer(reliable(yes) disk-buf-size(1048576))", "in": "one\ntwo\nthree\nfour\nfive\n"},
-        ["one", "two", "three", "four", "five"],
+        {"out": ["one", "two", "three", "four", "five"]},
     ),
-    ("drill 8", ["drill", "8"], {}, []),
-    ("check of a distribution's configuration", ["check", "c"], {"c": DISTRIBUTION, "scl.conf": ""}, []),
+    (
+        "four files to a destination each",
+        ["run", "c", "--once"],
+        {"c": FOUR, **{"in%d" % k: "".join(line + "\n" for line in lines_of(k)) for k in range(4)}},
+        {"out%d" % k: lines_of(k) for k in range(4)},
+    ),
+    ("drill 8", ["drill", "8"], {}, {}),
+    ("check of a distribution's configuration", ["check", "c"], {"c": DISTRIBUTION, "scl.conf": ""}, {}),
 ]
 
 
 def run(program, words, folder, environment):
     """The exit status, what was said, and whether an allocation was refused."""
-    how = {"stdin": subprocess.DEVNULL, "stdout": subprocess.PIPE, "stderr": subprocess.PIPE}
-    ended = subprocess.run([program, *words], cwd=folder, env={**os.environ, **environment}, **how)
+    how = {"stdin": subprocess.DEVNULL, "stdout": subprocess.PIPE, "stderr": subprocess.PIPE, "timeout": 60}
+    try:
+        ended = subprocess.run([program, *words], cwd=folder, env={**os.environ, **environment}, **how)
+    except subprocess.TimeoutExpired as late:
+        return None, b"nothing, for a minute", b"starved\n" in (late.stderr or b"")
     return ended.returncode, ended.stdout, b"starved\n" in ended.stderr
 
 
@@ -92,7 +112,8 @@ def refuse(program, library, case, number, plain):
             wrong.append("allocation %d of %s: status %d, said %r" % (number, name, status, said))
         if lines:
             status_behind, said, _ = run(program, words, folder, {})
-            if status_behind != 0 or not is_whole(lines, os.path.join(folder, "out")):
+            whole = all(is_whole(those, os.path.join(folder, out)) for out, those in lines.items())
+            if status_behind != 0 or not whole:
                 wrong.append("allocation %d of %s: behind status %d a run ends with %d, says %r" % (number, name, status, status_behind, said))
         return status == 11, wrong
 
