@@ -42,9 +42,9 @@ one-store : (i s : ℕ) → store_in meeting.sources i ≡ Some s → (i ≡ 0) 
 one-store zero s e = let is = some-same 0 s e in (refl, sym is)
 one-store (suc i) s e = absurd (let wrong : None ≡ Some s = e in cc)
 
-one-buffer : (d s : ℕ) → buffer_store_in meeting.dests d ≡ Some s → (d ≡ 0) × (s ≡ 1)
-one-buffer zero s e = let is = some-same 1 s e in (refl, sym is)
-one-buffer (suc zero) s e = absurd (let wrong : None ≡ Some s = e in cc)
+one-buffer : (d s : ℕ) → buffer_store_in meeting.dests d ≡ Some s → (d ≡ 1) × (s ≡ 1)
+one-buffer zero s e = absurd (let wrong : None ≡ Some s = e in cc)
+one-buffer (suc zero) s e = let is = some-same 1 s e in (refl, sym is)
 one-buffer (suc (suc d)) s e = absurd (let wrong : None ≡ Some s = e in cc)
 
 numbers-meeting : NumberStores meeting 2
@@ -66,11 +66,11 @@ small buffer h =
     omega (arith, e)
 
 capacities-meeting : HaveCapacities meeting.dests
-capacities-meeting zero setup buffer get has =
+capacities-meeting (suc zero) setup buffer get has =
     let e : Some (record { fifo = 100; buffer = Some (record { store = 1; capacity = 1000 }) }) ≡ Some setup = get in
     let is : record { fifo = 100; buffer = Some (record { store = 1; capacity = 1000 }) } ≡ setup = cc in
     small buffer (ap (λ (x : DestSetup). x.buffer) is ∙ has)
-capacities-meeting (suc zero) setup buffer get has =
+capacities-meeting zero setup buffer get has =
     let e : Some (record { fifo = 100; buffer = None }) ≡ Some setup = get in
     let is : record { fifo = 100; buffer = None } ≡ setup = cc in
     absurd (let wrong : None ≡ Some buffer = ap (λ (x : DestSetup). x.buffer) is ∙ has in cc)

@@ -9,11 +9,11 @@ tried = record {
   dests = record { fifo = 100; buffer = None } ∷ record { fifo = 100; buffer = None } ∷ [];
 }
 
--- a source with a store of its own, a destination with a disk-buffer, and one with a queue in memory
+-- a source with a store of its own, a destination with a queue in memory, and one with a disk-buffer
 abbrev pub meeting : Setup
 meeting = record {
   sources = record { window = 100; store = Some 0 } ∷ [];
-  dests = record { fifo = 100; buffer = Some (record { store = 1; capacity = 1000 }) } ∷ record { fifo = 100; buffer = None } ∷ [];
+  dests = record { fifo = 100; buffer = None } ∷ record { fifo = 100; buffer = Some (record { store = 1; capacity = 1000 }) } ∷ [];
 }
 
 -- of both, whatever router

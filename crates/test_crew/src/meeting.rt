@@ -137,14 +137,14 @@ fn setup(alloc: Global) -> Result<Setup, Fail>
     let mut dests = Seq::empty(alloc);
     dests.push(DestSetup {
         fifo: 100,
+        buffer: None,
+    })?;
+    dests.push(DestSetup {
+        fifo: 100,
         buffer: Some(BufferSetup {
             store: 1,
             capacity: 1000,
         }),
-    })?;
-    dests.push(DestSetup {
-        fifo: 100,
-        buffer: None,
     })?;
     Ok(Setup { sources, dests })
 }
@@ -173,10 +173,10 @@ fn open(alloc: Global, disks: Vec<MemoryDisk>) -> Result<Core<MemoryDisk>, Fail>
 fn entry(alloc: Global) -> Result<Vec<Admission>, Fail>
     ensures { IfOk result (λ records. IsBatch meeting records.items) }
 {
-    let message = message(alloc, b"0")?;
+    let message = message(alloc, b"1")?;
     let mut offers = Vec::new(alloc);
     offers.push(Offer {
-        dest: 0,
+        dest: 1,
         message,
         flow: true,
     })?;
@@ -188,7 +188,7 @@ fn entry(alloc: Global) -> Result<Vec<Admission>, Fail>
     Ok(records)
 }
 
-// A core that finds an entry of the first destination in its store.
+// A core that finds an entry of the second destination in its store.
 fn recovered(alloc: Global) -> Result<Core<MemoryDisk>, Fail>
     ensures setup { IfOk result (λ core. setup_of core ≡ meeting) }
     ensures calls { IfOk result (λ core. core.calls ≡ 0) }
@@ -212,7 +212,7 @@ fn source<'a, T: Clock>(
 {
     let pace = Pace { piece: 2, at: 0 };
     let mut text = Vec::new(alloc);
-    text.extend_from_slice(b"0\n0\n")?;
+    text.extend_from_slice(b"1\n1\n")?;
     let inlet = MeetingInlet {
         rt,
         flags,
@@ -249,7 +249,7 @@ fn dest<'a, T: Clock>(
     let outlet = MeetingOutlet {
         rt,
         flags,
-        meetings: if dest == 0 { MEETINGS } else { 0 },
+        meetings: if dest == 1 { MEETINGS } else { 0 },
         inner: MemoryOutlet::new(alloc, plan),
     };
     let Ok(template) = Template::read(alloc, b"$MSG ") else {
@@ -359,9 +359,10 @@ fn dests<'a, T: Clock>(
     }
 }
 
-// How often a pull or a send has seen the other one of its round. The destination has an entry of an earlier run for the
-// first round, and for the second one the line of the first, since its frames are taken before they meet. The third
-// round is the last, which is never one of several on the same threads.
+// How often a pull or a send has seen the other one of its round. The second destination has an entry of an earlier run for
+// the first round, and for the second one the line of the first, since its frames are taken before they meet. The third
+// round is the last, which is never one of several on the same threads. Whichever thread waits in a pull, the other one takes
+// the turns of both destinations meanwhile.
 fn met<T: Threads + Wait + Sync + Clock>(
     rt: &T,
     alloc: Global,
