@@ -24,7 +24,8 @@ abbrev pub MayGoOn : {A D : Type 0} → Worker A D → Type 0
 MayGoOn w = (w.turns < 256) × (0 < w.turns → is_some w.turn ≡ true)
 
 -- what is kept of a source lets it take one more turn, and is kept behind it
-pub record ReadsOn {R I D : Type 0} (state : I → InletState) (offers : R → ℕ → Record → List Offer → Type 0) (inlets dests : R → ℕ) (hub : HubState)
+pub record ReadsOn {R I D : Type 0} (state : I → InletState)
+    (offers : R → ℕ → Record → List Offer → Type 0) (inlets dests : R → ℕ) (hub : HubState)
     (kept : ℕ → Worker (SourceActor R I) D → Type 0) : Type 0 where
   pub may : (j : ℕ) (w : Worker (SourceActor R I) D) → kept j w → MayGoOn w
       → MayRead state inlets dests hub w
@@ -39,8 +40,10 @@ pub record SendsOn {O D : Type 0} (state : O → OutletState) (hub : HubState)
       → SendsOnce state hub w v → kept j v
 
 -- What is kept of sources holds before their first turn, and tells of each that took one what it did.
-pub record KeepsReads {R I D : Type 0} (state : I → InletState) (offers : R → ℕ → Record → List Offer → Type 0) (inlets dests : R → ℕ) (hub : HubState)
-    (olds : List (Worker (SourceActor R I) D)) (kept : ℕ → Worker (SourceActor R I) D → Type 0) : Type 0 where
+pub record KeepsReads {R I D : Type 0} (state : I → InletState)
+    (offers : R → ℕ → Record → List Offer → Type 0) (inlets dests : R → ℕ) (hub : HubState)
+    (olds : List (Worker (SourceActor R I) D))
+    (kept : ℕ → Worker (SourceActor R I) D → Type 0) : Type 0 where
   pub begins : AllKept kept olds
   pub goes_on : ReadsOn state offers inlets dests hub kept
   pub tells : (j : ℕ) (w v : Worker (SourceActor R I) D) → slice_get olds j ≡ Some w → kept j v
@@ -48,7 +51,8 @@ pub record KeepsReads {R I D : Type 0} (state : I → InletState) (offers : R �
 
 -- the same of destinations
 pub record KeepsSends {O D : Type 0} (state : O → OutletState) (hub : HubState)
-    (olds : List (Worker (DestActor O) D)) (kept : ℕ → Worker (DestActor O) D → Type 0) : Type 0 where
+    (olds : List (Worker (DestActor O) D))
+    (kept : ℕ → Worker (DestActor O) D → Type 0) : Type 0 where
   pub begins : AllKept kept olds
   pub goes_on : SendsOn state hub kept
   pub tells : (j : ℕ) (w v : Worker (DestActor O) D) → slice_get olds j ≡ Some w → kept j v

@@ -15,9 +15,9 @@ const WAITS: u32 = 10;
 
 const WAIT: u64 = 100;
 
-/// How many records have to be spread over sources so that their turns are worth threads: with those of the busiest
-/// source they take 400 to 1,000 microseconds.
-pub(crate) const WORTH: u64 = 300;
+/// How many records have to be spread over sources so that their turns are worth threads: with as many of the busiest
+/// source they take 200 to 700 microseconds.
+pub(crate) const WORTH: u64 = 100;
 
 // So many rounds in a row that weren't worth threads end a phase.
 const POOR: u64 = 16;
