@@ -163,7 +163,8 @@ class Sink:
         self.pieces, self.lines = [], 0
         self.listener = socket.create_server((HOST, 0))
         self.port = self.listener.getsockname()[1]
-        threading.Thread(target=self.accept, daemon=True).start()
+        self.accepting = threading.Thread(target=self.accept, daemon=True)
+        self.accepting.start()
 
     def accept(self):
         while True:
@@ -183,6 +184,9 @@ class Sink:
         return self.lines
 
     def close(self):
+        """Its thread ends before the listener's number can be another one's."""
+        self.listener.shutdown(socket.SHUT_RDWR)
+        self.accepting.join()
         self.listener.close()
 
 
