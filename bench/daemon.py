@@ -184,7 +184,7 @@ class Sink:
         return self.lines
 
     def close(self):
-        """Its thread ends before the listener's number can be another one's."""
+        """Ends its thread first, which might accept at a later listener that gets this one's descriptor."""
         self.listener.shutdown(socket.SHUT_RDWR)
         self.accepting.join()
         self.listener.close()

@@ -4,10 +4,11 @@
     tests/starved.py [PROGRAM]     by default the program that syslogr builds
 
 It does so with a run of two lines, a run of five lines through a disk-buffer, a run of four files to a destination each, whose
-rounds are taken on threads, `drill 8`, and `check` of a distribution's configuration. Each run must end with status 11 and say nothing, or end and say as it does where no allocation is refused. Where
-lines are moved, a run behind it, with no allocation refused, must end with status 0, and then each line stands in its destination's
-file once at least, in order, and nothing else. A run that hasn't ended after a minute is wrong. It says how many runs of each kind there were, and ends with status 1 where one is
-not so. It needs a C compiler (tests/starve.c).
+rounds are taken on threads, `drill 8`, and `check` of a distribution's configuration. Each run must end with status 11 and say
+nothing, or end and say as it does where no allocation is refused. Where lines are moved, a run behind it, with no allocation
+refused, must end with status 0, and then each line stands in its destination's file once at least, in order, and nothing else.
+A run that hasn't ended after a minute is wrong. It says how many runs of each kind there were, and ends with status 1 where one
+is not so. It needs a C compiler (tests/starve.c).
 """
 import concurrent.futures
 import os
