@@ -1,5 +1,5 @@
 #!/usr/bin/env python3
-"""How many allocations a record costs from file to frame, by `bench_lines`.
+"""How many allocations a record costs from file to frame, by `bench_parts lines`.
 
     bench/allocations.py
 
@@ -11,8 +11,8 @@ import os
 import subprocess
 import tempfile
 
-TOP = os.path.dirname(os.path.dirname(os.path.abspath(__file__)))
-CRATE = os.path.join(TOP, "crates", "bench_lines")
+from parts import CRATE
+
 RECORDS = 1000
 MOST = 16
 
@@ -25,7 +25,7 @@ PATHS = [
 
 
 def ends_well(form, path, failing):
-    words = ["rt", "try", "--fail-alloc", str(failing), "--", form, path, "out"]
+    words = ["rt", "try", "--fail-alloc", str(failing), "--", "lines", form, path, "out"]
     said = subprocess.run(words, cwd=CRATE, stdout=subprocess.PIPE, stderr=subprocess.STDOUT, text=True).stdout
     if "ended status=" not in said:
         raise SystemExit(said)

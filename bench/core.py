@@ -5,7 +5,7 @@ as many bytes stable by fdatasync.
 
     bench/core.py [FOLDER [SECONDS]]     by default the folder for temporary files, about 2 seconds each
 
-It runs `bench_core`, which it builds where it isn't built yet. A record has one offer with flow-control, of 200 bytes.
+It runs `bench_parts core`, which it builds where it isn't built yet. A record has one offer with flow-control, of 200 bytes.
 With a disk-buffer in a file the 100 records of an admit are stable behind two syncs, and they are gone behind two more.
 """
 import os
@@ -14,26 +14,18 @@ import sys
 import tempfile
 import time
 
+from parts import program
 from spool import syncs_per_second
 
-TOP = os.path.dirname(os.path.dirname(os.path.abspath(__file__)))
-CRATE = os.path.join(TOP, "crates", "bench_core")
-PROGRAM = os.path.join(CRATE, "out", "bench_core")
 COUNT = 100
 LENGTH = 200
 # a disk in memory keeps all that was written to it
 MOST = {"memory": 4096}
 
 
-def program():
-    if not os.path.exists(PROGRAM):
-        subprocess.run(["rt", "run", "--", "queue", "1", "1"], cwd=CRATE, check=True, stdout=subprocess.DEVNULL)
-    return PROGRAM
-
-
 def timed(kind, turns):
     start = time.monotonic()
-    subprocess.run([program(), kind, str(turns), str(COUNT)], check=True)
+    subprocess.run([program(), "core", kind, str(turns), str(COUNT)], check=True)
     return time.monotonic() - start
 
 

@@ -1,7 +1,7 @@
 #!/usr/bin/env python3
 """What an expansion takes in time and memory where a text makes as much work of few bytes as it can.
 
-    bench/expansion.py [PROGRAM]     by default the program that syslogr builds
+    bench/expansion.py [PROGRAM]     by default the program that is proved
 
 It makes one text for each family, runs `PROGRAM check FILE` on it, which expands it and mostly refuses it, and
 prints the text's bytes, the seconds, the processor's seconds and the most memory held, as /usr/bin/time (GNU)

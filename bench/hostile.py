@@ -2,7 +2,7 @@
 """What the program takes in time and memory where an input is hostile: rows of inputs that it must refuse or give up, and texts that
 make `check` do as much work for few bytes as they can.
 
-    bench/hostile.py [PROGRAM]     by default the program that syslogr builds
+    bench/hostile.py [PROGRAM]     by default the program that is proved
 
 The rows are printed first, each with its words, its seconds, the processor's seconds, the most memory held, and what was said. It
 ends with status 1 where a row takes more than two seconds of the processor or 64 MiB, or says or does something else than is written

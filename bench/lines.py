@@ -3,8 +3,8 @@
 syslog-ng where it is installed:
 
 - `syslogr run FILE --once` copies the lines of a file;
-- `bench_lines 3164` makes texts of a file destination of the lines of a file, of RFC 3164;
-- `bench_lines 5424` makes counted lines of counted records of RFC 5424, with three parameters each, which
+- `bench_parts lines 3164` makes texts of a file destination of the lines of a file, of RFC 3164;
+- `bench_parts lines 5424` makes counted lines of counted records of RFC 5424, with three parameters each, which
   it reads from a file; syslog-ng gets the same bytes over TCP, and writes lines.
 
     bench/lines.py [LINES [LENGTH [ROUNDS]]]     by default 1,000,000 lines of 200 bytes, 5 rounds
@@ -25,10 +25,10 @@ import sys
 import tempfile
 import time
 
+from parts import program
+
 TOP = os.path.dirname(os.path.dirname(os.path.abspath(__file__)))
 PROGRAM = os.path.join(TOP, "crates", "sg_top", "out", "sg_top")
-READER = os.path.join(TOP, "crates", "bench_lines")
-STEPS = os.path.join(READER, "out", "bench_lines")
 PULLS = "follow-freq(1) log-fetch-limit(1000) log-iw-size(10000)"
 SYSLOG_NG = 'source s { %s };\ndestination d { file("%s/out-ng" template("%s\\n")); };\nlog { source(s); destination(d); flags(flow-control); };\n'
 
@@ -177,14 +177,14 @@ def told(times, lines):
 def through(form, make, source, template, send, lines, length, rounds, reference, folder):
     """Measures the way of records to their frames."""
     make(os.path.join(folder, "in"), lines, length)
-    times = {"bench_lines " + form: [], "one write a line, in C": [], "syslog-ng": []}
+    times = {"lines " + form: [], "one write a line, in C": [], "syslog-ng": []}
     for _ in range(rounds):
         forget(folder)
         start = time.monotonic()
-        said = subprocess.run([STEPS, form, "in", "out"], cwd=folder, check=True, stdout=subprocess.PIPE).stdout
-        times["bench_lines " + form].append(time.monotonic() - start)
+        said = subprocess.run([program(), "lines", form, "in", "out"], cwd=folder, check=True, stdout=subprocess.PIPE).stdout
+        times["lines " + form].append(time.monotonic() - start)
         if int(said) != lines:
-            raise SystemExit("bench_lines didn't read each record")
+            raise SystemExit("bench_parts didn't read each record")
         if reference:
             times["one write a line, in C"].append(timed([reference, "in", "out-c"], folder))
         if shutil.which("syslog-ng"):
@@ -198,8 +198,7 @@ def main():
     lines, length, rounds = (int(word) for word in (sys.argv[1:] + ["1000000", "200", "5"][len(sys.argv) - 1 :]))
     if not os.path.exists(PROGRAM):
         subprocess.run([os.path.join(TOP, "syslogr")], check=False)
-    if not os.path.exists(STEPS):
-        subprocess.run(["rt", "run", "--", "5424", "data/in", "/dev/null"], cwd=READER, check=True, stdout=subprocess.DEVNULL)
+    program()
     with tempfile.TemporaryDirectory(prefix="syslogr-bench-") as folder:
         make_input(os.path.join(folder, "in"), lines, length)
         size = os.path.getsize(os.path.join(folder, "in"))
@@ -246,7 +245,7 @@ def main():
         template = "<$PRI>1 $ISODATE $HOST $PROGRAM $PID $MSGID $SDATA $MSG"
         through("5424", make_5424, source, template, sent_over_tcp(port), lines, length, rounds, reference, folder)
         make_descending(os.path.join(folder, "in"))
-        print("%-24s %12.3f seconds" % ("100,000 parameters", timed([STEPS, "5424", "in", "out"], folder)))
+        print("%-24s %12.3f seconds" % ("100,000 parameters", timed([program(), "lines", "5424", "in", "out"], folder)))
 
 
 if __name__ == "__main__":

@@ -3,39 +3,21 @@
 
     bench/paths.py [TURNS]     by default 1,000,000 times each
 
-It runs `bench_paths`, which it builds where it isn't built yet. What the path takes is the time of a routed record less
+It runs `bench_parts paths`, which it builds where it isn't built yet. What the path takes is the time of a routed record less
 that of its reading; the script ends with status 1 where it is more than half of the reading. Where valgrind is
 installed it says the instructions and the allocations of a record too, which hang on nothing else that the machine does.
 """
-import os
 import re
-import resource
 import shutil
 import subprocess
 import sys
 
-TOP = os.path.dirname(os.path.dirname(os.path.abspath(__file__)))
-CRATE = os.path.join(TOP, "crates", "bench_paths")
-PROGRAM = os.path.join(CRATE, "out", "bench_paths")
-
-
-def program():
-    if not os.path.exists(PROGRAM):
-        subprocess.run(["rt", "run", "--", "read", "1"], cwd=CRATE, check=True, stdout=subprocess.DEVNULL)
-    return PROGRAM
-
-
-def used(what, turns):
-    """Seconds of processor time of one run."""
-    before = resource.getrusage(resource.RUSAGE_CHILDREN)
-    subprocess.run([program(), what, str(turns)], check=True)
-    after = resource.getrusage(resource.RUSAGE_CHILDREN)
-    return after.ru_utime + after.ru_stime - before.ru_utime - before.ru_stime
+from parts import program, used
 
 
 def said(tool, pattern, what, turns):
     """The number that valgrind says of one run."""
-    words = ["valgrind", *tool, program(), what, str(turns)]
+    words = ["valgrind", *tool, program(), "paths", what, str(turns)]
     text = subprocess.run(words, check=True, stderr=subprocess.PIPE, text=True).stderr
     return int(re.search(pattern, text).group(1).replace(",", ""))
 
@@ -49,7 +31,7 @@ def counted(tool, pattern):
 def main():
     turns = int(sys.argv[1]) if len(sys.argv) > 1 else 1_000_000
     program()
-    read, route = (min(used(what, turns) - used(what, 0) for _ in range(3)) / turns * 1e6 for what in ("read", "route"))
+    read, route = (min(used("paths", what, turns) - used("paths", what, 0) for _ in range(3)) / turns * 1e6 for what in ("read", "route"))
     print("reading: %.3f microseconds; the path besides: %.3f, at most half of it" % (read, route - read))
     if shutil.which("valgrind"):
         instructions = counted(["--tool=callgrind", "--callgrind-out-file=/dev/null"], r"Collected : (\d+)")

@@ -4,7 +4,7 @@ how often a second the same disk makes one write of as many bytes stable by fdat
 
     bench/spool.py [FOLDER [SECONDS]]     by default the folder for temporary files, about 2 seconds each
 
-It runs `bench_spool`, which it builds where it isn't built yet. A commit syncs twice. It ends with status 1
+It runs `bench_parts spool`, which it builds where it isn't built yet. A commit syncs twice. It ends with status 1
 where 100 staged aren't at least 20 times as fast as one.
 """
 import os
@@ -13,16 +13,9 @@ import sys
 import tempfile
 import time
 
-TOP = os.path.dirname(os.path.dirname(os.path.abspath(__file__)))
-CRATE = os.path.join(TOP, "crates", "bench_spool")
-PROGRAM = os.path.join(CRATE, "out", "bench_spool")
+from parts import program
+
 LENGTH = 200
-
-
-def program():
-    if not os.path.exists(PROGRAM):
-        subprocess.run(["rt", "run", "--", "bench.store", "1", "1"], cwd=CRATE, check=True, stdout=subprocess.DEVNULL)
-    return PROGRAM
 
 
 def syncs_per_second(folder, seconds, length=LENGTH):
@@ -39,7 +32,7 @@ def syncs_per_second(folder, seconds, length=LENGTH):
 
 def timed(path, commits, staged):
     start = time.monotonic()
-    subprocess.run([program(), path, str(commits), str(staged)], check=True)
+    subprocess.run([program(), "spool", path, str(commits), str(staged)], check=True)
     return time.monotonic() - start
 
 

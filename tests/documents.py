@@ -72,13 +72,13 @@ faults = re.findall(r'=> "([^"]+)"', read("crates/sg_report/src/fault.rt"))
 expect("faults in FORMATS.md", [f for f in faults if f"`{f}`" not in formats])
 expect("faults in syslogr.conf.5", [f for f in faults if f not in " ".join(page5.split())])
 
-code = read("crates/sg_run/src/end.rt") + read("crates/sg_top/src/status.rt")
+code = read("crates/sg_run/src/end.rt") + read("crates/sg_daemon/src/status.rt")
 statuses = set(re.findall(r"=> (\d+),", code))
 expect("statuses in FORMATS.md", [s for s in statuses if f"\n| {s} | " not in formats])
 expect("statuses in syslogr.8", [s for s in statuses if f"\n.It {s}\n" not in page8])
 expect("statuses in ARCHITECTURE.md", [s for s in statuses if f"\n| {s} | " not in architecture])
 
-say = read("crates/sg_top/src/say.rt")
+say = read("crates/sg_daemon/src/say.rt")
 for line in re.findall(r'b"(usage: .*?|syslogr .*?)\\n"', say):
     expect("what --help and --version say, in FORMATS.md", [] if line in formats.replace("\\|", "|") else [line])
 
@@ -166,7 +166,7 @@ for line in promises[: promises.index("## What is tested")].splitlines():
     row = re.fullmatch(r"\| (.+) \| (.+) \|", line)
     if row and row.group(1) != "claim":
         spans = re.findall(r"`([^`]+)`", row.group(2))
-        beside = [span for span in spans if re.fullmatch(r"sg_\w+", span)] + (["sg_top"] if "sg_top" in section else [])
+        beside = [span for span in spans if re.fullmatch(r"sg_\w+", span)] + (["sg_daemon"] if "sg_daemon" in section else [])
         files = [span for span in spans if span.endswith(".antt")]
         expect(f"files of a claim: {line[:60]}", [file for file in files if not any(os.path.exists(f"crates/{crate}/{file}") for crate in beside)])
         names = {name for span in spans if span not in beside + files for name in re.findall(r"\w+", span)}

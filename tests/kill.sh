@@ -3,12 +3,12 @@
 # the destination file, in order of its first time there, and the stores open. A line may stand there twice, and a kill may leave the
 # beginning of one. It does so with a queue in memory, and with a disk-buffer.
 top=$(cd "$(dirname "$0")/.." && pwd)
+program=$top/crates/sg_top/out/sg_top
+[ -x "$program" ] || { echo "kill: there is no program $program: \`./syslogr --prove\` makes it, and so does \`.ci/run\`"; exit 2; }
 folder=$(mktemp -d) || exit 2
 trap 'rm -rf "$folder"' EXIT
 cd "$folder" || exit 2
 all=20 lines=2000 width=16 most=200
-
-"$top/syslogr" >/dev/null 2>build || [ $? = 1 ] || { cat build; exit 2; }
 
 grow() {
     seq $((round * lines + 1)) $(((round + 1) * lines)) | awk '{ printf "line %06d end.\n", $1 }' >>in
@@ -25,20 +25,20 @@ kills() {
     # How long a whole run takes.
     grow
     start=$(date +%s%N)
-    "$top/syslogr" run c --once >said 2>errors || { echo "kill: $1: the first run failed"; cat said errors; return 1; }
+    "$program" run c --once >said 2>errors || { echo "kill: $1: the first run failed"; cat said errors; return 1; }
     took=$(($(date +%s%N) - start))
 
     while [ $killed -lt $all ]; do
         [ $round -lt $most ] || { echo "kill: $1: only $killed of $round runs were killed before they ended"; return 1; }
         grow
-        "$top/syslogr" run c --once >said 2>errors &
+        "$program" run c --once >said 2>errors &
         process=$!
         sleep "$(od -An -N2 -tu2 /dev/urandom | awk -v took="$took" '{ print $1 / 65536 * took / 1000000000 }')"
         kill -9 $process 2>/dev/null
         wait $process 2>/dev/null
         [ $? = 137 ] && killed=$((killed + 1))
     done
-    "$top/syslogr" run c --once >said 2>errors
+    "$program" run c --once >said 2>errors
     status=$?
     [ $status = 0 ] || { echo "kill: $1: the last run ended with status $status"; cat said errors; return 1; }
 

@@ -1,7 +1,7 @@
 #!/usr/bin/env python3
 """Runs of the real program over growing files, each of them killed at a moment of chance.
 
-    tests/kills.py [COUNT [PROGRAM]]     by default 400 runs of the program that syslogr builds
+    tests/kills.py [COUNT [PROGRAM]]     by default 400 runs of the program that is proved
 
 The records of two files go by one log path with flow-control to two destinations, of which one has a disk-buffer and takes nothing
 in every fourth run or so, so that entries wait there. Each run is killed (SIGKILL) while lines and parts of lines are appended to

@@ -1,5 +1,5 @@
 #!/usr/bin/env python3
-"""Longer series of the program test_moments, which aren't part of the gate.
+"""Longer series of rows `moments` of the program test_program, which aren't part of the gate.
 
     tests/moments.py [SEED [COUNT [PROGRAM]]]     by default 1, 20000, and the program that rt builds
 
@@ -16,7 +16,7 @@ import subprocess
 import sys
 
 TOP = os.path.dirname(os.path.dirname(os.path.abspath(__file__)))
-CRATE = os.path.join(TOP, "crates", "test_moments")
+CRATE = os.path.join(TOP, "crates", "test_program")
 PICKS = ["o", "n", "1", "0", "on", "no", "1o", "0n", "n0", "o1n"]
 BEGINS = ["fresh", "older"]
 SENDS = 5
@@ -29,7 +29,7 @@ def answers(program, rows):
     parts = [rows[k::count] for k in range(count)]
 
     def answer(part):
-        ran = subprocess.run([program], input="".join(row + "\n" for row in part), stdout=subprocess.PIPE, text=True)
+        ran = subprocess.run([program], input="".join("moments %s\n" % row for row in part), stdout=subprocess.PIPE, text=True)
         said = ran.stdout.splitlines()
         if ran.returncode != 0 or len(said) != len(part):
             sys.exit("the program ended with status %d behind %d of %d rows" % (ran.returncode, len(said), len(part)))
@@ -46,7 +46,7 @@ def is_right(said):
 def main():
     seed = int(sys.argv[1]) if len(sys.argv) > 1 else 1
     count = int(sys.argv[2]) if len(sys.argv) > 2 else 20_000
-    program = os.path.abspath(sys.argv[3]) if len(sys.argv) > 3 else os.path.join(CRATE, "out", "test_moments")
+    program = os.path.abspath(sys.argv[3]) if len(sys.argv) > 3 else os.path.join(CRATE, "out", "test_program")
     if not os.path.exists(program):
         with open(os.path.join(CRATE, "stdin")) as rows:
             subprocess.run(["rt", "run"], cwd=CRATE, stdin=rows, stdout=subprocess.DEVNULL, check=True)

@@ -1,6 +1,10 @@
 #!/bin/sh
-# Runs the program through its launcher over real files: what it writes, what it says and how it ends.
+# Runs the program over real files: what it writes, what it says and how it ends.
+#   tests/real_files.sh [PROGRAM]
 top=$(cd "$(dirname "$0")/.." && pwd)
+program=${1:-$top/crates/sg_top/out/sg_top}
+[ -x "$program" ] || { echo "real_files: there is no program $program: \`./syslogr --prove\` makes it, and so does \`.ci/run\`"; exit 2; }
+export GLIBC_TUNABLES=glibc.malloc.tcache_count=1000 # as the launcher sets it
 folder=$(mktemp -d) || exit 2
 mounted=
 trap '[ -z "$mounted" ] || umount "$folder/small"; rm -rf "$folder"' EXIT
@@ -21,7 +25,7 @@ expect() {
 again() {
     name=$1 status=$2 said=$3 out=$4
     shift 4
-    timeout 60 "$top/syslogr" "$@" >said 2>errors
+    timeout 60 "$program" "$@" >said 2>errors
     got=$?
     printf "$said" >said.wanted
     printf "$told" >told.wanted
@@ -54,7 +58,6 @@ config() {
 window='2s/no-parse)/no-parse) log-iw-size(100)/'
 buffer='3s/"));/") disk-buffer(reliable(yes) disk-buf-size(1048576)));/'
 
-"$top/syslogr" >/dev/null 2>build || [ $? = 1 ] || { cat build; exit 2; }
 usage='usage: syslogr check FILE | trace FILE SOURCE INPUT | run FILE [--once] [--rounds N] | spool FILE | drill N\n'
 
 config in out >c
@@ -236,7 +239,7 @@ if [ -w /dev/full ]; then
     printf 'one\n' >in
 told='destination /dev/full: cannot write: No space left on device (os error 28)\n'
     expect 'a full disk' 6 "$(report 1 0 0 1 'fault sink 0\n' 6)" - run c4 --once
-    "$top/syslogr" run c --once >/dev/full 2>errors
+    "$program" run c --once >/dev/full 2>errors
     if [ $? = 10 ] && [ ! -s errors ]; then passed=$((passed + 1)); else failed=$((failed + 1)); echo 'a full standard output: not status 10'; fi
 fi
 
@@ -346,20 +349,20 @@ if command -v flock >/dev/null; then
     exec 9>&-
 fi
 if [ -w /dev/full ]; then
-    "$top/syslogr" spool q >/dev/full 2>errors
+    "$program" spool q >/dev/full 2>errors
     if [ $? = 10 ] && [ ! -s errors ]; then passed=$((passed + 1)); else failed=$((failed + 1)); echo 'a list to a full standard output: not status 10'; fi
 fi
 
 # Standard output and standard error may be pipes without a reader.
-{ sleep 0.3; "$top/syslogr" --help; echo $? >ended; } 2>errors | :
+{ sleep 0.3; "$program" --help; echo $? >ended; } 2>errors | :
 if [ "$(cat ended)" = 10 ] && [ ! -s errors ]; then passed=$((passed + 1)); else failed=$((failed + 1)); echo 'a standard output without a reader: not status 10'; fi
-{ sleep 0.3; "$top/syslogr" check none >said; echo $? >ended; } 2>&1 | :
+{ sleep 0.3; "$program" check none >said; echo $? >ended; } 2>&1 | :
 if [ "$(cat ended)" = 3 ] && [ "$(cat said)" = 'cannot read none' ]; then passed=$((passed + 1)); else failed=$((failed + 1)); echo 'a standard error without a reader: not status 3'; fi
 rm ended
 
-bench=$top/crates/bench_spool/out/bench_spool
+bench=$top/crates/bench_parts/out/bench_parts
 if [ -x "$bench" ]; then
-    "$bench" made 100 30 && "$top/syslogr" spool made >said 2>errors
+    "$bench" spool made 100 30 && "$program" spool made >said 2>errors
     [ $? = 0 ] && { seq -f 'entry %.0f source 0 end 4 flow yes length 200' 0 2999; echo 'entries 3000'; } | cmp -s - said && passed=$((passed + 1)) || { failed=$((failed + 1)); echo 'a disk-buffer of 3,000 entries: not the same'; }
 fi
 
@@ -371,17 +374,17 @@ if mount -t tmpfs -o size=16k none small 2>/dev/null; then
     head -c 9000 /dev/zero >small/filler
     seq -f 'line %05g' 1 700 >in
     config in small/out >c7
-    timeout 60 "$top/syslogr" run c7 --once >said 2>errors
+    timeout 60 "$program" run c7 --once >said 2>errors
     [ $? = 6 ] && head -n "$(grep -c '' small/out)" in | cmp -s - small/out && passed=$((passed + 1)) || { failed=$((failed + 1)); echo 'a full disk: no whole lines'; }
     rm small/filler
-    timeout 60 "$top/syslogr" run c7 --once >said 2>errors
+    timeout 60 "$program" run c7 --once >said 2>errors
     [ $? = 0 ] && sort -u small/out | cmp -s - in && passed=$((passed + 1)) || { failed=$((failed + 1)); echo 'space again: a torn line, or one that is missing'; }
     umount small && mounted=
 fi
 
 # start_run WORD..: starts a run that goes on, and leaves its process in $process.
 start_run() {
-    timeout 60 "$top/syslogr" "$@" >said 2>errors &
+    timeout 60 "$program" "$@" >said 2>errors &
     process=$!
 }
 
@@ -562,14 +565,14 @@ if command -v python3 >/dev/null; then
     same 'what a disk-buffer held' 'one\n' one
     rm -f pos-* queue-*
     seq -f 'line %.0f' 1 300 >in
-    timeout 60 "$top/syslogr" run buffered --once >said 2>errors
+    timeout 60 "$program" run buffered --once >said 2>errors
     [ $? = 6 ] && grep -q '^source 0 records 300 bad-frames 0 position 2592$' said && grep -q '^destination 0 taken 0 dropped-full 0 dropped-disk 0 left 300$' said && passed=$((passed + 1)) || { failed=$((failed + 1)); echo 'a disk-buffer without a peer:'; cat said errors; }
-    "$top/syslogr" spool "queue-network,127.0.0.1,$port" >said 2>errors
+    "$program" spool "queue-network,127.0.0.1,$port" >said 2>errors
     [ $? = 0 ] && tail -n 1 said | grep -q '^entries 300$' && passed=$((passed + 1)) || { failed=$((failed + 1)); echo 'the entries of a disk-buffer:'; tail -n 3 said; cat errors; }
     timeout 60 python3 peer.py take "$port" 300 third &
     peer=$!
     until [ -e third.listens ] || ! kill -0 $peer 2>/dev/null; do sleep 0.1; done
-    timeout 60 "$top/syslogr" run buffered --once >said 2>errors
+    timeout 60 "$program" run buffered --once >said 2>errors
     [ $? = 0 ] && wait $peer && cmp -s in third && passed=$((passed + 1)) || { failed=$((failed + 1)); echo 'a disk-buffer with its peer back:'; cat said errors; }
 
     # A usual distribution file, with the files of this folder.
@@ -590,7 +593,7 @@ if command -v python3 >/dev/null; then
     port=$(python3 peer.py port)
     printf '@version: 4.2\nsource s { network(ip("127.0.0.1") port(%s) max-connections(8) flags(no-parse)); };\ndestination d { file("out" template("$MSG\\n")); };\nlog { source(s); destination(d); flags(flow-control); };\n' "$port" >eight
     timeout 60 python3 peer.py give "$port" 8 500 &
-    timeout 60 "$top/syslogr" run eight --once >said 2>errors
+    timeout 60 "$program" run eight --once >said 2>errors
     [ $? = 0 ] && grep -q '^source 0 records 4000 bad-frames 0$' said && passed=$((passed + 1)) || { failed=$((failed + 1)); echo 'eight connections:'; cat said errors; }
     for n in 0 1 2 3 4 5 6 7; do seq -f "peer $n line %.0f" 0 499; done >wanted
     for n in 0 1 2 3 4 5 6 7; do grep "^peer $n " out; done >got
@@ -599,7 +602,7 @@ fi
 
 rm -f out pos-*
 seq 1 100000 >in
-"$top/syslogr" run c --once >/dev/null
+"$program" run c --once >/dev/null
 if cmp -s in out; then passed=$((passed + 1)); else failed=$((failed + 1)); echo 'a hundred thousand lines: not the same'; fi
 
 echo "$passed passed, $failed failed"

@@ -1,7 +1,7 @@
 #!/usr/bin/env python3
 """The real program with one allocation refused in each run: the first, the second and so on, up to a run that makes fewer.
 
-    tests/starved.py [PROGRAM]     by default the program that syslogr builds
+    tests/starved.py [PROGRAM]     by default the program that is proved
 
 It does so with a run of two lines, a run of five lines through a disk-buffer, a run of four files to a destination each, whose
 rounds are taken on threads, `drill 8`, and `check` of a distribution's configuration. Each run must end with status 11 and say

@@ -1,6 +1,6 @@
 #!/bin/sh
 # Counts the system's calls that make things last, by strace: those that a store and a destination promise. It isn't part of the gate.
-#   tests/syncs.sh [PROGRAM]    the program syslogr, else the one that the launcher builds
+#   tests/syncs.sh [PROGRAM]    the program, by default the one that is proved
 top=$(cd "$(dirname "$0")/.." && pwd)
 command -v strace >/dev/null || { echo 'strace is not installed'; exit 2; }
 program=${1:-$top/crates/sg_top/out/sg_top}

@@ -234,7 +234,7 @@ begun-place files plan reached run i s source closed holds rewinds fed here has 
     ap (λ (y : Option ℕ). stored_in run.begun.stores y) (store-by-setup run.begun plan.setup.sources i source begun_sources here ∙ has)
     ∙ ap position_of store.1.0 ∙ store.1.1 ∙ unmoved ∙ opening ∙ sym fed.from
 
-some-of : {A : Type 0} (o : Option A) → is_some o ≡ true → (x : A) × (o ≡ Some x)
+pub some-of : {A : Type 0} (o : Option A) → is_some o ≡ true → (x : A) × (o ≡ Some x)
 some-of None h = absurd (let wrong : false ≡ true = h in cc)
 some-of (Some x) h = (x, refl)
 
@@ -244,7 +244,7 @@ disk-closed reached run s store disks at = ap (λ (ds : List DiskState). slice_g
 
 -- Lists.
 
-no-coded : (list : List Kept) → map coded list ≡ [] → list ≡ []
+pub no-coded : (list : List Kept) → map coded list ≡ [] → list ≡ []
 no-coded [] h = refl
 no-coded (k ∷ list) h = absurd (omega (arith, ap length h))
 
@@ -252,7 +252,7 @@ listed-none-if : (list : List Kept) (b : Bool) → (b ≡ true → list ≡ []) 
 listed-none-if list true h = h refl
 listed-none-if list false h = refl
 
-listed-none : (a : Option DestSetup) (l : Option (List Kept)) → ((s : DestSetup) (list : List Kept) → a ≡ Some s → l ≡ Some list → is_some s.buffer ≡ true → list ≡ []) → listed a l ≡ []
+pub listed-none : (a : Option DestSetup) (l : Option (List Kept)) → ((s : DestSetup) (list : List Kept) → a ≡ Some s → l ≡ Some list → is_some s.buffer ≡ true → list ≡ []) → listed a l ≡ []
 listed-none None l h = refl
 listed-none (Some s) None h = refl
 listed-none (Some s) (Some list) h = listed-none-if list (is_some s.buffer) (λ b. h s list refl refl b)

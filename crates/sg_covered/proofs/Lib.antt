@@ -7,4 +7,7 @@ pub mod RunLemmas
 pub mod CleanLemmas
 pub mod RestLemmas
 pub mod UnopenedLemmas
+pub mod FreshLemmas
+pub mod LineLemmas
+pub mod ResumedLemmas
 pub mod AllLemmas

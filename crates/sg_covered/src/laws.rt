@@ -1,6 +1,7 @@
 // What a plan's runs leave covered.
 ghost use Rattle.sg_covered.specs.All.{PlanRunsAddUp};
 ghost use Rattle.sg_covered.specs.Clean.{PlanRunsEndClean};
+ghost use Rattle.sg_covered.specs.Fresh.{NewAreCovered, PlanRunsStayCovered, PlanRunsTakeOnce};
 ghost use Rattle.sg_covered.specs.Rest.{PlanRunsRest};
 ghost use Rattle.sg_covered.specs.Runs.{PlanRunsCover, PlanRunsHappen};
 
@@ -54,6 +55,37 @@ pub fn plan_runs_end_clean<W: World, R: Router>(world: &W, router: &[R])
 /// of which each offer with flow-control was taken at least once, and nothing but offers was taken.
 pub fn plan_runs_add_up<W: World, R: Router>(world: &W, router: &[R])
     ensures { PlanRunsAddUp W.Feed.state W.Drain.state R.offers R.inlets R.dests }
+{
+    clean_runs_end(world, router);
+    images_are_safe();
+    images_between_are_safe();
+    lists_are_one();
+}
+
+/// Stores as they are made, of whose files nothing was read, are covered by nothing.
+pub fn new_stores_are_covered<R: Router>(router: &[R])
+    ensures { NewAreCovered R.offers }
+{
+    let _router = router;
+    lists_are_one();
+}
+
+/// Any number of a plan's runs from new stores on, each stopped at any moment, also the last, leave covered
+/// what they took and the records that came in.
+pub fn plan_runs_stay_covered<W: World, R: Router>(world: &W, router: &[R])
+    ensures { PlanRunsStayCovered W.Feed.state W.Drain.state R.offers R.inlets R.dests }
+{
+    clean_runs_end(world, router);
+    images_are_safe();
+    images_between_are_safe();
+    lists_are_one();
+}
+
+/// Where each of a plan's runs ended quietly, with nothing counted as failed, from new stores on, each
+/// record of each file came in once, and of its offers each destination took each once, but for those
+/// that were dropped without flow-control.
+pub fn plan_runs_take_once<W: World, R: Router>(world: &W, router: &[R])
+    ensures { PlanRunsTakeOnce W.Feed.state W.Drain.state R.offers R.inlets R.dests }
 {
     clean_runs_end(world, router);
     images_are_safe();

@@ -5,5 +5,6 @@
 mod laws;
 
 pub use laws::{
-    plan_runs_add_up, plan_runs_cover, plan_runs_end_clean, plan_runs_happen, plan_runs_rest,
+    new_stores_are_covered, plan_runs_add_up, plan_runs_cover, plan_runs_end_clean,
+    plan_runs_happen, plan_runs_rest, plan_runs_stay_covered, plan_runs_take_once,
 };

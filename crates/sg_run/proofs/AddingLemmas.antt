@@ -21,9 +21,13 @@ use Rattle.sg_serve.specs.declared.ending.PlanEnded.TheVariants.{Before, Ran}
 use Rattle.sg_serve.specs.declared.plan.RunPlan.{RunPlan}
 use Rattle.sg_turns.specs.declared.ended.Ended.{Ended}
 use Rattle.sg_turns.specs.declared.ended.Ended.TheVariants.{Quiet, RoundsSpent as Spent, NoMemory}
-use Rattle.sg_covered.specs.All.{PlanRunsFollow, PlanRunsAddUp}
+use Rattle.sg_runs.specs.Law.{position_in}
+use Rattle.sg_covered.specs.All.{EndsWell, PlanRunsFollow, PlanRunsAddUp}
 use Rattle.sg_covered.specs.All.{Opened as PlanOpened}
+use Rattle.sg_covered.specs.Fresh.{new_stores, NewAreCovered, PlanRunsStayCovered, AllEndWell, PlanRunsTakeOnce}
+use Rattle.sg_covered.specs.Runs.{held_by}
 use Rattle.sg_run.specs.Adding.{ConfigRun, ConfigRunOf, Opened, Unopened, plan_run, run_of, ConfigRunsFollow, IsClean, ConfigRunsAddUp}
+use Rattle.sg_run.specs.Fresh.{NewConfigRunsAddUp, ConfigRunsStayCovered, ReturnsClean, AllReturnClean, ConfigRunsTakeOnce}
 use Rattle.sg_run.specs.Ends.{quiet_end, end_after, early_end}
 use Rattle.sg_run.specs.Meaning.{planned, AreRouters}
 use Rattle.sg_run.specs.Outcomes.{Tells}
@@ -31,7 +35,7 @@ use Rattle.sg_run.specs.Run.{offers_by, inlets_by, dests_by}
 use Rattle.sg_run.specs.declared.end.End.{End}
 use Rattle.sg_run.specs.declared.end.End.TheVariants.{Clean, OpenFault, Damage, SinkFault, DiskFault, InletFault, RoundsSpent}
 use Rattle.sg_run.specs.declared.end.Outcome.{Outcome}
-use Rattle.sg_run.proofs.FileLemmas.{reads-files}
+use Rattle.sg_run.proofs.FileLemmas.{reads-files, have-limits}
 use Rattle.sg_run.proofs.PlanLemmas.{runnable}
 
 -- Status 0.
@@ -90,3 +94,62 @@ config-runs-add-up feed drain within direct add tokens config by are bytes taken
     let well = ends-well (planned config last.once) (last.ran).ending last.result (last.ran).tells clean in
     add (planned config false) by bytes taken passes before (map (run_of by are) runs) (plan_run by are last) can reads.0 reads.1 covered (follow-by feed drain config by are bytes before runs last follow)
     (record { counts = well.counts; ending_is = well.ending_is; well = well.well; returned = returned })
+
+-- From new stores on.
+
+module _ {I O : Type 0} (feed : I → InletState) (drain : O → OutletState) (config : Config) (by : List Pipes) (are : AreRouters config by) where
+  follow-all : (bytes : ℕ → List ℕ) (before : List (List ℕ)) (runs : List (ConfigRunOf feed drain config)) → ConfigRunsFollow by are bytes before runs → PlanRunsFollow feed drain offers_by inlets_by dests_by (planned config false) by bytes before (map (run_of by are) runs)
+  follow-all bytes before [] follow = tt
+  follow-all bytes before (Opened run ∷ runs) follow = (
+    follow.0,
+    record { runs = (run.ran).runs; core = run.core_is; stores = (follow.1).stores; files = (follow.1).files; stops = (follow.1).stops },
+    follow-all run.bytes run.images runs follow.2,
+  )
+  follow-all bytes before (Unopened run ∷ runs) follow = (record { runs = (run.ran).runs; stops = follow.0 }, follow-all bytes run.images runs follow.1)
+
+  follow-opened : (bytes : ℕ → List ℕ) (before : List (List ℕ)) (runs : List (ConfigRun feed drain config)) (last : ConfigRun feed drain config) → ConfigRunsFollow by are bytes before (map Opened (runs ++ last ∷ []))
+      → PlanRunsFollow feed drain offers_by inlets_by dests_by (planned config false) by bytes before (map PlanOpened (map (plan_run by are) runs ++ plan_run by are last ∷ []))
+  follow-opened bytes before [] last follow = (
+    follow.0,
+    record { runs = (last.ran).runs; core = last.core_is; stores = (follow.1).stores; files = (follow.1).files; stops = (follow.1).stops },
+    tt,
+  )
+  follow-opened bytes before (run ∷ runs) last follow = (
+    follow.0,
+    record { runs = (run.ran).runs; core = run.core_is; stores = (follow.1).stores; files = (follow.1).files; stops = (follow.1).stops },
+    follow-opened run.bytes run.images runs last follow.2,
+  )
+
+  returns-well : (run : ConfigRun feed drain config) → ReturnsClean by are run → EndsWell (plan_run by are run)
+  returns-well run r =
+      let well = ends-well (planned config run.once) (run.ran).ending run.result (run.ran).tells r.clean in
+      record { counts = well.counts; ending_is = well.ending_is; well = well.well; returned = r.returned }
+
+  all-return-well : (runs : List (ConfigRun feed drain config)) (last : ConfigRun feed drain config) → AllReturnClean by are (runs ++ last ∷ []) → AllEndWell (map (plan_run by are) runs ++ plan_run by are last ∷ [])
+  all-return-well [] last all = (returns-well last all.0, tt)
+  all-return-well (run ∷ runs) last all = (returns-well run all.0, all-return-well runs last all.1)
+
+pub new-runs-add-up : {I O : Type 0} (feed : I → InletState) (drain : O → OutletState) → ((tokens : List Token) (config : Config) → Means tokens config → IsWithin config) → ((tokens : List Token) (config : Config) → Means tokens config → AreDirect config.outlets.items)
+    → NewAreCovered offers_by → PlanRunsAddUp feed drain offers_by inlets_by dests_by → NewConfigRunsAddUp feed drain
+new-runs-add-up feed drain within direct fresh add tokens config by are bytes runs last means follow clean returned =
+    let plan = planned config false in
+    let can = runnable config false (within tokens config means) (direct tokens config means) in
+    config-runs-add-up feed drain within direct add tokens config by are bytes [] [] (new_stores plan) runs last means
+    (λ lists in_lists. fresh plan by bytes (position_in (held_by config.setup (new_stores plan) lists)) lists can in_lists) follow clean returned
+
+pub config-runs-stay-covered : {I O : Type 0} (feed : I → InletState) (drain : O → OutletState) → ((tokens : List Token) (config : Config) → Means tokens config → IsWithin config)
+    → ((tokens : List Token) (config : Config) → Means tokens config → AreDirect config.outlets.items) → PlanRunsStayCovered feed drain offers_by inlets_by dests_by → ConfigRunsStayCovered feed drain
+config-runs-stay-covered feed drain within direct stay tokens config by are bytes runs lists means follow in_lists =
+    let reads = reads-files tokens config false means in
+    let can = runnable config false (within tokens config means) (direct tokens config means) in
+    let plan = planned config false in
+    stay plan by bytes (map (run_of by are) runs) lists can reads.0 reads.1 (follow-all feed drain config by are bytes (new_stores plan) runs follow) in_lists
+
+pub config-runs-take-once : {I O : Type 0} (feed : I → InletState) (drain : O → OutletState) → ((tokens : List Token) (config : Config) → Means tokens config → IsWithin config)
+    → ((tokens : List Token) (config : Config) → Means tokens config → AreDirect config.outlets.items) → PlanRunsTakeOnce feed drain offers_by inlets_by dests_by → ConfigRunsTakeOnce feed drain
+config-runs-take-once feed drain within direct once tokens config by are bytes runs last means follow all =
+    let reads = reads-files tokens config false means in
+    let can = runnable config false (within tokens config means) (direct tokens config means) in
+    let plan = planned config false in
+    once plan by bytes (map (plan_run by are) runs) (plan_run by are last) can reads.0 reads.1 (have-limits tokens config false means) (follow-opened feed drain config by are bytes (new_stores plan) runs last follow)
+    (all-return-well feed drain config by are runs last all)

@@ -34,12 +34,14 @@ use Rattle.sg_plan.specs.Reading.{IsRead, AreRead}
 use Rattle.sg_config.specs.Means.{Means}
 use Rattle.sg_config.specs.declared.config.Config.{Config}
 use Rattle.sg_runs.specs.Covered.{IsFile}
+use Rattle.sg_covered.specs.Fresh.{HasLimit, HaveLimits}
 use Rattle.sg_covered.specs.Runs.{IsOfFile}
 use Rattle.sg_run.specs.Covering.{ReadsFiles}
+use Rattle.sg_run.specs.Meaning.{planned}
 
--- the inlet is that of a file, and read by lines, where it has a store
+-- the inlet is that of a file, and read by lines that its device cuts where the framing does, where it has a store
 abbrev IsTied : SourceSetup → InletPlan → Type 0
-IsTied setup inlet = is_some setup.store ≡ true → IsOfFile inlet.spec × (inlet.kind ≡ Lines)
+IsTied setup inlet = is_some setup.store ≡ true → IsOfFile inlet.spec × (inlet.kind ≡ Lines) × HasLimit inlet.spec inlet.limit
 
 abbrev AreTied : List SourceSetup → List InletPlan → Type 0
 AreTied [] inlets = Unit {0}
@@ -69,8 +71,11 @@ tied-slots (suc n) setup f [] each = tt
 tied-slots (suc n) setup f (x ∷ slots) each = (each x, tied-slots n setup f slots each)
 
 -- a driver that has a store is of a file, and reads lines
-of-kind : (kind : DriverKind) (call : Call) (count limit slot : ℕ) (place : Place) (frames : FrameKind) → place ≡ place_by kind call → frames ≡ frames_by kind → is_some (number_by count (store_at place)) ≡ true → IsOfFile (spec_at place limit slot) × (frames ≡ Lines)
-of-kind File call count limit slot place frames is by has = let P : Place → Type 0 = λ p. IsOfFile (spec_at p limit slot) in (subst P (sym is) tt, by)
+of-kind : (kind : DriverKind) (call : Call) (count limit slot : ℕ) (place : Place) (frames : FrameKind) → place ≡ place_by kind call → frames ≡ frames_by kind → is_some (number_by count (store_at place)) ≡ true → IsOfFile (spec_at place limit slot) × (frames ≡ Lines) × HasLimit (spec_at place limit slot) limit
+of-kind File call count limit slot place frames is by has =
+    let P : Place → Type 0 = λ p. IsOfFile (spec_at p limit slot) in
+    let Q : Place → Type 0 = λ p. HasLimit (spec_at p limit slot) limit in
+    (subst P (sym is) tt, by, subst Q (sym is) refl)
 of-kind Network call count limit slot place frames is by has = let P : Place → Type 0 = λ p. is_some (number_by count (store_at p)) ≡ true in absurd (let wrong : false ≡ true = subst P is has in cc)
 of-kind Syslog call count limit slot place frames is by has = let P : Place → Type 0 = λ p. is_some (number_by count (store_at p)) ≡ true in absurd (let wrong : false ≡ true = subst P is has in cc)
 
@@ -115,13 +120,16 @@ plan-tied statements plan is = subst Tied (sym is.parts) (drivers-tied (globals_
 
 -- The configuration.
 
-pub reads-files : (tokens : List Token) (config : Config) (once : Bool) → Means tokens config → ReadsFiles config once
-reads-files tokens config once means =
+tied-of : (tokens : List Token) (config : Config) → Means tokens config → (i : ℕ) (inlet : InletPlan) → IsFile config.setup i → slice_get config.inlets.items i ≡ Some inlet → IsOfFile inlet.spec × (inlet.kind ≡ Lines) × HasLimit inlet.spec inlet.limit
+tied-of tokens config means i inlet file at =
     let made = means.made in
     let all = plan-tied means.statements made.plan made.planned in
-    let tied : (i : ℕ) (inlet : InletPlan) → IsFile config.setup i → slice_get config.inlets.items i ≡ Some inlet → IsOfFile inlet.spec × (inlet.kind ≡ Lines) =
-    λ i inlet file at.
     let here : slice_get (made.plan).setup.sources i ≡ Some file.source = ap (λ (s : Setup). slice_get s.sources i) (sym made.setup) ∙ file.at in
     let there : slice_get (made.plan).inlets.items i ≡ Some inlet = ap (λ (ps : List InletPlan). slice_get ps i) (sym made.inlets) ∙ at in
-    tied-at (made.plan).setup.sources (made.plan).inlets.items i file.source inlet all.tied here there file.stored in
-    (λ i inlet file at. (tied i inlet file at).0, λ i inlet file at. (tied i inlet file at).1)
+    tied-at (made.plan).setup.sources (made.plan).inlets.items i file.source inlet all.tied here there file.stored
+
+pub reads-files : (tokens : List Token) (config : Config) (once : Bool) → Means tokens config → ReadsFiles config once
+reads-files tokens config once means = (λ i inlet file at. (tied-of tokens config means i inlet file at).0, λ i inlet file at. (tied-of tokens config means i inlet file at).1)
+
+pub have-limits : (tokens : List Token) (config : Config) (once : Bool) → Means tokens config → HaveLimits (planned config once)
+have-limits tokens config once means i inlet file at = (tied-of tokens config means i inlet file at).2

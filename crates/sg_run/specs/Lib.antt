@@ -7,3 +7,4 @@ pub mod Bounding
 pub mod Covering
 pub mod Run
 pub mod Adding
+pub mod Fresh

@@ -1,7 +1,7 @@
 -- What one run leaves is covered.
 use Rattle.std.proofs.Common.{◌≡◌, ℕ, ◌+◌, ◌<◌, ◌≤◌, List, [], ◌∷◌, ◌++◌, map, Some, None, Option, Bool, true, false, refl, sym, ap, ◌∙◌, subst, arith, inl, inr, ◌⊎◌, if◌then◌else◌, slice_get, append_assoc}
 use Rattle.std.specs.Prelude.{Contains, is_some, nat_le, option_and_then, option_to_list}
-use Rattle.std.proofs.lemmas.List.Elements.{Contains-append_left, Contains-append_right}
+use Rattle.std.proofs.lemmas.List.Elements.{Contains-append_left, Contains-append_right, Contains-append_cases}
 use Rattle.sg_list.proofs.ListLemmas.{slice_get-some, slice_get-below, some-same}
 use Rattle.sg_msg.specs.declared.offer.Offer.{Offer}
 use Rattle.sg_machine.specs.declared.event.Event.{Event}
@@ -16,7 +16,7 @@ use Rattle.sg_machine.specs.Verdicts.{is_listed}
 use Rattle.sg_machine.specs.Legal.{is_legal}
 use Rattle.sg_machine.specs.Effects.{after}
 use Rattle.sg_machine.specs.Runs.{Kept, opened_inlet, opened_dest, opened, after_all, are_legal}
-use Rattle.sg_machine.specs.Counts.{as_kept, kept_of, kept_entries, ends_admitted, opening_from}
+use Rattle.sg_machine.specs.Counts.{as_kept, kept_of, kept_entries, ends_by, ends_admitted, opening_from}
 use Rattle.sg_machine.specs.Safe.{Images, first_of, failing_position, failed_position, failed_entries, running_position, rises, settled_by, left_by, held_in}
 use Rattle.sg_machine.proofs.RunLemmas.{are_legal-parts, both-true}
 use Rattle.sg_machine.proofs.CountLemmas.{counts-dest}
@@ -86,7 +86,7 @@ legal-events setup offers before run h = (are_legal-parts (start_of setup run) r
 legal-event : (setup : Setup) (offers : Offers) (before : Images) (run : Stopped) → IsStopped setup offers before run → is_legal (state_at setup run) run.event ≡ true
 legal-event setup offers before run h = (both-true (is_legal (state_at setup run) run.event) true (are_legal-parts (start_of setup run) run.events (run.event ∷ []) h.legal).1).0
 
-file-at : (setup : Setup) (offers : Offers) (before : Images) (run : Stopped) (i : ℕ) → IsStopped setup offers before run → IsFile setup i → FileAt setup before run i
+pub file-at : (setup : Setup) (offers : Offers) (before : Images) (run : Stopped) (i : ℕ) → IsStopped setup offers before run → IsFile setup i → FileAt setup before run i
 file-at setup offers before run i h f =
     let many = h.begins.every_position in
     let below = slice_get-below setup.sources i f.source f.at in
@@ -310,19 +310,41 @@ grown-place : (old new more : List Piece) (w : ℕ) → new ≡ old ++ more → 
 grown-place old new more w g (inl z) = inl z
 grown-place old new more w g (inr y) = let P : List Piece → Type 0 = λ xs. Contains xs y.0 in inr (y.0, (subst P (sym g) (Contains-append_left old more y.0 y.1.0), y.1.1))
 
-place-new : (setup : Setup) (offers : Offers) (files : ℕ → List Piece) (before : Images) (run : Stopped) (i position : ℕ) → ((place : ℕ) → slice_get before.positions i ≡ Some place → IsPlace (files i) place) → Grow files run.files
-    → IsStopped setup offers before run → IsFile setup i → slice_get run.images.positions i ≡ Some position → IsPlace (run.files i) position
-place-new setup offers files before run i position covered grow h file now =
+ends-among : (i : ℕ) (es fs : List Event) (x : ℕ) → Contains (ends_admitted i es) x → Contains (ends_admitted i (es ++ fs)) x
+ends-among i [] fs x m = absurd (has-nil x m)
+ends-among i (e ∷ es) fs x m =
+    elim (Contains-append_cases (ends_by i e.act) (ends_admitted i es) x m) [
+      | inl a ↦ Contains-append_left (ends_by i e.act) (ends_admitted i (es ++ fs)) x a
+      | inr b ↦ Contains-append_right (ends_by i e.act) (ends_admitted i (es ++ fs)) x (ends-among i es fs x b)
+    ]
+
+-- what holds of 0, of the position before, and of each end that came in holds of the position
+pub place-by : (Q : ℕ → Type 0) (setup : Setup) (offers : Offers) (before : Images) (run : Stopped) (i position : ℕ) → IsStopped setup offers before run → IsFile setup i → slice_get run.images.positions i ≡ Some position → Q 0
+    → ((place : ℕ) → slice_get before.positions i ≡ Some place → Q place) → ((x : ℕ) → Contains (ends_admitted i (run.events ++ run.event ∷ [])) x → Q x) → Q position
+place-by Q setup offers before run i position h file now none was ended =
     let start = start_of setup run in
     let f = file-at setup offers before run i h file in
-    let Q : ℕ → Type 0 = IsPlace (run.files i) in
-    let g = grow i in
-    let first : Q f.place = grown-place (files i) (run.files i) g.0 f.place g.1 (covered f.place f.was) in
+    let first : Q f.place = was f.place f.was in
     let holds : InletHolds Q f.first = record {
       opening = subst Q (sym f.begins) first;
       stored = subst Q (sym f.stands) first;
       ends = λ x m. (let P : List ℕ → Type 0 = λ xs. Contains xs x in absurd (has-nil x (subst P f.none m)));
     } in
+    let now_at = places-hold Q start run.events i f.first none (legal-events setup offers before run h) f.at_first holds (λ x m. ended x (ends-among i run.events (run.event ∷ []) x m)) in
+    let same : now_at.new ≡ f.inlet = some-same now_at.new f.inlet (sym now_at.at ∙ f.at) in
+    let H : Inlet → Type 0 = λ y. InletHolds Q y in
+    let at_stop = subst H same now_at.holds in
+    let whole = places-hold Q start (run.events ++ run.event ∷ []) i f.first none h.legal f.at_first holds ended in
+    position-holds Q f.inlet.stored position (running_position run.event.act i) (failed_position start (run.events ++ run.event ∷ []) i) at_stop.stored
+    (running-holds Q (state_at setup run) run.event.act run.event.failed i f.inlet none (legal-event setup offers before run h) f.at at_stop) whole.tried
+    (h.safe.images_at.stored i f.inlet position f.at f.store now)
+
+place-new : (setup : Setup) (offers : Offers) (files : ℕ → List Piece) (before : Images) (run : Stopped) (i position : ℕ) → ((place : ℕ) → slice_get before.positions i ≡ Some place → IsPlace (files i) place) → Grow files run.files
+    → IsStopped setup offers before run → IsFile setup i → slice_get run.images.positions i ≡ Some position → IsPlace (run.files i) position
+place-new setup offers files before run i position covered grow h file now =
+    let f = file-at setup offers before run i h file in
+    let Q : ℕ → Type 0 = IsPlace (run.files i) in
+    let g = grow i in
     let r = h.reads i f.inlet file f.at in
     let ended : (x : ℕ) → Contains (ends_admitted i (run.events ++ run.event ∷ [])) x → Q x =
     λ x m.
@@ -331,25 +353,8 @@ place-new setup offers files before run i position covered grow h file now =
     let R : List Piece → Type 0 = λ xs. Contains xs y.0 in
     let b = subst R (sym r.1) (Contains-append_left (pieces_of i run.passes) r.0 y.0 y.1.0) in
     inr (y.0, (behind-in f.inlet.opening (run.files i) y.0 b, y.1.1)) in
-    let events : (x : ℕ) → Contains (ends_admitted i run.events) x → Q x =
-    λ x m.
-    let p = halves setup offers before run h in
-    let P : List ℕ → Type 0 = λ xs. Contains xs x in
-    let y = has-mapped (λ (z : Piece). z.end) (pieces_of i p.done) x (subst P (sym (admitted-ends offers i run.events p.done p.admitted)) m) in
-    let R : List Piece → Type 0 = λ xs. Contains xs y.0 in
-    let S : List Pass → Type 0 = λ ps. Contains (pieces_of i ps) y.0 in
-    let a = subst R (sym (pieces-append i p.done p.on)) (Contains-append_left (pieces_of i p.done) (pieces_of i p.on) y.0 y.1.0) in
-    let b = subst R (sym r.1) (Contains-append_left (pieces_of i run.passes) r.0 y.0 (subst S (sym p.are) a)) in
-    inr (y.0, (behind-in f.inlet.opening (run.files i) y.0 b, y.1.1)) in
     let none : Q 0 = inl refl in
-    let now_at = places-hold Q start run.events i f.first none (legal-events setup offers before run h) f.at_first holds events in
-    let same : now_at.new ≡ f.inlet = some-same now_at.new f.inlet (sym now_at.at ∙ f.at) in
-    let H : Inlet → Type 0 = λ y. InletHolds Q y in
-    let at_stop = subst H same now_at.holds in
-    let whole = places-hold Q start (run.events ++ run.event ∷ []) i f.first none h.legal f.at_first holds ended in
-    position-holds Q f.inlet.stored position (running_position run.event.act i) (failed_position start (run.events ++ run.event ∷ []) i) at_stop.stored
-    (running-holds Q (state_at setup run) run.event.act run.event.failed i f.inlet none (legal-event setup offers before run h) f.at at_stop) whole.tried
-    (h.safe.images_at.stored i f.inlet position f.at f.store now)
+    place-by Q setup offers before run i position h file now none (λ place was. grown-place (files i) (run.files i) g.0 place g.1 (covered place was)) ended
 
 -- Entries.
 

@@ -7,4 +7,7 @@ pub mod LeftLemmas
 pub mod OpenLemmas
 pub mod OfferLemmas
 pub mod CoverLemmas
+pub mod RangeLemmas
 pub mod RunLemmas
+pub mod TakeLemmas
+pub mod OnceLemmas

@@ -198,7 +198,7 @@ length-claims i next ds [] vs = refl
 length-claims i next ds (c ∷ cs) [] = refl
 length-claims i next ds (c ∷ cs) (v ∷ vs) = length-claims i next (take_claim i next ds c v) cs vs ∙ length-change ds c.offer.dest (take_offer (origin_of i next c) c.offer v)
 
-length-act : (s : State) (act : Act) (failed : List ℕ) → length (after_act s act failed).dests ≡ length s.dests
+pub length-act : (s : State) (act : Act) (failed : List ℕ) → length (after_act s act failed).dests ≡ length s.dests
 length-act s (Admit i records vs) failed = length-claims i (next_of s i) s.dests (claims_of records) vs
 length-act s (Settle d n) failed = length-change s.dests d (settled_some n)
 length-act s (Refill d n) failed = length-change s.dests d (refilled_some n)
@@ -210,7 +210,7 @@ pub length-dests : (s : State) (es : List Event) → length (after_all s es).des
 length-dests s [] = refl
 length-dests s (e ∷ es) = length-dests (after s e) es ∙ length-act s e.act e.failed
 
-judged-there : (o : Option Dest) (failing failed : List ℕ) (offer : Offer) (v : Verdict) (z : List ℕ) → judged_at o failing failed offer v ≡ Some z → (dest : Dest) × (o ≡ Some dest)
+pub judged-there : (o : Option Dest) (failing failed : List ℕ) (offer : Offer) (v : Verdict) (z : List ℕ) → judged_at o failing failed offer v ≡ Some z → (dest : Dest) × (o ≡ Some dest)
 judged-there None failing failed offer v z h = let wrong : None ≡ Some z = h in cc
 judged-there (Some dest) failing failed offer v z h = (dest, refl)
 

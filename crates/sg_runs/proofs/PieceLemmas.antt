@@ -2,6 +2,7 @@
 use Rattle.std.proofs.Common.{◌≡◌, ℕ, ◌<◌, ◌≤◌, List, [], ◌∷◌, ◌++◌, map, Bool, true, false, refl, ap, subst, arith, inl, inr, if◌then◌else◌}
 use Rattle.std.specs.Prelude.{Contains, nat_lt, nat_le}
 use Rattle.std.proofs.lemmas.List.{map-append}
+use Rattle.std.proofs.lemmas.List.Elements.{Contains-append_right}
 use Rattle.sg_machine.specs.Safe.{rises}
 use Rattle.sg_machine.proofs.RunLemmas.{both-true}
 use Rattle.sg_resumed.specs.Pieces.{Piece, Rise, behind}
@@ -75,7 +76,7 @@ rises-first from (x ∷ xs) ys r =
     let q = rises-first x xs ys p.1 in
     rw (p.0, q) refl
 
-rises-above : (from : ℕ) (xs : List Piece) (x : Piece) → rises from (ends xs) ≡ true → Contains xs x → from < x.end
+pub rises-above : (from : ℕ) (xs : List Piece) (x : Piece) → rises from (ends xs) ≡ true → Contains xs x → from < x.end
 rises-above from [] x r h = absurd (has-nil x h)
 rises-above from (y ∷ xs) x r h =
     let p = rises-tail from y.end (ends xs) r in
@@ -115,3 +116,34 @@ among-old from (p ∷ ps) ys x y r h a l =
         | inr b ↦ has-there p ps x (among-old p.end ps ys x y q.1 t b l)
       ]
     ]
+
+-- of items whose ends rise, each of the first ones ends before each of the later ones
+pub rises-apart : (from : ℕ) (ps ys : List Piece) (a b : Piece) → rises from (ends (ps ++ ys)) ≡ true → Contains ps a → Contains ys b → a.end < b.end
+rises-apart from [] ys a b r h k = absurd (has-nil a h)
+rises-apart from (p ∷ ps) ys a b r h k =
+    let q = rises-tail from p.end (ends (ps ++ ys)) r in
+    elim (has-cons p ps a h) [
+      | inl e ↦ (
+          let same : p.end ≡ a.end = ap (λ (z : Piece). z.end) e in
+          let above = rises-above p.end (ps ++ ys) b q.1 (Contains-append_right ps ys b k) in
+          omega (arith, same, above))
+      | inr t ↦ rises-apart p.end ps ys a b q.1 t k
+    ]
+
+behind-first-if : (place : ℕ) (y : Piece) (ys : List Piece) (b : Bool) → nat_le y.end place ≡ b → place < y.end → (if b then behind place ys else y ∷ ys) ≡ y ∷ ys
+behind-first-if place y ys true q l = absurd (let low = le-true y.end place q in omega (arith, low, l))
+behind-first-if place y ys false q l = refl
+
+behind-later : (place : ℕ) (ys : List Piece) → ((y : Piece) → Contains ys y → place < y.end) → behind place ys ≡ ys
+behind-later place [] h = refl
+behind-later place (y ∷ ys) h = behind-first-if place y ys (nat_le y.end place) refl (h y (has-here y ys))
+
+behind-over-if : (place : ℕ) (x : Piece) (xs ys : List Piece) (b : Bool) → nat_le x.end place ≡ b → x.end ≤ place → behind place xs ≡ ys → (if b then behind place xs else x ∷ xs) ≡ ys
+behind-over-if place x xs ys true q l e = e
+behind-over-if place x xs ys false q l e = absurd (let high = le-false x.end place q in omega (arith, high, l))
+
+-- a place that the first ones end at or below, and the later ones above, has just the later ones behind it
+pub behind-rest : (place : ℕ) (xs ys : List Piece) → ((x : Piece) → Contains xs x → x.end ≤ place) → ((y : Piece) → Contains ys y → place < y.end) → behind place (xs ++ ys) ≡ ys
+behind-rest place [] ys low high = behind-later place ys high
+behind-rest place (x ∷ xs) ys low high =
+    behind-over-if place x (xs ++ ys) ys (nat_le x.end place) refl (low x (has-here x xs)) (behind-rest place xs ys (λ z c. low z (has-there x xs z c)) high)

@@ -18,23 +18,23 @@ use Rattle.sg_runs.proofs.PieceLemmas.{above-zero, rising}
 use Rattle.sg_runs.proofs.OfferLemmas.{offer-more, IsGiven, events-given, events-weaken}
 use Rattle.sg_runs.proofs.CoverLemmas.{start_of, run-holds, covers-run}
 
-abbrev images_behind : Images → List Stopped → Images
+abbrev pub images_behind : Images → List Stopped → Images
 images_behind images [] = images
 images_behind images (run ∷ runs) = images_behind run.images runs
 
-abbrev files_behind : (ℕ → List Piece) → List Stopped → ℕ → List Piece
+abbrev pub files_behind : (ℕ → List Piece) → List Stopped → ℕ → List Piece
 files_behind files [] = files
 files_behind files (run ∷ runs) = files_behind run.files runs
 
-images-last : (images : Images) (runs : List Stopped) (last : Stopped) → images_behind images (runs ++ last ∷ []) ≡ last.images
+pub images-last : (images : Images) (runs : List Stopped) (last : Stopped) → images_behind images (runs ++ last ∷ []) ≡ last.images
 images-last images [] last = refl
 images-last images (run ∷ runs) last = images-last run.images runs last
 
-files-last : (files : ℕ → List Piece) (runs : List Stopped) (last : Stopped) → files_behind files (runs ++ last ∷ []) ≡ last.files
+pub files-last : (files : ℕ → List Piece) (runs : List Stopped) (last : Stopped) → files_behind files (runs ++ last ∷ []) ≡ last.files
 files-last files [] last = refl
 files-last files (run ∷ runs) last = files-last run.files runs last
 
-covers-all : (setup : Setup) (offers : Offers) (files : ℕ → List Piece) (taken : List Taken) (passes : List Pass) (old : ℕ → ℕ) (before : Images) (runs : List Stopped) → Covered setup offers files taken passes old before → Follow setup offers files before runs
+pub covers-all : (setup : Setup) (offers : Offers) (files : ℕ → List Piece) (taken : List Taken) (passes : List Pass) (old : ℕ → ℕ) (before : Images) (runs : List Stopped) → Covered setup offers files taken passes old before → Follow setup offers files before runs
     → Covered setup offers (files_behind files runs) (taken ++ all_taken setup runs) (passes ++ all_passes runs) old (images_behind before runs)
 covers-all setup offers files taken passes old before [] c f =
     let P : List Taken → Type 0 = λ ts. Covered setup offers files ts passes old before in

@@ -1,3 +1,4 @@
 pub mod Covered
 pub mod Passes
 pub mod Law
+pub mod Once

@@ -4,4 +4,7 @@
 
 mod laws;
 
-pub use laws::{all_runs_add_up, fresh_stores_are_covered, one_run_covers};
+pub use laws::{
+    all_runs_add_up, fresh_runs_cover, fresh_stores_are_covered, one_run_covers,
+    whole_runs_take_once,
+};

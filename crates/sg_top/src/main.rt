@@ -1,31 +1,15 @@
 //! `syslogr`: checks configurations, moves messages as they say, and lists the entries of a disk-buffer's store.
 #![tactic(auto)]
 
-mod check;
-mod drill;
-#[cfg(test)]
-mod failing_rows;
-#[cfg(test)]
-mod rows;
-mod run;
-mod say;
-mod spooled;
-mod status;
-#[cfg(test)]
-mod store_rows;
-mod top;
-mod trace;
-
+use sg_daemon::{Status, daemon};
 use sg_device::Name;
 use sg_world::HostMachine;
-pub use status::Status;
 use std::alloc::{AllocError, Global};
 use std::io::ErrorKind;
 use std::process::ExitCode;
 use std::sync::Wait;
 use std::thread::Threads;
 use std::{env, fs};
-pub use top::daemon;
 
 /// The words of the command line, without the program's name.
 fn read_words(alloc: Global, rt: &HostRuntime) -> Result<Vec<Name>, AllocError> {

@@ -131,61 +131,102 @@ fn names_of(alloc: Global, text: &str) -> Result<Items<Name>, AllocError> {
     Ok(names)
 }
 
+// `3-5`
+fn range_of(text: &str) -> Option<(u8, u8)> {
+    let Some((first, last)) = text.split_once('-') else {
+        return None;
+    };
+    match (first.parse::<u8>(), last.parse::<u8>()) {
+        (Ok(first), Ok(last)) => Some((first, last)),
+        _ => None,
+    }
+}
+
 // `3-5,7-7`
-fn ranges_of(alloc: Global, text: &str) -> Result<Items<(u8, u8)>, Fail> {
+fn ranges_of(alloc: Global, text: &str) -> Option<Items<(u8, u8)>> {
     let mut ranges = Items::new(alloc);
     if text.is_empty() {
-        return Ok(ranges);
+        return Some(ranges);
     }
-    for range in text.split(',') {
-        let (first, last) = range.split_once('-').ok_or("no range")?;
-        let first: u8 = first.parse()?;
-        let last: u8 = last.parse()?;
-        ranges.push((first, last))?;
+    for text in text.split(',') {
+        let Some(range) = range_of(text) else {
+            return None;
+        };
+        if ranges.push(range).is_err() {
+            return None;
+        }
     }
-    Ok(ranges)
+    Some(ranges)
+}
+
+// Sets this pair. Says whether it could.
+fn set(message: &mut Message, name: &[u8], value: &[u8]) -> bool {
+    if name.is_empty() || name.len() > 255 {
+        return false;
+    }
+    message.set(name, value).is_ok()
+}
+
+// A pair more.
+fn put_pair(alloc: Global, message: &mut Message, name: &str, value: &str) -> bool {
+    match bytes_of(alloc, value) {
+        Ok(value) => set(message, name.as_bytes(), &value),
+        Err(_) => false,
+    }
 }
 
 // A pair or a tag more.
-fn put(alloc: Global, message: &mut Message, item: &str) -> Result<(), Fail> {
+fn put(alloc: Global, message: &mut Message, item: &str) -> bool {
     if let Some(tag) = item.strip_prefix('#') {
-        message.set_tag(tag.as_bytes())?;
-        return Ok(());
+        return message.set_tag(tag.as_bytes()).is_ok();
     }
-    let (name, value) = item.split_once('=').ok_or("no pair")?;
-    let name = name.as_bytes();
-    if name.is_empty() || name.len() > 255 {
-        return Err(Fail::from("no name"));
+    match item.split_once('=') {
+        Some((name, value)) => put_pair(alloc, message, name, value),
+        None => false,
     }
-    let value = bytes_of(alloc, value)?;
-    message.set(name, &value)?;
-    Ok(())
 }
 
-fn message_of(alloc: Global, row: &str) -> Result<Option<Message>, Fail> {
-    let Some((pri, items)) = row.split_once(';') else {
-        return Ok(None);
-    };
-    let Ok(pri) = pri.parse::<u8>() else {
-        return Ok(None);
-    };
-    if pri > 191 {
-        return Ok(None);
-    }
-    let mut message = Message::new(alloc, pri, STAMP, STAMP)?;
+// The pairs and tags of a row more.
+fn put_all(alloc: Global, message: &mut Message, items: &str) -> bool {
     if items.is_empty() {
-        return Ok(Some(message));
+        return true;
     }
     for item in items.split(';') {
-        put(alloc, &mut message, item)?;
+        if !put(alloc, message, item) {
+            return false;
+        }
     }
-    Ok(Some(message))
+    true
+}
+
+fn message_without_pairs(alloc: Global, pri: u8) -> Option<Message> {
+    if pri > 191 {
+        return None;
+    }
+    Message::new(alloc, pri, STAMP, STAMP).ok()
+}
+
+fn message_of(alloc: Global, row: &str) -> Option<Message> {
+    let Some((pri, items)) = row.split_once(';') else {
+        return None;
+    };
+    let Ok(pri) = pri.parse::<u8>() else {
+        return None;
+    };
+    let Some(mut message) = message_without_pairs(alloc, pri) else {
+        return None;
+    };
+    if put_all(alloc, &mut message, items) {
+        Some(message)
+    } else {
+        None
+    }
 }
 
 fn messages(alloc: Global) -> Result<Vec<Message>, Fail> {
     let mut all = Vec::new(alloc);
     for row in MESSAGES.lines() {
-        let message = message_of(alloc, row)?.ok_or("no message")?;
+        let message = message_of(alloc, row).ok_or("no message")?;
         all.push(message)?;
     }
     Ok(all)
@@ -234,168 +275,263 @@ fn cmp_of(word: &str) -> Option<Cmp> {
     }
 }
 
-fn field_of(alloc: Global, text: &str) -> Result<Option<Expr>, AllocError> {
-    let Some((name, rest)) = text.split_once(' ') else {
-        return Ok(None);
+fn pattern_of(alloc: Global, kind: &str, letters: &str, text: &str) -> Option<PatternText> {
+    let Some(kind) = kind_of(kind) else {
+        return None;
     };
-    let Some((kind, rest)) = rest.split_once(' ') else {
-        return Ok(None);
-    };
-    let (Some((flags, pattern)), Some(kind)) = (rest.split_once(' '), kind_of(kind)) else {
-        return Ok(None);
-    };
-    if !are_flags(flags) {
-        return Ok(None);
+    if !are_flags(letters) {
+        return None;
     }
-    Ok(Some(Expr::Field {
-        name: name_of(alloc, name)?,
-        pattern: PatternText {
+    match name_of(alloc, text) {
+        Ok(text) => Some(PatternText {
             kind,
-            text: name_of(alloc, pattern)?,
-            flags: flags_of(flags),
+            text,
+            flags: flags_of(letters),
             line: LINE,
-        },
-    }))
+        }),
+        Err(_) => None,
+    }
 }
 
-fn compare_of(alloc: Global, text: &str) -> Result<Option<Expr>, Fail> {
+// `regex - text`
+fn pattern_in(alloc: Global, text: &str) -> Option<PatternText> {
+    let Some((kind, rest)) = text.split_once(' ') else {
+        return None;
+    };
+    match rest.split_once(' ') {
+        Some((letters, text)) => pattern_of(alloc, kind, letters, text),
+        None => None,
+    }
+}
+
+fn field_of(alloc: Global, text: &str) -> Option<Expr> {
+    let Some((name, rest)) = text.split_once(' ') else {
+        return None;
+    };
+    let Some(pattern) = pattern_in(alloc, rest) else {
+        return None;
+    };
+    match name_of(alloc, name) {
+        Ok(name) => Some(Expr::Field { name, pattern }),
+        Err(_) => None,
+    }
+}
+
+fn comparison(alloc: Global, left: &str, cmp: Cmp, right: &str) -> Option<Expr> {
+    let Ok(left) = Template::read(alloc, left.as_bytes()) else {
+        return None;
+    };
+    match Template::read(alloc, right.as_bytes()) {
+        Ok(right) => Some(Expr::Compare { left, cmp, right }),
+        Err(_) => None,
+    }
+}
+
+fn compare_of(alloc: Global, text: &str) -> Option<Expr> {
     let Some((left, rest)) = text.split_once(' ') else {
-        return Ok(None);
+        return None;
     };
     let Some((cmp, right)) = rest.split_once(' ') else {
-        return Ok(None);
+        return None;
     };
-    let Some(cmp) = cmp_of(cmp) else {
-        return Ok(None);
-    };
-    Ok(Some(Expr::Compare {
-        left: Template::read(alloc, left.as_bytes())?,
-        cmp,
-        right: Template::read(alloc, right.as_bytes())?,
-    }))
+    match cmp_of(cmp) {
+        Some(cmp) => comparison(alloc, left, cmp, right),
+        None => None,
+    }
+}
+
+fn level_of(alloc: Global, text: &str) -> Option<Expr> {
+    match ranges_of(alloc, text) {
+        Some(ranges) => Some(Expr::Level(ranges)),
+        None => None,
+    }
+}
+
+fn facility_of(alloc: Global, text: &str) -> Option<Expr> {
+    match ranges_of(alloc, text) {
+        Some(ranges) => Some(Expr::Facility(ranges)),
+        None => None,
+    }
+}
+
+fn tags_of(alloc: Global, text: &str) -> Option<Expr> {
+    match names_of(alloc, text) {
+        Ok(names) => Some(Expr::Tags(names)),
+        Err(_) => None,
+    }
+}
+
+fn named_of(text: &str) -> Option<Expr> {
+    match text.parse::<u32>() {
+        Ok(place) => Some(Expr::Named(place)),
+        Err(_) => None,
+    }
+}
+
+// A call that joins none.
+fn call_of(alloc: Global, word: &str, text: &str) -> Option<Expr> {
+    match word {
+        "level" => level_of(alloc, text),
+        "facility" => facility_of(alloc, text),
+        "tags" => tags_of(alloc, text),
+        "field" => field_of(alloc, text),
+        "compare" => compare_of(alloc, text),
+        "named" => named_of(text),
+        _ => None,
+    }
 }
 
 // The last so many, the first of them first.
-fn taken(alloc: Global, read: &mut Vec<Expr>, text: &str) -> Result<Items<Expr>, Fail> {
-    let count: usize = text.parse()?;
+fn taken(read: &mut Vec<Expr>, text: &str) -> Option<Items<Expr>> {
+    let Ok(count) = text.parse::<usize>() else {
+        return None;
+    };
     if count > read.len() {
-        return Err(Fail::from("not so many"));
+        return None;
     }
     let from = read.len() - count;
-    Ok(Items::from_vec(read.split_off(from)?))
+    match read.split_off(from) {
+        Ok(terms) => Some(Items::from_vec(terms)),
+        Err(_) => None,
+    }
 }
 
-// One call more, or what joins those before it.
-fn read_one(alloc: Global, read: &mut Vec<Expr>, call: &str) -> Result<bool, Fail> {
-    let (word, text) = call.split_once(' ').unwrap_or((call, ""));
-    let expr = match word {
-        "level" => Some(Expr::Level(ranges_of(alloc, text)?)),
-        "facility" => Some(Expr::Facility(ranges_of(alloc, text)?)),
-        "tags" => Some(Expr::Tags(names_of(alloc, text)?)),
-        "field" => field_of(alloc, text)?,
-        "compare" => compare_of(alloc, text)?,
-        "named" => Some(Expr::Named(text.parse()?)),
-        "and" => Some(Expr::And(taken(alloc, read, text)?)),
-        "or" => Some(Expr::Or(taken(alloc, read, text)?)),
-        "not" => match read.pop() {
-            Some(term) => Some(Expr::Not(Boxed::new(alloc, term)?)),
-            None => None,
-        },
-        _ => None,
+fn and_of(read: &mut Vec<Expr>, text: &str) -> Option<Expr> {
+    match taken(read, text) {
+        Some(terms) => Some(Expr::And(terms)),
+        None => None,
+    }
+}
+
+fn or_of(read: &mut Vec<Expr>, text: &str) -> Option<Expr> {
+    match taken(read, text) {
+        Some(terms) => Some(Expr::Or(terms)),
+        None => None,
+    }
+}
+
+fn not_of(alloc: Global, read: &mut Vec<Expr>) -> Option<Expr> {
+    let Some(term) = read.pop() else {
+        return None;
     };
-    match expr {
-        Some(expr) => {
-            read.push(expr)?;
-            Ok(true)
-        }
-        None => Ok(false),
+    match Boxed::new(alloc, term) {
+        Ok(term) => Some(Expr::Not(term)),
+        Err(_) => None,
+    }
+}
+
+// A call, or what joins those before it.
+fn term_of(alloc: Global, read: &mut Vec<Expr>, word: &str, text: &str) -> Option<Expr> {
+    match word {
+        "and" => and_of(read, text),
+        "or" => or_of(read, text),
+        "not" => not_of(alloc, read),
+        _ => call_of(alloc, word, text),
+    }
+}
+
+// One more of them. Says whether its words are understood.
+fn read_one(alloc: Global, read: &mut Vec<Expr>, call: &str) -> bool {
+    let (word, text) = call.split_once(' ').unwrap_or((call, ""));
+    match term_of(alloc, read, word, text) {
+        Some(term) => read.push(term).is_ok(),
+        None => false,
     }
 }
 
 // The expression, if its words are understood.
-fn expr_of(alloc: Global, text: &str) -> Result<Option<Expr>, Fail> {
+fn expr_of(alloc: Global, text: &str) -> Option<Expr> {
     let mut read = Vec::new(alloc);
     for call in text.split("; ") {
-        if !read_one(alloc, &mut read, call)? {
-            return Ok(None);
+        if !read_one(alloc, &mut read, call) {
+            return None;
         }
     }
     if read.len() > 1 {
-        return Ok(None);
+        return None;
     }
-    Ok(read.pop())
+    read.pop()
 }
 
 fn named(alloc: Global) -> Result<Vec<Expr>, Fail> {
     let mut all = Vec::new(alloc);
     for row in NAMED.lines() {
-        let expr = expr_of(alloc, row)?.ok_or("no expression")?;
+        let expr = expr_of(alloc, row).ok_or("no expression")?;
         all.push(expr)?;
     }
     Ok(all)
 }
 
-// For each message whether the filter holds, or the refusal that the row expects.
+// Whether two filters say the same of the message, and what.
+fn digit(filter: &mut Filter, other: &mut Filter, message: &Message) -> Result<char, AllocError> {
+    let holds = filter.holds(message)?;
+    let same = other.holds(message)? == holds;
+    Ok(match (same, holds) {
+        (true, true) => '1',
+        (true, false) => '0',
+        (false, _) => '!',
+    })
+}
+
+// For each message whether the filter holds, and an equal one does.
+fn digits(alloc: Global, filter: &mut Filter, messages: &[Message]) -> Result<String, AllocError> {
+    let mut text = String::new(alloc);
+    let mut other = filter.share(alloc)?;
+    for message in messages {
+        text.push(digit(filter, &mut other, message)?)?;
+    }
+    Ok(text)
+}
+
+// The word of a row for this refusal, where this count of patterns was too large.
+fn word_of(refusal: BuildRefusal, too_large: u64) -> &'static str {
+    match refusal {
+        BuildRefusal::BadPattern(line) if line == LINE => "bad",
+        BuildRefusal::TooLarge(line) if line == LINE && too_large == 1 => "large",
+        _ => "another refusal",
+    }
+}
+
+// For each message whether the filter holds, or the word for the refusal.
 fn answers(
     alloc: Global,
     expr: &Expr,
     named: &[Expr],
     messages: &[Message],
-) -> Result<String, Fail> {
+) -> Result<String, AllocError> {
     let mut patterns = Patterns { too_large: 0 };
-    let mut text = String::new(alloc);
-    let mut filter = match Filter::new(alloc, &mut patterns, expr, named) {
-        Ok(filter) => filter,
-        Err(BuildRefusal::BadPattern(line)) => {
-            text.push_str(if line == LINE { "bad" } else { "another line" })?;
-            return Ok(text);
-        }
-        Err(BuildRefusal::TooLarge(line)) => {
-            let counted = line == LINE && patterns.too_large == 1;
-            text.push_str(if counted { "large" } else { "not counted" })?;
-            return Ok(text);
-        }
-        Err(refusal) => return Err(refusal.into()),
-    };
-    let mut other = filter.share(alloc)?;
-    for message in messages {
-        let holds = filter.holds(message)?;
-        if other.holds(message)? != holds {
-            text.push_str("shared ")?;
-        }
-        text.push(if holds { '1' } else { '0' })?;
+    match Filter::new(alloc, &mut patterns, expr, named) {
+        Ok(mut filter) => digits(alloc, &mut filter, messages),
+        Err(refusal) => String::from_str(alloc, word_of(refusal, patterns.too_large)),
     }
-    Ok(text)
 }
 
-// What a row's filter answers, and what is expected.
-fn found<'r>(
-    alloc: Global,
-    row: &'r str,
-    named: &[Expr],
-    messages: &[Message],
-) -> Result<(String, &'r str), Fail> {
-    let mut text = String::new(alloc);
+// Whether the expression's filter answers so.
+fn gives(alloc: Global, expr: &Expr, named: &[Expr], messages: &[Message], expected: &str) -> bool {
+    match answers(alloc, expr, named, messages) {
+        Ok(text) => text.as_str() == expected,
+        Err(_) => false,
+    }
+}
+
+// Whether a row holds, and whether it was understood.
+fn holds(alloc: Global, row: &str, named: &[Expr], messages: &[Message]) -> bool {
     let Some((words, expected)) = row.split_once(" ~ ") else {
-        text.push_str("no tilde")?;
-        return Ok((text, ""));
+        return false;
     };
-    let Some(expr) = expr_of(alloc, words)? else {
-        text.push_str("not understood")?;
-        return Ok((text, expected));
-    };
-    Ok((answers(alloc, &expr, named, messages)?, expected))
+    match expr_of(alloc, words) {
+        Some(expr) => gives(alloc, &expr, named, messages, expected),
+        None => false,
+    }
 }
 
 #[test]
 fn rows(rt: HostRuntime) -> Result<(), Fail> {
-    let alloc = rt.alloc();
-    let messages = messages(alloc)?;
-    let named = named(alloc)?;
+    let messages = messages(rt.alloc())?;
+    let named = named(rt.alloc())?;
     assert!(rt; messages.len() == 8 && named.len() == 3);
     for row in ROWS.lines() {
-        let (text, expected) = found(alloc, row, &named, &messages)?;
-        assert_eq!(rt; text.as_str(), expected, "{row}");
+        assert!(rt; holds(rt.alloc(), row, &named, &messages), "{row}");
     }
     Ok(())
 }
@@ -403,7 +539,7 @@ fn rows(rt: HostRuntime) -> Result<(), Fail> {
 // Names of which each is the one before it, denied. The first holds of every message.
 fn chain(alloc: Global, count: u32) -> Result<Vec<Expr>, Fail> {
     let mut named = Vec::new(alloc);
-    named.push(Expr::Level(ranges_of(alloc, "0-7")?))?;
+    named.push(level_of(alloc, "0-7").ok_or("no level")?)?;
     for place in 1..count {
         let before = Boxed::new(alloc, Expr::Named(place - 1))?;
         named.push(Expr::Not(before))?;
@@ -413,12 +549,13 @@ fn chain(alloc: Global, count: u32) -> Result<Vec<Expr>, Fail> {
 
 #[test]
 fn deep_names(rt: HostRuntime) -> Result<(), Fail> {
-    let alloc = rt.alloc();
-    let messages = messages(alloc)?;
-    let named = chain(alloc, 20_001)?;
+    let messages = messages(rt.alloc())?;
+    let named = chain(rt.alloc(), 20_001)?;
     for (place, expected) in [(20_000, "11111111"), (19_999, "00000000")] {
-        let text = answers(alloc, &Expr::Named(place), &named, &messages)?;
-        assert_eq!(rt; text.as_str(), expected);
+        assert!(rt;
+            gives(rt.alloc(), &Expr::Named(place), &named, &messages, expected),
+            "{place}"
+        );
     }
     Ok(())
 }

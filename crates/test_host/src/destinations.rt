@@ -1,16 +1,12 @@
 // Steps over files that are appended to.
-use crate::folder::{Folder, send};
-use sg_device::{Frames, OpenRefusal, Outlet, Reopened};
+use crate::folder::{Folder, frames, presence, send, sent};
+use sg_device::{OpenRefusal, Outlet, Reopened};
 use sg_file::{Appending, FileOutlet, Rest};
 use std::fs;
-use std::os::unix::fs::{PermissionsExt, symlink};
-use std::os::unix::net::UnixListener;
 use std::test::Fail;
 
 /// What a step over a destination comes to.
 pub(crate) fn take(folder: &Folder, what: &str) -> Result<String, Fail> {
-    let other = folder.at("s")?;
-    let _listener = UnixListener::bind(&folder.rt, other.as_str())?;
     match what {
         "modes" => modes(folder),
         "appended" => appended(folder),
@@ -19,11 +15,11 @@ pub(crate) fn take(folder: &Folder, what: &str) -> Result<String, Fail> {
         "later" => reopened(folder, 100),
         "ready" => reopened(folder, 0),
         "moved" => moved(folder),
-        "folder" => opened(folder, b"/"),
-        "socket" => opened(folder, other.as_bytes()),
-        "device" => opened(folder, b"/dev/null"),
+        "folder" => folder.word(opened(folder, b"/")),
+        "socket" => folder.word(opened(folder, folder.socket()?.as_bytes())),
+        "device" => folder.word(opened(folder, b"/dev/null")),
         "dangling" => dangling(folder),
-        "name" => opened(folder, b"/tmp/\xff"),
+        "name" => folder.word(opened(folder, b"/tmp/\xff")),
         _ => Err("no such step".into()),
     }
 }
@@ -38,52 +34,60 @@ fn outlet(folder: &Folder, path: &[u8], mode: u16, reopen: u32) -> Result<FileOu
     FileOutlet::open(folder.alloc, folder.rt, path, how, rest)
 }
 
-fn opened(folder: &Folder, path: &[u8]) -> Result<String, Fail> {
-    let word = match outlet(folder, path, 0o600, 0) {
+fn opened(folder: &Folder, path: &[u8]) -> &'static str {
+    match outlet(folder, path, 0o600, 0) {
         Ok(_) => "opened",
         Err(_) => "refused",
-    };
-    Ok(String::from_str(folder.alloc, word)?)
+    }
+}
+
+// The file of a step, which is reopened every so many milliseconds at most.
+fn out(folder: &Folder, reopen: u32) -> Result<FileOutlet, Fail> {
+    let path = folder.at("out")?;
+    Ok(outlet(folder, path.as_bytes(), 0o600, reopen)?)
+}
+
+// The mode of a file that was opened with this one.
+fn mode_of(folder: &Folder, name: &str, mode: u16) -> Result<String, Fail> {
+    let path = folder.at(name)?;
+    drop(outlet(folder, path.as_bytes(), mode, 0)?);
+    Ok(folder.mode(name)?)
 }
 
 // A file that is made has the mode asked for, and one that is there keeps its own.
 fn modes(folder: &Folder) -> Result<String, Fail> {
     let mut text = String::new(folder.alloc);
     for (name, mode) in [("one", 0o640), ("two", 0o600), ("three", 0o444)] {
-        let path = folder.at(name)?;
-        drop(outlet(folder, path.as_bytes(), mode, 0)?);
-        text.push_str(folder.mode(name)?.as_str())?;
+        text.push_str(mode_of(folder, name, mode)?.as_str())?;
     }
-    Ok(String::from_str(folder.alloc, text.as_str().trim())?)
+    folder.word(text.as_str().trim())
 }
 
-fn frames(folder: &Folder, list: &[&str]) -> Result<Frames, Fail> {
-    let mut frames = Frames::new(folder.alloc);
-    for frame in list {
-        frames.push(frame.as_bytes())?;
-    }
-    Ok(frames)
+// What one of two has taken after its frames before the other's, and after its frames behind them.
+fn in_turns(
+    folder: &Folder,
+    one: &mut FileOutlet,
+    other: &mut FileOutlet,
+) -> Result<(u64, u64), Fail> {
+    let first = sent(folder.alloc, one, &["ab", "cd"])?;
+    sent(folder.alloc, other, &["abc"])?;
+    let second = sent(folder.alloc, one, &["ab"])?;
+    Ok((first, second))
 }
 
 // Frames go behind what is there, also behind what another one put there.
 fn appended(folder: &Folder) -> Result<String, Fail> {
-    let path = folder.at("out")?;
-    let mut one = outlet(folder, path.as_bytes(), 0o600, 0)?;
-    let mut other = outlet(folder, path.as_bytes(), 0o600, 0)?;
-    send(&mut one, &frames(folder, &["ab", "cd"])?)?;
-    let first = one.taken();
-    send(&mut other, &frames(folder, &["abc"])?)?;
-    send(&mut one, &frames(folder, &["ab"])?)?;
-    let second = one.taken();
-    let bytes = folder.bytes("out")?;
-    let held = str::from_utf8(&bytes)?;
+    let mut one = out(folder, 0)?;
+    let mut other = out(folder, 0)?;
+    let (first, second) = in_turns(folder, &mut one, &mut other)?;
+    let held = folder.text("out")?;
     Ok(format!(in folder.alloc; "taken {first} taken {second} {held}")?)
 }
 
 // A device takes no frame that is always full, or that can't be synced where that is asked.
 fn refused(folder: &Folder, path: &[u8]) -> Result<String, Fail> {
     let mut one = outlet(folder, path, 0o600, 0)?;
-    let refused = send(&mut one, &frames(folder, &["ab", "cd"])?);
+    let refused = send(&mut one, &frames(folder.alloc, &["ab", "cd"])?);
     if refused.is_ok() {
         return Err("it took frames".into());
     }
@@ -93,8 +97,7 @@ fn refused(folder: &Folder, path: &[u8]) -> Result<String, Fail> {
 
 // Two reopenings at once.
 fn reopened(folder: &Folder, every: u32) -> Result<String, Fail> {
-    let path = folder.at("out")?;
-    let mut one = outlet(folder, path.as_bytes(), 0o600, every)?;
+    let mut one = out(folder, every)?;
     let mut text = String::new(folder.alloc);
     for _ in 0..2 {
         match one.reopen()? {
@@ -102,35 +105,33 @@ fn reopened(folder: &Folder, every: u32) -> Result<String, Fail> {
             Reopened::Later => text.push_str("later ")?,
         }
     }
-    Ok(String::from_str(folder.alloc, text.as_str().trim())?)
+    folder.word(text.as_str().trim())
+}
+
+// Another name for the file, a frame, a reopening and another frame.
+fn move_away(folder: &Folder, one: &mut FileOutlet) -> Result<(), Fail> {
+    let path = folder.at("out")?;
+    let old = folder.at("old")?;
+    fs::rename(&folder.rt, path.as_str(), old.as_str())?;
+    sent(folder.alloc, one, &["a"])?;
+    one.reopen()?;
+    sent(folder.alloc, one, &["b"])?;
+    Ok(())
 }
 
 // After a reopening frames go to the file that has the name then.
 fn moved(folder: &Folder) -> Result<String, Fail> {
-    let path = folder.at("out")?;
-    let old = folder.at("old")?;
-    let mut one = outlet(folder, path.as_bytes(), 0o600, 0)?;
-    fs::rename(&folder.rt, path.as_str(), old.as_str())?;
-    send(&mut one, &frames(folder, &["a"])?)?;
-    one.reopen()?;
-    send(&mut one, &frames(folder, &["b"])?)?;
-    let before = folder.bytes("old")?;
-    let before = str::from_utf8(&before)?;
-    let after = folder.bytes("out")?;
-    let after = str::from_utf8(&after)?;
+    let mut one = out(folder, 0)?;
+    move_away(folder, &mut one)?;
+    let before = folder.text("old")?;
+    let after = folder.text("out")?;
     Ok(format!(in folder.alloc; "old {before} new {after}")?)
 }
 
 // A link to nothing isn't followed.
 fn dangling(folder: &Folder) -> Result<String, Fail> {
-    let target = folder.at("target")?;
-    let link = folder.at("out")?;
-    symlink(&folder.rt, target.as_str(), link.as_str())?;
-    let opened = opened(folder, link.as_bytes())?;
-    let absent = if fs::exists(&folder.rt, target.as_str())? {
-        "there"
-    } else {
-        "absent"
-    };
+    let link = folder.link("out", "target")?;
+    let opened = opened(folder, link.as_bytes());
+    let absent = presence(folder.has("target")?);
     Ok(format!(in folder.alloc; "{opened} {absent}")?)
 }

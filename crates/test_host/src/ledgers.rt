@@ -3,15 +3,14 @@ ghost use Rattle.std.specs.Prelude.{◌≡◌, []};
 ghost use Rattle.std.specs.List.{Contains};
 ghost use Rattle.sg_host.specs.Paths.{opener_of};
 
-use crate::folder::{Folder, send};
-use sg_device::{Disk, Frames, Inlet, Name, Opener, Outlet, Pull};
+use crate::folder::{Folder, brought, free_port, listen, sent};
+use sg_device::{Disk, Inlet, InletFault, Name, Opener};
 use sg_host::{
     HostFeed, HostInlets, HostOpener, HostOutlets, HostPaths, HostStores, Rest, say, tell,
 };
 use sg_outside::{InletSpec, OutletSpec, StoreSpec};
-use std::fs;
 use std::io::Write;
-use std::net::{TcpListener, TcpStream};
+use std::net::TcpStream;
 use std::test::Fail;
 
 /// What a step over a machine's devices comes to.
@@ -38,36 +37,54 @@ fn name(folder: &Folder, text: &[u8]) -> Result<Name, Fail> {
     Ok(Name::new(folder.alloc, text)?)
 }
 
-fn file_inlet(folder: &Folder) -> Result<String, Fail> {
-    let path = folder.file("in", b"abc\nde")?;
-    let mut inlets = HostInlets::new(folder.alloc, folder.rt, folder.rest()?);
-    let spec = InletSpec::File {
-        path: name(folder, path.as_bytes())?,
+fn file_source(folder: &Folder, path: &[u8]) -> Result<InletSpec, Fail> {
+    Ok(InletSpec::File {
+        path: name(folder, path)?,
         once: true,
         limit: 8,
-    };
-    let (mut feed, place) = inlets.open(folder.alloc, &spec, 4)?;
-    is_send(&feed);
-    let mut buffer = [0u8; 8];
-    feed.pull(&mut buffer)?;
-    let bytes = feed.counts().bytes;
-    inlets.close(feed);
-    let spec = InletSpec::File {
-        path: name(folder, b"/none")?,
-        once: true,
-        limit: 8,
-    };
-    if inlets.open(folder.alloc, &spec, 0).is_ok() {
-        return Err("it opened".into());
-    }
-    let failed = inlets.faults;
-    Ok(format!(in folder.alloc; "at {place} bytes {bytes} failed {failed}")?)
+    })
 }
 
-// A port that is free.
-fn free_port(folder: &Folder) -> Result<u16, Fail> {
-    let listener = TcpListener::bind(&folder.rt, ("127.0.0.1", 0))?;
-    Ok(listener.local_addr()?.port())
+fn slot_source(folder: &Folder, ip: &[u8], port: u16, slot: u16) -> Result<InletSpec, Fail> {
+    Ok(InletSpec::Slot {
+        ip: name(folder, ip)?,
+        port,
+        slot,
+        once: false,
+    })
+}
+
+fn pull_once(feed: &mut HostFeed) -> Result<(), InletFault> {
+    let mut buffer = [0u8; 8];
+    feed.pull(&mut buffer)?;
+    Ok(())
+}
+
+// Where reading begins in a file, and the bytes of the first pull.
+fn first_bytes(folder: &Folder, inlets: &mut HostInlets) -> Result<(u64, u64), Fail> {
+    let path = folder.file("in", b"abc\nde")?;
+    let spec = file_source(folder, path.as_bytes())?;
+    let (mut feed, place) = inlets.open(folder.alloc, &spec, 4)?;
+    is_send(&feed);
+    pull_once(&mut feed)?;
+    let bytes = feed.counts().bytes;
+    inlets.close(feed);
+    Ok((place, bytes))
+}
+
+// The faults so far, with that of a source which can't be opened.
+fn refused(folder: &Folder, inlets: &mut HostInlets, spec: &InletSpec) -> Result<u64, Fail> {
+    if inlets.open(folder.alloc, spec, 0).is_ok() {
+        return Err("it opened".into());
+    }
+    Ok(inlets.faults)
+}
+
+fn file_inlet(folder: &Folder) -> Result<String, Fail> {
+    let mut inlets = HostInlets::new(folder.alloc, folder.rt, folder.rest()?);
+    let (place, bytes) = first_bytes(folder, &mut inlets)?;
+    let failed = refused(folder, &mut inlets, &file_source(folder, b"/none")?)?;
+    Ok(format!(in folder.alloc; "at {place} bytes {bytes} failed {failed}")?)
 }
 
 // Two slots of a port.
@@ -78,12 +95,7 @@ fn two_slots(
 ) -> Result<Vec<(HostFeed, u64)>, Fail> {
     let mut feeds = Vec::new(folder.alloc);
     for slot in 0..2u16 {
-        let spec = InletSpec::Slot {
-            ip: name(folder, b"127.0.0.1")?,
-            port,
-            slot,
-            once: false,
-        };
+        let spec = slot_source(folder, b"127.0.0.1", port, slot)?;
         feeds.push(inlets.open(folder.alloc, &spec, 7)?)?;
     }
     Ok(feeds)
@@ -92,12 +104,8 @@ fn two_slots(
 // One pull: bytes, `next` for a part, `-` for a pause, each with a space behind it.
 fn pull(feed: &mut HostFeed, text: &mut String) -> Result<(), Fail> {
     let mut buffer = [0u8; 8];
-    match feed.pull(&mut buffer)? {
-        Pull::Bytes { len, .. } => text.push_str(str::from_utf8(&buffer[..len])?)?,
-        Pull::Next => text.push_str("next")?,
-        Pull::Idle => text.push('-')?,
-        Pull::End => text.push('.')?,
-    }
+    let got = feed.pull(&mut buffer);
+    text.push_str(brought(got, &buffer)?)?;
     text.push(' ')?;
     Ok(())
 }
@@ -117,116 +125,163 @@ fn pull_all(feeds: &mut Vec<(HostFeed, u64)>, text: &mut String) -> Result<(), F
     Ok(())
 }
 
-// Two slots serve two connections, and a third one waits until one of them has ended.
-fn slot_limit(folder: &Folder) -> Result<String, Fail> {
-    let port = free_port(folder)?;
-    let mut inlets = HostInlets::new(folder.alloc, folder.rt, folder.rest()?);
-    let mut feeds = two_slots(folder, &mut inlets, port)?;
-    let first = connected(folder, port, b"1")?;
-    let _second = connected(folder, port, b"2")?;
-    let _third = connected(folder, port, b"3")?;
-    let mut text = String::new(folder.alloc);
-    for _ in 0..3 {
-        pull_all(&mut feeds, &mut text)?;
+fn pull_rounds(
+    feeds: &mut Vec<(HostFeed, u64)>,
+    rounds: u32,
+    text: &mut String,
+) -> Result<(), Fail> {
+    for _ in 0..rounds {
+        pull_all(feeds, text)?;
     }
-    drop(first);
-    for _ in 0..2 {
-        pull_all(&mut feeds, &mut text)?;
-    }
+    Ok(())
+}
+
+fn close_all(inlets: &mut HostInlets, feeds: Vec<(HostFeed, u64)>) {
     for (feed, _place) in feeds {
         inlets.close(feed);
     }
-    Ok(String::from_str(folder.alloc, text.as_str().trim())?)
+}
+
+// Three connections, of which the first one ends after three rounds of pulls.
+fn three_connections(
+    folder: &Folder,
+    port: u16,
+    feeds: &mut Vec<(HostFeed, u64)>,
+    text: &mut String,
+) -> Result<(), Fail> {
+    let first = connected(folder, port, b"1")?;
+    let _second = connected(folder, port, b"2")?;
+    let _third = connected(folder, port, b"3")?;
+    pull_rounds(feeds, 3, text)?;
+    drop(first);
+    pull_rounds(feeds, 2, text)?;
+    Ok(())
+}
+
+// Two slots serve two connections, and a third one waits until one of them has ended.
+fn slot_limit(folder: &Folder) -> Result<String, Fail> {
+    let port = free_port(folder.rt)?;
+    let mut inlets = HostInlets::new(folder.alloc, folder.rt, folder.rest()?);
+    let mut feeds = two_slots(folder, &mut inlets, port)?;
+    let mut text = String::new(folder.alloc);
+    three_connections(folder, port, &mut feeds, &mut text)?;
+    close_all(&mut inlets, feeds);
+    folder.word(text.as_str().trim())
+}
+
+// Where reading begins in a slot, and its parts after a pull.
+fn parts(folder: &Folder, feed: &mut HostFeed, place: u64) -> Result<String, Fail> {
+    pull_once(feed)?;
+    let parts = feed.counts().parts;
+    Ok(format!(in folder.alloc; "at {place} parts {parts} ")?)
+}
+
+// The parts of each slot, with a connection for each of them.
+fn all_parts(folder: &Folder, port: u16, feeds: &mut Vec<(HostFeed, u64)>) -> Result<String, Fail> {
+    let mut text = String::new(folder.alloc);
+    let mut streams = Vec::new(folder.alloc);
+    for (feed, place) in feeds {
+        streams.push(connected(folder, port, b"")?)?;
+        text.push_str(parts(folder, feed, *place)?.as_str())?;
+    }
+    drop(streams);
+    Ok(text)
+}
+
+// Two slots of a listener, which are closed then.
+fn listening(folder: &Folder, inlets: &mut HostInlets, port: u16) -> Result<String, Fail> {
+    let mut feeds = two_slots(folder, inlets, port)?;
+    let text = all_parts(folder, port, &mut feeds)?;
+    close_all(inlets, feeds);
+    Ok(text)
 }
 
 // Two slots share a listener, which is free again once both are closed.
 fn slot_inlets(folder: &Folder) -> Result<String, Fail> {
-    let port = free_port(folder)?;
+    let port = free_port(folder.rt)?;
     let mut inlets = HostInlets::new(folder.alloc, folder.rt, folder.rest()?);
-    let mut text = String::new(folder.alloc);
-    let mut feeds = two_slots(folder, &mut inlets, port)?;
-    let mut streams = Vec::new(folder.alloc);
-    for (feed, place) in &mut feeds {
-        streams.push(TcpStream::connect(&folder.rt, ("127.0.0.1", port))?)?;
-        let mut buffer = [0u8; 8];
-        feed.pull(&mut buffer)?;
-        let parts = feed.counts().parts;
-        let shown = format!(in folder.alloc; "at {place} parts {parts} ")?;
-        text.push_str(shown.as_str())?;
-    }
-    drop(streams);
-    for (feed, _place) in feeds {
-        inlets.close(feed);
-    }
-    let spec = InletSpec::Slot {
-        ip: name(folder, b"no address")?,
-        port,
-        slot: 0,
-        once: false,
-    };
-    if inlets.open(folder.alloc, &spec, 0).is_ok() {
-        return Err("it opened".into());
-    }
-    let failed = inlets.faults;
-    let shown = format!(in folder.alloc; "failed {failed}")?;
-    text.push_str(shown.as_str())?;
-    Ok(text)
+    let text = listening(folder, &mut inlets, port)?;
+    let spec = slot_source(folder, b"no address", port, 0)?;
+    let failed = refused(folder, &mut inlets, &spec)?;
+    Ok(format!(in folder.alloc; "{text}failed {failed}")?)
 }
 
-fn frames(folder: &Folder, list: &[&str]) -> Result<Frames, Fail> {
-    let mut frames = Frames::new(folder.alloc);
-    for frame in list {
-        frames.push(frame.as_bytes())?;
+// An outlet that takes these frames, and one that can't be opened.
+fn outlets(
+    folder: &Folder,
+    spec: &OutletSpec,
+    list: &[&str],
+    closed: &OutletSpec,
+) -> Result<String, Fail> {
+    let mut outlets = HostOutlets::new(folder.alloc, folder.rt, folder.rest()?);
+    let taken = taken(folder, &mut outlets, spec, list)?;
+    if outlets.open(folder.alloc, closed).is_ok() {
+        return Err("it opened".into());
     }
-    Ok(frames)
+    let failed = outlets.faults;
+    Ok(format!(in folder.alloc; "taken {taken} failed {failed}")?)
+}
+
+// How many of these frames an outlet takes, which is closed then.
+fn taken(
+    folder: &Folder,
+    outlets: &mut HostOutlets,
+    spec: &OutletSpec,
+    list: &[&str],
+) -> Result<u64, Fail> {
+    let mut drain = outlets.open(folder.alloc, spec)?;
+    is_send(&drain);
+    let taken = sent(folder.alloc, &mut drain, list)?;
+    outlets.close(drain);
+    Ok(taken)
+}
+
+fn file_target(folder: &Folder, path: &[u8]) -> Result<OutletSpec, Fail> {
+    Ok(OutletSpec::File {
+        path: name(folder, path)?,
+        fsync: false,
+        mode: 0o600,
+        reopen: 0,
+    })
 }
 
 fn file_outlet(folder: &Folder) -> Result<String, Fail> {
-    let mut outlets = HostOutlets::new(folder.alloc, folder.rt, folder.rest()?);
     let path = folder.at("out")?;
-    let mut spec = OutletSpec::File {
-        path: name(folder, path.as_bytes())?,
-        fsync: false,
-        mode: 0o600,
+    let spec = file_target(folder, path.as_bytes())?;
+    let closed = file_target(folder, b"/none/out")?;
+    outlets(folder, &spec, &["ab", "cd"], &closed)
+}
+
+fn tcp_target(folder: &Folder, host: &[u8], port: u16) -> Result<OutletSpec, Fail> {
+    Ok(OutletSpec::Tcp {
+        host: name(folder, host)?,
+        port,
         reopen: 0,
-    };
-    let mut drain = outlets.open(folder.alloc, &spec)?;
-    is_send(&drain);
-    send(&mut drain, &frames(folder, &["ab", "cd"])?)?;
-    let taken = drain.taken();
-    outlets.close(drain);
-    spec = OutletSpec::File {
-        path: name(folder, b"/none/out")?,
-        fsync: false,
-        mode: 0o600,
-        reopen: 0,
-    };
-    if outlets.open(folder.alloc, &spec).is_ok() {
-        return Err("it opened".into());
-    }
-    let failed = outlets.faults;
-    Ok(format!(in folder.alloc; "taken {taken} failed {failed}")?)
+    })
 }
 
 fn tcp_outlet(folder: &Folder) -> Result<String, Fail> {
-    let listener = TcpListener::bind(&folder.rt, ("127.0.0.1", 0))?;
-    let port = listener.local_addr()?.port();
-    let mut outlets = HostOutlets::new(folder.alloc, folder.rt, folder.rest()?);
-    let mut taken = 0;
-    for host in [b"127.0.0.1".as_slice(), b"\xff"] {
-        let spec = OutletSpec::Tcp {
-            host: name(folder, host)?,
-            port,
-            reopen: 0,
-        };
-        if let Ok(mut drain) = outlets.open(folder.alloc, &spec) {
-            send(&mut drain, &frames(folder, &["ab"])?)?;
-            taken = drain.taken();
-            outlets.close(drain);
-        }
+    let (_listener, port) = listen(folder.rt)?;
+    let spec = tcp_target(folder, b"127.0.0.1", port)?;
+    let closed = tcp_target(folder, b"\xff", port)?;
+    outlets(folder, &spec, &["ab"], &closed)
+}
+
+// The length and the faults of a store that can't be opened twice.
+fn open_store(
+    folder: &Folder,
+    stores: &mut HostStores,
+    spec: &StoreSpec,
+) -> Result<(u64, u64), Fail> {
+    let mut store = stores.open(folder.alloc, spec)?;
+    is_send(&store);
+    if stores.open(folder.alloc, spec).is_ok() {
+        return Err("it opened twice".into());
     }
-    let failed = outlets.faults;
-    Ok(format!(in folder.alloc; "taken {taken} failed {failed}")?)
+    let len = store.len()?;
+    let faults = store.faults();
+    stores.close(store);
+    Ok((len, faults))
 }
 
 fn store(folder: &Folder) -> Result<String, Fail> {
@@ -236,14 +291,7 @@ fn store(folder: &Folder) -> Result<String, Fail> {
         name: name(folder, path.as_bytes())?,
         create: true,
     };
-    let mut store = stores.open(folder.alloc, &spec)?;
-    is_send(&store);
-    if stores.open(folder.alloc, &spec).is_ok() {
-        return Err("it opened twice".into());
-    }
-    let len = store.len()?;
-    let faults = store.faults();
-    stores.close(store);
+    let (len, faults) = open_store(folder, &mut stores, &spec)?;
     let failed = stores.faults;
     Ok(format!(in folder.alloc; "{len} {faults} failed {failed}")?)
 }
@@ -257,24 +305,34 @@ fn by_path(fsync: bool) -> OutletSpec {
     }
 }
 
-fn paths(folder: &Folder) -> Result<String, Fail> {
-    let mut paths = HostPaths::new(folder.alloc, folder.rt, folder.rest()?);
-    let spec = by_path(false);
-    let mut opener = paths.open(folder.alloc, &spec)?;
+// What a file holds that was given two texts.
+fn used_path(folder: &Folder, paths: &mut HostPaths) -> Result<String, Fail> {
+    let mut opener = paths.open(folder.alloc, &by_path(false))?;
     is_send(&opener);
     let one = folder.at("one")?;
-    let two = folder.at("two")?;
     use_path(&mut opener, one.as_bytes())?;
-    let text = held(folder, "one")?;
+    let text = folder.text("one")?;
     paths.close(opener);
-    let mut opener = paths.open(folder.alloc, &spec)?;
+    Ok(text)
+}
+
+// The faults behind a file that can't be opened.
+fn refused_path(folder: &Folder, paths: &mut HostPaths) -> Result<u64, Fail> {
+    let mut opener = paths.open(folder.alloc, &by_path(false))?;
     if opener.open(b"/none/out").is_ok() {
         return Err("it opened".into());
     }
     let failed = opener.counts().faults;
     paths.close(opener);
-    let gone = fs::exists(&folder.rt, two.as_str())?;
-    Ok(format!(in folder.alloc; "{text} failed {failed} other {gone}")?)
+    Ok(failed)
+}
+
+fn paths(folder: &Folder) -> Result<String, Fail> {
+    let mut paths = HostPaths::new(folder.alloc, folder.rt, folder.rest()?);
+    let text = used_path(folder, &mut paths)?;
+    let failed = refused_path(folder, &mut paths)?;
+    let other = folder.has("two")?;
+    Ok(format!(in folder.alloc; "{text} failed {failed} other {other}")?)
 }
 
 // Opens a file, gives it two texts with the file opened anew between them, and closes it.
@@ -293,13 +351,20 @@ fn use_path(opener: &mut HostOpener, path: &[u8]) -> Result<(), Fail>
 fn several_paths(folder: &Folder) -> Result<String, Fail> {
     let mut paths = HostPaths::new(folder.alloc, folder.rt, folder.rest()?);
     let mut opener = paths.open(folder.alloc, &by_path(false))?;
+    use_both(folder, &mut opener)?;
+    paths.close(opener);
+    let one = folder.text("one")?;
+    let two = folder.text("two")?;
+    Ok(format!(in folder.alloc; "{one} {two}")?)
+}
+
+fn use_both(folder: &Folder, opener: &mut HostOpener) -> Result<(), Fail>
+    requires { (opener_of opener.old).opened ≡ [] }
+{
     let one = folder.at("one")?;
     let two = folder.at("two")?;
-    use_two(&mut opener, one.as_bytes(), two.as_bytes())?;
-    paths.close(opener);
-    let one = held(folder, "one")?;
-    let two = held(folder, "two")?;
-    Ok(format!(in folder.alloc; "{one} {two}")?)
+    use_two(opener, one.as_bytes(), two.as_bytes())?;
+    Ok(())
 }
 
 // Opens two files, gives each of them two texts, and closes the first one before the other's last.
@@ -333,11 +398,6 @@ fn unsynced_path(folder: &Folder) -> Result<String, Fail> {
     let faults = opener.counts().faults;
     paths.close(opener);
     Ok(format!(in folder.alloc; "{word} {faults}")?)
-}
-
-fn held(folder: &Folder, name: &str) -> Result<String, Fail> {
-    let bytes = folder.bytes(name)?;
-    Ok(String::from_str(folder.alloc, str::from_utf8(&bytes)?)?)
 }
 
 fn said(folder: &Folder) -> Result<String, Fail> {

@@ -1,5 +1,5 @@
 // Steps over connections that take frames.
-use crate::folder::send;
+use crate::folder::{frames, free_port, listen, send, sent};
 use sg_device::{Frames, OpenRefusal, Outlet, OutletFault, Reopened, SendRefusal};
 use sg_file::Rest;
 use sg_net::TcpOutlet;
@@ -20,26 +20,18 @@ pub(crate) fn take(rt: HostRuntime, what: &str) -> Result<String, Fail> {
     }
 }
 
-fn listen(rt: HostRuntime) -> Result<(TcpListener, u16), Fail> {
-    let listener = TcpListener::bind(&rt, ("127.0.0.1", 0))?;
-    let port = listener.local_addr()?.port();
-    Ok((listener, port))
-}
-
 fn outlet(rt: HostRuntime, port: u16, reopen: u32) -> Result<TcpOutlet, Fail> {
     let rest = Rest::new(rt.alloc(), rt)?;
     Ok(TcpOutlet::open(rt.alloc(), rt, b"127.0.0.1", port, reopen, rest)?)
 }
 
-fn frames(rt: HostRuntime, list: &[&str]) -> Result<Frames, Fail> {
-    let mut frames = Frames::new(rt.alloc());
-    for frame in list {
-        frames.push(frame.as_bytes())?;
-    }
-    Ok(frames)
+// What becomes of these frames.
+fn tried(rt: HostRuntime, outlet: &mut TcpOutlet, list: &[&str]) -> Result<&'static str, Fail> {
+    let frames = frames(rt.alloc(), list)?;
+    Ok(answer(send(outlet, &frames)))
 }
 
-fn sent(got: Result<(), SendRefusal>) -> &'static str {
+fn answer(got: Result<(), SendRefusal>) -> &'static str {
     match got {
         Ok(()) => "",
         Err(SendRefusal::Fault) => "refused ",
@@ -63,83 +55,107 @@ fn heard(rt: HostRuntime, stream: &mut TcpStream, count: usize) -> Result<String
     Ok(String::from_str(rt.alloc(), str::from_utf8(&buffer[..count])?)?)
 }
 
-fn connects(rt: HostRuntime) -> Result<String, Fail> {
-    let (listener, port) = listen(rt)?;
-    let mut outlet = outlet(rt, port, 0)?;
-    send(&mut outlet, &frames(rt, &["ab", "cd"])?)?;
+// The first bytes of the next connection, which ends then.
+fn accepted(rt: HostRuntime, listener: &TcpListener, count: usize) -> Result<String, Fail> {
     let (mut stream, _peer) = listener.accept()?;
-    let text = heard(rt, &mut stream, 4)?;
-    let taken = outlet.taken();
+    Ok(heard(rt, &mut stream, count)?)
+}
+
+// Frames that a new connection takes, and their bytes at its other end.
+fn delivered(
+    rt: HostRuntime,
+    outlet: &mut TcpOutlet,
+    listener: &TcpListener,
+    list: &[&str],
+    count: usize,
+) -> Result<String, Fail> {
+    let taken = sent(rt.alloc(), outlet, list)?;
+    let text = accepted(rt, listener, count)?;
     Ok(format!(in rt.alloc(); "taken {taken} {text}")?)
 }
 
-fn away(rt: HostRuntime) -> Result<String, Fail> {
+fn connects(rt: HostRuntime) -> Result<String, Fail> {
     let (listener, port) = listen(rt)?;
-    drop(listener);
-    let mut outlet = outlet(rt, port, 100)?;
-    let first = sent(send(&mut outlet, &frames(rt, &["ab"])?));
+    let mut outlet = outlet(rt, port, 0)?;
+    Ok(delivered(rt, &mut outlet, &listener, &["ab", "cd"], 4)?)
+}
+
+fn counted(rt: HostRuntime, outlet: &TcpOutlet) -> Result<String, Fail> {
     let counts = outlet.counts();
     let (taken, faults, failing) = (counts.taken, counts.faults, counts.failing);
+    Ok(format!(in rt.alloc(); "taken {taken} faults {faults} failing {failing}")?)
+}
+
+fn away(rt: HostRuntime) -> Result<String, Fail> {
+    let mut outlet = outlet(rt, free_port(rt)?, 100)?;
+    let first = tried(rt, &mut outlet, &["ab"])?;
+    let counted = counted(rt, &outlet)?;
     let later = reopened(outlet.reopen());
     let laters = outlet.counts().laters;
-    Ok(format!(in rt.alloc();
-        "{first}taken {taken} faults {faults} failing {failing} {later}laters {laters}"
-    )?)
+    Ok(format!(in rt.alloc(); "{first}{counted} {later}laters {laters}")?)
 }
 
 fn ready(rt: HostRuntime) -> Result<String, Fail> {
-    let (listener, port) = listen(rt)?;
-    drop(listener);
+    let port = free_port(rt)?;
     let mut outlet = outlet(rt, port, 0)?;
-    let first = sent(send(&mut outlet, &frames(rt, &["ab"])?));
+    let first = tried(rt, &mut outlet, &["ab"])?;
     let listener = TcpListener::bind(&rt, ("127.0.0.1", port))?;
     let second = reopened(outlet.reopen());
-    send(&mut outlet, &frames(rt, &["ab"])?)?;
-    let (mut stream, _peer) = listener.accept()?;
-    let text = heard(rt, &mut stream, 2)?;
-    let taken = outlet.taken();
-    Ok(format!(in rt.alloc(); "{first}{second}taken {taken} {text}")?)
+    let last = delivered(rt, &mut outlet, &listener, &["ab"], 2)?;
+    Ok(format!(in rt.alloc(); "{first}{second}{last}")?)
+}
+
+// How many frames a connection takes whose peer closes it then.
+fn closed_behind(
+    rt: HostRuntime,
+    outlet: &mut TcpOutlet,
+    listener: &TcpListener,
+) -> Result<u64, Fail> {
+    let taken = sent(rt.alloc(), outlet, &["ab"])?;
+    accepted(rt, listener, 2)?;
+    Ok(taken)
 }
 
 // A peer that has closed the connection is noticed at the next send, which takes no frame.
 fn closed(rt: HostRuntime) -> Result<String, Fail> {
     let (listener, port) = listen(rt)?;
     let mut outlet = outlet(rt, port, 0)?;
-    send(&mut outlet, &frames(rt, &["ab"])?)?;
-    let first = outlet.taken();
-    let (mut stream, _peer) = listener.accept()?;
-    heard(rt, &mut stream, 2)?;
-    drop(stream);
-    let refused = sent(send(&mut outlet, &frames(rt, &["cd"])?));
+    let first = closed_behind(rt, &mut outlet, &listener)?;
+    let refused = tried(rt, &mut outlet, &["cd"])?;
     let second = outlet.taken();
     let ready = reopened(outlet.reopen());
-    send(&mut outlet, &frames(rt, &["cd"])?)?;
-    let (mut stream, _peer) = listener.accept()?;
-    let text = heard(rt, &mut stream, 2)?;
-    let third = outlet.taken();
-    Ok(format!(in rt.alloc(); "taken {first} {refused}taken {second} {ready}taken {third} {text}")?)
+    let last = delivered(rt, &mut outlet, &listener, &["cd"], 2)?;
+    Ok(format!(in rt.alloc(); "taken {first} {refused}taken {second} {ready}{last}")?)
+}
+
+// Frames of 31 MiB in all.
+fn many(rt: HostRuntime) -> Result<Frames, Fail> {
+    let mut frames = Frames::new(rt.alloc());
+    let frame = vec![in rt.alloc(); 120u8; 65_536]?;
+    for _ in 0..500 {
+        frames.push(&frame)?;
+    }
+    Ok(frames)
+}
+
+fn amount(taken: u64) -> &'static str {
+    if taken == 0 {
+        "none"
+    } else if taken < 500 {
+        "some"
+    } else {
+        "all"
+    }
 }
 
 // A peer that takes nothing for five seconds has taken some of the frames.
 fn slow(rt: HostRuntime) -> Result<String, Fail> {
     let (listener, port) = listen(rt)?;
     let mut outlet = outlet(rt, port, 0)?;
-    let mut frames = Frames::new(rt.alloc());
-    let frame = vec![in rt.alloc(); 120u8; 65_536]?;
-    for _ in 0..500 {
-        frames.push(&frame)?;
-    }
-    let refused = sent(send(&mut outlet, &frames));
+    let refused = answer(send(&mut outlet, &many(rt)?));
     let (_stream, _peer) = listener.accept()?;
-    let taken = outlet.taken();
-    let word = if taken == 0 {
-        "none"
-    } else if taken < 500 {
-        "some"
-    } else {
-        "all"
-    };
-    Ok(format!(in rt.alloc(); "{refused}{word}")?)
+    let amount = amount(outlet.taken());
+    Ok(format!(in rt.alloc(); "{refused}{amount}")?)
 }
 
 fn name(rt: HostRuntime) -> Result<String, Fail> {

@@ -1,5 +1,6 @@
 // Steps over slots of a listener.
-use sg_device::{Inlet, Pull};
+use crate::folder::brought;
+use sg_device::{Inlet, InletFault, Pull};
 use sg_file::Rest;
 use sg_net::{Listener, SlotInlet};
 use std::io::{Read, Write};
@@ -37,43 +38,69 @@ fn client(rt: HostRuntime, port: u16) -> Result<TcpStream, Fail> {
     Ok(TcpStream::connect(&rt, ("127.0.0.1", port))?)
 }
 
+// A connection that sends these bytes.
+fn sender(rt: HostRuntime, port: u16, bytes: &[u8]) -> Result<TcpStream, Fail> {
+    let mut stream = client(rt, port)?;
+    stream.write_all(bytes)?;
+    Ok(stream)
+}
+
 // What the next pull brings that isn't idle, and `-` where all of some time are.
 fn pull(slot: &mut SlotInlet, text: &mut String) -> Result<(), Fail> {
     let mut buffer = [0u8; 2];
     for _ in 0..12 {
         match slot.pull(&mut buffer) {
             Ok(Pull::Idle) => {}
-            got => {
-                match got {
-                    Ok(Pull::Bytes { len, .. }) => {
-                        text.push_str(str::from_utf8(&buffer[..len])?)?;
-                    }
-                    Ok(Pull::Next) => {
-                        text.push_str("next ")?;
-                        text.push_str(str::from_utf8(slot.peer())?)?;
-                    }
-                    Ok(_) => text.push_str(".")?,
-                    Err(_) => text.push_str("fault")?,
-                }
-                text.push_str(":")?;
-                return Ok(());
-            }
+            Ok(Pull::Next) => return next(slot.peer(), text),
+            got => return other(got, &buffer, text),
         }
     }
     text.push_str("-")?;
     Ok(())
 }
 
+// A part of a peer.
+fn next(peer: &[u8], text: &mut String) -> Result<(), Fail> {
+    text.push_str("next ")?;
+    text.push_str(str::from_utf8(peer)?)?;
+    text.push_str(":")?;
+    Ok(())
+}
+
+// What else a pull brings.
+fn other(got: Result<Pull, InletFault>, buffer: &[u8], text: &mut String) -> Result<(), Fail> {
+    text.push_str(brought(got, buffer)?)?;
+    text.push_str(":")?;
+    Ok(())
+}
+
+fn pull_times(slot: &mut SlotInlet, times: u32, text: &mut String) -> Result<(), Fail> {
+    for _ in 0..times {
+        pull(slot, text)?;
+    }
+    Ok(())
+}
+
 fn served(rt: HostRuntime) -> Result<String, Fail> {
     let (listener, port) = listen(rt)?;
     let mut slot = slot(rt, &listener, false)?;
-    let mut stream = client(rt, port)?;
-    stream.write_all(b"abcd")?;
+    let _stream = sender(rt, port, b"abcd")?;
     let mut text = String::new(rt.alloc());
-    for _ in 0..4 {
-        pull(&mut slot, &mut text)?;
-    }
+    pull_times(&mut slot, 4, &mut text)?;
     Ok(text)
+}
+
+// A connection that sends these bytes and ends, and two pulls before it does.
+fn serve_one(
+    rt: HostRuntime,
+    port: u16,
+    slot: &mut SlotInlet,
+    bytes: &[u8],
+    text: &mut String,
+) -> Result<(), Fail> {
+    let _stream = sender(rt, port, bytes)?;
+    pull_times(slot, 2, text)?;
+    Ok(())
 }
 
 fn second(rt: HostRuntime) -> Result<String, Fail> {
@@ -81,10 +108,7 @@ fn second(rt: HostRuntime) -> Result<String, Fail> {
     let mut slot = slot(rt, &listener, false)?;
     let mut text = String::new(rt.alloc());
     for bytes in [b"ab".as_slice(), b"ef"] {
-        let mut stream = client(rt, port)?;
-        stream.write_all(bytes)?;
-        pull(&mut slot, &mut text)?;
-        pull(&mut slot, &mut text)?;
+        serve_one(rt, port, &mut slot, bytes, &mut text)?;
     }
     pull(&mut slot, &mut text)?;
     Ok(text)
@@ -93,30 +117,80 @@ fn second(rt: HostRuntime) -> Result<String, Fail> {
 fn once(rt: HostRuntime) -> Result<String, Fail> {
     let (listener, port) = listen(rt)?;
     let mut slot = slot(rt, &listener, true)?;
+    drop(sender(rt, port, b"ab")?);
     let mut text = String::new(rt.alloc());
-    let mut stream = client(rt, port)?;
-    stream.write_all(b"ab")?;
-    drop(stream);
-    for _ in 0..4 {
-        pull(&mut slot, &mut text)?;
-    }
+    pull_times(&mut slot, 4, &mut text)?;
     Ok(text)
+}
+
+// A pull, a hangup and another pull.
+fn hang_up(slot: &mut SlotInlet, text: &mut String) -> Result<(), Fail> {
+    pull(slot, text)?;
+    slot.hangup();
+    pull(slot, text)?;
+    Ok(())
+}
+
+// Whether the other end has closed the connection.
+fn is_at_end(stream: &mut TcpStream) -> Result<bool, Fail> {
+    let mut buffer = [0u8; 2];
+    Ok(stream.read(&mut buffer)? == 0)
 }
 
 // A connection that was hung up is closed.
 fn hung(rt: HostRuntime) -> Result<String, Fail> {
     let (listener, port) = listen(rt)?;
     let mut slot = slot(rt, &listener, false)?;
-    let mut text = String::new(rt.alloc());
     let mut stream = client(rt, port)?;
-    pull(&mut slot, &mut text)?;
-    slot.hangup();
-    pull(&mut slot, &mut text)?;
-    let mut buffer = [0u8; 2];
-    if stream.read(&mut buffer)? == 0 {
+    let mut text = String::new(rt.alloc());
+    hang_up(&mut slot, &mut text)?;
+    if is_at_end(&mut stream)? {
         text.push_str(":eof")?;
     }
     Ok(text)
+}
+
+// A connection that a slot takes before it sends these bytes.
+fn taken(
+    rt: HostRuntime,
+    port: u16,
+    slot: &mut SlotInlet,
+    bytes: &[u8],
+    text: &mut String,
+) -> Result<TcpStream, Fail> {
+    let mut stream = client(rt, port)?;
+    pull(slot, text)?;
+    stream.write_all(bytes)?;
+    Ok(stream)
+}
+
+// Pulls of two slots in turns.
+fn pull_in_turns(
+    one: &mut SlotInlet,
+    other: &mut SlotInlet,
+    text: &mut String,
+) -> Result<(), Fail> {
+    pull(one, text)?;
+    pull(other, text)?;
+    pull(one, text)?;
+    text.push_str(":")?;
+    Ok(())
+}
+
+fn three_clients(
+    rt: HostRuntime,
+    port: u16,
+    one: &mut SlotInlet,
+    other: &mut SlotInlet,
+    text: &mut String,
+) -> Result<(), Fail> {
+    let _first = taken(rt, port, one, b"1", text)?;
+    let second = taken(rt, port, other, b"2", text)?;
+    let _third = sender(rt, port, b"3")?;
+    pull_in_turns(one, other, text)?;
+    drop(second);
+    pull_times(other, 2, text)?;
+    Ok(())
 }
 
 // Two slots serve a connection each, and a third connection waits for one of them.
@@ -125,26 +199,12 @@ fn shared(rt: HostRuntime) -> Result<String, Fail> {
     let mut one = slot(rt, &listener, false)?;
     let mut other = slot(rt, &listener, false)?;
     let mut text = String::new(rt.alloc());
-    let mut first = client(rt, port)?;
-    pull(&mut one, &mut text)?;
-    let mut second = client(rt, port)?;
-    pull(&mut other, &mut text)?;
-    let mut third = client(rt, port)?;
-    first.write_all(b"1")?;
-    second.write_all(b"2")?;
-    third.write_all(b"3")?;
-    pull(&mut one, &mut text)?;
-    pull(&mut other, &mut text)?;
-    pull(&mut one, &mut text)?;
-    text.push_str(":")?;
-    drop(second);
-    pull(&mut other, &mut text)?;
-    pull(&mut other, &mut text)?;
+    three_clients(rt, port, &mut one, &mut other, &mut text)?;
     Ok(text)
 }
 
-// Thirty idle slots wait 227 milliseconds together in ten rounds, and not each of them.
-fn idle(rt: HostRuntime) -> Result<String, Fail> {
+// Thirty slots that share their waits.
+fn thirty(rt: HostRuntime) -> Result<Vec<SlotInlet>, Fail> {
     let (listener, _port) = listen(rt)?;
     let rest = Rest::new(rt.alloc(), rt)?;
     let mut slots = Vec::new(rt.alloc());
@@ -152,22 +212,37 @@ fn idle(rt: HostRuntime) -> Result<String, Fail> {
         let socket = listener.socket()?;
         slots.push(SlotInlet::open(rt.alloc(), rt, socket, b"test", false, rest.share()?)?)?;
     }
-    let start = Instant::now(&rt)?;
+    Ok(slots)
+}
+
+// One pull of each slot, which must be idle.
+fn wait_once(slots: &mut Vec<SlotInlet>) -> Result<(), Fail> {
     let mut buffer = [0u8; 2];
-    for _ in 0..10 {
-        for slot in &mut slots {
-            if slot.pull(&mut buffer)? != Pull::Idle {
-                return Err("it wasn't idle".into());
-            }
+    for slot in slots {
+        if slot.pull(&mut buffer)? != Pull::Idle {
+            return Err("it wasn't idle".into());
         }
     }
-    let took = start.elapsed(&rt)?.as_millis();
-    let word = if took < 200 {
+    Ok(())
+}
+
+fn duration(milliseconds: u128) -> &'static str {
+    if milliseconds < 200 {
         "no wait"
-    } else if took < 5_000 {
+    } else if milliseconds < 5_000 {
         "short"
     } else {
         "long"
-    };
-    Ok(String::from_str(rt.alloc(), word)?)
+    }
+}
+
+// Thirty idle slots wait 227 milliseconds together in ten rounds, and not each of them.
+fn idle(rt: HostRuntime) -> Result<String, Fail> {
+    let mut slots = thirty(rt)?;
+    let start = Instant::now(&rt)?;
+    for _ in 0..10 {
+        wait_once(&mut slots)?;
+    }
+    let took = start.elapsed(&rt)?.as_millis();
+    Ok(String::from_str(rt.alloc(), duration(took))?)
 }

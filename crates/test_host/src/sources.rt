@@ -1,10 +1,9 @@
 // Steps over files that are read.
-use crate::folder::Folder;
-use sg_device::{Inlet, Pull};
+use crate::folder::{Folder, brought};
+use sg_device::Inlet;
 use sg_file::FileInlet;
 use std::fs;
 use std::io::Write;
-use std::os::unix::net::UnixListener;
 use std::test::Fail;
 
 // The limit of a line in these steps.
@@ -12,88 +11,97 @@ const LIMIT: u32 = 4;
 
 /// What a step over a source comes to.
 pub(crate) fn take(folder: &Folder, what: &str) -> Result<String, Fail> {
-    let other = folder.at("s")?;
-    let _listener = UnixListener::bind(&folder.rt, other.as_str())?;
-    let missing = folder.at("none")?;
     match what {
         "places" => places(folder),
-        "folder" => opened(folder, b"/"),
-        "socket" => opened(folder, other.as_bytes()),
-        "device" => opened(folder, b"/dev/null"),
-        "name" => opened(folder, b"/tmp/\xff"),
-        "missing" => opened(folder, missing.as_bytes()),
+        "folder" => folder.word(opened(folder, b"/")?),
+        "socket" => folder.word(opened(folder, folder.socket()?.as_bytes())?),
+        "device" => folder.word(opened(folder, b"/dev/null")?),
+        "name" => folder.word(opened(folder, b"/tmp/\xff")?),
+        "missing" => folder.word(opened(folder, folder.at("none")?.as_bytes())?),
         _ => pulls(folder, what),
     }
 }
 
-fn opened(folder: &Folder, path: &[u8]) -> Result<String, Fail> {
+fn opened(folder: &Folder, path: &[u8]) -> Result<&'static str, Fail> {
     let rest = folder.rest()?;
-    let word = match FileInlet::open(folder.alloc, folder.rt, path, true, LIMIT, 0, rest) {
-        Ok(_) => "opened",
-        Err(_) => "refused",
-    };
-    Ok(String::from_str(folder.alloc, word)?)
+    Ok(
+        match FileInlet::open(folder.alloc, folder.rt, path, true, LIMIT, 0, rest) {
+            Ok(_) => "opened",
+            Err(_) => "refused",
+        },
+    )
+}
+
+// The file of a step, from this place on.
+fn inlet(folder: &Folder, once: bool, from: u64) -> Result<FileInlet, Fail> {
+    let path = folder.at("in")?;
+    let rest = folder.rest()?;
+    let path = path.as_bytes();
+    Ok(FileInlet::open(folder.alloc, folder.rt, path, once, LIMIT, from, rest)?)
+}
+
+// The place at which reading begins for the one asked for.
+fn place(folder: &Folder, from: u64) -> Result<String, Fail> {
+    let place = inlet(folder, true, from)?.counts().from;
+    Ok(format!(in folder.alloc; " {place}")?)
 }
 
 // The places at which reading begins, for those asked for: behind a line feed, and behind a piece of
 // a line that was cut at the limit.
 fn places(folder: &Folder) -> Result<String, Fail> {
-    let path = folder.file("in", b"abc\nefghijk\n")?;
+    folder.file("in", b"abc\nefghijk\n")?;
     let mut text = String::new(folder.alloc);
     for from in [0u64, 4, 3, 7, 8, 13, 11, 1 << 63, u64::MAX] {
-        let path = path.as_bytes();
-        let rest = folder.rest()?;
-        let inlet = FileInlet::open(folder.alloc, folder.rt, path, true, LIMIT, from, rest)?;
-        let place = inlet.counts().from;
-        let shown = format!(in folder.alloc; " {place}")?;
-        text.push_str(shown.as_str())?;
+        text.push_str(place(folder, from)?.as_str())?;
     }
-    Ok(String::from_str(folder.alloc, text.as_str().trim())?)
+    folder.word(text.as_str().trim())
 }
 
 // What pulls bring: bytes, `.` for the end, `-` for a pause, each with a colon behind it.
 fn pulls(folder: &Folder, what: &str) -> Result<String, Fail> {
-    let path = folder.file("in", b"abc")?;
-    let rest = folder.rest()?;
-    let once = what == "once";
-    let mut inlet = FileInlet::open(
-        folder.alloc,
-        folder.rt,
-        path.as_bytes(),
-        once,
-        LIMIT,
-        0,
-        rest,
-    )?;
+    folder.file("in", b"abc")?;
+    let mut inlet = inlet(folder, what == "once", 0)?;
     let mut text = String::new(folder.alloc);
+    first_pulls(folder, &mut inlet, what, &mut text)?;
     pull(&mut inlet, &mut text)?;
+    change(folder, what)?;
+    last_pulls(&mut inlet, what, &mut text)?;
+    Ok(text)
+}
+
+// The first pull, and what comes behind it.
+fn first_pulls(
+    folder: &Folder,
+    inlet: &mut FileInlet,
+    what: &str,
+    text: &mut String,
+) -> Result<(), Fail> {
+    pull(inlet, text)?;
     match what {
         "once" => {
             append(folder, b"de")?;
-            pull(&mut inlet, &mut text)?;
+            pull(inlet, text)?;
         }
         "hung" => inlet.hangup(),
         "idle" | "grown" | "shorter" | "replaced" | "unlinked" => {}
         _ => return Err("no such step".into()),
     }
-    pull(&mut inlet, &mut text)?;
-    change(folder, what)?;
-    pull(&mut inlet, &mut text)?;
+    Ok(())
+}
+
+// The pulls of a file that may have changed.
+fn last_pulls(inlet: &mut FileInlet, what: &str, text: &mut String) -> Result<(), Fail> {
+    pull(inlet, text)?;
     if what == "shorter" {
-        pull(&mut inlet, &mut text)?;
+        pull(inlet, text)?;
     }
-    Ok(text)
+    Ok(())
 }
 
 fn pull(inlet: &mut FileInlet, text: &mut String) -> Result<(), Fail> {
     let mut buffer = [0u8; 3];
-    match inlet.pull(&mut buffer) {
-        Ok(Pull::Bytes { len, .. }) => text.push_str(str::from_utf8(&buffer[..len])?)?,
-        Ok(Pull::End) => text.push_str(".")?,
-        Ok(Pull::Idle) => text.push_str("-")?,
-        Ok(Pull::Next) => text.push_str("next")?,
-        Err(_) => text.push_str("fault")?,
-    }
+    let got = inlet.pull(&mut buffer);
+    text.push_str(brought(got, &buffer)?)?;
     text.push_str(":")?;
     Ok(())
 }

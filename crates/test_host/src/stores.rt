@@ -1,10 +1,9 @@
 // Steps over stores, and over files that are read whole.
-use crate::folder::Folder;
+use crate::folder::{Folder, presence};
 use sg_device::{Disk, FileRefusal, OpenRefusal};
 use sg_file::{FileDisk, read_file};
 use std::fs;
-use std::os::unix::fs::{PermissionsExt, symlink};
-use std::os::unix::net::UnixListener;
+use std::os::unix::fs::PermissionsExt;
 use std::test::Fail;
 
 /// What a step over a store comes to.
@@ -16,39 +15,43 @@ pub(crate) fn take(folder: &Folder, what: &str) -> Result<String, Fail> {
         "planted" => planted(folder),
         "dangling" => dangling(folder),
         "missing" => missing(folder),
-        "folder" => Ok(opened(folder, b"/")?),
-        "socket" => socket(folder),
-        "name" => Ok(opened(folder, b"/tmp/\xff")?),
+        "folder" => folder.word(opened(folder, b"/")),
+        "socket" => folder.word(opened(folder, folder.socket()?.as_bytes())),
+        "name" => folder.word(opened(folder, b"/tmp/\xff")),
         "short" => short(folder),
         _ => Err("no such step".into()),
     }
 }
 
 // Whether a store opens that would be made.
-fn opened(folder: &Folder, path: &[u8]) -> Result<String, Fail> {
-    let word = match FileDisk::open(folder.alloc, folder.rt, path, true) {
+fn opened(folder: &Folder, path: &[u8]) -> &'static str {
+    match FileDisk::open(folder.alloc, folder.rt, path, true) {
         Ok(_) => "opened",
         Err(_) => "refused",
-    };
-    Ok(String::from_str(folder.alloc, word)?)
+    }
+}
+
+// Whether the store opens by each of its names.
+fn by_both_names(folder: &Folder) -> Result<String, Fail> {
+    let path = folder.at("q")?;
+    let other = folder.at("./q")?;
+    let second = opened(folder, path.as_bytes());
+    let third = opened(folder, other.as_bytes());
+    Ok(format!(in folder.alloc; "{second} {third}")?)
 }
 
 // A store is locked while it is open, under each of its names.
 fn lock(folder: &Folder) -> Result<String, Fail> {
     let path = folder.at("q")?;
-    let other = folder.at("./q")?;
     let held = FileDisk::open(folder.alloc, folder.rt, path.as_bytes(), true)?;
-    let second = opened(folder, path.as_bytes())?;
-    let third = opened(folder, other.as_bytes())?;
+    let others = by_both_names(folder)?;
     drop(held);
-    let last = opened(folder, path.as_bytes())?;
-    Ok(format!(in folder.alloc; "opened {second} {third} {last}")?)
+    let last = opened(folder, path.as_bytes());
+    Ok(format!(in folder.alloc; "opened {others} {last}")?)
 }
 
-// A fresh store is 128 zero bytes, for its owner alone, and nothing else is left.
-fn fresh(folder: &Folder) -> Result<String, Fail> {
-    let path = folder.at("q")?;
-    let opened = opened(folder, path.as_bytes())?;
+// How many bytes the store has, and whether all of them are zero.
+fn zeros(folder: &Folder) -> Result<String, Fail> {
     let bytes = folder.bytes("q")?;
     let count = bytes.len();
     let zeros = if bytes.iter().all(|byte| *byte == 0) {
@@ -56,9 +59,17 @@ fn fresh(folder: &Folder) -> Result<String, Fail> {
     } else {
         "others"
     };
+    Ok(format!(in folder.alloc; "{count} {zeros}")?)
+}
+
+// A fresh store is 128 zero bytes, for its owner alone, and nothing else is left.
+fn fresh(folder: &Folder) -> Result<String, Fail> {
+    let path = folder.at("q")?;
+    let opened = opened(folder, path.as_bytes());
+    let zeros = zeros(folder)?;
     let mode = folder.mode("q")?;
     let names = folder.names()?;
-    Ok(format!(in folder.alloc; "{opened} {count} {zeros}{mode} names {names}")?)
+    Ok(format!(in folder.alloc; "{opened} {zeros}{mode} names {names}")?)
 }
 
 // A store that is there keeps its bytes and its mode.
@@ -66,7 +77,7 @@ fn existing(folder: &Folder) -> Result<String, Fail> {
     let path = folder.file("q", b"abc")?;
     let mode = fs::Permissions::from_mode(0o644);
     fs::set_permissions(&folder.rt, path.as_str(), mode)?;
-    let opened = opened(folder, path.as_bytes())?;
+    let opened = opened(folder, path.as_bytes());
     let count = folder.bytes("q")?.len();
     let mode = folder.mode("q")?;
     Ok(format!(in folder.alloc; "{opened} {count} bytes{mode}")?)
@@ -74,11 +85,10 @@ fn existing(folder: &Folder) -> Result<String, Fail> {
 
 // A link where a temporary file could be isn't followed.
 fn planted(folder: &Folder) -> Result<String, Fail> {
+    folder.file("target", b"abc")?;
+    folder.link("q.new", "target")?;
     let path = folder.at("q")?;
-    let target = folder.file("target", b"abc")?;
-    let link = folder.at("q.new")?;
-    symlink(&folder.rt, target.as_str(), link.as_str())?;
-    let opened = opened(folder, path.as_bytes())?;
+    let opened = opened(folder, path.as_bytes());
     let untouched = if folder.bytes("target")?.as_slice() == b"abc".as_slice() {
         "untouched"
     } else {
@@ -89,15 +99,9 @@ fn planted(folder: &Folder) -> Result<String, Fail> {
 
 // A store that is a link to nothing isn't made.
 fn dangling(folder: &Folder) -> Result<String, Fail> {
-    let target = folder.at("target")?;
-    let link = folder.at("q")?;
-    symlink(&folder.rt, target.as_str(), link.as_str())?;
-    let opened = opened(folder, link.as_bytes())?;
-    let absent = if fs::exists(&folder.rt, target.as_str())? {
-        "there"
-    } else {
-        "absent"
-    };
+    let link = folder.link("q", "target")?;
+    let opened = opened(folder, link.as_bytes());
+    let absent = presence(folder.has("target")?);
     Ok(format!(in folder.alloc; "{opened} {absent}")?)
 }
 
@@ -109,18 +113,8 @@ fn missing(folder: &Folder) -> Result<String, Fail> {
         Err(OpenRefusal::Failed) => "refused",
         Err(OpenRefusal::NoMemory) => "starved",
     };
-    let absent = if fs::exists(&folder.rt, path.as_str())? {
-        "there"
-    } else {
-        "absent"
-    };
+    let absent = presence(folder.has("q")?);
     Ok(format!(in folder.alloc; "{word} {absent}")?)
-}
-
-fn socket(folder: &Folder) -> Result<String, Fail> {
-    let path = folder.at("q")?;
-    let _listener = UnixListener::bind(&folder.rt, path.as_str())?;
-    opened(folder, path.as_bytes())
 }
 
 // A read ends at the end of the file.
@@ -135,14 +129,11 @@ fn short(folder: &Folder) -> Result<String, Fail> {
 
 /// What a step over a file that is read whole comes to.
 pub(crate) fn read(folder: &Folder, what: &str) -> Result<String, Fail> {
-    let path = folder.file("f", b"abcde")?;
-    let other = folder.at("s")?;
-    let _listener = UnixListener::bind(&folder.rt, other.as_str())?;
     match what {
-        "whole" => told(folder, path.as_bytes(), 5),
-        "long" => told(folder, path.as_bytes(), 4),
+        "whole" => told(folder, folder.file("f", b"abcde")?.as_bytes(), 5),
+        "long" => told(folder, folder.file("f", b"abcde")?.as_bytes(), 4),
         "folder" => told(folder, b"/", 5),
-        "socket" => told(folder, other.as_bytes(), 5),
+        "socket" => told(folder, folder.socket()?.as_bytes(), 5),
         "name" => told(folder, b"/tmp/\xff", 5),
         _ => Err("no such step".into()),
     }

@@ -1,6 +1,6 @@
 // An entry in both formats, and bytes that are none.
-use sg_codec::{CodecRefusal, decode, encode, encoded_len};
-use std::alloc::Global;
+use sg_codec::{CodecRefusal, Kept, decode, encode, encoded_len};
+use std::alloc::{AllocError, Global};
 use std::test::Fail;
 
 // The one pair MESSAGE=`one`, with flow-control, from inlet 0 with the end 4, PRI 13, all stamps 0.
@@ -32,35 +32,66 @@ fn damage(alloc: Global, bytes: &[u8]) -> Option<u64> {
     }
 }
 
-#[test]
-fn formats(rt: HostRuntime) -> Result<(), Fail> {
-    for bytes in [FORMAT1.as_slice(), FORMAT2.as_slice()] {
-        let kept = decode(rt.alloc(), bytes)?;
-        assert_eq!(rt; (kept.source, kept.flow), (0, true));
-        assert_eq!(rt; kept.end, 4);
-        assert_eq!(rt; kept.message.pri(), 13);
-        assert!(rt;
-            matches!(kept.message.get(b"MESSAGE"), Some(value) if value == b"one".as_slice())
-        );
-        assert_eq!(rt; encoded_len(&kept), 61);
-        let written = encode(rt.alloc(), &kept)?;
-        assert_eq!(rt; written.as_slice(), FORMAT2.as_slice());
+fn says(kept: &Kept) -> bool {
+    kept.source == 0
+        && kept.flow
+        && kept.message.pri() == 13
+        && matches!(kept.message.get(b"MESSAGE"), Some(value) if value == b"one".as_slice())
+}
+
+// What is written of an entry with the end 4 and 61 bytes.
+fn written(alloc: Global, kept: &Kept) -> Option<Vec<u8>> {
+    if kept.end != 4 || encoded_len(kept) != 61 {
+        return None;
     }
-    Ok(())
+    encode(alloc, kept).ok()
+}
+
+fn is_written(alloc: Global, kept: &Kept) -> bool {
+    match written(alloc, kept) {
+        Some(bytes) => bytes.as_slice() == FORMAT2.as_slice(),
+        None => false,
+    }
+}
+
+// Whether the bytes are read as the entry, and that is written in the second format.
+fn holds(alloc: Global, bytes: &[u8]) -> bool {
+    match decode(alloc, bytes) {
+        Ok(kept) => says(&kept) && is_written(alloc, &kept),
+        Err(_) => false,
+    }
+}
+
+#[test]
+fn formats(rt: HostRuntime) {
+    for bytes in [FORMAT1.as_slice(), FORMAT2.as_slice()] {
+        assert!(rt; holds(rt.alloc(), bytes), "{bytes:?}");
+    }
+}
+
+// The damage that this byte does at this place of FORMAT2.
+fn damage_by(alloc: Global, place: usize, byte: u8) -> Option<u64> {
+    let mut bytes = *FORMAT2;
+    match bytes.get_mut(place) {
+        Some(changed) => *changed = byte,
+        None => return None,
+    }
+    damage(alloc, &bytes)
+}
+
+// The damage that a byte more does behind FORMAT1.
+fn damage_behind(alloc: Global) -> Result<Option<u64>, AllocError> {
+    let mut longer = Vec::from_slice(alloc, FORMAT1.as_slice())?;
+    longer.push(0)?;
+    Ok(damage(alloc, &longer))
 }
 
 #[test]
 fn damaged(rt: HostRuntime) -> Result<(), Fail> {
     for (place, byte, at) in DAMAGED {
-        let mut bytes = *FORMAT2;
-        if let Some(changed) = bytes.get_mut(place) {
-            *changed = byte;
-        }
-        assert_eq!(rt; damage(rt.alloc(), &bytes), Some(at), "{place}");
+        assert_eq!(rt; damage_by(rt.alloc(), place, byte), Some(at), "{place}");
     }
-    let mut longer = Vec::from_slice(rt.alloc(), FORMAT1.as_slice())?;
-    longer.push(0)?;
-    assert_eq!(rt; damage(rt.alloc(), &longer), Some(47));
+    assert_eq!(rt; damage_behind(rt.alloc())?, Some(47));
     assert_eq!(rt; damage(rt.alloc(), &FORMAT1[..46]), Some(44));
     Ok(())
 }

@@ -1,12 +1,12 @@
 // Records, and what RFC 5424 says of them.
 ghost use Rattle.std.specs.Prelude.{◌≤ℤ◌, pos};
 
-use crate::source::{OPTS, PULLED, RECEIVED, has_pairs};
+use crate::source::{OPTS, PULLED, RECEIVED, has_head, has_pairs};
 use bytes::Bytes;
 use sg_msg::Message;
 use sg_r5424::{R5424Refusal, read, records_say_one_message, refused};
 use sg_time::Stamp;
-use std::alloc::Global;
+use std::alloc::{AllocError, Global};
 use std::test::Fail;
 
 // Records, and their PRI, their stamp and its offset, and their pairs. The first four are the examples
@@ -83,31 +83,69 @@ fn read_row(alloc: Global, item: &[u8]) -> Result<Message, R5424Refusal> {
     )
 }
 
-#[test]
-fn records_are_read(rt: HostRuntime) -> Result<(), Fail> {
-    records_say_one_message();
-    for row in RECORDS.lines() {
-        let (item, said) = row.split_once(" => ").ok_or("no message")?;
-        let (head, pairs) = said.split_once('|').ok_or("no pairs")?;
-        let (pri, stamp) = head.split_once(' ').ok_or("no stamp")?;
-        let (at, offset) = stamp.split_once(' ').ok_or("no offset")?;
-        let sent = Stamp {
-            at: at.parse::<i64>()?,
-            offset: offset.parse::<i16>()?,
-        };
-        let message = read_row(rt.alloc(), item.as_bytes())?;
-        assert_eq!(rt; message.pri(), pri.parse::<u8>()?, "{row}");
-        assert_eq!(rt; message.sent(), sent, "{row}");
-        assert_eq!(rt; message.received(), RECEIVED, "{row}");
-        assert!(rt; has_pairs(&message, pairs, '|'), "{row}");
-    }
-    Ok(())
+// A row's parts.
+#[derive(Drop)]
+struct Row<'r> {
+    item: &'r str,
+    pri: &'r str,
+    stamp: &'r str,
+    pairs: &'r str,
 }
 
-fn has_pair(message: &Message, name: &[u8], value: &[u8]) -> bool {
-    match message.get(name) {
-        Some(found) => found == value,
+fn row_of(line: &str) -> Option<Row<'_>> {
+    let Some((item, said)) = line.split_once(" => ") else {
+        return None;
+    };
+    let Some((head, pairs)) = said.split_once('|') else {
+        return None;
+    };
+    match head.split_once(' ') {
+        Some((pri, stamp)) => Some(Row {
+            item,
+            pri,
+            stamp,
+            pairs,
+        }),
+        None => None,
+    }
+}
+
+fn stamp_of(text: &str) -> Option<Stamp> {
+    let Some((at, offset)) = text.split_once(' ') else {
+        return None;
+    };
+    let Ok(at) = at.parse::<i64>() else {
+        return None;
+    };
+    match offset.parse::<i16>() {
+        Ok(offset) => Some(Stamp { at, offset }),
+        Err(_) => None,
+    }
+}
+
+fn says(message: &Message, row: &Row) -> bool {
+    match stamp_of(row.stamp) {
+        Some(sent) => has_head(message, row.pri, sent) && has_pairs(message, row.pairs, '|'),
         None => false,
+    }
+}
+
+// Whether the item of a row is read as the message that it says.
+fn holds(alloc: Global, line: &str) -> bool {
+    let Some(row) = row_of(line) else {
+        return false;
+    };
+    match read_row(alloc, row.item.as_bytes()) {
+        Ok(message) => says(&message, &row),
+        Err(_) => false,
+    }
+}
+
+#[test]
+fn records_are_read(rt: HostRuntime) {
+    records_say_one_message();
+    for row in RECORDS.lines() {
+        assert!(rt; holds(rt.alloc(), row), "{row}");
     }
 }
 
@@ -128,6 +166,24 @@ const BYTES: [(&[u8], &[u8], &[u8]); 5] = [
     ),
 ];
 
+// Whether the item's message has this pair.
+fn has_pair(alloc: Global, item: &[u8], name: &[u8], value: &[u8]) -> bool {
+    let Ok(message) = read_row(alloc, item) else {
+        return false;
+    };
+    match message.get(name) {
+        Some(found) => found == value,
+        None => false,
+    }
+}
+
+#[test]
+fn bytes_are_read(rt: HostRuntime) {
+    for (item, name, value) in BYTES {
+        assert!(rt; has_pair(rt.alloc(), item, name, value), "{item:?}");
+    }
+}
+
 // How far a record could be read, or nothing.
 fn stops_at(alloc: Global, item: &[u8]) -> Option<usize> {
     match read_row(alloc, item) {
@@ -136,28 +192,53 @@ fn stops_at(alloc: Global, item: &[u8]) -> Option<usize> {
     }
 }
 
-#[test]
-fn other_records_are_refused(rt: HostRuntime) -> Result<(), Fail> {
-    for (item, name, value) in BYTES {
-        let message = read_row(rt.alloc(), item)?;
-        assert!(rt; has_pair(&message, name, value));
+fn brackets(alloc: Global) -> Result<Vec<u8>, AllocError> {
+    let mut text = Vec::new(alloc);
+    for _ in 0..65_536 {
+        text.push(b'[')?;
     }
+    Ok(text)
+}
+
+fn brackets_stop_at(alloc: Global) -> Option<usize> {
+    match brackets(alloc) {
+        Ok(text) => stops_at(alloc, &text),
+        Err(_) => None,
+    }
+}
+
+#[test]
+fn other_records_are_refused(rt: HostRuntime) {
     for item in REFUSED.lines() {
-        let place = stops_at(rt.alloc(), item.as_bytes());
-        assert!(rt; place.is_some(), "{item}");
+        assert!(rt; stops_at(rt.alloc(), item.as_bytes()).is_some(), "{item}");
     }
     assert_eq!(rt; stops_at(rt.alloc(), b""), Some(0));
-    let brackets = vec![in rt.alloc(); b'['; 65_536]?;
-    assert_eq!(rt; stops_at(rt.alloc(), brackets.as_slice()), Some(0));
+    assert_eq!(rt; brackets_stop_at(rt.alloc()), Some(0));
+}
+
+// The message that stands for a refused item.
+fn message_instead(alloc: Global, item: &[u8]) -> Result<Message, AllocError> {
     let peer = Bytes::from_static(b"peer");
-    let item = Bytes::copy_from_slice(rt.alloc(), &brackets)?;
-    let message = refused(rt.alloc(), item, PULLED, &peer, &OPTS)?;
-    assert_eq!(rt; message.pri(), 43);
-    let item = Bytes::from_static(b"<34>1");
-    let message = refused(rt.alloc(), item, PULLED, &peer, &OPTS)?;
-    assert_eq!(rt; message.pri(), 43);
-    assert_eq!(rt; message.sent(), RECEIVED);
+    refused(
+        alloc,
+        Bytes::copy_from_slice(alloc, item)?,
+        PULLED,
+        &peer,
+        &OPTS,
+    )
+}
+
+fn brackets_pri(alloc: Global) -> Result<u8, AllocError> {
+    let text = brackets(alloc)?;
+    let message = message_instead(alloc, &text)?;
+    Ok(message.pri())
+}
+
+#[test]
+fn refused_records_are_told(rt: HostRuntime) -> Result<(), Fail> {
+    assert_eq!(rt; brackets_pri(rt.alloc())?, 43);
+    let message = message_instead(rt.alloc(), b"<34>1")?;
     let pairs = "HOST=peer|MESSAGE=Error processing log message: <34>1|PROGRAM=syslog-ng";
-    assert!(rt; has_pairs(&message, pairs, '|'));
+    assert!(rt; has_head(&message, "43", RECEIVED) && has_pairs(&message, pairs, '|'));
     Ok(())
 }

@@ -19,18 +19,43 @@ pub(crate) const OPTS: ReadOpts = ReadOpts {
     parse: true,
 };
 
+// Whether the message has this pair at this place.
+fn has_pair_at(message: &Message, place: usize, pair: &str) -> bool {
+    let Some((name, value)) = pair.split_once('=') else {
+        return false;
+    };
+    match message.pair(place) {
+        Some(found) => found.0 == name.as_bytes() && found.1 == value.as_bytes(),
+        None => false,
+    }
+}
+
 // Whether these are all the pairs, with this byte between them.
 pub(crate) fn has_pairs(message: &Message, pairs: &str, between: char) -> bool {
     let mut count = 0;
-    for (place, pair) in pairs.split(between).enumerate() {
-        let Some((name, value)) = pair.split_once('=') else {
+    for pair in pairs.split(between) {
+        if !has_pair_at(message, count, pair) {
             return false;
-        };
-        match message.pair(place) {
-            Some(found) if found.0 == name.as_bytes() && found.1 == value.as_bytes() => {}
-            _ => return false,
         }
-        count = place + 1;
+        count = count.saturating_add(1);
     }
     message.pair(count).is_none()
+}
+
+// Whether the message has this PRI, was sent then, and was pulled in at PULLED.
+pub(crate) fn has_head(message: &Message, pri: &str, sent: Stamp) -> bool {
+    match pri.parse::<u8>() {
+        Ok(pri) => {
+            message.pri() == pri && message.sent() == sent && message.received() == RECEIVED
+        }
+        Err(_) => false,
+    }
+}
+
+// The value of the name, or nothing.
+pub(crate) fn value<'a>(message: &'a Message, name: &[u8]) -> &'a [u8] {
+    match message.get(name) {
+        Some(value) => value,
+        None => b"",
+    }
 }

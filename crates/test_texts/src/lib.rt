@@ -2,6 +2,8 @@
 #![tactic(auto)]
 
 #[cfg(test)]
+mod event;
+#[cfg(test)]
 mod macros;
 #[cfg(test)]
 mod outfmt;

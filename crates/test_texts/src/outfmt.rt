@@ -1,8 +1,10 @@
 // Frames of the three kinds of destinations.
+use crate::event::event;
 use sg_msg::Message;
 use sg_outfmt::{DriverKind, Shape, default_shape, frame, unpacked};
-use sg_template::{Env, Template};
+use sg_template::{Env, Template, TemplateFault};
 use sg_time::Stamp;
+use std::alloc::{AllocError, Global};
 use std::test::Fail;
 
 const EPOCH: Stamp = Stamp { at: 0, offset: 0 };
@@ -22,42 +24,63 @@ const FRAMES: [(DriverKind, &str); 3] = [
     ),
 ];
 
-#[test]
-fn frames(rt: HostRuntime) -> Result<(), Fail> {
-    let alloc = rt.alloc();
-    let sent = Stamp {
-        at: 1_065_910_455_003_000,
-        offset: 0,
-    };
+const VALUES: &str = "\
+HOST|h
+PROGRAM|evntslog
+MSGID|ID47
+MESSAGE|An event";
+
+// Whether the frame of the event is this text, which is appended.
+fn has_frame(
+    shape: &Shape,
+    message: &Message,
+    out: &mut Vec<u8>,
+    text: &[u8],
+) -> Result<bool, AllocError> {
     let env = Env {
         zone: None,
         digits: 3,
         iso: false,
         old: None,
     };
-    let mut message = Message::new(alloc, 165, sent, EPOCH)?;
-    message.set(b"HOST", b"h").ok();
-    message.set(b"PROGRAM", b"evntslog").ok();
-    message.set(b"MSGID", b"ID47").ok();
-    message.set(b"MESSAGE", b"An event").ok();
-    let mut out = Vec::new(alloc);
+    let before = out.len();
+    frame(shape, message, &env, out)?;
+    Ok(&out[before..] == text)
+}
+
+#[test]
+fn frames(rt: HostRuntime) -> Result<(), Fail> {
+    let message = event(rt.alloc(), EPOCH, VALUES)?;
+    let mut out = Vec::new(rt.alloc());
     for (driver, text) in FRAMES {
-        let shape = default_shape(alloc, driver)?;
-        let before = out.len();
-        frame(&shape, &message, &env, &mut out)?;
-        assert_eq!(rt; &out[before..], text.as_bytes());
+        let shape = default_shape(rt.alloc(), driver)?;
+        assert!(rt;
+            has_frame(&shape, &message, &mut out, text.as_bytes())?,
+            "{text}"
+        );
     }
-    let shape = Shape::Text(Template::read(alloc, b"$MSG\n")?);
-    out.clear();
-    frame(&shape, &message, &env, &mut out)?;
-    assert_eq!(rt; out.as_slice(), b"An event\n".as_slice());
-    let shape = Shape::ByPath {
+    Ok(())
+}
+
+fn by_text(alloc: Global) -> Result<Shape, TemplateFault> {
+    Ok(Shape::Text(Template::read(alloc, b"$MSG\n")?))
+}
+
+fn by_path(alloc: Global) -> Result<Shape, TemplateFault> {
+    Ok(Shape::ByPath {
         path: Template::read(alloc, b"/out/$MSGID")?,
         text: Template::read(alloc, b"$MSG\n")?,
-    };
-    out.clear();
-    frame(&shape, &message, &env, &mut out)?;
-    assert_eq!(rt; out.as_slice(), b"\0\x09/out/ID47An event\n".as_slice());
+    })
+}
+
+#[test]
+fn frames_of_templates(rt: HostRuntime) -> Result<(), Fail> {
+    let message = event(rt.alloc(), EPOCH, VALUES)?;
+    let mut out = Vec::new(rt.alloc());
+    let shape = by_text(rt.alloc())?;
+    assert!(rt; has_frame(&shape, &message, &mut out, b"An event\n")?);
+    let shape = by_path(rt.alloc())?;
+    assert!(rt; has_frame(&shape, &message, &mut out, b"\0\x09/out/ID47An event\n")?);
     Ok(())
 }
 

@@ -1,9 +1,13 @@
 // Templates over messages.
+ghost use Rattle.sg_time.specs.Stamp.{IsValid};
+
+use crate::event::event;
+use crate::time::read_row;
 use sg_device::Name;
 use sg_msg::Message;
 use sg_template::{Env, Template, TemplateFault};
 use sg_time::Stamp;
-use std::alloc::Global;
+use std::alloc::{AllocError, Global};
 use std::test::Fail;
 
 const EPOCH: Stamp = Stamp { at: 0, offset: 0 };
@@ -78,85 +82,106 @@ fn is_shown(alloc: Global, row: &str, message: &Message, env: &Env) -> Result<bo
     Ok(text(alloc, template, message, env)?.as_slice() == shown.as_bytes())
 }
 
-#[test]
-fn stamps_as_gnu_date_prints_them(rt: HostRuntime) -> Result<(), Fail> {
-    let alloc = rt.alloc();
+// Whether a template has this text over a message that was sent and received then.
+fn is_stamped(
+    alloc: Global,
+    template: &str,
+    sent: Stamp,
+    received: Stamp,
+    shown: &str,
+) -> Result<bool, Fail>
+    requires sent { IsValid sent }
+    requires received { IsValid received }
+{
     let env = Env {
         zone: None,
         digits: 6,
         iso: false,
         old: None,
     };
+    let message = Message::new(alloc, 13, sent, received)?;
+    Ok(text(alloc, template, &message, &env)?.as_slice() == shown.as_bytes())
+}
+
+// Whether the macros of a row's stamp have its texts, each with either prefix and with none.
+fn is_printed(alloc: Global, row: &str) -> Result<bool, Fail> {
+    let (stamp, shown) = read_row(row)?;
+    if !stamp.is_valid() || !is_stamped(alloc, PLAIN, stamp, EPOCH, shown)? {
+        return Ok(false);
+    }
+    if !is_stamped(alloc, SENT, stamp, EPOCH, shown)? {
+        return Ok(false);
+    }
+    is_stamped(alloc, RECEIVED, EPOCH, stamp, shown)
+}
+
+#[test]
+fn stamps_as_gnu_date_prints_them(rt: HostRuntime) -> Result<(), Fail> {
     for row in STAMPS.lines() {
-        let (at, rest) = row.split_once(' ').ok_or("no offset")?;
-        let (offset, shown) = rest.split_once(' ').ok_or("no text")?;
-        let stamp = Stamp {
-            at: at.parse::<i64>()?,
-            offset: offset.parse::<i16>()?,
-        };
-        assert!(rt; stamp.is_valid(), "{row}");
-        let sent = Message::new(alloc, 13, stamp, EPOCH)?;
-        let received = Message::new(alloc, 13, EPOCH, stamp)?;
-        for template in [PLAIN, SENT] {
-            let out = text(alloc, template, &sent, &env)?;
-            assert_eq!(rt; out.as_slice(), shown.as_bytes(), "{row}");
-        }
-        let out = text(alloc, RECEIVED, &received, &env)?;
-        assert_eq!(rt; out.as_slice(), shown.as_bytes(), "{row}");
+        assert!(rt; is_printed(rt.alloc(), row)?, "{row}");
     }
     Ok(())
 }
 
-// The event of RFC 5424, 6.3.5 and 6.5, with a value that has to be escaped, an element without
-// parameters and a name that the grammar doesn't have. In the zone the year of its arrival would be
-// 10000.
-fn event(alloc: Global) -> Result<Message, Fail> {
-    let sent = Stamp {
-        at: 1_065_910_455_003_000,
-        offset: 0,
-    };
+// A value that has to be escaped, an element without parameters and a name that the grammar doesn't
+// have (RFC 5424, 6.3.5 and 6.5).
+const VALUES: &str = "\
+HOST|h
+PROGRAM|evntslog
+PID|7
+MESSAGE|An event
+.SDATA.exampleSDID@32473.iut|3
+.SDATA.exampleSDID@32473.eventSource|A\"p\\p]x
+.SDATA.examplePriority@32473.class|high
+.SDATA.origin|
+.SDATA.b=d.x|not a name";
+
+// An event with two tags. In the zone the year of its arrival would be 10000.
+fn tagged(alloc: Global) -> Result<Message, Fail> {
     let received = Stamp {
         at: 253_402_300_799_999_999,
         offset: 0,
     };
-    let mut message = Message::new(alloc, 165, sent, received)?;
-    message.set(b"HOST", b"h").ok();
-    message.set(b"PROGRAM", b"evntslog").ok();
-    message.set(b"PID", b"7").ok();
-    message.set(b"MESSAGE", b"An event").ok();
-    message.set(b".SDATA.exampleSDID@32473.iut", b"3").ok();
-    message
-        .set(b".SDATA.exampleSDID@32473.eventSource", b"A\"p\\p]x")
-        .ok();
-    message
-        .set(b".SDATA.examplePriority@32473.class", b"high")
-        .ok();
-    message.set(b".SDATA.origin", b"").ok();
-    message.set(b".SDATA.b=d.x", b"not a name").ok();
+    let mut message = event(alloc, received, VALUES)?;
     message.set_tag(b"one")?;
     message.set_tag(b"two")?;
     Ok(message)
 }
 
-#[test]
-fn texts_and_paths_of_an_event(rt: HostRuntime) -> Result<(), Fail> {
-    let alloc = rt.alloc();
-    let message = event(alloc)?;
-    let env = Env {
+// A zone an hour east of the event's stamp.
+fn zoned(alloc: Global) -> Result<Env, AllocError> {
+    Ok(Env {
         zone: Some(60),
         digits: 3,
         iso: true,
         old: Some(Name::new(alloc, b"old")?),
-    };
+    })
+}
+
+#[test]
+fn texts_and_paths_of_an_event(rt: HostRuntime) -> Result<(), Fail> {
+    let message = tagged(rt.alloc())?;
+    let env = zoned(rt.alloc())?;
     for row in TEXTS.lines() {
-        assert!(rt; is_shown(alloc, row, &message, &env)?, "{row}");
+        assert!(rt; is_shown(rt.alloc(), row, &message, &env)?, "{row}");
     }
-    let function = text(alloc, "$( ${A", &message, &env).err();
-    assert_eq!(rt; function, Some(TemplateFault::Function));
-    let open = text(alloc, "${A $(", &message, &env).err();
-    assert_eq!(rt; open, Some(TemplateFault::OpenBrace));
+    Ok(())
+}
+
+fn long_path(alloc: Global, message: &Message, env: &Env) -> Result<usize, TemplateFault> {
     let mut out = Vec::new(alloc);
-    Template::read(alloc, &[b'x'; 5000])?.render_path(&message, &env, &mut out)?;
-    assert_eq!(rt; out.len(), 4095);
+    Template::read(alloc, &[b'x'; 5000])?.render_path(message, env, &mut out)?;
+    Ok(out.len())
+}
+
+#[test]
+fn faults_and_a_long_path(rt: HostRuntime) -> Result<(), Fail> {
+    let message = tagged(rt.alloc())?;
+    let env = zoned(rt.alloc())?;
+    let function = text(rt.alloc(), "$( ${A", &message, &env).err();
+    assert_eq!(rt; function, Some(TemplateFault::Function));
+    let open = text(rt.alloc(), "${A $(", &message, &env).err();
+    assert_eq!(rt; open, Some(TemplateFault::OpenBrace));
+    assert_eq!(rt; long_path(rt.alloc(), &message, &env)?, 4095);
     Ok(())
 }

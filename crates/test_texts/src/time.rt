@@ -1,9 +1,12 @@
 // Examples of stamps and their texts.
+ghost use Rattle.std.specs.Prelude.{◌≤◌, IfSome};
+ghost use Rattle.sg_time.specs.Stamp.{IsValid};
+
 use sg_time::{
     Stamp, bsd_text, four_digits, iso_text, month_abbrev, offset_bytes, read_bsd, read_iso,
     six_digits, two_digits,
 };
-use std::alloc::Global;
+use std::alloc::{AllocError, Global};
 use std::test::Fail;
 
 // Moments with their offsets, and what GNU date prints of them.
@@ -105,34 +108,70 @@ no-bsd Feb  5 00:00
 no-bsd Feb\t 5 00:00:00
 parts 2023-11-14T18:43:20.123456-03:30 18 2023 Nov 123456 -03:30";
 
+/// A row's stamp, and what stands behind the numbers.
+pub(crate) fn read_row(row: &str) -> Result<(Stamp, &str), Fail> {
+    let (at, rest) = row.split_once(' ').ok_or("no offset")?;
+    let (offset, shown) = rest.split_once(' ').ok_or("no text")?;
+    let stamp = Stamp {
+        at: at.parse::<i64>()?,
+        offset: offset.parse::<i16>()?,
+    };
+    Ok((stamp, shown))
+}
+
+// Whether these texts are read as that stamp, the second one without its fraction.
+fn are_read(stamp: Stamp, iso: &str, bsd: &str) -> bool
+    requires { IsValid stamp }
+{
+    if read_iso(iso.as_bytes()) != Some((stamp, 32)) {
+        return false;
+    }
+    match read_bsd(bsd.as_bytes(), stamp) {
+        Some((read, len)) => { read.at / 1_000_000 == stamp.at.div_euclid(1_000_000) && len == 15 }
+        None => false,
+    }
+}
+
+// The texts of a stamp with so many digits of its fraction, and a space between them.
+fn texts(alloc: Global, stamp: Stamp, iso_digits: u8, bsd_digits: u8) -> Result<Vec<u8>, AllocError>
+    requires stamp { IsValid stamp }
+    requires iso { iso_digits ≤ 6 }
+    requires bsd { bsd_digits ≤ 6 }
+{
+    let mut out = Vec::new(alloc);
+    iso_text(stamp, iso_digits, &mut out)?;
+    out.push(b' ')?;
+    bsd_text(stamp, bsd_digits, &mut out)?;
+    Ok(out)
+}
+
+// Whether a row's stamp has its texts, and is read from each of them.
+fn is_printed(alloc: Global, row: &str) -> Result<bool, Fail> {
+    let (stamp, shown) = read_row(row)?;
+    let (iso, bsd) = shown.split_once(' ').ok_or("no text")?;
+    if !stamp.is_valid() || !are_read(stamp, iso, bsd) {
+        return Ok(false);
+    }
+    Ok(texts(alloc, stamp, 6, 0)?.as_slice() == shown.as_bytes())
+}
+
 #[test]
 fn stamps_as_gnu_date_prints_them(rt: HostRuntime) -> Result<(), Fail> {
     for row in STAMPS.lines() {
-        let (at, rest) = row.split_once(' ').ok_or("no offset")?;
-        let (offset, rest) = rest.split_once(' ').ok_or("no text")?;
-        let (iso, bsd) = rest.split_once(' ').ok_or("no text")?;
-        let stamp = Stamp {
-            at: at.parse::<i64>()?,
-            offset: offset.parse::<i16>()?,
-        };
-        assert!(rt; stamp.is_valid(), "{row}");
-        assert_eq!(rt; read_iso(iso.as_bytes()), Some((stamp, 32)), "{row}");
-        let mut out = Vec::new(rt.alloc());
-        iso_text(stamp, 6, &mut out)?;
-        bsd_text(stamp, 0, &mut out)?;
-        assert_eq!(rt;
-            out.strip_prefix(iso.as_bytes()),
-            Some(bsd.as_bytes()),
-            "{row}"
-        );
-        let (read, len) = read_bsd(bsd.as_bytes(), stamp).ok_or("no stamp")?;
-        assert_eq!(rt;
-            (read.at / 1_000_000, len),
-            (stamp.at.div_euclid(1_000_000), 15),
-            "{row}"
-        );
+        assert!(rt; is_printed(rt.alloc(), row)?, "{row}");
     }
     Ok(())
+}
+
+// The stamp that the whole text is.
+fn whole(text: &str) -> Option<Stamp>
+    ensures { IfSome result (λ stamp. IsValid stamp) }
+{
+    let (stamp, len) = read_iso(text.as_bytes())?;
+    if len != text.len() {
+        return None;
+    }
+    Some(stamp)
 }
 
 // Whether the texts of a stamp with so many digits are these.
@@ -140,23 +179,22 @@ fn has_texts(alloc: Global, row: &str) -> Result<bool, Fail> {
     let (text, rest) = row.split_once(' ').ok_or("no digits")?;
     let (digits, expected) = rest.split_once(' ').ok_or("no text")?;
     let digits = digits.parse::<u8>()?;
-    let (stamp, len) = read_iso(text.as_bytes()).ok_or("no stamp")?;
-    if len != text.len() || digits > 6 {
+    let Some(stamp) = whole(text) else {
+        return Ok(false);
+    };
+    if digits > 6 {
         return Ok(false);
     }
-    let mut out = Vec::new(alloc);
-    iso_text(stamp, digits, &mut out)?;
-    out.push(b' ')?;
-    bsd_text(stamp, digits, &mut out)?;
-    Ok(out.as_slice() == expected.as_bytes())
+    Ok(texts(alloc, stamp, digits, digits)?.as_slice() == expected.as_bytes())
 }
 
 // Whether the text that was received then is that of this stamp.
 fn has_year(row: &str) -> Result<bool, Fail> {
     let (received, rest) = row.split_once(' ').ok_or("no stamp")?;
     let (expected, text) = rest.split_once(' ').ok_or("no text")?;
-    let (received, _) = read_iso(received.as_bytes()).ok_or("no stamp")?;
-    let (expected, _) = read_iso(expected.as_bytes()).ok_or("no stamp")?;
+    let (Some(received), Some(expected)) = (whole(received), whole(expected)) else {
+        return Ok(false);
+    };
     Ok(read_bsd(text.as_bytes(), received) == Some((expected, 15)))
 }
 
@@ -169,36 +207,51 @@ fn has_no_bsd(text: &str) -> bool {
     received.is_valid() && read_bsd(text.as_bytes(), received).is_none()
 }
 
+// Appends a space and these bytes.
+fn append(bytes: &[u8], out: &mut Vec<u8>) -> Result<(), AllocError> {
+    out.push(b' ')?;
+    out.extend_from_slice(bytes)?;
+    Ok(())
+}
+
+// The parts of a stamp's texts, with a space between them.
+fn parts(alloc: Global, stamp: Stamp) -> Result<Vec<u8>, AllocError>
+    requires { IsValid stamp }
+{
+    let local = stamp.local();
+    let mut out = Vec::from_array(alloc, two_digits(local.hour))?;
+    append(&four_digits(local.year), &mut out)?;
+    append(&month_abbrev(local.month), &mut out)?;
+    append(&six_digits(local.microsecond), &mut out)?;
+    append(&offset_bytes(stamp.offset), &mut out)?;
+    Ok(out)
+}
+
 // Whether the parts of a stamp's texts are these.
 fn has_parts(alloc: Global, row: &str) -> Result<bool, Fail> {
     let (text, expected) = row.split_once(' ').ok_or("no parts")?;
-    let (stamp, _) = read_iso(text.as_bytes()).ok_or("no stamp")?;
-    let local = stamp.local();
-    let mut out = Vec::from_array(alloc, two_digits(local.hour))?;
-    out.push(b' ')?;
-    out.extend_from_slice(&four_digits(local.year))?;
-    out.push(b' ')?;
-    out.extend_from_slice(&month_abbrev(local.month))?;
-    out.push(b' ')?;
-    out.extend_from_slice(&six_digits(local.microsecond))?;
-    out.push(b' ')?;
-    out.extend_from_slice(&offset_bytes(stamp.offset))?;
-    Ok(out.as_slice() == expected.as_bytes())
+    let Some(stamp) = whole(text) else {
+        return Ok(false);
+    };
+    Ok(parts(alloc, stamp)?.as_slice() == expected.as_bytes())
+}
+
+// Whether what a row shows holds.
+fn holds(alloc: Global, row: &str) -> Result<bool, Fail> {
+    match row.split_once(' ') {
+        Some(("fraction", rest)) => has_texts(alloc, rest),
+        Some(("year", rest)) => has_year(rest),
+        Some(("no-iso", rest)) => Ok(read_iso(rest.as_bytes()).is_none()),
+        Some(("no-bsd", rest)) => Ok(has_no_bsd(rest)),
+        Some(("parts", rest)) => has_parts(alloc, rest),
+        _ => Err("what does the row show?".into()),
+    }
 }
 
 #[test]
 fn fractions_years_and_refusals(rt: HostRuntime) -> Result<(), Fail> {
     for row in ROWS.lines() {
-        let (what, rest) = row.split_once(' ').ok_or("no text")?;
-        let holds = match what {
-            "fraction" => has_texts(rt.alloc(), rest)?,
-            "year" => has_year(rest)?,
-            "no-iso" => read_iso(rest.as_bytes()).is_none(),
-            "no-bsd" => has_no_bsd(rest),
-            "parts" => has_parts(rt.alloc(), rest)?,
-            _ => return Err("what does the row show?")?,
-        };
-        assert!(rt; holds, "{row}");
+        assert!(rt; holds(rt.alloc(), row)?, "{row}");
     }
     Ok(())
 }

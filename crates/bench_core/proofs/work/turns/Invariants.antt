@@ -1,9 +1,0 @@
-use Rattle.std.proofs.Common.{◌≤◌, ◌*◌}
-use Rattle.bench_core.specs.Cores.{IsMeasured}
-use Rattle.bench_core.proofs.work.turns.Given as goal
-
-abbrev pub invariant-loop-k : goal.invariant-loop-k
-invariant-loop-k g l = record {
-  measured : IsMeasured l.core;
-  calls : l.core.calls ≤ 2 * l.k;
-}

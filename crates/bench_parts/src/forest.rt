@@ -1,0 +1,98 @@
+// A log path with three filters, a rewrite and a destination. A refusal counts as want of memory.
+ghost use Rattle.std.specs.Prelude.{◌≡◌, true, OnSome};
+ghost use Rattle.sg_tree.specs.Sound.{op_sound};
+
+use crate::record::{LINE, OPTS, pattern};
+use sg_device::Name;
+use sg_filter::Expr;
+use sg_pattern::Kind;
+use sg_rewrite::Op;
+use sg_template::Template;
+use sg_tree::{DestRule, Element, Forest, InletRule, Path, RewriteRule, is_sound};
+use sqlite_items::Items;
+use std::alloc::{AllocError, Global};
+
+pub(crate) fn inlet(alloc: Global) -> InletRule {
+    InletRule {
+        opts: OPTS,
+        rfc5424: false,
+        empty_lines: false,
+        tags: Vec::new(alloc),
+    }
+}
+
+// The value of the name has the text in it.
+fn has(alloc: Global, name: &[u8], text: &[u8]) -> Result<Element, AllocError> {
+    let pattern = pattern(alloc, Kind::Text, text)?;
+    let name = Name::new(alloc, name)?;
+    Ok(Element::Filter(Expr::Field { name, pattern }))
+}
+
+// Levels err to notice.
+fn level(alloc: Global) -> Result<Element, AllocError> {
+    let mut ranges = Items::new(alloc);
+    ranges.push((3, 5))?;
+    Ok(Element::Filter(Expr::Level(ranges)))
+}
+
+fn checked(op: &Op) -> Option<()>
+    ensures { OnSome result (op_sound op.now ≡ true) }
+{
+    if is_sound(op) {
+        return Some(());
+    }
+    None
+}
+
+fn rewrite(alloc: Global) -> Result<Element, AllocError> {
+    let name = Name::new(alloc, b"STATE")?;
+    let Ok(text) = Template::read(alloc, b"late") else {
+        return Err(AllocError);
+    };
+    let op = Op::Set { name, text };
+    let Some(()) = checked(&op) else {
+        return Err(AllocError);
+    };
+    let condition = None;
+    Ok(Element::Rewrite(RewriteRule { condition, op }))
+}
+
+fn elements(alloc: Global) -> Result<Vec<Element>, AllocError> {
+    let mut elements = Vec::new(alloc);
+    elements.push(level(alloc)?)?;
+    elements.push(has(alloc, b"PROGRAM", b"app")?)?;
+    elements.push(has(alloc, b"MESSAGE", b"timed out")?)?;
+    elements.push(rewrite(alloc)?)?;
+    elements.push(Element::Deliver(vec![in alloc; 0]?))?;
+    Ok(elements)
+}
+
+fn path(alloc: Global) -> Result<Path, AllocError> {
+    Ok(Path {
+        sources: vec![in alloc; 0]?,
+        elements: elements(alloc)?,
+        embedded: Vec::new(alloc),
+        is_final: false,
+        fallback: false,
+        catchall: false,
+        flow: true,
+        drop_unmatched: false,
+        line: LINE,
+    })
+}
+
+pub(crate) fn forest(alloc: Global) -> Result<Forest, AllocError> {
+    let mut inlets = Vec::new(alloc);
+    inlets.push(inlet(alloc))?;
+    let mut dests = Vec::new(alloc);
+    dests.push(DestRule {})?;
+    let mut paths = Vec::new(alloc);
+    paths.push(path(alloc)?)?;
+    Ok(Forest {
+        inlets,
+        dests,
+        filters: Vec::new(alloc),
+        rewrites: Vec::new(alloc),
+        paths,
+    })
+}

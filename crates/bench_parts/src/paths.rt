@@ -1,0 +1,80 @@
+// Turns of reading and routing.
+ghost use Rattle.std.specs.Prelude.{◌≡◌, ◌<◌, ◌≤◌, IfSome, length};
+ghost use Rattle.sg_tree.specs.Bounds.{all_offers};
+ghost use Rattle.sg_table.specs.Forest.{forest_of};
+
+use crate::forest::{forest, inlet};
+use crate::record::RECORD;
+use bytes::Bytes;
+use sg_pattern::Patterns;
+use sg_pipes::{Pipes, names_within};
+use sg_route::Router;
+use sg_table::{Table, compile};
+use sg_tree::{Forest, read_item};
+use std::alloc::{AllocError, Global};
+
+// Reads the record so many times.
+fn read(alloc: Global, turns: u64) -> Result<bool, AllocError> {
+    let rule = inlet(alloc);
+    let item = Bytes::copy_from_slice(alloc, RECORD)?;
+    let peer = Bytes::copy_from_slice(alloc, b"peer")?;
+    for _ in 0..turns {
+        read_item(alloc, &rule, item.clone()?, 0, &peer)?;
+    }
+    Ok(true)
+}
+
+fn compiled(alloc: Global, forest: &Forest) -> Option<Table>
+    ensures { IfSome result (λ table. all_offers (forest_of table).tops ≤ 1024) }
+{
+    let mut patterns = Patterns { too_large: 0 };
+    match compile(alloc, forest, &mut patterns) {
+        Ok(table) => Some(table),
+        Err(_) => None,
+    }
+}
+
+fn pipes(alloc: Global, forest: &Forest) -> Option<Pipes>
+    ensures { IfSome result (λ pipes. 0 < length pipes.table.inlets.items) }
+{
+    let Some(table) = compiled(alloc, forest) else {
+        return None;
+    };
+    if table.inlets.is_empty() {
+        return None;
+    }
+    if !names_within(&table) {
+        return None;
+    }
+    Some(Pipes::new(alloc, table))
+}
+
+fn turn<R: Router>(alloc: Global, router: &mut R, item: Bytes) -> Result<bool, AllocError>
+    requires { 0 < R.inlets router.old }
+    ensures { R.inlets router.new ≡ R.inlets router.old }
+{
+    let offers = router.route(alloc, 0, item, 0, b"peer")?;
+    Ok(offers.len() == 1)
+}
+
+// Routes the record so many times. Whether each time it had an offer.
+fn route(alloc: Global, turns: u64) -> Result<bool, AllocError> {
+    let Some(mut pipes) = pipes(alloc, &forest(alloc)?) else {
+        return Ok(false);
+    };
+    let item = Bytes::copy_from_slice(alloc, RECORD)?;
+    let mut good = true;
+    for _ in 0..turns {
+        good &= turn(alloc, &mut pipes, item.clone()?)?;
+    }
+    Ok(good)
+}
+
+/// Does this so many times. Whether it was done.
+pub(crate) fn run(alloc: Global, what: &str, turns: u64) -> Result<bool, AllocError> {
+    match what {
+        "read" => read(alloc, turns),
+        "route" => route(alloc, turns),
+        _ => Ok(false),
+    }
+}

@@ -1,0 +1,4 @@
+pub mod SaidLemmas
+pub mod CheckLemmas
+pub mod TraceLemmas
+pub mod OfflineLemmas

@@ -1,0 +1,10 @@
+pub mod Status
+pub mod Said
+pub mod Loading
+pub mod Checking
+pub mod Running
+pub mod Spooled
+pub mod Tracing
+pub mod Drilling
+pub mod Answers
+pub mod Offline

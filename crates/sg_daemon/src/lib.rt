@@ -1,0 +1,16 @@
+//! The top call: checks configurations, moves messages as they say, and lists the entries of a disk-buffer's store.
+#![tactic(auto)]
+
+mod check;
+mod drill;
+mod laws;
+mod run;
+mod say;
+mod spooled;
+mod status;
+mod top;
+mod trace;
+
+pub use laws::first_words_tell;
+pub use status::Status;
+pub use top::{daemon, offline};

@@ -1,6 +1,0 @@
-use Rattle.std.proofs.Common.{◌≡◌, drop}
-use Rattle.test_driver.specs.Names.{text_of}
-use Rattle.test_driver.proofs.names.find.Given as goal
-
-abbrev pub invariant-loop-row : goal.invariant-loop-row
-invariant-loop-row l = text_of l.rows l.name ≡ text_of (drop l.row-index l.rows) l.name

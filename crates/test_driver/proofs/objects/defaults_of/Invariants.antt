@@ -1,5 +1,0 @@
-use Rattle.sg_driver.specs.Defaults.{AreDefaults}
-use Rattle.test_driver.proofs.objects.defaults_of.Given as goal
-
-abbrev pub invariant-loop-object : goal.invariant-loop-object
-invariant-loop-object l = AreDefaults l.defaults

@@ -1,0 +1,90 @@
+// The lengths of entries of an older disk-buffer, while they are rewritten.
+use crate::machine::machine_with;
+use crate::moments::due::Due;
+use crate::moments::images::{BUFFER, left, older, picks};
+use crate::moments::runs::{NEVER, Stops, run};
+use sg_device::NoMemory;
+use sg_memory_disk::MemoryStores;
+use sg_spooled::list_store;
+use sg_world::MemoryMachine;
+use std::alloc::Global;
+use std::sync::Wait;
+use std::thread::Threads;
+
+// What `spool` says of the disk-buffer.
+fn listed(alloc: Global, stores: MemoryStores) -> Result<MemoryMachine, NoMemory> {
+    let mut machine = machine_with(alloc, Vec::new(alloc));
+    machine.world.stores = stores;
+    let _listed = list_store(alloc, BUFFER, &mut machine);
+    Ok(machine)
+}
+
+// The length at the end of the first line, where this is an entry and the only one.
+fn length_of(said: &[u8]) -> &[u8] {
+    let Some(lines) = said.strip_suffix(b"\nentries 1\n") else {
+        return b"?";
+    };
+    match lines.rsplit(|byte| *byte == b' ').next() {
+        Some(length) => length,
+        None => b"?",
+    }
+}
+
+// The length that is listed over what a crash leaves by these picks.
+fn append_length(
+    alloc: Global,
+    stores: &MemoryStores,
+    letters: &str,
+    out: &mut String,
+) -> Result<(), NoMemory> {
+    let picks = picks(alloc, letters)?;
+    let machine = listed(alloc, left(alloc, stores, &picks, &picks)?)?;
+    let length = length_of(machine.world.said()).escape_ascii();
+    out.push_str(&format!(in alloc; " {length}")?)?;
+    Ok(())
+}
+
+// The stores behind a run in which the disk-buffer's stops behind so many calls.
+fn stopped<T: Threads + Wait + Sync>(
+    rt: &T,
+    alloc: Global,
+    calls: u64,
+) -> Result<MemoryStores, NoMemory> {
+    let stops = Stops {
+        buffer: Some(calls),
+        ..NEVER
+    };
+    let mut due = Due::new(alloc)?;
+    let ran = run(rt, alloc, older(alloc)?, stops, &mut due)?;
+    Ok(ran.stores)
+}
+
+fn append_lengths<T: Threads + Wait + Sync>(
+    rt: &T,
+    alloc: Global,
+    calls: u64,
+    out: &mut String,
+) -> Result<(), NoMemory> {
+    let stores = stopped(rt, alloc, calls)?;
+    out.push_str(&format!(in alloc; "; {calls}")?)?;
+    append_length(alloc, &stores, "o", out)?;
+    append_length(alloc, &stores, "n", out)?;
+    Ok(())
+}
+
+/// The lengths behind runs that stop behind each number of calls up to that of the row: where nothing was written since the last
+/// sync, and where all was.
+pub(crate) fn lengths<T: Threads + Wait + Sync>(
+    rt: &T,
+    alloc: Global,
+    row: &str,
+) -> Result<Option<String>, NoMemory> {
+    let Ok(last) = row.parse::<u16>() else {
+        return Ok(None);
+    };
+    let mut out = format!(in alloc; "lengths")?;
+    for calls in 0..u64::from(last) + 1 {
+        append_lengths(rt, alloc, calls, &mut out)?;
+    }
+    Ok(Some(out))
+}

@@ -1,0 +1,290 @@
+// What rows come to.
+use crate::moments::due::Due;
+use crate::moments::images::{are_picks, begun, left, picks};
+use crate::moments::runs::{NEVER, Ran, Stops, run};
+use sg_device::NoMemory;
+use sg_memory_disk::MemoryStores;
+use std::alloc::Global;
+use std::sync::Wait;
+use std::thread::Threads;
+
+/// Lists of picks, in letters.
+const PICKS: [&str; 10] = ["o", "n", "1", "0", "on", "no", "1o", "0n", "n0", "o1n"];
+
+// How many runs were stopped, and how many of them before their rounds; how many runs came behind them, and how many of these
+// were right; and what one of the others came to.
+#[derive(Drop)]
+struct Sums {
+    stopped: u64,
+    early: u64,
+    runs: u64,
+    right: u64,
+    differs: Option<String>,
+}
+
+// A code, - where there is none.
+fn code_text(alloc: Global, code: Option<u8>) -> Result<String, NoMemory> {
+    match code {
+        Some(code) => Ok(format!(in alloc; "{code}")?),
+        None => Ok(format!(in alloc; "-")?),
+    }
+}
+
+// A run with working devices. None where it is right, and else what it came to.
+fn finish<T: Threads + Wait + Sync>(
+    rt: &T,
+    alloc: Global,
+    stores: MemoryStores,
+    due: &mut Due,
+) -> Result<Option<String>, NoMemory> {
+    let ran = run(rt, alloc, stores, NEVER, due)?;
+    if ran.code == Some(0) && due.is_done() {
+        return Ok(None);
+    }
+    let code = code_text(alloc, ran.code)?;
+    let taken = due.said(alloc)?;
+    Ok(Some(format!(in alloc; "status {code}, {taken}")?))
+}
+
+// A run over what a crash leaves of these stores by these picks.
+fn look<T: Threads + Wait + Sync>(
+    rt: &T,
+    alloc: Global,
+    stores: &MemoryStores,
+    letters: &str,
+    due: &Due,
+    sums: &mut Sums,
+) -> Result<(), NoMemory> {
+    let picks = picks(alloc, letters)?;
+    let images = left(alloc, stores, &picks, &picks)?;
+    let mut due = due.copy(alloc)?;
+    sums.runs = sums.runs.saturating_add(1);
+    match finish(rt, alloc, images, &mut due)? {
+        None => sums.right = sums.right.saturating_add(1),
+        Some(said) => {
+            let stopped = sums.stopped;
+            sums.differs = Some(format!(in alloc; "behind {stopped} by {letters}: {said}")?);
+        }
+    }
+    Ok(())
+}
+
+fn look_all<T: Threads + Wait + Sync>(
+    rt: &T,
+    alloc: Global,
+    stores: &MemoryStores,
+    due: &Due,
+    sums: &mut Sums,
+) -> Result<(), NoMemory> {
+    for letters in PICKS {
+        look(rt, alloc, stores, letters, due, sums)?;
+    }
+    Ok(())
+}
+
+// A run whose devices stop so, and the runs behind it; whether it met a stop.
+fn stop<T: Threads + Wait + Sync>(
+    rt: &T,
+    alloc: Global,
+    stores: MemoryStores,
+    stops: Stops<'_>,
+    sums: &mut Sums,
+) -> Result<bool, NoMemory> {
+    let mut due = Due::new(alloc)?;
+    let ran = run(rt, alloc, stores, stops, &mut due)?;
+    let stopped = ran.code == Some(7);
+    if stopped {
+        sums.stopped = sums.stopped.saturating_add(1);
+    }
+    if ran.early {
+        sums.early = sums.early.saturating_add(1);
+    }
+    look_all(rt, alloc, &ran.stores, &due, sums)?;
+    Ok(stopped)
+}
+
+// Where the store stops behind so many calls.
+fn at<'a>(store: &str, calls: u64, tear: &'a str) -> Option<Stops<'a>> {
+    let stops = Stops { tear, ..NEVER };
+    match store {
+        "position" => Some(Stops {
+            position: Some(calls),
+            ..stops
+        }),
+        "buffer" => Some(Stops {
+            buffer: Some(calls),
+            ..stops
+        }),
+        _ => None,
+    }
+}
+
+fn said(alloc: Global, sums: &Sums) -> Result<String, NoMemory> {
+    let Sums {
+        stopped,
+        early,
+        runs,
+        right,
+        differs,
+    } = sums;
+    if let Some(differs) = differs {
+        let wrong = runs.saturating_sub(*right);
+        return Ok(format!(in alloc; "DIFFERS {wrong} times, {differs}")?);
+    }
+    if stopped <= early {
+        return Ok(format!(in alloc; "DIFFERS, no stop in the rounds")?);
+    }
+    Ok(format!(in alloc; "right behind each stop, {early} of them before the rounds")?)
+}
+
+// BEGIN, STORE and TEAR; none where the row has other words.
+fn series(row: &str) -> Option<(&str, &str, &str)> {
+    let mut words = row.split(' ');
+    let (Some(begin), Some(store), Some(tear)) = (words.next(), words.next(), words.next()) else {
+        return None;
+    };
+    if words.next().is_some() || !(tear == "-" || are_picks(tear)) {
+        return None;
+    }
+    Some((begin, store, tear))
+}
+
+// Runs in which the store of these words stops at each of its calls.
+fn sum_up<T: Threads + Wait + Sync>(
+    rt: &T,
+    alloc: Global,
+    row: &str,
+) -> Result<Option<Sums>, NoMemory> {
+    let Some((begin, store, tear)) = series(row) else {
+        return Ok(None);
+    };
+    let mut sums = Sums {
+        stopped: 0,
+        early: 0,
+        runs: 0,
+        right: 0,
+        differs: None,
+    };
+    for calls in 0..1_000 {
+        let (Some(stores), Some(stops)) = (begun(alloc, begin)?, at(store, calls, tear)) else {
+            return Ok(None);
+        };
+        if !stop(rt, alloc, stores, stops, &mut sums)? {
+            return Ok(Some(sums));
+        }
+    }
+    Ok(None)
+}
+
+/// Runs in which a store stops at each of its calls, and those behind them.
+pub(crate) fn each<T: Threads + Wait + Sync>(
+    rt: &T,
+    alloc: Global,
+    row: &str,
+) -> Result<Option<String>, NoMemory> {
+    match sum_up(rt, alloc, row)? {
+        Some(sums) => Ok(Some(said(alloc, &sums)?)),
+        None => Ok(None),
+    }
+}
+
+/// How many such runs met a stop.
+pub(crate) fn stops<T: Threads + Wait + Sync>(
+    rt: &T,
+    alloc: Global,
+    row: &str,
+) -> Result<Option<String>, NoMemory> {
+    match sum_up(rt, alloc, row)? {
+        Some(sums) => Ok(Some(format!(in alloc; "{}", sums.stopped)?)),
+        None => Ok(None),
+    }
+}
+
+// A number of calls; none for any other word.
+fn count(word: Option<&str>) -> Option<u64> {
+    match word {
+        Some(word) => word.parse().ok(),
+        None => None,
+    }
+}
+
+fn is_count(word: Option<&str>) -> bool {
+    match word {
+        Some(word) => word == "-" || word.parse::<u64>().is_ok(),
+        None => false,
+    }
+}
+
+// Whether these are the words of a stop.
+fn is_stop(text: &str) -> bool {
+    let mut words = text.split_whitespace();
+    let devices = is_count(words.next()) && is_count(words.next()) && is_count(words.next());
+    let stores = are_picks(words.next().unwrap_or("")) && are_picks(words.next().unwrap_or(""));
+    devices && stores && words.next().is_none()
+}
+
+fn are_stops(text: &str) -> bool {
+    for part in text.split('/') {
+        if !is_stop(part) {
+            return false;
+        }
+    }
+    true
+}
+
+// A run that stops as these words say, and what a crash leaves of its stores.
+fn stop_once<T: Threads + Wait + Sync>(
+    rt: &T,
+    alloc: Global,
+    stores: MemoryStores,
+    text: &str,
+    due: &mut Due,
+) -> Result<MemoryStores, NoMemory> {
+    let mut words = text.split_whitespace();
+    let position = count(words.next());
+    let buffer = count(words.next());
+    let outlet = count(words.next());
+    let stops = Stops {
+        position,
+        buffer,
+        outlet,
+        tear: "",
+    };
+    let ran = run(rt, alloc, stores, stops, due)?;
+    let position = picks(alloc, words.next().unwrap_or(""))?;
+    let buffer = picks(alloc, words.next().unwrap_or(""))?;
+    left(alloc, &ran.stores, &position, &buffer)
+}
+
+// What comes of runs over these stores that stop as the words say, one behind the other.
+fn chained<T: Threads + Wait + Sync>(
+    rt: &T,
+    alloc: Global,
+    mut stores: MemoryStores,
+    stops: &str,
+) -> Result<String, NoMemory> {
+    let mut due = Due::new(alloc)?;
+    for text in stops.split('/') {
+        stores = stop_once(rt, alloc, stores, text, &mut due)?;
+    }
+    match finish(rt, alloc, stores, &mut due)? {
+        None => Ok(format!(in alloc; "right")?),
+        Some(said) => Ok(format!(in alloc; "DIFFERS {said}: {stops}")?),
+    }
+}
+
+/// Runs one behind the other.
+pub(crate) fn chain<T: Threads + Wait + Sync>(
+    rt: &T,
+    alloc: Global,
+    row: &str,
+) -> Result<Option<String>, NoMemory> {
+    let (begin, rest) = row.split_once(' ').unwrap_or((row, ""));
+    if !are_stops(rest) {
+        return Ok(None);
+    }
+    match begun(alloc, begin)? {
+        Some(stores) => Ok(Some(chained(rt, alloc, stores, rest)?)),
+        None => Ok(None),
+    }
+}

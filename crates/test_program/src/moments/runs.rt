@@ -1,0 +1,123 @@
+// Runs whose devices stop.
+use crate::machine::{add_file, machine_with};
+use crate::moments::due::{Due, LINES};
+use crate::moments::images::picks;
+use sg_device::NoMemory;
+use sg_memory::{MemoryFile, OutletPlan};
+use sg_memory_disk::{DiskPlan, MemoryStores, Plan};
+use sg_run::run_file;
+use sg_world::MemoryMachine;
+use std::alloc::Global;
+use std::mem::replace;
+use std::sync::Wait;
+use std::thread::Threads;
+
+const CONFIG: &[u8] =
+    b"@version: 4.2\nsource s { file(\"in\" flags(no-parse)); };\ndestination d { file(\"out\" template(\"$MSG\\n\") disk-buffer(reliable(yes) disk-buf-size(1048576))); };\nlog { source(s); destination(d); flags(flow-control); };\n";
+
+/// Behind how many calls each device stops, if ever, and what a store's call that fails leaves, in letters for picks.
+#[derive(Clone, Copy, Drop)]
+pub(crate) struct Stops<'a> {
+    pub(crate) position: Option<u64>,
+    pub(crate) buffer: Option<u64>,
+    pub(crate) outlet: Option<u64>,
+    pub(crate) tear: &'a str,
+}
+
+/// No device stops.
+pub(crate) const NEVER: Stops<'static> = Stops {
+    position: None,
+    buffer: None,
+    outlet: None,
+    tear: "",
+};
+
+/// What a run came to: its exit status, none where its configuration isn't loaded; whether that was before its rounds; and the
+/// stores as it left them.
+#[derive(Drop)]
+pub(crate) struct Ran {
+    pub(crate) code: Option<u8>,
+    pub(crate) early: bool,
+    pub(crate) stores: MemoryStores,
+}
+
+fn files(alloc: Global) -> Result<Vec<MemoryFile>, NoMemory> {
+    let mut files = Vec::new(alloc);
+    add_file(alloc, b"c", CONFIG, &mut files)?;
+    add_file(alloc, b"in", LINES, &mut files)?;
+    Ok(files)
+}
+
+fn plan(alloc: Global, calls: Option<u64>, tear: &str) -> Result<DiskPlan, NoMemory> {
+    let mut plan = DiskPlan::never(alloc);
+    plan.left = calls;
+    plan.tears = picks(alloc, tear)?;
+    Ok(plan)
+}
+
+// These stores, which stop so.
+fn stopping(
+    alloc: Global,
+    mut stores: MemoryStores,
+    stops: Stops<'_>,
+) -> Result<MemoryStores, NoMemory> {
+    stores
+        .plans
+        .push_back(plan(alloc, stops.position, stops.tear)?)?;
+    stores
+        .plans
+        .push_back(plan(alloc, stops.buffer, stops.tear)?)?;
+    Ok(stores)
+}
+
+// As many calls fail as a destination makes until it is given up, and more.
+fn dying(alloc: Global, calls: u64) -> Result<OutletPlan, NoMemory> {
+    let mut fails = Vec::new(alloc);
+    for behind in 0..10 {
+        fails.push(calls.saturating_add(behind))?;
+    }
+    Ok(OutletPlan::failing(alloc, Plan::new(fails)))
+}
+
+// A machine over these stores whose devices stop so.
+fn machine(
+    alloc: Global,
+    stores: MemoryStores,
+    stops: Stops<'_>,
+) -> Result<MemoryMachine, NoMemory> {
+    let stores = stopping(alloc, stores, stops)?;
+    let mut machine = machine_with(alloc, files(alloc)?);
+    machine.world.stores = stores;
+    if let Some(calls) = stops.outlet {
+        machine.world.plans.outlets.push_back(dying(alloc, calls)?)?;
+    }
+    Ok(machine)
+}
+
+/// A run over these stores whose devices stop so.
+pub(crate) fn run<T: Threads + Wait + Sync>(
+    rt: &T,
+    alloc: Global,
+    stores: MemoryStores,
+    stops: Stops<'_>,
+    due: &mut Due,
+) -> Result<Ran, NoMemory> {
+    let mut machine = machine(alloc, stores, stops)?;
+    let end = run_file(rt, alloc, b"c", true, 1 << 36, &mut machine);
+    let (code, early) = match &end {
+        Ok(outcome) => (
+            Some(outcome.end.code()),
+            outcome.text.starts_with(b"store "),
+        ),
+        Err(_) => (None, false),
+    };
+    if let Some(cell) = machine.world.closed_outlets() {
+        due.take_all(cell);
+    }
+    let empty = MemoryStores::new(alloc);
+    Ok(Ran {
+        code,
+        early,
+        stores: replace(&mut machine.world.stores, empty),
+    })
+}
