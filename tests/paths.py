@@ -142,7 +142,7 @@ def branches(siblings, text, flow):
 
 
 def reach(elements, logs, count):
-    """The most deliveries and messages out of so many messages, and the most at one place."""
+    """The most deliveries and messages out of so many messages, and the most at one place. A message takes one branch of an `if`."""
     given, most = 0, count
     for element in elements:
         kind = element[0]
@@ -151,7 +151,8 @@ def reach(elements, logs, count):
         if kind in ("junction", "if"):
             lists = [(one["elements"], one["logs"]) for one in element[1]] if kind == "junction" else [(branch, []) for _, branch in element[1]] + [(element[2] or [], [])]
             found = [reach(inner, below, count) for inner, below in lists]
-            given, count = given + sum(one[0] for one in found), sum(one[1] for one in found)
+            joined = sum if kind == "junction" else max
+            given, count = given + joined(one[0] for one in found), joined(one[1] for one in found)
             most = max([most, count] + [one[2] for one in found])
     found = [reach(one["elements"], one["logs"], count) for one in logs]
     return given + sum(one[0] for one in found), count, max([most] + [one[2] for one in found])

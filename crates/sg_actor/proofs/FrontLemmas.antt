@@ -2,7 +2,7 @@
 use Rattle.std.proofs.Common.{arith, ◌≡◌, ◌≤◌, ◌<◌, ℕ, Bool, true, false, List, [], ◌∷◌, ◌++◌, length, take, refl, ap, sym, ◌∙◌, subst, Option, Some, None, inl, inr}
 use Rattle.std.proofs.lemmas.List.{append-nil}
 use Rattle.std.proofs.lemmas.Bool.Decides.{nat_tests}
-use Rattle.std.specs.Prelude.{Ok, Err, IsErr, Result, is_ok, is_some, ◌==◌}
+use Rattle.std.specs.Prelude.{Ok, Err, IsErr, Result, is_ok, is_some, ◌==◌, ◌&&◌, not}
 use Rattle.std.specs.Option.{option_map}
 use Rattle.std.specs.declared.alloc.AllocError.{AllocError}
 use Rattle.sg_device.specs.Outlet.{OutletState}
@@ -15,33 +15,39 @@ use Rattle.sg_counter.specs.declared.calls.CoreReply.TheVariants.{Front as Front
 use Rattle.sg_counter.specs.declared.answers.CoreFront.TheVariants.{Entries, Empty, Broken as FrontBroken}
 use Rattle.sg_actor.specs.Bringing.{exchange}
 use Rattle.sg_actor.specs.Rendering.{frames_by, sent_of}
-use Rattle.sg_actor.specs.Outages.{HasFailures, Takes, broken, broken_cause}
-use Rattle.sg_actor.specs.DestTurns.{shown_in, shown_by, has_broken, SettlesFirst, Follows, HasCause, HasDelivered}
+use Rattle.sg_actor.specs.Outages.{HasFailures, Takes, is_idle, broken, broken_cause}
+use Rattle.sg_actor.specs.DestTurns.{shown_in, shown_by, has_shown, has_broken, SettlesFirst, Follows, HasCause, HasDelivered}
 use Rattle.sg_actor.specs.Delivering.{ShowsBy, FrontGives}
 use Rattle.sg_actor.specs.declared.outage.Outage.{Outage}
 use Rattle.sg_actor.specs.declared.rendering.DestSpec.{DestSpec}
 use Rattle.sg_actor.specs.declared.turned.GivenUp.{GivenUp}
+use Rattle.sg_actor.specs.declared.turned.Turned.{Turned}
 use Rattle.sg_actor.proofs.PullLemmas.{lt-yes}
 use Rattle.sg_actor.proofs.FrameLemmas.{sent-first}
 use Rattle.sg_actor.proofs.SendLemmas.{kept-cause, told-none, not-ok}
 
 -- no entry was shown
-front-only : {S : Type 0} (spec : DestSpec) (step : S → CoreCall → CoreReply → S → Type 0) (counter counter' : S) (reply : CoreReply) (new : Outage) (drain : OutletState) (result : Result Bool AllocError)
-    → step counter (Front spec.dest 100) reply counter' → shown_by reply ≡ [] → Follows spec.dest 0 (is_ok result) reply [] → HasFailures new drain → new.reopens ≡ false
-    → HasCause spec.gives_up false drain (exchange (Front spec.dest 100) reply ∷ []) new.given_up → ShowsBy (exchange (Front spec.dest 100) reply ∷ []) new result
+abbrev pub nothing : Turned
+nothing = record { did = false; idle = false }
+
+front-only : {S : Type 0} (spec : DestSpec) (step : S → CoreCall → CoreReply → S → Type 0) (counter counter' : S) (reply : CoreReply) (new : Outage) (drain : OutletState) (result : Result Turned AllocError)
+    → step counter (Front spec.dest 100) reply counter' → shown_by reply ≡ [] → Follows spec.dest 0 drain.count (is_ok result) reply [] → HasFailures new drain → new.reopens ≡ false
+    → HasCause spec.gives_up false drain (exchange (Front spec.dest 100) reply ∷ []) new.given_up → ShowsBy (exchange (Front spec.dest 100) reply ∷ []) false new result
     → FrontGives {E = AllocError} spec step counter counter' new drain drain result
 front-only spec step counter counter' reply new drain result made unshown follows failures open' cause shows = record {
   made = exchange (Front spec.dest 100) reply ∷ [];
   taken = 0;
   refused = false;
+  later = false;
   makes = (counter', made, refl);
   own = (refl, tt);
   few = omega arith;
   delivers = (refl, follows);
   takes = record { told = told-none drain.taken; rose = omega arith; faults = omega arith };
   within = omega arith;
-  whole = (λ w r. ap (λ ms. length (sent_of spec ms)) (sym (append-nil (shown_by reply) ∙ unshown)));
-  laters = refl;
+  whole = (λ w r l. ap (λ ms. length (sent_of spec ms)) (sym (append-nil (shown_by reply) ∙ unshown)));
+  waits = refl;
+  early = (λ e. absurd (let differ : false ≡ true = e in cc));
   rose = (λ e. absurd (let differ : false ≡ true = e in cc));
   failures = failures;
   reopens = open';
@@ -49,7 +55,7 @@ front-only spec step counter counter' reply new drain result made unshown follow
   shows = shows;
 }
 
-pub front-starved : {S : Type 0} (spec : DestSpec) (step : S → CoreCall → CoreReply → S → Type 0) (counter counter' : S) (e : AllocError) (old : Outage) (drain : OutletState) (result : Result Bool AllocError) → IsErr result
+pub front-starved : {S : Type 0} (spec : DestSpec) (step : S → CoreCall → CoreReply → S → Type 0) (counter counter' : S) (e : AllocError) (old : Outage) (drain : OutletState) (result : Result Turned AllocError) → IsErr result
     → step counter (Front spec.dest 100) (FrontReply (Err e)) counter' → HasFailures old drain → old.reopens ≡ false → old.given_up ≡ None
     → FrontGives {E = AllocError} spec step counter counter' old drain drain result
 front-starved spec step counter counter' e old drain (Ok b) is made failures open' none = absurd (let differ : false ≡ true = is in cc)
@@ -58,16 +64,16 @@ front-starved spec step counter counter' e old drain (Err e') is made failures o
 
 pub front-empty : {S : Type 0} (spec : DestSpec) (step : S → CoreCall → CoreReply → S → Type 0) (counter counter' : S) (old : Outage) (drain : OutletState)
     → step counter (Front spec.dest 100) (FrontReply (Ok Empty)) counter' → HasFailures old drain → old.reopens ≡ false → old.given_up ≡ None
-    → FrontGives {E = AllocError} spec step counter counter' old drain drain (Ok false)
+    → FrontGives {E = AllocError} spec step counter counter' old drain drain (Ok nothing)
 front-empty spec step counter counter' old drain made failures open' none =
-    front-only spec step counter counter' (FrontReply (Ok Empty)) old drain (Ok false) made refl (refl, refl) failures open' (kept-cause spec.gives_up drain old.given_up none) (refl, (λ e. inr tt))
+    front-only spec step counter counter' (FrontReply (Ok Empty)) old drain (Ok nothing) made refl (refl, refl) failures open' (kept-cause spec.gives_up drain old.given_up none) (refl, refl, (λ e. inr tt))
 
 pub front-blank : {S : Type 0} (spec : DestSpec) (step : S → CoreCall → CoreReply → S → Type 0) (counter counter' : S) (place : ℕ) (messages : List Content) (old : Outage) (drain : OutletState) → messages ≡ []
     → step counter (Front spec.dest 100) (FrontReply (Ok (Entries place messages))) counter' → HasFailures old drain → old.reopens ≡ false → old.given_up ≡ None
-    → FrontGives {E = AllocError} spec step counter counter' old drain drain (Ok false)
+    → FrontGives {E = AllocError} spec step counter counter' old drain drain (Ok nothing)
 front-blank spec step counter counter' place messages old drain blank made failures open' none =
-    front-only spec step counter counter' (FrontReply (Ok (Entries place []))) old drain (Ok false)
-    (subst (λ ms. step counter (Front spec.dest 100) (FrontReply (Ok (Entries place ms))) counter') blank made) refl (refl, refl) failures open' (kept-cause spec.gives_up drain old.given_up none) (refl, (λ e. inr refl))
+    front-only spec step counter counter' (FrontReply (Ok (Entries place []))) old drain (Ok nothing)
+    (subst (λ ms. step counter (Front spec.dest 100) (FrontReply (Ok (Entries place ms))) counter') blank made) refl (refl, refl) failures open' (kept-cause spec.gives_up drain old.given_up none) (refl, refl, (λ e. inr refl))
 
 broken-is : (gives_up : Bool) (drain : OutletState) (cause : Option GivenUp) (made : List Exchange) → cause ≡ None → has_broken made ≡ true → HasCause gives_up false drain made (broken_cause cause)
 broken-is gives_up drain None made none is = is
@@ -79,17 +85,17 @@ some-cause (Some c) = refl
 
 pub front-broken : {S : Type 0} (spec : DestSpec) (step : S → CoreCall → CoreReply → S → Type 0) (counter counter' : S) (old new : Outage) (drain : OutletState)
     → step counter (Front spec.dest 100) (FrontReply (Ok FrontBroken)) counter' → HasFailures old drain → old.reopens ≡ false → old.given_up ≡ None → new ≡ broken old
-    → FrontGives {E = AllocError} spec step counter counter' new drain drain (Ok false)
+    → FrontGives {E = AllocError} spec step counter counter' new drain drain (Ok nothing)
 front-broken spec step counter counter' old new drain made failures open' none is =
-    front-only spec step counter counter' (FrontReply (Ok FrontBroken)) new drain (Ok false) made refl (refl, refl) (ap (λ o. o.failures) is ∙ failures) (ap (λ o. o.reopens) is ∙ open')
+    front-only spec step counter counter' (FrontReply (Ok FrontBroken)) new drain (Ok nothing) made refl (refl, refl) (ap (λ o. o.failures) is ∙ failures) (ap (λ o. o.reopens) is ∙ open')
     (subst (λ c. HasCause spec.gives_up false drain (exchange (Front spec.dest 100) (FrontReply (Ok FrontBroken)) ∷ []) c) (sym (ap (λ o. o.given_up) is))
     (broken-is spec.gives_up drain old.given_up (exchange (Front spec.dest 100) (FrontReply (Ok FrontBroken)) ∷ []) none refl))
-    (refl, (λ e. inl (ap (λ o. is_some o.given_up) is ∙ some-cause old.given_up)))
+    (refl, refl, (λ e. inl (ap (λ o. is_some o.given_up) is ∙ some-cause old.given_up)))
 
 -- entries were shown
-follows-some : (d taken : ℕ) (well : Bool) (place : ℕ) (messages : List Content) (made : List Exchange) → 0 < length messages → SettlesFirst d place taken well made → Follows d taken well (FrontReply (Ok (Entries place messages))) made
-follows-some d taken well place [] made some h = absurd (omega arith)
-follows-some d taken well place (m ∷ ms) made some h = h
+follows-some : (d taken count : ℕ) (well : Bool) (place : ℕ) (messages : List Content) (made : List Exchange) → 0 < length messages → SettlesFirst d place taken count well made → Follows d taken count well (FrontReply (Ok (Entries place messages))) made
+follows-some d taken count well place [] made some h = absurd (omega arith)
+follows-some d taken count well place (m ∷ ms) made some h = h
 
 takes-as : (k : ℕ) (frames frames' : List (List ℕ)) (old new : OutletState) → take k frames ≡ take k frames' → Takes k frames old new → Takes k frames' old new
 takes-as k frames frames' old new same h = record {
@@ -98,51 +104,56 @@ takes-as k frames frames' old new same h = record {
   faults = h.faults;
 }
 
-shows-some : (made : List Exchange) (new : Outage) (result : Result Bool AllocError) → 0 < length (shown_in made) → result ≡ Ok true → ShowsBy made new result
-shows-some made new result some is = rw is (lt-yes 0 (length (shown_in made)) some, (λ e. absurd (let differ : true ≡ false = e in cc)))
+shows-some : (made : List Exchange) (idle idle' : Bool) (new : Outage) → 0 < length (shown_in made) → idle ≡ idle' → ShowsBy {E = AllocError} made idle' new (Ok (record { did = not idle; idle = idle }))
+shows-some made idle idle' new some is =
+    let shown : has_shown made ≡ true = lt-yes 0 (length (shown_in made)) some in
+    (is, ap not is ∙ ap (λ b. b && not idle') (sym shown), (λ e. absurd (let differ : true ≡ false = sym shown ∙ e in cc)))
 
-shows-err : (made : List Exchange) (new : Outage) (result : Result Bool AllocError) → IsErr result → ShowsBy made new result
-shows-err made new (Ok b) is = absurd (let differ : false ≡ true = is in cc)
-shows-err made new (Err e) is = tt
+shows-err : (made : List Exchange) (idle : Bool) (new : Outage) (result : Result Turned AllocError) → IsErr result → ShowsBy made idle new result
+shows-err made idle new (Ok b) is = absurd (let differ : false ≡ true = is in cc)
+shows-err made idle new (Err e) is = tt
 
-front-shown : {S : Type 0} (spec : DestSpec) (step : S → CoreCall → CoreReply → S → Type 0) (counter mid counter' : S) (place : ℕ) (messages : List Content) (new : Outage) (drain drain' : OutletState) (result : Result Bool AllocError)
-    → 0 < length messages → step counter (Front spec.dest 100) (FrontReply (Ok (Entries place messages))) mid → HasDelivered spec step mid counter' place messages new drain drain' (is_ok result)
-    → ((made : List Exchange) → 0 < length (shown_in made) → ShowsBy made new result)
+front-shown : {S : Type 0} (spec : DestSpec) (step : S → CoreCall → CoreReply → S → Type 0) (counter mid counter' : S) (place : ℕ) (messages : List Content) (new : Outage) (drain drain' : OutletState) (result : Result Turned AllocError) (idle : Bool)
+    → 0 < length messages → step counter (Front spec.dest 100) (FrontReply (Ok (Entries place messages))) mid → (h : HasDelivered spec step mid counter' place messages new drain drain' (is_ok result) idle)
+    → ((made : List Exchange) → 0 < length (shown_in made) → ShowsBy made (is_idle h.later h.taken) new result)
     → FrontGives {E = AllocError} spec step counter counter' new drain drain' result
-front-shown spec step counter mid counter' place messages new drain drain' result some made h shows =
+front-shown spec step counter mid counter' place messages new drain drain' result idle some made h shows =
     let all : List Exchange = exchange (Front spec.dest 100) (FrontReply (Ok (Entries place messages))) ∷ h.made in
     let shown : shown_in all ≡ messages = ap (λ ms. messages ++ ms) h.unshown ∙ append-nil messages in
+    let more : 0 < length (shown_in all) = (let n : length (shown_in all) ≡ length messages = ap length shown in omega arith) in
     record {
       made = all;
       taken = h.taken;
       refused = h.refused;
+      later = h.later;
       makes = (mid, made, h.makes);
       own = (refl, h.own);
       few = omega (arith, h.few);
-      delivers = (refl, follows-some spec.dest h.taken (is_ok result) place messages h.made some h.settles);
+      delivers = (refl, follows-some spec.dest h.taken drain'.count (is_ok result) place messages h.made some h.settles);
       takes = subst (λ ms. Takes h.taken (frames_by spec ms) drain drain') (sym shown) (takes-as h.taken (sent_of spec messages) (frames_by spec messages) drain drain' (sent-first spec h.taken messages h.within) h.takes);
       within = subst (λ ms. h.taken ≤ length (sent_of spec ms)) (sym shown) h.within;
-      whole = (λ w r. h.whole w r ∙ ap (λ ms. length (sent_of spec ms)) (sym shown));
-      laters = h.laters;
+      whole = (λ w r l. h.whole w r l ∙ ap (λ ms. length (sent_of spec ms)) (sym shown));
+      waits = h.waits;
+      early = (λ l. lt-yes 0 (length (shown_in all)) more);
       rose = h.rose;
       failures = h.failures;
       reopens = h.reopens;
       cause = h.cause;
-      shows = shows all (let n : length (shown_in all) ≡ length messages = ap length shown in omega arith);
+      shows = shows all more;
     }
 
-pub front-well : {S : Type 0} (spec : DestSpec) (step : S → CoreCall → CoreReply → S → Type 0) (counter mid counter' : S) (place : ℕ) (messages : List Content) (new : Outage) (drain drain' : OutletState)
-    → 0 < length messages → step counter (Front spec.dest 100) (FrontReply (Ok (Entries place messages))) mid → HasDelivered spec step mid counter' place messages new drain drain' true
-    → FrontGives {E = AllocError} spec step counter counter' new drain drain' (Ok true)
-front-well spec step counter mid counter' place messages new drain drain' some made h =
-    front-shown spec step counter mid counter' place messages new drain drain' (Ok true) some made h (λ made' n. shows-some made' new (Ok true) n refl)
+pub front-well : {S : Type 0} (spec : DestSpec) (step : S → CoreCall → CoreReply → S → Type 0) (counter mid counter' : S) (place : ℕ) (messages : List Content) (new : Outage) (drain drain' : OutletState) (idle : Bool)
+    → 0 < length messages → step counter (Front spec.dest 100) (FrontReply (Ok (Entries place messages))) mid → HasDelivered spec step mid counter' place messages new drain drain' true idle
+    → FrontGives {E = AllocError} spec step counter counter' new drain drain' (Ok (record { did = not idle; idle = idle }))
+front-well spec step counter mid counter' place messages new drain drain' idle some made h =
+    front-shown spec step counter mid counter' place messages new drain drain' (Ok (record { did = not idle; idle = idle })) idle some made h (λ made' n. shows-some made' idle (is_idle h.later h.taken) new n (h.idles refl))
 
-pub front-failed : {S : Type 0} (spec : DestSpec) (step : S → CoreCall → CoreReply → S → Type 0) (counter mid counter' : S) (place : ℕ) (messages : List Content) (new : Outage) (drain drain' : OutletState) (result : Result Bool AllocError) → IsErr result
-    → 0 < length messages → step counter (Front spec.dest 100) (FrontReply (Ok (Entries place messages))) mid → HasDelivered spec step mid counter' place messages new drain drain' false
+pub front-failed : {S : Type 0} (spec : DestSpec) (step : S → CoreCall → CoreReply → S → Type 0) (counter mid counter' : S) (place : ℕ) (messages : List Content) (new : Outage) (drain drain' : OutletState) (result : Result Turned AllocError) (idle : Bool) → IsErr result
+    → 0 < length messages → step counter (Front spec.dest 100) (FrontReply (Ok (Entries place messages))) mid → HasDelivered spec step mid counter' place messages new drain drain' false idle
     → FrontGives {E = AllocError} spec step counter counter' new drain drain' result
-front-failed spec step counter mid counter' place messages new drain drain' result is some made h =
-    front-shown spec step counter mid counter' place messages new drain drain' result some made
-    (subst (λ well. HasDelivered spec step mid counter' place messages new drain drain' well) (sym (not-ok result is)) h) (λ made' n. shows-err made' new result is)
+front-failed spec step counter mid counter' place messages new drain drain' result idle is some made h =
+    let k = subst (λ well. HasDelivered spec step mid counter' place messages new drain drain' well idle) (sym (not-ok result is)) h in
+    front-shown spec step counter mid counter' place messages new drain drain' result idle some made k (λ made' n. shows-err made' (is_idle k.later k.taken) new result is)
 
 pub blank-of : (messages : List Content) → (length messages == 0) ≡ true → messages ≡ []
 blank-of [] h = refl

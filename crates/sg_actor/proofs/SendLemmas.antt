@@ -15,7 +15,7 @@ use Rattle.sg_counter.specs.declared.answers.Settled.{Settled}
 use Rattle.sg_counter.specs.declared.answers.Refill.{Refill as Refilled}
 use Rattle.sg_actor.specs.Bringing.{exchange, AllBy}
 use Rattle.sg_actor.specs.Rendering.{sent_of}
-use Rattle.sg_actor.specs.Outages.{HasFailures, failed, with_taken, broken_cause, Sends}
+use Rattle.sg_actor.specs.Outages.{HasFailures, failed, with_taken, broken_cause, is_idle, Sends}
 use Rattle.sg_actor.specs.DestTurns.{shown_in, is_breakage, has_broken, is_done, Refills as RefillsCalls, SettlesFirst, HasCause, after_reply, after_made, HasDelivered}
 use Rattle.sg_actor.specs.Delivering.{Settles, Refills}
 use Rattle.sg_actor.specs.declared.outage.Outage.{Outage}
@@ -123,17 +123,18 @@ made-same (e ∷ es) o =
 
 -- A send, and the calls after it.
 
-delivered : {S : Type 0} (spec : DestSpec) (step : S → CoreCall → CoreReply → S → Type 0) (counter counter' : S) (place : ℕ) (messages : List Content) (old mid new : Outage) (drain drain' : OutletState) (sent : Sent) (well : Bool) (made : List Exchange)
+delivered : {S : Type 0} (spec : DestSpec) (step : S → CoreCall → CoreReply → S → Type 0) (counter counter' : S) (place : ℕ) (messages : List Content) (old mid new : Outage) (drain drain' : OutletState) (sent : Sent) (well idle : Bool) (made : List Exchange)
     → Sends spec.gives_up (sent_of spec messages) old mid drain drain' sent → old.reopens ≡ false → old.given_up ≡ None
-    → Makes step counter made counter' → AllBy (OfDest spec.dest) made → length made ≤ 2 → shown_in made ≡ [] → SettlesFirst spec.dest place sent.taken well made → new ≡ after_made made mid
-    → (well ≡ true → sent.starved ≡ false)
-    → HasDelivered spec step counter counter' place messages new drain drain' well
-delivered spec step counter counter' place messages old mid new drain drain' sent well made s open' none makes own few unshown settles is fed =
+    → Makes step counter made counter' → AllBy (OfDest spec.dest) made → length made ≤ 2 → shown_in made ≡ [] → SettlesFirst spec.dest place sent.taken drain'.count well made → new ≡ after_made made mid
+    → (well ≡ true → sent.starved ≡ false) → (well ≡ true → idle ≡ is_idle sent.later sent.taken)
+    → HasDelivered spec step counter counter' place messages new drain drain' well idle
+delivered spec step counter counter' place messages old mid new drain drain' sent well idle made s open' none makes own few unshown settles is fed idles =
     let same = made-same made mid in
     record {
       made = made;
       taken = sent.taken;
       refused = s.refused;
+      later = sent.later;
       makes = makes;
       own = own;
       few = few;
@@ -141,8 +142,9 @@ delivered spec step counter counter' place messages old mid new drain drain' sen
       settles = settles;
       takes = s.takes;
       within = s.within;
-      whole = (λ w r. s.whole (fed w) r);
-      laters = s.laters;
+      whole = (λ w r l. s.whole (fed w) r l);
+      idles = idles;
+      waits = s.waits;
       rose = s.rose;
       failures = ap (λ o. o.failures) is ∙ same.1 ∙ s.failures;
       reopens = ap (λ o. o.reopens) is ∙ same.0 ∙ sent-reopens spec.gives_up s.refused sent.taken old mid open' s.outage;
@@ -151,15 +153,15 @@ delivered spec step counter counter' place messages old mid new drain drain' sen
     }
 
 -- the settlement alone
-settles-one : (d place taken : ℕ) (well : Bool) (answer : Settled) → 0 < taken → (well && is_done (SettledReply answer)) ≡ false → SettlesFirst d place taken well (exchange (Settle d place taken) (SettledReply answer) ∷ [])
-settles-one d place zero well answer some is = absurd (omega arith)
-settles-one d place (suc n) well answer some is = (refl, subst (λ b. RefillsCalls d b []) (sym is) tt)
+settles-one : (d place taken count : ℕ) (well : Bool) (answer : Settled) → 0 < taken → (well && is_done (SettledReply answer)) ≡ false → SettlesFirst d place taken count well (exchange (Settle d place taken count) (SettledReply answer) ∷ [])
+settles-one d place zero count well answer some is = absurd (omega arith)
+settles-one d place (suc n) count well answer some is = (refl, subst (λ b. RefillsCalls d b []) (sym is) tt)
 
 -- and a refill behind it
-settles-two : (d place taken : ℕ) (answer : Settled) (refilled : Refilled) → 0 < taken → is_done (SettledReply answer) ≡ true
-    → SettlesFirst d place taken true (exchange (Settle d place taken) (SettledReply answer) ∷ exchange (Refill d) (RefilledReply refilled) ∷ [])
-settles-two d place zero answer refilled some is = absurd (omega arith)
-settles-two d place (suc n) answer refilled some is = (refl, subst (λ b. RefillsCalls d b (exchange (Refill d) (RefilledReply refilled) ∷ [])) (sym is) refl)
+settles-two : (d place taken count : ℕ) (answer : Settled) (refilled : Refilled) → 0 < taken → is_done (SettledReply answer) ≡ true
+    → SettlesFirst d place taken count true (exchange (Settle d place taken count) (SettledReply answer) ∷ exchange (Refill d) (RefilledReply refilled) ∷ [])
+settles-two d place zero count answer refilled some is = absurd (omega arith)
+settles-two d place (suc n) count answer refilled some is = (refl, subst (λ b. RefillsCalls d b (exchange (Refill d) (RefilledReply refilled) ∷ [])) (sym is) refl)
 
 and-false : (b : Bool) → (false && b) ≡ false
 and-false b = refl
@@ -167,49 +169,50 @@ and-false b = refl
 -- memory ran out in the send
 pub delivered-starved : {S : Type 0} (spec : DestSpec) (step : S → CoreCall → CoreReply → S → Type 0) (counter counter' : S) (place : ℕ) (messages : List Content) (old mid new : Outage) (drain drain' : OutletState) (sent : Sent) (goes : Bool)
     → Sends spec.gives_up (sent_of spec messages) old mid drain drain' sent → old.reopens ≡ false → old.given_up ≡ None
-    → Settles step counter counter' spec.dest place sent.taken mid new goes → HasDelivered spec step counter counter' place messages new drain drain' false
+    → Settles step counter counter' spec.dest place sent.taken drain'.count mid new goes → HasDelivered spec step counter counter' place messages new drain drain' false false
 delivered-starved spec step counter counter' place messages old mid new drain drain' sent goes s open' none (inl h) =
-    delivered spec step counter counter' place messages old mid new drain drain' sent false [] s open' none h.counter_stays tt (omega arith) refl
-    (subst (λ k. SettlesFirst spec.dest place k false []) (sym h.none) tt) h.outage_stays (λ w. absurd (let differ : false ≡ true = w in cc))
+    delivered spec step counter counter' place messages old mid new drain drain' sent false false [] s open' none h.counter_stays tt (omega arith) refl
+    (subst (λ k. SettlesFirst spec.dest place k drain'.count false []) (sym h.none) tt) h.outage_stays (λ w. absurd (let differ : false ≡ true = w in cc)) (λ w. absurd (let differ : false ≡ true = w in cc))
 delivered-starved spec step counter counter' place messages old mid new drain drain' sent goes s open' none (inr h) =
-    delivered spec step counter counter' place messages old mid new drain drain' sent false (exchange (Settle spec.dest place sent.taken) (SettledReply h.answer) ∷ []) s open' none
-    (counter', h.made, refl) (refl, tt) (omega arith) refl (settles-one spec.dest place sent.taken false h.answer h.some refl) h.outage (λ w. absurd (let differ : false ≡ true = w in cc))
+    delivered spec step counter counter' place messages old mid new drain drain' sent false false (exchange (Settle spec.dest place sent.taken drain'.count) (SettledReply h.answer) ∷ []) s open' none
+    (counter', h.made, refl) (refl, tt) (omega arith) refl (settles-one spec.dest place sent.taken drain'.count false h.answer h.some refl) h.outage (λ w. absurd (let differ : false ≡ true = w in cc)) (λ w. absurd (let differ : false ≡ true = w in cc))
 
 -- the entries weren't the first ones, or the store has failed
 pub delivered-stopped : {S : Type 0} (spec : DestSpec) (step : S → CoreCall → CoreReply → S → Type 0) (counter counter' : S) (place : ℕ) (messages : List Content) (old mid new : Outage) (drain drain' : OutletState) (sent : Sent) (goes : Bool)
     → Sends spec.gives_up (sent_of spec messages) old mid drain drain' sent → old.reopens ≡ false → old.given_up ≡ None
-    → Settles step counter counter' spec.dest place sent.taken mid new goes → goes ≡ false → sent.starved ≡ false → HasDelivered spec step counter counter' place messages new drain drain' true
+    → Settles step counter counter' spec.dest place sent.taken drain'.count mid new goes → goes ≡ false → sent.starved ≡ false → HasDelivered spec step counter counter' place messages new drain drain' true (is_idle sent.later sent.taken)
 delivered-stopped spec step counter counter' place messages old mid new drain drain' sent goes s open' none (inl h) stops fed = absurd (let differ : true ≡ false = sym h.goes_on ∙ stops in cc)
 delivered-stopped spec step counter counter' place messages old mid new drain drain' sent goes s open' none (inr h) stops fed =
-    delivered spec step counter counter' place messages old mid new drain drain' sent true (exchange (Settle spec.dest place sent.taken) (SettledReply h.answer) ∷ []) s open' none
-    (counter', h.made, refl) (refl, tt) (omega arith) refl (settles-one spec.dest place sent.taken true h.answer h.some (sym h.goes_on ∙ stops)) h.outage (λ w. fed)
+    delivered spec step counter counter' place messages old mid new drain drain' sent true (is_idle sent.later sent.taken) (exchange (Settle spec.dest place sent.taken drain'.count) (SettledReply h.answer) ∷ []) s open' none
+    (counter', h.made, refl) (refl, tt) (omega arith) refl (settles-one spec.dest place sent.taken drain'.count true h.answer h.some (sym h.goes_on ∙ stops)) h.outage (λ w. fed) (λ w. refl)
 
 -- all went well
 pub delivered-well : {S : Type 0} (spec : DestSpec) (step : S → CoreCall → CoreReply → S → Type 0) (counter between counter' : S) (place : ℕ) (messages : List Content) (old mid third' new : Outage) (drain drain' : OutletState) (sent : Sent) (goes : Bool)
     → Sends spec.gives_up (sent_of spec messages) old mid drain drain' sent → old.reopens ≡ false → old.given_up ≡ None
-    → Settles step counter between spec.dest place sent.taken mid third' goes → goes ≡ true → Refills step between counter' spec.dest third' new → sent.starved ≡ false
-    → HasDelivered spec step counter counter' place messages new drain drain' true
+    → Settles step counter between spec.dest place sent.taken drain'.count mid third' goes → goes ≡ true → Refills step between counter' spec.dest third' new → sent.starved ≡ false
+    → HasDelivered spec step counter counter' place messages new drain drain' true (is_idle sent.later sent.taken)
 delivered-well spec step counter between counter' place messages old mid third' new drain drain' sent goes s open' none (inl h) on r fed =
-    delivered spec step counter counter' place messages old mid new drain drain' sent true (exchange (Refill spec.dest) (RefilledReply r.0) ∷ []) s open' none
+    delivered spec step counter counter' place messages old mid new drain drain' sent true (is_idle sent.later sent.taken) (exchange (Refill spec.dest) (RefilledReply r.0) ∷ []) s open' none
     (counter', subst (λ c. step c (Refill spec.dest) (RefilledReply r.0) counter') h.counter_stays r.1.0, refl) (refl, tt) (omega arith) refl
-    (subst (λ k. SettlesFirst spec.dest place k true (exchange (Refill spec.dest) (RefilledReply r.0) ∷ [])) (sym h.none) refl)
-    (r.1.1 ∙ ap (λ o. after_reply (is_breakage (RefilledReply r.0)) o) h.outage_stays) (λ w. fed)
+    (subst (λ k. SettlesFirst spec.dest place k drain'.count true (exchange (Refill spec.dest) (RefilledReply r.0) ∷ [])) (sym h.none) refl)
+    (r.1.1 ∙ ap (λ o. after_reply (is_breakage (RefilledReply r.0)) o) h.outage_stays) (λ w. fed) (λ w. refl)
 delivered-well spec step counter between counter' place messages old mid third' new drain drain' sent goes s open' none (inr h) on r fed =
-    delivered spec step counter counter' place messages old mid new drain drain' sent true (exchange (Settle spec.dest place sent.taken) (SettledReply h.answer) ∷ exchange (Refill spec.dest) (RefilledReply r.0) ∷ []) s open' none
-    (between, h.made, (counter', r.1.0, refl)) (refl, (refl, tt)) (omega arith) refl (settles-two spec.dest place sent.taken h.answer r.0 h.some (sym h.goes_on ∙ on))
-    (r.1.1 ∙ ap (λ o. after_reply (is_breakage (RefilledReply r.0)) o) h.outage) (λ w. fed)
+    delivered spec step counter counter' place messages old mid new drain drain' sent true (is_idle sent.later sent.taken) (exchange (Settle spec.dest place sent.taken drain'.count) (SettledReply h.answer) ∷ exchange (Refill spec.dest) (RefilledReply r.0) ∷ []) s open' none
+    (between, h.made, (counter', r.1.0, refl)) (refl, (refl, tt)) (omega arith) refl (settles-two spec.dest place sent.taken drain'.count h.answer r.0 h.some (sym h.goes_on ∙ on))
+    (r.1.1 ∙ ap (λ o. after_reply (is_breakage (RefilledReply r.0)) o) h.outage) (λ w. fed) (λ w. refl)
 
 -- nothing was sent
 pub told-none : (told : Option (List (List ℕ))) → told ≡ option_map (λ before. before ++ []) told
 told-none None = refl
 told-none (Some frames) = ap Some (sym (append-nil frames))
 
-pub delivered-none : {S : Type 0} (spec : DestSpec) (step : S → CoreCall → CoreReply → S → Type 0) (counter : S) (place : ℕ) (messages : List Content) (old : Outage) (drain : OutletState)
-    → old.reopens ≡ false → old.given_up ≡ None → HasFailures old drain → HasDelivered spec step counter counter place messages old drain drain false
-delivered-none spec step counter place messages old drain open' none f = record {
+pub delivered-none : {S : Type 0} (spec : DestSpec) (step : S → CoreCall → CoreReply → S → Type 0) (counter : S) (place : ℕ) (messages : List Content) (old : Outage) (drain : OutletState) (idle : Bool)
+    → old.reopens ≡ false → old.given_up ≡ None → HasFailures old drain → HasDelivered spec step counter counter place messages old drain drain false idle
+delivered-none spec step counter place messages old drain idle open' none f = record {
   made = [];
   taken = 0;
   refused = false;
+  later = false;
   makes = refl;
   own = tt;
   few = omega arith;
@@ -217,8 +220,9 @@ delivered-none spec step counter place messages old drain open' none f = record 
   settles = tt;
   takes = record { told = told-none drain.taken; rose = omega arith; faults = omega arith };
   within = omega arith;
-  whole = (λ w r. absurd (let differ : false ≡ true = w in cc));
-  laters = refl;
+  whole = (λ w r l. absurd (let differ : false ≡ true = w in cc));
+  idles = (λ w. absurd (let differ : false ≡ true = w in cc));
+  waits = refl;
   rose = (λ e. absurd (let differ : false ≡ true = e in cc));
   failures = f;
   reopens = open';

@@ -1,5 +1,5 @@
 -- The steps of a destination's turn.
-use Rattle.std.specs.Prelude.{◌≡◌, ◌≤◌, ◌<◌, ◌⊎◌, ℕ, is_ok, is_some, Bool, true, false, List, length, Result, Ok, Err}
+use Rattle.std.specs.Prelude.{◌≡◌, ◌≤◌, ◌<◌, ◌⊎◌, ℕ, ◌&&◌, not, is_ok, is_some, Bool, true, false, List, length, Result, Ok, Err}
 use Rattle.sg_device.specs.Faults.{Rose}
 use Rattle.sg_device.specs.Outlet.{OutletState}
 use Rattle.sg_counter.specs.Exchanges.{Exchange, Makes, OfDest}
@@ -11,10 +11,11 @@ use Rattle.sg_counter.specs.declared.answers.Settled.{Settled}
 use Rattle.sg_counter.specs.declared.answers.Refill.{Refill as Refilled}
 use Rattle.sg_actor.specs.Bringing.{AllBy}
 use Rattle.sg_actor.specs.Rendering.{frames_by, sent_of}
-use Rattle.sg_actor.specs.Outages.{HasFailures, Takes}
+use Rattle.sg_actor.specs.Outages.{HasFailures, Takes, Waits, is_idle}
 use Rattle.sg_actor.specs.DestTurns.{is_breakage, is_done, after_reply, shown_in, has_shown, Delivers, HasCause, IsShownEmpty}
 use Rattle.sg_actor.specs.declared.outage.Outage.{Outage}
 use Rattle.sg_actor.specs.declared.rendering.DestSpec.{DestSpec}
+use Rattle.sg_actor.specs.declared.turned.Turned.{Turned}
 
 -- nothing was taken, and nothing is settled
 pub record SettlesNone {S : Type 0} (counter counter' : S) (taken : ℕ) (old new : Outage) (goes : Bool) : Type 0 where
@@ -23,19 +24,19 @@ pub record SettlesNone {S : Type 0} (counter counter' : S) (taken : ℕ) (old ne
   pub outage_stays : new ≡ old
   pub goes_on : goes ≡ true
 
--- so many are settled
-pub record SettlesSome {S : Type 0} (step : S → CoreCall → CoreReply → S → Type 0) (counter counter' : S) (d place taken : ℕ) (old new : Outage) (goes : Bool) : Type 0 where
+-- so many are settled, where the outlet told this count of frames
+pub record SettlesSome {S : Type 0} (step : S → CoreCall → CoreReply → S → Type 0) (counter counter' : S) (d place taken count : ℕ) (old new : Outage) (goes : Bool) : Type 0 where
   pub answer : Settled
   pub some : 0 < taken
-  pub made : step counter (Settle d place taken) (SettledReply answer) counter'
+  pub made : step counter (Settle d place taken count) (SettledReply answer) counter'
   pub outage : new ≡ after_reply (is_breakage (SettledReply answer)) old
   pub goes_on : goes ≡ is_done (SettledReply answer)
 
 abbrev pub Settles : {S : Type 0} → (S → CoreCall → CoreReply → S → Type 0) → S → S
-    → (d place taken : ℕ) → Outage → Outage → Bool → Type 0
-Settles step counter counter' d place taken old new goes =
+    → (d place taken count : ℕ) → Outage → Outage → Bool → Type 0
+Settles step counter counter' d place taken count old new goes =
     SettlesNone counter counter' taken old new goes
-    ⊎ SettlesSome step counter counter' d place taken old new goes
+    ⊎ SettlesSome step counter counter' d place taken count old new goes
 
 abbrev pub Refills : {S : Type 0} → (S → CoreCall → CoreReply → S → Type 0) → S → S → ℕ → Outage
     → Outage → Type 0
@@ -43,27 +44,30 @@ Refills step counter counter' d old new =
     (answer : Refilled) × (step counter (Refill d) (RefilledReply answer) counter'
     × (new ≡ after_reply (is_breakage (RefilledReply answer)) old))
 
--- there were entries, or the question came to this
-abbrev pub ShowsBy : {E : Type 0} → List Exchange → Outage → Result Bool E → Type 0
-ShowsBy made new (Ok found) = (has_shown made ≡ found)
-    × (found ≡ false → (is_some new.given_up ≡ true) ⊎ IsShownEmpty made)
-ShowsBy made new (Err e) = Unit {0}
+-- there were entries, or the question came to this; it was too early for them, or not
+abbrev pub ShowsBy : {E : Type 0} → List Exchange → Bool → Outage → Result Turned E → Type 0
+ShowsBy made idle new (Ok turned) = (turned.idle ≡ idle) × (turned.did ≡ (has_shown made && not idle))
+    × (has_shown made ≡ false → (is_some new.given_up ≡ true) ⊎ IsShownEmpty made)
+ShowsBy made idle new (Err e) = Unit {0}
 
 -- what a turn does once its outlet is open
-pub record FrontGives {S E : Type 0} (spec : DestSpec) (step : S → CoreCall → CoreReply → S → Type 0) (counter counter' : S) (new : Outage) (drain drain' : OutletState) (result : Result Bool E) : Type 0 where
+pub record FrontGives {S E : Type 0} (spec : DestSpec) (step : S → CoreCall → CoreReply → S → Type 0) (counter counter' : S) (new : Outage) (drain drain' : OutletState) (result : Result Turned E) : Type 0 where
   pub made : List Exchange
   pub taken : ℕ
   pub refused : Bool
+  pub later : Bool
   pub makes : Makes step counter made counter'
   pub own : AllBy (OfDest spec.dest) made
   pub few : length made ≤ 3
-  pub delivers : Delivers spec.dest taken (is_ok result) made
+  pub delivers : Delivers spec.dest taken drain'.count (is_ok result) made
   pub takes : Takes taken (frames_by spec (shown_in made)) drain drain'
   pub within : taken ≤ length (sent_of spec (shown_in made))
-  pub whole : is_ok result ≡ true → refused ≡ false → taken ≡ length (sent_of spec (shown_in made))
-  pub laters : drain'.laters ≡ drain.laters
+  pub whole : is_ok result ≡ true → refused ≡ false → later ≡ false
+      → taken ≡ length (sent_of spec (shown_in made))
+  pub waits : Waits later drain drain'
+  pub early : later ≡ true → has_shown made ≡ true
   pub rose : refused ≡ true → Rose drain.faults drain'.faults
   pub failures : HasFailures new drain'
   pub reopens : new.reopens ≡ refused
   pub cause : HasCause spec.gives_up refused drain' made new.given_up
-  pub shows : ShowsBy made new result
+  pub shows : ShowsBy made (is_idle later taken) new result

@@ -15,7 +15,7 @@ use Rattle.sg_counter.specs.declared.answers.Settled.TheVariants.{Done, DiskFail
 use Rattle.sg_counter.specs.declared.answers.Refill.TheVariants.{Broken as RefillBroken}
 use Rattle.sg_actor.specs.Bringing.{AllBy}
 use Rattle.sg_actor.specs.Rendering.{frames_by, sent_of}
-use Rattle.sg_actor.specs.Outages.{HasFailures, Takes, broken}
+use Rattle.sg_actor.specs.Outages.{HasFailures, Takes, Waits, is_idle, broken}
 use Rattle.sg_actor.specs.declared.outage.Outage.{Outage}
 use Rattle.sg_actor.specs.declared.rendering.DestSpec.{DestSpec}
 use Rattle.sg_actor.specs.declared.turned.GivenUp.{GivenUp}
@@ -58,23 +58,25 @@ Refills d true (r ∷ q ∷ rs) = ⊥
 Refills d false [] = Unit {0}
 Refills d false (r ∷ rs) = ⊥
 
--- as many of the first entries are settled as were taken, where there were any; and then a refill, where all went well
-abbrev pub SettlesFirst : (d place taken : ℕ) → Bool → List Exchange → Type 0
-SettlesFirst d place zero well made = Refills d well made
-SettlesFirst d place (suc n) well [] = ⊥
-SettlesFirst d place (suc n) well (s ∷ made) = (s.call ≡ Settle d place (suc n))
+-- as many of the first entries are settled as were taken, where there were any, with this count of all frames that the outlet had taken by
+-- then; and then a refill, where all went well
+abbrev pub SettlesFirst : (d place taken count : ℕ) → Bool → List Exchange → Type 0
+SettlesFirst d place zero count well made = Refills d well made
+SettlesFirst d place (suc n) count well [] = ⊥
+SettlesFirst d place (suc n) count well (s ∷ made) = (s.call ≡ Settle d place (suc n) count)
     × Refills d (well && is_done s.reply) made
 
-abbrev pub Follows : (d taken : ℕ) → Bool → CoreReply → List Exchange → Type 0
-Follows d taken well (FrontReply (Ok (Entries place []))) made = (made ≡ []) × (taken ≡ 0)
-Follows d taken well (FrontReply (Ok (Entries place (m ∷ ms)))) made = SettlesFirst d place taken
-    well made
-Follows d taken well reply made = (made ≡ []) × (taken ≡ 0)
+abbrev pub Follows : (d taken count : ℕ) → Bool → CoreReply → List Exchange → Type 0
+Follows d taken count well (FrontReply (Ok (Entries place []))) made = (made ≡ []) × (taken ≡ 0)
+Follows d taken count well (FrontReply (Ok (Entries place (m ∷ ms)))) made = SettlesFirst d place
+    taken count well made
+Follows d taken count well reply made = (made ≡ []) × (taken ≡ 0)
 
 -- the first entries are asked for, at most 100, and what was taken of them is settled; or no call is made
-abbrev pub Delivers : (d taken : ℕ) → Bool → List Exchange → Type 0
-Delivers d taken well [] = taken ≡ 0
-Delivers d taken well (f ∷ made) = (f.call ≡ Front d 100) × Follows d taken well f.reply made
+abbrev pub Delivers : (d taken count : ℕ) → Bool → List Exchange → Type 0
+Delivers d taken count well [] = taken ≡ 0
+Delivers d taken count well (f ∷ made) = (f.call ≡ Front d 100)
+    × Follows d taken count well f.reply made
 
 -- Why a destination is given up: its outlet failed three times in a row, or the store of its disk-buffer failed.
 abbrev pub HasCause : Bool → Bool → OutletState → List Exchange → Option GivenUp → Type 0
@@ -94,36 +96,38 @@ abbrev pub IsShownEmpty : List Exchange → Type 0
 IsShownEmpty [] = ⊥
 IsShownEmpty (f ∷ made) = IsEmptyFront f.reply
 
--- The destination sent, or reopened its outlet; it was too early to; and in an empty turn no entry was left, or it is given up.
-pub record TellsSent (old new : Outage) (made : List Exchange) (drain drain' : OutletState) (turned : Turned) : Type 0 where
-  pub did : turned.did ≡ (has_shown made || (old.reopens && not turned.idle))
-  pub idle : turned.idle ≡ nat_lt drain.laters drain'.laters
+-- The destination sent, or reopened its outlet, unless it was too early and no frame was taken; and in an empty turn no entry was left, or it is given up.
+pub record TellsSent (old new : Outage) (made : List Exchange) (taken : ℕ) (drain drain' : OutletState) (turned : Turned) : Type 0 where
+  pub did : turned.did ≡ ((has_shown made || old.reopens) && not turned.idle)
+  pub idle : turned.idle ≡ is_idle (nat_lt drain.laters drain'.laters) taken
   pub empty : turned.did ≡ false → turned.idle ≡ false
       → (is_some new.given_up ≡ true) ⊎ IsShownEmpty made
 
-abbrev pub Tells : {E : Type 0} → Outage → Outage → List Exchange → OutletState → OutletState
+abbrev pub Tells : {E : Type 0} → Outage → Outage → List Exchange → ℕ → OutletState → OutletState
     → Result Turned E → Type 0
-Tells old new made drain drain' (Ok turned) = TellsSent old new made drain drain' turned
-Tells old new made drain drain' (Err e) = Unit {0}
+Tells old new made taken drain drain' (Ok turned) = TellsSent old new made taken drain drain' turned
+Tells old new made taken drain drain' (Err e) = Unit {0}
 
--- A turn of a destination that isn't given up. So many frames of the first entries were taken, and just so many are settled; the last
--- send or reopening was refused, or not.
+-- A turn of a destination that isn't given up. So many frames of the first entries were taken, and just so many are settled, with the
+-- outlet's count at the end of the turn; the last send or reopening was refused with a fault, or not.
 pub record SendsWith {S E : Type 0} (spec : DestSpec) (step : S → CoreCall → CoreReply → S → Type 0) (counter counter' : S) (old new : Outage) (drain drain' : OutletState)
     (result : Result Turned E) (made : List Exchange) (taken : ℕ) (refused : Bool) : Type 0 where
   pub makes : Makes step counter made counter'
   pub own : AllBy (OfDest spec.dest) made
   pub few : length made ≤ 4
-  pub delivers : Delivers spec.dest taken (is_ok result) made
+  pub delivers : Delivers spec.dest taken drain'.count (is_ok result) made
   pub takes : Takes taken (frames_by spec (shown_in made)) drain drain'
   pub within : taken ≤ length (sent_of spec (shown_in made))
-  pub whole : is_ok result ≡ true → refused ≡ false → taken ≡ length (sent_of spec (shown_in made))
+  pub whole : is_ok result ≡ true → refused ≡ false → drain'.laters ≡ drain.laters
+      → taken ≡ length (sent_of spec (shown_in made))
   pub laters : (drain.laters ≤ drain'.laters) × (drain'.laters ≤ drain.laters + 1)
-  pub early : drain.laters < drain'.laters → old.reopens ≡ true
+  pub early : drain.laters < drain'.laters → has_shown made ≡ false → old.reopens ≡ true
   pub rose : refused ≡ true → Rose drain.faults drain'.faults
   pub failures : HasFailures new drain'
-  pub reopens : new.reopens ≡ (refused || nat_lt drain.laters drain'.laters)
+  pub reopens : new.reopens
+      ≡ (refused || (nat_lt drain.laters drain'.laters && not (has_shown made)))
   pub cause : HasCause spec.gives_up refused drain' made new.given_up
-  pub tells : Tells old new made drain drain' result
+  pub tells : Tells old new made taken drain drain' result
 
 -- a turn of one that is given up
 pub record Stays {S E : Type 0} (counter counter' : S) (old new : Outage) (drain drain' : OutletState) (result : Result Turned E) : Type 0 where
@@ -155,21 +159,28 @@ abbrev pub after_made : List Exchange → Outage → Outage
 after_made [] outage = outage
 after_made (e ∷ es) outage = after_made es (after_reply (is_breakage e.reply) outage)
 
--- What a send and the calls after it leave.
+-- what a delivery told
+abbrev pub idle_in : {E : Type 0} → Result Bool E → Bool
+idle_in (Ok idle) = idle
+idle_in (Err e) = false
+
+-- What a send and the calls after it leave. It was too early for the send and no frame was taken, or not.
 pub record HasDelivered {S : Type 0} (spec : DestSpec) (step : S → CoreCall → CoreReply → S → Type 0) (counter counter' : S) (place : ℕ) (messages : List Content) (new : Outage) (drain drain' : OutletState)
-    (well : Bool) : Type 0 where
+    (well idle : Bool) : Type 0 where
   pub made : List Exchange
   pub taken : ℕ
   pub refused : Bool
+  pub later : Bool
   pub makes : Makes step counter made counter'
   pub own : AllBy (OfDest spec.dest) made
   pub few : length made ≤ 2
   pub unshown : shown_in made ≡ []
-  pub settles : SettlesFirst spec.dest place taken well made
+  pub settles : SettlesFirst spec.dest place taken drain'.count well made
   pub takes : Takes taken (sent_of spec messages) drain drain'
   pub within : taken ≤ length (sent_of spec messages)
-  pub whole : well ≡ true → refused ≡ false → taken ≡ length (sent_of spec messages)
-  pub laters : drain'.laters ≡ drain.laters
+  pub whole : well ≡ true → refused ≡ false → later ≡ false → taken ≡ length (sent_of spec messages)
+  pub idles : well ≡ true → idle ≡ is_idle later taken
+  pub waits : Waits later drain drain'
   pub rose : refused ≡ true → Rose drain.faults drain'.faults
   pub failures : HasFailures new drain'
   pub reopens : new.reopens ≡ refused

@@ -56,14 +56,23 @@ Begins gives_up old new drain drain' Failed = (old.reopens ≡ true) × (new ≡
     × Takes 0 [] drain drain' × (drain'.laters ≡ drain.laters) × Rose drain.faults drain'.faults
     × HasFailures new drain'
 
--- what became of a send: a failure is counted, and lack of memory isn't one
+-- it was too early for one call, or for none
+abbrev pub Waits : Bool → OutletState → OutletState → Type 0
+Waits true drain drain' = drain'.laters ≡ drain.laters + 1
+Waits false drain drain' = drain'.laters ≡ drain.laters
+
+-- it was too early for a call, and no frame was taken
+abbrev pub is_idle : Bool → ℕ → Bool
+is_idle later taken = later && (taken == 0)
+
+-- what became of a send: a failure is counted, and neither is it one that it was too early nor lack of memory
 pub record Sends (gives_up : Bool) (frames : List (List ℕ)) (old new : Outage) (drain drain' : OutletState) (sent : Sent) : Type 0 where
   pub takes : Takes sent.taken frames drain drain'
   pub within : sent.taken ≤ length frames
-  pub laters : drain'.laters ≡ drain.laters
+  pub waits : Waits sent.later drain drain'
   pub failures : HasFailures new drain'
   pub refused : Bool
   pub rose : refused ≡ true → Rose drain.faults drain'.faults
   pub outage : new
       ≡ (if refused then failed gives_up (with_taken sent.taken old) else with_taken sent.taken old)
-  pub whole : sent.starved ≡ false → refused ≡ false → sent.taken ≡ length frames
+  pub whole : sent.starved ≡ false → refused ≡ false → sent.later ≡ false → sent.taken ≡ length frames

@@ -1,13 +1,15 @@
 // Entries of the core that go to an outlet.
 ghost use Rattle.std.specs.Prelude.{◌≡◌, ◌≢◌, ◌≤◌, ◌<◌, ◌+◌, false, None, [], length, is_ok};
+ghost use Rattle.sg_device.specs.Outlet.{count_of};
 ghost use Rattle.sg_actor.specs.Outages.{HasFailures};
-ghost use Rattle.sg_actor.specs.DestTurns.{HasDelivered};
+ghost use Rattle.sg_actor.specs.DestTurns.{HasDelivered, idle_in};
 ghost use Rattle.sg_actor.specs.Delivering.{Settles, Refills, FrontGives};
 
+use crate::Turned;
 use crate::outage::{Outage, send};
 use crate::rendering::{DestSpec, render};
-use sg_counter::{CoreFront, Counter, Refill, Settled};
-use sg_device::{Frames, NoMemory, Outlet};
+use sg_counter::{CoreFront, Counter, Refill, Settled, Settler};
+use sg_device::{Frames, NoMemory, Outlet, Taken};
 use sg_msg::Message;
 use std::alloc::{AllocError, Global};
 use std::sync::Wait;
@@ -16,25 +18,26 @@ use std::sync::Wait;
 const ENTRIES: u32 = 100;
 
 /// Settles the entries whose frames were taken. Tells whether the destination may go on.
-fn settle<T: Wait, C: Counter>(
+fn settle<T: Wait, O: Outlet, C: Settler<O>>(
     rt: &T,
     counter: &mut C,
     d: u32,
     place: u64,
-    taken: u32,
+    n: u32,
+    taken: Taken<O>,
     outage: &mut Outage,
 ) -> bool
     requires left { 0 < C.left counter.old }
     requires dest { d < length (C.setup counter.old).dests }
-    ensures settles { Settles C.step counter.old counter.new d place taken
+    ensures settles { Settles C.step counter.old counter.new d place n (count_of taken)
         outage.old outage.new result }
     ensures setup { C.setup counter.new ≡ C.setup counter.old }
     ensures left { C.left counter.old ≤ C.left counter.new + 1 }
 {
-    if taken == 0 {
+    if n == 0 {
         return true;
     }
-    match counter.settle(rt, d, place, taken) {
+    match counter.settle(rt, d, place, n, taken) {
         Settled::Done => true,
         Settled::NotFront => false,
         Settled::DiskFailed => {
@@ -61,8 +64,8 @@ fn refill<T: Wait, C: Counter>(rt: &T, counter: &mut C, d: u32, outage: &mut Out
 }
 
 /// Sends the frames of the first entries, the first of which has that place, settles those that
-/// were taken, and refills.
-fn deliver<T: Wait, C: Counter, O: Outlet>(
+/// were taken, and refills. Tells whether it was too early for all of them.
+fn deliver<T: Wait, O: Outlet, C: Settler<O>>(
     rt: &T,
     alloc: Global,
     counter: &mut C,
@@ -72,7 +75,7 @@ fn deliver<T: Wait, C: Counter, O: Outlet>(
     outage: &mut Outage,
     place: u64,
     messages: &[Message],
-) -> Result<(), NoMemory>
+) -> Result<bool, NoMemory>
     requires left { 2 ≤ C.left counter.old }
     requires dest { spec.now.dest < length (C.setup counter.old).dests }
     requires some { messages.now ≢ [] }
@@ -80,24 +83,27 @@ fn deliver<T: Wait, C: Counter, O: Outlet>(
     requires kept { outage.old.given_up ≡ None }
     requires failures { HasFailures outage.old (O.state outlet.old) }
     ensures delivers { HasDelivered spec.now C.step counter.old counter.new place messages.now
-        outage.new (O.state outlet.old) (O.state outlet.new) (is_ok result) }
+        outage.new (O.state outlet.old) (O.state outlet.new) (is_ok result) (idle_in result) }
     ensures setup { C.setup counter.new ≡ C.setup counter.old }
     ensures left { C.left counter.old ≤ C.left counter.new + 2 }
 {
     render(alloc, spec, messages, frames)?;
     let sent = send(outlet, frames, outage, spec.gives_up);
-    let goes_on = settle(rt, counter, spec.dest, place, sent.taken, outage);
+    let idle = sent.idle();
+    let taken = Taken::of(outlet);
+    let goes_on = settle(rt, counter, spec.dest, place, sent.taken, taken, outage);
     if sent.starved {
         return Err(AllocError);
     }
     if goes_on {
         refill(rt, counter, spec.dest, outage);
     }
-    Ok(())
+    Ok(idle)
 }
 
-/// Takes the first entries of the destination to its outlet. Tells whether there were any.
-pub(crate) fn deliver_front<T: Wait, C: Counter, O: Outlet>(
+/// Takes the first entries of the destination to its outlet. It did something where there were any,
+/// unless it was too early for all of them: then it was idle.
+pub(crate) fn deliver_front<T: Wait, O: Outlet, C: Settler<O>>(
     rt: &T,
     alloc: Global,
     counter: &mut C,
@@ -105,7 +111,7 @@ pub(crate) fn deliver_front<T: Wait, C: Counter, O: Outlet>(
     outlet: &mut O,
     frames: &mut Frames,
     outage: &mut Outage,
-) -> Result<bool, NoMemory>
+) -> Result<Turned, NoMemory>
     requires left { 3 ≤ C.left counter.old }
     requires dest { spec.now.dest < length (C.setup counter.old).dests }
     requires ready { outage.old.reopens ≡ false }
@@ -119,9 +125,12 @@ pub(crate) fn deliver_front<T: Wait, C: Counter, O: Outlet>(
     match counter.front(rt, alloc, spec.dest, ENTRIES)? {
         CoreFront::Entries { place, messages } => {
             if messages.is_empty() {
-                return Ok(false);
+                return Ok(Turned {
+                    did: false,
+                    idle: false,
+                });
             }
-            deliver(
+            let idle = deliver(
                 rt,
                 alloc,
                 counter,
@@ -132,12 +141,18 @@ pub(crate) fn deliver_front<T: Wait, C: Counter, O: Outlet>(
                 place,
                 messages.as_slice(),
             )?;
-            Ok(true)
+            Ok(Turned { did: !idle, idle })
         }
-        CoreFront::Empty => Ok(false),
+        CoreFront::Empty => Ok(Turned {
+            did: false,
+            idle: false,
+        }),
         CoreFront::Broken => {
             outage.break_store();
-            Ok(false)
+            Ok(Turned {
+                did: false,
+                idle: false,
+            })
         }
     }
 }

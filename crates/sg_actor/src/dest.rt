@@ -8,7 +8,7 @@ use crate::delivering::deliver_front;
 use crate::outage::{Begun, Outage, reopen};
 use crate::rendering::DestSpec;
 use crate::{GivenUp, Turned};
-use sg_counter::Counter;
+use sg_counter::Settler;
 use sg_device::{Frames, NoMemory, Outlet};
 use sg_outfmt::Shape;
 use sg_template::Env;
@@ -61,8 +61,10 @@ impl<O: Outlet> DestActor<O> {
 
     /// A turn: where the outlet failed last it is reopened; then the destination asks for its first
     /// entries, sends their frames in one call, settles as many entries as frames were taken, and
-    /// refills. Without memory those that were taken are settled all the same.
-    pub fn turn<T: Wait, C: Counter>(
+    /// refills. Without memory those that were taken are settled all the same. Where it was too early
+    /// for the rest the next turn sends again, without a reopening; where it was for all, the turn was
+    /// idle.
+    pub fn turn<T: Wait, C: Settler<O>>(
         &mut self,
         rt: &T,
         alloc: Global,
@@ -94,7 +96,7 @@ impl<O: Outlet> DestActor<O> {
                 idle: false,
             }),
             Begun::Reopened => {
-                deliver_front(
+                let given = deliver_front(
                     rt,
                     alloc,
                     counter,
@@ -104,12 +106,12 @@ impl<O: Outlet> DestActor<O> {
                     &mut self.outage,
                 )?;
                 Ok(Turned {
-                    did: true,
-                    idle: false,
+                    did: !given.idle,
+                    idle: given.idle,
                 })
             }
             Begun::Open => {
-                let did = deliver_front(
+                let given = deliver_front(
                     rt,
                     alloc,
                     counter,
@@ -118,7 +120,7 @@ impl<O: Outlet> DestActor<O> {
                     &mut self.frames,
                     &mut self.outage,
                 )?;
-                Ok(Turned { did, idle: false })
+                Ok(given)
             }
         }
     }

@@ -1,6 +1,6 @@
 // What a destination knows of its outlet's failures.
 ghost use Rattle.std.specs.Prelude.{◌≡◌, ◌≢◌, ◌≤◌, false, None, [], length};
-ghost use Rattle.sg_actor.specs.Outages.{HasFailures, failed, with_taken, broken, Begins, Sends};
+ghost use Rattle.sg_actor.specs.Outages.{HasFailures, failed, with_taken, broken, is_idle, Begins, Sends};
 
 use crate::GivenUp;
 use sg_device::{Frames, Outlet, Reopened, SendRefusal};
@@ -11,7 +11,8 @@ const FAILURES: u8 = 3;
 /// What a destination knows of its outlet's failures, and whether it is given up.
 #[derive(Clone, Copy, Debug, PartialEq, Eq, Drop)]
 pub struct Outage {
-    /// The last send or reopening failed: the next turn begins with a reopening.
+    /// The last send or reopening failed: the next turn begins with a reopening. That it was too
+    /// early for a send is no failure.
     pub(crate) reopens: bool,
     /// The sends and reopenings that failed since a frame was taken, at most three.
     pub(crate) failures: u8,
@@ -89,6 +90,17 @@ pub(crate) struct Sent {
     pub(crate) taken: u32,
     /// Memory ran out.
     pub(crate) starved: bool,
+    /// It was too early for the rest.
+    pub(crate) later: bool,
+}
+
+impl Sent {
+    /// It was too early for all frames.
+    pub(crate) fn idle(&self) -> bool
+        ensures { result ≡ is_idle self.now.later self.now.taken }
+    {
+        self.later && self.taken == 0
+    }
 }
 
 /// Sends the frames, of which there are at most 100.
@@ -112,17 +124,25 @@ pub(crate) fn send<O: Outlet>(
         Ok(()) => Sent {
             taken,
             starved: false,
+            later: false,
         },
         Err(SendRefusal::Fault) => {
             outage.fail(gives_up);
             Sent {
                 taken,
                 starved: false,
+                later: false,
             }
         }
+        Err(SendRefusal::Later) => Sent {
+            taken,
+            starved: false,
+            later: true,
+        },
         Err(SendRefusal::NoMemory) => Sent {
             taken,
             starved: true,
+            later: false,
         },
     }
 }

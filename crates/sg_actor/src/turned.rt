@@ -4,7 +4,8 @@
 #[derive(Clone, Copy, Debug, PartialEq, Eq, Drop)]
 pub struct Turned {
     pub did: bool,
-    /// The inlet had nothing at present, or it was too early to reopen the outlet.
+    /// The inlet had nothing at present, or it was too early to reopen the outlet, or for all frames
+    /// of a send.
     pub idle: bool,
 }
 

@@ -1,7 +1,7 @@
 -- The calls at the places of a desk.
 use Rattle.std.proofs.Common.{◌≡◌, ℕ, zero, suc, ◌+◌, ◌≤◌, ◌<◌, List, [], ◌∷◌, ◌++◌, length, slice_get, Some, sym, refl, ap, ◌∙◌, arith, append_assoc}
 use Rattle.std.specs.Option.{option_to_list}
-use Rattle.sg_booth.specs.Lists.{Rises, entries_at}
+use Rattle.sg_booth.specs.Lists.{Rises, AllRise, joined_up, entries_at}
 
 module _ {E : Type 0} where
   get-more : (xs ys : List E) (p : ℕ) → p < length xs → slice_get (xs ++ ys) p ≡ slice_get xs p
@@ -26,6 +26,21 @@ module _ {E : Type 0} where
   entries-append : (xs : List E) (ps qs : List ℕ) → entries_at xs (ps ++ qs) ≡ entries_at xs ps ++ entries_at xs qs
   entries-append xs [] qs = refl
   entries-append xs (p ∷ ps) qs = ap (λ es. option_to_list (slice_get xs p) ++ es) (entries-append xs ps qs) ∙ sym (append_assoc (option_to_list (slice_get xs p)) (entries_at xs ps) (entries_at xs qs))
+
+  entries-joined : (xs ys : List E) (js : List (List ℕ)) → AllRise js (length xs) → entries_at (xs ++ ys) (joined_up js) ≡ entries_at xs (joined_up js)
+  entries-joined xs ys [] r = refl
+  entries-joined xs ys (ps ∷ js) r =
+      entries-append (xs ++ ys) ps (joined_up js)
+      ∙ (λ i. entries-more xs ys 0 ps r.0 i ++ entries-joined xs ys js r.1 i)
+      ∙ sym (entries-append xs ps (joined_up js))
+
+  -- the calls at all places
+  pub entries-placed : (xs ys : List E) (own : List ℕ) (js : List (List ℕ)) → Rises 0 own (length xs) → AllRise js (length xs)
+      → entries_at (xs ++ ys) (own ++ joined_up js) ≡ entries_at xs (own ++ joined_up js)
+  entries-placed xs ys own js r rs =
+      entries-append (xs ++ ys) own (joined_up js)
+      ∙ (λ i. entries-more xs ys 0 own r i ++ entries-joined xs ys js rs i)
+      ∙ sym (entries-append xs own (joined_up js))
 
   -- one more call at the end
   pub entries-turned : (seen more : List E) (e : E) (own : List ℕ) → Rises 0 own (length seen)

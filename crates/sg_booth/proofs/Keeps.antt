@@ -13,9 +13,9 @@ use Rattle.std.specs.declared.snapshot.Snapshot.{Snapshot}
 use Rattle.sg_booth.specs.declared.office.Exchange.{Exchange}
 use Rattle.sg_booth.specs.declared.table.Notes.{Notes}
 use Rattle.sg_booth.specs.declared.table.Held.{Held}
-use Rattle.sg_booth.specs.Lists.{total, times, joined_up, CountsOnce, StartsWith}
+use Rattle.sg_booth.specs.Lists.{total, times, joined_up, CountsOnce, CountsSome, StartsWith}
 use Rattle.sg_booth.specs.Rule.{Makes, places_of, first_notes, spent_notes, MadeIs, Fits, IsGiven, IsHome, IsKept, drawn, drew, passed_notes, exchange_of, passed, returned, learned, Takes, looked, cut_left, cut_right, both_notes, LiesAsGiven}
-use Rattle.sg_booth.proofs.Sums.{total_set, total_same, total_append, total_at, total_two, total_find, total_else, times-append, times-one, times-none, joined_up-append, counts_same, counts_more, counts_less, starts_more}
+use Rattle.sg_booth.proofs.Sums.{total_set, total_same, total_append, total_at, total_two, total_find, total_else, times-append, times-one, times-none, joined_up-append, counts_same, counts_more, counts_less, counts_some, starts_more}
 
 -- what holds of one view and of the others holds of all after a change of one
 all_set : {A : Type 0} (F : A → Type 0) (vs : List A) (me : ℕ) (w : A) → F w → ((j : ℕ) (u : A) → j ≢ me → get_elem? vs j ≡ some u → F u) → (j : ℕ) (u : A) → get_elem? (set vs me w) j ≡ some u → F u
@@ -445,6 +445,7 @@ module _ {V C R : Type 0} (step : V → C → R → V → Type 0) (may : V → C
   pub ends : (id : ℕ) (v : N) (ws : List ℕ) (xs : List S) → 0 < v.sure → v.out ≡ 0 → Final (Seen Rule id v) ws xs
       → (held : Held V C R) × (get_elem? xs 0 ≡ some (Some held)) × IsGiven step may room made v.seen held.office
       × (length (places_of v) + (v.left + 1) ≡ turns → CountsOnce 0 (length v.seen) (λ x. times x (places_of v)))
+      × (length v.seen + (v.left + 1) ≤ turns) × CountsSome (length v.seen) (λ x. times x (places_of v))
   ends id v ws xs sure none_out f =
       let s : St = f.0 in
       let k : Rule s = f.1.0 in
@@ -469,6 +470,11 @@ module _ {V C R : Type 0} (step : V → C → R → V → Type 0) (may : V → C
             let whole : total (λ (v : N). length (places_of v)) s.views ≡ length (places_of v) = omega arith in
             subst (λ l. CountsOnce 0 l (λ x. times x (places_of v))) (ap length (sym seen))
             (counts_same 0 (length k.log) (places_at s.views) (λ x. times x (places_of v)) k.places (λ x. sym (total_else (λ (v : N). times x (places_of v)) (λ (v : N). length (places_of v)) s.views id v at (λ u e. times-none x (places_of u) e) whole))),
+        (let long = ap length seen in omega arith),
+        λ x.
+            let one = total_at (λ (v : N). times x (places_of v)) s.views id v at in
+            let long = ap length seen in
+            counts_some 0 (length k.log) (length v.seen) x (places_at s.views x) (times x (places_of v)) (k.places x) one long,
       )
 
 abbrev first_of : {S : Type 0} → List (maybe.Option S) → maybe.Option S

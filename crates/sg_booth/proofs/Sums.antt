@@ -1,5 +1,6 @@
 -- Sums over views, and numbers that are counted once.
-use Rattle.std.proofs.Common.{◌≡◌, ◌≢◌, ℕ, zero, suc, ◌+◌, ◌≤◌, ◌<◌, if◌then◌else◌, List, [], ◌∷◌, ◌++◌, length, set, sym, refl, ap, ◌∙◌, arith, eq-eqb, ne_eqb, append_assoc}
+use Rattle.std.proofs.Common.{◌≡◌, ◌≢◌, ℕ, zero, suc, ◌+◌, ◌≤◌, ◌<◌, if◌then◌else◌, List, [], ◌∷◌, ◌++◌, length, set, sym, refl, ap, ◌∙◌, arith, eq-eqb, ne_eqb, append_assoc, ◌⊎◌, inl, inr}
+use Rattle.std.proofs.lemmas.Bool.{cases_lt}
 use mathlib.Core.Option.{some, some-injective, some-ne-none}
 use mathlib.Core.Logic.{dite}
 use native.Mathlib.Decide.{ℕ_discrete}
@@ -77,6 +78,15 @@ pub counts_less : (low high : ℕ) (f g : ℕ → ℕ) → CountsOnce low high f
 counts_less low high f g c lt less x = let p = c x in let e = less x in dite (ℕ_discrete x low)
     (λ is. let t = times-one x low is in let q = p.1 (omega arith) (omega arith) in ((λ h. omega arith), (λ h h'. absurd (omega arith)), (λ h. absurd (omega arith))))
     (λ other. let t = times-other x low other in ((λ h. let q = p.0 (omega arith) in omega arith), (λ h h'. let q = p.1 (omega arith) h' in omega arith), (λ h. let q = p.2 h in omega arith)))
+
+-- a part of what is counted once
+pub counts_some : (low high top x n m : ℕ) → (x < low → n ≡ 0) × (low ≤ x → x < high → n ≡ 1) × (high ≤ x → n ≡ 0) → m ≤ n → top ≡ high → (m ≤ 1) × (top ≤ x → m ≡ 0)
+counts_some low high top x n m p le is = (counts_most low high x n m p le (cases_lt x low) (cases_lt x high), λ past. let none = p.2 (omega (arith, past, is)) in omega (arith, none, le))
+  where
+    counts_most : (low high x n m : ℕ) → (x < low → n ≡ 0) × (low ≤ x → x < high → n ≡ 1) × (high ≤ x → n ≡ 0) → m ≤ n → (x < low) ⊎ (low ≤ x) → (x < high) ⊎ (high ≤ x) → m ≤ 1
+    counts_most low high x n m p le (inl below) b = let q = p.0 below in omega (arith, q, le)
+    counts_most low high x n m p le (inr from) (inl inside) = let q = p.1 from inside in omega (arith, q, le)
+    counts_most low high x n m p le (inr from) (inr past) = let q = p.2 past in omega (arith, q, le)
 
 pub starts_more : {A : Type 0} (whole start : List A) (x : A) → StartsWith whole start → StartsWith (whole ++ x ∷ []) start
 starts_more whole start x s = (s.0 ++ x ∷ [], ap (λ w. w ++ x ∷ []) s.1 ∙ append_assoc start s.0 (x ∷ []))

@@ -1,7 +1,7 @@
 -- Booths and desks as their callers see them.
-use Rattle.std.specs.Prelude.{◌≡◌, ℕ, ◌+◌, ◌-◌, List, [], ◌∷◌, ◌++◌, length, Option, Some}
+use Rattle.std.specs.Prelude.{◌≡◌, ℕ, ◌+◌, ◌-◌, ◌≤◌, List, [], ◌∷◌, ◌++◌, length, Option, Some}
 use Rattle.atomic_table.specs.Seated.{TableId}
-use Rattle.sg_booth.specs.Lists.{times, joined_up, CountsOnce, Rises, AllRise, StartsWith, entries_at}
+use Rattle.sg_booth.specs.Lists.{times, joined_up, CountsOnce, CountsSome, Rises, AllRise, StartsWith, entries_at}
 use Rattle.sg_booth.specs.Rule.{Makes}
 use Rattle.sg_booth.specs.declared.office.Exchange.{Exchange}
 
@@ -68,11 +68,15 @@ module _ {V C R : Type 0} where
         { left = old.left + other.left; seen = old.seen ++ more; joined = old.joined ++ other.own ∷ other.joined }
     pub told : StartsWith new.seen other.seen
 
-  -- The history gives this office, and begins with what the desk has seen. Where the desk's calls and turns are all that the booth was
-  -- made with, the history has the desk's calls and no others
+  -- The history gives this office, and begins with what the desk has seen. Each of the desk's calls stands in it once, at its place; all
+  -- others are calls of desks that weren't joined, whose turns are lost: with the turns that the desk has left the history is no longer
+  -- than the booth was made for. Where the desk's calls and turns are all of those, it has the desk's calls and no others
   pub record HasClosed (step : V → C → R → V → Type 0) (booth : BoothState V) (desk : DeskState V C R) (office : V) : Type 0 where
     pub history : List (Exchange C R)
     pub gives : Makes step booth.made history office
     pub seen : StartsWith history desk.seen
+    pub few : length history + desk.left ≤ booth.turns
+    pub mine : CountsSome (length history) (λ x. times x (places desk))
+    pub calls : entries_at history (places desk) ≡ entries_at desk.seen (places desk)
     pub all : length (places desk) + desk.left ≡ booth.turns
         → CountsOnce 0 (length history) (λ x. times x (places desk))

@@ -22,6 +22,10 @@ abbrev pub CountsOnce : ℕ → ℕ → (ℕ → ℕ) → Type 0
 CountsOnce low high f = (x : ℕ)
     → (x < low → f x ≡ 0) × (low ≤ x → x < high → f x ≡ 1) × (high ≤ x → f x ≡ 0)
 
+-- each number that is counted is below high, and is counted once
+abbrev pub CountsSome : ℕ → (ℕ → ℕ) → Type 0
+CountsSome high f = (x : ℕ) → (f x ≤ 1) × (high ≤ x → f x ≡ 0)
+
 -- the numbers rise, from low on and below high
 abbrev pub Rises : ℕ → List ℕ → ℕ → Type 0
 Rises low [] high = low ≤ high

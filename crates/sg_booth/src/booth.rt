@@ -123,7 +123,8 @@ impl<V: Office> Booth<V> {
         desk.left += left;
     }
 
-    /// Waits for a turn, and ends the booth in it. The office is what the history gives.
+    /// Waits for a turn, and ends the booth in it. The office is what the history gives. A desk that was
+    /// dropped takes its turns with it: its calls stand in the history among those of others.
     pub fn close<R: Wait>(self, rt: &R, desk: Desk<V>) -> V
         requires desk { IsDeskOf self desk }
         requires left { 0 < desk.left }

@@ -96,13 +96,13 @@ called i old new (Admit j records) (Admitted (Err refused)) s own is serves at =
 called i old new (Front e most) (FrontReply result) s own is serves at =
     let does = serves.does in
     record { after = after_act s Look does.failed; at = (does.step s at).1; goes = goes-look i s does.failed own; tells = λ mine. tt }
-called i old new (Settle e place n) (SettledReply Done) s own is serves at =
+called i old new (Settle e place n count) (SettledReply Done) s own is serves at =
     let does = serves.does in
     record { after = after_act s (SettleAct e n) does.failed; at = (does.step s at).1; goes = goes-zero i s (after_act s (SettleAct e n) does.failed) 0 own (goes-settle i e n s does.failed); tells = λ mine. tt }
-called i old new (Settle e place n) (SettledReply NotFront) s own is serves at =
+called i old new (Settle e place n count) (SettledReply NotFront) s own is serves at =
     let does = serves.does in
     record { after = after_act s Look does.failed; at = (does.step s at).1; goes = goes-look i s does.failed own; tells = λ mine. tt }
-called i old new (Settle e place n) (SettledReply DiskFailed) s own is serves at =
+called i old new (Settle e place n count) (SettledReply DiskFailed) s own is serves at =
     let does = serves.does in
     record { after = after_act s (SettleAct e n) does.failed; at = (does.step s at).1; goes = goes-zero i s (after_act s (SettleAct e n) does.failed) 0 own (goes-settle i e n s does.failed); tells = λ mine. tt }
 called i old new (Refill e) (Refilled (Moved n)) s own is serves at =

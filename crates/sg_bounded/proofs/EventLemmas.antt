@@ -89,11 +89,6 @@ opened-kept [] entries = refl
 opened-kept (s ∷ ss) [] = let h = opened-kept ss [] in omega (arith, h)
 opened-kept (s ∷ ss) (es ∷ rest) = let h = opened-kept ss rest in omega (arith, h)
 
-pub opened-many : (setups : List DestSetup) (entries : List (List Kept)) → length (opened_dests setups entries) ≡ length setups
-opened-many [] entries = refl
-opened-many (s ∷ ss) [] = ap suc (opened-many ss [])
-opened-many (s ∷ ss) (es ∷ rest) = ap suc (opened-many ss rest)
-
 abbrev count_at : List Inlet → ℕ → ℕ
 count_at inlets i = option_map_or (λ (inlet : Inlet). length inlet.ends) (slice_get inlets i) 0
 

@@ -65,13 +65,13 @@ use Rattle.sg_serve.specs.declared.ending.PlanEnded.{PlanEnded}
 use Rattle.sg_serve.specs.declared.ending.PlanEnded.TheVariants.{Before, Ran}
 use Rattle.sg_serve.specs.declared.plan.RunPlan.{RunPlan}
 use Rattle.sg_delivered.proofs.DestLemmas.{sendings-of}
-use Rattle.sg_delivered.proofs.PreludeLemmas.{get-back, still-rewinds}
+use Rattle.sg_delivered.proofs.PreludeLemmas.{get-back, still-rewinds, opened-many}
 use Rattle.sg_delivered.proofs.SourceLemmas.{nothing-read}
 use Rattle.sg_bounded.specs.Bounds.{brought, recovered_in, offered_in, recovered_at, offered_at, most_rounds, AreFew, IsFew, RunsAreBounded, UntroubledRunsEnd}
 use Rattle.sg_bounded.specs.Counts.{rise, changes, writes_in, offers_of}
 use Rattle.sg_bounded.proofs.ActLemmas.{unstored_at}
 use Rattle.sg_bounded.proofs.CallLemmas.{calls-end}
-use Rattle.sg_bounded.proofs.EventLemmas.{acts_offers, kept-all, dests-all, opened-owe, opened-kept, opened-many, opened-none, rewind-next}
+use Rattle.sg_bounded.proofs.EventLemmas.{acts_offers, kept-all, dests-all, opened-owe, opened-kept, opened-none, rewind-next}
 use Rattle.sg_bounded.proofs.MarkLemmas.{acked-length, acked_of, unstored_of}
 use Rattle.sg_bounded.proofs.OwedLemmas.{one-most, owed_in, size, kept_in}
 use Rattle.sg_bounded.proofs.RiseLemmas.{stands-or, rise-below, rise-above}
@@ -141,10 +141,10 @@ call-offers (Admit i records) (Admitted (Ok vs)) = omega arith
 call-offers (Admit i records) (Admitted (Err refused)) = refl
 call-offers (Admit i records) reply = refl
 call-offers (Front d most) reply = refl
-call-offers (Settle d place n) (SettledReply Done) = refl
-call-offers (Settle d place n) (SettledReply NotFront) = refl
-call-offers (Settle d place n) (SettledReply DiskFailed) = refl
-call-offers (Settle d place n) reply = refl
+call-offers (Settle d place n count) (SettledReply Done) = refl
+call-offers (Settle d place n count) (SettledReply NotFront) = refl
+call-offers (Settle d place n count) (SettledReply DiskFailed) = refl
+call-offers (Settle d place n count) reply = refl
 call-offers (Refill d) (Refilled (Moved n)) = refl
 call-offers (Refill d) (Refilled NoneWaits) = refl
 call-offers (Refill d) (Refilled NoRoom) = refl
@@ -231,12 +231,12 @@ source-pays busy old new own paid rose h =
 source-busy : {R I O : Type 0} (feed : I → InletState) (drain : O → OutletState) (offers : R → ℕ → Record → List Offer → Type 0) (inlets dests : R → ℕ) (files : Option Files) (plan : RunPlan) (routers : List R) (rounds : ℕ) (reached : Reached)
     (run : CoreRun) (counts : Option Counts) → IsRunnable plan → HoldsRun files plan reached run → (served : IsServed feed drain offers inlets dests plan routers rounds reached run RoundsSpent counts)
     → (s : State) (recovered : ℕ) → Begins run.begun s recovered → (i : ℕ) (old new : InletState) → slice_get reached.inlets i ≡ Some old → slice_get reached.inlets_closed i ≡ Some new → new.faults < 2 ^ 64 - 1
-    → busy_of ((served.runs).serves.1.0 (OfSource i)) ≤ inlet_pays old new + own_offers ((served.runs).serves).0 i
+    → busy_of ((served.runs).account (OfSource i)) ≤ inlet_pays old new + own_offers run.made i
 source-busy {R} {I} {O} feed drain offers inlets dests files plan routers rounds reached run counts runnable holds served s recovered begin i old new at_old at_new counted =
     let runs = served.runs in
-    let made = runs.serves.0 in
-    let turns = runs.serves.1.0 (OfSource i) in
-    let took = (runs.serves.1.1.1).took in
+    let made = run.made in
+    let turns = runs.account (OfSource i) in
+    let took = (runs.serves).took in
     let own = calls_by (OfSource i) made in
     let a = get-back (λ (x : SourceActor R I). feed x.inlet) runs.sources i old (ap (λ fs. slice_get fs i) runs.inlets_opened ∙ at_old) in
     let b = get-back (λ (x : SourceActor R I). feed x.inlet) runs.sources_then i new (ap (λ fs. slice_get fs i) runs.inlets_closed ∙ at_new) in
@@ -285,14 +285,14 @@ settled-few first last old new h = omega (arith, h)
 
 dest-busy : {R I O : Type 0} (feed : I → InletState) (drain : O → OutletState) (offers : R → ℕ → Record → List Offer → Type 0) (inlets dests : R → ℕ) (plan : RunPlan) (routers : List R) (rounds : ℕ) (reached : Reached)
     (run : CoreRun) (counts : Option Counts) → (served : IsServed feed drain offers inlets dests plan routers rounds reached run RoundsSpent counts)
-    → (start : State) (later : List Event) → RanSo run.begun run.last ((served.runs).serves).0 start run.prelude later → length (after_all start run.prelude).dests ≡ length reached.outlets
+    → (start : State) (later : List Event) → RanSo run.begun run.last run.made start run.prelude later → length (after_all start run.prelude).dests ≡ length reached.outlets
     → (d : ℕ) (old new : OutletState) (x : Dest) → slice_get reached.outlets d ≡ Some old → slice_get reached.outlets_closed d ≡ Some new → slice_get (after_all start (run.prelude ++ later)).dests d ≡ Some x
-    → new.faults < 2 ^ 64 - 1 → busy_of ((served.runs).serves.1.0 (OfDest d)) ≤ size x + outlet_pays old new
+    → new.faults < 2 ^ 64 - 1 → busy_of ((served.runs).account (OfDest d)) ≤ size x + outlet_pays old new
 dest-busy {R} {I} {O} feed drain offers inlets dests plan routers rounds reached run counts served start later ran many d old new x at_old at_new at_last counted =
     let runs = served.runs in
-    let made = runs.serves.0 in
-    let turns = runs.serves.1.0 (OfDest d) in
-    let took = (runs.serves.1.1.1).took in
+    let made = run.made in
+    let turns = runs.account (OfDest d) in
+    let took = (runs.serves).took in
     let a = get-back (λ (y : DestActor O). drain y.outlet) runs.dests_first d old (ap (λ os. slice_get os d) runs.outlets_opened ∙ at_old) in
     let b = get-back (λ (y : DestActor O). drain y.outlet) runs.dests_then d new (ap (λ os. slice_get os d) runs.outlets_closed ∙ at_new) in
     let low = slice_get-below reached.outlets d old at_old in
@@ -322,10 +322,10 @@ dest-busy {R} {I} {O} feed drain offers inlets dests plan routers rounds reached
 -- each takes one turn a round, and so fewer than a count at its end
 turns-few : {R I O : Type 0} (feed : I → InletState) (drain : O → OutletState) (offers : R → ℕ → Record → List Offer → Type 0) (inlets dests : R → ℕ) (plan : RunPlan) (routers : List R) (rounds : ℕ) (reached : Reached)
     (run : CoreRun) (counts : Option Counts) → rounds < 2 ^ 64 → (served : IsServed feed drain offers inlets dests plan routers rounds reached run RoundsSpent counts)
-    → (who : Caller) → IsActor (length (served.runs).sources) (length (served.runs).dests_first) who → busy_of ((served.runs).serves.1.0 who) ≤ 2 ^ 64 - 1
+    → (who : Caller) → IsActor (length (served.runs).sources) (length (served.runs).dests_first) who → busy_of ((served.runs).account who) ≤ 2 ^ 64 - 1
 turns-few feed drain offers inlets dests plan routers rounds reached run counts low served who is =
-    let serves = (served.runs).serves.1.1.1 in
-    let most = busy-most ((served.runs).serves.1.0 who) in
+    let serves = (served.runs).serves in
+    let most = busy-most ((served.runs).account who) in
     let all = (serves.took).turns who is in
     let few = serves.few in
     omega (arith, most, all, few, low)
@@ -333,7 +333,7 @@ turns-few feed drain offers inlets dests plan routers rounds reached run counts 
 source-few : {R I O : Type 0} (feed : I → InletState) (drain : O → OutletState) (offers : R → ℕ → Record → List Offer → Type 0) (inlets dests : R → ℕ) (files : Option Files) (plan : RunPlan) (routers : List R) (rounds : ℕ) (reached : Reached)
     (run : CoreRun) (counts : Option Counts) → IsRunnable plan → rounds < 2 ^ 64 → HoldsRun files plan reached run → (served : IsServed feed drain offers inlets dests plan routers rounds reached run RoundsSpent counts)
     → (s : State) (recovered : ℕ) → Begins run.begun s recovered → (i : ℕ) (old new : InletState) → slice_get reached.inlets i ≡ Some old → slice_get reached.inlets_closed i ≡ Some new
-    → busy_of ((served.runs).serves.1.0 (OfSource i)) ≤ inlet_pays old new + own_offers ((served.runs).serves).0 i
+    → busy_of ((served.runs).account (OfSource i)) ≤ inlet_pays old new + own_offers run.made i
 source-few {R} {I} {O} feed drain offers inlets dests files plan routers rounds reached run counts runnable low holds served s recovered begin i old new at_old at_new = elim (stands-or new.faults) [
   | inl below ↦ source-busy feed drain offers inlets dests files plan routers rounds reached run counts runnable holds served s recovered begin i old new at_old at_new below
   | inr above ↦ (
@@ -346,9 +346,9 @@ source-few {R} {I} {O} feed drain offers inlets dests files plan routers rounds 
 
 dest-few : {R I O : Type 0} (feed : I → InletState) (drain : O → OutletState) (offers : R → ℕ → Record → List Offer → Type 0) (inlets dests : R → ℕ) (plan : RunPlan) (routers : List R) (rounds : ℕ) (reached : Reached)
     (run : CoreRun) (counts : Option Counts) → rounds < 2 ^ 64 → (served : IsServed feed drain offers inlets dests plan routers rounds reached run RoundsSpent counts)
-    → (start : State) (later : List Event) → RanSo run.begun run.last ((served.runs).serves).0 start run.prelude later → length (after_all start run.prelude).dests ≡ length reached.outlets
+    → (start : State) (later : List Event) → RanSo run.begun run.last run.made start run.prelude later → length (after_all start run.prelude).dests ≡ length reached.outlets
     → (d : ℕ) (old new : OutletState) (x : Dest) → slice_get reached.outlets d ≡ Some old → slice_get reached.outlets_closed d ≡ Some new → slice_get (after_all start (run.prelude ++ later)).dests d ≡ Some x
-    → busy_of ((served.runs).serves.1.0 (OfDest d)) ≤ size x + outlet_pays old new
+    → busy_of ((served.runs).account (OfDest d)) ≤ size x + outlet_pays old new
 dest-few {R} {I} {O} feed drain offers inlets dests plan routers rounds reached run counts low served start later ran many d old new x at_old at_new at_last = elim (stands-or new.faults) [
   | inl below ↦ dest-busy feed drain offers inlets dests plan routers rounds reached run counts served start later ran many d old new x at_old at_new at_last below
   | inr above ↦ (
@@ -364,14 +364,14 @@ are-few recovered offered rounds reached h = record { most = h; below = omega (a
 
 rounds-few : {R I O : Type 0} (feed : I → InletState) (drain : O → OutletState) (offers : R → ℕ → Record → List Offer → Type 0) (inlets dests : R → ℕ) (files : Option Files) (plan : RunPlan) (routers : List R) (rounds : ℕ) (reached : Reached)
     (run : CoreRun) (counts : Option Counts) → IsRunnable plan → rounds < 2 ^ 64 → (holds : HoldsRun files plan reached run) → (served : IsServed feed drain offers inlets dests plan routers rounds reached run RoundsSpent counts)
-    → AreFew (recovered_in plan reached run (holds.core).opens) (offered_in ((served.runs).serves).0) rounds reached
+    → AreFew (recovered_in plan reached run (holds.core).opens) (offered_in run.made) rounds reached
 rounds-few {R} {I} {O} feed drain offers inlets dests files plan routers rounds reached run counts runnable low holds served =
     let runs = served.runs in
-    let made = runs.serves.0 in
-    let account = runs.serves.1.0 in
-    let serves = runs.serves.1.1.1 in
+    let made = run.made in
+    let account = runs.account in
+    let serves = runs.serves in
     let took = serves.took in
-    let spends : SpendsRounds (length runs.sources) (length runs.dests_first) account rounds runs.serves.1.1.0 = serves.ends in
+    let spends : SpendsRounds (length runs.sources) (length runs.dests_first) account rounds runs.number = serves.ends in
     let opens = (holds.core).opens in
     let start = opened plan.setup opens.opening in
     let recovered = recovered_in plan reached run opens in
@@ -405,7 +405,7 @@ rounds-few {R} {I} {O} feed drain offers inlets dests files plan routers rounds 
 
 served-few : {R I O : Type 0} (feed : I → InletState) (drain : O → OutletState) (offers : R → ℕ → Record → List Offer → Type 0) (inlets dests : R → ℕ) (files : Option Files) (plan : RunPlan) (routers : List R) (rounds : ℕ) (reached : Reached)
     (run : CoreRun) (ended : Ended) (counts : Option Counts) → IsRunnable plan → rounds < 2 ^ 64 → (holds : HoldsRun files plan reached run) → (served : IsServed feed drain offers inlets dests plan routers rounds reached run ended counts)
-    → IsFew (recovered_in plan reached run (holds.core).opens) (offered_in ((served.runs).serves).0) rounds reached (Ran ended counts)
+    → IsFew (recovered_in plan reached run (holds.core).opens) (offered_in run.made) rounds reached (Ran ended counts)
 served-few feed drain offers inlets dests files plan routers rounds reached run Quiet counts runnable low holds served = tt
 served-few feed drain offers inlets dests files plan routers rounds reached run RoundsSpent counts runnable low holds served =
     rounds-few feed drain offers inlets dests files plan routers rounds reached run counts runnable low holds served

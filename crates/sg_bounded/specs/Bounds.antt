@@ -79,7 +79,7 @@ offered_at feed drain offers inlets dests files plan routers rounds reached None
 offered_at feed drain offers inlets dests files plan routers rounds reached (Some run) (Before early) holds =
     0
 offered_at feed drain offers inlets dests files plan routers rounds reached (Some run) (Ran ended counts) (holds, served) =
-    offered_in ((served.runs).serves).0
+    offered_in run.made
 
 abbrev pub recovered_by : {R I O : Type 0} {feed : I → InletState} {drain : O → OutletState}
     {offers : R → ℕ → Record → List Offer → Type 0} {inlets dests : R → ℕ} {old new : WorldState}
@@ -142,7 +142,7 @@ RunsAreBounded {R} {I} {O} feed drain offers inlets dests =
     → (runs : RunsWith feed drain offers inlets dests old new plan routers rounds ending reached)
     → IsFew (recovered_by runs) (offered_by runs) rounds reached ending
 
--- no count of faults rose, no inlet was idle, and it was never too early to reopen an outlet
+-- no count of faults rose, no inlet was idle, and it was never too early to reopen an outlet or to send to it
 pub record IsUntroubled (reached : Reached) : Type 0 where
   pub faults : faults_in reached ≡ 0
   pub waits : waits_in reached ≡ 0

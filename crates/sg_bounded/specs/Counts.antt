@@ -83,7 +83,7 @@ outlet_faults [] closed = 0
 outlet_faults (old ∷ olds) [] = 0
 outlet_faults (old ∷ olds) (new ∷ news) = rise old.faults new.faults + outlet_faults olds news
 
--- the answers that it was too early to reopen one
+-- the answers that it was too early to reopen one, or to send to it
 abbrev pub laters_in : List OutletState → List OutletState → ℕ
 laters_in [] closed = 0
 laters_in (old ∷ olds) [] = 0

@@ -44,14 +44,8 @@ use Rattle.sg_core.proofs.SettleSteps.{with_dests}
 
 -- A store that was read.
 
-goes-told : (told : Option DiskLog) (f g : ℕ) → Moves (record { told = told; faults = f }) (record { told = told; faults = g })
-goes-told told f g = record { later = omega arith; past = λ t c l i. i; kept = λ t c l i. i }
-
 pub goes-stays : (old new : StoreState) → Stays old new → Goes old new
-goes-stays old new h = record {
-  moves = subst (λ (told : Option DiskLog). Moves old.disk (record { told = told; faults = new.disk.faults })) (sym h.told) (goes-told old.disk.told old.disk.faults new.disk.faults);
-  later = h.later;
-}
+goes-stays old new h = h.goes
 
 holds-faults : (buffer : Option BufferState) (told : Option DiskLog) (f g : ℕ) (list : List Kept) → HoldsIn buffer (record { told = told; faults = f }) list [] → HoldsIn buffer (record { told = told; faults = g }) list []
 holds-faults None told f g list h = absurd h

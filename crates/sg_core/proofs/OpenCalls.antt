@@ -65,8 +65,8 @@ unopened-memory setup disks = record {
 }
 
 opened-keeps : (kind : StoreKind) (disk : DiskState) (found : Found) (store : StoreState) → IsOpenedAs kind disk found store → Keeps kind disk store.disk × (disk.faults ≤ store.disk.faults)
-opened-keeps Position disk found store is = (tells_same disk store.disk (is.0).preserves, (is.0).later)
-opened-keeps (Buffer capacity) disk found store is = (keeps disk is.synced store.disk _ is.preserves is.within is.told, is.later)
+opened-keeps Position disk found store is = (tells_same disk store.disk (is.0).preserves, (let well = (is.0).well in omega (arith, well)))
+opened-keeps (Buffer capacity) disk found store is = (keeps disk is.synced store.disk _ is.preserves is.within is.told, (let well = is.well in omega (arith, well)))
 
 there-one : (stores : List StoreState) (o : Option ℕ) → ((s : ℕ) → o ≡ Some s → s < length stores) → IsThere stores o
 there-one stores None inside = tt

@@ -93,7 +93,7 @@ abbrev pub Serves : CoreState → CoreCall → CoreReply → CoreState → Type 
 Serves old (Credit i) reply new = CreditGives old i reply new
 Serves old (Admit i records) reply new = AdmitGives old i records reply new
 Serves old (Front d most) reply new = FrontGives old d most reply new
-Serves old (Settle d place n) reply new = SettleGives old d place n reply new
+Serves old (Settle d place n count) reply new = SettleGives old d place n reply new
 Serves old (RefillCall d) reply new = RefillGives old d reply new
 Serves old (Store i) reply new = StoreGives old i reply new
 
@@ -118,7 +118,7 @@ abbrev pub acts_in : CoreCall → CoreReply → List Act
 acts_in (Credit i) reply = []
 acts_in (Admit i records) reply = admit_acts i records reply
 acts_in (Front d most) reply = Look ∷ []
-acts_in (Settle d place n) reply = settle_acts d n reply
+acts_in (Settle d place n count) reply = settle_acts d n reply
 acts_in (RefillCall d) reply = refill_acts d reply
 acts_in (Store i) reply = store_acts i reply
 

@@ -25,7 +25,7 @@ abbrev pub caller_of : CoreCall → Caller
 caller_of (Credit i) = OfSource i
 caller_of (Admit i records) = OfSource i
 caller_of (Front d most) = OfDest d
-caller_of (Settle d place n) = OfDest d
+caller_of (Settle d place n count) = OfDest d
 caller_of (Refill d) = OfDest d
 caller_of (Store i) = OfSource i
 

@@ -23,6 +23,8 @@ pub enum CoreCall {
         /// The first entry's place among all that the destination was given, from 0.
         place: u64,
         n: u32,
+        /// How many frames the destination's outlet had taken in all.
+        count: u64,
     },
     Refill(u32),
     Store(u32),

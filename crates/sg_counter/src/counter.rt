@@ -1,18 +1,20 @@
 // The calls of a core, lent to whoever feeds it or empties it.
 ghost use Rattle.std.specs.Prelude.{◌≡◌, ◌≤◌, ◌<◌, ◌+◌, ℕ, Ok, Err, MatchResult, IfErr, IsSome, length};
+ghost use Rattle.sg_device.specs.Outlet.{count_of};
 ghost use Rattle.sg_machine.specs.declared.setup.Setup.{Setup};
 ghost use Rattle.sg_counter.specs.Bringing.{IsBatch, store_in, records_back};
 ghost use Rattle.sg_counter.specs.declared.calls.CoreCall.{CoreCall};
 ghost use Rattle.sg_counter.specs.declared.calls.CoreReply.{CoreReply};
 
 use crate::answers::{CoreFront, Refill, Refused, Settled, Stored};
-use sg_device::NoMemory;
+use sg_device::{NoMemory, Outlet, Taken};
 use sg_machine::{Admission, Verdict};
 use std::alloc::Global;
 use std::sync::Wait;
 
 /// Lends the calls of a core, one at a time. Between two calls of one holder the core may have served
-/// others. A call may wait for its turn, and takes one of those that are left.
+/// others. A call may wait for its turn, and takes one of those that are left. What a destination has
+/// taken is settled by a [`Settler`].
 pub trait Counter {
     // The sources and destinations.
     ghost setup: { Self → Setup };
@@ -67,17 +69,6 @@ pub trait Counter {
         ensures setup { setup self.new ≡ setup self.old }
         ensures left { left self.old ≤ left self.new + 1 };
 
-    /// The destination has taken so many of its first entries, the first of which has that place among
-    /// all that it was given.
-    fn settle<T: Wait>(&mut self, rt: &T, d: u32, place: u64, n: u32) -> Settled
-        requires left { 0 < left self.old }
-        requires dest { d < length (setup self.old).dests }
-        requires some { 0 < n }
-        ensures step { step self.old (CoreCall.Settle d place n) (CoreReply.Settled result)
-            self.new }
-        ensures setup { setup self.new ≡ setup self.old }
-        ensures left { left self.old ≤ left self.new + 1 };
-
     /// Moves the first entries that wait into the destination's disk-buffer, as many as fit and at most
     /// 1,000.
     fn refill<T: Wait>(&mut self, rt: &T, d: u32) -> Refill
@@ -96,4 +87,18 @@ pub trait Counter {
         ensures step { step self.old (CoreCall.Store i) (CoreReply.Stored result) self.new }
         ensures setup { setup self.new ≡ setup self.old }
         ensures left { left self.old ≤ left self.new + 1 };
+}
+
+/// A counter that settles what outlets of the type `O` have taken.
+pub trait Settler<O: Outlet>: Counter {
+    /// The destination has taken so many of its first entries, the first of which has that place among
+    /// all that it was given: its outlet told how many frames it had taken in all.
+    fn settle<T: Wait>(&mut self, rt: &T, d: u32, place: u64, n: u32, taken: Taken<O>) -> Settled
+        requires left { 0 < Self.left self.old }
+        requires dest { d < length (Self.setup self.old).dests }
+        requires some { 0 < n }
+        ensures step { Self.step self.old (CoreCall.Settle d place n (count_of taken))
+            (CoreReply.Settled result) self.new }
+        ensures setup { Self.setup self.new ≡ Self.setup self.old }
+        ensures left { Self.left self.old ≤ Self.left self.new + 1 };
 }

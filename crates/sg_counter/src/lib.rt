@@ -1,4 +1,4 @@
-//! The calls of the flow core and its answers, and the trait through which they are lent.
+//! The calls of the flow core and its answers, and the traits through which they are lent.
 #![tactic(auto)]
 
 mod answers;
@@ -8,4 +8,4 @@ mod threads;
 
 pub use answers::{CoreFront, Refill, Refused, Settled, Stored};
 pub use calls::{CoreCall, CoreReply};
-pub use counter::Counter;
+pub use counter::{Counter, Settler};

@@ -306,7 +306,7 @@ module _ {R I O : Type 0} (feed : I → InletState) (drain : O → OutletState) 
       let ended = clean run.old run.new asks run.routers run.rounds well.counts run.reached run.run runnable is.core well.well runs in
       let start = opened plan.setup o.opening in
       let A : List Event → Type 0 = λ es. IsAt (run.run).last (after_all start es) in
-      let at = subst A (sym (well.returned).events_are) ((run.happened).stands).at in
+      let at = subst A (sym (well.returned).events_are) (((run.happened).ran).stands).at in
       let N : ℕ → Type 0 = λ n. n < 2 ^ 63 in
       let position_low : (i : ℕ) → IsFile plan.setup i → position_at (run.run).first i < 2 ^ 63 =
       λ i file.
@@ -316,7 +316,7 @@ module _ {R I O : Type 0} (feed : I → InletState) (drain : O → OutletState) 
       record {
         none = (well.returned).none;
         clean = cleaned.clean run.images lists (well.returned).images_are are;
-        settled = λ d dest here. (ended.1).dests d (after_all start run.events) dest at here;
+        settled = λ d dest here. ended.dests d (after_all start run.events) dest at here;
         resumed = λ i inlet file here.
             resumed-held feed drain offers inlets dests (run.old).files asks run.routers run.rounds run.reached run.bytes runnable of_files lines limits is.files
             (run.reached).core (Some well.counts) run.run runs.holds is.core o (after_all start run.events) at i file (λ mine there. s.begun i mine file there) (position_low i file) inlet here;

@@ -160,8 +160,8 @@ fed-at : {R I O : Type 0} (feed : I → InletState) (drain : O → OutletState) 
     → (i : ℕ) (closed : InletState) → slice_get reached.inlets_closed i ≡ Some closed → Fed files plan reached run i closed
 fed-at {R} {I} {O} feed drain offers inlets dests files plan routers rounds reached run counts runnable of_files holds served i closed at_closed =
     let runs = served.runs in
-    let turns = runs.serves.1.0 (OfSource i) in
-    let took = (runs.serves.1.1.1).took in
+    let turns = runs.account (OfSource i) in
+    let took = (runs.serves).took in
     let b = get-back (λ (x : SourceActor R I). feed x.inlet) runs.sources_then i closed (ap (λ (fs : List InletState). slice_get fs i) runs.inlets_closed ∙ at_closed) in
     let low = slice_get-below runs.sources_then i b.0 b.1.0 in
     let a = slice_get-some runs.sources i (let n = took.all_sources in omega (arith, low, n)) in
@@ -284,7 +284,7 @@ clean-position : {R I O : Type 0} (feed : I → InletState) (drain : O → Outle
 clean-position {R} {I} {O} feed drain offers inlets dests files plan routers rounds reached run counts bytes made runnable of_files lines tell holds served e t at same begun images are i position x file now c =
     let runs = served.runs in
     let source = file.source in
-    let took = (runs.serves.1.1.1).took in
+    let took = (runs.serves).took in
     let low = slice_get-below plan.setup.sources i source file.at in
     let n = runnable.sources in
     let m : length runs.sources ≡ length plan.inlets.items = sym (length-map runs.sources (λ (y : SourceActor R I). feed y.inlet)) ∙ (ap length runs.inlets_opened ∙ served.all_inlets) in
@@ -402,7 +402,7 @@ clean-by feed drain offers inlets dests one clean old new plan routers rounds co
     let h = happens feed drain offers inlets dests old new plan routers rounds (RanSo Quiet (Some counts)) reached run runnable of_files runs core in
     let N : ℕ → Type 0 = λ n. NumberStores plan.setup n in
     let numbers = subst N (sym (held.holds).all_stores) runnable.numbers in
-    clean-held feed drain offers inlets dests old.files plan routers rounds reached reached.core (Some counts) run bytes e.0 one runnable of_files lines tell runs.holds core held e.1 _ (h.stands).at
+    clean-held feed drain offers inlets dests old.files plan routers rounds reached reached.core (Some counts) run bytes run.made one runnable of_files lines tell runs.holds core held e _ ((h.ran).stands).at
     (begun-first plan reached run ((held.holds).core).opens bytes lists runnable numbers tells are)
 
 pub ends-clean : {R I O : Type 0} (feed : I → InletState) (drain : O → OutletState) (offers : R → ℕ → Record → List Offer → Type 0) (inlets dests : R → ℕ) → ListsAreOne → CleanRunsEnd feed drain offers inlets dests → PlanRunsEndClean feed drain offers inlets dests

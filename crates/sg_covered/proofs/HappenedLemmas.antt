@@ -22,7 +22,7 @@ use Rattle.sg_machine.specs.declared.state.State.{State}
 use Rattle.sg_machine.specs.Runs.{opened_inlet, opened, after_all, are_legal}
 use Rattle.sg_machine.specs.Counts.{opening_from}
 use Rattle.sg_machine.proofs.InletLemmas.{counts-inlet}
-use Rattle.sg_counter.specs.Exchanges.{Exchange, Makes, OfSource}
+use Rattle.sg_counter.specs.Exchanges.{Exchange, Makes, OfSource, calls_by}
 use Rattle.sg_counter.specs.declared.calls.CoreCall.{CoreCall}
 use Rattle.sg_counter.specs.declared.calls.CoreCall.TheVariants.{Credit, Admit as AdmitCall, Front, Settle as SettleCall, Refill as RefillCall, Store as StoreCall}
 use Rattle.sg_counter.specs.declared.calls.CoreReply.{CoreReply}
@@ -83,7 +83,7 @@ call-setup old new (Credit i) (CreditReply n) s = ap setup_of s.same
 call-setup old new (AdmitCall i records) (Admitted (Ok verdicts)) s = s.does.setup
 call-setup old new (AdmitCall i records) (Admitted (Err refused)) s = s.does.setup
 call-setup old new (Front d most) (FrontReply result) s = s.does.setup
-call-setup old new (SettleCall d place n) (SettledReply result) s = s.does.setup
+call-setup old new (SettleCall d place n count) (SettledReply result) s = s.does.setup
 call-setup old new (RefillCall d) (Refilled result) s = s.does.setup
 call-setup old new (StoreCall i) (StoredReply result) s = s.does.setup
 call-setup old new call reply s = absurd s
@@ -124,12 +124,12 @@ none-came offers files plan reached run events i h =
 -- a source that took its turns
 came-at : {R I O : Type 0} (feed : I → InletState) (drain : O → OutletState) (offers : R → ℕ → Record → List Offer → Type 0) (inlets dests : R → ℕ) (files : Option Files) (plan : RunPlan) (routers : List R) (rounds : ℕ) (reached : Reached)
     (run : CoreRun) (ended : Ended) (counts : Option Counts) → IsRunnable plan → AreOfFiles plan → HoldsRun files plan reached run → (served : IsServed feed drain offers inlets dests plan routers rounds reached run ended counts)
-    → (later : List Event) → AreOwn ((served.runs).serves).0 later → map (λ (e : Event). e.act) later ≡ acts_of ((served.runs).serves).0 → AreStill run.prelude
+    → (later : List Event) → AreOwn run.made later → map (λ (e : Event). e.act) later ≡ acts_of run.made → AreStill run.prelude
     → (i : ℕ) (a : SourceActor R I) → slice_get (served.runs).sources i ≡ Some a → CameOf (offers_in offers routers) files plan reached run (run.prelude ++ later) i
 came-at {R} {I} {O} feed drain offers inlets dests files plan routers rounds reached run ended counts runnable of_files holds served later own acts still i a at_a =
     let runs = served.runs in
-    let turns = runs.serves.1.0 (OfSource i) in
-    let took = (runs.serves.1.1.1).took in
+    let turns = runs.account (OfSource i) in
+    let took = (runs.serves).took in
     let events = run.prelude ++ later in
     let low = slice_get-below runs.sources i a at_a in
     let fed : slice_get reached.inlets i ≡ Some (feed a.inlet) = ap (λ (fs : List InletState). slice_get fs i) (sym runs.inlets_opened) ∙ slice_get-map (λ (x : SourceActor R I). feed x.inlet) runs.sources i a at_a in
@@ -188,7 +188,7 @@ came-at {R} {I} {O} feed drain offers inlets dests files plan routers rounds rea
                 (let position : (feed a.inlet).place ≡ x ⊎ (feed a.inlet).place ≡ 0 = elim stands [ inl e ↦ inl (e ∙ sym q) | inr e ↦ inr e ] in
                 let places : slice_get (places_of reached.inlets) i ≡ Some (feed a.inlet).place = slice_get-map (λ (f : InletState). f.place) reached.inlets i (feed a.inlet) fed in
                 opening-append i x run.prelude later
-                ∙ later-still i (opening_from i x run.prelude) later ((served.runs).serves).0 acts
+                ∙ later-still i (opening_from i x run.prelude) later run.made acts
                 ∙ ap (opening_from i x) served.rewinds
                 ∙ rewinds-here i x (position_at run.first) 0 i (places_of reached.inlets) (feed a.inlet).place (omega arith) places q position
                 ∙ sym from);
@@ -198,13 +198,13 @@ came-at {R} {I} {O} feed drain offers inlets dests files plan routers rounds rea
 
 came-by : {R I O : Type 0} (feed : I → InletState) (drain : O → OutletState) (offers : R → ℕ → Record → List Offer → Type 0) (inlets dests : R → ℕ) (files : Option Files) (plan : RunPlan) (routers : List R) (rounds : ℕ) (reached : Reached)
     (run : CoreRun) (ended : Ended) (counts : Option Counts) → IsRunnable plan → AreOfFiles plan → HoldsRun files plan reached run → (served : IsServed feed drain offers inlets dests plan routers rounds reached run ended counts)
-    → (later : List Event) → AreOwn ((served.runs).serves).0 later → map (λ (e : Event). e.act) later ≡ acts_of ((served.runs).serves).0 → AreStill run.prelude
+    → (later : List Event) → AreOwn run.made later → map (λ (e : Event). e.act) later ≡ acts_of run.made → AreStill run.prelude
     → (i : ℕ) (o : Option (SourceActor R I)) → slice_get (served.runs).sources i ≡ o → CameOf (offers_in offers routers) files plan reached run (run.prelude ++ later) i
 came-by {R} {I} {O} feed drain offers inlets dests files plan routers rounds reached run ended counts runnable of_files holds served later own acts still i (Some a) q =
     came-at feed drain offers inlets dests files plan routers rounds reached run ended counts runnable of_files holds served later own acts still i a q
 came-by {R} {I} {O} feed drain offers inlets dests files plan routers rounds reached run ended counts runnable of_files holds served later own acts still i None q =
     let runs = served.runs in
-    let took = (runs.serves.1.1.1).took in
+    let took = (runs.serves).took in
     let absent : IsActor (length runs.sources) (length runs.dests_first) (OfSource i) → ⊥ =
     λ low. let a = slice_get-some runs.sources i low in let wrong : None ≡ Some a.0 = sym q ∙ a.1 in cc in
     let calls = took.others (OfSource i) absent in
@@ -258,14 +258,14 @@ reads-return offers files plan reached run events o runnable legal came m bytes 
     ]
 
 -- by what was called and what came in
-happened-by : (offers : Offers) (files : Option Files) (plan : RunPlan) (reached : Reached) (run : CoreRun) → IsRunnable plan → HoldsRun files plan reached run → (made : List Exchange) → Makes Serves run.begun made run.last
-    → ((later : List Event) → map (λ (e : Event). e.act) later ≡ acts_of made → AreOwn made later → (i : ℕ) → CameOf offers files plan reached run (run.prelude ++ later) i)
-    → ((start : State) (later : List Event) → Ran run.begun run.last made start run.prelude later → TakesThese plan reached run start (run.prelude ++ later)) → Happened offers files plan reached run
-happened-by offers files plan reached run runnable holds made makes came took =
+happened-by : (offers : Offers) (files : Option Files) (plan : RunPlan) (reached : Reached) (run : CoreRun) → IsRunnable plan → HoldsRun files plan reached run → Makes Serves run.begun run.made run.last
+    → ((later : List Event) → map (λ (e : Event). e.act) later ≡ acts_of run.made → AreOwn run.made later → (i : ℕ) → CameOf offers files plan reached run (run.prelude ++ later) i)
+    → ((start : State) (later : List Event) → Ran run.begun run.last run.made start run.prelude later → TakesThese plan reached run start (run.prelude ++ later)) → Happened offers files plan reached run
+happened-by offers files plan reached run runnable holds makes came took =
     let o = (holds.core).opens in
     let start = opened plan.setup o.opening in
     let stood = ((holds.core).begins).stands plan.setup o.opening o.stands in
-    let h = calls-run run.begun run.last made start run.prelude makes stood in
+    let h = calls-run run.begun run.last run.made start run.prelude makes stood in
     let ran = h.1.0 in
     let events = run.prelude ++ h.0 in
     let mine = came h.0 ran.acts h.1.1 in
@@ -273,7 +273,8 @@ happened-by offers files plan reached run runnable holds made makes came took =
     record {
       opens = o;
       later = h.0;
-      stands = ran.stands;
+      ran = ran;
+      begins = λ s store get. h.1.2 0 s (omega arith) ∙ ((holds.core).begins).rows plan.setup o.opening o.stands 0 s (omega arith) ∙ (o.stands).moments.last s store get;
       took = took start h.0 ran;
       came = m.now;
       admits = m.admitted;
@@ -286,17 +287,20 @@ happened-held feed drain offers inlets dests files plan routers rounds reached N
 happened-held {R} {I} {O} feed drain offers inlets dests files plan routers rounds reached (Some core) (Before early) run runnable of_files (holds, stays) q =
     let still = still-either core.first reached.inlets core.prelude stays.rewinds in
     let P : CoreRun → Type 0 = λ r. Happened (offers_in offers routers) files plan reached r in
+    let makes = subst (λ (es : List Exchange). Makes Serves core.begun es core.last) (sym stays.unserved) stays.core_stays in
     let here : P core =
-    happened-by (offers_in offers routers) files plan reached core runnable holds [] stays.core_stays
-    (λ later acts own i. none-came (offers_in offers routers) files plan reached core (core.prelude ++ later) i (admitted-later i core.prelude later still ∙ own.admits i))
-    (λ start later ran. stayed-taken files plan reached core holds still stays.outlets_stay start later ran) in
+    happened-by (offers_in offers routers) files plan reached core runnable holds makes
+    (λ later acts own i.
+    none-came (offers_in offers routers) files plan reached core (core.prelude ++ later) i
+    (admitted-later i core.prelude later still ∙ own.admits i ∙ ap (λ (es : List Exchange). admitted_in (calls_by (OfSource i) es)) stays.unserved))
+    (λ start later ran. stayed-taken files plan reached core holds still stays.unserved stays.outlets_stay start later ran) in
     subst P (some-same core run q) here
 happened-held {R} {I} {O} feed drain offers inlets dests files plan routers rounds reached (Some core) (RanSo ended counts) run runnable of_files (holds, served) q =
     let still = still-rewinds (position_at core.first) (places_of reached.inlets) core.prelude served.rewinds in
     let serves = (served.runs).serves in
     let P : CoreRun → Type 0 = λ r. Happened (offers_in offers routers) files plan reached r in
     let here : P core =
-    happened-by (offers_in offers routers) files plan reached core runnable holds serves.0 ((serves.1.1.1).took).makes
+    happened-by (offers_in offers routers) files plan reached core runnable holds (serves.took).makes
     (λ later acts own i. came-by feed drain offers inlets dests files plan routers rounds reached core ended counts runnable of_files holds served later own acts still i (slice_get (served.runs).sources i) refl)
     (λ start later ran. run-taken feed drain offers inlets dests files plan routers rounds reached core ended counts holds served still start later ran) in
     subst P (some-same core run q) here
@@ -330,7 +334,8 @@ pub happened-too : (os other : Offers) → ((p : Pass) (given : List Offer) → 
 happened-too os other f files plan reached run h = record {
   opens = h.opens;
   later = h.later;
-  stands = h.stands;
+  ran = h.ran;
+  begins = h.begins;
   took = h.took;
   came = h.came;
   admits = admits-map os other f (run.prelude ++ h.later) h.came h.admits;

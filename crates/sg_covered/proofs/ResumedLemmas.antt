@@ -122,7 +122,7 @@ module _ {R I O : Type 0} (feed : I → InletState) (drain : O → OutletState) 
       let start = opened plan.setup own.opening in
       let stood = ((holds.core).begins).stands plan.setup own.opening own.stands in
       let serves = (served.runs).serves in
-      let h = calls-run core.begun core.last serves.0 start core.prelude ((serves.1.1.1).took).makes stood in
+      let h = calls-run core.begun core.last core.made start core.prelude (serves.took).makes stood in
       let ran = h.1.0 in
       let events = core.prelude ++ h.0 in
       let source = file.source in
@@ -132,7 +132,7 @@ module _ {R I O : Type 0} (feed : I → InletState) (drain : O → OutletState) 
       let still : opening_from i place events ≡ place =
       opening-append i place core.prelude h.0
       ∙ ap (λ (n : ℕ). opening_from i n h.0) (still-opened core counts holds served own i file begun low)
-      ∙ later-still i place h.0 serves.0 ran.acts in
+      ∙ later-still i place h.0 core.made ran.acts in
       let opening : inlet.opening ≡ place = agree-opening core.last t (after_all start events) i inlet c.0 at ran.stands.at there c.1 ∙ c.2.opening ∙ still in
       place-opened plan reached core o i source file.at ∙ ap (λ (n : ℕ). Some n) (sym opening) in
       subst P (some-same core run q) here

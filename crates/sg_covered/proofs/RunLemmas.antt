@@ -200,7 +200,7 @@ held-of feed drain offers inlets dests files plan routers rounds reached (Some c
     let P : CoreRun → Type 0 = λ r. Held files plan reached r in
     let o = (holds.core).opens in
     let serves = (served.runs).serves in
-    let here : P core = record { holds = holds; setups = made-setup core.begun core.last serves.0 ((serves.1.1.1).took).makes ∙ ((holds.core).begins).setup ∙ o.setups } in
+    let here : P core = record { holds = holds; setups = made-setup core.begun core.last core.made (serves.took).makes ∙ ((holds.core).begins).setup ∙ o.setups } in
     subst P (some-same core run q) here
 
 -- the position of a file is 0, or the end of an item of it
@@ -271,7 +271,7 @@ known-of offers files plan reached run items bytes taken passes places h runnabl
           let f : SourceSetup → ℕ = λ s. stored_in run.first.stores s.store in
           let position = f file.source in
           let place_at : slice_get opening.places i ≡ Some position = ap (λ (xs : List ℕ). slice_get xs i) o.places ∙ slice_get-map f plan.setup.sources i file.source file.at in
-          let c = counts-inlet start events i (opened_inlet file.source position) (h.stands).legal (opened-inlet-at plan.setup.sources opening.places i file.source position file.at place_at) in
+          let c = counts-inlet start events i (opened_inlet file.source position) ((h.ran).stands).legal (opened-inlet-at plan.setup.sources opening.places i file.source position file.at place_at) in
           let is : c.0 ≡ inlet = some-same c.0 inlet (sym c.1 ∙ at) in
           let sources : (setup_of run.first).sources ≡ plan.setup.sources = ap (λ (s : Setup). s.sources) o.setups in
           let stored : position ≡ position_at run.first i = ap (λ (x : Option ℕ). stored_in run.first.stores x) (sym (store-by-setup run.first plan.setup.sources i file.source sources file.at)) in
@@ -321,9 +321,9 @@ covers-return offers files plan reached run items bytes taken passes places h la
     let x = are s store.disk at in
     (x.0, x.1.0, x.1.1) in
     let S : List ℕ → Type 0 = λ ps. Safe start events nothing (record { positions = ps; lists = lists }) in
-    let safe = subst S (positions-by plan run images setups) (laws.now plan.setup opening events run.last images lists h.stands now_images (lists-in plan run images lists setups in_lists)) in
+    let safe = subst S (positions-by plan run images setups) (laws.now plan.setup opening events run.last images lists (h.ran).stands now_images (lists-in plan run images lists setups in_lists)) in
     covers-stop offers files plan reached run items bytes taken passes places h known events nothing h.came (held_by plan.setup images lists)
-    (are_legal-join start events (nothing ∷ []) (h.stands).legal refl) safe (admitted-nothing offers events h.came [] h.admits) known.reads
+    (are_legal-join start events (nothing ∷ []) ((h.ran).stands).legal refl) safe (admitted-nothing offers events h.came [] h.admits) known.reads
 
 -- a stop of the run, whatever lists its images stand for
 pub record Stop (offers : Offers) (files : Option Files) (plan : RunPlan) (reached : Reached) (run : CoreRun) (bytes : ℕ → List ℕ) (taken : List Taken) (passes : List Pass) (places : ℕ → ℕ) (h : Happened offers files plan reached run) (events : List Event) (event : Event)
@@ -338,7 +338,7 @@ pub record Stop (offers : Offers) (files : Option Files) (plan : RunPlan) (reach
 -- within an event
 covers-within : (offers : Offers) (files : Option Files) (plan : RunPlan) (reached : Reached) (run : CoreRun) (items : ℕ → List Piece) (bytes : ℕ → List ℕ) (taken : List Taken) (passes : List Pass) (places : ℕ → ℕ) (h : Happened offers files plan reached run)
     → Laws → (known : Known offers files plan reached run items bytes taken passes places h) → (k : ℕ) (event : Event) (images : List (List ℕ)) → slice_get (run.prelude ++ h.later) k ≡ Some event
-    → AreImagesBetween run.last.stores ((h.stands).moments.rows k) ((h.stands).moments.rows (k + 1)) images → Stop offers files plan reached run bytes taken passes places h (take k (run.prelude ++ h.later)) event images
+    → AreImagesBetween run.last.stores (((h.ran).stands).moments.rows k) (((h.ran).stands).moments.rows (k + 1)) images → Stop offers files plan reached run bytes taken passes places h (take k (run.prelude ++ h.later)) event images
 covers-within offers files plan reached run items bytes taken passes places h laws known k event images at between =
     let start = opened plan.setup (h.opens).opening in
     let held = files_of plan.inlets.items bytes in
@@ -352,14 +352,14 @@ covers-within offers files plan reached run items bytes taken passes places h la
     let came = parts.0 in
     let rest = parts.1.0 in
     let L : List Event → Type 0 = λ xs. are_legal start xs ≡ true in
-    let legals = are_legal-parts start (es ++ event ∷ []) later (subst L split (h.stands).legal) in
+    let legals = are_legal-parts start (es ++ event ∷ []) later (subst L split ((h.ran).stands).legal) in
     let reads : (i : ℕ) (inlet : Inlet) → IsFile plan.setup i → slice_get (after_all start es).inlets i ≡ Some inlet → (more : List Piece) × (behind inlet.opening (held i) ≡ pieces_of i came ++ more) =
     λ i inlet file here.
     let low = slice_get-below (after_all start es).inlets i inlet here in
     let wide = length-inlets start es in
     let one = slice_get-some start.inlets i (omega (arith, low, wide)) in
     let none = (opened-parts plan.setup.sources ((h.opens).opening).places i one.0 one.1) in
-    let all = counts-inlet start events i one.0 (h.stands).legal one.1 in
+    let all = counts-inlet start events i one.0 ((h.ran).stands).legal one.1 in
     let half = counts-inlet start es i one.0 (are_legal-parts start es (event ∷ []) legals.0).0 one.1 in
     let is : half.0 ≡ inlet = some-same half.0 inlet (sym half.1 ∙ here) in
     let full = known.reads i all.0 file all.1 in
@@ -369,7 +369,7 @@ covers-within offers files plan reached run items bytes taken passes places h la
     ∙ ends-append-admitted i es (event ∷ [])
     ∙ ap (λ (xs : List ℕ). ends_admitted i es ++ xs) (append-nil (ends_by i event.act))
     ∙ ap (λ (xs : List ℕ). xs ++ ends_by i event.act) (sym (ap (λ (xs : List ℕ). xs ++ ends_admitted i es) none) ∙ sym half.2.ends ∙ ap (λ (x : Inlet). x.ends) is) in
-    let behind_them = legal-behind start es event later (subst L (split ∙ append_assoc es (event ∷ []) later) (h.stands).legal) in
+    let behind_them = legal-behind start es event later (subst L (split ∙ append_assoc es (event ∷ []) later) ((h.ran).stands).legal) in
     let opening : (ends (pieces_of i came) ≡ [] → ⊥) → (all.0).opening ≡ inlet.opening =
     λ some.
     all.2.opening
@@ -387,7 +387,7 @@ covers-within offers files plan reached run items bytes taken passes places h la
           (let S : List ℕ → Type 0 = λ ps. Safe start es event (record { positions = ps; lists = lists }) in
           let safe =
           subst S (positions-by plan run images setups)
-          (laws.between plan.setup (h.opens).opening events run.last h.stands k event images lists at between (lists-in plan run images lists setups in_lists)) in
+          (laws.between plan.setup (h.opens).opening events run.last (h.ran).stands k event images lists at between (lists-in plan run images lists setups in_lists)) in
           covers-stop offers files plan reached run items bytes taken passes places h known es event came (held_by plan.setup images lists) legals.0 safe parts.1.1.1 reads);
     }
 

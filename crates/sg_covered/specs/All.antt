@@ -43,8 +43,8 @@ pub record StopsWithin {offers : Offers} {files : Option Files} {plan : RunPlan}
   pub number : ℕ
   pub at : slice_get (run.prelude ++ happened.later) number ≡ Some event
   pub events_are : events ≡ take number (run.prelude ++ happened.later)
-  pub images_are : AreImagesBetween run.last.stores ((happened.stands).moments.rows number)
-      ((happened.stands).moments.rows (number + 1)) images
+  pub images_are : AreImagesBetween run.last.stores (((happened.ran).stands).moments.rows number)
+      (((happened.ran).stands).moments.rows (number + 1)) images
 
 -- at the return
 pub record StopsThen {offers : Offers} {files : Option Files} {plan : RunPlan} {reached : Reached} {run : CoreRun} (happened : Happened offers files plan reached run) (events : List Event) (event : Event) (images : List (List ℕ)) : Type 0 where

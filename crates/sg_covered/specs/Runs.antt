@@ -1,7 +1,7 @@
 -- What a plan's run leaves in its stores is covered, where what it found in them was.
 use Rattle.std.specs.Prelude.{◌≡◌, ℕ, ◌+◌, true, is_some, Option, Some, IfSome, List, [], ◌++◌, length, map, take, slice_get}
 use Rattle.std.specs.Option.{option_map_or}
-use Rattle.sg_device.specs.Disk.{DiskState, content, IsImage}
+use Rattle.sg_device.specs.Disk.{DiskState, content, clock, IsImage}
 use Rattle.sg_device.specs.Inlet.{InletState}
 use Rattle.sg_device.specs.Outlet.{OutletState}
 use Rattle.sg_outside.specs.World.{WorldState, Files}
@@ -18,11 +18,11 @@ use Rattle.sg_machine.specs.declared.setup.SourceSetup.{SourceSetup}
 use Rattle.sg_machine.specs.declared.state.Inlet.{Inlet}
 use Rattle.sg_machine.specs.Runs.{Kept, Opening, opened, after_all}
 use Rattle.sg_machine.specs.Safe.{Images, nothing}
-use Rattle.sg_stores.specs.Stores.{coded}
+use Rattle.sg_stores.specs.Stores.{StoreState, coded}
 use Rattle.sg_standing.specs.Images.{position_in, AreImagesBetween}
-use Rattle.sg_standing.specs.Standing.{StandsFor}
 use Rattle.sg_core.specs.Opening.{IsOpen}
 use Rattle.sg_source.specs.declared.inlet.InletPlan.{InletPlan}
+use Rattle.sg_headline.specs.Calls.{Ran}
 use Rattle.sg_serve.specs.declared.ending.PlanEnded.{PlanEnded}
 use Rattle.sg_serve.specs.declared.plan.RunPlan.{RunPlan}
 use Rattle.sg_serve.specs.Plan.{IsRunnable}
@@ -107,7 +107,11 @@ files_of plans bytes i = option_map_or (λ (plan : InletPlan). pieces plan.kind 
 pub record Happened (offers : Offers) (files : Option Files) (plan : RunPlan) (reached : Reached) (run : CoreRun) : Type 0 where
   pub opens : IsOpen plan.setup reached.stores run.first
   pub later : List Event
-  pub stands : StandsFor run.last (opened plan.setup opens.opening) (run.prelude ++ later)
+  -- these are those of the calls of the rounds
+  pub ran : Ran run.begun run.last run.made (opened plan.setup opens.opening) run.prelude later
+  -- the first row of its timetable are the moments at which the core was open
+  pub begins : (s : ℕ) (store : StoreState) → slice_get run.first.stores s ≡ Some store
+      → ran.stands.moments.rows 0 s ≡ clock store.disk
   pub took : TakesThese plan reached run (opened plan.setup opens.opening) (run.prelude ++ later)
   pub came : List Pass
   pub admits : AreAdmitted offers (run.prelude ++ later) came
@@ -163,8 +167,9 @@ pub record LeavesCovered {offers : Offers} {files : Option Files} {plan : RunPla
   -- and so are whatever images of moments within one event, with the first of these records
   pub stops : (k : ℕ) (event : Event) (images : List (List ℕ)) (lists : List (List Kept))
       → slice_get (run.prelude ++ happened.later) k ≡ Some event
-      → AreImagesBetween run.last.stores ((happened.stands).moments.rows k)
-      ((happened.stands).moments.rows (k + 1)) images → AreListsBy plan.setup.dests images lists
+      → AreImagesBetween run.last.stores (((happened.ran).stands).moments.rows k)
+      (((happened.ran).stands).moments.rows (k + 1)) images
+      → AreListsBy plan.setup.dests images lists
       → (came : List Pass) × ((rest : List Pass) × ((happened.came ≡ came ++ rest)
       × CoversStop plan.setup offers
       (held_by plan.setup first ((happened.opens).opening).entries) taken passes old

@@ -7,7 +7,7 @@ ghost use Rattle.sg_counter.specs.declared.calls.CoreCall.{CoreCall as ACall};
 ghost use Rattle.sg_counter.specs.declared.calls.CoreReply.{CoreReply as AReply};
 ghost use Rattle.sg_hub.specs.Seats.{SeatStep};
 
-use sg_counter::{CoreFront, Counter, Refill, Refused, Settled, Stored};
+use sg_counter::{CoreFront, Counter, Refill, Refused, Stored};
 use sg_device::{Disk, NoMemory};
 use sg_hub::{Hub, HubSeat, Seat};
 use sg_machine::{Admission, Verdict};
@@ -77,25 +77,6 @@ fn front_at<T: Wait, D: Disk>(
     at.front(rt, alloc, dest, most)
 }
 
-fn settle_at<T: Wait, D: Disk>(
-    hub: &Hub<D>,
-    rt: &T,
-    seat: &mut Seat<D>,
-    dest: u32,
-    place: u64,
-    n: u32,
-) -> Settled
-    requires seat { IsDeskOf hub.now seat.old }
-    requires left { 0 < seat.old.left }
-    requires dest { dest < length (setup_of hub.now.made).dests }
-    requires some { 0 < n }
-    ensures step { SeatStep hub.entry.now seat.old (ACall.Settle dest place n)
-        (AReply.Settled result) seat.new }
-{
-    let mut at = HubSeat { hub, seat };
-    at.settle(rt, dest, place, n)
-}
-
 fn refill_at<T: Wait, D: Disk>(hub: &Hub<D>, rt: &T, seat: &mut Seat<D>, d: u32) -> Refill
     requires seat { IsDeskOf hub.now seat.old }
     requires left { 0 < seat.old.left }
@@ -153,10 +134,6 @@ impl<'a, D: Disk> Counter for Metered<'a, D> {
         most: u32,
     ) -> Result<CoreFront, NoMemory> {
         front_at(self.hub, rt, alloc, self.seat, d, most)
-    }
-
-    fn settle<T: Wait>(&mut self, rt: &T, d: u32, place: u64, n: u32) -> Settled {
-        settle_at(self.hub, rt, self.seat, d, place, n)
     }
 
     fn refill<T: Wait>(&mut self, rt: &T, d: u32) -> Refill {

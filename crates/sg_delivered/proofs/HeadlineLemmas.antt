@@ -1,5 +1,6 @@
 -- The run of a plan comes to the headline.
-use Rattle.std.proofs.Common.{◌≡◌, ℕ, ◌+◌, true, List, [], ◌++◌, Some, None, Option, refl, sym, ap, ◌∙◌, arith, take, subst}
+use Rattle.std.proofs.Common.{◌≡◌, ℕ, ◌+◌, true, List, [], ◌∷◌, ◌++◌, length, Some, None, Option, refl, sym, ap, ◌∙◌, arith, take, subst}
+use Rattle.std.proofs.lemmas.List.{length-map}
 use Rattle.std.specs.Prelude.{slice_get, is_some}
 use Rattle.sg_list.proofs.ListLemmas.{some-same, slice_get-some, slice_get-below, slice_get-map}
 use Rattle.sg_device.specs.Inlet.{InletState}
@@ -12,9 +13,11 @@ use Rattle.sg_machine.specs.declared.event.Event.{Event}
 use Rattle.sg_machine.specs.declared.setup.Setup.{Setup}
 use Rattle.sg_machine.specs.declared.state.Dest.{Dest}
 use Rattle.sg_machine.specs.declared.state.State.{State}
-use Rattle.sg_machine.specs.Runs.{Kept, Opening, opened, are_legal}
+use Rattle.sg_machine.specs.Runs.{Kept, Opening, opened, after_all, are_legal}
 use Rattle.sg_machine.specs.Safe.{Safe, nothing}
 use Rattle.sg_counter.specs.Exchanges.{Exchange, Makes, OfSource, OfDest, calls_by}
+use Rattle.sg_counter.specs.declared.calls.CoreCall.TheVariants.{Settle}
+use Rattle.sg_counter.specs.declared.calls.CoreReply.TheVariants.{Settled as SettledReply}
 use Rattle.sg_core.specs.Calls.{Serves}
 use Rattle.sg_actor.specs.Bringing.{admitted_in}
 use Rattle.sg_actor.specs.Rendering.{frame_by}
@@ -39,6 +42,7 @@ use Rattle.sg_headline.specs.Turns.{Sending, AreSendings, calls_in}
 use Rattle.sg_headline.proofs.EventLemmas.{opened-within}
 use Rattle.sg_headline.proofs.OwnLemmas.{calls-run}
 use Rattle.sg_headline.proofs.RunLemmas.{frames-settled}
+use Rattle.sg_headline.proofs.TakenLemmas.{settles-taken}
 use Rattle.sg_headline.proofs.ToldLemmas.{told-goes}
 use Rattle.sg_serve.specs.Actors.{SourceView, DestView, source_view, dest_view}
 use Rattle.sg_serve.specs.Devices.{inlet_asked}
@@ -49,21 +53,25 @@ use Rattle.sg_serve.specs.declared.counts.Counts.{Counts}
 use Rattle.sg_serve.specs.declared.ending.PlanEnded.{PlanEnded}
 use Rattle.sg_serve.specs.declared.ending.PlanEnded.TheVariants.{Before, Ran as RanSo}
 use Rattle.sg_serve.specs.declared.plan.RunPlan.{RunPlan}
-use Rattle.sg_delivered.specs.Headline.{frame_planned, frame_at, records_of, TakesPrefixes, TakesThese, Headline, Delivers, RunsDeliver}
-use Rattle.sg_delivered.proofs.PreludeLemmas.{get-back, AreStill, still-rewinds, still-either, admitted-later, dest-behind}
+use Rattle.sg_delivered.specs.Headline.{frame_planned, frame_at, records_of, TakesPrefixes, TakesThese, ShowsAccepted, Headline, Delivers, RunsDeliver}
+use Rattle.sg_delivered.proofs.PreludeLemmas.{get-back, AreStill, still-rewinds, still-either, admitted-later, dest-behind, opened-many}
 use Rattle.sg_delivered.proofs.SourceLemmas.{nothing-read, planned-of, source-texts, no-texts}
 use Rattle.sg_delivered.proofs.DestLemmas.{sendings-of}
 
 -- What a destination's outlet took, by its sendings.
 
-pub takes-these : (files : Option Files) (plan : RunPlan) (reached : Reached) (run : CoreRun) (made : List Exchange) → HoldsRun files plan reached run → AreStill run.prelude → (start : State) (later : List Event)
-    → Ran run.begun run.last made start run.prelude later → (d : ℕ) (new closed : OutletState) (first last : Dest) → IsDest start [] (run.prelude ++ later) d first last
-    → (turns : List Turn) (sendings : List Sending) → calls_by (OfDest d) made ≡ calls_of turns → calls_in sendings ≡ calls_of turns → AreSendings (frame_at plan.outlets.items d) d sendings new closed
+-- the calls of d are those of these sendings
+record HasSent (plan : RunPlan) (made : List Exchange) (d : ℕ) (new closed : OutletState) : Type 0 where
+  sendings : List Sending
+  calls : calls_by (OfDest d) made ≡ calls_in sendings
+  are : AreSendings (frame_at plan.outlets.items d) d sendings new closed
+
+takes-these : (files : Option Files) (plan : RunPlan) (reached : Reached) (run : CoreRun) → HoldsRun files plan reached run → AreStill run.prelude → (start : State) (later : List Event)
+    → Ran run.begun run.last run.made start run.prelude later → (d : ℕ) (new closed : OutletState) (first last : Dest) → IsDest start [] (run.prelude ++ later) d first last → HasSent plan run.made d new closed
     → TakesSettled (frame_at plan.outlets.items d) run.first.stores first last new closed
-takes-these files plan reached run made holds still start later ran d new closed first last is turns sendings own calls are =
-    let frame = frame_at plan.outlets.items d in
+takes-these files plan reached run holds still start later ran d new closed first last is sent =
     let behind = dest-behind start run.prelude later d first last still is in
-    let settled = frames-settled run.begun run.last made start run.prelude later d first last ran behind frame sendings new closed (own ∙ sym calls) are in
+    let settled = frames-settled run.begun run.last run.made start run.prelude later d first last ran behind (frame_at plan.outlets.items d) sent.sendings new closed sent.calls sent.are in
     record {
       count = settled.count;
       told = λ t. settled.told (told-goes run.first.stores run.begun.stores (((holds.core).begins).goes) first.setup.buffer t);
@@ -73,11 +81,11 @@ takes-these files plan reached run made holds still start later ran d new closed
 
 run-texts : {R I O : Type 0} (feed : I → InletState) (drain : O → OutletState) (offers : R → ℕ → Record → List Offer → Type 0) (inlets dests : R → ℕ) (files : Option Files) (plan : RunPlan) (routers : List R) (rounds : ℕ) (reached : Reached)
     (run : CoreRun) (ended : Ended) (counts : Option Counts) → IsRunnable plan → HoldsRun files plan reached run → (served : IsServed feed drain offers inlets dests plan routers rounds reached run ended counts)
-    → AreStill run.prelude → (start : State) (later : List Event) → are_legal start (run.prelude ++ later) ≡ true → AreOwn ((served.runs).serves).0 later → TakesPrefixes offers plan routers reached start (run.prelude ++ later)
+    → AreStill run.prelude → (start : State) (later : List Event) → are_legal start (run.prelude ++ later) ≡ true → AreOwn run.made later → TakesPrefixes offers plan routers reached start (run.prelude ++ later)
 run-texts {R} {I} {O} feed drain offers inlets dests files plan routers rounds reached run ended counts runnable holds served still start later legal own i d inlet router closed first last at_inlet at_router at_closed is =
     let runs = served.runs in
-    let turns = runs.serves.1.0 (OfSource i) in
-    let took = (runs.serves.1.1.1).took in
+    let turns = runs.account (OfSource i) in
+    let took = (runs.serves).took in
     let events = run.prelude ++ later in
     let a = get-back (λ (x : SourceActor R I). x.router) runs.sources i router (ap (λ rs. slice_get rs i) runs.same_routers ∙ at_router) in
     let b = get-back (λ (x : SourceActor R I). feed x.inlet) runs.sources_then i closed (ap (λ fs. slice_get fs i) runs.inlets_closed ∙ at_closed) in
@@ -103,14 +111,14 @@ run-texts {R} {I} {O} feed drain offers inlets dests files plan routers rounds r
     subst (λ (r : R). TakesFirst (offers r) frame i d (records_of inlet closed) events taken last.left) a.1.1
     (subst (λ (c : InletState). TakesFirst says frame i d (records_of inlet c) events taken last.left) b.1.1 texts)
 
-pub run-taken : {R I O : Type 0} (feed : I → InletState) (drain : O → OutletState) (offers : R → ℕ → Record → List Offer → Type 0) (inlets dests : R → ℕ) (files : Option Files) (plan : RunPlan) (routers : List R) (rounds : ℕ) (reached : Reached)
-    (run : CoreRun) (ended : Ended) (counts : Option Counts) → HoldsRun files plan reached run → (served : IsServed feed drain offers inlets dests plan routers rounds reached run ended counts)
-    → AreStill run.prelude → (start : State) (later : List Event) → Ran run.begun run.last ((served.runs).serves).0 start run.prelude later → TakesThese plan reached run start (run.prelude ++ later)
-run-taken {R} {I} {O} feed drain offers inlets dests files plan routers rounds reached run ended counts holds served still start later ran d new closed first last at_new at_closed is =
+-- what d sent since its outlet was opened
+run-sent : {R I O : Type 0} (feed : I → InletState) (drain : O → OutletState) (offers : R → ℕ → Record → List Offer → Type 0) (inlets dests : R → ℕ) (plan : RunPlan) (routers : List R) (rounds : ℕ) (reached : Reached) (run : CoreRun)
+    (ended : Ended) (counts : Option Counts) → IsServed feed drain offers inlets dests plan routers rounds reached run ended counts → (d : ℕ) (new closed : OutletState) → slice_get reached.outlets d ≡ Some new
+    → slice_get reached.outlets_closed d ≡ Some closed → HasSent plan run.made d new closed
+run-sent {R} {I} {O} feed drain offers inlets dests plan routers rounds reached run ended counts served d new closed at_new at_closed =
     let runs = served.runs in
-    let made = runs.serves.0 in
-    let turns = runs.serves.1.0 (OfDest d) in
-    let took = (runs.serves.1.1.1).took in
+    let turns = runs.account (OfDest d) in
+    let took = (runs.serves).took in
     let a = get-back (λ (x : DestActor O). drain x.outlet) runs.dests_first d new (ap (λ os. slice_get os d) runs.outlets_opened ∙ at_new) in
     let b = get-back (λ (x : DestActor O). drain x.outlet) runs.dests_then d closed (ap (λ os. slice_get os d) runs.outlets_closed ∙ at_closed) in
     let low = slice_get-below reached.outlets d new at_new in
@@ -120,7 +128,7 @@ run-taken {R} {I} {O} feed drain offers inlets dests files plan routers rounds r
     let spec_is = (for.is).spec_is in
     let does : DestTook drain a.0 b.0 turns = took.dests_took d a.0 b.0 a.1.0 b.1.0 in
     let sent = sendings-of (a.0).spec (dest_seen drain a.0) (dest_seen drain b.0) turns does.took in
-    let own : calls_by (OfDest d) made ≡ calls_of turns = took.calls (OfDest d) (slice_get-below runs.dests_first d a.0 a.1.0) in
+    let own : calls_by (OfDest d) run.made ≡ calls_of turns = took.calls (OfDest d) (slice_get-below runs.dests_first d a.0 a.1.0) in
     let frame = frame_at plan.outlets.items d in
     let frames : frame_by (a.0).spec ≡ frame = ap (λ (s : DestSpec). frame_by s) spec_is ∙ ap (λ (o : Option OutletPlan). frame_planned o) (sym outlet.1) in
     let number : ((a.0).spec).dest ≡ d = ap (λ (s : DestSpec). s.dest) spec_is in
@@ -128,20 +136,51 @@ run-taken {R} {I} {O} feed drain offers inlets dests files plan routers rounds r
     (subst (λ (o : OutletState). AreSendings frame d sent.sendings (drain (a.0).outlet) o) b.1.1
     (subst (λ (f : Content → List ℕ). AreSendings f d sent.sendings (drain (a.0).outlet) (drain (b.0).outlet)) frames
     (subst (λ k. AreSendings (frame_by (a.0).spec) k sent.sendings (drain (a.0).outlet) (drain (b.0).outlet)) number sent.are))) in
-    takes-these files plan reached run made holds still start later ran d new closed first last is turns sent.sendings own sent.calls are
+    record { sendings = sent.sendings; calls = own ∙ sym sent.calls; are = are }
+
+pub run-taken : {R I O : Type 0} (feed : I → InletState) (drain : O → OutletState) (offers : R → ℕ → Record → List Offer → Type 0) (inlets dests : R → ℕ) (files : Option Files) (plan : RunPlan) (routers : List R) (rounds : ℕ) (reached : Reached)
+    (run : CoreRun) (ended : Ended) (counts : Option Counts) → HoldsRun files plan reached run → (served : IsServed feed drain offers inlets dests plan routers rounds reached run ended counts)
+    → AreStill run.prelude → (start : State) (later : List Event) → Ran run.begun run.last run.made start run.prelude later → TakesThese plan reached run start (run.prelude ++ later)
+run-taken feed drain offers inlets dests files plan routers rounds reached run ended counts holds served still start later ran d new closed first last at_new at_closed is =
+    takes-these files plan reached run holds still start later ran d new closed first last is (run-sent feed drain offers inlets dests plan routers rounds reached run ended counts served d new closed at_new at_closed)
+
+-- each outlet that was opened is that of a destination, and was closed
+run-accepted : {R I O : Type 0} (feed : I → InletState) (drain : O → OutletState) (offers : R → ℕ → Record → List Offer → Type 0) (inlets dests : R → ℕ) (plan : RunPlan) (routers : List R) (rounds : ℕ) (reached : Reached) (run : CoreRun)
+    (ended : Ended) (counts : Option Counts) → IsServed feed drain offers inlets dests plan routers rounds reached run ended counts → AreStill run.prelude → (start : State) (later : List Event)
+    → length start.dests ≡ length plan.outlets.items → Ran run.begun run.last run.made start run.prelude later → ShowsAccepted reached run
+run-accepted {R} {I} {O} feed drain offers inlets dests plan routers rounds reached run ended counts served still start later many ran d new at_new =
+    let runs = served.runs in
+    let low = slice_get-below reached.outlets d new at_new in
+    let all = served.all_outlets in
+    let first = slice_get-some start.dests d (omega (arith, low, all, many)) in
+    let there : slice_get (after_all start run.prelude).dests d ≡ Some first.0 = ap (λ ds. slice_get ds d) (still.dests start) ∙ first.1 in
+    let before : length runs.dests_first ≡ length reached.outlets = sym (length-map runs.dests_first (λ (x : DestActor O). drain x.outlet)) ∙ ap length runs.outlets_opened in
+    let behind : length runs.dests_then ≡ length reached.outlets_closed = sym (length-map runs.dests_then (λ (x : DestActor O). drain x.outlet)) ∙ ap length runs.outlets_closed in
+    let same = ((runs.serves).took).all_dests in
+    let closed = slice_get-some reached.outlets_closed d (omega (arith, low, before, behind, same)) in
+    let sent = run-sent feed drain offers inlets dests plan routers rounds reached run ended counts served d new closed.0 at_new closed.1 in
+    settles-taken run.begun run.last run.made start run.prelude later d first.0 ran there (frame_at plan.outlets.items d) sent.sendings new closed.0 sent.calls sent.are
 
 -- A run whose rounds weren't run.
 
-stayed-texts : {R : Type 0} (offers : R → ℕ → Record → List Offer → Type 0) (plan : RunPlan) (routers : List R) (reached : Reached) (run : CoreRun) → AreStill run.prelude → (start : State) (later : List Event)
-    → are_legal start (run.prelude ++ later) ≡ true → AreOwn [] later → TakesPrefixes offers plan routers reached start (run.prelude ++ later)
-stayed-texts offers plan routers reached run still start later legal own i d inlet router closed first last at_inlet at_router at_closed is =
-    no-texts (offers router) (frame_at plan.outlets.items) start (run.prelude ++ later) i inlet (records_of inlet closed) d first last legal (admitted-later i run.prelude later still ∙ own.admits i) is
+stayed-texts : {R : Type 0} (offers : R → ℕ → Record → List Offer → Type 0) (plan : RunPlan) (routers : List R) (reached : Reached) (run : CoreRun) → AreStill run.prelude → run.made ≡ [] → (start : State) (later : List Event)
+    → are_legal start (run.prelude ++ later) ≡ true → AreOwn run.made later → TakesPrefixes offers plan routers reached start (run.prelude ++ later)
+stayed-texts offers plan routers reached run still none start later legal own i d inlet router closed first last at_inlet at_router at_closed is =
+    let came : admissions_of i (run.prelude ++ later) ≡ [] = admitted-later i run.prelude later still ∙ own.admits i ∙ ap (λ es. admitted_in (calls_by (OfSource i) es)) none in
+    no-texts (offers router) (frame_at plan.outlets.items) start (run.prelude ++ later) i inlet (records_of inlet closed) d first last legal came is
 
-pub stayed-taken : (files : Option Files) (plan : RunPlan) (reached : Reached) (run : CoreRun) → HoldsRun files plan reached run → AreStill run.prelude → reached.outlets_closed ≡ reached.outlets → (start : State) (later : List Event)
-    → Ran run.begun run.last [] start run.prelude later → TakesThese plan reached run start (run.prelude ++ later)
-stayed-taken files plan reached run holds still stay start later ran d new closed first last at_new at_closed is =
+pub stayed-taken : (files : Option Files) (plan : RunPlan) (reached : Reached) (run : CoreRun) → HoldsRun files plan reached run → AreStill run.prelude → run.made ≡ [] → reached.outlets_closed ≡ reached.outlets → (start : State) (later : List Event)
+    → Ran run.begun run.last run.made start run.prelude later → TakesThese plan reached run start (run.prelude ++ later)
+stayed-taken files plan reached run holds still none stay start later ran d new closed first last at_new at_closed is =
     let same : closed ≡ new = some-same closed new (sym at_closed ∙ ap (λ os. slice_get os d) stay ∙ at_new) in
-    takes-these files plan reached run [] holds still start later ran d new closed first last is [] [] refl refl same
+    takes-these files plan reached run holds still start later ran d new closed first last is (record { sendings = []; calls = ap (calls_by (OfDest d)) none; are = same })
+
+not-among : (before later : List Exchange) (e : Exchange) → [] ≡ before ++ e ∷ later → ⊥
+not-among [] later e h = let wrong : [] ≡ e ∷ later = h in cc
+not-among (b ∷ before) later e h = let wrong : [] ≡ b ∷ (before ++ e ∷ later) = h in cc
+
+stayed-accepted : (reached : Reached) (run : CoreRun) → run.made ≡ [] → ShowsAccepted reached run
+stayed-accepted reached run none d new at_new before later place n count answer at not = absurd (not-among before later (record { call = Settle d place n count; reply = SettledReply answer }) (sym none ∙ at))
 
 -- The whole.
 
@@ -162,23 +201,24 @@ pub record Laws : Type 0 where
   pub now : ImagesAreSafe
   pub between : ImagesBetweenAreSafe
 
-headline-of : {R : Type 0} (offers : R → ℕ → Record → List Offer → Type 0) (files : Option Files) (plan : RunPlan) (routers : List R) (reached : Reached) (run : CoreRun) (made : List Exchange) → Laws → HoldsRun files plan reached run
-    → Makes Serves run.begun made run.last
-    → ((start : State) (later : List Event) → are_legal start (run.prelude ++ later) ≡ true → AreOwn made later → TakesPrefixes offers plan routers reached start (run.prelude ++ later))
-    → ((start : State) (later : List Event) → Ran run.begun run.last made start run.prelude later → TakesThese plan reached run start (run.prelude ++ later)) → Headline offers plan routers reached run
-headline-of offers files plan routers reached run made laws holds makes texts taken =
+headline-of : {R : Type 0} (offers : R → ℕ → Record → List Offer → Type 0) (files : Option Files) (plan : RunPlan) (routers : List R) (reached : Reached) (run : CoreRun) → Laws → (holds : HoldsRun files plan reached run)
+    → Makes Serves run.begun run.made run.last
+    → ((later : List Event) → Ran run.begun run.last run.made (opened plan.setup ((holds.core).opens).opening) run.prelude later → ShowsAccepted reached run)
+    → ((start : State) (later : List Event) → are_legal start (run.prelude ++ later) ≡ true → AreOwn run.made later → TakesPrefixes offers plan routers reached start (run.prelude ++ later))
+    → ((start : State) (later : List Event) → Ran run.begun run.last run.made start run.prelude later → TakesThese plan reached run start (run.prelude ++ later)) → Headline offers plan routers reached run
+headline-of offers files plan routers reached run laws holds makes accepted texts taken =
     let opens = (holds.core).opens in
     let start = opened plan.setup opens.opening in
     let stood = ((holds.core).begins).stands plan.setup opens.opening opens.stands in
-    let h = calls-run run.begun run.last made start run.prelude makes stood in
+    let h = calls-run run.begun run.last run.made start run.prelude makes stood in
     let ran = h.1.0 in
     let events = run.prelude ++ h.0 in
     let stands = ran.stands in
     record {
       opens = opens;
-      made = made;
       later = h.0;
       ran = ran;
+      accepted = accepted h.0 ran;
       holds = record {
         texts = texts start h.0 stands.legal h.1.1;
         taken = taken start h.0 ran;
@@ -186,6 +226,8 @@ headline-of offers files plan routers reached run made laws holds makes texts ta
         due = λ before later i admitted verdicts failed is. laws.due start before later i admitted verdicts failed (subst (λ es. are_legal start es ≡ true) is stands.legal);
         windows = opened-within plan.setup opens.opening events stands.legal;
         stands = stands;
+        begins = λ s store get.
+            h.1.2 0 s (omega arith) ∙ ((holds.core).begins).rows plan.setup opens.opening opens.stands 0 s (omega arith) ∙ (opens.stands).moments.last s store get;
         stop = laws.between plan.setup opens.opening events run.last stands;
         stop_then = λ images lists are in_lists. laws.now plan.setup opens.opening events run.last images lists stands are in_lists;
       };
@@ -197,13 +239,18 @@ held feed drain offers inlets dests files plan routers rounds reached None (Befo
 held feed drain offers inlets dests files plan routers rounds reached None (RanSo ended counts) laws runnable h = absurd h
 held feed drain offers inlets dests files plan routers rounds reached (Some run) (Before early) laws runnable (holds, stays) =
     let still = still-either run.first reached.inlets run.prelude stays.rewinds in
-    headline-of offers files plan routers reached run [] laws holds stays.core_stays
-    (λ start later legal own. stayed-texts offers plan routers reached run still start later legal own)
-    (λ start later ran. stayed-taken files plan reached run holds still stays.outlets_stay start later ran)
+    let makes = subst (λ (es : List Exchange). Makes Serves run.begun es run.last) (sym stays.unserved) stays.core_stays in
+    headline-of offers files plan routers reached run laws holds makes
+    (λ later ran. stayed-accepted reached run stays.unserved)
+    (λ start later legal own. stayed-texts offers plan routers reached run still stays.unserved start later legal own)
+    (λ start later ran. stayed-taken files plan reached run holds still stays.unserved stays.outlets_stay start later ran)
 held feed drain offers inlets dests files plan routers rounds reached (Some run) (RanSo ended counts) laws runnable (holds, served) =
     let still = still-rewinds (position_at run.first) (places_of reached.inlets) run.prelude served.rewinds in
-    let serves = (served.runs).serves in
-    headline-of offers files plan routers reached run serves.0 laws holds ((serves.1.1.1).took).makes
+    let opens = (holds.core).opens in
+    let start = opened plan.setup opens.opening in
+    let many : length start.dests ≡ length plan.outlets.items = opened-many plan.setup.dests opens.opening.entries ∙ runnable.dests in
+    headline-of offers files plan routers reached run laws holds ((((served.runs).serves).took).makes)
+    (λ later ran. run-accepted feed drain offers inlets dests plan routers rounds reached run ended counts served still start later many ran)
     (λ start later legal own. run-texts feed drain offers inlets dests files plan routers rounds reached run ended counts runnable holds served still start later legal own)
     (λ start later ran. run-taken feed drain offers inlets dests files plan routers rounds reached run ended counts holds served still start later ran)
 

@@ -1,11 +1,12 @@
 -- The sources that begin anew bring no record, and change no destination.
-use Rattle.std.proofs.Common.{◌⊎◌, inl, inr, ◌≡◌, ℕ, ◌+◌, zero, suc, List, [], ◌∷◌, ◌++◌, Some, None, refl, sym, ap, ◌∙◌, append_assoc}
+use Rattle.std.proofs.Common.{◌⊎◌, inl, inr, ◌≡◌, ℕ, ◌+◌, zero, suc, List, [], ◌∷◌, ◌++◌, length, Some, None, refl, sym, ap, ◌∙◌, append_assoc}
 use Rattle.std.specs.Prelude.{slice_get, map}
 use Rattle.sg_list.proofs.ListLemmas.{some-same}
 use Rattle.sg_machine.specs.declared.event.Event.{Event}
+use Rattle.sg_machine.specs.declared.setup.DestSetup.{DestSetup}
 use Rattle.sg_machine.specs.declared.state.Dest.{Dest}
 use Rattle.sg_machine.specs.declared.state.State.{State}
-use Rattle.sg_machine.specs.Runs.{after_all}
+use Rattle.sg_machine.specs.Runs.{Kept, opened_dests, after_all}
 use Rattle.sg_machine.proofs.RunLemmas.{after_all-append}
 use Rattle.sg_headline.specs.Fronts.{IsDest}
 use Rattle.sg_headline.specs.Headline.{admissions_by, admissions_of}
@@ -88,3 +89,9 @@ admitted-later j prelude later still = admissions-both j prelude later ∙ ap (�
 -- behind them a destination is as at the start
 pub dest-behind : (start : State) (prelude later : List Event) (d : ℕ) (first last : Dest) → AreStill prelude → IsDest start [] (prelude ++ later) d first last → IsDest start prelude later d first last
 dest-behind start prelude later d first last still is = record { at_first = ap (λ ds. slice_get ds d) (still.dests start) ∙ is.at_first; at_last = is.at_last }
+
+-- an opening has the destinations of its setup
+pub opened-many : (setups : List DestSetup) (entries : List (List Kept)) → length (opened_dests setups entries) ≡ length setups
+opened-many [] entries = refl
+opened-many (s ∷ ss) [] = ap suc (opened-many ss [])
+opened-many (s ∷ ss) (es ∷ rest) = ap suc (opened-many ss rest)

@@ -4,6 +4,7 @@
 -- position, in its disk-buffer, or accepted.
 use Rattle.std.specs.Prelude.{◌≡◌, ℕ, ◌+◌, true, Option, Some, None, List, [], ◌∷◌, ◌++◌, take, slice_get}
 use Rattle.std.specs.Option.{option_map}
+use Rattle.sg_device.specs.Disk.{clock}
 use Rattle.sg_device.specs.Inlet.{InletState}
 use Rattle.sg_device.specs.Outlet.{OutletState}
 use Rattle.sg_outside.specs.World.{WorldState}
@@ -21,7 +22,7 @@ use Rattle.sg_machine.specs.Effects.{next_of}
 use Rattle.sg_machine.specs.Runs.{Kept, opened, after_all, are_legal}
 use Rattle.sg_machine.specs.Safe.{Safe, nothing}
 use Rattle.sg_machine.specs.Verdicts.{claims_of}
-use Rattle.sg_counter.specs.Exchanges.{Exchange}
+use Rattle.sg_stores.specs.Stores.{StoreState}
 use Rattle.sg_standing.specs.Images.{positions_in, AreListsIn, AreImages, AreImagesBetween}
 use Rattle.sg_standing.specs.Standing.{StandsFor}
 use Rattle.sg_core.specs.Opening.{IsOpen}
@@ -29,7 +30,7 @@ use Rattle.sg_source.specs.declared.inlet.InletPlan.{InletPlan}
 use Rattle.sg_destination.specs.declared.outlet.OutletPlan.{OutletPlan}
 use Rattle.sg_headline.specs.Calls.{Ran}
 use Rattle.sg_headline.specs.Drops.{AreDue}
-use Rattle.sg_headline.specs.Fronts.{IsDest, TakesSettled}
+use Rattle.sg_headline.specs.Fronts.{IsDest, TakesSettled, ShowsTaken}
 use Rattle.sg_headline.specs.Headline.{taken_from, TakesFirst}
 use Rattle.sg_headline.specs.Laws.{StayWithin}
 use Rattle.sg_serve.specs.declared.ending.PlanEnded.{PlanEnded}
@@ -70,6 +71,12 @@ TakesThese plan reached run start events =
     → IsDest start [] events d first last
     → TakesSettled (frame_at plan.outlets.items d) run.first.stores first last new closed
 
+-- accepted: each settling of a destination showed a number that its outlet had told, and that is the number of entries that are settled
+-- with it; since such a number is had from an outlet alone, the frames of all of these had been taken by then
+abbrev pub ShowsAccepted : Reached → CoreRun → Type 0
+ShowsAccepted reached run = (d : ℕ) (new : OutletState) → slice_get reached.outlets d ≡ Some new
+    → ShowsTaken new.count d run.made
+
 -- The sentence, over the events from a start on.
 
 pub record HeadlineOf {R : Type 0} (offers : R → ℕ → Record → List Offer → Type 0) (plan : RunPlan) (routers : List R) (reached : Reached) (run : CoreRun) (start : State) (events : List Event) : Type 0 where
@@ -87,6 +94,9 @@ pub record HeadlineOf {R : Type 0} (offers : R → ℕ → Record → List Offer
   pub windows : StayWithin start events
   -- what was opened stands for all of it at the end
   pub stands : StandsFor run.last start events
+  -- the first row of its timetable are the moments at which the core was open
+  pub begins : (s : ℕ) (store : StoreState) → slice_get run.first.stores s ≡ Some store
+      → stands.moments.rows 0 s ≡ clock store.disk
   -- a stop within any write leaves each flow-controlled record of a file beyond the stored position, in its disk-buffer, or accepted:
   -- whatever images of the stores are chosen of moments within one event, or at the end
   pub stop : (k : ℕ) (event : Event) (images : List (List ℕ)) (lists : List (List Kept))
@@ -103,9 +113,10 @@ pub record HeadlineOf {R : Type 0} (offers : R → ℕ → Record → List Offer
 -- served them; they begin with what the stores had.
 pub record Headline {R : Type 0} (offers : R → ℕ → Record → List Offer → Type 0) (plan : RunPlan) (routers : List R) (reached : Reached) (run : CoreRun) : Type 0 where
   pub opens : IsOpen plan.setup reached.stores run.first
-  pub made : List Exchange
   pub later : List Event
-  pub ran : Ran run.begun run.last made (opened plan.setup opens.opening) run.prelude later
+  pub ran : Ran run.begun run.last run.made (opened plan.setup opens.opening) run.prelude later
+  -- accepted: what is settled at any moment had been taken before
+  pub accepted : ShowsAccepted reached run
   pub holds : HeadlineOf offers plan routers reached run (opened plan.setup opens.opening)
       (run.prelude ++ later)
 

@@ -22,7 +22,7 @@ reopen_of defaults call = number_or (last_value (codes "time-reopen" ∷ []) (op
 
 abbrev pub file_of : Defaults → Call → OutletSpec
 file_of defaults call =
-    outlet.File (name_of call) (truth_or (last_value (codes "fsync" ∷ []) (options_of call)) false) (mode_or (last_value (codes "perm" ∷ []) (options_of call)) defaults.mode) (reopen_of defaults call)
+    outlet.File (name_of call) (truth_or (last_value (codes "fsync" ∷ []) (options_of call)) false) (mode_or (last_value (codes "perm" ∷ []) (options_of call)) defaults.mode) None (reopen_of defaults call)
 
 abbrev pub host_of : Defaults → Call → OutletSpec
 host_of defaults call = outlet.Tcp (name_of call) (port_of call) (reopen_of defaults call)

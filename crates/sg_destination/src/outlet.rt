@@ -49,6 +49,7 @@ fn file_of(alloc: Global, defaults: &Defaults, call: &Call) -> Result<OutletSpec
         path: Name::new(alloc, name_of(call))?,
         fsync: truth_or(last_argument_value(&[b"fsync"], args), false),
         mode: mode_or(last_argument_value(&[b"perm"], args), defaults.mode),
+        folders: None,
         reopen: reopen_of(defaults, call),
     })
 }

@@ -4,7 +4,7 @@
 -- bytes stay. After a sync that succeeded a crash leaves what a read gives. A write that fails may leave any bytes in its
 -- range. After a sync that failed a read may give any of the images: Linux marks the pages as clean and may drop them (fsync(2),
 -- Errors). POSIX.1-2017 (pwrite, fsync) promises no more; a gap before a write's place reads as zeros (lseek).
-use Rattle.std.specs.Prelude.{◌≡◌, ◌⊎◌, ℕ, ◌-◌, ◌<◌, ◌≤◌, ◌^◌, List, [], ◌∷◌, length, take, drop, Option, Some, None, is_some, Result, Ok, Err, OnErr, IfOk}
+use Rattle.std.specs.Prelude.{◌≡◌, ◌⊎◌, ℕ, ◌-◌, ◌<◌, ◌≤◌, ◌^◌, List, [], ◌∷◌, length, take, drop, Option, Some, None, is_some, Result, Ok, Err, OnOk, OnErr, IfOk}
 use Rattle.std.specs.Option.{option_map}
 use Rattle.sg_device.specs.DiskBytes.{overwritten, Torn, IsRead, Same}
 use Rattle.sg_device.specs.Faults.{Rose}
@@ -100,9 +100,10 @@ Durable disk = (bytes : List ℕ) → IsImage disk bytes → content disk ≡ So
 abbrev pub IsShort : DiskState → Type 0
 IsShort disk = WhereTold (content disk) (λ bytes. length bytes < 2 ^ 63)
 
--- a fault has its cause, which is that the count rose; and the count never falls
+-- a fault has its cause, which is that the count rose; a call that answers Ok leaves the count as it was
 pub record HasCause {T E : Type 0} (before now : ℕ) (result : Result T E) : Type 0 where
   pub later : before ≤ now
+  pub well : OnOk result (now ≡ before)
   pub failed : OnErr result (Rose before now)
 
 -- the length, where the bytes are told

@@ -5,8 +5,9 @@ use Rattle.sg_device.specs.Faults.{Rose}
 use Rattle.sg_device.specs.declared.outlet.Reopened.{Reopened}
 use Rattle.sg_device.specs.declared.outlet.Reopened.TheVariants.{Ready, Later}
 use Rattle.sg_device.specs.declared.fault.SendRefusal.{SendRefusal}
-use Rattle.sg_device.specs.declared.fault.SendRefusal.TheVariants.{Fault, NoMemory}
+use Rattle.sg_device.specs.declared.fault.SendRefusal.TheVariants.{Fault, Later as SendLater, NoMemory}
 use Rattle.sg_device.specs.declared.fault.OutletFault.{OutletFault}
+use Rattle.sg_device.specs.declared.taken.Taken.{Taken}
 
 pub record OutletState : Type 0 where
   -- the frames taken since it was made, where the outlet tells them
@@ -17,7 +18,7 @@ pub record OutletState : Type 0 where
   pub faults : ℕ
   -- the sends and reopenings that failed since a frame was taken last
   pub failing : ℕ
-  -- the reopenings for which it was too early
+  -- the sends and reopenings for which it was too early
   pub laters : ℕ
 
 -- nothing was taken yet, and nothing failed
@@ -50,11 +51,22 @@ abbrev pub SendStarves : OutletState → OutletState → List (List ℕ) → Typ
 SendStarves old new frames = (k : ℕ) × (k < length frames) × TakesFirst k frames old new
     × (new.failing ≡ failing_after k old.failing)
 
+-- it was too early for the rest, which is no failure
+abbrev pub SendWaits : OutletState → OutletState → List (List ℕ) → Type 0
+SendWaits old new frames = (k : ℕ) × (k < length frames)
+    × TakesFirst k frames (record old { laters = old.laters + 1 }) new
+    × (new.faults ≡ old.faults) × (new.failing ≡ failing_after k old.failing)
+
 -- the frames were taken, or some of the first
 abbrev pub Sends : OutletState → OutletState → List (List ℕ) → Result Unit SendRefusal → Type 0
 Sends old new frames (Ok done) = TakesFirst (length frames) frames old new × (new.failing ≡ 0)
 Sends old new frames (Err Fault) = SendFails old new frames × Rose old.faults new.faults
+Sends old new frames (Err SendLater) = SendWaits old new frames
 Sends old new frames (Err NoMemory) = SendStarves old new frames
+
+-- the number of frames that an outlet had taken when it was asked
+abbrev pub count_of : {O : Type 0} → Taken O → ℕ
+count_of taken = taken.count
 
 -- the list of frames stays
 abbrev pub Reopens : OutletState → OutletState → Result Reopened OutletFault → Type 0

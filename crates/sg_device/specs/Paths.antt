@@ -5,7 +5,7 @@ use Rattle.sg_device.specs.Faults.{Rose}
 use Rattle.sg_device.specs.declared.outlet.Reopened.{Reopened}
 use Rattle.sg_device.specs.declared.outlet.Reopened.TheVariants.{Ready, Later}
 use Rattle.sg_device.specs.declared.fault.SendRefusal.{SendRefusal}
-use Rattle.sg_device.specs.declared.fault.SendRefusal.TheVariants.{Fault, NoMemory}
+use Rattle.sg_device.specs.declared.fault.SendRefusal.TheVariants.{Fault, Later as SendLater, NoMemory}
 use Rattle.sg_device.specs.declared.fault.OpenRefusal.{OpenRefusal}
 use Rattle.sg_device.specs.declared.fault.OpenRefusal.TheVariants.{Failed, NoMemory as OpenNoMemory}
 use Rattle.sg_device.specs.declared.fault.OutletFault.{OutletFault}
@@ -51,6 +51,7 @@ abbrev pub PathSends : PathsState → PathsState → List ℕ → List ℕ → R
 PathSends old new path text (Ok done) = new ≡ record old
     { taken = option_map (λ before. before ++ (record { path = path; text = text }) ∷ []) old.taken }
 PathSends old new path text (Err Fault) = KeepsPaths old new × Rose old.faults new.faults
+PathSends old new path text (Err SendLater) = ⊥
 PathSends old new path text (Err NoMemory) = KeepsPaths old new
 
 abbrev pub PathReopens : PathsState → PathsState → Result Reopened OutletFault → Type 0

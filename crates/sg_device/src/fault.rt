@@ -31,6 +31,9 @@ pub struct DiskFault;
 pub enum SendRefusal {
     #[error("the outlet failed")]
     Fault,
+    /// It is too early to send the rest. This is no fault.
+    #[error("it is too early")]
+    Later,
     #[error("no memory")]
     NoMemory,
 }

@@ -9,6 +9,7 @@ mod inlet;
 mod name;
 mod opener;
 mod outlet;
+mod taken;
 
 pub use disk::{Disk, write_through};
 pub use fault::{
@@ -19,3 +20,4 @@ pub use inlet::{Inlet, Pull};
 pub use name::Name;
 pub use opener::Opener;
 pub use outlet::{Outlet, Reopened};
+pub use taken::Taken;

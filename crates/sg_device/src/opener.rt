@@ -14,7 +14,8 @@ pub trait Opener {
         requires { Contains (state self.old).opened path.now → ⊥ }
         ensures { PathOpens (state self.old) (state self.new) path.now result };
 
-    /// Takes a text whole for the file of an open path, or nothing that is claimed.
+    /// Takes a text whole for the file of an open path, or nothing that is claimed. It is never too
+    /// early for one.
     fn send(&mut self, path: &[u8], text: &[u8]) -> Result<(), SendRefusal>
         requires { Contains (state self.old).opened path.now }
         ensures { PathSends (state self.old) (state self.new) path.now text.now result };

@@ -19,7 +19,7 @@ pub trait Outlet {
     ghost state: { Self → OutletState };
 
     /// Takes the frames in order. A refusal took the first ones of them, fewer than all, perhaps
-    /// none, and never a part of one.
+    /// none, and never a part of one. Where it is too early for the rest, nothing failed.
     fn send(&mut self, frames: &Frames) -> Result<(), SendRefusal>
         requires { frames.now ≢ [] }
         ensures { Sends (state self.old) (state self.new) frames.now result };

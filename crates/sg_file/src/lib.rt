@@ -4,6 +4,7 @@
 
 mod clock;
 mod counts;
+mod folders;
 mod fresh;
 mod health;
 mod inlet;

@@ -15,10 +15,14 @@ use std::os::unix::fs::FileExt;
 const END: u64 = 1 << 63;
 
 /// A file that is read and written at places, and made stable by the system's own call. It is locked
-/// while it is open.
+/// while it is open. A read that ends before the length that the store had is a fault, as where another
+/// program has truncated it.
 #[derive(Drop)]
 pub struct FileDisk {
     file: File,
+    // The number of bytes at the opening, or at the end of a later write where that is more: the file
+    // has no fewer, but where it was truncated.
+    length: u64,
     faults: u64,
     health: Health,
 }
@@ -36,9 +40,10 @@ impl FileDisk {
         ensures { IfOk result (λ disk. disk_of disk ≡ new_disk) }
     {
         let mut health = Health::new(alloc, rt, "store", path)?;
-        match open_store(alloc, &rt, path, create) {
-            Ok(file) => Ok(FileDisk {
+        match open_measured(alloc, &rt, path, create) {
+            Ok((file, length)) => Ok(FileDisk {
                 file,
+                length,
                 faults: 0,
                 health,
             }),
@@ -67,6 +72,15 @@ impl FileDisk {
         self.faults = self.faults.saturating_add(1);
         DiskFault
     }
+
+    // Counts a call that found the file shorter than it was.
+    fn truncated(&mut self) -> DiskFault
+        ensures told { (disk_of self.new).told ≡ (disk_of self.old).told }
+        ensures faults { Rose (disk_of self.old).faults (disk_of self.new).faults }
+        ensures later { (disk_of self.old).faults ≤ (disk_of self.new).faults }
+    {
+        self.fails("read", &io::Error::other("the file was truncated"))
+    }
 }
 
 impl Disk for FileDisk {
@@ -78,7 +92,8 @@ impl Disk for FileDisk {
 
     fn len(&mut self) -> Result<u64, DiskFault> {
         match length_of(&self.file) {
-            Ok(len) => Ok(len),
+            Ok(len) if len >= self.length => Ok(len),
+            Ok(_) => Err(self.truncated()),
             Err(error) => Err(self.fails("read", &error)),
         }
     }
@@ -88,6 +103,9 @@ impl Disk for FileDisk {
             return Ok(0);
         }
         match read_from(&self.file, at, into) {
+            Ok(count) if count < into.len() && at.saturating_add(count as u64) < self.length => {
+                Err(self.truncated())
+            }
             Ok(count) => {
                 self.health.works();
                 Ok(count)
@@ -103,6 +121,7 @@ impl Disk for FileDisk {
         match self.file.write_all_at(from, at) {
             Ok(()) => {
                 self.health.works();
+                self.length = self.length.max(at.saturating_add(from.len() as u64));
                 Ok(())
             }
             Err(error) => Err(self.fails("write", &error)),
@@ -115,6 +134,18 @@ impl Disk for FileDisk {
             Err(error) => Err(self.fails("sync", &error)),
         }
     }
+}
+
+// Opens the file of a store, and tells its length.
+fn open_measured(
+    alloc: Global,
+    rt: &HostRuntime,
+    path: &[u8],
+    create: bool,
+) -> io::Result<(File, u64)> {
+    let file = open_store(alloc, rt, path, create)?;
+    let length = length_of(&file)?;
+    Ok((file, length))
 }
 
 // The number of bytes, which is below 2^63.

@@ -2,6 +2,7 @@
 ghost use Rattle.std.specs.Prelude.{◌≡◌, ◌≤◌, length, true, false, IsTrue, IfOk};
 ghost use Rattle.sg_file.specs.Target.{IsFor, KeepsTarget, WaitsOnly, grown};
 
+use crate::folders::make_folders;
 use crate::open::{is_free, open_known, path_text, sync_folder};
 use crate::{Health, Rest, Retry};
 use sg_device::{OpenRefusal, OutletFault, Reopened};
@@ -17,6 +18,8 @@ pub struct Appending {
     pub fsync: bool,
     /// The mode of a file that is made.
     pub mode: u16,
+    /// The mode of the folders on the way to a file that is made, where missing ones are made too.
+    pub folders: Option<u16>,
     /// The seconds from one try to open it to the next.
     pub reopen: u32,
 }
@@ -36,8 +39,8 @@ pub struct Target {
 }
 
 impl Target {
-    /// Opens a file for appending, and makes it with its mode where it is missing. A failure is told
-    /// on standard error.
+    /// Opens a file for appending, and makes it with its mode where it is missing, and the folders on
+    /// the way to it where that is asked. A failure is told on standard error.
     pub fn open(
         alloc: Global,
         rt: HostRuntime,
@@ -220,6 +223,9 @@ fn open_to_append(rt: &HostRuntime, path: &str, how: Appending) -> io::Result<(F
 fn make(rt: &HostRuntime, path: &str, how: Appending) -> io::Result<File> {
     if !is_free(rt, path) {
         return Err(io::Error::other("a link to a file that is not there"));
+    }
+    if let Some(mode) = how.folders {
+        make_folders(rt, path, mode, how.fsync)?;
     }
     let mode = u32::from(how.mode);
     let mut options = OpenOptions::new();

@@ -89,10 +89,10 @@ others-credit old new (Admit j records) (Admitted (Ok vs)) s i serves at not =
     (λ k a. acked-claims j (next_of s j) s.dests (claims_of records) vs i k (λ place. apart i j (next_of s j + place) k not) a))
 others-credit old new (Admit j records) (Admitted (Err refused)) s i serves at not = gone-one old new Look s (NoLess s i) serves.does at (same-left s i)
 others-credit old new (Front e most) (FrontReply result) s i serves at not = gone-one old new Look s (NoLess s i) serves.does at (same-left s i)
-others-credit old new (Settle e place n) (SettledReply Done) s i serves at not =
+others-credit old new (Settle e place n count) (SettledReply Done) s i serves at not =
     gone-one old new (SettleAct e n) s (NoLess s i) serves.does at (λ failed. credit-stays s (after_act s (SettleAct e n) failed) i refl (λ k a. acked-settle s.dests e n i k a))
-others-credit old new (Settle e place n) (SettledReply NotFront) s i serves at not = gone-one old new Look s (NoLess s i) serves.does at (same-left s i)
-others-credit old new (Settle e place n) (SettledReply DiskFailed) s i serves at not =
+others-credit old new (Settle e place n count) (SettledReply NotFront) s i serves at not = gone-one old new Look s (NoLess s i) serves.does at (same-left s i)
+others-credit old new (Settle e place n count) (SettledReply DiskFailed) s i serves at not =
     gone-one old new (SettleAct e n) s (NoLess s i) serves.does at (λ failed. credit-stays s (after_act s (SettleAct e n) failed) i refl (λ k a. acked-settle s.dests e n i k a))
 others-credit old new (Refill e) (Refilled (Moved n)) s i serves at not =
     gone-one old new (RefillAct e n) s (NoLess s i) serves.does at (λ failed. credit-stays s (after_act s (RefillAct e n) failed) i refl (λ k a. acked-refill s.dests e n i k a))
@@ -114,9 +114,9 @@ some-state old new (Credit j) (CreditReply n) s serves at = record { state = s; 
 some-state old new (Admit j records) (Admitted (Ok vs)) s serves at = gone-one old new (AdmitAct j records vs) s Any serves.does at (λ failed. tt)
 some-state old new (Admit j records) (Admitted (Err refused)) s serves at = gone-one old new Look s Any serves.does at (λ failed. tt)
 some-state old new (Front e most) (FrontReply result) s serves at = gone-one old new Look s Any serves.does at (λ failed. tt)
-some-state old new (Settle e place n) (SettledReply Done) s serves at = gone-one old new (SettleAct e n) s Any serves.does at (λ failed. tt)
-some-state old new (Settle e place n) (SettledReply NotFront) s serves at = gone-one old new Look s Any serves.does at (λ failed. tt)
-some-state old new (Settle e place n) (SettledReply DiskFailed) s serves at = gone-one old new (SettleAct e n) s Any serves.does at (λ failed. tt)
+some-state old new (Settle e place n count) (SettledReply Done) s serves at = gone-one old new (SettleAct e n) s Any serves.does at (λ failed. tt)
+some-state old new (Settle e place n count) (SettledReply NotFront) s serves at = gone-one old new Look s Any serves.does at (λ failed. tt)
+some-state old new (Settle e place n count) (SettledReply DiskFailed) s serves at = gone-one old new (SettleAct e n) s Any serves.does at (λ failed. tt)
 some-state old new (Refill e) (Refilled (Moved n)) s serves at = gone-one old new (RefillAct e n) s Any serves.does at (λ failed. tt)
 some-state old new (Refill e) (Refilled NoneWaits) s serves at = gone-one old new Look s Any serves.does at (λ failed. tt)
 some-state old new (Refill e) (Refilled NoRoom) s serves at = gone-one old new Look s Any serves.does at (λ failed. tt)
@@ -153,7 +153,7 @@ asks old new (Admit j records) (Admitted result) i serves own = λ no_credit.
     let same : j ≡ i = grind arith in
     subst (λ (k : ℕ). credit_at old.sources k < length records) same (serves.no_credit.0 no_credit)
 asks old new (Front d most) reply i serves own = tt
-asks old new (Settle d place n) reply i serves own = tt
+asks old new (Settle d place n count) reply i serves own = tt
 asks old new (Refill d) reply i serves own = tt
 asks old new (Store j) reply i serves own = tt
 asks old new call reply i serves own = absurd serves

@@ -5,6 +5,7 @@ pub mod ViewLemmas
 pub mod ToldLemmas
 pub mod ServeLemmas
 pub mod RunLemmas
+pub mod TakenLemmas
 pub mod HeadLemmas
 pub mod DueLemmas
 pub mod CreditLemmas

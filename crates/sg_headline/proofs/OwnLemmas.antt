@@ -1,5 +1,5 @@
 -- What came in of a source are the records that its own calls brought.
-use Rattle.std.proofs.Common.{◌≡◌, ℕ, List, [], ◌∷◌, ◌++◌, Ok, Err, Bool, true, false, refl, sym, ap, ◌∙◌, arith, map, append_assoc, if◌then◌else◌}
+use Rattle.std.proofs.Common.{◌≡◌, ℕ, List, [], ◌∷◌, ◌++◌, Ok, Err, Bool, true, false, refl, sym, ap, ◌∙◌, arith, map, length, append_assoc, if◌then◌else◌}
 use Rattle.std.specs.Prelude.{◌==◌}
 use Rattle.std.proofs.lemmas.List.{append-nil}
 use Rattle.sg_machine.specs.declared.event.Act.{Act}
@@ -15,7 +15,7 @@ use Rattle.sg_counter.specs.declared.calls.CoreCall.TheVariants.{Credit, Admit, 
 use Rattle.sg_counter.specs.declared.calls.CoreReply.{CoreReply}
 use Rattle.sg_counter.specs.declared.calls.CoreReply.TheVariants.{Admitted, Settled as SettledReply, Refilled, Stored}
 use Rattle.sg_standing.specs.States.{CoreState}
-use Rattle.sg_standing.specs.Standing.{StandsFor}
+use Rattle.sg_standing.specs.Standing.{StandsFor, KeepsRows}
 use Rattle.sg_core.specs.Calls.{Serves, acts_in, acts_of}
 use Rattle.sg_core.proofs.CallLemmas.{happens-calls}
 use Rattle.sg_actor.specs.Bringing.{admitted_by, admitted_in}
@@ -73,10 +73,10 @@ admits-one i (Admit j records) (Admitted (Err refused)) = no-records (i == j)
 admits-one i (Admit j records) reply = no-records (i == j)
 admits-one i (Credit j) reply = no-records (i == j)
 admits-one i (Front d most) reply = refl
-admits-one i (Settle d place n) (SettledReply Done) = refl
-admits-one i (Settle d place n) (SettledReply NotFront) = refl
-admits-one i (Settle d place n) (SettledReply DiskFailed) = refl
-admits-one i (Settle d place n) reply = refl
+admits-one i (Settle d place n count) (SettledReply Done) = refl
+admits-one i (Settle d place n count) (SettledReply NotFront) = refl
+admits-one i (Settle d place n count) (SettledReply DiskFailed) = refl
+admits-one i (Settle d place n count) reply = refl
 admits-one i (Refill d) (Refilled (Moved n)) = refl
 admits-one i (Refill d) (Refilled NoneWaits) = refl
 admits-one i (Refill d) (Refilled NoRoom) = refl
@@ -93,10 +93,10 @@ settles-one d (Admit j records) (Admitted (Err refused)) = refl
 settles-one d (Admit j records) reply = refl
 settles-one d (Credit j) reply = refl
 settles-one d (Front e most) reply = no-numbers (d == e)
-settles-one d (Settle e place n) (SettledReply Done) = if-flip e d (n ∷ [])
-settles-one d (Settle e place n) (SettledReply NotFront) = no-numbers (d == e)
-settles-one d (Settle e place n) (SettledReply DiskFailed) = if-flip e d (n ∷ [])
-settles-one d (Settle e place n) reply = no-numbers (d == e)
+settles-one d (Settle e place n count) (SettledReply Done) = if-flip e d (n ∷ [])
+settles-one d (Settle e place n count) (SettledReply NotFront) = no-numbers (d == e)
+settles-one d (Settle e place n count) (SettledReply DiskFailed) = if-flip e d (n ∷ [])
+settles-one d (Settle e place n count) reply = no-numbers (d == e)
 settles-one d (Refill e) (Refilled (Moved n)) = no-numbers (d == e)
 settles-one d (Refill e) (Refilled NoneWaits) = no-numbers (d == e)
 settles-one d (Refill e) (Refilled NoRoom) = no-numbers (d == e)
@@ -139,10 +139,10 @@ are-own made events acts = record {
   settles = λ d. settles-acts d events ∙ ap (settles_in d) acts ∙ settles-own d made;
 }
 
-pub calls-run : (old new : CoreState) (made : List Exchange) (start : State) (before : List Event) → Makes Serves old made new → StandsFor old start before
-    → (events : List Event) × (Ran old new made start before events × AreOwn made events)
+pub calls-run : (old new : CoreState) (made : List Exchange) (start : State) (before : List Event) → Makes Serves old made new → (stood : StandsFor old start before)
+    → (events : List Event) × ((ran : Ran old new made start before events) × AreOwn made events × KeepsRows (length before) stood.moments.rows ran.stands.moments.rows)
 calls-run old new made start before makes stood =
     let h = happens-calls old new made start before makes stood in (
       h.0,
-      (record { makes = makes; stood = stood; acts = h.1; stands = h.2 }, are-own made h.0 h.1),
+      (record { makes = makes; stood = stood; acts = h.1; stands = (h.2).stands; rows = (h.2).keeps }, are-own made h.0 h.1, (h.2).keeps),
     )

@@ -29,14 +29,14 @@ use Rattle.sg_headline.proofs.ViewLemmas.{Run, grows-none, run-before, turns-add
 use Rattle.sg_headline.proofs.ServeLemmas.{message_of, view, others-call, own-call}
 
 -- What the calls come to at d, from a state on.
-record Ended (T : Type 0) (s : State) (made : List Exchange) (d : ℕ) (x : Dest) : Type 0 where
-  events : List Event
-  acts : map (λ (e : Event). e.act) events ≡ acts_of made
-  dest : Dest
-  there : slice_get (after_all s events).dests d ≡ Some dest
-  run : Run T (view x) (calls_by (OfDest d) made) (view dest)
+pub record Ended (T : Type 0) (s : State) (made : List Exchange) (d : ℕ) (x : Dest) : Type 0 where
+  pub events : List Event
+  pub acts : map (λ (e : Event). e.act) events ≡ acts_of made
+  pub dest : Dest
+  pub there : slice_get (after_all s events).dests d ≡ Some dest
+  pub run : Run T (view x) (calls_by (OfDest d) made) (view dest)
 
-kept-own : (d : ℕ) (e : Exchange) (rest : List Exchange) → same_caller (OfDest d) (caller_of e.call) ≡ true → calls_by (OfDest d) (e ∷ rest) ≡ e ∷ calls_by (OfDest d) rest
+pub kept-own : (d : ℕ) (e : Exchange) (rest : List Exchange) → same_caller (OfDest d) (caller_of e.call) ≡ true → calls_by (OfDest d) (e ∷ rest) ≡ e ∷ calls_by (OfDest d) rest
 kept-own d e rest h = rw h refl
 
 left-out : (d : ℕ) (e : Exchange) (rest : List Exchange) → same_caller (OfDest d) (caller_of e.call) ≡ false → calls_by (OfDest d) (e ∷ rest) ≡ calls_by (OfDest d) rest
@@ -78,7 +78,7 @@ ends-by T d old between e rest s x false own step at h told more =
       run = subst (λ es. Run T (view x) es (view r.dest)) (sym (left-out d e rest own)) (run-before T (view x) (view c.dest) (view r.dest) (calls_by (OfDest d) rest) c.does.grows r.run);
     }
 
-ends : (T : Type 0) (d : ℕ) (old new : CoreState) (made : List Exchange) (s : State) (x : Dest) → Makes Serves old made new → IsAt old s → slice_get s.dests d ≡ Some x → (T → IsTold old.stores x.setup.buffer) → Ended T s made d x
+pub ends : (T : Type 0) (d : ℕ) (old new : CoreState) (made : List Exchange) (s : State) (x : Dest) → Makes Serves old made new → IsAt old s → slice_get s.dests d ≡ Some x → (T → IsTold old.stores x.setup.buffer) → Ended T s made d x
 ends T d old new [] s x makes at h told = record { events = []; acts = refl; dest = x; there = h; run = grows-none (view x) }
 ends T d old new (e ∷ rest) s x (between, step, makes) at h told = ends-by T d old between e rest s x (same_caller (OfDest d) (caller_of e.call)) refl step at h told (λ t y a b c. ends T d between new rest t y makes a b c)
 
@@ -129,10 +129,10 @@ seen old new made start before events d first last ran is =
     subst (λ (y : Dest). Run T (view first) (calls_by (OfDest d) made) (view y)) (some-same e.dest last (sym there ∙ is.at_last)) e.run
 
 pub fronts-next : FrontsAreNext
-fronts-next old new made start before events d first last ran is earlier later most place n messages answer calls few =
+fronts-next old new made start before events d first last ran is earlier later most place n count messages answer calls few =
     let T : Type 0 = IsTold old.stores first.setup.buffer in
     let run = subst (λ es. Run T (view first) es (view last)) calls (seen old new made start before events d first last ran is) in
-    let next = shown-next T (view first) (view last) d most place n messages answer earlier later run few in
+    let next = shown-next T (view first) (view last) d most place n count messages answer earlier later run few in
     record {
       settles = next.0;
       shown = λ t. sym (take-map message_of n (drop place last.settled)) ∙ ap (take n) (sym (drop-map message_of place last.settled)) ∙ next.1 t;

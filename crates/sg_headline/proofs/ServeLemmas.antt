@@ -160,9 +160,9 @@ others-call old new (Admit i records) (Admitted (Ok vs)) s d x serves at h not =
     served-one old new s (AdmitAct i records vs) d (Keeps x) serves.does at (keeps-claims i (next_of s i) s.dests (claims_of records) vs d x h)
 others-call old new (Admit i records) (Admitted (Err refused)) s d x serves at h not = served-one old new s Look d (Keeps x) serves.does at (still s.dests d x h)
 others-call old new (Front e most) (FrontReply result) s d x serves at h not = served-one old new s Look d (Keeps x) serves.does at (still s.dests d x h)
-others-call old new (Settle e place n) (SettledReply Done) s d x serves at h not = served-one old new s (SettleAct e n) d (Keeps x) serves.does at (passed-by s.dests d e (settled_some n) x h not)
-others-call old new (Settle e place n) (SettledReply NotFront) s d x serves at h not = served-one old new s Look d (Keeps x) serves.does at (still s.dests d x h)
-others-call old new (Settle e place n) (SettledReply DiskFailed) s d x serves at h not = served-one old new s (SettleAct e n) d (Keeps x) serves.does at (passed-by s.dests d e (settled_some n) x h not)
+others-call old new (Settle e place n count) (SettledReply Done) s d x serves at h not = served-one old new s (SettleAct e n) d (Keeps x) serves.does at (passed-by s.dests d e (settled_some n) x h not)
+others-call old new (Settle e place n count) (SettledReply NotFront) s d x serves at h not = served-one old new s Look d (Keeps x) serves.does at (still s.dests d x h)
+others-call old new (Settle e place n count) (SettledReply DiskFailed) s d x serves at h not = served-one old new s (SettleAct e n) d (Keeps x) serves.does at (passed-by s.dests d e (settled_some n) x h not)
 others-call old new (Refill e) (Refilled (Moved n)) s d x serves at h not = served-one old new s (RefillAct e n) d (Keeps x) serves.does at (passed-by s.dests d e (refilled_some n) x h not)
 others-call old new (Refill e) (Refilled NoneWaits) s d x serves at h not = served-one old new s Look d (Keeps x) serves.does at (still s.dests d x h)
 others-call old new (Refill e) (Refilled NoRoom) s d x serves at h not = served-one old new s Look d (Keeps x) serves.does at (still s.dests d x h)
@@ -302,16 +302,16 @@ own-front : {E : Type 0} (T : Type 0) (old new : CoreState) (most : ℕ) (result
     → (T → IsTold old.stores x.setup.buffer) → Does old new Look × ShowsBy T (view x) (view x) result
 own-front T old new most result s d x serves at h told = (serves.does, front-shows T old new s d most result x serves at h told)
 
-own-settle : (T : Type 0) (old new : CoreState) (place n : ℕ) (answer : Settled) (s : State) (d : ℕ) (x : Dest) → HasSettled old d place n answer new → IsAt old s → slice_get s.dests d ≡ Some x
-    → Own T old new (Settle d place n) (SettledReply answer) s d x
-own-settle T old new place n Done s d x serves at h =
+own-settle : (T : Type 0) (old new : CoreState) (place n count : ℕ) (answer : Settled) (s : State) (d : ℕ) (x : Dest) → HasSettled old d place n answer new → IsAt old s → slice_get s.dests d ≡ Some x
+    → Own T old new (Settle d place n count) (SettledReply answer) s d x
+own-settle T old new place n count Done s d x serves at h =
     let y = settled-at old new s d n x serves.does at h in
-    served-one old new s (SettleAct d n) d (Stepped T x (Settle d place n) (SettledReply Done)) serves.does at (y.0, (y.1.0, record { setup = y.1.1.0; step = y.1.1.1 }))
-own-settle T old new place n NotFront s d x serves at h =
-    looked T old new (Settle d place n) (SettledReply NotFront) s d x serves.does at h (refl, not-front old s d place n x at h serves.answer)
-own-settle T old new place n DiskFailed s d x serves at h =
+    served-one old new s (SettleAct d n) d (Stepped T x (Settle d place n count) (SettledReply Done)) serves.does at (y.0, (y.1.0, record { setup = y.1.1.0; step = y.1.1.1 }))
+own-settle T old new place n count NotFront s d x serves at h =
+    looked T old new (Settle d place n count) (SettledReply NotFront) s d x serves.does at h (refl, not-front old s d place n x at h serves.answer)
+own-settle T old new place n count DiskFailed s d x serves at h =
     let y = settled-at old new s d n x serves.does at h in
-    served-one old new s (SettleAct d n) d (Stepped T x (Settle d place n) (SettledReply DiskFailed)) serves.does at (y.0, (y.1.0, record { setup = y.1.1.0; step = y.1.1.1 }))
+    served-one old new s (SettleAct d n) d (Stepped T x (Settle d place n count) (SettledReply DiskFailed)) serves.does at (y.0, (y.1.0, record { setup = y.1.1.0; step = y.1.1.1 }))
 
 own-refill : (T : Type 0) (old new : CoreState) (answer : Refilling) (s : State) (d : ℕ) (x : Dest) → HasRefilled old d answer new → IsAt old s → slice_get s.dests d ≡ Some x → Own T old new (Refill d) (Refilled answer) s d x
 own-refill T old new (Moved n) s d x serves at h =
@@ -330,11 +330,11 @@ own-call T old new (Front e most) (FrontReply result) s d x serves at h own told
     let here = subst (λ (k : ℕ). slice_get s.dests k ≡ Some x) (sym q) h in
     let both = own-front T old new most result s e x serves at here told in
     looked T old new (Front e most) (FrontReply result) s d x both.0 at h both.1
-own-call T old new (Settle e place n) (SettledReply answer) s d x serves at h own told =
+own-call T old new (Settle e place n count) (SettledReply answer) s d x serves at h own told =
     let q = equal-of d e own in
     let here = subst (λ (k : ℕ). slice_get s.dests k ≡ Some x) (sym q) h in
-    let P : ℕ → Type 0 = λ k. Served old new s (acts_in (Settle e place n) (SettledReply answer)) k (Stepped T x (Settle e place n) (SettledReply answer)) in
-    subst P q (own-settle T old new place n answer s e x serves at here)
+    let P : ℕ → Type 0 = λ k. Served old new s (acts_in (Settle e place n count) (SettledReply answer)) k (Stepped T x (Settle e place n count) (SettledReply answer)) in
+    subst P q (own-settle T old new place n count answer s e x serves at here)
 own-call T old new (Refill e) (Refilled answer) s d x serves at h own told =
     let q = equal-of d e own in
     let here = subst (λ (k : ℕ). slice_get s.dests k ≡ Some x) (sym q) h in

@@ -49,7 +49,7 @@ SettlesBy old new place n DiskFailed = SettlesSome old new n
 
 abbrev pub Step : Type 0 → View → View → CoreCall → CoreReply → Type 0
 Step T old new (Front d most) (FrontReply result) = ShowsBy T old new result
-Step T old new (Settle d place n) (SettledReply answer) = SettlesBy old new place n answer
+Step T old new (Settle d place n count) (SettledReply answer) = SettlesBy old new place n answer
 Step T old new (Refill d) (Refilled answer) = new ≡ old
 Step T old new call reply = ⊥
 
@@ -100,7 +100,7 @@ refill-step : (T : Type 0) (a b : View) (d : ℕ) (reply : CoreReply) → Step T
 refill-step T a b d (Refilled answer) s = (s, refl)
 refill-step T a b d reply s = absurd s
 
-refill-tail : (T : Type 0) (d : ℕ) (well : Bool) (made : List Exchange) (v w : View) → Refills d well made → Run T v made w → (w.settled ≡ v.settled) × (shown_in made ≡ [])
+pub refill-tail : (T : Type 0) (d : ℕ) (well : Bool) (made : List Exchange) (v w : View) → Refills d well made → Run T v made w → (w.settled ≡ v.settled) × (shown_in made ≡ [])
 refill-tail T d true [] v w f r = absurd f
 refill-tail T d true (x ∷ []) v w f (a, (g, (b, (s, r)))) =
     let one = refill-step T a b d x.reply (subst (λ c. Step T a b c x.reply) f s) in
@@ -110,11 +110,11 @@ refill-tail T d false [] v w f r = (r.settled, refl)
 refill-tail T d false (x ∷ rest) v w f r = absurd f
 
 -- a settle
-settle-step : (T : Type 0) (a b : View) (d place n : ℕ) (reply : CoreReply) → Step T a b (Settle d place n) reply → place ≡ length a.settled → n ≤ length a.left → SettlesSome a b n × (shown_by reply ≡ [])
-settle-step T a b d place n (SettledReply Done) s p l = (s, refl)
-settle-step T a b d place n (SettledReply NotFront) s p l = absurd (s.1 p l)
-settle-step T a b d place n (SettledReply DiskFailed) s p l = (s, refl)
-settle-step T a b d place n reply s p l = absurd s
+settle-step : (T : Type 0) (a b : View) (d place n count : ℕ) (reply : CoreReply) → Step T a b (Settle d place n count) reply → place ≡ length a.settled → n ≤ length a.left → SettlesSome a b n × (shown_by reply ≡ [])
+settle-step T a b d place n count (SettledReply Done) s p l = (s, refl)
+settle-step T a b d place n count (SettledReply NotFront) s p l = absurd (s.1 p l)
+settle-step T a b d place n count (SettledReply DiskFailed) s p l = (s, refl)
+settle-step T a b d place n count reply s p l = absurd s
 
 take-take : (n k : ℕ) (xs : List Content) → n ≤ k → take n (take k xs) ≡ take n xs
 take-take zero k xs h = refl
@@ -143,35 +143,35 @@ shown-settled T a b c e place n messages (same, _, few, told) g h s =
       told = λ t. first ∙ sym (take-take n (length messages) a.left h) ∙ ap (take n) (sym (told t));
     }
 
-can-settle : (T : Type 0) (a b c : View) (place n : ℕ) (messages : List Content) → Shows T a b (Entries place messages) → Grows b c → n ≤ length messages → (place ≡ length c.settled) × (n ≤ length c.left)
+pub can-settle : (T : Type 0) (a b c : View) (place n : ℕ) (messages : List Content) → Shows T a b (Entries place messages) → Grows b c → n ≤ length messages → (place ≡ length c.settled) × (n ≤ length c.left)
 can-settle T a b c place n messages (same, at, few, told) g h =
     let l = ap (λ (u : View). length u.left) same in
     let stay = first-stay b c n g (omega (arith, l, few, h)) in
     (at ∙ ap (λ (u : View). length u.settled) (sym same) ∙ ap length (sym g.settled), stay.0)
 
-settles-more : (T : Type 0) (d place n : ℕ) (reply : CoreReply) (a b c e w : View) (messages shown : List Content) → Shows T a b (Entries place messages) → Grows b c → Step T c e (Settle d place (suc n)) reply
+settles-more : (T : Type 0) (d place n count : ℕ) (reply : CoreReply) (a b c e w : View) (messages shown : List Content) → Shows T a b (Entries place messages) → Grows b c → Step T c e (Settle d place (suc n) count) reply
     → w.settled ≡ e.settled → messages ++ shown ≡ messages ++ shown_by reply → suc n ≤ length (messages ++ shown) → Adds T a w (suc n) (take (suc n) (messages ++ shown))
-settles-more T d place n (SettledReply answer) a b c e w messages shown shows g s same none h =
+settles-more T d place n count (SettledReply answer) a b c e w messages shown shows g s same none h =
     let all : messages ++ shown ≡ messages = none ∙ append-nil messages in
     let few : suc n ≤ length messages = (let l = ap length all in omega (arith, l, h)) in
     let can = can-settle T a b c place (suc n) messages shows g few in
-    let done = settle-step T c e d place (suc n) (SettledReply answer) s can.0 can.1 in
+    let done = settle-step T c e d place (suc n) count (SettledReply answer) s can.0 can.1 in
     let one = shown-settled T a b c e place (suc n) messages shows g few done.0 in
     record { added = one.added; settled = same ∙ one.settled; count = one.count; told = λ t. one.told t ∙ ap (take (suc n)) (sym all) }
-settles-more T d place n reply a b c e w messages shown shows g s same none h = absurd s
+settles-more T d place n count reply a b c e w messages shown shows g s same none h = absurd s
 
 -- what a turn settles behind its front
-settles-first : (T : Type 0) (d place taken : ℕ) (well : Bool) (made : List Exchange) (a b w : View) (messages : List Content) → Shows T a b (Entries place messages) → Run T b made w
-    → SettlesFirst d place taken well made → taken ≤ length (messages ++ shown_in made) → Adds T a w taken (take taken (messages ++ shown_in made))
-settles-first T d place zero well made a b w messages shows r f h =
+settles-first : (T : Type 0) (d place taken count : ℕ) (well : Bool) (made : List Exchange) (a b w : View) (messages : List Content) → Shows T a b (Entries place messages) → Run T b made w
+    → SettlesFirst d place taken count well made → taken ≤ length (messages ++ shown_in made) → Adds T a w taken (take taken (messages ++ shown_in made))
+settles-first T d place zero count well made a b w messages shows r f h =
     let t = refill-tail T d well made b w f r in
     adds-none T a w (t.0 ∙ ap (λ (u : View). u.settled) shows.0)
-settles-first T d place (suc n) well [] a b w messages shows r f h = absurd f
-settles-first T d place (suc n) well (x ∷ made) a b w messages shows (c, (g, (e, (s, r)))) f h =
+settles-first T d place (suc n) count well [] a b w messages shows r f h = absurd f
+settles-first T d place (suc n) count well (x ∷ made) a b w messages shows (c, (g, (e, (s, r)))) f h =
     let tail = refill-tail T d (well && is_done x.reply) made e w f.1 r in
     let step = subst (λ call. Step T c e call x.reply) f.0 s in
     let none : messages ++ shown_in (x ∷ made) ≡ messages ++ shown_by x.reply = ap (λ ms. messages ++ (shown_by x.reply ++ ms)) tail.1 ∙ ap (λ ms. messages ++ ms) (append-nil (shown_by x.reply)) in
-    settles-more T d place n x.reply a b c e w messages (shown_in (x ∷ made)) shows g step tail.0 none h
+    settles-more T d place n count x.reply a b c e w messages (shown_in (x ∷ made)) shows g step tail.0 none h
 
 -- a turn
 nothing-made : (T : Type 0) (v a b w : View) (taken : ℕ) (made : List Exchange) (ms : List Content) → Grows v a → b ≡ a → Run T b made w → (made ≡ []) × (taken ≡ 0) → Adds T v w taken (take taken ms)
@@ -183,20 +183,20 @@ nothing-made T v a b w taken made ms g same r (none, z) =
 adds-before : (T : Type 0) (v a w : View) (n : ℕ) (ms : List Content) → Grows v a → Adds T a w n ms → Adds T v w n ms
 adds-before T v a w n ms g h = record { added = h.added; settled = h.settled ∙ ap (λ xs. xs ++ h.added) g.settled; count = h.count; told = h.told }
 
-front-adds : (T : Type 0) (d taken : ℕ) (well : Bool) (reply : CoreReply) (made : List Exchange) (v a b w : View) → Grows v a → Step T a b (Front d 100) reply → Run T b made w → Follows d taken well reply made
+front-adds : (T : Type 0) (d taken count : ℕ) (well : Bool) (reply : CoreReply) (made : List Exchange) (v a b w : View) → Grows v a → Step T a b (Front d 100) reply → Run T b made w → Follows d taken count well reply made
     → taken ≤ length (shown_by reply ++ shown_in made) → Adds T v w taken (take taken (shown_by reply ++ shown_in made))
-front-adds T d taken well (FrontReply (Ok (Entries place []))) made v a b w g s r f h = nothing-made T v a b w taken made (shown_in made) g s.0 r f
-front-adds T d taken well (FrontReply (Ok (Entries place (m ∷ ms)))) made v a b w g s r f h =
-    adds-before T v a w taken (take taken ((m ∷ ms) ++ shown_in made)) g (settles-first T d place taken well made a b w (m ∷ ms) s r f h)
-front-adds T d taken well (FrontReply (Ok Empty)) made v a b w g s r f h = nothing-made T v a b w taken made (shown_in made) g s r f
-front-adds T d taken well (FrontReply (Ok FrontBroken)) made v a b w g s r f h = nothing-made T v a b w taken made (shown_in made) g s r f
-front-adds T d taken well (FrontReply (Err e)) made v a b w g s r f h = nothing-made T v a b w taken made (shown_in made) g s r f
-front-adds T d taken well reply made v a b w g s r f h = absurd s
+front-adds T d taken count well (FrontReply (Ok (Entries place []))) made v a b w g s r f h = nothing-made T v a b w taken made (shown_in made) g s.0 r f
+front-adds T d taken count well (FrontReply (Ok (Entries place (m ∷ ms)))) made v a b w g s r f h =
+    adds-before T v a w taken (take taken ((m ∷ ms) ++ shown_in made)) g (settles-first T d place taken count well made a b w (m ∷ ms) s r f h)
+front-adds T d taken count well (FrontReply (Ok Empty)) made v a b w g s r f h = nothing-made T v a b w taken made (shown_in made) g s r f
+front-adds T d taken count well (FrontReply (Ok FrontBroken)) made v a b w g s r f h = nothing-made T v a b w taken made (shown_in made) g s r f
+front-adds T d taken count well (FrontReply (Err e)) made v a b w g s r f h = nothing-made T v a b w taken made (shown_in made) g s r f
+front-adds T d taken count well reply made v a b w g s r f h = absurd s
 
-turn-adds : (T : Type 0) (d taken : ℕ) (well : Bool) (made : List Exchange) (v w : View) → Run T v made w → Delivers d taken well made → taken ≤ length (shown_in made) → Adds T v w taken (take taken (shown_in made))
-turn-adds T d taken well [] v w r f h = none-taken T v w taken [] f r.settled
-turn-adds T d taken well (x ∷ made) v w (a, (g, (b, (s, r)))) f h =
-    front-adds T d taken well x.reply made v a b w g (subst (λ c. Step T a b c x.reply) f.0 s) r f.1 h
+turn-adds : (T : Type 0) (d taken count : ℕ) (well : Bool) (made : List Exchange) (v w : View) → Run T v made w → Delivers d taken count well made → taken ≤ length (shown_in made) → Adds T v w taken (take taken (shown_in made))
+turn-adds T d taken count well [] v w r f h = none-taken T v w taken [] f r.settled
+turn-adds T d taken count well (x ∷ made) v w (a, (g, (b, (s, r)))) f h =
+    front-adds T d taken count well x.reply made v a b w g (subst (λ c. Step T a b c x.reply) f.0 s) r f.1 h
 
 -- Turns.
 
@@ -213,7 +213,7 @@ pub turns-add : (T : Type 0) (frame : Content → List ℕ) (d : ℕ) (turns : L
 turns-add T frame d [] drain drain' v w are r = adds-none T v w r.settled
 turns-add T frame d (s ∷ rest) drain drain' v w (between, (one, are)) r =
     let parts = run-split T v w s.made (calls_in rest) r in
-    let first = turn-adds T d s.taken s.well s.made v parts.0 parts.1.0 one.delivers one.within in
+    let first = turn-adds T d s.taken between.count s.well s.made v parts.0 parts.1.0 one.delivers one.within in
     adds-then T v parts.0 w s.taken (taken_in rest) (take s.taken (shown_in s.made)) (messages_in rest) first (turns-add T frame d rest between drain' parts.0 w are parts.1.1)
 
 -- what the outlet took
@@ -261,9 +261,9 @@ longer-step T a b (Front d most) (FrontReply (Ok (Entries place messages))) s = 
 longer-step T a b (Front d most) (FrontReply (Ok Empty)) s = longer-same a b (ap (λ (u : View). u.settled) s)
 longer-step T a b (Front d most) (FrontReply (Ok FrontBroken)) s = longer-same a b (ap (λ (u : View). u.settled) s)
 longer-step T a b (Front d most) (FrontReply (Err e)) s = longer-same a b (ap (λ (u : View). u.settled) s)
-longer-step T a b (Settle d place n) (SettledReply Done) s = longer-settle a b n s
-longer-step T a b (Settle d place n) (SettledReply NotFront) s = longer-same a b (ap (λ (u : View). u.settled) s.0)
-longer-step T a b (Settle d place n) (SettledReply DiskFailed) s = longer-settle a b n s
+longer-step T a b (Settle d place n count) (SettledReply Done) s = longer-settle a b n s
+longer-step T a b (Settle d place n count) (SettledReply NotFront) s = longer-same a b (ap (λ (u : View). u.settled) s.0)
+longer-step T a b (Settle d place n count) (SettledReply DiskFailed) s = longer-settle a b n s
 longer-step T a b (Refill d) (Refilled answer) s = longer-same a b (ap (λ (u : View). u.settled) s)
 longer-step T a b call reply s = absurd s
 
@@ -293,15 +293,15 @@ done-of T a b c e place n messages Done shows g h s = (s, λ q. let wrong : Done
 done-of T a b c e place n messages NotFront shows g h s = let can = can-settle T a b c place n messages shows g h in absurd (s.1 can.0 can.1)
 done-of T a b c e place n messages DiskFailed shows g h s = (s, λ q. let wrong : DiskFailed ≡ NotFront = q in cc)
 
-shown-at : (T : Type 0) (v w : View) (d most place n : ℕ) (messages : List Content) (answer : Settled) (later : List Exchange) → Run T v (shown_then_settled d most place n messages answer ++ later) w
+shown-at : (T : Type 0) (v w : View) (d most place n count : ℕ) (messages : List Content) (answer : Settled) (later : List Exchange) → Run T v (shown_then_settled d most place n count messages answer ++ later) w
     → n ≤ length messages → (answer ≢ NotFront) × (T → take n (drop place w.settled) ≡ take n messages)
-shown-at T v w d most place n messages answer later (a, (g, (b, (shows, (c, (g2, (e, (s, rest)))))))) h =
+shown-at T v w d most place n count messages answer later (a, (g, (b, (shows, (c, (g2, (e, (s, rest)))))))) h =
     let done = done-of T a b c e place n messages answer shows g2 h s in
     let adds = shown-settled T a b c e place n messages shows g2 h done.0 in
     (done.1, λ t. at-place T a e w place n (take n messages) shows.1 adds (longer-run T e w later rest) t)
 
-pub shown-next : (T : Type 0) (v w : View) (d most place n : ℕ) (messages : List Content) (answer : Settled) (earlier later : List Exchange) → Run T v (earlier ++ (shown_then_settled d most place n messages answer ++ later)) w
+pub shown-next : (T : Type 0) (v w : View) (d most place n count : ℕ) (messages : List Content) (answer : Settled) (earlier later : List Exchange) → Run T v (earlier ++ (shown_then_settled d most place n count messages answer ++ later)) w
     → n ≤ length messages → (answer ≢ NotFront) × (T → take n (drop place w.settled) ≡ take n messages)
-shown-next T v w d most place n messages answer earlier later run h =
-    let parts = run-split T v w earlier (shown_then_settled d most place n messages answer ++ later) run in
-    shown-at T parts.0 w d most place n messages answer later parts.1.1 h
+shown-next T v w d most place n count messages answer earlier later run h =
+    let parts = run-split T v w earlier (shown_then_settled d most place n count messages answer ++ later) run in
+    shown-at T parts.0 w d most place n count messages answer later parts.1.1 h

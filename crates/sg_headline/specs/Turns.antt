@@ -16,9 +16,9 @@ pub record Sending : Type 0 where
   pub taken : ℕ
   pub well : Bool
 
--- the first entries were asked for, so many of their frames were taken, and just so many were settled
+-- the first entries were asked for, so many of their frames were taken, and just so many were settled, with the outlet's count behind them
 pub record IsSending (frame : Content → List ℕ) (d : ℕ) (s : Sending) (drain drain' : OutletState) : Type 0 where
-  pub delivers : Delivers d s.taken s.well s.made
+  pub delivers : Delivers d s.taken drain'.count s.well s.made
   pub within : s.taken ≤ length (shown_in s.made)
   pub takes : Takes s.taken (map frame (shown_in s.made)) drain drain'
 
@@ -33,6 +33,6 @@ calls_in [] = []
 calls_in (s ∷ rest) = s.made ++ calls_in rest
 
 -- two calls, one behind the other: the first entries were shown, from this place on, and so many of them were to be settled
-abbrev pub shown_then_settled : (d most place n : ℕ) → List Content → Settled → List Exchange
-shown_then_settled d most place n messages answer =
-    record { call = Front d most; reply = FrontReply (Ok (Entries place messages)) } ∷ record { call = Settle d place n; reply = SettledReply answer } ∷ []
+abbrev pub shown_then_settled : (d most place n count : ℕ) → List Content → Settled → List Exchange
+shown_then_settled d most place n count messages answer =
+    record { call = Front d most; reply = FrontReply (Ok (Entries place messages)) } ∷ record { call = Settle d place n count; reply = SettledReply answer } ∷ []

@@ -1,5 +1,5 @@
 // What a destination settles is what its front showed, and what its outlet took.
-ghost use Rattle.sg_headline.specs.Fronts.{FrontsAreNext, FramesAreSettled};
+ghost use Rattle.sg_headline.specs.Fronts.{FrontsAreNext, FramesAreSettled, SettlesAreTaken};
 
 /// Between a destination's front and its own next settle others may call; what is settled then are the entries that
 /// were shown, and the answer is never NotFront.
@@ -11,4 +11,10 @@ pub fn fronts_are_next()
 /// and no fewer. Where the store of a disk-buffer doesn't tell its bytes, they are as many.
 pub fn frames_are_settled()
     ensures { FramesAreSettled }
+{}
+
+/// With each settling a destination shows the count of frames that its outlet told last. Behind the count at first it is
+/// the number of entries settled with it: the frames of all these were taken before they were settled.
+pub fn settles_are_taken()
+    ensures { SettlesAreTaken }
 {}

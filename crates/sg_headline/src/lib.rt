@@ -7,5 +7,5 @@ mod fronts;
 mod texts;
 
 pub use calls::{calls_admit, credit_lasts};
-pub use fronts::{frames_are_settled, fronts_are_next};
+pub use fronts::{frames_are_settled, fronts_are_next, settles_are_taken};
 pub use texts::{drops_are_due, texts_are_taken, windows_stay};

@@ -1,5 +1,5 @@
-//! The real machine's devices as its program opens and closes them, and its standard output. They
-//! count their calls and their faults, and tell nothing of content.
+//! The real machine's devices as its program opens and closes them, its standard output and its timer.
+//! They count their calls and their faults, and tell nothing of content.
 #![tactic(auto)]
 
 mod cells;
@@ -9,6 +9,7 @@ mod paths;
 mod stores;
 mod streams;
 mod threads;
+mod timer;
 
 pub use cells::{InletCell, OutletCell, PathsCell, StoreCell};
 pub use inlets::{HostFeed, HostInlets, OpenedInlet, Source};
@@ -17,3 +18,4 @@ pub use paths::{HostOpener, HostPaths, PathCounts};
 pub use sg_file::{FileDisk, Rest, read_file};
 pub use stores::{HostStore, HostStores};
 pub use streams::{say, tell};
+pub use timer::Timer;

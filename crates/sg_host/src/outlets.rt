@@ -115,11 +115,13 @@ impl HostOutlets {
                 path,
                 fsync,
                 mode,
+                folders,
                 reopen,
             } => {
                 let how = Appending {
                     fsync: *fsync,
                     mode: *mode,
+                    folders: *folders,
                     reopen: *reopen,
                 };
                 let file = FileOutlet::open(alloc, self.rt, path.bytes(), how, rest)?;

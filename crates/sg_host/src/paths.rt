@@ -204,6 +204,7 @@ impl HostPaths {
         let OutletSpec::ByPath {
             fsync,
             mode,
+            folders,
             reopen,
         } = spec
         else {
@@ -217,6 +218,7 @@ impl HostPaths {
             how: Appending {
                 fsync: *fsync,
                 mode: *mode,
+                folders: *folders,
                 reopen: *reopen,
             },
             counts: PathCounts::new(alloc),

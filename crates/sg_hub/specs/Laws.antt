@@ -13,23 +13,23 @@ use Rattle.sg_counter.specs.Exchanges.{Exchange, Makes}
 use Rattle.sg_counter.specs.declared.calls.CoreCall.{CoreCall}
 use Rattle.sg_counter.specs.declared.calls.CoreReply.{CoreReply}
 use Rattle.sg_standing.specs.States.{CoreState, setup_of}
-use Rattle.sg_standing.specs.Standing.{StandsFor}
+use Rattle.sg_standing.specs.Standing.{StandsFor, StandsOn}
 use Rattle.sg_core.specs.Calls.{Serves, acts_of}
 use Rattle.sg_hub.specs.Histories.{Called, exchanges_of}
 use Rattle.sg_hub.specs.Offices.{MayServe, room_of}
 use Rattle.sg_hub.specs.Seats.{HubState, SeatState, SeatStep}
 
--- the core stands for more events, which are those of this history
-abbrev pub StandsThen : List Called → CoreState → State → List Event → Type 0
-StandsThen history core start events = (more : List Event)
+-- the core stands for more events, which are those of this history, and the rows so far stay
+abbrev pub StandsThen : List Called → CoreState → State → List Event → (ℕ → ℕ → ℕ) → Type 0
+StandsThen history core start events rows = (more : List Event)
     × (map (λ (event : Event). event.act) more ≡ acts_of (exchanges_of history))
-    × StandsFor core start (events ++ more)
+    × StandsOn core start events more rows
 
 -- a history is legal: a core that it gives stands for its events
 abbrev pub HistoriesStand : Type 0
 HistoriesStand = (old new : CoreState) (history : List Called) (start : State) (events : List Event)
-    → MakesAll Serves old history new → StandsFor old start events
-    → StandsThen history new start events
+    → MakesAll Serves old history new → (stood : StandsFor old start events)
+    → StandsThen history new start events stood.moments.rows
 
 -- no call changes the setup
 abbrev pub HistoriesKeepSetup : Type 0
@@ -42,9 +42,9 @@ LiesStanding = (made : CoreState) (turns : ℕ) (s : TableState
     (Option (Held CoreState CoreCall CoreReply)) (Notes CoreState CoreCall CoreReply))
     (held : Held CoreState CoreCall CoreReply)
     (start : State) (events : List Event) → IsKept Serves MayServe room_of made turns s
-    → s.homes ≡ some (Some held) ∷ [] → StandsFor made start events
+    → s.homes ≡ some (Some held) ∷ [] → (stood : StandsFor made start events)
     → (history : List Called) × (slice_index s.words 1 ≡ length history)
-    × StandsThen history held.office start events
+    × StandsThen history held.office start events stood.moments.rows
 
 -- Calls at a seat, one after another: it stays a seat of its hub, has seen more, and these calls, in order, stand in the history behind
 -- its own calls before.

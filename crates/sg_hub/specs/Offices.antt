@@ -10,7 +10,7 @@ abbrev pub MayCall : Setup → CoreCall → Type 0
 MayCall setup (Credit i) = i < length setup.sources
 MayCall setup (Admit i records) = (i < length setup.sources) × IsBatch setup records
 MayCall setup (Front d most) = (d < length setup.dests) × (0 < most) × (most ≤ 1000)
-MayCall setup (Settle d place n) = (d < length setup.dests) × (0 < n)
+MayCall setup (Settle d place n count) = (d < length setup.dests) × (0 < n)
 MayCall setup (Refill d) = d < length setup.dests
 MayCall setup (Store i) = (i < length setup.sources) × IsSome (store_in setup.sources i)
 

@@ -71,7 +71,12 @@ fn serve<D: Disk>(core: &mut Core<D>, alloc: Global, call: CoreCall) -> CoreRepl
         CoreCall::Credit(i) => CoreReply::Credit(core.credit(i)),
         CoreCall::Admit { inlet, records } => admit(core, alloc, inlet, records),
         CoreCall::Front { dest, most } => CoreReply::Front(core.front(alloc, dest, most)),
-        CoreCall::Settle { dest, place, n } => CoreReply::Settled(core.settle(dest, place, n)),
+        CoreCall::Settle {
+            dest,
+            place,
+            n,
+            count: _,
+        } => CoreReply::Settled(core.settle(dest, place, n)),
         CoreCall::Refill(d) => CoreReply::Refilled(core.refill(d)),
         CoreCall::Store(i) => CoreReply::Stored(core.store(i)),
     }

@@ -1,6 +1,8 @@
 // A seat lends the calls of its hub's core.
-ghost use Rattle.std.specs.Prelude.{◌≡◌, ◌<◌, Ok, Err, MatchResult, IfErr};
+ghost use Rattle.std.specs.Prelude.{◌≡◌, ◌≤◌, ◌<◌, ◌+◌, Ok, Err, MatchResult, IfErr, length};
 ghost use Rattle.sg_booth.specs.Desks.{IsDeskOf};
+ghost use Rattle.sg_device.specs.Outlet.{count_of};
+ghost use Rattle.sg_standing.specs.States.{setup_of};
 ghost use Rattle.sg_counter.specs.Bringing.{records_back};
 ghost use Rattle.sg_counter.specs.declared.calls.CoreCall.{CoreCall as ACall};
 ghost use Rattle.sg_counter.specs.declared.calls.CoreReply.{CoreReply as AReply};
@@ -8,8 +10,10 @@ ghost use Rattle.sg_hub.specs.Offices.{MayServe};
 ghost use Rattle.sg_hub.specs.Seats.{SeatStep};
 
 use crate::hub::{Hub, Seat};
-use sg_counter::{CoreCall, CoreFront, CoreReply, Counter, Refill, Refused, Settled, Stored};
-use sg_device::{Disk, NoMemory};
+use sg_counter::{
+    CoreCall, CoreFront, CoreReply, Counter, Refill, Refused, Settled, Settler, Stored,
+};
+use sg_device::{Disk, NoMemory, Outlet, Taken};
 use sg_list::Seq;
 use sg_machine::{Admission, Verdict};
 use std::alloc::Global;
@@ -82,21 +86,28 @@ fn front_at<T: Wait, D: Disk>(
     }
 }
 
-fn settle_at<T: Wait, D: Disk>(
+fn settle_at<T: Wait, D: Disk, O: Outlet>(
     hub: &Hub<D>,
     rt: &T,
     seat: &mut Seat<D>,
     dest: u32,
     place: u64,
     n: u32,
+    taken: Taken<O>,
 ) -> Settled
     requires seat { IsDeskOf hub.now seat.old }
     requires left { 0 < seat.old.left }
-    requires may { MayServe hub.now.made (ACall.Settle dest place n) }
-    ensures step { SeatStep hub.entry.now seat.old (ACall.Settle dest place n)
-        (AReply.Settled result) seat.new }
+    requires may { MayServe hub.now.made (ACall.Settle dest place n (count_of taken)) }
+    ensures step { SeatStep hub.entry.now seat.old
+        (ACall.Settle dest place n (count_of taken)) (AReply.Settled result) seat.new }
 {
-    match hub.turn(rt, seat, CoreCall::Settle { dest, place, n }) {
+    let call = CoreCall::Settle {
+        dest,
+        place,
+        n,
+        count: taken.count(),
+    };
+    match hub.turn(rt, seat, call) {
         CoreReply::Settled(settled) => settled,
         _ => unreachable!(),
     }
@@ -163,15 +174,28 @@ impl<'a, D: Disk> Counter for HubSeat<'a, D> {
         front_at(self.hub, rt, self.seat, d, most)
     }
 
-    fn settle<T: Wait>(&mut self, rt: &T, d: u32, place: u64, n: u32) -> Settled {
-        settle_at(self.hub, rt, self.seat, d, place, n)
-    }
-
     fn refill<T: Wait>(&mut self, rt: &T, d: u32) -> Refill {
         refill_at(self.hub, rt, self.seat, d)
     }
 
     fn store<T: Wait>(&mut self, rt: &T, i: u32) -> Stored {
         store_at(self.hub, rt, self.seat, i)
+    }
+}
+
+/// It settles what any outlet has taken.
+impl<'a, D: Disk, O: Outlet> Settler<O> for HubSeat<'a, D> {
+    fn settle<T: Wait>(&mut self, rt: &T, d: u32, place: u64, n: u32, taken: Taken<O>) -> Settled
+        requires left { 0 < self.old.seat.now.left }
+        requires dest { d < length (setup_of self.old.hub.now.made).dests }
+        requires some { 0 < n }
+        ensures step { (self.new.seat.ghost_name ≡ self.old.seat.ghost_name)
+            × (self.new.hub ≡ self.old.hub)
+            × SeatStep self.old.hub.now self.old.seat.now
+            (ACall.Settle d place n (count_of taken)) (AReply.Settled result) self.new.seat.now }
+        ensures setup { setup_of self.new.hub.now.made ≡ setup_of self.old.hub.now.made }
+        ensures left { self.old.seat.now.left ≤ self.new.seat.now.left + 1 }
+    {
+        settle_at(self.hub, rt, self.seat, d, place, n, taken)
     }
 }

@@ -53,8 +53,8 @@ not-many named paths line bounded beyond =
 
 pub not-refused : (read new : WorldState) (config other : Config) (fault : ConfigFault) → CanBeCompiled config → AreAlike config other → ¬ Rose read.build_faults new.build_faults
     → IsUncompiled read new other fault → ⊥
-not-refused read new config other fault can alike calm (BadPattern line, bad, is) = not-bad (patterns_in other.forest) line (subst AreValid alike.patterns can.patterns) bad
-not-refused read new config other fault can alike calm (PatternTooLarge line, large, is) = calm large.rose
+not-refused read new config other fault can alike calm (BadPattern line, bad, is) = not-bad (patterns_in other.forest) line (subst AreValid alike.patterns can.patterns) bad.bad
+not-refused read new config other fault can alike calm (PatternTooLarge line, large, is) = calm large.large.rose
 not-refused read new config other fault can alike calm (TooManyOffers line, (valid, beyond), is) =
     not-many other.forest.filters.items other.forest.paths.items line (subst (λ w. IsBounded w.tops) alike.woods can.bounded) beyond
 not-refused read new config other fault can alike calm (LacksMemory, free, is) = is

@@ -5,7 +5,7 @@ use Rattle.sg_device.specs.declared.fault.OpenRefusal.{OpenRefusal}
 use Rattle.sg_device.specs.declared.fault.OpenRefusal.TheVariants.{Failed, NoMemory as OpenNoMemory}
 use Rattle.sg_device.specs.declared.fault.OutletFault.{OutletFault}
 use Rattle.sg_device.specs.declared.fault.SendRefusal.{SendRefusal}
-use Rattle.sg_device.specs.declared.fault.SendRefusal.TheVariants.{Fault, NoMemory}
+use Rattle.sg_device.specs.declared.fault.SendRefusal.TheVariants.{Fault, Later as SendLater, NoMemory}
 use Rattle.sg_device.specs.declared.outlet.Reopened.{Reopened}
 use Rattle.sg_device.specs.declared.outlet.Reopened.TheVariants.{Ready, Later}
 use Rattle.sg_memory_disk.specs.Plan.{fails_now}
@@ -36,6 +36,7 @@ OpenFails fails (Err OpenNoMemory) = fails ≡ false
 abbrev pub SendFails : Bool → Result Unit SendRefusal → Type 0
 SendFails fails (Ok done) = fails ≡ false
 SendFails fails (Err Fault) = fails ≡ true
+SendFails fails (Err SendLater) = ⊥
 SendFails fails (Err NoMemory) = fails ≡ false
 
 abbrev pub ReopenFails : MemoryPaths → Result Reopened OutletFault → Type 0

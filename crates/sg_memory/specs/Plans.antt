@@ -6,9 +6,9 @@ use Rattle.sg_memory.specs.declared.plans.OutletPlan.{OutletPlan}
 use Rattle.sg_memory.specs.declared.plans.PathsPlan.{PathsPlan}
 use Rattle.sg_memory.specs.declared.plans.WorldPlans.{WorldPlans}
 
--- no call fails, and no reopening is too early
+-- no call fails, and none is too early
 abbrev pub IsOutletQuiet : OutletPlan → Type 0
-IsOutletQuiet plan = IsQuiet plan.fails × IsQuiet plan.laters
+IsOutletQuiet plan = IsQuiet plan.fails × IsQuiet plan.laters × IsQuiet plan.waits
 
 abbrev pub IsPathsQuiet : PathsPlan → Type 0
 IsPathsQuiet plan = IsQuiet plan.fails × IsQuiet plan.laters
@@ -40,7 +40,7 @@ abbrev pub IsFirstPaths : List PathsPlan → PathsPlan → Type 0
 IsFirstPaths [] plan = IsPathsQuiet plan
 IsFirstPaths (first ∷ plans) plan = plan ≡ first
 
--- no call fails, of the machine and of the devices that it opens
+-- no call fails, of the machine and of the devices that it opens, and nothing is due
 pub record AreQuiet (plans : WorldPlans) : Type 0 where
   pub reads : IsQuiet plans.reads
   pub inlet_opens : IsQuiet plans.inlet_opens
@@ -48,6 +48,7 @@ pub record AreQuiet (plans : WorldPlans) : Type 0 where
   pub paths_opens : IsQuiet plans.paths_opens
   pub says : IsQuiet plans.says
   pub builds : IsQuiet plans.builds
+  pub dues : IsQuiet plans.dues
   pub inlets : AreInletsQuiet plans.inlets.items
   pub outlets : AreOutletsQuiet plans.outlets.items
   pub paths : ArePathsQuiet plans.paths.items

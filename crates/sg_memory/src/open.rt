@@ -5,7 +5,7 @@ ghost use Rattle.sg_device.specs.Outlet.{Sends};
 ghost use Rattle.sg_memory.specs.Inlet.{PullsByPlan};
 ghost use Rattle.sg_memory.specs.Open.{feed_of, drain_of, opener_of};
 ghost use Rattle.sg_memory.specs.Outlet.{SendFails};
-ghost use Rattle.sg_memory_disk.specs.Plan.{after_call, fails_now};
+ghost use Rattle.sg_memory_disk.specs.Plan.{after_call};
 
 use crate::cells::{InletCell, OutletCell, PathsCell};
 use crate::{MemoryInlet, MemoryOutlet, MemoryPaths};
@@ -58,9 +58,11 @@ impl Outlet for MemoryDrain {
     fn send(&mut self, frames: &Frames) -> Result<(), SendRefusal>
         requires { frames.now ≢ [] }
         ensures sends { Sends (drain_of self.old) (drain_of self.new) frames.now result }
-        ensures fails { SendFails (fails_now self.old.outlet.plan.fails) result }
-        ensures plan { self.new.outlet.plan
-            ≡ record self.old.outlet.plan { fails = after_call self.old.outlet.plan.fails } }
+        ensures fails { SendFails self.old.outlet result }
+        ensures plan { self.new.outlet.plan ≡ record self.old.outlet.plan {
+          fails = after_call self.old.outlet.plan.fails;
+          waits = after_call self.old.outlet.plan.waits;
+        } }
     {
         self.outlet.send(frames)
     }

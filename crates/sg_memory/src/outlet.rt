@@ -44,19 +44,20 @@ impl MemoryOutlet {
 
 impl Outlet for MemoryOutlet {
     ghost use Rattle.sg_memory.specs.Outlet.{outlet_of, SendFails, ReopenFails};
-    ghost use Rattle.sg_memory_disk.specs.Plan.{after_call, fails_now};
+    ghost use Rattle.sg_memory_disk.specs.Plan.{after_call};
 
     ghost state = { outlet_of };
 
     fn send(&mut self, frames: &Frames) -> Result<(), SendRefusal>
         requires { frames.now ≢ [] }
         ensures sends { Sends (outlet_of self.old) (outlet_of self.new) frames.now result }
-        ensures fails { SendFails (fails_now self.old.plan.fails) result }
-        ensures plan { self.new.plan
-            ≡ record self.old.plan { fails = after_call self.old.plan.fails } }
+        ensures fails { SendFails self.old result }
+        ensures plan { self.new.plan ≡ record self.old.plan
+            { fails = after_call self.old.plan.fails; waits = after_call self.old.plan.waits } }
     {
-        let fails = self.plan.fails.next();
-        let wanted = if fails {
+        let waits = self.plan.waits.next();
+        let fails = self.plan.fails.next() || (waits && self.laters == u64::MAX);
+        let wanted = if fails || waits {
             self.plan.first.min(frames.len() - 1)
         } else {
             frames.len()
@@ -69,6 +70,10 @@ impl Outlet for MemoryOutlet {
             self.faults = self.faults.saturating_add(1);
             self.failing = self.failing.saturating_add(1);
             return Err(SendRefusal::Fault);
+        }
+        if waits {
+            self.laters += 1;
+            return Err(SendRefusal::Later);
         }
         if count < frames.len() {
             return Err(SendRefusal::NoMemory);

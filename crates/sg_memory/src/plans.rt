@@ -12,10 +12,13 @@ use std::collections::VecDeque;
 pub struct OutletPlan {
     /// The sends and reopenings that fail, counted together.
     pub fails: Plan,
-    /// The frames that a send takes before it fails, or all but one of them where there are fewer.
+    /// The frames that a send takes before it fails or answers Later, or all but one of them where
+    /// there are fewer.
     pub first: usize,
     /// The reopenings that answer Later, where they don't fail.
     pub laters: Plan,
+    /// The sends that answer Later, where they don't fail.
+    pub waits: Plan,
 }
 
 impl OutletPlan {
@@ -30,11 +33,13 @@ impl OutletPlan {
     pub fn failing(alloc: Global, fails: Plan) -> OutletPlan
         ensures fails { result.fails ≡ fails }
         ensures laters { IsQuiet result.laters }
+        ensures waits { IsQuiet result.waits }
     {
         OutletPlan {
             fails,
             first: 0,
             laters: Plan::never(alloc),
+            waits: Plan::never(alloc),
         }
     }
 }
@@ -70,6 +75,8 @@ pub struct WorldPlans {
     pub says: Plan,
     /// The patterns that are too large.
     pub builds: Plan,
+    /// The questions for the time that are answered by true.
+    pub dues: Plan,
     /// The plans of the inlets that will be opened, in order. No call fails of those behind them.
     pub inlets: VecDeque<Plan>,
     /// The same of the outlets.
@@ -79,7 +86,7 @@ pub struct WorldPlans {
 }
 
 impl WorldPlans {
-    /// No call fails.
+    /// No call fails, and nothing is ever due.
     pub fn never(alloc: Global) -> WorldPlans
         ensures { AreQuiet result }
     {
@@ -90,6 +97,7 @@ impl WorldPlans {
             paths_opens: Plan::never(alloc),
             says: Plan::never(alloc),
             builds: Plan::never(alloc),
+            dues: Plan::never(alloc),
             inlets: VecDeque::new(alloc),
             outlets: VecDeque::new(alloc),
             paths: VecDeque::new(alloc),

@@ -1,6 +1,6 @@
 // A machine in memory: files by name, devices over them, and the bytes said.
 ghost use Rattle.std.specs.Prelude.{◌≡◌, ◌≤◌, ◌||◌, ◌++◌, ◌∷◌, [], false, is_none, MatchResult, IfOk, OnOk, OnErr};
-ghost use Rattle.std.specs.Bool.{OnTrue};
+ghost use Rattle.std.specs.Bool.{OnFalse, OnTrue};
 ghost use Rattle.sg_device.specs.Faults.{Rose};
 ghost use Rattle.sg_outside.specs.World.{Reads, InletOpens, InletRefused, OutletOpens, OutletRefused, StoreOpens, StoreRefused, PathsOpen, PathsRefused, ClosesInlet, ClosesOutlet, ClosesStore, ClosesPaths, OnlyBuilds, Says};
 ghost use Rattle.sg_memory_disk.specs.Plan.{IsQuiet, after_call, failing, fails_now};
@@ -404,6 +404,7 @@ impl MemoryWorld {
     pub fn fails_build(&mut self) -> bool
         ensures only { OnlyBuilds (world_of self.old) (world_of self.new) }
         ensures rose { OnTrue result (Rose self.old.build_faults self.new.build_faults) }
+        ensures calm { OnFalse result (self.new.build_faults ≡ self.old.build_faults) }
         ensures fails { result ≡ fails_now self.old.plans.builds }
         ensures plans { self.new.plans
             ≡ record self.old.plans { builds = after_call self.old.plans.builds } }
@@ -439,6 +440,17 @@ impl MemoryWorld {
         }
         self.said.extend_from_slice(bytes)?;
         Ok(())
+    }
+
+    /// Counts a question for the time, and tells whether something is due.
+    pub fn is_due(&mut self) -> bool
+        ensures same { world_of self.new ≡ world_of self.old }
+        ensures due { result ≡ fails_now self.old.plans.dues }
+        ensures plans { self.new.plans
+            ≡ record self.old.plans { dues = after_call self.old.plans.dues } }
+        ensures quiet { AreQuiet self.old.plans → AreQuiet self.new.plans }
+    {
+        self.plans.dues.next()
     }
 
     /// Keeps a hint for the operator, where there is memory for it.

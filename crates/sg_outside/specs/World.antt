@@ -177,9 +177,9 @@ StoreRefused old new OpenNoMemory = (new ≡ record old { store_faults = new.sto
 
 -- the paths of the files come with their texts
 abbrev pub IsByPath : OutletSpec → Type 0
-IsByPath (OutletFile path fsync mode reopen) = ⊥
+IsByPath (OutletFile path fsync mode folders reopen) = ⊥
 IsByPath (Tcp host port reopen) = ⊥
-IsByPath (ByPath fsync mode reopen) = Unit {0}
+IsByPath (ByPath fsync mode folders reopen) = Unit {0}
 
 abbrev pub PathsOpen : WorldState → WorldState → OutletSpec → PathsState → Type 0
 PathsOpen old new spec opener = (new

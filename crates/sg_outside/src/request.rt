@@ -77,6 +77,9 @@ pub enum OutletSpec {
         path: Name,
         fsync: bool,
         mode: u16,
+        /// The mode of the folders on the way to a file that is made (`dir-perm()`), where missing ones
+        /// are made too (`create-dirs(yes)`).
+        folders: Option<u16>,
         reopen: u32,
     },
     /// A TCP connection to this host.
@@ -89,6 +92,7 @@ pub enum OutletSpec {
     ByPath {
         fsync: bool,
         mode: u16,
+        folders: Option<u16>,
         reopen: u32,
     },
 }
@@ -103,11 +107,13 @@ impl OutletSpec {
                 path,
                 fsync,
                 mode,
+                folders,
                 reopen,
             } => Ok(OutletSpec::File {
                 path: path.copy()?,
                 fsync: *fsync,
                 mode: *mode,
+                folders: *folders,
                 reopen: *reopen,
             }),
             OutletSpec::Tcp { host, port, reopen } => Ok(OutletSpec::Tcp {
@@ -118,10 +124,12 @@ impl OutletSpec {
             OutletSpec::ByPath {
                 fsync,
                 mode,
+                folders,
                 reopen,
             } => Ok(OutletSpec::ByPath {
                 fsync: *fsync,
                 mode: *mode,
+                folders: *folders,
                 reopen: *reopen,
             }),
         }

@@ -1,11 +1,11 @@
 -- What building a pattern answers.
-use Rattle.std.specs.Prelude.{◌≡◌, ℕ, Bool, List, [], None, Result, Ok, Err, IsSomeAnd}
+use Rattle.std.specs.Prelude.{◌≡◌, ℕ, Bool, List, [], None, Result, Ok, Err, IsSome, IsSomeAnd}
 use Rattle.sg_device.specs.Faults.{Rose}
 use Rattle.sg_outside.specs.World.{WorldState, OnlyBuilds}
 use Rattle.regex.specs.Patterns.{Re, SameCaptures}
 use Rattle.regex.specs.Bytes.{regex_pattern}
 use Rattle.regex.specs.declared.bytes.regex.Regex as kit
-use Rattle.sg_pattern.specs.Pattern.{Pattern, regex_of, pattern_of, IsNoPattern}
+use Rattle.sg_pattern.specs.Pattern.{Pattern, regex_of, pattern_of, IsValid, IsNoPattern}
 use Rattle.sg_pattern.specs.declared.pattern.Kind.TheVariants.{Regex}
 use Rattle.sg_pattern.specs.declared.fault.BuildFault.{BuildFault}
 use Rattle.sg_pattern.specs.declared.fault.BuildFault.TheVariants.{Syntax, TooLarge, NoMemory}
@@ -41,23 +41,32 @@ MatchesAs ignore_case text re = IsSomeAnd (regex_of ignore_case text) (SameCaptu
 
 abbrev pub Builds : WorldState → WorldState → List ℕ → Bool → Result kit.Regex BuildFault → Type 0
 Builds old new text ignore_case (Ok regex) = OnlyBuilds old new
-    × MatchesAs ignore_case text (regex_pattern regex)
+    × MatchesAs ignore_case text (regex_pattern regex) × (new.build_faults ≡ old.build_faults)
 Builds old new text ignore_case (Err Syntax) = OnlyBuilds old new
     × (regex_of ignore_case text ≡ None)
 Builds old new text ignore_case (Err TooLarge) = OnlyBuilds old new
-    × Rose old.build_faults new.build_faults
+    × Rose old.build_faults new.build_faults × IsSome (regex_of ignore_case text)
 Builds old new text ignore_case (Err NoMemory) = OnlyBuilds old new
 
--- why a pattern was refused
+-- a regular expression of the pattern, as the builder makes it
+pub record IsBuilt (p : Pattern) : Type 0 where
+  pub regex : kit.Regex
+  pub matches : MatchesAs p.flags.ignore_case p.text (regex_pattern regex)
+
+-- one was made of it, where it is of that kind
+abbrev pub WasMade : Pattern → Type 0
+WasMade p = p.kind ≡ Regex → IsBuilt p
+
+-- why a pattern was refused: what is too large is a pattern
 abbrev pub RefusesPattern : WorldState → WorldState → Pattern → PatternRefusal → Type 0
 RefusesPattern old new p refusal.Syntax = IsNoPattern p
 RefusesPattern old new p refusal.TooLarge = (p.kind ≡ Regex)
-    × Rose old.build_faults new.build_faults
+    × Rose old.build_faults new.build_faults × IsValid p
 RefusesPattern old new p refusal.NoMemory = Unit {0}
 
 -- why nothing was made of a pattern that a configuration writes
 abbrev pub RefusesText : WorldState → WorldState → PatternText → BuildRefusal → Type 0
 RefusesText old new p (build.BadPattern line) = (line ≡ p.line) × IsNoPattern (pattern_of p)
 RefusesText old new p (build.TooLarge line) = (line ≡ p.line) × (p.kind ≡ Regex)
-    × Rose old.build_faults new.build_faults
+    × Rose old.build_faults new.build_faults × IsValid (pattern_of p)
 RefusesText old new p build.NoMemory = Unit {0}

@@ -1,4 +1,6 @@
 // Who makes regular expressions.
+ghost use Rattle.std.specs.Prelude.{◌≤◌};
+ghost use Rattle.sg_device.specs.Faults.{Rose};
 ghost use Rattle.sg_pattern.specs.Builds.{Builds, refusing_machine};
 
 use crate::BuildFault;
@@ -9,7 +11,8 @@ use std::alloc::Global;
 
 /// A maker of regular expressions over bytes.
 pub trait Builder: Machine {
-    /// Reads a text as a regular expression, with the options of `regex` but for the case of letters.
+    /// Reads a text as a regular expression, with the options of `regex` but for the case of letters. What
+    /// is refused for its size is one, and is counted; for nothing else the count rises where one is made.
     fn build(&mut self, alloc: Global, text: &str, ignore_case: bool) -> Result<Regex, BuildFault>
         ensures { Builds (Self.state self.old) (Self.state self.new) text.now ignore_case result };
 }
@@ -18,6 +21,15 @@ pub trait Builder: Machine {
 #[derive(Clone, Copy, Debug, PartialEq, Eq, Drop)]
 pub struct Patterns {
     pub too_large: u64,
+}
+
+impl Patterns {
+    fn count(&mut self)
+        ensures rose { Rose self.old.too_large self.new.too_large }
+        ensures grows { self.old.too_large ≤ self.new.too_large }
+    {
+        self.too_large = self.too_large.saturating_add(1);
+    }
 }
 
 impl Machine for Patterns {
@@ -31,8 +43,12 @@ impl Builder for Patterns {
             Ok(regex) => Ok(regex),
             Err(Error::Syntax(_)) => Err(BuildFault::Syntax),
             Err(Error::OutOfMemory) => Err(BuildFault::NoMemory),
-            Err(_) => {
-                self.too_large = self.too_large.saturating_add(1);
+            Err(Error::CompiledTooBig) => {
+                self.count();
+                Err(BuildFault::TooLarge)
+            }
+            Err(Error::Internal) => {
+                self.count();
                 Err(BuildFault::TooLarge)
             }
         }

@@ -77,7 +77,7 @@ no-credit-by : (old new : CoreState) (call : CoreCall) (i : ℕ) (t : State) →
 no-credit-by old new (Credit j) i t h own at = subst (λ k. credit_left t k ≡ 0) (equal-of i j own) (sym (h.stands t at))
 no-credit-by old new (Admit j records) i t h own at = absurd h
 no-credit-by old new (Front d most) i t h own at = absurd h
-no-credit-by old new (Settle d place n) i t h own at = absurd h
+no-credit-by old new (Settle d place n count) i t h own at = absurd h
 no-credit-by old new (Refill d) i t h own at = absurd h
 no-credit-by old new (Store j) i t h own at = absurd h
 
@@ -109,7 +109,7 @@ less-credit-by old new (Admit j records) back i t x h own at there =
       more = subst (λ c. c < length records) (credit-seen old t i x at there) few';
     }
 less-credit-by old new (Front d most) back i t x h own at there = absurd h
-less-credit-by old new (Settle d place n) back i t x h own at there = absurd h
+less-credit-by old new (Settle d place n count) back i t x h own at there = absurd h
 less-credit-by old new (Refill d) back i t x h own at there = absurd h
 less-credit-by old new (Store j) back i t x h own at there = absurd h
 
@@ -131,7 +131,7 @@ same-stored-by : (old new : CoreState) (call : CoreCall) (i u : ℕ) (t : State)
 same-stored-by old new (Credit j) i u t x h own at there has = absurd h
 same-stored-by old new (Admit j records) i u t x h own at there has = absurd h
 same-stored-by old new (Front d most) i u t x h own at there has = absurd h
-same-stored-by old new (Settle d place n) i u t x h own at there has = absurd h
+same-stored-by old new (Settle d place n count) i u t x h own at there has = absurd h
 same-stored-by old new (Refill d) i u t x h own at there has = absurd h
 same-stored-by old new (Store j) i u t x h own at there has =
     let same = equal-of i j own in
@@ -151,7 +151,7 @@ failed-store-by : (old new : CoreState) (call : CoreCall) (i u : ℕ) (t : State
 failed-store-by old new (Credit j) i u t x h own at there has = absurd h
 failed-store-by old new (Admit j records) i u t x h own at there has = absurd h
 failed-store-by old new (Front d most) i u t x h own at there has = absurd h
-failed-store-by old new (Settle d place n) i u t x h own at there has = absurd h
+failed-store-by old new (Settle d place n count) i u t x h own at there has = absurd h
 failed-store-by old new (Refill d) i u t x h own at there has = absurd h
 failed-store-by old new (Store j) i u t x h own at there has =
     let same = equal-of i j own in
@@ -201,7 +201,7 @@ none-left-by old new (Admit j records) front d t x h none own at there = absurd 
 none-left-by old new (Front e most) (Entries place messages) d t x h none own at there = absurd (shown-some (slice_get old.sinks e) (slice_get new.sinks e) most place messages h.front none)
 none-left-by old new (Front e most) Empty d t x h none own at there = h.shows t x at (ap (λ k. slice_get t.dests k) (equal-of d e own) ∙ there)
 none-left-by old new (Front e most) FrontBroken d t x h none own at there = absurd none
-none-left-by old new (Settle e place n) front d t x h none own at there = absurd h
+none-left-by old new (Settle e place n count) front d t x h none own at there = absurd h
 none-left-by old new (Refill e) front d t x h none own at there = absurd h
 none-left-by old new (Store j) front d t x h none own at there = absurd h
 
@@ -234,9 +234,9 @@ breakage-by old new (Front e most) (FrontReply (Ok (Entries place messages))) d 
 breakage-by old new (Front e most) (FrontReply (Ok Empty)) d h is own = absurd (let wrong : false ≡ true = is in cc)
 breakage-by old new (Front e most) (FrontReply (Ok FrontBroken)) d h is own = subst (λ k. broken_at new.sinks k ≡ true) (equal-of d e own) (front-broke (slice_get old.sinks e) (slice_get new.sinks e) most h.front)
 breakage-by old new (Front e most) (FrontReply (Err x)) d h is own = absurd (let wrong : false ≡ true = is in cc)
-breakage-by old new (Settle e place n) (SettledReply Done) d h is own = absurd (let wrong : false ≡ true = is in cc)
-breakage-by old new (Settle e place n) (SettledReply NotFront) d h is own = absurd (let wrong : false ≡ true = is in cc)
-breakage-by old new (Settle e place n) (SettledReply DiskFailed) d h is own = subst (λ k. broken_at new.sinks k ≡ true) (equal-of d e own) h.answer.1
+breakage-by old new (Settle e place n count) (SettledReply Done) d h is own = absurd (let wrong : false ≡ true = is in cc)
+breakage-by old new (Settle e place n count) (SettledReply NotFront) d h is own = absurd (let wrong : false ≡ true = is in cc)
+breakage-by old new (Settle e place n count) (SettledReply DiskFailed) d h is own = subst (λ k. broken_at new.sinks k ≡ true) (equal-of d e own) h.answer.1
 breakage-by old new (Refill e) (Refilled (Moved n)) d h is own = absurd (let wrong : false ≡ true = is in cc)
 breakage-by old new (Refill e) (Refilled NoneWaits) d h is own = absurd (let wrong : false ≡ true = is in cc)
 breakage-by old new (Refill e) (Refilled NoRoom) d h is own = absurd (let wrong : false ≡ true = is in cc)

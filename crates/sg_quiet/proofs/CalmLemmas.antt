@@ -30,7 +30,7 @@ abbrev pub IsCalm : CoreCall → CoreReply → Type 0
 IsCalm (Credit i) reply = Unit {0}
 IsCalm (Admit i records) reply = admitted_by (Admit i records) reply ≡ []
 IsCalm (Front d most) reply = Unit {0}
-IsCalm (Settle d place n) reply = ⊥
+IsCalm (Settle d place n count) reply = ⊥
 IsCalm (Refill d) reply = ⊥
 IsCalm (Store i) reply = has_news (stored_by reply) ≡ false
 
@@ -70,7 +70,7 @@ calm-call old new (Admit i records) (Admitted (Ok vs)) s h calm at =
     absurd (no-empty-admit s i records vs does.failed calm (does.step s at).0)
 calm-call old new (Admit i records) (Admitted (Err refused)) s h calm at = stayed-look old new s h.does at
 calm-call old new (Front d most) (FrontReply result) s h calm at = stayed-look old new s h.does at
-calm-call old new (Settle d place n) reply s h calm at = absurd calm
+calm-call old new (Settle d place n count) reply s h calm at = absurd calm
 calm-call old new (Refill d) reply s h calm at = absurd calm
 calm-call old new (Store i) (Stored (Wrote w)) s h calm at = absurd (let wrong : true ≡ false = calm in cc)
 calm-call old new (Store i) (Stored Unchanged) s h calm at = stayed-look old new s h.does at

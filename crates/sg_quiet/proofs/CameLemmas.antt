@@ -128,9 +128,9 @@ came-call old new (Admit j records) (Admitted (Err refused)) s i h at =
     let does : Does old new Look = h.does in
     came-does old new Look s i (own_call i (Admit j records) (Admitted (Err refused))) does at (grows-none s.inlets i (own_call i (Admit j records) (Admitted (Err refused))) (own-none (i == j)))
 came-call old new (Front d most) (FrontReply result) s i h at = came-does old new Look s i [] h.does at (grows-none s.inlets i [] refl)
-came-call old new (Settle d place n) (SettledReply Done) s i h at = came-does old new (SettleAct d n) s i [] h.does at (grows-none s.inlets i [] refl)
-came-call old new (Settle d place n) (SettledReply NotFront) s i h at = came-does old new Look s i [] h.does at (grows-none s.inlets i [] refl)
-came-call old new (Settle d place n) (SettledReply DiskFailed) s i h at = came-does old new (SettleAct d n) s i [] h.does at (grows-none s.inlets i [] refl)
+came-call old new (Settle d place n count) (SettledReply Done) s i h at = came-does old new (SettleAct d n) s i [] h.does at (grows-none s.inlets i [] refl)
+came-call old new (Settle d place n count) (SettledReply NotFront) s i h at = came-does old new Look s i [] h.does at (grows-none s.inlets i [] refl)
+came-call old new (Settle d place n count) (SettledReply DiskFailed) s i h at = came-does old new (SettleAct d n) s i [] h.does at (grows-none s.inlets i [] refl)
 came-call old new (Refill d) (Refilled (Moved n)) s i h at = came-does old new (RefillAct d n) s i [] h.does at (grows-none s.inlets i [] refl)
 came-call old new (Refill d) (Refilled NoneWaits) s i h at = came-does old new Look s i [] h.does at (grows-none s.inlets i [] refl)
 came-call old new (Refill d) (Refilled NoRoom) s i h at = came-does old new Look s i [] h.does at (grows-none s.inlets i [] refl)

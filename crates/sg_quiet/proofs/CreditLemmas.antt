@@ -82,9 +82,9 @@ others-keep old new (Admit j records) (Admitted (Ok vs)) i least s other h =
     (λ n a. acked-claims j (next_of h.state j) (h.state).dests (claims_of records) vs i n (λ place. apart i j (next_of h.state j + place) n other) a)
 others-keep old new (Admit j records) (Admitted (Err refused)) i least s other h = look-keeps old new i least h s.does
 others-keep old new (Front d most) (FrontReply result) i least s other h = look-keeps old new i least h s.does
-others-keep old new (Settle d place k) (SettledReply Done) i least s other h = settle-keeps old new d k i least h s.does
-others-keep old new (Settle d place k) (SettledReply NotFront) i least s other h = look-keeps old new i least h s.does
-others-keep old new (Settle d place k) (SettledReply DiskFailed) i least s other h = settle-keeps old new d k i least h s.does
+others-keep old new (Settle d place k count) (SettledReply Done) i least s other h = settle-keeps old new d k i least h s.does
+others-keep old new (Settle d place k count) (SettledReply NotFront) i least s other h = look-keeps old new i least h s.does
+others-keep old new (Settle d place k count) (SettledReply DiskFailed) i least s other h = settle-keeps old new d k i least h s.does
 others-keep old new (Refill d) (Refilled (Moved k)) i least s other h = act-keeps old new (RefillAct d k) i least h s.does refl (λ n a. acked-refill (h.state).dests d k i n a)
 others-keep old new (Refill d) (Refilled NoneWaits) i least s other h = look-keeps old new i least h s.does
 others-keep old new (Refill d) (Refilled NoRoom) i least s other h = look-keeps old new i least h s.does
@@ -114,7 +114,7 @@ own-tells old new (Credit j) (CreditReply n) i least s own h =
     }
 own-tells old new (Admit j records) (Admitted result) i least s own h = none-at-least old new (Admit j records) (Admitted result) i least s h
 own-tells old new (Front d most) (FrontReply result) i least s own h = none-at-least old new (Front d most) (FrontReply result) i least s h
-own-tells old new (Settle d place k) (SettledReply result) i least s own h = none-at-least old new (Settle d place k) (SettledReply result) i least s h
+own-tells old new (Settle d place k count) (SettledReply result) i least s own h = none-at-least old new (Settle d place k count) (SettledReply result) i least s h
 own-tells old new (Refill d) (Refilled result) i least s own h = none-at-least old new (Refill d) (Refilled result) i least s h
 own-tells old new (Store j) (StoredReply result) i least s own h = none-at-least old new (Store j) (StoredReply result) i least s h
 own-tells old new call reply i least s own h = absurd s

@@ -133,14 +133,14 @@ module _ {R I O : Type 0} (feed : I → InletState) (drain : O → OutletState) 
   same-setup : setup_of run.last ≡ plan.setup
   same-setup = setup-last feed drain offers inlets dests files plan routers rounds reached run (Some counts) runnable holds served
 
-  rounds-of : Rounds run.begun run.last (served.runs).serves.0 (((served.runs).serves.1.1.1).ends).last
+  rounds-of : Rounds run.begun run.last run.made (((served.runs).serves).ends).last
   rounds-of = quiet-rounds feed drain offers inlets dests files plan routers rounds reached run (Some counts) runnable holds served
 
   -- the outlet of a destination
   outlet-of : (t : State) (d : ℕ) (x : Dest) → IsAt run.last t → slice_get t.dests d ≡ Some x → (closed : OutletState) × (slice_get reached.outlets_closed d ≡ Some closed)
   outlet-of t d x at there =
       let runs = served.runs in
-      let took = (runs.serves.1.1.1).took in
+      let took = (runs.serves).took in
       let low = slice_get-below t.dests d x there in
       let a = (shows-at run.last t at).every_sink in
       let b : length run.last.sinks ≡ length plan.setup.dests = sym (length-map run.last.sinks (λ (k : SinkState). k.setup)) ∙ ap (λ (s : Setup). length s.dests) same-setup in
@@ -158,7 +158,7 @@ module _ {R I O : Type 0} (feed : I → InletState) (drain : O → OutletState) 
       let facts = dest-facts feed drain offers inlets dests files plan routers rounds reached run (Some counts) runnable holds served d closed.0 closed.1 in
       let none = (no-fault counts.sinks counts.stores counts.inlets clean).0 in
       let unnumbered : numbers_from 0 marks ≡ [] = sym (runs.counted).sinks ∙ none in
-      elim (dest-rests-by plan.once run.begun run.last runs.serves.0 ((runs.serves.1.1.1).ends).last rounds-of d closed.0 marks facts t x at there) [
+      elim (dest-rests-by plan.once run.begun run.last run.made ((runs.serves).ends).last rounds-of d closed.0 marks facts t x at there) [
         | inl left ↦ left
         | inr up ↦ absurd (elim up [
           | inl gave_up ↦ unmarked 0 d marks unnumbered (facts.is ∙ ap Some gave_up)
@@ -169,7 +169,7 @@ module _ {R I O : Type 0} (feed : I → InletState) (drain : O → OutletState) 
   -- Inlets.
 
   ended-of : (i : ℕ) (inlet : InletPlan) (setup : SourceSetup) (router : R) (closed : InletState) → slice_get plan.inlets.items i ≡ Some inlet → slice_get plan.setup.sources i ≡ Some setup → slice_get routers i ≡ Some router
-      → slice_get reached.inlets_closed i ≡ Some closed → IsEnded (offers router) inlet setup i closed (served.runs).serves.0
+      → slice_get reached.inlets_closed i ≡ Some closed → IsEnded (offers router) inlet setup i closed run.made
   ended-of i inlet setup router closed at_inlet at_setup at_router at_closed =
       let runs = served.runs in
       let q = rounds-of in
@@ -185,7 +185,7 @@ module _ {R I O : Type 0} (feed : I → InletState) (drain : O → OutletState) 
       elim facts.over [
         | inl refused ↦ absurd (
             let some = window-of plan.setup.sources i setup runnable.windows at_setup in
-            let no = source-credit run.begun run.last runs.serves.0 ((runs.serves.1.1.1).ends).last q i x.0 x.1.0 facts.unsent refused t (q.stayed).at in
+            let no = source-credit run.begun run.last run.made ((runs.serves).ends).last q i x.0 x.1.0 facts.unsent refused t (q.stayed).at in
             let wrong : ⊥ = omega (arith, some, no, credit) in
             wrong)
         | inr done ↦ elim done.0 [
@@ -214,11 +214,11 @@ module _ {R I O : Type 0} (feed : I → InletState) (drain : O → OutletState) 
       subst (λ (y : DiskState). EachNow y (IsListOf [])) (ap (λ (s : StoreState). s.disk) is ∙ sym store.2) (each-held back.store [] [] empty)
 
   position-of : (i : ℕ) (setup : SourceSetup) (s : ℕ) (disk : DiskState) → slice_get plan.setup.sources i ≡ Some setup → setup.store ≡ Some s → slice_get reached.stores_closed s ≡ Some disk
-      → EachNow disk (IsPosition (last_end (position_at run.begun i) (brought_by i (served.runs).serves.0)))
+      → EachNow disk (IsPosition (last_end (position_at run.begun i) (brought_by i run.made)))
   position-of i setup s disk at_setup has at_disk =
       let runs = served.runs in
-      let made = runs.serves.0 in
-      let took = (runs.serves.1.1.1).took in
+      let made = run.made in
+      let took = (runs.serves).took in
       let low = slice_get-below plan.setup.sources i setup at_setup in
       let n = runnable.sources in
       let m : length runs.sources ≡ length plan.inlets.items = sym (length-map runs.sources (λ (y : SourceActor R I). feed y.inlet)) ∙ (ap (λ os. length os) runs.inlets_opened ∙ served.all_inlets) in
@@ -238,7 +238,7 @@ module _ {R I O : Type 0} (feed : I → InletState) (drain : O → OutletState) 
       let works = all-work s store.0 store.1 in
       let place = placed run.last came.state i s y.0 store.0 came.at y.1.0 has' store.1 in
       let unlisted : is_listed s came.state.failed ≡ false = sym place.failed_is ∙ works in
-      let stored = stored-rests (offers (a.0).router) run.begun run.last made ((runs.serves.1.1.1).ends).last rounds-of i inlet.0 setup (feed (a.0).inlet) (feed (b.0).inlet) marks facts came.state y.0 s came.at y.1.0 same has unlisted in
+      let stored = stored-rests (offers (a.0).router) run.begun run.last made ((runs.serves).ends).last rounds-of i inlet.0 setup (feed (a.0).inlet) (feed (b.0).inlet) marks facts came.state y.0 s came.at y.1.0 same has unlisted in
       let opening : y.0.opening ≡ position_at run.begun i = y.1.1.1 ∙ opening-of run.begun first.state i x.0 first.at x.1.0 unbegun in
       let ends : y.0.ends ≡ ends_of (brought_by i made) = y.1.1.0 ∙ ap (λ es. es ++ ends_of (brought_by i made)) unbegun in
       let last : mark_of came.state.dests i y.0 ≡ last_end (position_at run.begun i) (brought_by i made) =
@@ -249,9 +249,9 @@ module _ {R I O : Type 0} (feed : I → InletState) (drain : O → OutletState) 
       subst (λ p. EachNow disk (IsPosition p)) (stored ∙ last)
       (subst (λ (z : DiskState). EachNow z (IsPosition y.0.stored)) (sym store.2) (place.works works))
 
-  ends-served : Ends offers plan routers reached run (served.runs).serves.0
+  ends-served : Ends offers plan routers reached run run.made
   ends-served = record {
-    makes = (((served.runs).serves.1.1.1).took).makes;
+    makes = (((served.runs).serves).took).makes;
     inlets = ended-of;
     dests = λ d state dest at there. none-left state at d dest there;
     lists = list-of;
@@ -260,10 +260,10 @@ module _ {R I O : Type 0} (feed : I → InletState) (drain : O → OutletState) 
 
 ends-held : {R I O : Type 0} (feed : I → InletState) (drain : O → OutletState) (offers : R → ℕ → Record → List Offer → Type 0) (inlets dests : R → ℕ) (files : Option Files) (plan : RunPlan) (routers : List R) (rounds : ℕ) (reached : Reached)
     (core : Option CoreRun) (run : CoreRun) (counts : Counts) → IsRunnable plan → core ≡ Some run → first_fault counts.sinks counts.stores counts.inlets ≡ None
-    → Holds feed drain offers inlets dests files plan routers rounds reached core (Ran Quiet (Some counts)) → (made : List Exchange) × Ends offers plan routers reached run made
+    → Holds feed drain offers inlets dests files plan routers rounds reached core (Ran Quiet (Some counts)) → Ends offers plan routers reached run run.made
 ends-held feed drain offers inlets dests files plan routers rounds reached core run counts runnable is clean held =
     let both = subst (λ (c : Option CoreRun). Holds feed drain offers inlets dests files plan routers rounds reached c (Ran Quiet (Some counts))) is held in
-    ((both.1.runs).serves.0, ends-served feed drain offers inlets dests files plan routers rounds reached run counts runnable both.0 both.1 clean)
+    ends-served feed drain offers inlets dests files plan routers rounds reached run counts runnable both.0 both.1 clean
 
 pub clean-end : {R I O : Type 0} (feed : I → InletState) (drain : O → OutletState) (offers : R → ℕ → Record → List Offer → Type 0) (inlets dests : R → ℕ) → CleanRunsEnd feed drain offers inlets dests
 clean-end feed drain offers inlets dests old new plan routers rounds counts reached run runnable is clean runs =

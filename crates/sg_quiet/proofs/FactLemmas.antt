@@ -139,35 +139,35 @@ module _ {R I O : Type 0} (feed : I → InletState) (drain : O → OutletState) 
     (counts : Option Counts) (runnable : IsRunnable plan) (holds : HoldsRun files plan reached run) (served : IsServed feed drain offers inlets dests plan routers rounds reached run Quiet counts) where
   -- The calls of the last round.
 
-  calm-source : (i : ℕ) (before last : List Exchange) → i < length (served.runs).sources → (rest : RestsLast ((served.runs).serves.1.0 (OfSource i)) before last) → AllCalm (rest.turn).made
+  calm-source : (i : ℕ) (before last : List Exchange) → i < length (served.runs).sources → (rest : RestsLast ((served.runs).account (OfSource i)) before last) → AllCalm (rest.turn).made
   calm-source i before last low rest =
       let runs = served.runs in
-      let took = (runs.serves.1.1.1).took in
+      let took = (runs.serves).took in
       let a = slice_get-some runs.sources i low in
       let b = slice_get-some runs.sources_then i (let n = took.all_sources in omega (arith, low, n)) in
-      let turns = runs.serves.1.0 (OfSource i) in
+      let turns = runs.account (OfSource i) in
       let does : SourceTook feed offers inlets dests a.0 b.0 turns = took.sources_took i a.0 b.0 a.1 b.1 in
       last-source (offers (a.0).router) (dests (a.0).router) (a.0).spec (source_seen feed a.0) (source_seen feed b.0) turns rest.earlier rest.turn does.took rest.are rest.nothing
 
-  calm-dest : (d : ℕ) (before last : List Exchange) → d < length (served.runs).dests_first → (rest : RestsLast ((served.runs).serves.1.0 (OfDest d)) before last) → AllCalm (rest.turn).made
+  calm-dest : (d : ℕ) (before last : List Exchange) → d < length (served.runs).dests_first → (rest : RestsLast ((served.runs).account (OfDest d)) before last) → AllCalm (rest.turn).made
   calm-dest d before last low rest =
       let runs = served.runs in
-      let took = (runs.serves.1.1.1).took in
+      let took = (runs.serves).took in
       let a = slice_get-some runs.dests_first d low in
       let b = slice_get-some runs.dests_then d (let n = took.all_dests in omega (arith, low, n)) in
-      let turns = runs.serves.1.0 (OfDest d) in
+      let turns = runs.account (OfDest d) in
       let does : DestTook drain a.0 b.0 turns = took.dests_took d a.0 b.0 a.1 b.1 in
       last-dest (a.0).spec (dest_seen drain a.0) (dest_seen drain b.0) turns rest.earlier rest.turn does.took rest.are rest.nothing
 
-  calm-actor : (who : Caller) (before last : List Exchange) → IsActor (length (served.runs).sources) (length (served.runs).dests_first) who → (rest : RestsLast ((served.runs).serves.1.0 who) before last) → AllCalm (rest.turn).made
+  calm-actor : (who : Caller) (before last : List Exchange) → IsActor (length (served.runs).sources) (length (served.runs).dests_first) who → (rest : RestsLast ((served.runs).account who) before last) → AllCalm (rest.turn).made
   calm-actor (OfSource i) before last low rest = calm-source i before last low rest
   calm-actor (OfDest d) before last low rest = calm-dest d before last low rest
 
-  calm-last : AllCalm (((served.runs).serves.1.1.1).ends).last
+  calm-last : AllCalm (((served.runs).serves).ends).last
   calm-last e h =
       let runs = served.runs in
-      let took = (runs.serves.1.1.1).took in
-      let ends = (runs.serves.1.1.1).ends in
+      let took = (runs.serves).took in
+      let ends = (runs.serves).ends in
       let who = caller_of e.call in
       elim (actor-or (length runs.sources) (length runs.dests_first) who) [
         | inl is ↦ (
@@ -175,14 +175,14 @@ module _ {R I O : Type 0} (feed : I → InletState) (drain : O → OutletState) 
             calm-actor who (calls_by who ends.before) (calls_by who ends.last) is rest e (subst (λ (es : List Exchange). Has es e) rest.last_are (own-has ends.last e h)))
         | inr absent ↦ (
             let made = subst (λ (es : List Exchange). Has es e) (sym ends.are) (has-behind ends.before ends.last e h) in
-            absurd (subst (λ (es : List Exchange). Has es e) (took.others who absent) (own-has runs.serves.0 e made)))
+            absurd (subst (λ (es : List Exchange). Has es e) (took.others who absent) (own-has run.made e made)))
       ]
 
-  pub quiet-rounds : Rounds run.begun run.last (served.runs).serves.0 (((served.runs).serves.1.1.1).ends).last
+  pub quiet-rounds : Rounds run.begun run.last run.made (((served.runs).serves).ends).last
   quiet-rounds =
       let runs = served.runs in
-      let took = (runs.serves.1.1.1).took in
-      let ends = (runs.serves.1.1.1).ends in
+      let took = (runs.serves).took in
+      let ends = (runs.serves).ends in
       let b = begun plan reached run holds.core served.rewinds in
       let split = makes-split run.begun run.last ends.before ends.last (subst (λ (es : List Exchange). Makes Serves run.begun es run.last) ends.are took.makes) in
       let went = went-all run.begun split.0 ends.before b.state split.1.0 b.at in
@@ -201,21 +201,21 @@ module _ {R I O : Type 0} (feed : I → InletState) (drain : O → OutletState) 
 
   pub setup-last : setup_of run.last ≡ plan.setup
   setup-last =
-      let took = ((served.runs).serves.1.1.1).took in
+      let took = ((served.runs).serves).took in
       let b = begun plan reached run holds.core served.rewinds in
-      (went-all run.begun run.last (served.runs).serves.0 b.state took.makes b.at).1.setup ∙ b.setup
+      (went-all run.begun run.last run.made b.state took.makes b.at).1.setup ∙ b.setup
 
   -- Sources.
 
   pub source-known : (i : ℕ) (inlet : InletPlan) (setup : SourceSetup) (a b : SourceActor R I) → slice_get plan.inlets.items i ≡ Some inlet → slice_get plan.setup.sources i ≡ Some setup → slice_get (served.runs).sources i ≡ Some a
       → slice_get (served.runs).sources_then i ≡ Some b
-      → SourceFacts (offers a.router) inlet setup i (feed a.inlet) (feed b.inlet) (served.runs).serves.0 (((served.runs).serves.1.1.1).ends).last (map (λ (x : SourceActor R I). x.reader.failed) (served.runs).sources_then)
+      → SourceFacts (offers a.router) inlet setup i (feed a.inlet) (feed b.inlet) run.made (((served.runs).serves).ends).last (map (λ (x : SourceActor R I). x.reader.failed) (served.runs).sources_then)
   source-known i inlet setup a b at_inlet at_setup at_a at_b =
       let runs = served.runs in
-      let made = runs.serves.0 in
-      let turns = runs.serves.1.0 (OfSource i) in
-      let took = (runs.serves.1.1.1).took in
-      let ends = (runs.serves.1.1.1).ends in
+      let made = run.made in
+      let turns = runs.account (OfSource i) in
+      let took = (runs.serves).took in
+      let ends = (runs.serves).ends in
       let low = slice_get-below runs.sources i a at_a in
       let view_of : SourceActor R I → SourceView = λ x. source_view x.spec (actor (feed x.inlet) x.reader x.buffer.items x.position x.bad_frames) (dests x.router) in
       let for = runs.are_sources i inlet setup (view_of a) at_inlet at_setup (slice_get-map view_of runs.sources i a at_a) in
@@ -265,11 +265,11 @@ module _ {R I O : Type 0} (feed : I → InletState) (drain : O → OutletState) 
 
   pub source-facts : (i : ℕ) (inlet : InletPlan) (setup : SourceSetup) (router : R) (opened closed : InletState) → slice_get plan.inlets.items i ≡ Some inlet → slice_get plan.setup.sources i ≡ Some setup → slice_get routers i ≡ Some router
       → slice_get reached.inlets i ≡ Some opened → slice_get reached.inlets_closed i ≡ Some closed
-      → SourceFacts (offers router) inlet setup i opened closed (served.runs).serves.0 (((served.runs).serves.1.1.1).ends).last (map (λ (x : SourceActor R I). x.reader.failed) (served.runs).sources_then)
+      → SourceFacts (offers router) inlet setup i opened closed run.made (((served.runs).serves).ends).last (map (λ (x : SourceActor R I). x.reader.failed) (served.runs).sources_then)
   source-facts i inlet setup router opened closed at_inlet at_setup at_router at_opened at_closed =
       let runs = served.runs in
-      let made = runs.serves.0 in
-      let last = ((runs.serves.1.1.1).ends).last in
+      let made = run.made in
+      let last = ((runs.serves).ends).last in
       let marks = map (λ (x : SourceActor R I). x.reader.failed) runs.sources_then in
       let a = get-map (λ (x : SourceActor R I). x.router) runs.sources i router (ap (λ rs. slice_get rs i) runs.same_routers ∙ at_router) in
       let b = get-map (λ (x : SourceActor R I). feed x.inlet) runs.sources_then i closed (ap (λ fs. slice_get fs i) runs.inlets_closed ∙ at_closed) in
@@ -283,13 +283,13 @@ module _ {R I O : Type 0} (feed : I → InletState) (drain : O → OutletState) 
   -- Destinations.
 
   pub dest-facts : (d : ℕ) (closed : OutletState) → slice_get reached.outlets_closed d ≡ Some closed
-      → DestFacts plan.once d closed (served.runs).serves.0 (((served.runs).serves.1.1.1).ends).last (map (λ (x : DestActor O). gave_up_outlet x.outage.given_up) (served.runs).dests_then)
+      → DestFacts plan.once d closed run.made (((served.runs).serves).ends).last (map (λ (x : DestActor O). gave_up_outlet x.outage.given_up) (served.runs).dests_then)
   dest-facts d closed at_closed =
       let runs = served.runs in
-      let made = runs.serves.0 in
-      let turns = runs.serves.1.0 (OfDest d) in
-      let took = (runs.serves.1.1.1).took in
-      let ends = (runs.serves.1.1.1).ends in
+      let made = run.made in
+      let turns = runs.account (OfDest d) in
+      let took = (runs.serves).took in
+      let ends = (runs.serves).ends in
       let marks = map (λ (x : DestActor O). gave_up_outlet x.outage.given_up) runs.dests_then in
       let b = get-map (λ (x : DestActor O). drain x.outlet) runs.dests_then d closed (ap (λ os. slice_get os d) runs.outlets_closed ∙ at_closed) in
       let below = slice_get-below runs.dests_then d b.0 b.1 in

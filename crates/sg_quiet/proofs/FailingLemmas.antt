@@ -174,8 +174,8 @@ begun plan reached run core rewinds =
 -- The whole run.
 
 opened-later : (kind : StoreKind) (disk : DiskState) (found : Found) (store : StoreState) → IsOpenedAs kind disk found store → disk.faults ≤ store.disk.faults
-opened-later Position disk found store h = h.0.later
-opened-later (Buffer capacity) disk found store h = h.later
+opened-later Position disk found store h = let well = h.0.well in omega (arith, well)
+opened-later (Buffer capacity) disk found store h = let well = h.well in omega (arith, well)
 
 -- a store that failed since the rounds began failed in the run
 rose-in : (plan : RunPlan) (reached : Reached) (run : CoreRun) (s : ℕ) (store : StoreState) → HoldsCore plan.setup reached run → AllGo run.first.stores run.begun.stores → AllGo run.begun.stores run.last.stores → RoseOf run.begun.stores run.last.stores s
@@ -201,14 +201,14 @@ failed-served : {R I O : Type 0} (feed : I → InletState) (drain : O → Outlet
 failed-served feed drain offers inlets dests files plan routers rounds reached run ended counts used holds served k s h =
     let runs = served.runs in
     let core = holds.core in
-    let took = (runs.serves.1.1.1).took in
+    let took = (runs.serves).took in
     let marks = map (λ (x : StoreState). x.failed) run.last.stores in
     let r = marked 0 k s marks (ap (λ ds. slice_get ds k) (sym (runs.counted).stores) ∙ h) in
     let j = r.0 in
     let number : s ≡ j = let at = r.1.1 in omega (arith, at) in
     let store = get-map (λ (x : StoreState). x.failed) run.last.stores j true r.1.0 in
     let b = begun plan reached run core served.rewinds in
-    let went = went-all run.begun run.last runs.serves.0 b.state took.makes b.at in
+    let went = went-all run.begun run.last run.made b.state took.makes b.at in
     let w = went.1 in
     let low = slice_get-below run.last.stores j store.0 store.1 in
     let count : j < length plan.stores.items =

@@ -79,10 +79,10 @@ dest-rests-by once old new made last q d closed marks facts state dest at there 
     ]
 
 rests-served : {R I O : Type 0} (feed : I → InletState) (drain : O → OutletState) (offers : R → ℕ → Record → List Offer → Type 0) (inlets dests : R → ℕ) (files : Option Files) (plan : RunPlan) (routers : List R) (rounds : ℕ) (reached : Reached) (run : CoreRun)
-    (counts : Option Counts) → IsRunnable plan → HoldsRun files plan reached run → (served : IsServed feed drain offers inlets dests plan routers rounds reached run Quiet counts) → Rests offers plan routers reached run (served.runs).serves.0
+    (counts : Option Counts) → IsRunnable plan → HoldsRun files plan reached run → (served : IsServed feed drain offers inlets dests plan routers rounds reached run Quiet counts) → Rests offers plan routers reached run run.made
 rests-served feed drain offers inlets dests files plan routers rounds reached run counts runnable holds served =
-    let made = (served.runs).serves.0 in
-    let last = (((served.runs).serves.1.1.1).ends).last in
+    let made = run.made in
+    let last = (((served.runs).serves).ends).last in
     let q = quiet-rounds feed drain offers inlets dests files plan routers rounds reached run counts runnable holds served in
     let same = setup-last feed drain offers inlets dests files plan routers rounds reached run counts runnable holds served in
     record {
@@ -103,10 +103,10 @@ rests-served feed drain offers inlets dests files plan routers rounds reached ru
 
 rests-held : {R I O : Type 0} (feed : I → InletState) (drain : O → OutletState) (offers : R → ℕ → Record → List Offer → Type 0) (inlets dests : R → ℕ) (files : Option Files) (plan : RunPlan) (routers : List R) (rounds : ℕ) (reached : Reached)
     (core : Option CoreRun) (run : CoreRun) (counts : Option Counts) → IsRunnable plan → core ≡ Some run → Holds feed drain offers inlets dests files plan routers rounds reached core (Ran Quiet counts)
-    → (made : List Exchange) × Rests offers plan routers reached run made
+    → Rests offers plan routers reached run run.made
 rests-held feed drain offers inlets dests files plan routers rounds reached core run counts runnable is held =
     let both = subst (λ (c : Option CoreRun). Holds feed drain offers inlets dests files plan routers rounds reached c (Ran Quiet counts)) is held in
-    ((both.1.runs).serves.0, rests-served feed drain offers inlets dests files plan routers rounds reached run counts runnable both.0 both.1)
+    rests-served feed drain offers inlets dests files plan routers rounds reached run counts runnable both.0 both.1
 
 pub quiet-rest : {R I O : Type 0} (feed : I → InletState) (drain : O → OutletState) (offers : R → ℕ → Record → List Offer → Type 0) (inlets dests : R → ℕ) → QuietRunsRest feed drain offers inlets dests
 quiet-rest feed drain offers inlets dests old new plan routers rounds counts reached run runnable is runs =

@@ -69,7 +69,7 @@ calm-one : (i : ℕ) (call : CoreCall) (reply : CoreReply) → caller_of call �
 calm-one i (Credit j) reply own none quiet = tt
 calm-one i (Admit j records) reply own none quiet = none
 calm-one i (Front d most) reply own none quiet = tt
-calm-one i (Settle d place n) reply own none quiet = absurd (let wrong : OfDest d ≡ OfSource i = own in cc)
+calm-one i (Settle d place n count) reply own none quiet = absurd (let wrong : OfDest d ≡ OfSource i = own in cc)
 calm-one i (Refill d) reply own none quiet = absurd (let wrong : OfDest d ≡ OfSource i = own in cc)
 calm-one i (Store j) reply own none quiet = quiet
 
@@ -105,33 +105,37 @@ last-source offers dests spec old new turns earlier turn took are nothing =
 
 -- A destination.
 
-follows-none : (d taken : ℕ) (well : Bool) (reply : CoreReply) (made : List Exchange) → Follows d taken well reply made → shown_by reply ≡ [] → made ≡ []
-follows-none d taken well (FrontReply (Ok (Entries place []))) made h none = h.0
-follows-none d taken well (FrontReply (Ok (Entries place (m ∷ ms)))) made h none = absurd (let wrong : m ∷ ms ≡ [] = none in cc)
-follows-none d taken well (FrontReply (Ok Empty)) made h none = h.0
-follows-none d taken well (FrontReply (Ok FrontBroken)) made h none = h.0
-follows-none d taken well (FrontReply (Err e)) made h none = h.0
-follows-none d taken well (CreditReply credit) made h none = h.0
-follows-none d taken well (Admitted result) made h none = h.0
-follows-none d taken well (SettledReply result) made h none = h.0
-follows-none d taken well (Refilled result) made h none = h.0
-follows-none d taken well (StoredReply result) made h none = h.0
+follows-none : (d taken count : ℕ) (well : Bool) (reply : CoreReply) (made : List Exchange) → Follows d taken count well reply made → shown_by reply ≡ [] → made ≡ []
+follows-none d taken count well (FrontReply (Ok (Entries place []))) made h none = h.0
+follows-none d taken count well (FrontReply (Ok (Entries place (m ∷ ms)))) made h none = absurd (let wrong : m ∷ ms ≡ [] = none in cc)
+follows-none d taken count well (FrontReply (Ok Empty)) made h none = h.0
+follows-none d taken count well (FrontReply (Ok FrontBroken)) made h none = h.0
+follows-none d taken count well (FrontReply (Err e)) made h none = h.0
+follows-none d taken count well (CreditReply credit) made h none = h.0
+follows-none d taken count well (Admitted result) made h none = h.0
+follows-none d taken count well (SettledReply result) made h none = h.0
+follows-none d taken count well (Refilled result) made h none = h.0
+follows-none d taken count well (StoredReply result) made h none = h.0
 
-calm-delivers : (d taken : ℕ) (well : Bool) (made : List Exchange) → Delivers d taken well made → shown_in made ≡ [] → AllCalm made
-calm-delivers d taken well [] h none e has = absurd has
-calm-delivers d taken well (f ∷ rest) h none e (inl same) =
+calm-delivers : (d taken count : ℕ) (well : Bool) (made : List Exchange) → Delivers d taken count well made → shown_in made ≡ [] → AllCalm made
+calm-delivers d taken count well [] h none e has = absurd has
+calm-delivers d taken count well (f ∷ rest) h none e (inl same) =
     let calm : IsCalm f.call f.reply = subst (λ (c : CoreCall). IsCalm c f.reply) (sym h.0) tt in
     subst (λ (y : Exchange). IsCalm y.call y.reply) same calm
-calm-delivers d taken well (f ∷ rest) h none e (inr has) =
+calm-delivers d taken count well (f ∷ rest) h none e (inr has) =
     let parts = both-nil (shown_by f.reply) (shown_in rest) none in
-    let no-more = follows-none d taken well f.reply rest h.1 parts.0 in
+    let no-more = follows-none d taken count well f.reply rest h.1 parts.0 in
     absurd (subst (λ (xs : List Exchange). Has xs e) no-more has)
+
+and-true : (b : Bool) → (b && true) ≡ false → b ≡ false
+and-true true h = h
+and-true false h = refl
 
 dest-calm : (cause : Option GivenUp) (spec : DestSpec) (old new : DestState) (turn : Turn) → SendsBy cause spec old new turn → turn.answer ≡ Some nothing_done → AllCalm turn.made
 dest-calm None spec old new turn (taken, (refused, k)) nothing =
-    let tells = subst (λ (a : Option Turned). DestTells old.outage new.outage turn.made old.drain new.drain (result_of a)) nothing k.tells in
-    let parts = either-false (has_shown turn.made) (old.outage.reopens && true) (sym tells.did) in
-    calm-delivers spec.dest taken (is_ok (result_of turn.answer)) turn.made k.delivers (none-above (shown_in turn.made) parts.0)
+    let tells = subst (λ (a : Option Turned). DestTells old.outage new.outage turn.made taken old.drain new.drain (result_of a)) nothing k.tells in
+    let parts = either-false (has_shown turn.made) old.outage.reopens (and-true _ (sym tells.did)) in
+    calm-delivers spec.dest taken new.drain.count (is_ok (result_of turn.answer)) turn.made k.delivers (none-above (shown_in turn.made) parts.0)
 dest-calm (Some cause) spec old new turn k nothing = λ e has. absurd (subst (λ (xs : List Exchange). Has xs e) k.0 has)
 
 sent-last : (spec : DestSpec) (x z : DestState) (earlier : List Turn) (turn : Turn) → SentTurns spec x z (earlier ++ turn ∷ []) → (y : DestState) × DestTurns spec y z turn

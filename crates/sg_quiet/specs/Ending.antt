@@ -65,4 +65,4 @@ CleanRunsEnd {R} {I} {O} feed drain offers inlets dests =
     (reached : Reached) (run : CoreRun) → IsRunnable plan → reached.core ≡ Some run
     → first_fault counts.sinks counts.stores counts.inlets ≡ None
     → RunsWith feed drain offers inlets dests old new plan routers rounds (Ran Quiet (Some counts))
-    reached → (made : List Exchange) × Ends offers plan routers reached run made
+    reached → Ends offers plan routers reached run run.made

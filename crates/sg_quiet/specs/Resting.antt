@@ -97,4 +97,4 @@ QuietRunsRest {R} {I} {O} feed drain offers inlets dests =
     (old new : WorldState) (plan : RunPlan) (routers : List R) (rounds : ℕ) (counts : Option Counts)
     (reached : Reached) (run : CoreRun) → IsRunnable plan → reached.core ≡ Some run
     → RunsWith feed drain offers inlets dests old new plan routers rounds (Ran Quiet counts) reached
-    → (made : List Exchange) × Rests offers plan routers reached run made
+    → Rests offers plan routers reached run run.made

@@ -3,3 +3,4 @@ pub mod Counting
 pub mod OneDriver
 pub mod PlaceEquations
 pub mod EndEquations
+pub mod Looked

@@ -4,3 +4,4 @@ pub mod Drivers
 pub mod Ends
 pub mod Globals
 pub mod First
+pub mod Options

@@ -5,10 +5,15 @@
 mod driver;
 mod drivers;
 mod first;
+mod laws;
 mod options;
 mod place;
 mod templates;
 
 pub use driver::{Count, DESTINATION_LIMIT, INLET_LIMIT};
 pub use first::first_fault;
+pub use laws::{
+    destination_options_are_read, options_are_checked, other_options_are_read,
+    source_options_are_read,
+};
 pub use templates::{TemplateTexts, templates_of};

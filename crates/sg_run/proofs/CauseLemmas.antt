@@ -73,7 +73,7 @@ module _ {R I O : Type 0} (feed : I → InletState) (drain : O → OutletState) 
   sink-due : (k d : ℕ) → slice_get counts.sinks k ≡ Some d → FailsThrice plan reached.outlets reached.outlets_closed d
   sink-due k d h =
       let runs = served.runs in
-      let took = (runs.serves.1.1.1).took in
+      let took = (runs.serves).took in
       let marks = map (λ (a : DestActor O). gave_up_outlet a.outage.given_up) runs.dests_then in
       let r = marked 0 k d marks (ap (λ ds. slice_get ds k) (sym (runs.counted).sinks) ∙ h) in
       let j = r.0 in
@@ -86,7 +86,7 @@ module _ {R I O : Type 0} (feed : I → InletState) (drain : O → OutletState) 
       let outlet = slice_get-some plan.outlets.items j (omega (arith, below, many)) in
       let view_of : DestActor O → DestView = λ x. dest_view x.spec x.outage (drain x.outlet) in
       let for = runs.are_dests j outlet.0 (view_of a.0) outlet.1 (slice_get-map view_of runs.dests_first j a.0 a.1) in
-      let turns = runs.serves.1.0 (OfDest j) in
+      let turns = runs.account (OfDest j) in
       let does : DestTook drain a.0 b.0 turns = took.dests_took j a.0 b.0 a.1 b.1.0 in
       let kept = (for.is).kept in
       let why = dest-fails (a.0).spec (dest_seen drain a.0) (dest_seen drain b.0) turns does.took (λ e. absurd (let wrong : None ≡ Some Outlet = sym kept ∙ e in cc)) (for-outlet ((b.0).outage).given_up b.1.1) in
@@ -105,7 +105,7 @@ module _ {R I O : Type 0} (feed : I → InletState) (drain : O → OutletState) 
   inlet-due : (k i : ℕ) → slice_get counts.inlets k ≡ Some i → RoseIn reached.inlets reached.inlets_closed i
   inlet-due k i h =
       let runs = served.runs in
-      let took = (runs.serves.1.1.1).took in
+      let took = (runs.serves).took in
       let marks = map (λ (a : SourceActor R I). a.reader.failed) runs.sources_then in
       let r = marked 0 k i marks (ap (λ ds. slice_get ds k) (sym (runs.counted).inlets) ∙ h) in
       let j = r.0 in
@@ -119,7 +119,7 @@ module _ {R I O : Type 0} (feed : I → InletState) (drain : O → OutletState) 
       let setup = slice_get-some plan.setup.sources j (let n = runnable.sources in omega (arith, below, many, n)) in
       let view_of : SourceActor R I → SourceView = λ x. source_view x.spec (actor (feed x.inlet) x.reader x.buffer.items x.position x.bad_frames) (dests x.router) in
       let for = runs.are_sources j inlet.0 setup.0 (view_of a.0) inlet.1 setup.1 (slice_get-map view_of runs.sources j a.0 a.1) in
-      let turns = runs.serves.1.0 (OfSource j) in
+      let turns = runs.account (OfSource j) in
       let does : SourceTook feed offers inlets dests a.0 b.0 turns = took.sources_took j a.0 b.0 a.1 b.1.0 in
       let fails = source-fails (offers (a.0).router) (dests (a.0).router) (a.0).spec (source_seen feed a.0) (source_seen feed b.0) turns does.took in
       subst (λ n. RoseIn reached.inlets reached.inlets_closed n) (sym number) (record {

@@ -23,9 +23,9 @@ texts-by plan routers reached start events texts i d inlet woods closed first la
 headline-by : (plan : RunPlan) (routers : List Pipes) (reached : Reached) (run : CoreRun) → Headline offers_by plan routers reached run → Headline AreOffers plan (map paths_of routers) reached run
 headline-by plan routers reached run h = record {
   opens = h.opens;
-  made = h.made;
   later = h.later;
   ran = h.ran;
+  accepted = h.accepted;
   holds = record {
     texts = texts-by plan routers reached _ (run.prelude ++ h.later) (h.holds).texts;
     taken = (h.holds).taken;
@@ -33,6 +33,7 @@ headline-by plan routers reached run h = record {
     due = (h.holds).due;
     windows = (h.holds).windows;
     stands = (h.holds).stands;
+    begins = (h.holds).begins;
     stop = (h.holds).stop;
     stop_then = (h.holds).stop_then;
   };

@@ -62,7 +62,7 @@ lines-of {R} {I} feed drain offers inlets dests plan routers rounds reached run 
     let runs = served.runs in
     let counted = runs.counted in
     let all = tallied offers plan routers reached run counts.tally h (λ state at. ap (λ (t : Tally). length t.sources) (counted.tally state at) ∙ length-tallies state.dests 0 state.inlets) in
-    let took = (runs.serves.1.1.1).took in
+    let took = (runs.serves).took in
     let each = sym (length-map runs.sources (λ (a : SourceActor R I). feed a.inlet)) ∙ (ap (λ fs. length fs) runs.inlets_opened ∙ served.all_inlets) in
     record {
       drivers = drivers ∙ (sym runnable.sources ∙ sym all);

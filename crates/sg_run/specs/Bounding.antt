@@ -20,7 +20,7 @@ AreSpelled dests disks = (s : ℕ) (disk : DiskState) → slice_get disks s ≡ 
     → (bytes : List ℕ) × ((content disk ≡ Some bytes) × IsStore (kind_of dests s) bytes)
 
 -- The stores are spellings, and no count of faults rose: of the openings of each kind, and of each store, inlet and outlet that was opened.
--- No inlet was idle, and it was never too early to reopen an outlet.
+-- No inlet was idle, and it was never too early to reopen an outlet or to send to it.
 pub record GoesWell (old new : WorldState) (plan : RunPlan) (reached : Reached) : Type 0 where
   pub opens_stores : Rose old.store_faults new.store_faults → ⊥
   pub opens_inlets : Rose old.inlet_faults new.inlet_faults → ⊥

@@ -2,7 +2,6 @@
 use Rattle.std.specs.Prelude.{◌≡◌, ℕ, List, Option, Some, None, IfSome}
 use Rattle.sg_msg.specs.declared.offer.Offer.{Offer}
 use Rattle.sg_frame.specs.Records.{Record}
-use Rattle.sg_counter.specs.Exchanges.{Exchange}
 use Rattle.sg_serve.specs.Counts.{first_fault}
 use Rattle.sg_serve.specs.Run.{CoreRun, Reached}
 use Rattle.sg_serve.specs.declared.counts.Counts.{Counts}
@@ -15,9 +14,9 @@ use Rattle.sg_quiet.specs.Ending.{Ends}
 
 -- Behind a quiet round nothing is left to do; and where nothing failed either, all input was taken, and all that was kept was delivered.
 pub record IsQuiet {R : Type 0} (offers : R → ℕ → Record → List Offer → Type 0) (plan : RunPlan) (routers : List R) (reached : Reached) (counts : Option Counts) (run : CoreRun) : Type 0 where
-  pub rests : (made : List Exchange) × Rests offers plan routers reached run made
+  pub rests : Rests offers plan routers reached run run.made
   pub clean : IfSome counts (λ (c : Counts). first_fault c.sinks c.stores c.inlets ≡ None
-      → (made : List Exchange) × Ends offers plan routers reached run made)
+      → Ends offers plan routers reached run run.made)
 
 abbrev pub RestsSo : {R : Type 0} → (R → ℕ → Record → List Offer → Type 0) → RunPlan → List R
     → Reached → PlanEnded → Type 0

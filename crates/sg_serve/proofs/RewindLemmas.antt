@@ -5,7 +5,7 @@ use Rattle.sg_list.specs.Lists.{change, passes_at}
 use Rattle.sg_list.proofs.ListLemmas.{some-same, slice_get-some, slice_get-below, get-change-other, get-change-same}
 use Rattle.sg_device.specs.Disk.{DiskState}
 use Rattle.sg_device.specs.Faults.{Rose}
-use Rattle.sg_device.proofs.DiskCalls.{moves_trans}
+use Rattle.sg_stores.proofs.StoreLemmas.{goes_trans}
 use Rattle.sg_buffer.specs.declared.found.Found.{Found}
 use Rattle.sg_machine.specs.declared.event.Act.{Act}
 use Rattle.sg_machine.specs.declared.event.Act.TheVariants.{Rewind, Look}
@@ -42,9 +42,7 @@ all-go-then a b c ab bc = record {
   count = bc.count ∙ ab.count;
   each = λ s old new h k.
       let mid = slice_get-some b s (let low = slice_get-below a s old h in let n = ab.count in omega (arith, low, n)) in
-      let one = ab.each s old mid.0 h mid.1 in
-      let two = bc.each s mid.0 new mid.1 k in
-      record { moves = moves_trans old.disk (mid.0).disk new.disk one.moves two.moves; later = (let p = one.later in let q = two.later in omega (arith, p, q)) };
+      goes_trans old mid.0 new (ab.each s old mid.0 h mid.1) (bc.each s mid.0 new mid.1 k);
 }
 
 not-nil : {A : Type 0} (xs : List A) (x : A) → xs ++ x ∷ [] ≡ [] → ⊥
@@ -54,6 +52,7 @@ not-nil (y ∷ ys) x h = let wrong : y ∷ (ys ++ x ∷ []) ≡ [] = h in cc
 pub begun-none : (core : CoreState) → HasBegun core core []
 begun-none core = record {
   stands = λ setup opening stands. stands;
+  rows = λ setup opening stood k s low. refl;
   goes = all-go-same core.stores core.stores refl;
   setup = refl;
   calls = omega arith;
@@ -64,6 +63,7 @@ pub begun-more : (first mid new : CoreState) (events : List Event) (act : Act) (
     → HasBegun first new (events ++ (record { act = act; failed = does.failed }) ∷ [])
 begun-more first mid new events act does begun = record {
   stands = λ setup opening stands. does.stands (opened setup opening) events (begun.stands setup opening stands);
+  rows = λ setup opening stood k s low. does.keeps (opened setup opening) events (begun.stands setup opening stood) k s (omega (arith, low)) ∙ begun.rows setup opening stood k s low;
   goes = all-go-then first.stores mid.stores new.stores begun.goes does.goes;
   setup = does.setup ∙ begun.setup;
   calls = (let n = does.calls in let m = begun.calls in let k = length-append events ((record { act = act; failed = does.failed }) ∷ []) in omega (arith, n, m, k));

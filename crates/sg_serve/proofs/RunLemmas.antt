@@ -66,7 +66,7 @@ serves-go old new (Credit i) (CreditReply n) s = all-go-same old.stores new.stor
 serves-go old new (Admit i records) (Admitted (Ok verdicts)) s = (s.does).goes
 serves-go old new (Admit i records) (Admitted (Err refused)) s = (s.does).goes
 serves-go old new (Front d most) (FrontReply result) s = (s.does).goes
-serves-go old new (Settle d place n) (Settled result) s = (s.does).goes
+serves-go old new (Settle d place n count) (Settled result) s = (s.does).goes
 serves-go old new (Refill d) (Refilled result) s = (s.does).goes
 serves-go old new (CallStore i) (Stored result) s = (s.does).goes
 serves-go old new call reply s = absurd s
@@ -150,8 +150,8 @@ over-none feed drain offers inlets dests w plan routers rounds stores stores' ea
 -- Inlets that couldn't be opened.
 
 opened-later : (kind : StoreKind) (disk : DiskState) (found : Found) (store : StoreState) → IsOpenedAs kind disk found store → disk.faults ≤ store.disk.faults
-opened-later Position disk found store h = h.0.later
-opened-later (Buffer capacity) disk found store h = h.later
+opened-later Position disk found store h = let well = h.0.well in omega (arith, well)
+opened-later (Buffer capacity) disk found store h = let well = h.well in omega (arith, well)
 
 -- the store of that number failed behind the opening
 rose-behind : (setup : Setup) (stores : List DiskState) (first now : CoreState) (places : List ℕ) (s : ℕ) → IsOpen setup stores first → FailsBehind first now places s → s < length stores
@@ -171,11 +171,11 @@ rose-behind setup stores first now places s open' fails low =
 unserved : (files : Option Files) (plan : RunPlan) (stores : List DiskState) (first now : CoreState) (prelude : List Event) (feeds : List InletState) (drains : List OutletState) → IsOpen plan.setup stores first → HasBegun first now prelude
     → (prelude ≡ rewinds_from (position_at first) 0 (places_of feeds)) ⊎ FailsLast first feeds prelude → length stores ≡ length plan.stores.items → AllBeginAt files (position_at first) (inlets_asked plan.once plan.inlets.items) feeds
     → (length feeds ≡ length plan.inlets.items) ⊎ (drains ≡ []) → (stores' : List DiskState) → stores' ≡ map (λ (store : StoreState). store.disk) now.stores
-    → (let run : CoreRun = record { first = first; begun = now; last = now; prelude = prelude } in
+    → (let run : CoreRun = record { first = first; begun = now; last = now; prelude = prelude; made = [] } in
     let reached = reached_by stores stores' feeds feeds drains drains (Some run) in HoldsRun files plan reached run × StaysUnserved plan reached run)
 unserved files plan stores first now prelude feeds drains open' begun how all at order stores' closed = (
   record { core = record { opens = open'; begins = begun; closed = closed }; all_stores = all; begin_at = at },
-  record { rewinds = how; core_stays = refl; inlets_stay = refl; outlets_stay = refl; order = order },
+  record { rewinds = how; core_stays = refl; unserved = refl; inlets_stay = refl; outlets_stay = refl; order = order },
 )
 
 inlet-cause : (old new : WorldState) (plan : RunPlan) (stores stores' : List DiskState) (feeds : List InletState) (core : Option CoreRun) (early : Early) → InletsFail old new (length feeds) early
@@ -200,7 +200,7 @@ over-sources feed drain offers inlets dests old new plan routers rounds stores s
     let none = append-nil feeds in
     let prelude = rewinds_from (position_at first) 0 (places_of (feeds ++ [])) in
     let begun = subst (λ fs. HasBegun first now (rewinds_from (position_at first) 0 (places_of fs))) (sym none) fails.0 in
-    let run : CoreRun = record { first = first; begun = now; last = now; prelude = prelude } in
+    let run : CoreRun = record { first = first; begun = now; last = now; prelude = prelude; made = [] } in
     record {
       inlets_opened = feeds ++ [];
       outlets_opened = [];
@@ -216,7 +216,7 @@ over-sources feed drain offers inlets dests old new plan routers rounds stores s
     record {
       inlets_opened = feeds ++ last ∷ [];
       outlets_opened = [];
-      core = Some (record { first = first; begun = now; last = now; prelude = prelude });
+      core = Some (record { first = first; begun = now; last = now; prelude = prelude; made = [] });
       between = new;
       opens_inlets = opens;
       opens_outlets = outlets-none new (outlets_asked plan.once plan.outlets.items);
@@ -230,7 +230,7 @@ over-sources feed drain offers inlets dests old new plan routers rounds stores s
     record {
       inlets_opened = feeds ++ last ∷ [];
       outlets_opened = [];
-      core = Some (record { first = first; begun = now; last = now; prelude = prelude });
+      core = Some (record { first = first; begun = now; last = now; prelude = prelude; made = [] });
       between = new;
       opens_inlets = opens;
       opens_outlets = outlets-none new (outlets_asked plan.once plan.outlets.items);
@@ -265,7 +265,7 @@ over-dests {R} {I} {O} feed drain offers inlets dests old mid new plan routers r
     let drains = part.outlets_opened in
     let m = part.ends in
     let prelude = rewinds_from (position_at first) 0 (places_of feeds) in
-    let run : CoreRun = record { first = first; begun = begun; last = begun; prelude = prelude } in
+    let run : CoreRun = record { first = first; begun = begun; last = begun; prelude = prelude; made = [] } in
     let closed : stores' ≡ map (λ (store : StoreState). store.disk) begun.stores = part.closes_stores ∙ ap (λ (c : CoreState). map (λ (store : StoreState). store.disk) c.stores) m.stays in
     let many : length feeds ≡ length plan.inlets.items = length-map sources (λ (a : SourceActor R I). feed a.inlet) ∙ count in
     let h = unserved old.files plan stores first begun prelude feeds drains open' begins (inl refl) all at (inl many) stores' closed in
@@ -285,7 +285,7 @@ over-dests {R} {I} {O} feed drain offers inlets dests old mid new plan routers r
     let feeds = map (λ (a : SourceActor R I). feed a.inlet) sources in
     let m = part.ends in
     let prelude = rewinds_from (position_at first) 0 (places_of feeds) in
-    let run : CoreRun = record { first = first; begun = begun; last = part.last; prelude = prelude } in
+    let run : CoreRun = record { first = first; begun = begun; last = part.last; prelude = prelude; made = m.serves.0 } in
     let many : length feeds ≡ length plan.inlets.items = length-map sources (λ (a : SourceActor R I). feed a.inlet) ∙ count in
     record {
       inlets_opened = feeds;
@@ -303,7 +303,9 @@ over-dests {R} {I} {O} feed drain offers inlets dests old mid new plan routers r
             sources_then = m.sources_then;
             dests_first = m.dests_first;
             dests_then = m.dests_then;
-            serves = m.serves;
+            account = m.serves.1.0;
+            number = m.serves.1.1.0;
+            serves = m.serves.1.1.1;
             counted = m.counted;
             same_routers = same;
             are_sources = are;

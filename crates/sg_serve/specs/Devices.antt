@@ -25,10 +25,11 @@ reopen_asked false reopen = reopen
 
 -- With `--once` an outlet is tried again at once.
 abbrev pub outlet_asked : Bool → OutletSpec → OutletSpec
-outlet_asked once (FileTo path fsync mode reopen) = FileTo path fsync mode
+outlet_asked once (FileTo path fsync mode folders reopen) = FileTo path fsync mode folders
     (reopen_asked once reopen)
 outlet_asked once (Tcp host port reopen) = Tcp host port (reopen_asked once reopen)
-outlet_asked once (ByPath fsync mode reopen) = ByPath fsync mode (reopen_asked once reopen)
+outlet_asked once (ByPath fsync mode folders reopen) = ByPath fsync mode folders
+    (reopen_asked once reopen)
 
 abbrev pub inlets_asked : Bool → List InletPlan → List InletSpec
 inlets_asked once plans = map (λ (plan : InletPlan). inlet_asked once plan.spec) plans

@@ -13,7 +13,7 @@ use Rattle.sg_stores.specs.Stores.{StoreState, AllGo}
 use Rattle.sg_stores.specs.Positions.{stored_in, WritesAt}
 use Rattle.sg_standing.specs.Sources.{store_at, begun_in}
 use Rattle.sg_standing.specs.States.{CoreState, setup_of}
-use Rattle.sg_standing.specs.Standing.{StandsFor, Does}
+use Rattle.sg_standing.specs.Standing.{StandsFor, Does, KeepsRows}
 
 -- the stored position of a source, 0 where it has no store
 abbrev pub position_at : CoreState → ℕ → ℕ
@@ -67,6 +67,9 @@ Begins old new i (suc position) zero false = FailsAnew old new i
 pub record HasBegun (first now : CoreState) (events : List Event) : Type 0 where
   pub stands : (setup : Setup) (opening : Opening) → StandsFor first (opened setup opening) []
       → StandsFor now (opened setup opening) events
+  -- the first row of its timetable stays
+  pub rows : (setup : Setup) (opening : Opening) (stood : StandsFor first (opened setup opening) [])
+      → KeepsRows 0 stood.moments.rows (stands setup opening stood).moments.rows
   pub goes : AllGo first.stores now.stores
   pub setup : setup_of now ≡ setup_of first
   pub calls : now.calls ≡ first.calls + length events

@@ -10,6 +10,7 @@ use Rattle.sg_frame.specs.Records.{Record}
 use Rattle.sg_machine.specs.declared.event.Act.TheVariants.{Look}
 use Rattle.sg_machine.specs.declared.event.Event.{Event}
 use Rattle.sg_machine.specs.declared.setup.Setup.{Setup}
+use Rattle.sg_counter.specs.Exchanges.{Exchange, Caller}
 use Rattle.sg_actor.specs.SourceTurns.{actor}
 use Rattle.sg_actor.specs.declared.dest.DestActor.{DestActor}
 use Rattle.sg_actor.specs.declared.source.SourceActor.{SourceActor}
@@ -24,7 +25,8 @@ use Rattle.sg_core.specs.Opening.{AreKinds, IsOpen, IsUnopened}
 use Rattle.sg_destination.specs.declared.outlet.OutletPlan.{OutletPlan}
 use Rattle.sg_serve.specs.Early.{OutletsFail}
 use Rattle.sg_turns.specs.Actors.{SourceTook, DestTook}
-use Rattle.sg_turns.specs.Serving.{Serves}
+use Rattle.sg_turns.specs.Serving.{Serves, ServesWith}
+use Rattle.sg_turns.specs.Turns.{Turn}
 use Rattle.sg_turns.specs.declared.ended.Ended.{Ended}
 use Rattle.sg_serve.specs.Actors.{source_view, dest_view, AreSourcesFor, AreDestsFor, AllBeginAt}
 use Rattle.sg_serve.specs.Counts.{IsCounted}
@@ -40,12 +42,14 @@ use Rattle.sg_serve.specs.declared.plan.RunPlan.{RunPlan}
 
 -- How far a run came.
 
--- the flow core: as it was opened, once its sources had begun anew, and at the end; and the events between the first two
+-- the flow core: as it was opened, once its sources had begun anew, and at the end; the events between the first two, and the calls
+-- between the last two, those of the rounds, in the order in which it served them
 pub record CoreRun : Type 0 where
   pub first : CoreState
   pub begun : CoreState
   pub last : CoreState
   pub prelude : List Event
+  pub made : List Exchange
 
 -- the devices that were opened, in order, as they were then and as they were closed; and the core, where that was opened
 pub record Reached : Type 0 where
@@ -124,8 +128,11 @@ pub record RunsRounds {R I O : Type 0} (feed : I → InletState) (drain : O → 
   pub sources_then : List (SourceActor R I)
   pub dests_first : List (DestActor O)
   pub dests_then : List (DestActor O)
-  pub serves : Serves (SourceTook feed offers inlets dests) (DestTook drain) CoreServes run.begun
-      run.last sources sources_then dests_first dests_then rounds ended
+  pub account : Caller → List Turn
+  pub number : ℕ
+  pub serves : ServesWith (SourceTook feed offers inlets dests) (DestTook drain) CoreServes
+      run.begun run.last sources sources_then dests_first dests_then rounds ended run.made account
+      number
   pub counted : IfSome counts (IsCounted run.last sources_then dests_then)
   pub same_routers : map (λ (a : SourceActor R I). a.router) sources ≡ routers
   pub are_sources : AreSourcesFor plan.inlets.items plan.setup.sources
@@ -144,6 +151,7 @@ pub record StaysUnserved (plan : RunPlan) (reached : Reached) (run : CoreRun) : 
   pub rewinds : (run.prelude ≡ rewinds_from (position_at run.first) 0 (places_of reached.inlets))
       ⊎ FailsLast run.first reached.inlets run.prelude
   pub core_stays : run.last ≡ run.begun
+  pub unserved : run.made ≡ []
   pub inlets_stay : reached.inlets_closed ≡ reached.inlets
   pub outlets_stay : reached.outlets_closed ≡ reached.outlets
   pub order : (length reached.inlets ≡ length plan.inlets.items) ⊎ (reached.outlets ≡ [])

@@ -29,11 +29,13 @@ fn asked(spec: OutletSpec, once: bool) -> OutletSpec
             path,
             fsync,
             mode,
+            folders,
             reopen,
         } => OutletSpec::File {
             path,
             fsync,
             mode,
+            folders,
             reopen: reopen_or_now(reopen, once),
         },
         OutletSpec::Tcp { host, port, reopen } => OutletSpec::Tcp {
@@ -44,10 +46,12 @@ fn asked(spec: OutletSpec, once: bool) -> OutletSpec
         OutletSpec::ByPath {
             fsync,
             mode,
+            folders,
             reopen,
         } => OutletSpec::ByPath {
             fsync,
             mode,
+            folders,
             reopen: reopen_or_now(reopen, once),
         },
     }

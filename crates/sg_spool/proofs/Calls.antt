@@ -1,6 +1,6 @@
 -- What every call keeps.
 use Rattle.std.proofs.Common.{◌≡◌, ◌⊎◌, inl, inr, ⊎_elim, ℕ, ◌+◌, ◌-◌, ◌≤◌, ◌^◌, min, List, [], ◌∷◌, ◌++◌, length, refl, sym, ◌∙◌, ap, subst, arith}
-use Rattle.std.specs.Prelude.{true, false, Result, Ok, Err}
+use Rattle.std.specs.Prelude.{Bool, true, false, Result, Ok, Err}
 use Rattle.sg_device.specs.Disk.{DiskState, Moves, Preserves, Within}
 use Rattle.sg_device.specs.Faults.{Rose}
 use Rattle.sg_device.proofs.Disks.{moves_refl, now_same, within_as, within_preserves}
@@ -24,6 +24,7 @@ lasts_same state v = record {
   moves = moves_refl (state v.disk);
   untouched = λ shut. refl;
   later = omega arith;
+  works = λ works. refl;
   blames = λ f le was shut. was shut;
 }
 
@@ -35,14 +36,20 @@ leaves_same state v step = record {
 }
 
 -- an open one went on
-pub lasts_open : {D : Type 0} (state : D → DiskState) (old new : View D) → old.closed ≡ false → new.capacity ≡ old.capacity → Moves (state old.disk) (state new.disk) → (state old.disk).faults ≤ (state new.disk).faults → (new.closed ≡ true → Rose (state old.disk).faults (state new.disk).faults) → Lasts state old new
-lasts_open state old new open_ capacity moves later rose = record {
+pub lasts_open : {D : Type 0} (state : D → DiskState) (old new : View D) → old.closed ≡ false → new.capacity ≡ old.capacity → Moves (state old.disk) (state new.disk) → (state old.disk).faults ≤ (state new.disk).faults → (new.closed ≡ false → (state new.disk).faults ≡ (state old.disk).faults) → (new.closed ≡ true → Rose (state old.disk).faults (state new.disk).faults) → Lasts state old new
+lasts_open state old new open_ capacity moves later works rose = record {
   capacity = capacity;
   moves = moves;
   untouched = λ shut. absurd (let no : false ≡ true = sym open_ ∙ shut in cc);
   later = later;
+  works = works;
   blames = λ f le was shut. let now = rose shut in omega (arith, le, now);
 }
+
+-- one that isn't closed wasn't before
+open_before : {D : Type 0} (state : D → DiskState) (mid new : View D) → Lasts state mid new → new.closed ≡ false → (shut : Bool) → mid.closed ≡ shut → mid.closed ≡ false
+open_before state mid new lasts works true is = absurd (let same = lasts.untouched is in let no : true ≡ false = sym is ∙ sym (ap (λ (v : View _). v.closed) same) ∙ works in cc)
+open_before state mid new lasts works false is = is
 
 pub lasts_trans : {D : Type 0} (state : D → DiskState) (old mid new : View D) → Lasts state old mid → Lasts state mid new → Lasts state old new
 lasts_trans state old mid new one two = record {
@@ -50,6 +57,7 @@ lasts_trans state old mid new one two = record {
   moves = moves_trans (state old.disk) (state mid.disk) (state new.disk) one.moves two.moves;
   untouched = λ shut. let same = one.untouched shut in two.untouched (ap (λ (v : View _). v.closed) same ∙ shut) ∙ same;
   later = omega (arith, one.later, two.later);
+  works = λ works. two.works works ∙ one.works (open_before state mid new two works mid.closed refl);
   blames = λ f le was shut. two.blames f (omega (arith, le, one.later)) (one.blames f le was) shut;
 }
 

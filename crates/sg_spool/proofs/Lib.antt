@@ -7,6 +7,7 @@ pub mod Chains
 pub mod Committing
 pub mod Copying
 pub mod Damages
+pub mod EntryReads
 pub mod Fresh
 pub mod Gathering
 pub mod InFront

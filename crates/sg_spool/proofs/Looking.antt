@@ -1,6 +1,6 @@
 -- What the first 64 bytes show of a disk-buffer.
 use Rattle.std.proofs.Common.{◌≡◌, inl, inr, ◌∙◌, sym, ap, subst, ℕ, List, ◌+◌, ◌-◌, ◌<◌, ◌≤◌, ◌^◌, length, get_or, arith, min, Option, Some, None}
-use Rattle.sg_device.specs.Disk.{DiskState, content, Preserves, WhereTold}
+use Rattle.sg_device.specs.Disk.{DiskState, content, Durable, Preserves, WhereTold}
 use Rattle.sg_device.proofs.Disks.{told_before}
 use Rattle.sg_stable.specs.Cell.{cell_value, HasCell, AreZero}
 use Rattle.sg_stable.specs.Opening.{IsSynced}
@@ -81,6 +81,7 @@ module _ (d0 d1 d2 : DiskState) (keeps : Preserves d0 d1) where
 pub cell_there : (b after : List ℕ) → ((k : ℕ) → k < 64 → get_or after k 0 ≡ get_or b k 0) → length after ≡ 64 → 128 ≤ length b → (cell : Pair) → HasCell cell.selector cell.value after → HasCell cell.selector cell.value b
 cell_there b after same long whole cell has = has_cell_same cell.selector cell.value after b has (omega (arith, long, whole)) (λ k lt. sym (same k (omega (arith, lt))))
 
-pub synced_on : {old new : DiskState} (r : Result Found StoreRefusal) → IsSynced old new → OnOk r (IsSynced old new)
-synced_on (Ok found) synced = synced
-synced_on (Err refusal) synced = tt
+-- a sync, and behind it calls that changed nothing
+pub synced_on : (old mid new : DiskState) (r : Result Found StoreRefusal) → Durable new → Preserves old new → mid.faults ≡ old.faults → OnOk r (new.faults ≡ mid.faults) → OnOk r (IsSynced old new)
+synced_on old mid new (Ok found) durable preserves synced well = record { durable = durable; preserves = preserves; well = well ∙ synced }
+synced_on old mid new (Err refusal) durable preserves synced well = tt

@@ -112,3 +112,6 @@ lost_memory Q e is lost = subst (WhereNoMemory Q) is lost
 
 pub fault_rose : (before now : ℕ) (e : RewriteRefusal) → e ≡ DiskFault → HasReadCause before now e → Rose before now
 fault_rose before now e is cause = subst (HasReadCause before now) is cause
+
+pub lost_still : (before now : ℕ) (e : RewriteRefusal) → e ≡ NoMemory → HasReadCause before now e → now ≡ before
+lost_still before now e is cause = subst (HasReadCause before now) is cause

@@ -1,5 +1,5 @@
 -- Which answer each call gives, and when.
-use Rattle.std.specs.Prelude.{◌≡◌, ◌⊎◌, ℕ, ◌+◌, ◌-◌, ◌≤◌, ◌^◌, min, List, [], ◌∷◌, ◌++◌, length, drop, map, Option, Some, None, Bool, true, false, Result, Ok, Err, IfErr}
+use Rattle.std.specs.Prelude.{◌≡◌, ◌⊎◌, ℕ, ◌+◌, ◌-◌, ◌≤◌, ◌^◌, min, List, [], ◌∷◌, ◌++◌, length, drop, map, Option, Some, None, Bool, true, false, Result, Ok, Err, IfErr, OnOk}
 use Rattle.sg_device.specs.Disk.{DiskState, content, WhereTold}
 use Rattle.sg_device.specs.Faults.{Rose}
 use Rattle.sg_spool.specs.Places.{Fits, Remains, gate_past, live}
@@ -141,14 +141,15 @@ IsWholeItem (WalkedItem payload next) = IsPayload payload.items
 IsWholeItem WalkedEmpty = Unit {0}
 IsWholeItem WalkedFailed = Unit {0}
 
--- the disk failed now
+-- the disk failed now; where memory ran out it didn't
 abbrev pub HasReadCause : ℕ → ℕ → RewriteRefusal → Type 0
 HasReadCause before now DiskFault = Rose before now
-HasReadCause before now NoMemory = Unit {0}
+HasReadCause before now NoMemory = now ≡ before
 
--- a refusal has its cause, and the count of faults never falls
+-- a refusal has its cause; the count of faults never falls, and stays where there is none
 pub record HasRefusalCause {T : Type 0} (before now : ℕ) (result : Result T RewriteRefusal) : Type 0 where
   pub later : before ≤ now
+  pub well : OnOk result (now ≡ before)
   pub failed : IfErr result (HasReadCause before now)
 
 -- what holds where memory ran out

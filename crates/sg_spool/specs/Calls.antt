@@ -11,12 +11,14 @@ use Rattle.sg_spool.specs.declared.rows.Rows.{Rows}
 use Rattle.sg_stable.specs.declared.cell.Pair.{Pair}
 
 -- What outlives a call: the capacity, and the images of past moments. A closed one stays as it is. The count of faults never
--- falls; one that is closed has its cause, which is that the count rose since any moment at which it was open.
+-- falls, and one that isn't closed left it as it was; one that is closed has its cause, which is that the count rose since any
+-- moment at which it was open.
 pub record Lasts {D : Type 0} (state : D → DiskState) (old new : View D) : Type 0 where
   pub capacity : new.capacity ≡ old.capacity
   pub moves : Moves (state old.disk) (state new.disk)
   pub untouched : old.closed ≡ true → new ≡ old
   pub later : (state old.disk).faults ≤ (state new.disk).faults
+  pub works : new.closed ≡ false → (state new.disk).faults ≡ (state old.disk).faults
   pub blames : (f : ℕ) → f ≤ (state old.disk).faults
       → (old.closed ≡ true → Rose f (state old.disk).faults) → new.closed ≡ true
       → Rose f (state new.disk).faults

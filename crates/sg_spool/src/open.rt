@@ -32,6 +32,7 @@ fn inspect<D: Disk>(disk: &mut D) -> Result<Found, StoreRefusal>
     ensures found { IfOk result (FindsRing (D.state disk.old)) }
     ensures told { (D.state disk.new).told ≡ (D.state disk.old).told }
     ensures later { (D.state disk.old).faults ≤ (D.state disk.new).faults }
+    ensures well { OnOk result ((D.state disk.new).faults ≡ (D.state disk.old).faults) }
     ensures reason { IfErr result (HasReason (D.state disk.old) (D.state disk.new)) }
 {
     let len = disk.len()?;

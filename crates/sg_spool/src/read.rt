@@ -1,5 +1,5 @@
 // Reading an entry.
-ghost use Rattle.std.specs.Prelude.{◌≡◌, ◌≤◌, ◌<◌, ◌+◌, ◌^◌, List, ℕ, length, IfOk};
+ghost use Rattle.std.specs.Prelude.{◌≡◌, ◌≤◌, ◌<◌, ◌+◌, ◌^◌, List, ℕ, length, take, IfOk};
 ghost use Rattle.sg_device.specs.Disk.{content, WhereTold, HasCause};
 ghost use Rattle.sg_spool.specs.Answers.{HasRefusalCause};
 ghost use Rattle.sg_spool.specs.Ring.{IsPayload, IsEntry};
@@ -25,7 +25,8 @@ pub(crate) fn read_size<D: Disk>(disk: &mut D, gate: u64) -> Result<u64, DiskFau
     Ok(size_of(&bytes).max(1).min(LONGEST) as u64)
 }
 
-// The payload of the entry at this gate.
+// The payload of the entry at this gate: the bytes that are read of it, one at least.
+#[tactic(auto, using(crate::proofs::EntryReads::payload_read, crate::proofs::EntryReads::fits_read))]
 pub(crate) fn read_entry<D: Disk>(
     alloc: Global,
     disk: &mut D,
@@ -39,8 +40,16 @@ pub(crate) fn read_entry<D: Disk>(
 {
     let size = read_size(disk, gate)?;
     let mut payload = zeros(alloc, size as usize)?;
-    disk.read_at(gate.saturating_add(5), &mut payload)?;
-    Ok(payload)
+    let count = disk.read_at(gate.saturating_add(5), &mut payload)?;
+    Ok(cut_to(payload, count.max(1)))
+}
+
+// The first bytes, so many.
+fn cut_to(mut bytes: Vec<u8>, count: usize) -> Vec<u8>
+    ensures { result.items ≡ take count bytes.items }
+{
+    bytes.truncate(count);
+    bytes
 }
 
 // So many zeros.

@@ -1,5 +1,5 @@
 // The walk along the gates.
-ghost use Rattle.std.specs.Prelude.{◌≡◌, ◌≢◌, ◌<◌, ◌≤◌, ◌+◌, ◌^◌, List, ℕ, length, IfOk, IfErr, None};
+ghost use Rattle.std.specs.Prelude.{◌≡◌, ◌≢◌, ◌<◌, ◌≤◌, ◌+◌, ◌^◌, List, ℕ, length, IfOk, IfErr, OnOk, None};
 ghost use Rattle.sg_device.specs.Disk.{content, WhereTold, HasCause};
 ghost use Rattle.sg_spool.specs.Opening.{WalkReason};
 ghost use Rattle.sg_spool.specs.Places.{AreOrdered};
@@ -126,6 +126,7 @@ pub(crate) fn walk_from<D: Disk>(disk: &mut D, head: u64, len: u64) -> Result<Pl
     ensures ordered { IfOk result (λ place. AreOrdered place.jump head place.gate) }
     ensures told { (D.state disk.new).told ≡ (D.state disk.old).told }
     ensures later { (D.state disk.old).faults ≤ (D.state disk.new).faults }
+    ensures well { OnOk result ((D.state disk.new).faults ≡ (D.state disk.old).faults) }
     ensures reason { IfErr result (WalkReason (D.state disk.old) (D.state disk.new) head) }
 {
     let mut place = Place {

@@ -1,7 +1,7 @@
 -- What the first 128 bytes show of a store.
 use Rattle.std.proofs.Common.{◌≡◌, ◌∙◌, sym, ℕ, List, ◌<◌, ◌≤◌, length, get_or, arith}
 use Rattle.std.specs.Prelude.{Result, Ok, Err, IfOk, IfErr, OnOk}
-use Rattle.sg_device.specs.Disk.{DiskState, Preserves}
+use Rattle.sg_device.specs.Disk.{DiskState, Durable, Preserves}
 use Rattle.sg_device.proofs.Disks.{told_before}
 use Rattle.sg_stable.specs.declared.cell.Pair.{Pair}
 use Rattle.sg_stable.specs.declared.fault.StoreRefusal.{StoreRefusal}
@@ -51,6 +51,7 @@ module _ (d0 d1 d2 : DiskState) (keeps : Preserves d0 d1) where
   }
   found_before (Err refusal) found = found
 
-pub synced_on : {old new : DiskState} (r : Result Pair StoreRefusal) → IsSynced old new → OnOk r (IsSynced old new)
-synced_on (Ok cell) synced = synced
-synced_on (Err refusal) synced = tt
+-- a sync, and behind it calls that changed nothing
+pub synced_on : (old mid new : DiskState) (r : Result Pair StoreRefusal) → Durable new → Preserves old new → mid.faults ≡ old.faults → OnOk r (new.faults ≡ mid.faults) → OnOk r (IsSynced old new)
+synced_on old mid new (Ok cell) durable preserves synced well = record { durable = durable; preserves = preserves; well = well ∙ synced }
+synced_on old mid new (Err refusal) durable preserves synced well = tt

@@ -11,11 +11,11 @@ pub record FindsCell (disk : DiskState) (cell : Pair) : Type 0 where
   pub has_cell : WhereTold (content disk) (HasCell cell.selector cell.value)
   pub opened : cell.closed ≡ false
 
--- the disk was synced, and nothing changed: all that a read gives is durable
+-- the disk was synced, and nothing changed: all that a read gives is durable, and no fault was counted
 pub record IsSynced (old new : DiskState) : Type 0 where
   pub durable : Durable new
   pub preserves : Preserves old new
-  pub later : old.faults ≤ new.faults
+  pub well : new.faults ≡ old.faults
 
 -- Nothing was written: no image is added, but a read may give another of them. The count of faults never falls.
 pub record IsUnwritten (old new : DiskState) : Type 0 where

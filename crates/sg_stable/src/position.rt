@@ -102,6 +102,7 @@ fn inspect<D: Disk>(disk: &mut D) -> Result<Pair, StoreRefusal>
     ensures found { IfOk result (FindsCell (D.state disk.old)) }
     ensures told { (D.state disk.new).told ≡ (D.state disk.old).told }
     ensures later { (D.state disk.old).faults ≤ (D.state disk.new).faults }
+    ensures well { OnOk result ((D.state disk.new).faults ≡ (D.state disk.old).faults) }
     ensures reason { IfErr result (HasReason (D.state disk.old) (D.state disk.new)) }
 {
     let len = disk.len()?;

@@ -1,30 +1,39 @@
 -- A call as an event: which stores it touches.
-use Rattle.std.proofs.Common.{◌≡◌, ◌≢◌, ℕ, ◌+◌, ◌≤◌, List, [], ◌∷◌, ◌++◌, length, Some, None, Option, Bool, true, false, refl, sym, ap, ◌∙◌, arith, suc, zero, slice_get, subst, ◌⊎◌, inl, inr, map}
-use Rattle.std.specs.Prelude.{option_and_then, ◌==◌}
-use Rattle.std.specs.Option.{option_map_or}
+use Rattle.std.proofs.Common.{◌≡◌, ◌≢◌, ℕ, ◌+◌, List, [], ◌∷◌, ◌++◌, length, Some, None, true, false, refl, sym, ap, ◌∙◌, arith, suc, zero, slice_get, subst, ◌⊎◌, inl, inr}
+use Rattle.std.specs.Prelude.{◌==◌}
 use Rattle.std.proofs.lemmas.Bool.{cases_eq}
 use Rattle.sg_list.specs.Lists.{change}
 use Rattle.sg_list.proofs.ListLemmas.{some-same, length-change, get-change-same, get-change-other}
-use Rattle.sg_device.specs.Disk.{EachNow, Within}
+use Rattle.sg_device.specs.Disk.{Within}
 use Rattle.sg_device.specs.Faults.{Rose}
 use Rattle.sg_machine.specs.declared.event.Act.{Act}
 use Rattle.sg_machine.specs.declared.event.Event.{Event}
 use Rattle.sg_machine.specs.declared.setup.BufferSetup.{BufferSetup}
-use Rattle.sg_machine.specs.declared.setup.SourceSetup.{SourceSetup}
 use Rattle.sg_machine.specs.declared.state.Dest.{Dest}
 use Rattle.sg_machine.specs.declared.state.Inlet.{Inlet}
 use Rattle.sg_machine.specs.declared.state.State.{State}
 use Rattle.sg_machine.specs.Effects.{after_act}
-use Rattle.sg_machine.specs.Legal.{is_legal_act, store_of}
+use Rattle.sg_machine.specs.Legal.{is_legal_act}
 use Rattle.sg_machine.specs.Runs.{after_all}
 use Rattle.sg_machine.specs.Safe.{failed_entries}
 use Rattle.sg_machine.specs.Verdicts.{is_listed}
 use Rattle.sg_counter.specs.Bringing.{store_in}
 use Rattle.sg_stores.specs.Stores.{StoreState, Goes, AllGo}
 use Rattle.sg_standing.specs.States.{CoreState, setup_of}
-use Rattle.sg_standing.specs.Standing.{IsAt, IsOneOf, IsSafeStore, StandsFor, HavePositionsWithin, HaveListsWithin, HaveRisen, Does, AreApart, setups_of, buffer_in, positions_within, failed_then}
+use Rattle.sg_standing.specs.Standing.{IsAt, IsOneOf, IsSafeStore, StandsFor, StandsOn, HavePositionsWithin, HaveListsWithin, HaveRisen, Does, AreApart, setups_of, buffer_in, positions_within, failed_then}
 use Rattle.sg_standing.proofs.More.{more-stands}
 use Rattle.sg_standing.proofs.Still.{StaysSame, within-same, position-before, list-before}
+
+-- it stands for the event behind those before
+one-stands : (old new : CoreState) (act : Act) (failed : List ℕ) → AllGo old.stores new.stores
+    → ((s : State) → IsAt old s → (is_legal_act s act failed ≡ true) × IsAt new (after_act s act failed))
+    → ((start : State) (events : List Event) → StandsFor old start events → HavePositionsWithin old.stores new.stores start events (record { act = act; failed = failed }))
+    → ((start : State) (events : List Event) → StandsFor old start events → HaveListsWithin old.stores new.stores start events (record { act = act; failed = failed }))
+    → (start : State) (events : List Event) (h : StandsFor old start events) → StandsOn new start events (record { act = act; failed = failed } ∷ []) h.moments.rows
+one-stands old new act failed goes step positions lists start events h =
+    let e : Event = record { act = act; failed = failed } in
+    let r = step (after_all start events) h.at in
+    more-stands old new start events e h (record { legal = r.0; at = r.1; goes = goes; positions = positions start events h; lists = lists start events h })
 
 pub does-of : (old new : CoreState) (act : Act) (failed : List ℕ) → HaveRisen old.stores new.stores failed → AllGo old.stores new.stores → new.calls ≡ old.calls + 1 → setup_of new ≡ setup_of old
     → ((s : State) → IsAt old s → (is_legal_act s act failed ≡ true) × IsAt new (after_act s act failed))
@@ -40,10 +49,8 @@ does-of old new act failed risen goes calls setup step positions lists = record 
   step = step;
   positions = positions;
   lists = lists;
-  stands = λ start events h.
-      let e : Event = record { act = act; failed = failed } in
-      let r = step (after_all start events) h.at in
-      more-stands old new start events e h (record { legal = r.0; at = r.1; goes = goes; positions = positions start events h; lists = lists start events h });
+  stands = λ start events h. (one-stands old new act failed goes step positions lists start events h).stands;
+  keeps = λ start events h. (one-stands old new act failed goes step positions lists start events h).keeps;
 }
 
 -- Stores that stay.
@@ -52,6 +59,9 @@ pub goes-refl : (o : StoreState) → Goes o o
 goes-refl o = record {
   moves = record { later = omega arith; past = λ t c l i. i; kept = λ t c l i. i };
   later = omega arith;
+  stays = λ failed. failed;
+  works = λ works. refl;
+  broke = λ works failed. absurd (let no : true ≡ false = sym failed ∙ works in cc);
 }
 
 pub stays-refl : (o n : StoreState) → o ≡ n → StaysSame o n

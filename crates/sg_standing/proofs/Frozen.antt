@@ -1,16 +1,15 @@
 -- What an event leaves of an inlet and of a destination whose store has failed.
-use Rattle.std.proofs.Common.{◌≡◌, ◌≢◌, ℕ, ◌+◌, ◌≤◌, ◌<◌, List, [], ◌∷◌, ◌++◌, length, Some, None, Option, Bool, true, false, ◌&&◌, ◌||◌, not, if◌then◌else◌, refl, sym, ap, ◌∙◌, arith, suc, zero, map, filter, take, drop, slice_get, subst, inl, inr, append_assoc}
+use Rattle.std.proofs.Common.{◌≡◌, ◌≢◌, ℕ, ◌≤◌, List, [], ◌∷◌, ◌++◌, length, Some, None, Option, Bool, true, false, ◌&&◌, ◌||◌, not, if◌then◌else◌, refl, sym, ap, ◌∙◌, arith, suc, take, drop, slice_get, subst, inl, inr, append_assoc}
 use Rattle.std.specs.Prelude.{◌==◌, nat_lt, nat_le}
 use Rattle.std.specs.Option.{option_map_or}
 use Rattle.std.proofs.lemmas.Bool.{cases_eq}
 use Rattle.std.proofs.lemmas.List.{append-nil}
 use Rattle.sg_list.specs.Lists.{change, passes_at}
-use Rattle.sg_list.proofs.ListLemmas.{some-same, get-change-same, get-change-other, length-change, slice_get-some, slice_get-below, passes_at-some}
+use Rattle.sg_list.proofs.ListLemmas.{some-same, get-change-same, get-change-other, length-change, passes_at-some}
 use Rattle.sg_msg.specs.declared.offer.Offer.{Offer}
 use Rattle.sg_machine.specs.declared.event.Act.{Act}
 use Rattle.sg_machine.specs.declared.event.Act.TheVariants.{Admit, Settle, Refill, Store, Rewind, Look}
 use Rattle.sg_machine.specs.declared.event.Admission.{Admission}
-use Rattle.sg_machine.specs.declared.event.Event.{Event}
 use Rattle.sg_machine.specs.declared.event.Verdict.{Verdict}
 use Rattle.sg_machine.specs.declared.event.Verdict.TheVariants.{Queued, Spooled, Waits, DroppedFull, DroppedDisk}
 use Rattle.sg_machine.specs.declared.setup.BufferSetup.{BufferSetup}
@@ -21,9 +20,8 @@ use Rattle.sg_machine.specs.declared.state.Entry.{Entry}
 use Rattle.sg_machine.specs.declared.state.Inlet.{Inlet}
 use Rattle.sg_machine.specs.declared.state.Origin.{Origin}
 use Rattle.sg_machine.specs.declared.state.State.{State}
-use Rattle.sg_machine.specs.Counts.{as_kept, is_spooled}
 use Rattle.sg_machine.specs.Effects.{next_of, admitted, settled_some, refilled_some, stored_at, rewound, after_act}
-use Rattle.sg_machine.specs.Legal.{is_legal_act, is_same_list, is_nil, fit_in_turn, store_of, works, may_admit, may_settle, may_refill, may_store, may_rewind}
+use Rattle.sg_machine.specs.Legal.{is_legal_act, is_same_list, is_nil, fit_in_turn, store_of, works, may_admit, may_refill, may_store, may_rewind}
 use Rattle.sg_machine.specs.Marks.{mark_of}
 use Rattle.sg_machine.specs.Runs.{Kept}
 use Rattle.sg_machine.specs.Safe.{IsSafeList, spooled_of, settled_by, has_failed, running_position, kept_from, spooled_offers, appends}

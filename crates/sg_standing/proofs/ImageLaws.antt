@@ -1,14 +1,13 @@
 -- Images of the stores of a core.
-use Rattle.std.proofs.Common.{◌≡◌, ℕ, ◌+◌, ◌≤◌, ◌<◌, List, [], ◌∷◌, ◌++◌, length, take, drop, Some, None, Option, Bool, true, false, refl, sym, ap, ◌∙◌, arith, suc, zero, slice_get, subst, inl, inr, map, append_assoc}
-use Rattle.std.specs.Prelude.{option_to_list, is_some}
+use Rattle.std.proofs.Common.{◌≡◌, ℕ, ◌+◌, List, [], ◌∷◌, ◌++◌, length, take, drop, Some, None, Option, Bool, true, false, refl, sym, ap, ◌∙◌, arith, suc, zero, slice_get, subst, inl, inr, map, append_assoc}
+use Rattle.std.specs.Prelude.{is_some}
 use Rattle.std.specs.Option.{option_map_or}
 use Rattle.std.proofs.lemmas.Bool.{cases_eq}
 use Rattle.std.proofs.lemmas.List.{length-map}
 use Rattle.sg_list.specs.Lists.{change}
 use Rattle.sg_list.proofs.ListLemmas.{some-same, slice_get-map, slice_get-some, slice_get-below, get-change-same, get-change-other}
-use Rattle.sg_device.specs.Disk.{clock, IsImage, IsImageAt, Within}
+use Rattle.sg_device.specs.Disk.{IsImage, IsImageAt}
 use Rattle.sg_stable.specs.Cell.{cell_value}
-use Rattle.sg_stable.specs.Position.{IsPosition}
 use Rattle.sg_codec.specs.declared.kept.Kept.{Kept as Coded}
 use Rattle.sg_buffer.specs.Entries.{IsListOf}
 use Rattle.sg_machine.specs.declared.event.Act.{Act}
@@ -22,9 +21,8 @@ use Rattle.sg_machine.specs.declared.state.Dest.{Dest}
 use Rattle.sg_machine.specs.declared.state.Inlet.{Inlet}
 use Rattle.sg_machine.specs.declared.state.State.{State}
 use Rattle.sg_machine.specs.Effects.{admitted, stored_at, rewound, after, after_act}
-use Rattle.sg_machine.specs.Legal.{is_legal}
 use Rattle.sg_machine.specs.Runs.{Kept, Opening, opened, after_all, are_legal}
-use Rattle.sg_machine.specs.Safe.{Safe, ImagesAt, IsSafeList, nothing, failed_position, failed_entries}
+use Rattle.sg_machine.specs.Safe.{Safe, ImagesAt, IsSafeList, nothing, failed_entries}
 use Rattle.sg_machine.specs.Verdicts.{is_listed}
 use Rattle.sg_machine.proofs.RunLemmas.{after_all-append, are_legal-parts, length-inlets-after_act}
 use Rattle.sg_machine.proofs.SafeLemmas.{safe}

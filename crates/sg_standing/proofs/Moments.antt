@@ -1,20 +1,15 @@
 -- A timetable with one row more.
-use Rattle.std.proofs.Common.{◌≡◌, ℕ, ◌+◌, ◌-◌, ◌≤◌, ◌<◌, List, [], ◌∷◌, ◌++◌, length, take, Some, None, Option, Bool, true, false, if◌then◌else◌, refl, sym, ap, ◌∙◌, arith, suc, zero, slice_get, subst, inl, inr}
+use Rattle.std.proofs.Common.{◌≡◌, ℕ, ◌+◌, ◌-◌, ◌≤◌, ◌<◌, List, [], ◌∷◌, ◌++◌, length, take, Some, true, false, if◌then◌else◌, refl, sym, ap, ◌∙◌, arith, suc, zero, slice_get, subst, inl, inr}
 use Rattle.std.specs.Prelude.{nat_le}
 use Rattle.std.specs.Option.{option_map_or}
-use Rattle.std.proofs.lemmas.Bool.{cases_lt, cases_eq}
+use Rattle.std.proofs.lemmas.Bool.{cases_lt}
 use Rattle.std.proofs.lemmas.List.{length-append}
 use Rattle.sg_list.proofs.ListLemmas.{some-same, slice_get-some, slice_get-below}
-use Rattle.sg_device.specs.Disk.{clock, IsImageAt}
+use Rattle.sg_device.specs.Disk.{clock}
 use Rattle.sg_machine.specs.declared.event.Event.{Event}
-use Rattle.sg_machine.specs.declared.setup.BufferSetup.{BufferSetup}
-use Rattle.sg_machine.specs.declared.state.Dest.{Dest}
-use Rattle.sg_machine.specs.declared.state.Inlet.{Inlet}
 use Rattle.sg_machine.specs.declared.state.State.{State}
-use Rattle.sg_machine.specs.Runs.{after_all}
-use Rattle.sg_machine.specs.Safe.{failed_entries}
 use Rattle.sg_stores.specs.Stores.{StoreState, AllGo}
-use Rattle.sg_standing.specs.Standing.{IsTimetable, PositionsBetween, ListsBetween, HavePositionsWithin, HaveListsWithin, IsOneOf, IsSafeStore, positions_within, failed_then}
+use Rattle.sg_standing.specs.Standing.{IsTimetable, KeepsRows, PositionsBetween, ListsBetween, HavePositionsWithin, HaveListsWithin}
 use Rattle.sg_standing.proofs.ListSteps.{get-front, get-last, take-front, take-whole}
 
 -- the store was there before
@@ -61,12 +56,12 @@ which-event events e k ev h =
     let len = length-more events e in
     omega (arith, below, len)
 
-pub timetable-more : (olds news : List StoreState) (start : State) (events : List Event) (e : Event) → IsTimetable olds start events → AllGo olds news → HavePositionsWithin olds news start events e → HaveListsWithin olds news start events e
-    → IsTimetable news start (events ++ e ∷ [])
+pub timetable-more : (olds news : List StoreState) (start : State) (events : List Event) (e : Event) (t : IsTimetable olds start events) → AllGo olds news → HavePositionsWithin olds news start events e → HaveListsWithin olds news start events e
+    → (later : IsTimetable news start (events ++ e ∷ [])) × KeepsRows (length events) t.rows later.rows
 timetable-more olds news start events e t go positions lists =
     let n = length events in
     let rows = rows_then n t.rows news in
-    record {
+    let later : IsTimetable news start (events ++ e ∷ []) = record {
       rows = rows;
       ascend = λ k s store h l.
           let o = was-store olds news s store go h in
@@ -144,4 +139,5 @@ timetable-more olds news start events e t go positions lists =
                 let last = t.last s o.0 o.1 in
                 (lists d dest buffer o.0 store there has o.1 now).each moment bytes (omega (arith, since, a, last)) (omega (arith, until, b)) image)))
           ];
-    }
+    } in
+    (later, λ k s l. row-old n t.rows news k s l)

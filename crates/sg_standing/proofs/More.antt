@@ -1,9 +1,8 @@
 -- One event more.
-use Rattle.std.proofs.Common.{◌≡◌, ℕ, ◌+◌, ◌<◌, List, [], ◌∷◌, ◌++◌, length, Some, None, Option, Bool, true, false, refl, sym, ap, ◌∙◌, arith, slice_get, subst, inl, inr}
+use Rattle.std.proofs.Common.{◌≡◌, ℕ, ◌<◌, List, [], ◌∷◌, ◌++◌, length, Some, Option, true, refl, sym, ap, ◌∙◌, arith, slice_get, subst}
 use Rattle.std.specs.Prelude.{option_to_list}
-use Rattle.std.specs.Option.{option_map_or}
 use Rattle.sg_list.proofs.ListLemmas.{some-same, slice_get-some, slice_get-below}
-use Rattle.sg_device.specs.Disk.{DiskState, clock, IsImageAt, EachNow, Within}
+use Rattle.sg_device.specs.Disk.{DiskState, clock, EachNow, Within}
 use Rattle.sg_machine.specs.declared.event.Event.{Event}
 use Rattle.sg_machine.specs.declared.setup.BufferSetup.{BufferSetup}
 use Rattle.sg_machine.specs.declared.setup.DestSetup.{DestSetup}
@@ -12,15 +11,15 @@ use Rattle.sg_machine.specs.declared.state.Dest.{Dest}
 use Rattle.sg_machine.specs.declared.state.Inlet.{Inlet}
 use Rattle.sg_machine.specs.declared.state.State.{State}
 use Rattle.sg_machine.specs.declared.event.Act.TheVariants.{Look}
-use Rattle.sg_machine.specs.Effects.{after, after_act}
+use Rattle.sg_machine.specs.Effects.{after}
 use Rattle.sg_machine.specs.Legal.{is_legal, store_of}
 use Rattle.sg_machine.specs.Runs.{after_all, are_legal}
 use Rattle.sg_machine.specs.Safe.{failed_position, failed_entries, running_position, has_failed, IsSafeList}
 use Rattle.sg_machine.specs.Verdicts.{is_listed}
 use Rattle.sg_machine.proofs.RunLemmas.{after_all-append, are_legal-join}
-use Rattle.sg_stores.specs.Stores.{StoreState, AllGo}
+use Rattle.sg_stores.specs.Stores.{StoreState}
 use Rattle.sg_standing.specs.States.{CoreState}
-use Rattle.sg_standing.specs.Standing.{IsAt, IsOneOf, IsPlaced, HoldsPosition, IsStored, IsBacked, StandsFor, Adds, HavePositions, HaveLists, IsSafeStore, positions_now, positions_within, failed_then}
+use Rattle.sg_standing.specs.Standing.{IsAt, IsOneOf, IsPlaced, HoldsPosition, IsStored, StandsFor, StandsOn, Adds, HavePositions, HaveLists, IsSafeStore, positions_within, failed_then}
 use Rattle.sg_standing.proofs.Frozen.{was-there, freezes, safe-after, length-dests, kept-setup}
 use Rattle.sg_standing.proofs.Moments.{was-store, timetable-more}
 
@@ -102,11 +101,16 @@ lists-more old new start events e h a d y buffer store there has get fails =
       safe = subst (λ (z : Dest). IsSafeList z d Look (failed_then start events e) tried r.list) is (safe-after x.0 f.0 d e.act (failed_then start events e) tried r.list f.2 (broken-store x.0 buffer (failed_then start events e) had listed) r.safe);
     })
 
-pub more-stands : (old new : CoreState) (start : State) (events : List Event) (e : Event) → StandsFor old start events → Adds old new start events e → StandsFor new start (events ++ e ∷ [])
-more-stands old new start events e h a = record {
-  legal = legal-more start events e h.legal a.legal;
-  at = subst (λ (t : State). IsAt new t) (sym (after-more start events e)) a.at;
-  positions = positions-more old new start events e h a;
-  lists = lists-more old new start events e h a;
-  moments = timetable-more old.stores new.stores start events e h.moments a.goes a.positions a.lists;
-}
+pub more-stands : (old new : CoreState) (start : State) (events : List Event) (e : Event) (h : StandsFor old start events) → Adds old new start events e → StandsOn new start events (e ∷ []) h.moments.rows
+more-stands old new start events e h a =
+    let moments = timetable-more old.stores new.stores start events e h.moments a.goes a.positions a.lists in
+    record {
+      stands = record {
+        legal = legal-more start events e h.legal a.legal;
+        at = subst (λ (t : State). IsAt new t) (sym (after-more start events e)) a.at;
+        positions = positions-more old new start events e h a;
+        lists = lists-more old new start events e h a;
+        moments = moments.0;
+      };
+      keeps = moments.1;
+    }

@@ -4,23 +4,17 @@ use Rattle.std.specs.Prelude.{◌==◌, option_and_then}
 use Rattle.std.specs.Option.{option_map_or}
 use Rattle.std.proofs.lemmas.List.{append-nil, map-append, length-append}
 use Rattle.std.proofs.lemmas.List.Elements.{filter-append}
-use Rattle.sg_list.proofs.ListLemmas.{some-same}
 use Rattle.sg_machine.specs.declared.event.Act.{Act}
 use Rattle.sg_machine.specs.declared.event.Act.TheVariants.{Admit, Settle, Refill, Store, Rewind, Look}
 use Rattle.sg_machine.specs.declared.event.Event.{Event}
-use Rattle.sg_machine.specs.declared.setup.BufferSetup.{BufferSetup}
-use Rattle.sg_machine.specs.declared.setup.DestSetup.{DestSetup}
 use Rattle.sg_machine.specs.declared.state.Dest.{Dest}
 use Rattle.sg_machine.specs.declared.state.Entry.{Entry}
 use Rattle.sg_machine.specs.declared.state.State.{State}
 use Rattle.sg_machine.specs.Counts.{as_kept, is_spooled}
 use Rattle.sg_machine.specs.Effects.{after}
-use Rattle.sg_machine.specs.Legal.{store_of, is_legal}
-use Rattle.sg_machine.specs.Runs.{Kept, after_all, are_legal}
-use Rattle.sg_machine.specs.Safe.{IsSafeList, spooled_of, settled_by, appends, tried_by, has_failed, first_of, failing_entries, failed_append, failed_entries, is_settle}
-use Rattle.sg_machine.specs.Verdicts.{is_listed}
-use Rattle.sg_machine.proofs.CountLemmas.{counts-dest}
-use Rattle.sg_machine.proofs.RunLemmas.{both-true}
+use Rattle.sg_machine.specs.Legal.{store_of}
+use Rattle.sg_machine.specs.Runs.{Kept, after_all}
+use Rattle.sg_machine.specs.Safe.{IsSafeList, spooled_of, settled_by, appends, has_failed, first_of, failing_entries, failed_append, failed_entries}
 use Rattle.sg_standing.proofs.ListSteps.{drop-front}
 
 pub spooled-append : (xs ys : List Entry) → spooled_of (xs ++ ys) ≡ spooled_of xs ++ spooled_of ys

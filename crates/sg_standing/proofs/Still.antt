@@ -1,28 +1,24 @@
 -- What an event leaves of stores that it doesn't touch.
-use Rattle.std.proofs.Common.{◌≡◌, ℕ, ◌+◌, ◌≤◌, List, [], ◌∷◌, ◌++◌, length, Some, None, Option, Bool, true, false, ◌||◌, refl, sym, ap, ◌∙◌, arith, slice_get, subst, ◌⊎◌, inl, inr, map}
+use Rattle.std.proofs.Common.{◌≡◌, ℕ, List, [], ◌∷◌, ◌++◌, Some, None, Option, Bool, true, false, ◌||◌, refl, sym, ap, ◌∙◌, arith, slice_get, subst, ◌⊎◌, inl, inr, map}
 use Rattle.std.specs.Prelude.{option_and_then, option_to_list, ◌==◌}
 use Rattle.std.proofs.lemmas.List.{append-nil}
-use Rattle.sg_list.proofs.ListLemmas.{some-same}
 use Rattle.sg_device.specs.Disk.{DiskState, clock, event_count, IsImageAt, IsLeftAt, DiskLog, EachNow, Within}
 use Rattle.sg_stable.specs.Position.{IsPosition}
-use Rattle.sg_spool.specs.Ring.{Entries, IsList}
+use Rattle.sg_spool.specs.Ring.{IsList}
 use Rattle.sg_buffer.specs.Entries.{IsListOf, AreKept, spelled}
 use Rattle.sg_buffer.proofs.Stored.{news_stored}
-use Rattle.sg_machine.specs.declared.event.Act.{Act}
-use Rattle.sg_machine.specs.declared.event.Act.TheVariants.{Look}
 use Rattle.sg_machine.specs.declared.event.Event.{Event}
 use Rattle.sg_machine.specs.declared.setup.BufferSetup.{BufferSetup}
 use Rattle.sg_machine.specs.declared.state.Dest.{Dest}
 use Rattle.sg_machine.specs.declared.state.Inlet.{Inlet}
 use Rattle.sg_machine.specs.declared.state.State.{State}
 use Rattle.sg_machine.specs.Effects.{after}
-use Rattle.sg_machine.specs.Legal.{store_of}
 use Rattle.sg_machine.specs.Runs.{Kept, after_all}
-use Rattle.sg_machine.specs.Safe.{IsSafeList, first_of, failing_position, failed_position, failed_entries, running_position, has_failed, spooled_of}
+use Rattle.sg_machine.specs.Safe.{first_of, failing_position, failed_position, failed_entries, running_position, spooled_of}
 use Rattle.sg_machine.specs.Verdicts.{is_listed}
 use Rattle.sg_stores.specs.Stores.{BufferState, StoreState, HoldsIn, HoldsEntries, coded}
 use Rattle.sg_standing.specs.States.{CoreState}
-use Rattle.sg_standing.specs.Standing.{IsAt, IsOneOf, IsSafeStore, StandsFor, positions_now, positions_within, failed_then}
+use Rattle.sg_standing.specs.Standing.{IsOneOf, IsSafeStore, StandsFor, positions_now, positions_within, failed_then}
 use Rattle.sg_standing.proofs.Frozen.{listed-behind, listed-front}
 use Rattle.sg_standing.proofs.More.{placed, backed, broken-store}
 use Rattle.sg_standing.proofs.Safes.{safe-same, safe-later, entries-later}

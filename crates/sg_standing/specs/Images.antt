@@ -1,5 +1,5 @@
 -- What a crash may leave on the disks of a core.
-use Rattle.std.specs.Prelude.{◌≡◌, ◌≤◌, ℕ, ◌+◌, Option, Some, None, List, length, map, slice_get}
+use Rattle.std.specs.Prelude.{◌≡◌, ◌≤◌, ℕ, Option, Some, None, List, length, map, slice_get}
 use Rattle.std.specs.Option.{option_map_or}
 use Rattle.sg_device.specs.Disk.{clock, IsImage, IsImageAt}
 use Rattle.sg_stable.specs.Cell.{cell_value}

@@ -1,6 +1,5 @@
 -- What a core keeps of the machine's state, and which events it stands for.
 use Rattle.std.specs.Prelude.{◌≡◌, ◌≤◌, ◌<◌, ℕ, ◌+◌, Bool, true, false, IsSome, Option, Some, None, option_and_then, option_to_list, List, [], ◌∷◌, ◌++◌, length, map, take, slice_get}
-use Rattle.std.specs.Option.{option_map_or}
 use Rattle.sg_device.specs.Disk.{EachNow, Within, clock, IsImageAt}
 use Rattle.sg_device.specs.Faults.{Rose}
 use Rattle.sg_stable.specs.Position.{IsPosition}
@@ -230,6 +229,10 @@ pub record IsTimetable (stores : List StoreState) (start : State) (events : List
   pub lists : (k : ℕ) (event : Event) → slice_get events k ≡ Some event
       → ListsBetween stores (rows k) (rows (k + 1)) start (take k events) event
 
+-- the rows up to that of this number stay
+abbrev pub KeepsRows : ℕ → (ℕ → ℕ → ℕ) → (ℕ → ℕ → ℕ) → Type 0
+KeepsRows n rows rows' = (k s : ℕ) → k ≤ n → rows' k s ≡ rows k s
+
 -- The core stands for these events from that state on: they are legal, it keeps what the state after them has, the images of its
 -- stores are what they may leave, and so were those of each moment since.
 pub record StandsFor (core : CoreState) (start : State) (events : List Event) : Type 0 where
@@ -238,6 +241,11 @@ pub record StandsFor (core : CoreState) (start : State) (events : List Event) : 
   pub positions : HavePositions core.stores start events
   pub lists : HaveLists core.stores start events
   pub moments : IsTimetable core.stores start events
+
+-- it stands for these events and more, by a timetable that keeps the rows of these
+pub record StandsOn (core : CoreState) (start : State) (events more : List Event) (rows : ℕ → ℕ → ℕ) : Type 0 where
+  pub stands : StandsFor core start (events ++ more)
+  pub keeps : KeepsRows (length events) rows stands.moments.rows
 
 -- Calls.
 
@@ -276,3 +284,6 @@ pub record Does (old new : CoreState) (act : Act) : Type 0 where
   -- so it stands for one event more
   pub stands : (start : State) (events : List Event) → StandsFor old start events
       → StandsFor new start (events ++ record { act = act; failed = failed } ∷ [])
+  -- and each row that there was stays
+  pub keeps : (start : State) (events : List Event) (stood : StandsFor old start events)
+      → KeepsRows (length events) stood.moments.rows (stands start events stood).moments.rows

@@ -1,6 +1,6 @@
 // For which events a core stands, and what a crash leaves of its stores. The functions here do nothing:
 // their contracts are laws.
-ghost use Rattle.std.specs.Prelude.{◌≡◌, ◌+◌, ℕ, List, [], ◌∷◌, ◌++◌, Some, slice_get, take};
+ghost use Rattle.std.specs.Prelude.{◌≡◌, ◌+◌, ℕ, List, [], ◌∷◌, Some, slice_get, take};
 ghost use Rattle.sg_machine.specs.declared.event.Act.{Act};
 ghost use Rattle.sg_machine.specs.declared.event.Event.{Event};
 ghost use Rattle.sg_machine.specs.declared.setup.Setup.{Setup};
@@ -8,17 +8,17 @@ ghost use Rattle.sg_machine.specs.declared.state.State.{State};
 ghost use Rattle.sg_machine.specs.Runs.{Kept, Opening, opened};
 ghost use Rattle.sg_machine.specs.Safe.{Safe, nothing};
 ghost use Rattle.sg_standing.specs.States.{CoreState};
-ghost use Rattle.sg_standing.specs.Standing.{StandsFor, Adds, Does};
+ghost use Rattle.sg_standing.specs.Standing.{StandsFor, StandsOn, Adds, Does};
 ghost use Rattle.sg_standing.specs.Images.{positions_in, AreListsIn, AreImages, AreImagesWithin, AreImagesBetween, AreStores};
 
 use sg_buffer::lists_are_one;
 
 /// A core that stands for events stands for one more where that is legal, the core keeps what the state
-/// after it has, and each image within it is safe.
+/// after it has, and each image within it is safe: the timetable gets a row, and keeps those that it has.
 pub fn more_stands()
     ensures { (old new : CoreState) (start : State) (events : List Event) (event : Event)
-        → StandsFor old start events → Adds old new start events event
-        → StandsFor new start (events ++ event ∷ []) }
+        (stood : StandsFor old start events) → Adds old new start events event
+        → StandsOn new start events (event ∷ []) stood.moments.rows }
 {}
 
 /// Between two calls a crash leaves positions and lists in the stores that are safe after the events that

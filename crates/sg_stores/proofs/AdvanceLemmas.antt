@@ -20,7 +20,7 @@ use Rattle.sg_machine.specs.Runs.{Kept}
 use Rattle.sg_sinks.specs.Fitting.{space}
 use Rattle.sg_stores.specs.Stores.{StoreState, HoldsEntries, HasSize, coded, length_of, buffer_state}
 use Rattle.sg_stores.specs.Advancing.{HasFirst, IsListOrRest, Advances}
-use Rattle.sg_stores.proofs.StoreLemmas.{goes_refl, goes_of, list-of, each-held, space-parts}
+use Rattle.sg_stores.proofs.StoreLemmas.{goes_refl, goes_open, goes_closed, list-of, each-held, space-parts}
 
 -- a store that has failed stays as it is
 pub failed-advances : (store : StoreState) (n size : ℕ) → store.failed ≡ true → Advances store store n size
@@ -78,7 +78,7 @@ module _ {D : Type 0} (state : D → DiskState) (old : View D) (f : Bool) (n siz
     pub done-advances : (done : Unit) → SpoolAdvances state old new n (Ok done) → live new.rows.list + size ≡ live old.rows.list → Advances (buffer_state state f old) (buffer_state state f new) n size
     done-advances done advances lives = record {
       position = refl;
-      goes = goes_of state f f old new lasts;
+      goes = goes_open state f old new lasts advances.1;
       before = λ failed. absurd (let no : false ≡ true = sym works ∙ failed in cc);
       cause = λ w failed. absurd (let no : false ≡ true = sym works ∙ failed in cc);
       within = advance-within;
@@ -104,7 +104,7 @@ module _ {D : Type 0} (state : D → DiskState) (old : View D) (f : Bool) (n siz
     pub failed-advance : (e : DiskFault) → old.closed ≡ false → SpoolAdvances state old new n (Err e) → Advances (buffer_state state f old) (buffer_state state true new) n size
     failed-advance e open_ advances = record {
       position = refl;
-      goes = goes_of state f true old new lasts;
+      goes = goes_closed state f old new lasts open_ advances.1;
       before = λ failed. absurd (let no : false ≡ true = sym works ∙ failed in cc);
       cause = λ w failed. lasts.blames (state old.disk).faults (omega arith) (λ closed. absurd (let no : false ≡ true = sym open_ ∙ closed in cc)) advances.1;
       within = advance-within;

@@ -15,7 +15,7 @@ use Rattle.sg_buffer.specs.Entries.{AreKept, spelled}
 use Rattle.sg_machine.specs.Runs.{Kept}
 use Rattle.sg_stores.specs.Stores.{StoreState, HoldsIn, HoldsEntries, IsSized, HasAhead, coded, length_of, buffer_state}
 use Rattle.sg_stores.specs.Appending.{IsListWithSome, IsAppending, Commits}
-use Rattle.sg_stores.proofs.StoreLemmas.{within_then, goes_refl, goes_trans, goes_of, spelled-append, kept-front, space-length}
+use Rattle.sg_stores.proofs.StoreLemmas.{within_then, goes_refl, goes_trans, goes_open, goes_closed, spelled-append, kept-front, space-length}
 use Rattle.sg_stores.proofs.StageLemmas.{parted, list-some}
 
 -- a store that has failed stays as it is
@@ -83,13 +83,13 @@ module _ {D : Type 0} (state : D → DiskState) (old new : View D) (lasts : Last
   -- it is in the list
   pub done-commits : (done : Unit) → SpoolCommits state old new (Ok done) → live old.rows.ahead < 2 ^ 63 → Commits (buffer_state state f old) (buffer_state state f new)
   done-commits done commits small = record {
-    goes = goes_of state f f old new lasts;
+    goes = goes_open state f old new lasts commits.1;
     before = λ failed. absurd (let no : false ≡ true = sym works ∙ failed in cc);
     commits = λ start tried app. record {
       position = app.position;
       worked = app.worked;
       cause = λ failed. absurd (let no : false ≡ true = sym works ∙ failed in cc);
-      goes = goes_trans start (buffer_state state f old) (buffer_state state f new) app.goes (goes_of state f f old new lasts);
+      goes = goes_trans start (buffer_state state f old) (buffer_state state f new) app.goes (goes_open state f old new lasts commits.1);
       within = λ list held. commit-within start tried app list held;
       holds = λ w list held. commit-holds start tried app list held done commits;
       sized = λ w capacity lengths size.
@@ -108,13 +108,13 @@ module _ {D : Type 0} (state : D → DiskState) (old new : View D) (lasts : Last
   -- the disk failed
   pub failed-commit : (e : DiskFault) → old.closed ≡ false → SpoolCommits state old new (Err e) → Commits (buffer_state state f old) (buffer_state state true new)
   failed-commit e open_ commits = record {
-    goes = goes_of state f true old new lasts;
+    goes = goes_closed state f old new lasts open_ commits.1;
     before = λ failed. absurd (let no : false ≡ true = sym works ∙ failed in cc);
     commits = λ start tried app. record {
       position = app.position;
       worked = app.worked;
       cause = λ g. lasts.blames start.disk.faults app.goes.later (λ closed. absurd (let no : false ≡ true = sym open_ ∙ closed in cc)) commits.1;
-      goes = goes_trans start (buffer_state state f old) (buffer_state state true new) app.goes (goes_of state f true old new lasts);
+      goes = goes_trans start (buffer_state state f old) (buffer_state state true new) app.goes (goes_closed state f old new lasts open_ commits.1);
       within = λ list held. commit-within start tried app list held;
       holds = λ no. absurd (let wrong : true ≡ false = no in cc);
       sized = λ no. absurd (let wrong : true ≡ false = no in cc);

@@ -1,5 +1,5 @@
 -- Disk-buffers that are looked through at an opening, and those whose older entries are spelled anew.
-use Rattle.std.proofs.Common.{◌≡◌, inl, inr, ℕ, ◌^◌, ◌≤◌, ◌<◌, List, [], ◌∷◌, length, map, Some, None, Option, refl, sym, ap, ◌∙◌, arith, subst, true, false, Bool}
+use Rattle.std.proofs.Common.{◌≡◌, inl, inr, ℕ, ◌^◌, ◌<◌, List, [], ◌∷◌, length, map, Some, None, Option, refl, sym, ap, ◌∙◌, arith, subst, true, false, Bool}
 use Rattle.std.specs.Prelude.{is_some}
 use Rattle.std.proofs.lemmas.Bool.{cases_lt}
 use Rattle.std.proofs.lemmas.List.{append-nil, length-map}
@@ -60,17 +60,17 @@ some-held disk mid rows None is none tells lists = ([], none-held mid rows none 
 
 module _ {D : Type 0} (state : D → DiskState) (disk : DiskState) (capacity : ℕ) (found : Found) (old new : View D) where
   -- it was opened and looked through
-  pub looked : old.capacity ≡ capacity → old.rows ≡ listed old.rows.list old.rows.count → Durable (state old.disk) → Preserves disk (state old.disk) → disk.faults ≤ (state old.disk).faults
+  pub looked : old.capacity ≡ capacity → old.rows ≡ listed old.rows.list old.rows.count → Durable (state old.disk) → Preserves disk (state old.disk) → (state old.disk).faults ≡ disk.faults → new.closed ≡ false
       → WhereTold (content disk) (λ bytes. (list : Entries) × IsList list bytes × Holds state old list [] × (old.rows.count ≡ length list))
       → Reads state old new → ((entries : List Coded) × Finds (state old.disk) old.rows found entries) → IsLooked disk capacity found (buffer_state state false new)
-  looked limit rows durable preserves later lists reads finds =
+  looked limit rows durable preserves well open_ lists reads finds =
       let held = some-held disk (state old.disk) old.rows (content disk) refl (ap (λ (r : Rows). r.staged) rows) preserves.told.tells (λ b told. let l = lists b told in (l.0, l.2)) in
       record {
         position = refl;
         works = refl;
         preserves = preserves_trans preserves (unchanged (state old.disk) (state new.disk) reads.told);
         durable = durable_same (state old.disk) (state new.disk) reads.told durable;
-        later = omega (arith, later, reads.lasts.later);
+        well = reads.lasts.works open_ ∙ well;
         buffer = record { capacity = new.capacity; rows = new.rows };
         there = refl;
         limit = reads.lasts.capacity ∙ limit;
@@ -152,20 +152,20 @@ module _ {D : Type 0} (state : D → DiskState) (disk : DiskState) (capacity : �
   module _ (within : Within (state old.disk) (state new.disk) (IsListOf look.entries)) where
     reason-first : (refusal : StoreRefusal) → BufferReason (state old.disk) (state new.disk) refusal → RenewReason disk (state new.disk) refusal
     reason-first (Damage at) why = λ b told. why b (told_forth (content disk) (content (state old.disk)) b look.preserves.told told)
-    reason-first DiskFault why = let later = look.later in omega (arith, later, why)
+    reason-first DiskFault why = let well = look.well in omega (arith, well, why)
     reason-first NoMemory why = tt
 
     pub unrenewed : (refusal : StoreRefusal) → BufferReason (state old.disk) (state new.disk) refusal → IsUnrenewed (Buffer capacity) disk (state new.disk) refusal
     unrenewed refusal why = record {
       keeps = keeps disk (state old.disk) (state new.disk) look.entries look.preserves within told-first;
-      later = omega (arith, look.later, lasts.later);
+      later = omega (arith, look.well, lasts.later);
       store = λ b told. (look.entries, told-first b told);
       reason = reason-first refusal why;
     }
 
-    pub recovered : Holds state new (spelled look.entries) [] → live new.rows.list ≡ size_of look.entries → live new.rows.ahead ≡ live new.rows.list → live new.rows.list < 2 ^ 63 → new.rows.count ≡ old.rows.count → new.rows.staged ≡ 0
+    pub recovered : new.closed ≡ false → Holds state new (spelled look.entries) [] → live new.rows.list ≡ size_of look.entries → live new.rows.ahead ≡ live new.rows.list → live new.rows.list < 2 ^ 63 → new.rows.count ≡ old.rows.count → new.rows.staged ≡ 0
         → IsRecovered disk capacity found (buffer_state state f new)
-    recovered holds size ahead small count unstaged =
+    recovered open_ holds size ahead small count unstaged =
         let entries = map uncoded look.entries in
         let again = coded-again look.entries in
         let spaced = space-again look.entries in
@@ -187,7 +187,7 @@ module _ {D : Type 0} (state : D → DiskState) (disk : DiskState) (capacity : �
             unstaged = unstaged;
           };
           small = omega (arith, small, size, spaced);
-          later = omega (arith, look.later, lasts.later);
+          well = lasts.works open_ ∙ look.well;
           synced = state old.disk;
           preserves = look.preserves;
           durable = look.durable;
@@ -199,16 +199,16 @@ no-position : {D : Type 0} (state : D → DiskState) (f : Bool) (view : View D) 
 no-position state f view disk is = absurd (let no : Some (record { capacity = view.capacity; rows = view.rows }) ≡ None = is.buffer in cc)
 
 pub renewed-as : {D : Type 0} (state : D → DiskState) (disk : DiskState) (found : Found) (f : Bool) (old new : View D) (lasts : Lasts state old new) (kind : StoreKind)
-    → IsLookedAs kind disk found (buffer_state state f old)
+    → IsLookedAs kind disk found (buffer_state state f old) → new.closed ≡ false
     → ((entries : List Coded) (payloads : Entries) → Finds (state old.disk) old.rows found entries → Holds state old payloads [] → Within (state old.disk) (state new.disk) (IsListOf entries))
     → ((entries : List Coded) (payloads : Entries) → Finds (state old.disk) old.rows found entries → Holds state old payloads [] → Holds state new (spelled entries) [])
     → ((entries : List Coded) → Finds (state old.disk) old.rows found entries → live new.rows.list ≡ size_of entries)
     → live new.rows.ahead ≡ live new.rows.list → live new.rows.list < 2 ^ 63 → new.rows.count ≡ old.rows.count → new.rows.staged ≡ 0 → IsOpenedAs kind disk found (buffer_state state f new)
-renewed-as state disk found f old new lasts Position look within holds size ahead small count unstaged = absurd (no-position state f old disk look.0)
-renewed-as state disk found f old new lasts (Buffer capacity) look within holds size ahead small count unstaged =
+renewed-as state disk found f old new lasts Position look open_ within holds size ahead small count unstaged = absurd (no-position state f old disk look.0)
+renewed-as state disk found f old new lasts (Buffer capacity) look open_ within holds size ahead small count unstaged =
     let finds = finds-at state disk capacity found f old new look lasts in
     let held = holds-at state disk capacity found f old new look lasts in
-    recovered state disk capacity found f old new look lasts (within look.entries look.payloads finds held) (holds look.entries look.payloads finds held) (size look.entries finds) ahead small count unstaged
+    recovered state disk capacity found f old new look lasts (within look.entries look.payloads finds held) open_ (holds look.entries look.payloads finds held) (size look.entries finds) ahead small count unstaged
 
 pub unrenewed-as : {D : Type 0} (state : D → DiskState) (disk : DiskState) (found : Found) (f : Bool) (old new : View D) (lasts : Lasts state old new) (refusal : StoreRefusal) (kind : StoreKind)
     → IsLookedAs kind disk found (buffer_state state f old)

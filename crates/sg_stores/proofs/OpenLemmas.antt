@@ -1,16 +1,17 @@
 -- Stores that are opened one after another.
 use Rattle.std.proofs.Common.{◌≡◌, inl, inr, ℕ, suc, ◌+◌, ◌<◌, ◌≤◌, List, [], ◌∷◌, ◌++◌, length, map, drop, slice_get, Some, None, refl, sym, ap, ◌∙◌, arith, subst}
-use Rattle.std.specs.Prelude.{Ok, Err}
+use Rattle.std.specs.Prelude.{Ok, Err, false}
 use Rattle.std.proofs.lemmas.Bool.{cases_lt}
 use Rattle.std.proofs.lemmas.List.{length-append, length-map, length_push, drop-drop}
 use Rattle.sg_list.proofs.ListLemmas.{some-same, length-change, slice_get-some, slice_get-below, slice_get-map, get-change-same}
 use Rattle.sg_device.specs.Disk.{DiskState, content, WhereTold, Rests}
+use Rattle.sg_device.specs.Faults.{Rose}
 use Rattle.sg_device.proofs.DiskCalls.{tells_same, unchanged}
 use Rattle.sg_stable.specs.declared.fault.StoreRefusal.{StoreRefusal}
 use Rattle.sg_stable.specs.declared.fault.StoreRefusal.TheVariants.{Damage, DiskFault, NoMemory}
 use Rattle.sg_buffer.specs.declared.found.Found.{Found}
-use Rattle.sg_stores.specs.Stores.{StoreState}
-use Rattle.sg_stores.specs.Opening.{IsStore, IsOpenedAs, AreOpened, Keeps, RestsInList, AreStoresBefore, HasReason, IsRefused, refusal_of}
+use Rattle.sg_stores.specs.Stores.{StoreState, Goes}
+use Rattle.sg_stores.specs.Opening.{IsStore, IsOpenedAs, AreOpened, Keeps, RestsInList, AreStoresBefore, HasReason, IsRefused, FailsByFaults, refusal_of}
 use Rattle.sg_stores.specs.Looking.{IsLookedAs, IsUnlooked, OpenReason, RenewReason, IsUnrenewed, IsUnstaged, CanRenew, CanRenewAll, RenewsAt, AreOpening}
 use Rattle.sg_stores.specs.declared.kind.StoreKind.{StoreKind}
 use Rattle.sg_stores.specs.declared.kind.StoreKind.TheVariants.{Position, Buffer}
@@ -43,8 +44,8 @@ looked-keeps Position disk found store look = tells_same disk store.disk (look.0
 looked-keeps (Buffer capacity) disk found store look = rests-list disk store.disk (tells_same disk store.disk look.preserves)
 
 looked-later : (kind : StoreKind) (disk : DiskState) (found : Found) (store : StoreState) → IsLookedAs kind disk found store → disk.faults ≤ store.disk.faults
-looked-later Position disk found store look = (look.0).later
-looked-later (Buffer capacity) disk found store look = look.later
+looked-later Position disk found store look = let well = (look.0).well in omega (arith, well)
+looked-later (Buffer capacity) disk found store look = let well = look.well in omega (arith, well)
 
 looked-store : (kind : StoreKind) (disk : DiskState) (found : Found) (store : StoreState) → IsLookedAs kind disk found store → WhereTold (content disk) (IsStore kind)
 looked-store Position disk found store look = λ b told. (store.position, (look.0).position b told)
@@ -59,8 +60,19 @@ opened-keeps Position disk found store is = tells_same disk store.disk (is.0).pr
 opened-keeps (Buffer capacity) disk found store is = keeps disk is.synced store.disk _ is.preserves is.within is.told
 
 opened-later : (kind : StoreKind) (disk : DiskState) (found : Found) (store : StoreState) → IsOpenedAs kind disk found store → disk.faults ≤ store.disk.faults
-opened-later Position disk found store is = (is.0).later
-opened-later (Buffer capacity) disk found store is = is.later
+opened-later Position disk found store is = let well = (is.0).well in omega (arith, well)
+opened-later (Buffer capacity) disk found store is = let well = is.well in omega (arith, well)
+
+by-faults : (disk : DiskState) (first now : StoreState) → first.failed ≡ false → first.disk.faults ≡ disk.faults → Goes first now → FailsByFaults disk now
+by-faults disk first now works well goes = record {
+  works = λ works. goes.works works ∙ well;
+  fails = λ fails. subst (λ (n : ℕ). Rose n now.disk.faults) well (goes.broke works fails);
+}
+
+-- from an opening on
+pub opened-by-faults : (kind : StoreKind) (disk : DiskState) (found : Found) (first now : StoreState) → IsOpenedAs kind disk found first → Goes first now → FailsByFaults disk now
+opened-by-faults Position disk found first now is goes = by-faults disk first now (is.0).works (is.0).well goes
+opened-by-faults (Buffer capacity) disk found first now is goes = by-faults disk first now is.works is.well goes
 
 opened-store : (kind : StoreKind) (disk : DiskState) (found : Found) (store : StoreState) → IsOpenedAs kind disk found store → WhereTold (content disk) (IsStore kind)
 opened-store Position disk found store is = λ b told. (store.position, (is.0).position b told)

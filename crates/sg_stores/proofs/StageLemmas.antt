@@ -17,7 +17,7 @@ use Rattle.sg_machine.specs.Runs.{Kept}
 use Rattle.sg_sinks.specs.Fitting.{space}
 use Rattle.sg_stores.specs.Stores.{StoreState, BufferState, HoldsEntries, HasSize, IsAheadBy, HasAhead, coded, length_of, buffer_state}
 use Rattle.sg_stores.specs.Appending.{IsListWithSome, HoldsSome, IsAppending, IsNext, Stages}
-use Rattle.sg_stores.proofs.StoreLemmas.{within_then, goes_refl, goes_trans, goes_of, spelled-append, kept-append, kept-front, list-of, each-held, space-length, space_push, lengths-append}
+use Rattle.sg_stores.proofs.StoreLemmas.{within_then, goes_refl, goes_trans, goes_open, goes_closed, spelled-append, kept-append, kept-front, list-of, each-held, space-length, space_push, lengths-append}
 
 -- the place in a longer list behind as many of its items
 abbrev clip : ℕ → List Kept → ℕ
@@ -129,13 +129,13 @@ module _ {D : Type 0} (state : D → DiskState) (old new : View D) (payload : Li
     -- the disk failed
     pub failed-now : (f : Bool) → f ≡ false → old.closed ≡ false → SpoolStages state old new payload DiskFailed → Stages (buffer_state state f old) (buffer_state state true new) payload
     failed-now f works open_ drops = record {
-      goes = goes_of state f true old new lasts;
+      goes = goes_closed state f old new lasts open_ drops.1;
       before = λ failed. absurd (let no : false ≡ true = sym works ∙ failed in cc);
       stages = λ start tried kept next app. record {
         position = app.position;
         worked = app.worked;
         cause = λ g. lasts.blames start.disk.faults app.goes.later (λ closed. absurd (let no : false ≡ true = sym open_ ∙ closed in cc)) drops.1;
-        goes = goes_trans start (buffer_state state f old) (buffer_state state true new) app.goes (goes_of state f true old new lasts);
+        goes = goes_trans start (buffer_state state f old) (buffer_state state true new) app.goes (goes_closed state f old new lasts open_ drops.1);
         within = λ list held. staged-within f works start tried kept app list held;
         holds = λ no. absurd (let wrong : true ≡ false = no in cc);
         sized = λ no. absurd (let wrong : true ≡ false = no in cc);
@@ -192,13 +192,13 @@ module _ {D : Type 0} (state : D → DiskState) (old new : View D) (payload : Li
 
     pub done-stages : (f : Bool) → f ≡ false → SpoolStages state old new payload Done → Stages (buffer_state state f old) (buffer_state state f new) payload
     done-stages f works done = record {
-      goes = goes_of state f f old new lasts;
+      goes = goes_open state f old new lasts done.2;
       before = λ failed. absurd (let no : false ≡ true = sym works ∙ failed in cc);
       stages = λ start tried kept next app. record {
         position = app.position;
         worked = app.worked;
         cause = λ failed. absurd (let no : false ≡ true = sym works ∙ failed in cc);
-        goes = goes_trans start (buffer_state state f old) (buffer_state state f new) app.goes (goes_of state f f old new lasts);
+        goes = goes_trans start (buffer_state state f old) (buffer_state state f new) app.goes (goes_open state f old new lasts done.2);
         within = λ list held. staged-within f works start tried kept app list held;
         holds = λ w list held. staged-holds f works done start tried kept next app list held;
         sized = λ w capacity lengths size. staged-sized f works done start tried kept next app capacity lengths size;

@@ -1,10 +1,12 @@
 -- Stores from one moment to the next, and the entries in them.
-use Rattle.std.proofs.Common.{◌≡◌, inl, inr, ℕ, zero, suc, Option, ◌+◌, ◌*◌, ◌≤◌, ◌<◌, List, [], ◌∷◌, ◌++◌, length, map, take, drop, slice_get, Some, None, refl, ap, ◌∙◌, arith, subst, Bool}
+use Rattle.std.proofs.Common.{◌≡◌, inl, inr, ℕ, zero, suc, Option, ◌+◌, ◌*◌, ◌≤◌, ◌<◌, List, [], ◌∷◌, ◌++◌, length, map, take, drop, slice_get, Some, None, refl, sym, ap, ◌∙◌, arith, subst, Bool, true, false}
 use Rattle.std.proofs.lemmas.Bool.{cases_lt}
 use Rattle.std.proofs.lemmas.List.{map-append}
 use Rattle.sg_device.specs.Disk.{DiskState, clock, Within, EachNow}
+use Rattle.sg_device.specs.Faults.{Rose}
 use Rattle.sg_device.proofs.Disks.{moves_refl}
 use Rattle.sg_device.proofs.DiskCalls.{moves_trans}
+use Rattle.sg_stable.specs.Putting.{Lasts as PutLasts}
 use Rattle.sg_codec.specs.Spelling.{spelling2}
 use Rattle.sg_spool.specs.Ring.{IsList}
 use Rattle.sg_spool.specs.Calls.{Lasts}
@@ -28,13 +30,63 @@ within_then first mid last P Q R one two p q = record {
 }
 
 pub goes_refl : (store : StoreState) → Goes store store
-goes_refl store = record { moves = moves_refl store.disk; later = omega arith }
+goes_refl store = record {
+  moves = moves_refl store.disk;
+  later = omega arith;
+  stays = λ failed. failed;
+  works = λ works. refl;
+  broke = λ works failed. absurd (let no : true ≡ false = sym failed ∙ works in cc);
+}
+
+-- one that works has worked before
+worked : (mid new : StoreState) → Goes mid new → new.failed ≡ false → (failed : Bool) → mid.failed ≡ failed → mid.failed ≡ false
+worked mid new two works true is = absurd (let no : true ≡ false = sym (two.stays is) ∙ works in cc)
+worked mid new two works false is = is
+
+-- one that fails in two calls fails in one of them
+broke_in : (old mid new : StoreState) → Goes old mid → Goes mid new → old.failed ≡ false → new.failed ≡ true → (failed : Bool) → mid.failed ≡ failed → Rose old.disk.faults new.disk.faults
+broke_in old mid new one two works fails true is = let rose = one.broke works is in let later = two.later in omega (arith, rose, later)
+broke_in old mid new one two works fails false is = subst (λ (n : ℕ). Rose n new.disk.faults) (one.works is) (two.broke is fails)
 
 pub goes_trans : (old mid new : StoreState) → Goes old mid → Goes mid new → Goes old new
-goes_trans old mid new one two = record { moves = moves_trans old.disk mid.disk new.disk one.moves two.moves; later = omega (arith, one.later, two.later) }
+goes_trans old mid new one two = record {
+  moves = moves_trans old.disk mid.disk new.disk one.moves two.moves;
+  later = omega (arith, one.later, two.later);
+  stays = λ failed. two.stays (one.stays failed);
+  works = λ works. two.works works ∙ one.works (worked mid new two works mid.failed refl);
+  broke = λ works fails. broke_in old mid new one two works fails mid.failed refl;
+}
 
-pub goes_of : {D : Type 0} (state : D → DiskState) (f g : Bool) (old new : View D) → Lasts state old new → Goes (buffer_state state f old) (buffer_state state g new)
-goes_of state f g old new lasts = record { moves = lasts.moves; later = lasts.later }
+-- a call on a spool that leaves it open
+pub goes_open : {D : Type 0} (state : D → DiskState) (f : Bool) (old new : View D) → Lasts state old new → new.closed ≡ false → Goes (buffer_state state f old) (buffer_state state f new)
+goes_open state f old new lasts open_ = record {
+  moves = lasts.moves;
+  later = lasts.later;
+  stays = λ failed. failed;
+  works = λ works. lasts.works open_;
+  broke = λ works failed. absurd (let no : true ≡ false = sym failed ∙ works in cc);
+}
+
+-- one that closes it
+pub goes_closed : {D : Type 0} (state : D → DiskState) (f : Bool) (old new : View D) → Lasts state old new → old.closed ≡ false → new.closed ≡ true → Goes (buffer_state state f old) (buffer_state state true new)
+goes_closed state f old new lasts open_ closed = record {
+  moves = lasts.moves;
+  later = lasts.later;
+  stays = λ failed. refl;
+  works = λ works. absurd (let no : true ≡ false = works in cc);
+  broke = λ works failed. lasts.blames (state old.disk).faults (omega arith) (λ was. absurd (let no : false ≡ true = sym open_ ∙ was in cc)) closed;
+}
+
+-- a write of a position
+pub goes_put : (f g : Bool) (p q : ℕ) (old new : DiskState) → PutLasts old new f g → (f ≡ true → g ≡ true)
+    → Goes (record { position = p; buffer = None; failed = f; disk = old }) (record { position = q; buffer = None; failed = g; disk = new })
+goes_put f g p q old new lasts stays = record {
+  moves = lasts.moves;
+  later = lasts.later;
+  stays = stays;
+  works = lasts.works;
+  broke = λ works fails. lasts.blames old.faults (omega arith) (λ was. absurd (let no : false ≡ true = sym works ∙ was in cc)) fails;
+}
 
 -- spellings of two lists
 pub spelled-append : (xs ys : List Kept) → spelled (map coded (xs ++ ys)) ≡ spelled (map coded xs) ++ spelled (map coded ys)

@@ -31,7 +31,7 @@ pub record IsLooked (disk : DiskState) (capacity : ℕ) (found : Found) (store :
   pub works : store.failed ≡ false
   pub preserves : Preserves disk store.disk
   pub durable : Durable store.disk
-  pub later : disk.faults ≤ store.disk.faults
+  pub well : store.disk.faults ≡ disk.faults
   pub buffer : BufferState
   pub there : store.buffer ≡ Some buffer
   pub limit : buffer.capacity ≡ capacity

@@ -1,5 +1,5 @@
 -- The opening of the stores.
-use Rattle.std.specs.Prelude.{◌≡◌, ◌⊎◌, ◌≤◌, ◌<◌, ◌^◌, ℕ, Some, None, is_some, false, List, [], length, map, slice_get}
+use Rattle.std.specs.Prelude.{◌≡◌, ◌⊎◌, ◌≤◌, ◌<◌, ◌^◌, ℕ, Some, None, is_some, true, false, List, [], length, map, slice_get}
 use Rattle.sg_device.specs.Disk.{DiskState, content, WhereTold, Durable, Preserves, Rests, Elapses, Within}
 use Rattle.sg_device.specs.Faults.{Rose}
 use Rattle.sg_codec.specs.declared.kept.Kept.{Kept as Coded}
@@ -40,16 +40,16 @@ IsDamagedStore (Buffer capacity) at bytes = IsDamagedSpool at bytes ⊎ HasNoEnt
 
 -- Stores that were opened.
 
--- a position store: it has the position that stood on this disk, and is durable
+-- a position store: it has the position that stood on this disk, and is durable; no fault was counted
 pub record IsOpened (disk : DiskState) (store : StoreState) : Type 0 where
   pub position : WhereTold (content disk) (IsPosition store.position)
   pub buffer : store.buffer ≡ None
   pub works : store.failed ≡ false
   pub durable : Durable store.disk
   pub preserves : Preserves disk store.disk
-  pub later : disk.faults ≤ store.disk.faults
+  pub well : store.disk.faults ≡ disk.faults
 
--- a disk-buffer: it has the entries that stood on this disk, all of them in format 2
+-- a disk-buffer: it has the entries that stood on this disk, all of them in format 2; no fault was counted
 pub record IsRecovered (disk : DiskState) (capacity : ℕ) (found : Found) (store : StoreState) : Type 0 where
   pub entries : List Kept
   pub position : store.position ≡ 0
@@ -59,7 +59,7 @@ pub record IsRecovered (disk : DiskState) (capacity : ℕ) (found : Found) (stor
   pub holds : HoldsEntries store entries []
   pub sized : HasSize capacity (map length_of entries) store.buffer
   pub small : space (map length_of entries) < 2 ^ 63
-  pub later : disk.faults ≤ store.disk.faults
+  pub well : store.disk.faults ≡ disk.faults
   -- its disk once it was made durable; from then on each image has these entries
   pub synced : DiskState
   pub preserves : Preserves disk synced
@@ -69,6 +69,12 @@ pub record IsRecovered (disk : DiskState) (capacity : ℕ) (found : Found) (stor
 abbrev pub IsOpenedAs : StoreKind → DiskState → Found → StoreState → Type 0
 IsOpenedAs Position disk found store = IsOpened disk store × (found.heads.items ≡ [])
 IsOpenedAs (Buffer capacity) disk found store = IsRecovered disk capacity found store
+
+-- since the disk was as it is here, while the store works no fault was counted, and one that has failed has its cause, which is
+-- that the count rose
+pub record FailsByFaults (disk : DiskState) (store : StoreState) : Type 0 where
+  pub works : store.failed ≡ false → store.disk.faults ≡ disk.faults
+  pub fails : store.failed ≡ true → Rose disk.faults store.disk.faults
 
 -- the stores of these kinds were opened on these disks
 pub record AreOpened (kinds : List StoreKind) (disks : List DiskState) (founds : List Found) (stores : List StoreState) : Type 0 where

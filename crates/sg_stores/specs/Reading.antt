@@ -7,7 +7,7 @@ use Rattle.sg_device.specs.Faults.{Rose}
 use Rattle.sg_spool.specs.declared.answers.RewriteRefusal.{RewriteRefusal}
 use Rattle.sg_spool.specs.declared.answers.RewriteRefusal.TheVariants.{DiskFault, NoMemory}
 use Rattle.sg_machine.specs.Runs.{Kept}
-use Rattle.sg_stores.specs.Stores.{StoreState, HoldsEntries, HasSize}
+use Rattle.sg_stores.specs.Stores.{StoreState, Goes, HoldsEntries, HasSize}
 
 -- the disk-buffer works, and has n entries or more
 pub record HasEntries (store : StoreState) (n : ℕ) : Type 0 where
@@ -26,7 +26,7 @@ pub record Stays (old new : StoreState) : Type 0 where
   pub position : new.position ≡ old.position
   pub buffer : new.buffer ≡ old.buffer
   pub told : new.disk.told ≡ old.disk.told
-  pub later : old.disk.faults ≤ new.disk.faults
+  pub goes : Goes old new
 
 -- Ok: so many messages; where the disk tells its bytes they are those of the first entries. DiskFault: the store fails now.
 -- Lack of memory is free.

@@ -1,7 +1,8 @@
 -- A store of the core: a position store or a disk-buffer.
-use Rattle.std.specs.Prelude.{◌≡◌, ◌≤◌, ℕ, ◌+◌, Bool, true, Option, Some, None, is_some, List, ◌++◌, length, map, slice_get}
+use Rattle.std.specs.Prelude.{◌≡◌, ◌≤◌, ℕ, ◌+◌, Bool, true, false, Option, Some, None, is_some, List, ◌++◌, length, map, slice_get}
 use Rattle.sg_msg.specs.Length.{encoded_len}
 use Rattle.sg_device.specs.Disk.{DiskState, Moves}
+use Rattle.sg_device.specs.Faults.{Rose}
 use Rattle.sg_codec.specs.declared.kept.Kept.{Kept as Coded}
 use Rattle.sg_spool.specs.Places.{live}
 use Rattle.sg_spool.specs.View.{View, HoldsAt}
@@ -77,10 +78,14 @@ abbrev pub HasAhead : ℕ → List ℕ → Option BufferState → Type 0
 HasAhead capacity lengths None = ⊥
 HasAhead capacity lengths (Some buffer) = IsAheadBy capacity lengths buffer
 
--- time goes on for a disk, and its count of faults doesn't fall
+-- Time goes on for a disk, and its count of faults doesn't fall. A store that works has counted none, one that fails has its
+-- cause, which is that the count rose, and one that has failed stays so: from an opening on those have failed whose count rose.
 pub record Goes (old new : StoreState) : Type 0 where
   pub moves : Moves old.disk new.disk
   pub later : old.disk.faults ≤ new.disk.faults
+  pub stays : old.failed ≡ true → new.failed ≡ true
+  pub works : new.failed ≡ false → new.disk.faults ≡ old.disk.faults
+  pub broke : old.failed ≡ false → new.failed ≡ true → Rose old.disk.faults new.disk.faults
 
 -- the stores are as many, and time goes on for each
 pub record AllGo (olds news : List StoreState) : Type 0 where

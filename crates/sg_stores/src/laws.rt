@@ -1,9 +1,21 @@
-// What holds of stores. The function here does nothing: its contract is a law.
+// What holds of stores. The functions here do nothing: their contracts are laws.
 ghost use Rattle.std.specs.Prelude.{◌≡◌, [], false};
+ghost use Rattle.sg_device.specs.Disk.{DiskState};
+ghost use Rattle.sg_buffer.specs.declared.found.Found.{Found};
 ghost use Rattle.sg_stores.specs.Appending.{IsAppending};
-ghost use Rattle.sg_stores.specs.Stores.{StoreState};
+ghost use Rattle.sg_stores.specs.Opening.{IsOpenedAs, FailsByFaults};
+ghost use Rattle.sg_stores.specs.Stores.{StoreState, Goes};
+ghost use Rattle.sg_stores.specs.declared.kind.StoreKind.{StoreKind};
 
 /// At a store that works a call may begin, which has staged nothing so far.
 pub fn appending_begins()
     ensures { (start : StoreState) → start.failed ≡ false → IsAppending start start [] }
+{}
+
+/// A store that was opened on a disk has failed exactly where a call on that disk has, at whatever later
+/// moment: while it works the count of faults stands as it did before the opening, and where it has failed
+/// the count has risen.
+pub fn stores_fail_by_faults()
+    ensures { (kind : StoreKind) (disk : DiskState) (found : Found) (first now : StoreState)
+        → IsOpenedAs kind disk found first → Goes first now → FailsByFaults disk now }
 {}

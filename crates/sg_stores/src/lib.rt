@@ -13,6 +13,6 @@ mod stores;
 
 pub use answers::CoreRefusal;
 pub use kind::StoreKind;
-pub use laws::appending_begins;
+pub use laws::{appending_begins, stores_fail_by_faults};
 pub use opening::Opened;
 pub use stores::Stores;

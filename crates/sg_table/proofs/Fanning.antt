@@ -3,7 +3,7 @@ use Rattle.std.proofs.Common.{◌≡◌, ℕ, zero, suc, ◌+◌, ◌*◌, ◌�
 use Rattle.std.specs.Prelude.{◌⊎◌, max, slice_get}
 use Rattle.std.proofs.Math.Nat.{mul-le-mul_left, mul-le-mul_right}
 use Rattle.std.proofs.lemmas.Bool.{cases_order}
-use Rattle.sg_tree.specs.Bounds.{Reach, reach, reach_all, reach_each, beside, onward}
+use Rattle.sg_tree.specs.Bounds.{Reach, reach, reach_all, reach_each, beside, greatest, onward}
 use Rattle.sg_tree.specs.Walk.{Steps, Siblings, Choice, none_left, filter, rewrite, deliver, junction, choose, embedded, no_siblings, sibling, otherwise, test}
 use Rattle.sg_table.specs.declared.fan.Fan.{Fan}
 use Rattle.sg_table.specs.Fans.{cut, cut_reach, fan}
@@ -72,6 +72,9 @@ max-scaled n a b =
 beside-scaled : (n : ℕ) (a b : Reach) → beside (scaled n a) (scaled n b) ≡ scaled n (beside a b)
 beside-scaled n a b = reach-is (beside (scaled n a) (scaled n b)) (scaled n (beside a b)) (omega arith) (omega arith) (max-scaled n a.most b.most)
 
+greatest-scaled : (n : ℕ) (a b : Reach) → greatest (scaled n a) (scaled n b) ≡ scaled n (greatest a b)
+greatest-scaled n a b = reach-is (greatest (scaled n a) (scaled n b)) (scaled n (greatest a b)) (max-scaled n a.offers b.offers) (max-scaled n a.out b.out) (max-scaled n a.most b.most)
+
 product-offers : (n a b c : ℕ) → n * a + (n * b) * c ≡ n * (a + b * c)
 product-offers n a b c = omega arith
 
@@ -120,7 +123,7 @@ mutual
 
   each-linear : (c : Choice) (n : ℕ) → reach_each c n ≡ scaled n (reach_each c 1)
   each-linear (otherwise steps) n = linear steps n
-  each-linear (test decision steps more) n = ap₂ beside (linear steps n) (each-linear more n) ∙ beside-scaled n (reach steps 1) (reach_each more 1)
+  each-linear (test decision steps more) n = ap₂ greatest (linear steps n) (each-linear more n) ∙ greatest-scaled n (reach steps 1) (reach_each more 1)
 
 -- what single parts come to, in numbers that are cut
 pub fan-beside : (x y : Reach) (f g : Fan) → f ≡ cut_reach x → g ≡ cut_reach y
@@ -131,6 +134,15 @@ fan-beside x y f g ef eg =
   where
     cut-most : (a b : ℕ) → max (cut a) (cut b) ≡ cut (max a b)
     cut-most a b = omega arith
+
+pub fan-greatest : (x y : Reach) (f g : Fan) → f ≡ cut_reach x → g ≡ cut_reach y
+    → record { offers = max f.offers g.offers; out = max f.out g.out; most = max f.most g.most } ≡ cut_reach (greatest x y)
+fan-greatest x y f g ef eg =
+    ap₂ (λ (a b : Fan). record { offers = max a.offers b.offers; out = max a.out b.out; most = max a.most b.most }) ef eg
+    ∙ fan-is _ (cut_reach (greatest x y)) (cut-greatest x.offers y.offers) (cut-greatest x.out y.out) (cut-greatest x.most y.most)
+  where
+    cut-greatest : (a b : ℕ) → max (cut a) (cut b) ≡ cut (max a b)
+    cut-greatest a b = omega arith
 
 abbrev pub onward_fan : Fan → Fan → Fan
 onward_fan first rest = record { offers = cut (first.offers + cut (first.out * rest.offers)); out = cut (first.out * rest.out); most = max 1 (max first.most (cut (first.out * rest.most))) }

@@ -6,3 +6,5 @@ pub mod Fanning
 pub mod Sharing
 pub mod Bounded
 pub mod Whole
+pub mod Listed
+pub mod Tries

@@ -10,7 +10,7 @@ use Rattle.sg_tree.specs.declared.tree.Element.{Element}
 use Rattle.sg_tree.specs.declared.tree.Path.{Path}
 use Rattle.sg_tree.specs.Offers.{Top as Statement, top_view}
 use Rattle.sg_tree.specs.Walk.{Marks, Steps, none_left, sibling, embedded, test}
-use Rattle.sg_tree.specs.Plain.{in_front, behind, element_view, path_view, steps_view, siblings_view, choice_view, own_steps}
+use Rattle.sg_tree.specs.Plain.{in_front, element_view, steps_view, siblings_view, choice_view, own_steps}
 use Rattle.sg_tree.specs.Plain as plain
 use Rattle.sg_tree.proofs.Views.{view-Path}
 use Rattle.sg_table.specs.declared.pipe.Branch.{Branch}

@@ -5,3 +5,5 @@ pub mod Patterns
 pub mod Refused
 pub mod Fans
 pub mod Shared
+pub mod Listing
+pub mod Tried

@@ -66,6 +66,21 @@ fn beside(a: Fan, b: Fan) -> Fan
     }
 }
 
+// The greatest of both, each number by itself.
+fn greatest(a: Fan, b: Fan) -> Fan
+    ensures { result ≡ record {
+      offers = max a.offers b.offers;
+      out = max a.out b.out;
+      most = max a.most b.most;
+    } }
+{
+    Fan {
+        offers: a.offers.max(b.offers),
+        out: a.out.max(b.out),
+        most: a.most.max(b.most),
+    }
+}
+
 // What comes out walks the rest.
 fn onward(first: Fan, rest: Fan) -> Fan
     ensures { result ≡ record {
@@ -114,7 +129,7 @@ fn tests_fan(fans: &[Fan], tests: &[Test], other: Option<u32>) -> Fan
 {
     let mut all = other_fan(fans, other);
     for i in (0..tests.len()).rev() {
-        all = beside(fan_at(fans, tests[i].start), all);
+        all = greatest(fan_at(fans, tests[i].start), all);
     }
     all
 }

@@ -6,10 +6,12 @@ mod build;
 mod compiling;
 mod copying;
 mod fan;
+mod listing;
 mod making;
 mod pipe;
 mod share;
 mod table;
+mod tried;
 
 pub use compiling::compile;
 pub use pipe::{Branch, Pipe, Test, Top};

@@ -1,6 +1,7 @@
 -- A walk makes no more offers than its elements may.
-use Rattle.std.proofs.Common.{◌≡◌, ℕ, ◌+◌, ◌*◌, ◌≤◌, Bool, true, false, List, [], ◌∷◌, length, refl, sym, ap, ◌∙◌, subst, length-append, arith}
-use Rattle.std.specs.Prelude.{◌&&◌, ◌||◌, cond}
+use Rattle.std.proofs.Common.{◌≡◌, ℕ, ◌+◌, ◌*◌, ◌≤◌, Bool, true, false, List, [], ◌∷◌, length, refl, sym, ap, ap₂, ◌∙◌, subst, length-append, arith, inl, inr}
+use Rattle.std.specs.Prelude.{◌&&◌, ◌||◌, cond, max}
+use Rattle.std.proofs.lemmas.Bool.{cases_order}
 use Rattle.std.proofs.lemmas.Nat.{mul-le}
 use Rattle.sg_msg.specs.Message.{Content}
 use Rattle.sg_msg.specs.declared.offer.Offer.{Offer}
@@ -11,6 +12,29 @@ use Rattle.sg_tree.specs.Walk.{Walked, Steps, Siblings, Choice, none_left, filte
 use Rattle.sg_tree.specs.Readings.{Inlet}
 use Rattle.sg_tree.specs.Offers.{Top, Woods, is_offered, offered, is_skipped, AreOffersUnless}
 use Rattle.sg_tree.specs.Bounds.{reach, reach_all, reach_each, all_offers, OffersAreBounded}
+
+-- the greatest of two, so many times
+second-times : (n a b : ℕ) → a ≤ b → max (n * a) (n * b) ≡ n * max a b
+second-times n a b h =
+    let more : n * a ≤ n * b = mul-le n a n b (omega arith) h in
+    let is : max a b ≡ b = omega arith in
+    let left : max (n * a) (n * b) ≡ n * b = omega arith in
+    left ∙ sym (ap (λ x. n * x) is)
+
+first-times : (n a b : ℕ) → b ≤ a → max (n * a) (n * b) ≡ n * max a b
+first-times n a b h =
+    let more : n * b ≤ n * a = mul-le n b n a (omega arith) h in
+    let is : max a b ≡ a = omega arith in
+    let left : max (n * a) (n * b) ≡ n * a = omega arith in
+    left ∙ sym (ap (λ x. n * x) is)
+
+greatest-times : (n a b : ℕ) → max (n * a) (n * b) ≡ n * max a b
+greatest-times n a b =
+    elim (cases_order a b) [
+      | inl same ↦ second-times n a b (omega arith)
+      | inr (inl less) ↦ second-times n a b (omega arith)
+      | inr (inr more) ↦ first-times n a b (omega arith)
+    ]
 
 -- so many times the messages have so many times the offers, and as many come out
 mutual
@@ -35,7 +59,7 @@ mutual
 
   offers-times-each : (c : Choice) (n k : ℕ) → (reach_each c (n * k)).offers ≡ n * (reach_each c k).offers
   offers-times-each (otherwise steps) n k = offers-times steps n k
-  offers-times-each (test e steps more) n k = omega (arith, offers-times steps n k, offers-times-each more n k)
+  offers-times-each (test e steps more) n k = ap₂ max (offers-times steps n k) (offers-times-each more n k) ∙ greatest-times n (reach steps k).offers (reach_each more k).offers
 
   out-times : (s : Steps) (n k : ℕ) → (reach s (n * k)).out ≡ n * (reach s k).out
   out-times none_left n k = refl
@@ -52,7 +76,7 @@ mutual
 
   out-times-each : (c : Choice) (n k : ℕ) → (reach_each c (n * k)).out ≡ n * (reach_each c k).out
   out-times-each (otherwise steps) n k = out-times steps n k
-  out-times-each (test e steps more) n k = omega (arith, out-times steps n k, out-times-each more n k)
+  out-times-each (test e steps more) n k = ap₂ max (out-times steps n k) (out-times-each more n k) ∙ greatest-times n (reach steps k).out (reach_each more k).out
 
 offers-of : (s : Steps) (n : ℕ) → (reach s n).offers ≡ n * (reach s 1).offers
 offers-of s n = let one : n ≡ n * 1 = omega arith in ap (λ (x : ℕ). (reach s x).offers) one ∙ offers-times s n 1
@@ -135,7 +159,7 @@ mutual
   left-chosen : (c : Choice) (m : Content) (f : Bool) → left (chosen c m f) ≤ (reach_each c 1).out
   left-chosen (otherwise steps) m f = left-walk steps m f
   left-chosen (test e steps more) m f =
-      cond-few left (decides e m) (walk steps m f) (chosen more m f) ((reach steps 1).out + (reach_each more 1).out) (omega (arith, left-walk steps m f)) (omega (arith, left-chosen more m f))
+      cond-few left (decides e m) (walk steps m f) (chosen more m f) (max (reach steps 1).out (reach_each more 1).out) (omega (arith, left-walk steps m f)) (omega (arith, left-chosen more m f))
 
 -- at most so many offers are made
 mutual
@@ -186,7 +210,7 @@ mutual
   made-chosen : (c : Choice) (m : Content) (f : Bool) → made (chosen c m f) ≤ (reach_each c 1).offers
   made-chosen (otherwise steps) m f = made-walk steps m f
   made-chosen (test e steps more) m f =
-      cond-few made (decides e m) (walk steps m f) (chosen more m f) ((reach steps 1).offers + (reach_each more 1).offers) (omega (arith, made-walk steps m f)) (omega (arith, made-chosen more m f))
+      cond-few made (decides e m) (walk steps m f) (chosen more m f) (max (reach steps 1).offers (reach_each more 1).offers) (omega (arith, made-walk steps m f)) (omega (arith, made-chosen more m f))
 
 either-few : (b : Bool) (x y : Siblings) (own n : ℕ) → (reach_all x 1).offers ≤ own + n → (reach_all y 1).offers ≤ n → (reach_all (cond b x y) 1).offers ≤ own + n
 either-few true x y own n hx hy = hx

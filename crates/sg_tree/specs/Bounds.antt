@@ -17,6 +17,10 @@ pub record Reach : Type 0 where
 abbrev pub beside : Reach → Reach → Reach
 beside a b = record { offers = a.offers + b.offers; out = a.out + b.out; most = max a.most b.most }
 
+-- the greatest of both, each number by itself
+abbrev pub greatest : Reach → Reach → Reach
+greatest a b = record { offers = max a.offers b.offers; out = max a.out b.out; most = max a.most b.most }
+
 -- n messages, what becomes of them, and then the rest over those that come out
 abbrev pub onward : ℕ → Reach → Reach → Reach
 onward n first rest = record { offers = first.offers + rest.offers; out = rest.out; most = max n (max first.most rest.most) }
@@ -36,10 +40,10 @@ abbrev mutual
   reach_all no_siblings n = record { offers = 0; out = 0; most = 0 }
   reach_all (sibling marks steps more) n = beside (reach steps n) (reach_all more n)
 
-  -- the branches count as channels
+  -- a message takes one of the branches; a missing `else` lets it pass
   pub reach_each : Choice → ℕ → Reach
   reach_each (otherwise steps) n = reach steps n
-  reach_each (test decision steps more) n = beside (reach steps n) (reach_each more n)
+  reach_each (test decision steps more) n = greatest (reach steps n) (reach_each more n)
 
 -- the offers of a record that each of these statements is offered
 abbrev pub all_offers : List Top → ℕ

@@ -1,7 +1,7 @@
 -- The turns of a destination that do something.
 use Rattle.std.proofs.Common.{arith, ◌≡◌, ◌≤◌, ◌<◌, ℕ, ◌+◌, ◌-◌, ◌*◌, ◌^◌, Bool, true, false, Option, Some, None, List, [], ◌∷◌, length, refl, ap, sym, subst}
 use Rattle.std.proofs.lemmas.Bool.Decides.{nat_tests}
-use Rattle.std.specs.Prelude.{◌||◌, ◌&&◌, not, nat_lt, Ok, Err}
+use Rattle.std.specs.Prelude.{◌||◌, ◌&&◌, ◌==◌, not, nat_lt, Ok, Err}
 use Rattle.sg_device.specs.Faults.{Rose}
 use Rattle.sg_msg.specs.Message.{Content}
 use Rattle.sg_actor.specs.Reading.{one_if}
@@ -18,30 +18,34 @@ one-most : (b : Bool) → one_if b ≤ 1
 one-most true = omega arith
 one-most false = omega arith
 
--- what pays for a turn, by what was told of it
-paid : (later shown reopens refused : Bool) (taken c c' f f' l l' : ℕ) → c' ≡ c + taken → f ≤ f' → l ≤ l'
-    → (later ≡ true → l < l') → (later ≡ true → reopens ≡ true) → (refused ≡ true → f + 1 ≤ f') → (refused ≡ false → shown ≡ true → 0 < taken)
-    → one_if ((shown || (reopens && not later)) || later) + (c + 2 * f + l + one_if (refused || later)) ≤ one_if reopens + (c' + 2 * f' + l')
-paid later shown reopens true taken c c' f f' l l' count faults laters more early rose some =
-    let busy = one-most ((shown || (reopens && not later)) || later) in let one : f + 1 ≤ f' = rose refl in omega arith
-paid true shown true false taken c c' f f' l l' count faults laters more early rose some =
-    let busy = one-most ((shown || (true && not true)) || true) in let one : l < l' = more refl in omega arith
-paid true shown false false taken c c' f f' l l' count faults laters more early rose some = absurd (let differ : false ≡ true = early refl in cc)
-paid false shown true false taken c c' f f' l l' count faults laters more early rose some =
-    let busy = one-most ((shown || (true && not false)) || false) in omega arith
-paid false true false false taken c c' f f' l l' count faults laters more early rose some =
-    let one : 0 < taken = some refl refl in omega arith
-paid false false false false taken c c' f f' l l' count faults laters more early rose some = omega arith
+-- what pays for a turn, by what was told of it; at a time that was too early it was idle, or not
+paid : (later shown reopens refused idle : Bool) (taken c c' f f' l l' : ℕ) → c' ≡ c + taken → f ≤ f' → l ≤ l'
+    → (later ≡ true → l < l') → (later ≡ true → shown ≡ false → reopens ≡ true) → (refused ≡ true → f + 1 ≤ f') → (refused ≡ false → later ≡ false → shown ≡ true → 0 < taken)
+    → one_if (((shown || reopens) && not (later && idle)) || (later && idle)) + (c + 2 * f + l + one_if (refused || (later && not shown))) ≤ one_if reopens + (c' + 2 * f' + l')
+paid later shown reopens true idle taken c c' f f' l l' count faults laters more early rose some =
+    let busy = one-most (((shown || reopens) && not (later && idle)) || (later && idle)) in let one : f + 1 ≤ f' = rose refl in omega arith
+paid true true reopens false idle taken c c' f f' l l' count faults laters more early rose some =
+    let busy = one-most (((true || reopens) && not (true && idle)) || (true && idle)) in let one : l < l' = more refl in omega arith
+paid true false true false idle taken c c' f f' l l' count faults laters more early rose some =
+    let busy = one-most (((false || true) && not (true && idle)) || (true && idle)) in let one : l < l' = more refl in omega arith
+paid true false false false idle taken c c' f f' l l' count faults laters more early rose some = absurd (let differ : false ≡ true = early refl refl in cc)
+paid false true reopens false idle taken c c' f f' l l' count faults laters more early rose some =
+    let one : 0 < taken = some refl refl refl in omega arith
+paid false false true false idle taken c c' f f' l l' count faults laters more early rose some = omega arith
+paid false false false false idle taken c c' f f' l l' count faults laters more early rose some = omega arith
 
 -- without an answer
-unpaid : (later reopens refused : Bool) (taken c c' f f' l l' : ℕ) → c' ≡ c + taken → f ≤ f' → l ≤ l' → (later ≡ true → l < l') → (refused ≡ true → f + 1 ≤ f')
-    → c + 2 * f + l + one_if (refused || later) ≤ one_if reopens + (c' + 2 * f' + l')
-unpaid later reopens true taken c c' f f' l l' count faults laters more rose = let one : f + 1 ≤ f' = rose refl in omega arith
-unpaid true reopens false taken c c' f f' l l' count faults laters more rose = let one : l < l' = more refl in omega arith
-unpaid false reopens false taken c c' f f' l l' count faults laters more rose = omega arith
+unpaid : (later shown reopens refused : Bool) (taken c c' f f' l l' : ℕ) → c' ≡ c + taken → f ≤ f' → l ≤ l' → (later ≡ true → l < l') → (refused ≡ true → f + 1 ≤ f')
+    → c + 2 * f + l + one_if (refused || (later && not shown)) ≤ one_if reopens + (c' + 2 * f' + l')
+unpaid later shown reopens true taken c c' f f' l l' count faults laters more rose = let one : f + 1 ≤ f' = rose refl in omega arith
+unpaid true shown reopens false taken c c' f f' l l' count faults laters more rose = let one : l < l' = more refl in let most = one-most (not shown) in omega arith
+unpaid false shown reopens false taken c c' f f' l l' count faults laters more rose = omega arith
 
 less-of : (l l' : ℕ) → nat_lt l l' ≡ true → l < l'
 less-of l l' h = grind (arith, nat_tests)
+
+same-of : (l l' : ℕ) → l ≤ l' → nat_lt l l' ≡ false → l' ≡ l
+same-of l l' most h = (let least : l' ≤ l = grind (arith, nat_tests) in omega arith)
 
 rose-one : (f f' : ℕ) → f' < 2 ^ 64 - 1 → Rose f f' → f + 1 ≤ f'
 rose-one f f' below rose = omega arith
@@ -62,10 +66,10 @@ answered : (spec : DestSpec) (old new : DestState) (turn : Turn) (turned : Turne
     → Pays (one_if (turned.did || turned.idle)) old new
 answered spec old new turn turned taken refused below h =
     let later : Bool = nat_lt old.drain.laters new.drain.laters in
-    let pay = paid later (has_shown turn.made) old.outage.reopens refused taken old.drain.count new.drain.count old.drain.faults new.drain.faults old.drain.laters new.drain.laters
-    h.takes.rose h.takes.faults h.laters.0 (less-of old.drain.laters new.drain.laters) (λ l. h.early (less-of old.drain.laters new.drain.laters l))
+    let pay = paid later (has_shown turn.made) old.outage.reopens refused (taken == 0) taken old.drain.count new.drain.count old.drain.faults new.drain.faults old.drain.laters new.drain.laters
+    h.takes.rose h.takes.faults h.laters.0 (less-of old.drain.laters new.drain.laters) (λ l s. h.early (less-of old.drain.laters new.drain.laters l) s)
     (λ r. rose-one old.drain.faults new.drain.faults below (h.rose r))
-    (λ r s. subst (λ n. 0 < n) (sym (h.whole refl r)) (sent-some spec (shown_in turn.made) (less-of 0 (length (shown_in turn.made)) s))) in
+    (λ r l s. subst (λ n. 0 < n) (sym (h.whole refl r (same-of old.drain.laters new.drain.laters h.laters.0 l))) (sent-some spec (shown_in turn.made) (less-of 0 (length (shown_in turn.made)) s))) in
     record {
       paid = rw (h.tells.did, h.tells.idle, h.reopens) pay;
       count = omega (arith, h.takes.rose);
@@ -78,7 +82,7 @@ unanswered : (spec : DestSpec) (old new : DestState) (turn : Turn) (taken : ℕ)
     → Pays 0 old new
 unanswered spec old new turn taken refused below h =
     let later : Bool = nat_lt old.drain.laters new.drain.laters in
-    let pay = unpaid later old.outage.reopens refused taken old.drain.count new.drain.count old.drain.faults new.drain.faults old.drain.laters new.drain.laters
+    let pay = unpaid later (has_shown turn.made) old.outage.reopens refused taken old.drain.count new.drain.count old.drain.faults new.drain.faults old.drain.laters new.drain.laters
     h.takes.rose h.takes.faults h.laters.0 (less-of old.drain.laters new.drain.laters) (λ r. rose-one old.drain.faults new.drain.faults below (h.rose r)) in
     record {
       paid = rw (h.reopens) (omega (arith, pay));

@@ -79,10 +79,10 @@ refill-none d true (r ∷ q ∷ rs) h = absurd h
 refill-none d false [] h = refl
 refill-none d false (r ∷ rs) h = absurd h
 
-settled-first : (d place taken : ℕ) (well : Bool) (made : List Exchange) → SettlesFirst d place taken well made → settled_in made ≡ taken
-settled-first d place zero well made h = refill-none d well made h
-settled-first d place (suc n) well [] h = absurd h
-settled-first d place (suc n) well (s ∷ made) h =
+settled-first : (d place taken count : ℕ) (well : Bool) (made : List Exchange) → SettlesFirst d place taken count well made → settled_in made ≡ taken
+settled-first d place zero count well made h = refill-none d well made h
+settled-first d place (suc n) count well [] h = absurd h
+settled-first d place (suc n) count well (s ∷ made) h =
     let one : settled_by s.call ≡ suc n = ap settled_by h.0 in
     let none = refill-none d _ made h.1 in
     omega (arith, one, none)
@@ -90,23 +90,23 @@ settled-first d place (suc n) well (s ∷ made) h =
 none-settled : (made : List Exchange) (taken : ℕ) → (made ≡ []) × (taken ≡ 0) → settled_in made ≡ taken
 none-settled made taken h = ap settled_in h.0 ∙ sym h.1
 
-settled-after : (d taken : ℕ) (well : Bool) (reply : CoreReply) (made : List Exchange) → Follows d taken well reply made → settled_in made ≡ taken
-settled-after d taken well (FrontReply (Ok (Entries place []))) made h = none-settled made taken h
-settled-after d taken well (FrontReply (Ok (Entries place (m ∷ ms)))) made h = settled-first d place taken well made h
-settled-after d taken well (FrontReply (Ok Empty)) made h = none-settled made taken h
-settled-after d taken well (FrontReply (Ok FrontBroken)) made h = none-settled made taken h
-settled-after d taken well (FrontReply (Err e)) made h = none-settled made taken h
-settled-after d taken well (Credit credit) made h = none-settled made taken h
-settled-after d taken well (Admitted result) made h = none-settled made taken h
-settled-after d taken well (SettledReply result) made h = none-settled made taken h
-settled-after d taken well (RefilledReply result) made h = none-settled made taken h
-settled-after d taken well (Stored result) made h = none-settled made taken h
+settled-after : (d taken count : ℕ) (well : Bool) (reply : CoreReply) (made : List Exchange) → Follows d taken count well reply made → settled_in made ≡ taken
+settled-after d taken count well (FrontReply (Ok (Entries place []))) made h = none-settled made taken h
+settled-after d taken count well (FrontReply (Ok (Entries place (m ∷ ms)))) made h = settled-first d place taken count well made h
+settled-after d taken count well (FrontReply (Ok Empty)) made h = none-settled made taken h
+settled-after d taken count well (FrontReply (Ok FrontBroken)) made h = none-settled made taken h
+settled-after d taken count well (FrontReply (Err e)) made h = none-settled made taken h
+settled-after d taken count well (Credit credit) made h = none-settled made taken h
+settled-after d taken count well (Admitted result) made h = none-settled made taken h
+settled-after d taken count well (SettledReply result) made h = none-settled made taken h
+settled-after d taken count well (RefilledReply result) made h = none-settled made taken h
+settled-after d taken count well (Stored result) made h = none-settled made taken h
 
-settled-is : (d taken : ℕ) (well : Bool) (made : List Exchange) → Delivers d taken well made → settled_in made ≡ taken
-settled-is d taken well [] h = sym h
-settled-is d taken well (f ∷ made) h =
+settled-is : (d taken count : ℕ) (well : Bool) (made : List Exchange) → Delivers d taken count well made → settled_in made ≡ taken
+settled-is d taken count well [] h = sym h
+settled-is d taken count well (f ∷ made) h =
     let none : settled_by f.call ≡ 0 = ap settled_by h.0 in
-    let rest = settled-after d taken well f.reply made h.1 in
+    let rest = settled-after d taken count well f.reply made h.1 in
     omega (arith, none, rest)
 
 -- what one turn sent
@@ -142,7 +142,7 @@ map-append xs ys None = refl
 
 sends-one : (cause : Option GivenUp) (spec : DestSpec) (old new : DestState) (turn : Turn) → HasFailures old.outage old.drain → SendsBy cause spec old new turn → SendsOne spec old new turn
 sends-one None spec old new turn h (taken, (refused, k)) =
-    let is : settled_in turn.made ≡ taken = settled-is spec.dest taken (is_ok (result_of turn.answer)) turn.made k.delivers in
+    let is : settled_in turn.made ≡ taken = settled-is spec.dest taken new.drain.count (is_ok (result_of turn.answer)) turn.made k.delivers in
     record {
       told = subst (λ n. new.drain.taken ≡ option_map (λ before. before ++ take n (frames_by spec (shown_in turn.made))) old.drain.taken) (sym is) k.takes.told;
       count = subst (λ n. new.drain.count ≡ old.drain.count + n) (sym is) k.takes.rose;
@@ -204,7 +204,7 @@ source-rests offers dests spec old new turns before last took rests =
 dest-empty : (cause : Option GivenUp) (spec : DestSpec) (x y : DestState) (turn : Turn) → x.outage.given_up ≡ cause → turn.answer ≡ Some (record { did = false; idle = false })
     → SendsBy cause spec x y turn → (is_some y.outage.given_up ≡ true) ⊎ IsShownEmpty turn.made
 dest-empty None spec x y turn is nothing (taken, (refused, k)) =
-    let tells = subst (λ (a : Option Turned). DestTells x.outage y.outage turn.made x.drain y.drain (result_of a)) nothing k.tells in
+    let tells = subst (λ (a : Option Turned). DestTells x.outage y.outage turn.made taken x.drain y.drain (result_of a)) nothing k.tells in
     tells.empty refl refl
 dest-empty (Some cause) spec x y turn is nothing k =
     inl (ap (λ o. is_some o.given_up) k.1.outage_stays ∙ ap is_some is)

@@ -27,7 +27,7 @@ DestFails spec old new turns = SentTurns spec old new turns → HasFailed spec o
     → HasFailed spec new
 
 -- Each turn of a destination that did something or was idle took a frame, or its outlet failed, or was open again after a failure, or it
--- was too early to reopen it. So a frame pays for one turn, a failure for two, and an answer that it is too early for one.
+-- was too early to reopen it or to send. So a frame pays for one turn, a failure for two, and an answer that it is too early for one.
 abbrev pub DestIsBounded : DestSpec → DestState → DestState → List Turn → Type 0
 DestIsBounded spec old new turns =
     SentTurns spec old new turns → new.drain.faults < 2 ^ 64 - 1

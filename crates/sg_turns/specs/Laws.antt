@@ -59,7 +59,7 @@ TurnsKeepWithin offers dests spec old new turns =
 
 -- how many entries are settled
 abbrev pub settled_by : CoreCall → ℕ
-settled_by (Settle d place n) = n
+settled_by (Settle d place n count) = n
 settled_by call = 0
 
 abbrev pub settled_in : List Exchange → ℕ

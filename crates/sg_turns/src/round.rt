@@ -6,7 +6,7 @@ ghost use Rattle.sg_turns.specs.Actors.{AreSources, AreDests, SourceTakes, DestT
 ghost use Rattle.sg_turns.specs.Rounds.{noted, both, TookAll, TookRound};
 
 use sg_actor::{DestActor, SourceActor, Turned};
-use sg_counter::Counter;
+use sg_counter::{Counter, Settler};
 use sg_device::{Inlet, NoMemory, Outlet};
 use sg_route::Router;
 use std::alloc::Global;
@@ -64,7 +64,7 @@ fn take_sources<T: Wait, R: Router, I: Inlet, C: Counter>(
 }
 
 // Each destination takes a turn.
-fn take_dests<T: Wait, O: Outlet, C: Counter>(
+fn take_dests<T: Wait, O: Outlet, C: Settler<O>>(
     rt: &T,
     alloc: Global,
     counter: &mut C,
@@ -100,7 +100,7 @@ fn join(read: Round, sent: Round) -> Round
 }
 
 /// A round: each source takes a turn, in the order of their numbers, then each destination.
-pub fn take_round<T: Wait, R: Router, I: Inlet, O: Outlet, C: Counter>(
+pub fn take_round<T: Wait, R: Router, I: Inlet, O: Outlet, C: Settler<O>>(
     rt: &T,
     alloc: Global,
     counter: &mut C,

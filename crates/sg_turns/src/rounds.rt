@@ -6,7 +6,7 @@ ghost use Rattle.sg_turns.specs.Serving.{Serves};
 use crate::ended::Ended;
 use crate::round::take_round;
 use sg_actor::{DestActor, SourceActor};
-use sg_counter::Counter;
+use sg_counter::Settler;
 use sg_device::{Inlet, Outlet};
 use sg_route::Router;
 use std::alloc::Global;
@@ -14,7 +14,7 @@ use std::sync::Wait;
 
 /// Runs so many rounds at most. The first quiet one is the last, and so is one in which a turn finds no
 /// memory.
-pub fn run_rounds<T: Wait, R: Router, I: Inlet, O: Outlet, C: Counter>(
+pub fn run_rounds<T: Wait, R: Router, I: Inlet, O: Outlet, C: Settler<O>>(
     rt: &T,
     alloc: Global,
     counter: &mut C,

@@ -9,7 +9,7 @@ use sg_device::{FileRefusal, Name, NoMemory, OpenRefusal, SayRefusal};
 use sg_expand::Files;
 use sg_host::{
     HostDrain, HostFeed, HostInlets, HostOpener, HostOutlets, HostPaths, HostStore, HostStores,
-    Rest, read_file, say, tell,
+    Rest, Timer, read_file, say, tell,
 };
 use sg_outside::{InletSpec, Machine, OutletSpec, StoreSpec};
 use sg_pattern::{BuildFault, Builder, Patterns};
@@ -29,6 +29,7 @@ pub struct HostMachine {
     read_faults: u64,
     say_faults: u64,
     build_faults: u64,
+    timer: Timer,
 }
 
 impl HostMachine {
@@ -48,6 +49,7 @@ impl HostMachine {
             read_faults: 0,
             say_faults: 0,
             build_faults: 0,
+            timer: Timer::new(rt),
         })
     }
 }
@@ -135,5 +137,9 @@ impl World for HostMachine {
 
     fn tell(&mut self, bytes: &[u8]) {
         tell(self.rt, bytes);
+    }
+
+    fn is_due(&mut self, seconds: u32) -> bool {
+        self.timer.is_due(seconds)
     }
 }

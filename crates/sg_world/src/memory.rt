@@ -30,11 +30,13 @@ impl Files for MemoryMachine {
 
 impl Builder for MemoryMachine {
     fn build(&mut self, alloc: Global, text: &str, ignore_case: bool) -> Result<Regex, BuildFault> {
-        if self.world.fails_build() {
-            return Err(BuildFault::TooLarge);
-        }
         match (Patterns { too_large: 0 }).build(alloc, text, ignore_case) {
-            Ok(regex) => Ok(regex),
+            Ok(regex) => {
+                if self.world.fails_build() {
+                    return Err(BuildFault::TooLarge);
+                }
+                Ok(regex)
+            }
             Err(BuildFault::Syntax) => Err(BuildFault::Syntax),
             Err(BuildFault::TooLarge) => {
                 self.world.refuse_build();
@@ -105,5 +107,9 @@ impl World for MemoryMachine {
 
     fn tell(&mut self, bytes: &[u8]) {
         self.world.tell(bytes);
+    }
+
+    fn is_due(&mut self, _seconds: u32) -> bool {
+        self.world.is_due()
     }
 }

@@ -88,4 +88,9 @@ pub trait World: Files + Builder {
     /// it but that it changes nothing else.
     fn tell(&mut self, bytes: &[u8])
         ensures { Self.state self.new ≡ Self.state self.old };
+
+    /// Whether so many seconds have passed since it answered true last, or since the machine was made.
+    /// Nothing is claimed of it but that it changes nothing else.
+    fn is_due(&mut self, seconds: u32) -> bool
+        ensures { Self.state self.new ≡ Self.state self.old };
 }

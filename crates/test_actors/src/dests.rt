@@ -16,19 +16,23 @@ use std::sync::Wait;
 use std::test::Fail;
 
 // What is shown; the texts of the entries; the sends and reopenings that fail, counted from 0; how many
-// frames such a send takes; the reopenings that come too early; whether the destination gives up, or its
-// store has failed; what each turn calls on the core, with a + where it did something, - where it did
-// nothing, ~ where it was idle; the texts that were taken; and why it is given up.
+// frames such a send takes, or one that comes too early; the reopenings that come too early; the sends
+// that do; whether the destination gives up, or its store has failed; what each turn calls on the core,
+// with a + where it did something, - where it did nothing, ~ where it was idle; the texts that were
+// taken; and why it is given up.
 const ROWS: &str = "\
-two entries | a b | | 0 | | | ft2r+ f- | a b | -
-none | | | 0 | | | f- f- | | -
-a send that fails | a b | 0 | 0 | | | fr+ ft2r+ f- | a b | -
-a send that takes one | a b | 0 | 1 | | | ft1r+ ft1r+ f- | a b | -
-three failures | a | 0 1 2 | 0 | | gives-up | fr+ + + - - | | outlet
-three failures for ever | a | 0 1 2 | 0 | | | fr+ + + ft1r+ f- | a | -
-a frame between failures | a b c | 0 2 3 | 1 | | gives-up | ft1r+ ft1r+ + ft1r+ f- | a b c | -
-too early | a | 0 | 0 | 0 1 | | fr+ ~ ~ ft1r+ f- | a | -
-a failed store | a | | 0 | | broken | f- - | | store";
+two entries | a b | | 0 | | | | ft2r+ f- | a b | -
+none | | | 0 | | | | f- f- | | -
+a send that fails | a b | 0 | 0 | | | | fr+ ft2r+ f- | a b | -
+a send that takes one | a b | 0 | 1 | | | | ft1r+ ft1r+ f- | a b | -
+three failures | a | 0 1 2 | 0 | | | gives-up | fr+ + + - - | | outlet
+three failures for ever | a | 0 1 2 | 0 | | | | fr+ + + ft1r+ f- | a | -
+a frame between failures | a b c | 0 2 3 | 1 | | | gives-up | ft1r+ ft1r+ + ft1r+ f- | a b c | -
+too early | a | 0 | 0 | 0 1 | | | fr+ ~ ~ ft1r+ f- | a | -
+too early to send | a b | | 0 | | 0 | | fr~ ft2r+ f- | a b | -
+too early for the second | a b | | 1 | | 0 1 | | ft1r+ fr~ ft1r+ f- | a b | -
+early and late failures | a b | 1 | 1 | | 0 2 | gives-up | ft1r+ fr+ fr~ ft1r+ f- | a b | -
+a failed store | a | | 0 | | | broken | f- - | | store";
 
 fn numbers(alloc: Global, words: &str) -> Result<Vec<u64>, Fail> {
     let mut numbers = Vec::new(alloc);
@@ -121,7 +125,7 @@ fn is_cause(given_up: Option<GivenUp>, word: &str) -> bool {
 
 // Whether the turns are those of the row.
 fn shows<T: Wait>(rt: &T, alloc: Global, row: &str) -> Result<bool, Fail> {
-    if row.split('|').count() != 9 {
+    if row.split('|').count() != 10 {
         return Ok(false);
     }
     let mut cells = row.split('|');
@@ -130,6 +134,7 @@ fn shows<T: Wait>(rt: &T, alloc: Global, row: &str) -> Result<bool, Fail> {
     let fails = Plan::new(numbers(alloc, cells.next().unwrap_or(""))?);
     let first = cells.next().unwrap_or("").trim().parse()?;
     let laters = Plan::new(numbers(alloc, cells.next().unwrap_or(""))?);
+    let waits = Plan::new(numbers(alloc, cells.next().unwrap_or(""))?);
     let how = cells.next().unwrap_or("");
     let turns = cells.next().unwrap_or("").trim();
     let taken = cells.next().unwrap_or("").trim();
@@ -144,6 +149,7 @@ fn shows<T: Wait>(rt: &T, alloc: Global, row: &str) -> Result<bool, Fail> {
             fails,
             first,
             laters,
+            waits,
         },
     );
     let Ok(template) = Template::read(alloc, b"$MSG ") else {

@@ -4,8 +4,8 @@ ghost use Rattle.sg_msg.specs.Message.{value_of};
 
 use bytes::Bytes;
 use sg_actor::Turned;
-use sg_counter::{CoreFront, Counter, Refill, Refused, Settled, Stored};
-use sg_device::NoMemory;
+use sg_counter::{CoreFront, Counter, Refill, Refused, Settled, Settler, Stored};
+use sg_device::{NoMemory, Outlet, Taken};
 use sg_list::Seq;
 use sg_machine::{Admission, Setup, Verdict};
 use sg_msg::{Message, Offer};
@@ -110,16 +110,6 @@ impl Counter for Small {
         })
     }
 
-    fn settle<T: Wait>(&mut self, _rt: &T, _d: u32, place: u64, n: u32) -> Settled {
-        note(&mut self.log, &[b't', digit(u64::from(n))]);
-        if place != self.settled || self.messages.len() < n as usize {
-            return Settled::NotFront;
-        }
-        self.settled = self.settled.saturating_add(u64::from(n));
-        self.messages.drain(..n as usize);
-        Settled::Done
-    }
-
     fn refill<T: Wait>(&mut self, _rt: &T, _d: u32) -> Refill {
         note(&mut self.log, b"r");
         Refill::NoneWaits
@@ -135,6 +125,21 @@ impl Counter for Small {
         }
         self.stored = self.end;
         Stored::Wrote(self.end)
+    }
+}
+
+impl<O: Outlet> Settler<O> for Small {
+    fn settle<T: Wait>(&mut self, _rt: &T, _d: u32, place: u64, n: u32, _taken: Taken<O>) -> Settled
+        ensures step { Unit {0} }
+        ensures setup { self.new.setup ≡ self.old.setup }
+    {
+        note(&mut self.log, &[b't', digit(u64::from(n))]);
+        if place != self.settled || self.messages.len() < n as usize {
+            return Settled::NotFront;
+        }
+        self.settled = self.settled.saturating_add(u64::from(n));
+        self.messages.drain(..n as usize);
+        Settled::Done
     }
 }
 

@@ -118,11 +118,13 @@ fn put_outlet(alloc: Global, out: &mut Vec<u8>, spec: &OutletSpec) -> Result<(),
             path,
             fsync,
             mode,
+            folders,
             reopen,
         } => {
             out.extend_from_slice(b"file ")?;
             out.extend_from_slice(path.bytes())?;
             put_flag(out, *fsync, b" fsync")?;
+            put_flag(out, folders.is_some(), b" folders")?;
             put_number(alloc, out, b" mode ", u64::from(*mode))?;
             put_number(alloc, out, b" reopen ", u64::from(*reopen))
         }

@@ -3,7 +3,8 @@ ghost use Rattle.std.specs.Prelude.{◌≡◌, ◌≤◌, ◌<◌, ◌+◌, ◌^
 ghost use Rattle.sg_counter.specs.Bringing.{AllWithin, AllMayEnter, store_in};
 
 use crate::cores::{SECOND, add_offer, add_record, disks, open};
-use sg_counter::{CoreFront, Counter, Refill, Refused, Settled, Stored};
+use crate::told::{Teller, told};
+use sg_counter::{CoreFront, Counter, Refill, Refused, Settled, Settler, Stored};
 use sg_machine::{Admission, Verdict};
 use sg_memory_disk::{DiskChange, MemoryDisk};
 use sg_msg::Offer;
@@ -170,7 +171,7 @@ fn front<C: Counter, T: Wait>(
     }
 }
 
-fn settle<C: Counter, T: Wait>(
+fn settle<C: Settler<Teller>, T: Wait>(
     rt: &T,
     counter: &mut C,
     d: u32,
@@ -187,7 +188,7 @@ fn settle<C: Counter, T: Wait>(
 {
     say(
         out,
-        match counter.settle(rt, d, place, n) {
+        match counter.settle(rt, d, place, n, told(0)) {
             Settled::Done => "k",
             Settled::NotFront => "-",
             Settled::DiskFailed => "x",
@@ -238,7 +239,7 @@ fn store<C: Counter, T: Wait>(
 }
 
 // A call by its first word, which has a letter and numbers.
-fn call<C: Counter, T: Wait>(
+fn call<C: Settler<Teller>, T: Wait>(
     rt: &T,
     alloc: Global,
     counter: &mut C,
@@ -271,7 +272,7 @@ fn call<C: Counter, T: Wait>(
     }
 }
 
-fn call_all<C: Counter, T: Wait>(
+fn call_all<C: Settler<Teller>, T: Wait>(
     rt: &T,
     alloc: Global,
     counter: &mut C,

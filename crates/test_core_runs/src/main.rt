@@ -27,6 +27,7 @@ mod openings;
 mod rows;
 mod runs;
 mod steps;
+mod told;
 
 use std::alloc::{AllocError, Global};
 use std::io;

@@ -245,6 +245,7 @@ fn dest<'a, T: Clock>(
         fails: Plan::new(Vec::new(alloc)),
         first: 0,
         laters: Plan::new(Vec::new(alloc)),
+        waits: Plan::new(Vec::new(alloc)),
     };
     let outlet = MeetingOutlet {
         rt,

@@ -113,6 +113,7 @@ fn dest(
             fails: Plan::new(numbers(alloc, fails)?),
             first: 0,
             laters: Plan::new(Vec::new(alloc)),
+            waits: Plan::new(Vec::new(alloc)),
         },
     );
     let Ok(template) = Template::read(alloc, b"$MSG ") else {

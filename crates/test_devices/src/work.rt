@@ -8,6 +8,7 @@ fn open(rt: HostRuntime, path: &str, fsync: bool) -> io::Result<Option<FileOutle
     let how = Appending {
         fsync,
         mode: 0o600,
+        folders: None,
         reopen: 0,
     };
     let rest = Rest::new(rt.alloc(), rt)?;

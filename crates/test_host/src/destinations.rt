@@ -20,6 +20,7 @@ pub(crate) fn take(folder: &Folder, what: &str) -> Result<String, Fail> {
         "device" => folder.word(opened(folder, b"/dev/null")),
         "dangling" => dangling(folder),
         "name" => folder.word(opened(folder, b"/tmp/\xff")),
+        "folders" => folders(folder),
         _ => Err("no such step".into()),
     }
 }
@@ -28,8 +29,13 @@ fn outlet(folder: &Folder, path: &[u8], mode: u16, reopen: u32) -> Result<FileOu
     let how = Appending {
         fsync: true,
         mode,
+        folders: None,
         reopen,
     };
+    appending(folder, path, how)
+}
+
+fn appending(folder: &Folder, path: &[u8], how: Appending) -> Result<FileOutlet, OpenRefusal> {
     let rest = Rest::new(folder.alloc, folder.rt)?;
     FileOutlet::open(folder.alloc, folder.rt, path, how, rest)
 }
@@ -126,6 +132,29 @@ fn moved(folder: &Folder) -> Result<String, Fail> {
     let before = folder.text("old")?;
     let after = folder.text("out")?;
     Ok(format!(in folder.alloc; "old {before} new {after}")?)
+}
+
+// Makes a file and the folders on the way to it.
+fn make(folder: &Folder, path: &[u8]) -> Result<(), Fail> {
+    let how = Appending {
+        fsync: true,
+        mode: 0o600,
+        folders: Some(0o775),
+        reopen: 0,
+    };
+    drop(appending(folder, path, how)?);
+    Ok(())
+}
+
+// The folders on the way to a file are made where that is asked, each with its mode.
+fn folders(folder: &Folder) -> Result<String, Fail> {
+    let path = folder.at("a/b/out")?;
+    let mut text = folder.word(opened(folder, path.as_bytes()))?;
+    make(folder, path.as_bytes())?;
+    for name in ["a", "a/b", "a/b/out"] {
+        text.push_str(folder.mode(name)?.as_str())?;
+    }
+    Ok(text)
 }
 
 // A link to nothing isn't followed.

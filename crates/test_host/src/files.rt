@@ -15,6 +15,7 @@ store folder = refused
 store socket = refused
 store name = refused
 store short = 3 0
+store truncated = 4 refused 2 refused faults 2 again 4
 source places = 0 4 0 0 8 0 11 0 0
 source once = abc:de:.:.:
 source idle = abc:-:-:
@@ -40,6 +41,7 @@ destination socket = refused
 destination device = opened
 destination dangling = refused absent
 destination name = refused
+destination folders = refused mode 775 mode 775 mode 600
 file whole = 5 bytes
 file long = too long
 file folder = failed 1
@@ -55,6 +57,7 @@ machine paths = abcd failed 1 other false
 machine several paths = abef cdgh
 machine unsynced path = refused 1
 machine said = said
+machine timer = false true false true
 ";
 
 // Runs the steps one after another, each over a folder of its own.

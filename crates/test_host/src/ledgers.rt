@@ -6,12 +6,14 @@ ghost use Rattle.sg_host.specs.Paths.{opener_of};
 use crate::folder::{Folder, brought, free_port, listen, sent};
 use sg_device::{Disk, Inlet, InletFault, Name, Opener};
 use sg_host::{
-    HostFeed, HostInlets, HostOpener, HostOutlets, HostPaths, HostStores, Rest, say, tell,
+    HostFeed, HostInlets, HostOpener, HostOutlets, HostPaths, HostStores, Rest, Timer, say, tell,
 };
 use sg_outside::{InletSpec, OutletSpec, StoreSpec};
 use std::io::Write;
 use std::net::TcpStream;
 use std::test::Fail;
+use std::thread;
+use std::time::Duration;
 
 /// What a step over a machine's devices comes to.
 pub(crate) fn take(folder: &Folder, what: &str) -> Result<String, Fail> {
@@ -26,6 +28,7 @@ pub(crate) fn take(folder: &Folder, what: &str) -> Result<String, Fail> {
         "several paths" => several_paths(folder),
         "unsynced path" => unsynced_path(folder),
         "said" => said(folder),
+        "timer" => timer(folder),
         _ => Err("no such step".into()),
     }
 }
@@ -241,6 +244,7 @@ fn file_target(folder: &Folder, path: &[u8]) -> Result<OutletSpec, Fail> {
         path: name(folder, path)?,
         fsync: false,
         mode: 0o600,
+        folders: None,
         reopen: 0,
     })
 }
@@ -301,6 +305,7 @@ fn by_path(fsync: bool) -> OutletSpec {
     OutletSpec::ByPath {
         fsync,
         mode: 0o600,
+        folders: None,
         reopen: 0,
     }
 }
@@ -406,4 +411,15 @@ fn said(folder: &Folder) -> Result<String, Fail> {
     tell(folder.rt, b"told\n");
     let word = if faults == 0 { "said" } else { "failed" };
     Ok(String::from_str(folder.alloc, word)?)
+}
+
+// Something is due once its seconds have passed, and then not before they have passed again.
+fn timer(folder: &Folder) -> Result<String, Fail> {
+    let mut timer = Timer::new(folder.rt);
+    let early = timer.is_due(3600);
+    thread::sleep(&folder.rt, Duration::from_millis(2100));
+    let due = timer.is_due(2);
+    let again = timer.is_due(2);
+    let always = timer.is_due(0);
+    Ok(format!(in folder.alloc; "{early} {due} {again} {always}")?)
 }

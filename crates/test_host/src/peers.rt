@@ -35,6 +35,7 @@ fn answer(got: Result<(), SendRefusal>) -> &'static str {
     match got {
         Ok(()) => "",
         Err(SendRefusal::Fault) => "refused ",
+        Err(SendRefusal::Later) => "late ",
         Err(SendRefusal::NoMemory) => "starved ",
     }
 }

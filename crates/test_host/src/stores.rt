@@ -1,8 +1,8 @@
 // Steps over stores, and over files that are read whole.
 use crate::folder::{Folder, presence};
-use sg_device::{Disk, FileRefusal, OpenRefusal};
+use sg_device::{Disk, DiskFault, FileRefusal, OpenRefusal};
 use sg_file::{FileDisk, read_file};
-use std::fs;
+use std::fs::{self, OpenOptions};
 use std::os::unix::fs::PermissionsExt;
 use std::test::Fail;
 
@@ -19,6 +19,7 @@ pub(crate) fn take(folder: &Folder, what: &str) -> Result<String, Fail> {
         "socket" => folder.word(opened(folder, folder.socket()?.as_bytes())),
         "name" => folder.word(opened(folder, b"/tmp/\xff")),
         "short" => short(folder),
+        "truncated" => truncated(folder),
         _ => Err("no such step".into()),
     }
 }
@@ -125,6 +126,54 @@ fn short(folder: &Folder) -> Result<String, Fail> {
     let first = disk.read_at(0, &mut buffer)?;
     let second = disk.read_at(3, &mut buffer)?;
     Ok(format!(in folder.alloc; "{first} {second}")?)
+}
+
+fn word<T: Drop>(result: Result<T, DiskFault>) -> &'static str {
+    if result.is_ok() { "done" } else { "refused" }
+}
+
+// Makes the store's file shorter by another handle.
+fn truncate(folder: &Folder, len: u64) -> Result<(), Fail> {
+    let path = folder.at("q")?;
+    let mut how = OpenOptions::new();
+    how.write(true);
+    how.open(&folder.rt, path.as_str())?.set_len(len)?;
+    Ok(())
+}
+
+// Four bytes behind the first 128, and how many of them a read gives.
+fn write_four(disk: &mut FileDisk) -> Result<usize, DiskFault> {
+    let mut buffer = [0u8; 8];
+    disk.write_at(128, b"abcd")?;
+    disk.read_at(128, &mut buffer)
+}
+
+// A read past the file's end, one of what is left, and the length, and the faults behind them.
+fn look(folder: &Folder, disk: &mut FileDisk) -> Result<String, Fail> {
+    let mut buffer = [0u8; 8];
+    let read = word(disk.read_at(128, &mut buffer));
+    let whole = disk.read_at(128, &mut buffer[..2])?;
+    let len = word(disk.len());
+    let faults = disk.faults();
+    Ok(format!(in folder.alloc; "{read} {whole} {len} faults {faults}")?)
+}
+
+// Writes what was cut off, and reads it.
+fn write_again(disk: &mut FileDisk) -> Result<usize, DiskFault> {
+    let mut buffer = [0u8; 8];
+    disk.write_at(130, b"cd")?;
+    disk.read_at(128, &mut buffer)
+}
+
+// A store that was truncated while it was open is a fault where a read or its length shows that.
+fn truncated(folder: &Folder) -> Result<String, Fail> {
+    let path = folder.at("q")?;
+    let mut disk = FileDisk::open(folder.alloc, folder.rt, path.as_bytes(), true)?;
+    let before = write_four(&mut disk)?;
+    truncate(folder, 130)?;
+    let seen = look(folder, &mut disk)?;
+    let again = write_again(&mut disk)?;
+    Ok(format!(in folder.alloc; "{before} {seen} again {again}")?)
 }
 
 /// What a step over a file that is read whole comes to.

@@ -26,6 +26,6 @@ MayAsk (Credit i) = i < 2
 MayAsk (Admit i records) = (i < 2) × (0 < length records) × (length records ≤ 1000)
     × AllMayEnter 2 records
 MayAsk (Front d most) = (d < 2) × (0 < most) × (most ≤ 1000)
-MayAsk (Settle d place n) = (d < 2) × (0 < n)
+MayAsk (Settle d place n count) = (d < 2) × (0 < n)
 MayAsk (Refill d) = d < 2
 MayAsk (Store i) = i < 2

@@ -4,7 +4,10 @@ ghost use Rattle.sg_counter.specs.Bringing.{AllWithin, AllMayEnter};
 ghost use Rattle.test_hub.specs.Cores.{IsTried, MayAsk};
 
 use crate::cores::{add_offer, add_record};
-use sg_counter::{CoreCall, CoreFront, CoreReply, Counter, Refill, Refused, Settled, Stored};
+use crate::told::{Teller, told};
+use sg_counter::{
+    CoreCall, CoreFront, CoreReply, Counter, Refill, Refused, Settled, Settler, Stored,
+};
 use sg_list::Seq;
 use sg_machine::{Admission, Verdict};
 use sg_msg::Offer;
@@ -185,6 +188,7 @@ pub(crate) fn read_call(alloc: Global, text: &str) -> Result<Option<CoreCall>, A
             dest: which,
             place: u64::from(place),
             n,
+            count: 0,
         })),
         Some('m') => Ok(Some(CoreCall::Refill(which))),
         Some('p') => Ok(Some(CoreCall::Store(which))),
@@ -195,7 +199,7 @@ pub(crate) fn read_call(alloc: Global, text: &str) -> Result<Option<CoreCall>, A
 
 /// Makes the call.
 #[tactic(auto, using(crate::proofs::TestLemmas::batch_of))]
-pub(crate) fn ask<C: Counter, T: Wait>(
+pub(crate) fn ask<C: Settler<Teller>, T: Wait>(
     rt: &T,
     alloc: Global,
     counter: &mut C,
@@ -217,9 +221,12 @@ pub(crate) fn ask<C: Counter, T: Wait>(
             }
         }
         CoreCall::Front { dest, most } => CoreReply::Front(counter.front(rt, alloc, dest, most)),
-        CoreCall::Settle { dest, place, n } => {
-            CoreReply::Settled(counter.settle(rt, dest, place, n))
-        }
+        CoreCall::Settle {
+            dest,
+            place,
+            n,
+            count,
+        } => CoreReply::Settled(counter.settle(rt, dest, place, n, told(count))),
         CoreCall::Refill(d) => CoreReply::Refilled(counter.refill(rt, d)),
         CoreCall::Store(i) => CoreReply::Stored(counter.store(rt, i)),
     }

@@ -10,6 +10,7 @@ mod calls;
 mod cores;
 mod seats;
 mod threads;
+mod told;
 
 use std::alloc::{AllocError, Global};
 use std::io;

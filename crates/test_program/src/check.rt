@@ -1,6 +1,7 @@
 // What `check` says of a configuration file, whose text is the row: the file is named `c`, and includes others by the names `d`,
-// which holds a filter, and `e`, which isn't there; `missing` is no file at all. Of a row `NUMBER TEXT` the building of the pattern
-// of that number, from 0, is refused as too large.
+// which holds a filter, and `e`, which isn't there; `missing` is no file at all. Of a row `NUMBERS TEXT`, which begins with numbers
+// with commas between them, the building of the patterns of these numbers, from 0, is refused as too large: numbers go on where they
+// are tried once more, and one that is no pattern has none.
 
 use crate::faults::{append_fault, append_unread, append_words};
 use crate::heard::Heard;
@@ -11,26 +12,37 @@ use sg_memory_disk::Plan;
 use sg_world::MemoryMachine;
 use std::alloc::Global;
 
-// The pattern that is refused, if any, and the text of the file.
-fn parts(row: &str) -> (Option<u64>, &str) {
-    if let Some((number, text)) = row.split_once(' ') {
-        if let Ok(number) = number.parse::<u64>() {
-            return (Some(number), text);
+// The numbers of a word, none where a part of it isn't one.
+fn numbers(alloc: Global, word: &str) -> Result<Option<Vec<u64>>, NoMemory> {
+    let mut out = Vec::new(alloc);
+    for part in word.split(',') {
+        match part.parse::<u64>() {
+            Ok(number) => out.push(number)?,
+            Err(_) => return Ok(None),
         }
     }
-    (None, row)
+    Ok(Some(out))
 }
 
-fn machine(alloc: Global, row: &str) -> Result<MemoryMachine, NoMemory> {
-    let (refused, text) = parts(row);
+fn machine_of(alloc: Global, text: &str) -> Result<MemoryMachine, NoMemory> {
     let mut files = Vec::new(alloc);
     add_file(alloc, b"d", b"filter f {\n message(\"x\"); };", &mut files)?;
     add_text(alloc, b"c", text, &mut files)?;
-    let mut machine = machine_with(alloc, files);
-    if let Some(number) = refused {
-        machine.world.plans.builds = Plan::new(vec![in alloc; number]?);
+    Ok(machine_with(alloc, files))
+}
+
+fn machine(alloc: Global, row: &str) -> Result<MemoryMachine, NoMemory> {
+    let Some((word, text)) = row.split_once(' ') else {
+        return machine_of(alloc, row);
+    };
+    match numbers(alloc, word)? {
+        Some(calls) => {
+            let mut machine = machine_of(alloc, text)?;
+            machine.world.plans.builds = Plan::new(calls);
+            Ok(machine)
+        }
+        None => machine_of(alloc, row),
     }
-    Ok(machine)
 }
 
 fn append_unchecked(

@@ -66,6 +66,7 @@ fn outlet(alloc: Global, path: &[u8]) -> Result<OutletPlan, NoMemory>
             path: Name::new(alloc, path)?,
             fsync: false,
             mode: 0o600,
+            folders: None,
             reopen: 60,
         },
         shape: shape(alloc)?,

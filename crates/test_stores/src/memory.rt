@@ -164,6 +164,7 @@ fn outlet(alloc: Global, world: &mut MemoryWorld) -> Result<Vec<u8>, Fail> {
         match drain.send(&frames) {
             Ok(()) => text.push(b'+')?,
             Err(SendRefusal::Fault) => text.push(b'!')?,
+            Err(SendRefusal::Later) => text.push(b'~')?,
             Err(SendRefusal::NoMemory) => text.push(b'0')?,
         }
         match drain.reopen() {
@@ -202,11 +203,13 @@ fn devices_in_memory(rt: HostRuntime) -> Result<(), Fail> {
     );
     world.plans.says = plan(alloc, 1)?;
     world.plans.builds = plan(alloc, 0)?;
+    world.plans.dues = plan(alloc, 1)?;
     world.say(b"said\n")?;
     assert!(rt; world.say(b"not\n") == Err(SayRefusal::Fault));
     world.tell(b"hint\n");
     assert_eq!(rt; world.said(), b"said\n".as_slice());
     assert!(rt; world.fails_build() && !world.fails_build());
+    assert!(rt; !world.is_due() && world.is_due());
     assert!(rt; is_record_end(4, b"abcdefgh", 4) && !is_record_end(5, b"abcdefgh", 4));
     Ok(())
 }
@@ -216,6 +219,7 @@ fn files(alloc: Global, world: &mut MemoryWorld) -> Result<bool, Fail> {
     let spec = OutletSpec::ByPath {
         fsync: false,
         mode: 0o600,
+        folders: None,
         reopen: 60,
     };
     let mut plan = PathsPlan::never(alloc);

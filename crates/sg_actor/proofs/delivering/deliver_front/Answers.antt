@@ -29,17 +29,17 @@ returns-then-is_empty-clause-gives g c =
     front-blank c.args.spec.now g.C.Counter.step c.args.counter.now c.front.new.self c.in-Entries.place c.in-Entries.messages c.args.outage.now (g.O.Outlet.state c.args.outlet.now)
     (blank-of c.in-Entries.messages (sym c.is_empty.ensures ∙ c.if-is_empty.true)) made c.requires.failures c.requires.ready c.requires.kept
 
-pub returns-in_err-deliver-in-Entries-clause-gives : goal.returns-in_err-deliver-in-Entries-clause-gives
-returns-in_err-deliver-in-Entries-clause-gives g c =
+pub returns-in_err-idle-in-Entries-clause-gives : goal.returns-in_err-idle-in-Entries-clause-gives
+returns-in_err-idle-in-Entries-clause-gives g c =
     let made = subst (λ (f : CoreFront). g.C.Counter.step c.args.counter.now (Front c.args.spec.now.dest 100) (FrontReply (Ok f)) c.front.new.self) c.in-Entries.is c.in_ok-place.ensures.step in
     let some = some-of c.in-Entries.messages (sym c.is_empty.ensures ∙ c.if-is_empty.false) in
-    let h = subst (λ (ms : List Content). HasDelivered c.args.spec.now g.C.Counter.step c.front.new.self c.deliver.new.counter c.in-Entries.place ms c.deliver.new.outage (g.O.Outlet.state c.args.outlet.now) (g.O.Outlet.state c.deliver.new.outlet) false) c.as_slice.ensures c.in_err-deliver-in-Entries.ensures.delivers in
+    let h = subst (λ (ms : List Content). HasDelivered c.args.spec.now g.C.Counter.step c.front.new.self c.deliver.new.counter c.in-Entries.place ms c.deliver.new.outage (g.O.Outlet.state c.args.outlet.now) (g.O.Outlet.state c.deliver.new.outlet) false false) c.as_slice.ensures c.in_err-idle-in-Entries.ensures.delivers in
     front-failed c.args.spec.now g.C.Counter.step c.args.counter.now c.front.new.self c.deliver.new.counter c.in-Entries.place c.in-Entries.messages c.deliver.new.outage (g.O.Outlet.state c.args.outlet.now) (g.O.Outlet.state c.deliver.new.outlet)
-    c.from_residual-in_err-deliver-in-Entries.result c.from_residual-in_err-deliver-in-Entries.ensures.0 some made h
+    c.from_residual-in_err-idle-in-Entries.result false c.from_residual-in_err-idle-in-Entries.ensures.0 some made h
 
-pub returns-in_ok-deliver-in-Entries-clause-gives : goal.returns-in_ok-deliver-in-Entries-clause-gives
-returns-in_ok-deliver-in-Entries-clause-gives g c =
+pub returns-in_ok-idle-in-Entries-clause-gives : goal.returns-in_ok-idle-in-Entries-clause-gives
+returns-in_ok-idle-in-Entries-clause-gives g c =
     let made = subst (λ (f : CoreFront). g.C.Counter.step c.args.counter.now (Front c.args.spec.now.dest 100) (FrontReply (Ok f)) c.front.new.self) c.in-Entries.is c.in_ok-place.ensures.step in
     let some = some-of c.in-Entries.messages (sym c.is_empty.ensures ∙ c.if-is_empty.false) in
-    let h = subst (λ (ms : List Content). HasDelivered c.args.spec.now g.C.Counter.step c.front.new.self c.deliver.new.counter c.in-Entries.place ms c.deliver.new.outage (g.O.Outlet.state c.args.outlet.now) (g.O.Outlet.state c.deliver.new.outlet) true) c.as_slice.ensures c.in_ok-deliver-in-Entries.ensures.delivers in
-    front-well c.args.spec.now g.C.Counter.step c.args.counter.now c.front.new.self c.deliver.new.counter c.in-Entries.place c.in-Entries.messages c.deliver.new.outage (g.O.Outlet.state c.args.outlet.now) (g.O.Outlet.state c.deliver.new.outlet) some made h
+    let h = subst (λ (ms : List Content). HasDelivered c.args.spec.now g.C.Counter.step c.front.new.self c.deliver.new.counter c.in-Entries.place ms c.deliver.new.outage (g.O.Outlet.state c.args.outlet.now) (g.O.Outlet.state c.deliver.new.outlet) true c.in_ok-idle-in-Entries.idle) c.as_slice.ensures c.in_ok-idle-in-Entries.ensures.delivers in
+    front-well c.args.spec.now g.C.Counter.step c.args.counter.now c.front.new.self c.deliver.new.counter c.in-Entries.place c.in-Entries.messages c.deliver.new.outage (g.O.Outlet.state c.args.outlet.now) (g.O.Outlet.state c.deliver.new.outlet) c.in_ok-idle-in-Entries.idle some made h

@@ -23,3 +23,15 @@ returns-clause-all g c =
     let about = c.args.lock.shared.key in
     let r = ends g.V.Office.step g.V.Office.may g.V.Office.room about.made.value about.turns _ _ _ _ c.requires.held.0 c.requires.held.1 c.close_with-closed.ensures.values.2 in
     r.3
+
+pub returns-clause-few : goal.returns-clause-few
+returns-clause-few g c =
+    let about = c.args.lock.shared.key in
+    let r = ends g.V.Office.step g.V.Office.may g.V.Office.room about.made.value about.turns _ _ _ _ c.requires.held.0 c.requires.held.1 c.close_with-closed.ensures.values.2 in
+    r.4
+
+pub returns-clause-mine : goal.returns-clause-mine
+returns-clause-mine g c =
+    let about = c.args.lock.shared.key in
+    let r = ends g.V.Office.step g.V.Office.may g.V.Office.room about.made.value about.turns _ _ _ _ c.requires.held.0 c.requires.held.1 c.close_with-closed.ensures.values.2 in
+    r.5

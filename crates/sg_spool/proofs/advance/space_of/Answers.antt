@@ -16,6 +16,7 @@ loop-left-init g c =
       inside = omega arith;
       told = refl;
       later = omega arith;
+      still = refl;
       behind = λ b told es enough first laid.
           subst (λ (k : ℕ). IsBehind b places.jump places.end k c.gate_past-gate.result 0 c.args.first es) (sym none) (record {
             remains = subst (λ (k : ℕ). Remains b places.jump k es places.end) (sym c.gate_past-gate.ensures) (remains_of places.jump places.head places.end es b laid);
@@ -34,6 +35,7 @@ loop-left-preserved g c =
       inside = c.past-size.ensures.inside;
       told = c.first_size.ensures.told ∙ l.invariant.told;
       later = omega (arith, l.invariant.later, c.first_size.ensures.cause.later);
+      still = c.in_ok-length.ensures.cause.well ∙ l.invariant.still;
       behind = λ b told es enough first laid.
           let told1 = content_same (g.D.Disk.state c.args.disk.now) (g.D.Disk.state l.disk) l.invariant.told ∙ told in
           let small = g.met.D.Disk.short c.args.disk.now b told in

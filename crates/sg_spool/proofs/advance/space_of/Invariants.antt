@@ -11,6 +11,7 @@ invariant-loop-left g l = record {
   inside : l.size ≤ l.most;
   told : (g.D.Disk.state l.disk).told ≡ (g.D.Disk.state l.initial.disk).told;
   later : (g.D.Disk.state l.initial.disk).faults ≤ (g.D.Disk.state l.disk).faults;
+  still : (g.D.Disk.state l.disk).faults ≡ (g.D.Disk.state l.initial.disk).faults;
   behind : WhereTold (content (g.D.Disk.state l.initial.disk)) (λ b. (entries : Entries) → l.n ≤ length entries → IsFirstSize l.initial.known entries → IsLaid l.places.jump l.places.head l.places.end entries b
       → IsBehind b l.places.jump l.places.end (l.n - l.left) l.gate l.size l.known entries);
 }

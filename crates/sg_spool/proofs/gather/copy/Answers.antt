@@ -1,4 +1,4 @@
-use Rattle.std.proofs.Common.{◌+◌, ◌≤◌, arith}
+use Rattle.std.proofs.Common.{◌∙◌, ◌+◌, ◌≤◌, arith}
 use Rattle.sg_device.specs.Disk.{content}
 use Rattle.sg_spool.proofs.Gathering.{copied_more, join_beyond, less_beyond}
 use Rattle.sg_spool.proofs.gather.copy.Goals as goal
@@ -17,4 +17,5 @@ loop-done-preserved g c =
       images = join_beyond c.args.to d0 d1 d2 c.loop-done.invariant.images (less_beyond c.args.to (c.args.to + c.loop-done.done) d1 d2 (omega arith) c.copy_piece.ensures.images);
       inside = λ some. omega (arith, more);
       later = omega (arith, c.loop-done.invariant.later, c.copy_piece.ensures.cause.later);
+      still = c.in_ok-copy_piece.ensures.cause.well ∙ c.loop-done.invariant.still;
     }

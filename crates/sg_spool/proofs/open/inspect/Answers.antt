@@ -56,3 +56,6 @@ returns-in_err-place-clause-reason g c =
     walk_bad b c.at_front-cell.result.selector c.at_front-cell.result.value c.saturating_add-head.result at zeros whole (cell_there b c.read_at.new.into same c.read_at.auto.into whole c.at_front-cell.result c.at_front-cell.ensures.cell) (omega (arith, c.saturating_add-head.ensures, c.if-head-len.false, c.in_ok-len.ensures.bound)) (omega (arith, long, c.if-head-len.false)) (bad b at_walk))
     (omega (arith, c.len.ensures.cause.later, c.read_at.ensures.cause.later))
     c.in_err-place.ensures.reason)
+
+pub returns-clause-well : goal.returns-clause-well
+returns-clause-well g c = c.in_ok-place.ensures.well ∙ c.in_ok-read_at.ensures.cause.well ∙ c.in_ok-len.ensures.cause.well

@@ -19,6 +19,7 @@ loop-left-init g c = record {
   images = still_beyond (past c.args.places) (g.D.Disk.state c.args.disk.now) (g.D.Disk.state c.args.disk.now) (preserves_refl (g.D.Disk.state c.args.disk.now)).still;
   stays = λ bytes. refl;
   later = omega arith;
+  still = refl;
   spelled = spelling_start (g.M.Recode.meaning c.args.recode.now) c.args.places c.args.count c.gate_past-gate.result c.past-at.result (content (g.D.Disk.state c.args.disk.now)) c.requires.some c.gate_past-gate.ensures c.past-at.ensures.past;
 }
 
@@ -48,5 +49,6 @@ loop-left-preserved g c =
       images = join_beyond (past c.args.places) (g.D.Disk.state c.args.disk.now) (g.D.Disk.state c.loop-left.disk) (g.D.Disk.state c.write_one.new.disk) inv.images (join_beyond (past c.args.places) (g.D.Disk.state c.loop-left.disk) (g.D.Disk.state c.read_entry.new.disk) (g.D.Disk.state c.write_one.new.disk) (untold_beyond (past c.args.places) (g.D.Disk.state c.loop-left.disk) (g.D.Disk.state c.read_entry.new.disk) c.read_entry.ensures.told) (less_beyond (past c.args.places) c.loop-left.at (g.D.Disk.state c.read_entry.new.disk) (g.D.Disk.state c.write_one.new.disk) inv.high c.write_one.ensures.images));
       stays = λ bytes. c.write_one.ensures.stays bytes ∙ inv.stays bytes;
       later = omega (arith, inv.later, c.read_entry.ensures.cause.later, c.write_one.ensures.cause.later);
+      still = c.in_ok-at.ensures.cause.well ∙ c.in_ok-payload.ensures.cause.well ∙ inv.still;
       spelled = subst (λ (k : ℕ). Changes (Spelling M c.args.places c.args.count (c.loop-left.left - 1) c.gate_past-gate-in-loop-left.result k) (content (g.D.Disk.state c.args.disk.now)) (content (g.D.Disk.state c.write_one.new.disk))) at_next spelled;
     }

@@ -14,6 +14,7 @@ invariant-loop-left g l = record {
   images : Elapses (Beyond (past l.places)) (g.D.Disk.state l.initial.disk) (g.D.Disk.state l.disk);
   stays : (bytes : List ℕ) → g.M.Recode.meaning l.recode bytes ≡ g.M.Recode.meaning l.initial.recode bytes;
   later : (g.D.Disk.state l.initial.disk).faults ≤ (g.D.Disk.state l.disk).faults;
+  still : (g.D.Disk.state l.disk).faults ≡ (g.D.Disk.state l.initial.disk).faults;
   spelled : Changes (Spelling (g.M.Recode.meaning l.initial.recode) l.places l.count l.left l.gate l.at) (content (g.D.Disk.state l.initial.disk)) (content (g.D.Disk.state l.disk));
 }
 

@@ -9,6 +9,7 @@ invariant-loop-gate g l = record {
   inside : l.place.gate < l.len;
   told : (g.D.Disk.state l.disk).told ≡ (g.D.Disk.state l.initial.disk).told;
   later : (g.D.Disk.state l.initial.disk).faults ≤ (g.D.Disk.state l.disk).faults;
+  still : (g.D.Disk.state l.disk).faults ≡ (g.D.Disk.state l.initial.disk).faults;
   reached : WhereTold (content (g.D.Disk.state l.initial.disk)) (λ b. IsAt b l.head l.place);
 }
 

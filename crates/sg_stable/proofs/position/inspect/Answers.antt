@@ -35,3 +35,6 @@ returns-clause-found g c =
       has_cell = λ b told. c.in_ok-cell.ensures.cell b (content_same d1 d2 c.read_at.ensures.told ∙ content_same d0 d1 c.len.ensures.told ∙ told);
       opened = c.in_ok-cell.ensures.opened;
     }
+
+pub returns-clause-well : goal.returns-clause-well
+returns-clause-well g c = c.in_ok-cell.ensures.cause.well ∙ c.in_ok-read_at.ensures.cause.well ∙ c.in_ok-len.ensures.cause.well

@@ -20,11 +20,10 @@ returns-clause-synced g c =
     let d0 = g.D.Disk.state c.args.disk.now in
     let d1 = g.D.Disk.state c.sync.new.self in
     let d2 = g.D.Disk.state c.inspect.new.disk in
-    synced_on c.inspect.result (record {
-      durable = durable_same d1 d2 c.inspect.ensures.told (sync_durable d0 d1 c.in_ok-sync.ensures.told);
-      preserves = preserves_trans {old = d0} {mid = d1} {new = d2} (sync_preserves d0 d1 c.in_ok-sync.ensures.told) (unchanged d1 d2 c.inspect.ensures.told);
-      later = omega (arith, c.sync.ensures.cause.later, c.inspect.ensures.later);
-    })
+    synced_on d0 d1 d2 c.inspect.result
+    (durable_same d1 d2 c.inspect.ensures.told (sync_durable d0 d1 c.in_ok-sync.ensures.told))
+    (preserves_trans {old = d0} {mid = d1} {new = d2} (sync_preserves d0 d1 c.in_ok-sync.ensures.told) (unchanged d1 d2 c.inspect.ensures.told))
+    c.in_ok-sync.ensures.cause.well c.inspect.ensures.well
 
 pub returns-clause-unwritten : goal.returns-clause-unwritten
 returns-clause-unwritten g c =

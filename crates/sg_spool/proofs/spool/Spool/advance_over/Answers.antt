@@ -15,7 +15,7 @@ returns-in_err-next-clause-lasts g c =
     let enough = rw (← c.self.view_is) at c.requires.enough in
     let sized = rw (← c.self.view_is) at c.requires.sized in
     let starts = has_entries m.cell m.rows (option_map (λ v. v.items) m.front) (g.D.Disk.state m.disk) whole c.args.n c.args.size enough (sized c.if-self.false) in
-    rw (← c.self.view_is) (lasts_open g.D.Disk.state _ _ c.if-self.false refl (moves_within (c.advance_past.ensures.within c.args.n whole.entries (starts whole.entries whole.staged (holds m.cell m.rows (option_map (λ v. v.items) m.front) (g.D.Disk.state m.disk) whole)))) c.advance_past.ensures.answer.cause.later (λ shut. c.in_err-next.ensures.answer.cause.failed))
+    rw (← c.self.view_is) (lasts_open g.D.Disk.state _ _ c.if-self.false refl (moves_within (c.advance_past.ensures.within c.args.n whole.entries (starts whole.entries whole.staged (holds m.cell m.rows (option_map (λ v. v.items) m.front) (g.D.Disk.state m.disk) whole)))) c.advance_past.ensures.answer.cause.later (λ works. absurd (let no : true ≡ false = works in cc)) (λ shut. c.in_err-next.ensures.answer.cause.failed))
 
 pub returns-clause-lasts : goal.returns-clause-lasts
 returns-clause-lasts g c =
@@ -24,7 +24,7 @@ returns-clause-lasts g c =
     let enough = rw (← c.self.view_is) at c.requires.enough in
     let sized = rw (← c.self.view_is) at c.requires.sized in
     let starts = has_entries m.cell m.rows (option_map (λ v. v.items) m.front) (g.D.Disk.state m.disk) whole c.args.n c.args.size enough (sized c.if-self.false) in
-    rw (← c.self.view_is) (lasts_open g.D.Disk.state _ _ c.if-self.false refl (moves_within (c.advance_past.ensures.within c.args.n whole.entries (starts whole.entries whole.staged (holds m.cell m.rows (option_map (λ v. v.items) m.front) (g.D.Disk.state m.disk) whole)))) c.advance_past.ensures.answer.cause.later (λ shut. absurd (let no : false ≡ true = shut in cc)))
+    rw (← c.self.view_is) (lasts_open g.D.Disk.state _ _ c.if-self.false refl (moves_within (c.advance_past.ensures.within c.args.n whole.entries (starts whole.entries whole.staged (holds m.cell m.rows (option_map (λ v. v.items) m.front) (g.D.Disk.state m.disk) whole)))) c.advance_past.ensures.answer.cause.later (λ works. c.in_ok-next.ensures.answer.cause.well) (λ shut. absurd (let no : false ≡ true = shut in cc)))
 
 pub returns-in_err-next-clause-leaves : goal.returns-in_err-next-clause-leaves
 returns-in_err-next-clause-leaves g c =

@@ -6,7 +6,7 @@ use Rattle.sg_stable.specs.declared.cell.Pair.{Pair}
 use Rattle.sg_spool.specs.View.{IsWhole}
 use Rattle.sg_spool.specs.declared.rows.Rows.{Rows}
 use Rattle.sg_spool.proofs.Calls.{lasts_open}
-use Rattle.sg_spool.proofs.RewriteCalls.{lost_memory, fault_rose}
+use Rattle.sg_spool.proofs.RewriteCalls.{lost_memory, fault_rose, lost_still}
 use Rattle.sg_spool.proofs.Whole.{held, holds_held, counts, none_respelled, unstaged_same, respell_one, whole_respelled, whole_before, before_holds, advanced_rows, advanced_whole, respelled_holds, listed_same}
 use Rattle.sg_spool.proofs.spool.Spool.rewrite.Goals as goal
 
@@ -45,19 +45,19 @@ pub returns-in-Ok-clause-lasts : goal.returns-in-Ok-clause-lasts
 returns-in-Ok-clause-lasts g c =
     let m = c.self.inside in
     let whole = c.self.invariant.whole c.if-self.false in
-    rw (← c.self.view_is) (lasts_open g.D.Disk.state _ _ c.if-self.false refl (moves_within (c.rewrite_list.ensures.within whole.entries (λ b left. (whole.each b left).number) (held m.cell m.rows (option_map (λ v. v.items) m.front) (g.D.Disk.state m.disk) whole).rings)) c.rewrite_list.ensures.cause.later (λ shut. absurd (let no : false ≡ true = sym c.if-self.false ∙ shut in cc)))
+    rw (← c.self.view_is) (lasts_open g.D.Disk.state _ _ c.if-self.false refl (moves_within (c.rewrite_list.ensures.within whole.entries (λ b left. (whole.each b left).number) (held m.cell m.rows (option_map (λ v. v.items) m.front) (g.D.Disk.state m.disk) whole).rings)) c.rewrite_list.ensures.cause.later (λ works. c.in-Ok.ensures.cause.well) (λ shut. absurd (let no : false ≡ true = sym c.if-self.false ∙ shut in cc)))
 
 pub returns-in-Err-NoMemory-clause-lasts : goal.returns-in-Err-NoMemory-clause-lasts
 returns-in-Err-NoMemory-clause-lasts g c =
     let m = c.self.inside in
     let whole = c.self.invariant.whole c.if-self.false in
-    rw (← c.self.view_is) (lasts_open g.D.Disk.state _ _ c.if-self.false refl (moves_within (c.rewrite_list.ensures.within whole.entries (λ b left. (whole.each b left).number) (held m.cell m.rows (option_map (λ v. v.items) m.front) (g.D.Disk.state m.disk) whole).rings)) c.rewrite_list.ensures.cause.later (λ shut. absurd (let no : false ≡ true = sym c.if-self.false ∙ shut in cc)))
+    rw (← c.self.view_is) (lasts_open g.D.Disk.state _ _ c.if-self.false refl (moves_within (c.rewrite_list.ensures.within whole.entries (λ b left. (whole.each b left).number) (held m.cell m.rows (option_map (λ v. v.items) m.front) (g.D.Disk.state m.disk) whole).rings)) c.rewrite_list.ensures.cause.later (λ works. lost_still _ _ c.in-Err-NoMemory.field-0 c.in-Err-NoMemory.field-0-is c.in-Err-NoMemory.ensures.cause.failed) (λ shut. absurd (let no : false ≡ true = sym c.if-self.false ∙ shut in cc)))
 
 pub returns-in-Err-DiskFault-clause-lasts : goal.returns-in-Err-DiskFault-clause-lasts
 returns-in-Err-DiskFault-clause-lasts g c =
     let m = c.self.inside in
     let whole = c.self.invariant.whole c.if-self.false in
-    rw (← c.self.view_is) (lasts_open g.D.Disk.state _ _ c.if-self.false refl (moves_within (c.rewrite_list.ensures.within whole.entries (λ b left. (whole.each b left).number) (held m.cell m.rows (option_map (λ v. v.items) m.front) (g.D.Disk.state m.disk) whole).rings)) c.rewrite_list.ensures.cause.later (λ shut. fault_rose _ _ c.in-Err-DiskFault.field-0 c.in-Err-DiskFault.field-0-is c.in-Err-DiskFault.ensures.cause.failed))
+    rw (← c.self.view_is) (lasts_open g.D.Disk.state _ _ c.if-self.false refl (moves_within (c.rewrite_list.ensures.within whole.entries (λ b left. (whole.each b left).number) (held m.cell m.rows (option_map (λ v. v.items) m.front) (g.D.Disk.state m.disk) whole).rings)) c.rewrite_list.ensures.cause.later (λ works. absurd (let no : true ≡ false = works in cc)) (λ shut. fault_rose _ _ c.in-Err-DiskFault.field-0 c.in-Err-DiskFault.field-0-is c.in-Err-DiskFault.ensures.cause.failed))
 
 pub returns-in-Ok-clause-within : goal.returns-in-Ok-clause-within
 returns-in-Ok-clause-within g c =

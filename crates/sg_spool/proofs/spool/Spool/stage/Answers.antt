@@ -14,13 +14,13 @@ pub returns-in_default-clause-lasts : goal.returns-in_default-clause-lasts
 returns-in_default-clause-lasts g c =
     let m = c.self.inside in
     let whole = c.self.invariant.whole c.if-self.false in
-    rw (← c.self.view_is) (lasts_open g.D.Disk.state _ _ c.if-self.false refl (moves_within (c.stage_block.ensures.within whole.entries whole.staged (held m.cell m.rows (option_map (λ v. v.items) m.front) (g.D.Disk.state m.disk) whole))) c.stage_block.ensures.answer.cause.later (λ shut. c.in_default.ensures.answer.cause.failed))
+    rw (← c.self.view_is) (lasts_open g.D.Disk.state _ _ c.if-self.false refl (moves_within (c.stage_block.ensures.within whole.entries whole.staged (held m.cell m.rows (option_map (λ v. v.items) m.front) (g.D.Disk.state m.disk) whole))) c.stage_block.ensures.answer.cause.later (λ works. absurd (let no : true ≡ false = works in cc)) (λ shut. c.in_default.ensures.answer.cause.failed))
 
 pub returns-clause-lasts : goal.returns-clause-lasts
 returns-clause-lasts g c =
     let m = c.self.inside in
     let whole = c.self.invariant.whole c.if-self.false in
-    rw (← c.self.view_is) (lasts_open g.D.Disk.state _ _ c.if-self.false refl (moves_within (c.stage_block.ensures.within whole.entries whole.staged (held m.cell m.rows (option_map (λ v. v.items) m.front) (g.D.Disk.state m.disk) whole))) c.stage_block.ensures.answer.cause.later (λ shut. absurd (let no : false ≡ true = shut in cc)))
+    rw (← c.self.view_is) (lasts_open g.D.Disk.state _ _ c.if-self.false refl (moves_within (c.stage_block.ensures.within whole.entries whole.staged (held m.cell m.rows (option_map (λ v. v.items) m.front) (g.D.Disk.state m.disk) whole))) c.stage_block.ensures.answer.cause.later (λ works. c.in-Ok.ensures.answer.cause.well) (λ shut. absurd (let no : false ≡ true = shut in cc)))
 
 pub returns-in_default-clause-leaves : goal.returns-in_default-clause-leaves
 returns-in_default-clause-leaves g c =

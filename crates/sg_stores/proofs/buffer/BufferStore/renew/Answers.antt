@@ -13,4 +13,4 @@ returns-clause-renews g c = λ kind disk look.
     let l = c.live-live.ensures in
     let ahead : live c.renew.new.spool.rows.ahead ≡ live c.renew.new.spool.rows.list = sym l.live ∙ l.list e.listed.unstaged in
     let small : live c.renew.new.spool.rows.list < 2 ^ 63 = rw (l.list e.listed.unstaged) at l.small in
-    renewed-as g.D.Disk.state disk c.args.found.now c.self.inside.failed c.self.inside.spool c.renew.new.spool c.renew.ensures.lasts kind (rw (← c.self.view_is) at look) c.renew.ensures.within e.renewed e.size ahead small e.listed.count e.listed.unstaged
+    renewed-as g.D.Disk.state disk c.args.found.now c.self.inside.failed c.self.inside.spool c.renew.new.spool c.renew.ensures.lasts kind (rw (← c.self.view_is) at look) e.listed.opened c.renew.ensures.within e.renewed e.size ahead small e.listed.count e.listed.unstaged
