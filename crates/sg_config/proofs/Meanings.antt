@@ -6,7 +6,7 @@ use Rattle.sg_parse_obj.specs.Objects.{spots_at}
 use Rattle.sg_parse_text.specs.declared.statement.Statement.{Statement}
 use Rattle.sg_names.specs.Registers.{names_of}
 use Rattle.sg_source.specs.declared.inlet.SourceDriver.{SourceDriver}
-use Rattle.sg_source.specs.declared.inlet.InletPlan.{InletPlan}
+use Rattle.sg_run_plan.specs.declared.inlet.InletPlan.{InletPlan}
 use Rattle.sg_resolve.specs.First.{IsFirstFault as HasFirstFault}
 use Rattle.sg_plan.specs.declared.plan.Plan.{Plan}
 use Rattle.sg_plan.specs.Limits.{IsWithin as PlanIsWithin}

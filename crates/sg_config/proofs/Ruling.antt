@@ -3,7 +3,7 @@ use Rattle.std.proofs.Common.{◌≡◌, ◌∙◌, ℕ, ◌+◌, ◌<◌, ◌�
 use Rattle.std.proofs.lemmas.List.{take_more, take_all, map-append}
 use Rattle.sg_resolve.proofs.Leasts.{flat-push}
 use Rattle.sg_source.specs.declared.inlet.SourceDriver.{SourceDriver}
-use Rattle.sg_source.specs.declared.inlet.InletPlan.{InletPlan}
+use Rattle.sg_run_plan.specs.declared.inlet.InletPlan.{InletPlan}
 use Rattle.sg_tree.specs.Readings.{Inlet, inlet_of}
 use Rattle.sg_tree.specs.declared.forest.InletRule.{InletRule}
 use Rattle.sg_config.specs.Readings.{reading_of, readings_at, readings_of}

@@ -2,7 +2,7 @@
 use Rattle.std.specs.Prelude.{◌≡◌, ℕ, ◌≤◌, length, map, slice_get, Some}
 use Rattle.sg_machine.specs.declared.setup.SourceSetup.{SourceSetup}
 use Rattle.sg_machine.specs.declared.setup.DestSetup.{DestSetup}
-use Rattle.sg_source.specs.declared.inlet.InletPlan.{InletPlan}
+use Rattle.sg_run_plan.specs.declared.inlet.InletPlan.{InletPlan}
 use Rattle.sg_plan.specs.Limits.{NumbersStores, HasWindow, HasRoom, IsInlet}
 use Rattle.sg_table.specs.Patterns.{patterns_in}
 use Rattle.sg_tree.specs.Laws.{TopsStayWithin}

@@ -2,7 +2,7 @@
 use Rattle.std.specs.Prelude.{List, [], ◌∷◌, slice_get, Option, Some, None}
 use Rattle.std.specs.List.{flat_map}
 use Rattle.sg_source.specs.declared.inlet.SourceDriver.{SourceDriver}
-use Rattle.sg_source.specs.declared.inlet.InletPlan.{InletPlan}
+use Rattle.sg_run_plan.specs.declared.inlet.InletPlan.{InletPlan}
 use Rattle.sg_tree.specs.Readings.{Inlet}
 
 -- as its driver says

@@ -17,7 +17,7 @@ use Rattle.sg_parse_expr.specs.declared.tree.Call.{Call}
 use Rattle.sg_options.specs.Settings.{last_value}
 use Rattle.sg_driver.specs.declared.defaults.Defaults.{Defaults}
 use Rattle.sg_driver.specs.Driver.{driver_kind, options_of}
-use Rattle.sg_destination.specs.declared.outlet.OutletPlan.{OutletPlan}
+use Rattle.sg_run_plan.specs.declared.outlet.OutletPlan.{OutletPlan}
 use Rattle.sg_destination.specs.declared.outlet.DestinationDriver.{DestinationDriver}
 use Rattle.sg_destination.specs.Templates.{Texts, template_words, text_named, IsText, HasShape}
 use Rattle.sg_destination.specs.Outlets.{HasEnv, IsPlan, IsDestination}

@@ -9,7 +9,7 @@ use Rattle.sg_outfmt.specs.declared.shape.DriverKind.TheVariants.{File, Network,
 use Rattle.sg_options.specs.Settings.{last_value}
 use Rattle.sg_options.specs.Values.{number_or, truth_or, zone_or_none, mode_or}
 use Rattle.sg_driver.specs.declared.defaults.Defaults.{Defaults}
-use Rattle.sg_destination.specs.declared.outlet.OutletPlan.{OutletPlan}
+use Rattle.sg_run_plan.specs.declared.outlet.OutletPlan.{OutletPlan}
 use Rattle.sg_destination.specs.declared.outlet.DestinationDriver.{DestinationDriver}
 use Rattle.sg_driver.specs.Limits.{fifo_size, fraction_digits, reopen_time}
 use Rattle.sg_driver.specs.Driver.{driver_kind, options_of, name_of}

@@ -10,5 +10,5 @@ mod templates;
 pub use buffers::{DiskBuffer, store_of_destination};
 pub use destination::destination_fault;
 pub use laws::destinations_are_one;
-pub use outlet::{DestinationDriver, OutletPlan, read_destination};
+pub use outlet::{DestinationDriver, read_destination};
 pub use templates::Templates;

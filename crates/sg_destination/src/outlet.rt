@@ -4,6 +4,7 @@ ghost use Rattle.sg_driver.specs.Driver.{driver_kind};
 ghost use Rattle.sg_driver.specs.Defaults.{AreDefaults};
 ghost use Rattle.sg_destination.specs.Outlets as spec;
 
+use sg_run_plan::OutletPlan;
 use crate::buffers::{DiskBuffer, buffer_of, port_of};
 use crate::templates::{Templates, shape_of};
 use sg_device::{Name, NoMemory};
@@ -14,14 +15,6 @@ use sg_outside::OutletSpec;
 use sg_parse_expr::Call;
 use sg_template::Env;
 use std::alloc::Global;
-
-/// An outlet.
-#[derive(Drop)]
-pub struct OutletPlan {
-    pub spec: OutletSpec,
-    pub shape: Shape,
-    pub env: Env,
-}
 
 /// A driver of a destination.
 #[derive(Drop)]

@@ -8,10 +8,10 @@ ghost use Rattle.sg_expand.specs.Places.{IsPlaced};
 ghost use Rattle.sg_expand.specs.Whole.{IsNew, Gives, BeginsText, DoesFrame, Works, RunsWhole};
 ghost use Rattle.sg_outside.specs.World.{OnlyReads};
 
+use sg_outside::Files;
 use crate::block::Block;
 use crate::directive::{begins_version, is_version};
 use crate::fault::{ExpandRefusal, Expanded, Stop, fault_at};
-use crate::files::Files;
 use crate::frame::{Context, Frame, Rest, empty_scope, push_frame};
 use crate::total::Total;
 use sg_block::{Line, Part, Table, Values};

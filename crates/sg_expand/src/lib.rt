@@ -5,7 +5,6 @@ mod block;
 mod directive;
 mod expander;
 mod fault;
-mod files;
 mod frame;
 mod include;
 mod laws;
@@ -15,5 +14,4 @@ mod uses;
 
 pub use expander::expand;
 pub use fault::{ExpandRefusal, Expanded};
-pub use files::Files;
 pub use laws::{expansions_are_one, expansions_stay_within};

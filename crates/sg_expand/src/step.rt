@@ -9,11 +9,11 @@ ghost use Rattle.sg_block.specs.Values.{reached, IsReplaced};
 ghost use Rattle.sg_expand.specs.Expansion.{Moves, retold, front, step, version_read, define_read, text_of, text_in, plain, with_block, with_variable};
 ghost use Rattle.sg_expand.specs.Machine.{Does, DoesStep, Pushes, tokens_frame, state_of, EmitsToken};
 
+use sg_outside::Files;
 use crate::block::Block;
 use crate::directive::{begins_define, begins_ignored, begins_include, begins_version, is_version};
 use crate::expander::Expander;
 use crate::fault::{Stop, fault_at};
-use crate::files::Files;
 use crate::frame::{Context, Frame, Rest, push_frame};
 use crate::total::{put, put_all};
 use sg_block::{Definition, Part, Replaced, find, is_front, is_tick, read_definition, replace};

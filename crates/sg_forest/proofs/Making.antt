@@ -27,8 +27,8 @@ use Rattle.sg_table.specs.Patterns.{Patterns}
 use Rattle.sg_table.proofs.Parts.{siblings-own, choices-own}
 use Rattle.sg_table.proofs.Patterned.{patterns-Filter, patterns-Deliver, patterns-Junction, patterns-If, patterns-Path}
 use Rattle.sg_names.specs.declared.names.Names.{Names}
-use Rattle.sg_ends.specs.declared.owner.Owner.{Owner}
-use Rattle.sg_ends.specs.Owners.{owner_of, numbers_of}
+use Rattle.sg_plan.specs.declared.owner.Owner.{Owner}
+use Rattle.sg_plan.specs.Owners.{owner_of, numbers_of}
 use Rattle.sg_options.specs.Settings.{has_word}
 use Rattle.sg_parse_base.specs.Input.{spot_line}
 use Rattle.sg_forest.specs.Statements.{line_in}

@@ -17,8 +17,8 @@ use Rattle.sg_tree.specs.Walk.{Marks, Steps, none_left}
 use Rattle.sg_table.specs.Table.{siblings_of, choice_of}
 use Rattle.sg_table.specs.Patterns.{Patterns}
 use Rattle.sg_names.specs.declared.names.Names.{Names}
-use Rattle.sg_ends.specs.declared.owner.Owner.{Owner}
-use Rattle.sg_ends.specs.Owners.{owner_of, numbers_of}
+use Rattle.sg_plan.specs.declared.owner.Owner.{Owner}
+use Rattle.sg_plan.specs.Owners.{owner_of, numbers_of}
 use Rattle.sg_lower.specs.Expressions.{expression}
 use Rattle.sg_forest.specs.References.{filter_meant, calls_meant, flags_of}
 use Rattle.sg_forest.specs.Steps.{Onward, rewrite_steps, embedded_logs, marks_of, element_step, branch_step, log_step, element_steps, branch_steps, log_steps, elements_steps}

@@ -19,8 +19,8 @@ use Rattle.sg_tree.specs.declared.tree.Path.{Path, out-Path}
 use Rattle.sg_table.specs.Patterns as table
 use Rattle.sg_table.specs.Patterns.{Patterns}
 use Rattle.sg_names.specs.declared.names.Names.{Names}
-use Rattle.sg_ends.specs.declared.owner.Owner.{Owner}
-use Rattle.sg_ends.specs.declared.ends.Endpoints.{Endpoints}
+use Rattle.sg_plan.specs.declared.owner.Owner.{Owner}
+use Rattle.sg_plan.specs.declared.ends.Endpoints.{Endpoints}
 use Rattle.sg_forest.specs.Written.{Written, written_of, written_patterns}
 use Rattle.sg_forest.specs.References.{source_in, flags_of}
 use Rattle.sg_forest.specs.Patterns.{log_patterns, logs_patterns}

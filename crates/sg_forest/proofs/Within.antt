@@ -15,10 +15,10 @@ use Rattle.sg_tree.specs.Plain.{in_front}
 use Rattle.sg_tree.specs.Laws.{AreDests, StaysWithin, AllStayWithin, EachStaysWithin, TopsStayWithin}
 use Rattle.sg_table.specs.Table.{siblings_of, choice_of}
 use Rattle.sg_names.specs.declared.names.Names.{Names}
-use Rattle.sg_ends.specs.declared.owner.Owner.{Owner}
-use Rattle.sg_ends.specs.declared.ends.Endpoints.{Endpoints}
-use Rattle.sg_ends.specs.Owners.{owner_of, numbers_of}
-use Rattle.sg_ends.proofs.Numbers.{are-within}
+use Rattle.sg_plan.specs.declared.owner.Owner.{Owner}
+use Rattle.sg_plan.specs.declared.ends.Endpoints.{Endpoints}
+use Rattle.sg_plan.specs.Owners.{owner_of, numbers_of}
+use Rattle.sg_plan.proofs.Numbers.{are-within}
 use Rattle.sg_forest.specs.Written.{Written, written_in, rule_by}
 use Rattle.sg_forest.specs.Steps.{Onward, rewrite_steps, embedded_logs, element_step, branch_step, log_step, element_steps, branch_steps, log_steps}
 use Rattle.sg_forest.specs.Statements.{top_in}

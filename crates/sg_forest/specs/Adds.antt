@@ -16,8 +16,8 @@ use Rattle.sg_table.specs.Patterns as table
 use Rattle.sg_table.specs.Patterns.{Patterns}
 use Rattle.sg_table.specs.Compiled.{own, choices}
 use Rattle.sg_names.specs.declared.names.Names.{Names}
-use Rattle.sg_ends.specs.declared.owner.Owner.{Owner}
-use Rattle.sg_ends.specs.declared.ends.Endpoints.{Endpoints}
+use Rattle.sg_plan.specs.declared.owner.Owner.{Owner}
+use Rattle.sg_plan.specs.declared.ends.Endpoints.{Endpoints}
 use Rattle.sg_forest.specs.Statements.{line_of, line_in, top_in}
 use Rattle.sg_forest.specs.Steps.{element_steps, branch_steps, log_steps, elements_steps}
 use Rattle.sg_forest.specs.Patterns.{element_patterns, branch_patterns, log_patterns, elements_patterns, branches_patterns, logs_patterns}

@@ -7,7 +7,7 @@ use Rattle.sg_tree.specs.Offers.{woods_of}
 use Rattle.sg_tree.specs.Laws.{TopsStayWithin}
 use Rattle.sg_table.specs.Patterns.{patterns_in}
 use Rattle.sg_names.specs.declared.names.Names.{Names}
-use Rattle.sg_ends.specs.declared.ends.Endpoints.{Endpoints}
+use Rattle.sg_plan.specs.declared.ends.Endpoints.{Endpoints}
 use Rattle.sg_forest.specs.Written.{written_of}
 use Rattle.sg_forest.specs.Statements.{line_of, filters_in, rewrites_in, lines_in, woods_in, patterns_of_text}
 

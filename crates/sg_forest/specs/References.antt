@@ -15,8 +15,8 @@ use Rattle.sg_filter.specs.declared.expr.Expr.TheVariants as x
 use Rattle.sg_names.specs.declared.kind.NameKind.TheVariants as kind
 use Rattle.sg_names.specs.declared.names.Names.{Names}
 use Rattle.sg_names.specs.Registers.{place_in}
-use Rattle.sg_ends.specs.declared.owner.Owner.{Owner}
-use Rattle.sg_ends.specs.Owners.{owner_of, numbers_of}
+use Rattle.sg_plan.specs.declared.owner.Owner.{Owner}
+use Rattle.sg_plan.specs.Owners.{owner_of, numbers_of}
 use Rattle.sg_lower.specs.Filters.{named_if}
 use Rattle.sg_lower.specs.Expressions.{expression}
 

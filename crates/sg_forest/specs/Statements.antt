@@ -17,7 +17,7 @@ use Rattle.sg_tree.specs.Readings.{inlet_of}
 use Rattle.sg_tree.specs.Offers.{Top, Woods}
 use Rattle.sg_table.specs.Patterns.{Patterns, filters_patterns}
 use Rattle.sg_names.specs.declared.names.Names.{Names}
-use Rattle.sg_ends.specs.declared.ends.Endpoints.{Endpoints}
+use Rattle.sg_plan.specs.declared.ends.Endpoints.{Endpoints}
 use Rattle.sg_options.specs.Settings.{has_word}
 use Rattle.sg_lower.specs.Expressions.{expression}
 use Rattle.sg_forest.specs.Written.{Written, written_in, written_patterns}

@@ -13,8 +13,8 @@ use Rattle.sg_tree.specs.Walk.{Marks, Steps, none_left}
 use Rattle.sg_tree.specs.Plain.{in_front}
 use Rattle.sg_table.specs.Table.{siblings_of, choice_of}
 use Rattle.sg_names.specs.declared.names.Names.{Names}
-use Rattle.sg_ends.specs.declared.owner.Owner.{Owner}
-use Rattle.sg_ends.specs.Owners.{owner_of, numbers_of}
+use Rattle.sg_plan.specs.declared.owner.Owner.{Owner}
+use Rattle.sg_plan.specs.Owners.{owner_of, numbers_of}
 use Rattle.sg_options.specs.Settings.{has_word}
 use Rattle.sg_lower.specs.Expressions.{expression}
 use Rattle.sg_forest.specs.Written.{written_in, rule_by}

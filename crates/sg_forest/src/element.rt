@@ -10,7 +10,7 @@ use crate::flag::has_flag;
 use crate::reference::{calls_meant, filter_meant};
 use crate::rule::{append, push_calls};
 use sg_device::NoMemory;
-use sg_ends::{Owner, numbers_of};
+use sg_plan::{Owner, numbers_of};
 use sg_filter::Expr;
 use sg_lower::lower_expression;
 use sg_names::Names;

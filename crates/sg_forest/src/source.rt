@@ -4,7 +4,7 @@ ghost use Rattle.std.specs.List.{flat_map};
 ghost use Rattle.sg_forest.specs.References.{source_in};
 
 use sg_device::NoMemory;
-use sg_ends::{Owner, numbers_of};
+use sg_plan::{Owner, numbers_of};
 use sg_parse_path::RawElement;
 use std::alloc::Global;
 

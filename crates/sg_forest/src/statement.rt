@@ -9,7 +9,7 @@ use crate::element::lower_log;
 use crate::rule::{append, push_rules};
 use crate::source::sources_of;
 use sg_device::NoMemory;
-use sg_ends::Endpoints;
+use sg_plan::Endpoints;
 use sg_filter::Expr;
 use sg_lower::lower_expression;
 use sg_names::Names;

@@ -2,12 +2,12 @@
 use Rattle.std.specs.Prelude.{◌≡◌, ℕ, List, [], ◌∷◌}
 use Rattle.sg_memory_disk.specs.Plan.{failing, IsQuiet}
 use Rattle.sg_memory_disk.specs.declared.plan.Plan.{Plan}
-use Rattle.sg_memory.specs.declared.plans.OutletPlan.{OutletPlan}
+use Rattle.sg_memory.specs.declared.plans.OutletScript.{OutletScript}
 use Rattle.sg_memory.specs.declared.plans.PathsPlan.{PathsPlan}
 use Rattle.sg_memory.specs.declared.plans.WorldPlans.{WorldPlans}
 
 -- no call fails, and none is too early
-abbrev pub IsOutletQuiet : OutletPlan → Type 0
+abbrev pub IsOutletQuiet : OutletScript → Type 0
 IsOutletQuiet plan = IsQuiet plan.fails × IsQuiet plan.laters × IsQuiet plan.waits
 
 abbrev pub IsPathsQuiet : PathsPlan → Type 0
@@ -18,7 +18,7 @@ abbrev pub AreInletsQuiet : List Plan → Type 0
 AreInletsQuiet [] = Unit {0}
 AreInletsQuiet (plan ∷ plans) = IsQuiet plan × AreInletsQuiet plans
 
-abbrev pub AreOutletsQuiet : List OutletPlan → Type 0
+abbrev pub AreOutletsQuiet : List OutletScript → Type 0
 AreOutletsQuiet [] = Unit {0}
 AreOutletsQuiet (plan ∷ plans) = IsOutletQuiet plan × AreOutletsQuiet plans
 
@@ -32,7 +32,7 @@ first_failing [] = []
 first_failing (plan ∷ plans) = failing plan
 
 -- this is the plan of the device that is opened next
-abbrev pub IsFirstOutlet : List OutletPlan → OutletPlan → Type 0
+abbrev pub IsFirstOutlet : List OutletScript → OutletScript → Type 0
 IsFirstOutlet [] plan = IsOutletQuiet plan
 IsFirstOutlet (first ∷ plans) plan = plan ≡ first
 

@@ -29,5 +29,5 @@ pub use part::MemoryPart;
 pub use parts::MemoryParts;
 pub use paths::{MemoryPaths, TakenText};
 pub use place::is_record_end;
-pub use plans::{OutletPlan, PathsPlan, WorldPlans};
+pub use plans::{OutletScript, PathsPlan, WorldPlans};
 pub use world::MemoryWorld;

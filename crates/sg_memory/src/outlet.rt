@@ -2,7 +2,7 @@
 ghost use Rattle.std.specs.Prelude.{◌≡◌, ◌≢◌, ◌≤◌, [], ◌++◌, length, take};
 ghost use Rattle.sg_device.specs.Outlet.{Sends, Reopens};
 
-use crate::OutletPlan;
+use crate::OutletScript;
 use sg_device::{Frames, Outlet, OutletFault, Reopened, SendRefusal};
 use std::alloc::Global;
 
@@ -11,7 +11,7 @@ use std::alloc::Global;
 pub struct MemoryOutlet {
     frames: Frames,
     /// The calls that fail, and those that are too early.
-    pub plan: OutletPlan,
+    pub plan: OutletScript,
     faults: u64,
     failing: u64,
     laters: u64,
@@ -21,7 +21,7 @@ impl MemoryOutlet {
     ghost use Rattle.sg_memory.specs.Outlet.{new_outlet, outlet_of};
 
     /// An outlet that took nothing yet.
-    pub fn new(alloc: Global, plan: OutletPlan) -> MemoryOutlet
+    pub fn new(alloc: Global, plan: OutletScript) -> MemoryOutlet
         ensures opened { outlet_of result ≡ new_outlet }
         ensures plan { result.plan ≡ plan }
     {

@@ -9,7 +9,7 @@ use std::collections::VecDeque;
 
 /// What the calls of an outlet come to.
 #[derive(Debug, Drop)]
-pub struct OutletPlan {
+pub struct OutletScript {
     /// The sends and reopenings that fail, counted together.
     pub fails: Plan,
     /// The frames that a send takes before it fails or answers Later, or all but one of them where
@@ -21,21 +21,21 @@ pub struct OutletPlan {
     pub waits: Plan,
 }
 
-impl OutletPlan {
+impl OutletScript {
     /// No call fails, and none is too early.
-    pub fn never(alloc: Global) -> OutletPlan
+    pub fn never(alloc: Global) -> OutletScript
         ensures { IsOutletQuiet result }
     {
-        OutletPlan::failing(alloc, Plan::never(alloc))
+        OutletScript::failing(alloc, Plan::never(alloc))
     }
 
     /// These calls fail, and take nothing.
-    pub fn failing(alloc: Global, fails: Plan) -> OutletPlan
+    pub fn failing(alloc: Global, fails: Plan) -> OutletScript
         ensures fails { result.fails ≡ fails }
         ensures laters { IsQuiet result.laters }
         ensures waits { IsQuiet result.waits }
     {
-        OutletPlan {
+        OutletScript {
             fails,
             first: 0,
             laters: Plan::never(alloc),
@@ -80,7 +80,7 @@ pub struct WorldPlans {
     /// The plans of the inlets that will be opened, in order. No call fails of those behind them.
     pub inlets: VecDeque<Plan>,
     /// The same of the outlets.
-    pub outlets: VecDeque<OutletPlan>,
+    pub outlets: VecDeque<OutletScript>,
     /// The same of the openers.
     pub paths: VecDeque<PathsPlan>,
 }
@@ -117,13 +117,13 @@ pub fn take_inlet(alloc: Global, plans: &mut VecDeque<Plan>) -> Plan
 }
 
 /// The plan of the outlet that is opened next.
-pub fn take_outlet(alloc: Global, plans: &mut VecDeque<OutletPlan>) -> OutletPlan
+pub fn take_outlet(alloc: Global, plans: &mut VecDeque<OutletScript>) -> OutletScript
     ensures first { IsFirstOutlet plans.old.items result }
     ensures rest { plans.new.items ≡ drop 1 plans.old.items }
 {
     match plans.pop_front() {
         Some(plan) => plan,
-        None => OutletPlan::never(alloc),
+        None => OutletScript::never(alloc),
     }
 }
 

@@ -10,7 +10,7 @@ use Rattle.sg_outfmt.specs.declared.shape.DriverKind.{DriverKind}
 use Rattle.sg_outfmt.specs.declared.shape.DriverKind.TheVariants.{File, Network, Syslog}
 use Rattle.sg_driver.specs.declared.defaults.Defaults.{Defaults}
 use Rattle.sg_driver.specs.Driver.{driver_kind}
-use Rattle.sg_destination.specs.declared.outlet.OutletPlan.{OutletPlan}
+use Rattle.sg_run_plan.specs.declared.outlet.OutletPlan.{OutletPlan}
 use Rattle.sg_destination.specs.declared.outlet.DestinationDriver.{DestinationDriver}
 use Rattle.sg_destination.specs.Outlets.{IsDestination, spec_by}
 use Rattle.sg_resolve.specs.Templates.{text_in}

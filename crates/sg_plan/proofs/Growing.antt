@@ -6,7 +6,7 @@ use Rattle.std.proofs.lemmas.List.{length-append, length_push}
 use Rattle.sg_outside.specs.declared.request.StoreSpec.{StoreSpec}
 use Rattle.sg_source.specs.Inlets.{store_at}
 use Rattle.sg_destination.specs.declared.buffers.DiskBuffer.{DiskBuffer}
-use Rattle.sg_ends.specs.declared.owner.Owner.{Owner}
+use Rattle.sg_plan.specs.declared.owner.Owner.{Owner}
 use Rattle.sg_plan.specs.declared.driver.Driver.{Driver}
 use Rattle.sg_plan.specs.declared.driver.Driver.TheVariants as driver
 use Rattle.sg_plan.specs.declared.driver.OwnedDriver.{OwnedDriver}

@@ -12,7 +12,7 @@ use Rattle.sg_parse_path.specs.declared.tree.RawLog.{RawLog, roll-RawLog, map-Ra
 use Rattle.sg_parse_path.specs.declared.tree.RawBranch.{RawBranch, roll-RawBranch, map-RawBranch, fold-roll-RawBranch}
 use Rattle.sg_parse_text.specs.declared.statement.Statement.{Statement}
 use Rattle.sg_parse_text.specs.declared.statement.Statement.TheVariants as statement
-use Rattle.sg_ends.specs.declared.owner.Owner.{Owner}
+use Rattle.sg_plan.specs.declared.owner.Owner.{Owner}
 use Rattle.sg_resolve.specs.Ends as ends
 use Rattle.sg_resolve.specs.Ends.{Drivers, element_drivers, branch_drivers, log_drivers, statement_drivers, drivers_of}
 use Rattle.sg_resolve.proofs.EndEquations.{ends_source, ends_destination, ends_filter, ends_rewrite, ends_junction, ends_if}

@@ -4,7 +4,7 @@ use Rattle.std.specs.List.{flat_map}
 use Rattle.std.proofs.lemmas.List.{take_more, take_all, append-nil, append_assoc, map-append}
 use Rattle.sg_parse_expr.specs.declared.tree.Call.{Call}
 use Rattle.sg_parse_obj.specs.declared.driver.Side.{Side}
-use Rattle.sg_ends.specs.declared.owner.Owner.{Owner}
+use Rattle.sg_plan.specs.declared.owner.Owner.{Owner}
 use Rattle.sg_resolve.proofs.Leasts.{flat-push}
 use Rattle.sg_plan.specs.declared.globals.Globals.{Globals}
 use Rattle.sg_plan.specs.declared.driver.OwnedDriver.{OwnedDriver}

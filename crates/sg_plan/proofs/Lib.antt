@@ -1,3 +1,4 @@
+pub mod Numbers
 pub mod Joining
 pub mod OwnedEquations
 pub mod Slots

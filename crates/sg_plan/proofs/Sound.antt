@@ -10,13 +10,13 @@ use Rattle.sg_machine.specs.declared.setup.SourceSetup.{SourceSetup}
 use Rattle.sg_machine.specs.declared.setup.BufferSetup.{BufferSetup}
 use Rattle.sg_machine.specs.declared.setup.DestSetup.{DestSetup}
 use Rattle.sg_source.specs.declared.inlet.SourceDriver.{SourceDriver}
-use Rattle.sg_source.specs.declared.inlet.InletPlan.{InletPlan}
+use Rattle.sg_run_plan.specs.declared.inlet.InletPlan.{InletPlan}
 use Rattle.sg_source.specs.declared.inlet.Place.{Place}
 use Rattle.sg_source.specs.declared.inlet.Place.TheVariants as place
 use Rattle.sg_source.specs.Inlets.{plan_of, slots_at, store_at}
 use Rattle.sg_destination.specs.declared.outlet.DestinationDriver.{DestinationDriver}
 use Rattle.sg_destination.specs.declared.buffers.DiskBuffer.{DiskBuffer}
-use Rattle.sg_ends.specs.declared.owner.Owner.{Owner}
+use Rattle.sg_plan.specs.declared.owner.Owner.{Owner}
 use Rattle.sg_plan.specs.Parts.{Parts, no_parts, name_in, stores_by, number_by, buffer_by, setup_of, inlets_of, with_source, dest_setup_of, with_destination}
 use Rattle.sg_plan.specs.Limits.{NumbersStores, HasWindow, HasRoom, IsInlet}
 use Rattle.sg_plan.proofs.Elements.{some-same, Each, each-none, each-push, each-append, each-replicate, each-map}

@@ -9,7 +9,7 @@ use Rattle.sg_parse_text.specs.declared.statement.Statement.{Statement}
 use Rattle.sg_source.specs.declared.inlet.SourceDriver.{SourceDriver}
 use Rattle.sg_source.specs.Inlets.{IsSource}
 use Rattle.sg_source.specs.Sources.{source_faults}
-use Rattle.sg_ends.specs.declared.owner.Owner.{Owner}
+use Rattle.sg_plan.specs.declared.owner.Owner.{Owner}
 use Rattle.sg_resolve.specs.declared.templates.TemplateTexts.{TemplateTexts}
 use Rattle.sg_resolve.specs.Templates.{text_in, templates_of}
 use Rattle.sg_resolve.specs.Drivers.{own_faults}

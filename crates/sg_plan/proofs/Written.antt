@@ -10,7 +10,7 @@ use Rattle.sg_parse_obj.specs.declared.object.Object.{Object}
 use Rattle.sg_parse_obj.specs.declared.object.Object.TheVariants as object
 use Rattle.sg_parse_path.specs.declared.tree.RawRef.{RawRef}
 use Rattle.sg_parse_path.specs.declared.tree.RawRef.TheVariants as ref
-use Rattle.sg_ends.specs.declared.owner.Owner.{Owner}
+use Rattle.sg_plan.specs.declared.owner.Owner.{Owner}
 use Rattle.sg_resolve.specs.Ends.{Drivers, object_drivers, reference_drivers}
 use Rattle.sg_plan.specs.Owned.{Owned, calls_at, object_owned, reference_owned}
 

@@ -1,7 +1,7 @@
 -- Outlets that are one file or one connection each.
 use Rattle.std.specs.Prelude.{List, [], ◌∷◌}
 use Rattle.sg_outside.specs.World.{IsByPath}
-use Rattle.sg_destination.specs.declared.outlet.OutletPlan.{OutletPlan}
+use Rattle.sg_run_plan.specs.declared.outlet.OutletPlan.{OutletPlan}
 
 -- the paths of files come with the texts of none
 abbrev pub AreDirect : List OutletPlan → Type 0

@@ -1,3 +1,4 @@
+pub mod Owners
 pub mod Globals
 pub mod Owned
 pub mod Reading

@@ -15,8 +15,8 @@ use Rattle.sg_parse_path.specs.declared.tree.RawLog.{RawLog, fold-RawLog}
 use Rattle.sg_parse_path.specs.declared.tree.RawBranch.{RawBranch, fold-RawBranch}
 use Rattle.sg_parse_text.specs.declared.statement.Statement.{Statement}
 use Rattle.sg_parse_text.specs.declared.statement.Statement.TheVariants as statement
-use Rattle.sg_ends.specs.declared.owner.Owner.{Owner}
-use Rattle.sg_ends.specs.declared.owner.Owner.TheVariants.{Named, Inline}
+use Rattle.sg_plan.specs.declared.owner.Owner.{Owner}
+use Rattle.sg_plan.specs.declared.owner.Owner.TheVariants.{Named, Inline}
 
 abbrev pub Owned : Type 0
 Owned = List (Owner × (Side × Call))

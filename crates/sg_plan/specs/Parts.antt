@@ -7,13 +7,13 @@ use Rattle.sg_machine.specs.declared.setup.SourceSetup.{SourceSetup}
 use Rattle.sg_machine.specs.declared.setup.BufferSetup.{BufferSetup}
 use Rattle.sg_machine.specs.declared.setup.DestSetup.{DestSetup}
 use Rattle.sg_source.specs.declared.inlet.SourceDriver.{SourceDriver}
-use Rattle.sg_source.specs.declared.inlet.InletPlan.{InletPlan}
+use Rattle.sg_run_plan.specs.declared.inlet.InletPlan.{InletPlan}
 use Rattle.sg_source.specs.Inlets.{plan_of, slots_at, store_at}
-use Rattle.sg_destination.specs.declared.outlet.OutletPlan.{OutletPlan}
+use Rattle.sg_run_plan.specs.declared.outlet.OutletPlan.{OutletPlan}
 use Rattle.sg_destination.specs.declared.outlet.DestinationDriver.{DestinationDriver}
 use Rattle.sg_destination.specs.declared.buffers.DiskBuffer.{DiskBuffer}
-use Rattle.sg_ends.specs.declared.owner.Owner.{Owner}
-use Rattle.sg_ends.specs.declared.owner.Owner.TheVariants.{Named, Inline}
+use Rattle.sg_plan.specs.declared.owner.Owner.{Owner}
+use Rattle.sg_plan.specs.declared.owner.Owner.TheVariants.{Named, Inline}
 use Rattle.sg_plan.specs.declared.driver.Driver.{Driver}
 use Rattle.sg_plan.specs.declared.driver.Driver.TheVariants as driver
 use Rattle.sg_plan.specs.declared.driver.OwnedDriver.{OwnedDriver}

@@ -7,7 +7,7 @@ ghost use Rattle.sg_plan.specs.Reading.{IsRead, Reads};
 use crate::globals::Globals;
 use sg_destination::{DestinationDriver, read_destination};
 use sg_device::NoMemory;
-use sg_ends::Owner;
+use crate::Owner;
 use sg_parse_base::Spot;
 use sg_parse_expr::Call;
 use sg_parse_obj::Side;

@@ -5,6 +5,7 @@ ghost use Rattle.sg_resolve.specs.First.{IsFirstFault};
 ghost use Rattle.sg_plan.specs.declared.plan.Plan.{Plan};
 ghost use Rattle.sg_plan.specs.Plans.{IsPlan, AreAlike};
 ghost use Rattle.sg_plan.specs.Direct.{AreDirect};
+ghost use Rattle.sg_plan.specs.Owners.{NumbersAreWithin};
 ghost use Rattle.sg_plan.specs.Limits.{IsWithin};
 
 /// The drivers of statements come to one plan.
@@ -23,4 +24,9 @@ pub fn plans_are_within()
 pub fn outlets_are_direct()
     ensures { (statements : List Statement) (plan : Plan) → IsPlan statements plan
         → AreDirect plan.outlets.items }
+{}
+
+/// Each number is that of one of them.
+pub fn numbers_are_within()
+    ensures { NumbersAreWithin }
 {}

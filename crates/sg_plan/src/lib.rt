@@ -4,9 +4,13 @@
 mod adding;
 mod driver;
 mod drivers;
+mod ends;
 mod globals;
 mod laws;
+mod owner;
 mod plan;
 
-pub use laws::{outlets_are_direct, plans_are_one, plans_are_within};
+pub use ends::{Endpoints, numbers_of};
+pub use laws::{numbers_are_within, outlets_are_direct, plans_are_one, plans_are_within};
+pub use owner::Owner;
 pub use plan::{Plan, plan_of};

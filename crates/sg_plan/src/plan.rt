@@ -5,18 +5,19 @@ ghost use Rattle.sg_resolve.specs.First.{IsFirstFault};
 ghost use Rattle.sg_plan.specs.Parts.{parts_of, no_parts, with_source, with_destination, with_driver};
 ghost use Rattle.sg_plan.specs.Plans.{IsPlan};
 
+use sg_run_plan::{InletPlan, OutletPlan};
 use crate::adding::{add_buffer, add_inlets, add_owners, add_position, add_setups};
 use crate::driver::{Driver, OwnedDriver};
 use crate::drivers::read_drivers;
 use crate::globals::globals_of;
-use sg_destination::{DestinationDriver, OutletPlan};
+use sg_destination::DestinationDriver;
 use sg_device::NoMemory;
-use sg_ends::{Endpoints, Owner};
+use crate::{Endpoints, Owner};
 use sg_list::Seq;
 use sg_machine::{DestSetup, Setup, SourceSetup};
 use sg_outside::StoreSpec;
 use sg_parse_text::Statement;
-use sg_source::{InletPlan, SourceDriver};
+use sg_source::SourceDriver;
 use std::alloc::Global;
 use std::collections::VecDeque;
 

@@ -20,10 +20,10 @@ use Rattle.sg_serve.specs.declared.ending.Early.{Early}
 use Rattle.sg_serve.specs.declared.ending.Early.TheVariants as early
 use Rattle.sg_serve.specs.declared.ending.PlanEnded.{PlanEnded}
 use Rattle.sg_serve.specs.declared.ending.PlanEnded.TheVariants.{Before, Ran}
-use Rattle.sg_serve.specs.declared.plan.RunPlan.{RunPlan}
+use Rattle.sg_run_plan.specs.declared.plan.RunPlan.{RunPlan}
 use Rattle.sg_turns.specs.declared.ended.Ended.TheVariants.{Quiet, RoundsSpent as Spent, NoMemory as Starved}
-use Rattle.sg_bounded.specs.Bounds.{given_rounds, IsFew}
-use Rattle.sg_bounded.proofs.RiseLemmas.{inlet-rose, outlet-rose}
+use Rattle.sg_one_run.specs.Bounds.{given_rounds, IsFew}
+use Rattle.sg_one_run.proofs.RiseLemmas.{inlet-rose, outlet-rose}
 use Rattle.sg_run.specs.Bounding.{AreSpelled, GoesWell, Completes}
 use Rattle.sg_run.specs.Causes.{FailsThrice, RoseIn, FaultsAreDue, AreDue}
 use Rattle.sg_run.specs.Ends.{quiet_end, end_after, early_end}

@@ -28,9 +28,9 @@ use Rattle.sg_serve.specs.Run.{CoreRun, Reached, Holds, IsServed, RunsWith}
 use Rattle.sg_serve.specs.declared.counts.Counts.{Counts}
 use Rattle.sg_serve.specs.declared.ending.PlanEnded.{PlanEnded}
 use Rattle.sg_serve.specs.declared.ending.PlanEnded.TheVariants.{Before, Ran}
-use Rattle.sg_serve.specs.declared.plan.RunPlan.{RunPlan}
-use Rattle.sg_delivered.proofs.PreludeLemmas.{get-back}
-use Rattle.sg_quiet.specs.Failing.{AreUsed, FailedStoresCount}
+use Rattle.sg_run_plan.specs.declared.plan.RunPlan.{RunPlan}
+use Rattle.sg_one_run.proofs.PreludeLemmas.{get-back}
+use Rattle.sg_one_run.specs.Failing.{AreUsed, FailedStoresCount}
 use Rattle.sg_run.specs.Causes.{FailsThrice, RoseIn, AreDue}
 
 -- a number in the list is the place of a mark

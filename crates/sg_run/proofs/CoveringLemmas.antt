@@ -14,15 +14,15 @@ use Rattle.sg_serve.specs.Plan.{IsRunnable}
 use Rattle.sg_serve.specs.Run.{CoreRun, Reached, RunsWith}
 use Rattle.sg_serve.specs.declared.ending.PlanEnded.{PlanEnded}
 use Rattle.sg_serve.specs.declared.ending.PlanEnded.TheVariants.{Before, Ran}
-use Rattle.sg_serve.specs.declared.plan.RunPlan.{RunPlan}
+use Rattle.sg_run_plan.specs.declared.plan.RunPlan.{RunPlan}
 use Rattle.sg_turns.specs.declared.ended.Ended.TheVariants.{Quiet, RoundsSpent as Spent, NoMemory}
-use Rattle.sg_delivered.proofs.PreludeLemmas.{get-back}
-use Rattle.sg_runs.specs.Covered.{Pass, Taken, Covered}
-use Rattle.sg_runs.specs.Law.{offers_in}
-use Rattle.sg_covered.specs.Runs.{AllTell, AreOfFiles, TellFiles, EachChoice, files_of, PlanRunsHappen, PlanRunsCover}
-use Rattle.sg_covered.specs.Clean.{AreLines, PlanRunsEndClean}
-use Rattle.sg_covered.specs.Rest.{PlanRunsRest}
-use Rattle.sg_covered.proofs.HappenedLemmas.{happened-too}
+use Rattle.sg_one_run.proofs.PreludeLemmas.{get-back}
+use Rattle.sg_many_runs.specs.Covered.{Pass, Taken, Covered}
+use Rattle.sg_many_runs.specs.Adding.{offers_in}
+use Rattle.sg_many_runs.specs.Happened.{AllTell, AreOfFiles, TellFiles, EachChoice, files_of, PlanRunsHappen, PlanRunsCover}
+use Rattle.sg_many_runs.specs.Clean.{AreLines, PlanRunsEndClean}
+use Rattle.sg_many_runs.specs.Rest.{PlanRunsRest}
+use Rattle.sg_many_runs.proofs.HappenedLemmas.{happened-too}
 use Rattle.sg_run.specs.Covering.{CleanSo, Covers}
 use Rattle.sg_run.specs.Meaning.{paths_of, AreRouters}
 use Rattle.sg_run.specs.Run.{offers_by}

@@ -17,7 +17,7 @@ use Rattle.sg_machine.specs.declared.setup.SourceSetup.{SourceSetup}
 use Rattle.sg_outfmt.specs.declared.shape.DriverKind.{DriverKind}
 use Rattle.sg_outfmt.specs.declared.shape.DriverKind.TheVariants.{File, Network, Syslog}
 use Rattle.sg_driver.specs.Driver.{driver_kind}
-use Rattle.sg_source.specs.declared.inlet.InletPlan.{InletPlan}
+use Rattle.sg_run_plan.specs.declared.inlet.InletPlan.{InletPlan}
 use Rattle.sg_source.specs.declared.inlet.Place.{Place}
 use Rattle.sg_source.specs.declared.inlet.SourceDriver.{SourceDriver}
 use Rattle.sg_source.specs.Inlets.{IsSource, place_by, frames_by, spec_at, plan_of, slots_at, store_at}
@@ -33,9 +33,9 @@ use Rattle.sg_plan.specs.Plans.{IsPlan}
 use Rattle.sg_plan.specs.Reading.{IsRead, AreRead}
 use Rattle.sg_config.specs.Means.{Means}
 use Rattle.sg_config.specs.declared.config.Config.{Config}
-use Rattle.sg_runs.specs.Covered.{IsFile}
-use Rattle.sg_covered.specs.Fresh.{HasLimit, HaveLimits}
-use Rattle.sg_covered.specs.Runs.{IsOfFile}
+use Rattle.sg_many_runs.specs.Covered.{IsFile}
+use Rattle.sg_many_runs.specs.Fresh.{HasLimit, HaveLimits}
+use Rattle.sg_many_runs.specs.Happened.{IsOfFile}
 use Rattle.sg_run.specs.Covering.{ReadsFiles}
 use Rattle.sg_run.specs.Meaning.{planned}
 

@@ -18,15 +18,15 @@ use Rattle.sg_standing.specs.Standing.{IsAt, sources_from}
 use Rattle.sg_standing.specs.States.{CoreState}
 use Rattle.sg_core.specs.Opening.{opened_source}
 use Rattle.sg_actor.specs.declared.source.SourceActor.{SourceActor}
-use Rattle.sg_source.specs.declared.inlet.InletPlan.{InletPlan}
+use Rattle.sg_run_plan.specs.declared.inlet.InletPlan.{InletPlan}
 use Rattle.sg_turns.specs.declared.ended.Ended.{Ended}
 use Rattle.sg_serve.specs.Plan.{IsRunnable}
 use Rattle.sg_serve.specs.Run.{CoreRun, Reached, Holds, IsServed}
 use Rattle.sg_serve.specs.declared.counts.Counts.{Counts}
 use Rattle.sg_serve.specs.declared.ending.PlanEnded.{PlanEnded}
 use Rattle.sg_serve.specs.declared.ending.PlanEnded.TheVariants.{Before, Ran}
-use Rattle.sg_serve.specs.declared.plan.RunPlan.{RunPlan}
-use Rattle.sg_delivered.specs.Headline.{Headline, Delivers}
+use Rattle.sg_run_plan.specs.declared.plan.RunPlan.{RunPlan}
+use Rattle.sg_one_run.specs.Headline.{Headline, Delivers}
 use Rattle.sg_config.specs.declared.config.Config.{Config}
 use Rattle.sg_run.specs.Outcomes.{HasLines, HasLinesAt, AreLines}
 use Rattle.sg_run.specs.Meaning.{planned}

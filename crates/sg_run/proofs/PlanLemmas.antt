@@ -4,8 +4,8 @@ use Rattle.std.proofs.lemmas.List.{length-map, length-replicate}
 use Rattle.sg_list.proofs.ListLemmas.{some-same, slice_get-map}
 use Rattle.sg_machine.specs.declared.setup.SourceSetup.{SourceSetup}
 use Rattle.sg_core.specs.Opening.{HaveWindows}
-use Rattle.sg_source.specs.declared.inlet.InletPlan.{InletPlan}
-use Rattle.sg_destination.specs.declared.outlet.OutletPlan.{OutletPlan}
+use Rattle.sg_run_plan.specs.declared.inlet.InletPlan.{InletPlan}
+use Rattle.sg_run_plan.specs.declared.outlet.OutletPlan.{OutletPlan}
 use Rattle.sg_tree.specs.Offers.{Woods, woods_of}
 use Rattle.sg_tree.specs.Readings.{inlet_of}
 use Rattle.sg_table.specs.Forest.{forest_of}
@@ -19,7 +19,7 @@ use Rattle.sg_config.specs.declared.config.Config.{Config}
 use Rattle.sg_loaded.specs.Compiling.{Compiles}
 use Rattle.sg_serve.specs.Devices.{AreFetching, AreNotByPath}
 use Rattle.sg_serve.specs.Plan.{IsRunnable, AllKnow}
-use Rattle.sg_quiet.specs.Failing.{AreUsed}
+use Rattle.sg_one_run.specs.Failing.{AreUsed}
 use Rattle.sg_run.specs.Meaning.{planned, paths_of, paths_in, AreRouters}
 use Rattle.sg_run.specs.Run.{inlets_by, dests_by}
 

@@ -13,14 +13,14 @@ use Rattle.sg_loaded.specs.declared.loaded.Unloaded.{Unloaded}
 use Rattle.sg_loaded.specs.declared.loaded.Unloaded.TheVariants.{Bad, Unread, NoMemory}
 use Rattle.sg_serve.specs.Run.{RunsPlan}
 use Rattle.sg_serve.specs.declared.ending.PlanEnded.{PlanEnded}
-use Rattle.sg_delivered.specs.Headline.{RunsDeliver}
-use Rattle.sg_quiet.specs.Failing.{FailedStoresCount}
-use Rattle.sg_quiet.specs.Resting.{QuietRunsRest}
-use Rattle.sg_quiet.specs.Ending.{CleanRunsEnd}
-use Rattle.sg_bounded.specs.Bounds.{recovered_by, offered_by, RunsAreBounded}
-use Rattle.sg_covered.specs.Runs.{PlanRunsHappen, PlanRunsCover}
-use Rattle.sg_covered.specs.Clean.{PlanRunsEndClean}
-use Rattle.sg_covered.specs.Rest.{PlanRunsRest}
+use Rattle.sg_one_run.specs.Headline.{RunsDeliver}
+use Rattle.sg_one_run.specs.Failing.{FailedStoresCount}
+use Rattle.sg_one_run.specs.Resting.{QuietRunsRest}
+use Rattle.sg_one_run.specs.Ending.{CleanRunsEnd}
+use Rattle.sg_one_run.specs.Bounds.{recovered_by, offered_by, RunsAreBounded}
+use Rattle.sg_many_runs.specs.Happened.{PlanRunsHappen, PlanRunsCover}
+use Rattle.sg_many_runs.specs.Clean.{PlanRunsEndClean}
+use Rattle.sg_many_runs.specs.Rest.{PlanRunsRest}
 use Rattle.sg_run.specs.Covering.{ReadsFiles}
 use Rattle.sg_run.specs.Meaning.{planned, paths_in, drivers_in, AreRouters}
 use Rattle.sg_run.specs.Outcomes.{Tells, EndsBy, EndsSo, AreLines, HasLinesAt}

@@ -9,8 +9,8 @@ use Rattle.sg_machine.specs.declared.setup.DestSetup.{DestSetup}
 use Rattle.sg_stores.specs.Opening.{IsStore}
 use Rattle.sg_core.specs.Opening.{kind_of}
 use Rattle.sg_serve.specs.Run.{Reached, RoseAt}
-use Rattle.sg_serve.specs.declared.plan.RunPlan.{RunPlan}
-use Rattle.sg_bounded.specs.Bounds.{given_rounds, IsUntroubled}
+use Rattle.sg_run_plan.specs.declared.plan.RunPlan.{RunPlan}
+use Rattle.sg_one_run.specs.Bounds.{given_rounds, IsUntroubled}
 use Rattle.sg_run.specs.declared.end.End.TheVariants.{Clean}
 use Rattle.sg_run.specs.declared.end.Outcome.{Outcome}
 

@@ -7,7 +7,7 @@ use Rattle.sg_serve.specs.Run.{Reached, RoseAt}
 use Rattle.sg_serve.specs.declared.counts.Counts.{Counts}
 use Rattle.sg_serve.specs.declared.ending.PlanEnded.{PlanEnded}
 use Rattle.sg_serve.specs.declared.ending.PlanEnded.TheVariants.{Before, Ran}
-use Rattle.sg_serve.specs.declared.plan.RunPlan.{RunPlan}
+use Rattle.sg_run_plan.specs.declared.plan.RunPlan.{RunPlan}
 
 -- With `--once` three sends or reopenings of the outlet failed, and no frame was taken since. So its count of faults rose.
 pub record FailsThrice (plan : RunPlan) (opened closed : List OutletState) (d : ℕ) : Type 0 where

@@ -6,14 +6,14 @@ use Rattle.sg_serve.specs.Counts.{first_fault}
 use Rattle.sg_serve.specs.Run.{CoreRun, Reached}
 use Rattle.sg_serve.specs.declared.ending.PlanEnded.{PlanEnded}
 use Rattle.sg_serve.specs.declared.ending.PlanEnded.TheVariants.{Before, Ran}
-use Rattle.sg_serve.specs.declared.plan.RunPlan.{RunPlan}
+use Rattle.sg_run_plan.specs.declared.plan.RunPlan.{RunPlan}
 use Rattle.sg_turns.specs.declared.ended.Ended.TheVariants.{Quiet, RoundsSpent as Spent, NoMemory}
 use Rattle.sg_msg.specs.declared.offer.Offer.{Offer}
 use Rattle.sg_frame.specs.Records.{Record}
-use Rattle.sg_runs.specs.Covered.{Pass, Taken, Offers, Covered}
-use Rattle.sg_runs.specs.Law.{offers_in, EndsClean}
-use Rattle.sg_covered.specs.Runs.{AllTell, AreOfFiles, TellFiles, EachChoice, files_of, Happened, LeavesCovered}
-use Rattle.sg_covered.specs.Clean.{AreLines}
+use Rattle.sg_many_runs.specs.Covered.{Pass, Taken, Offers, Covered}
+use Rattle.sg_many_runs.specs.Adding.{offers_in, EndsClean}
+use Rattle.sg_many_runs.specs.Happened.{AllTell, AreOfFiles, TellFiles, EachChoice, files_of, Happened, LeavesCovered}
+use Rattle.sg_many_runs.specs.Clean.{AreLines}
 use Rattle.sg_run.specs.Meaning.{planned}
 
 -- each inlet with a stored position is that of a file, and is read by lines

@@ -1,12 +1,12 @@
 -- What is run of a configuration.
 use Rattle.std.specs.Prelude.{◌≡◌, ℕ, Bool, List, length, map, replicate, is_some}
 use Rattle.sg_machine.specs.declared.setup.SourceSetup.{SourceSetup}
-use Rattle.sg_source.specs.declared.inlet.InletPlan.{InletPlan}
+use Rattle.sg_run_plan.specs.declared.inlet.InletPlan.{InletPlan}
 use Rattle.sg_tree.specs.Offers.{Woods, woods_of}
 use Rattle.sg_table.specs.Forest.{forest_of}
 use Rattle.sg_pipes.specs.declared.pipes.Pipes.{Pipes}
 use Rattle.sg_config.specs.declared.config.Config.{Config}
-use Rattle.sg_serve.specs.declared.plan.RunPlan.{RunPlan}
+use Rattle.sg_run_plan.specs.declared.plan.RunPlan.{RunPlan}
 
 -- all of it but its log paths
 abbrev pub planned : Config → Bool → RunPlan

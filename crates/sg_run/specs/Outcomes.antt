@@ -7,7 +7,7 @@ use Rattle.sg_serve.specs.declared.counts.Counts.{Counts}
 use Rattle.sg_serve.specs.declared.ending.Early.{Early}
 use Rattle.sg_serve.specs.declared.ending.PlanEnded.{PlanEnded}
 use Rattle.sg_serve.specs.declared.ending.PlanEnded.TheVariants.{Before, Ran}
-use Rattle.sg_serve.specs.declared.plan.RunPlan.{RunPlan}
+use Rattle.sg_run_plan.specs.declared.plan.RunPlan.{RunPlan}
 use Rattle.sg_turns.specs.declared.ended.Ended.{Ended}
 use Rattle.sg_loaded.specs.declared.loaded.Unloaded.{Unloaded}
 use Rattle.sg_loaded.specs.declared.loaded.Unloaded.TheVariants.{Bad, Unread, NoMemory}

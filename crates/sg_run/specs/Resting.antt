@@ -7,10 +7,10 @@ use Rattle.sg_serve.specs.Run.{CoreRun, Reached}
 use Rattle.sg_serve.specs.declared.counts.Counts.{Counts}
 use Rattle.sg_serve.specs.declared.ending.PlanEnded.{PlanEnded}
 use Rattle.sg_serve.specs.declared.ending.PlanEnded.TheVariants.{Before, Ran}
-use Rattle.sg_serve.specs.declared.plan.RunPlan.{RunPlan}
+use Rattle.sg_run_plan.specs.declared.plan.RunPlan.{RunPlan}
 use Rattle.sg_turns.specs.declared.ended.Ended.TheVariants.{Quiet, RoundsSpent as Spent, NoMemory}
-use Rattle.sg_quiet.specs.Resting.{Rests}
-use Rattle.sg_quiet.specs.Ending.{Ends}
+use Rattle.sg_one_run.specs.Resting.{Rests}
+use Rattle.sg_one_run.specs.Ending.{Ends}
 
 -- Behind a quiet round nothing is left to do; and where nothing failed either, all input was taken, and all that was kept was delivered.
 pub record IsQuiet {R : Type 0} (offers : R → ℕ → Record → List Offer → Type 0) (plan : RunPlan) (routers : List R) (reached : Reached) (counts : Option Counts) (run : CoreRun) : Type 0 where

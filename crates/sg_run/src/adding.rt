@@ -3,7 +3,7 @@ ghost use Rattle.sg_run.specs.Adding.{ConfigRunsAddUp};
 ghost use Rattle.sg_run.specs.Fresh.{NewConfigRunsAddUp, ConfigRunsStayCovered, ConfigRunsTakeOnce};
 
 use sg_config::{outlets_are_direct, texts_mean_one};
-use sg_covered::{
+use sg_many_runs::{
     new_stores_are_covered, plan_runs_add_up, plan_runs_stay_covered, plan_runs_take_once,
 };
 use sg_pipes::Pipes;

@@ -3,7 +3,7 @@ use Rattle.std.proofs.Common.{◌≡◌, ◌≤◌, ℕ, ◌+◌, Bool, List, []
 use Rattle.std.specs.Prelude.{option_to_list}
 use Rattle.std.proofs.lemmas.List.{append-nil, length-map}
 use Rattle.sg_outside.specs.World.{WorldState, InletRefused}
-use Rattle.sg_destination.specs.declared.outlet.OutletPlan.{OutletPlan}
+use Rattle.sg_run_plan.specs.declared.outlet.OutletPlan.{OutletPlan}
 use Rattle.sg_list.proofs.ListLemmas.{some-same}
 use Rattle.sg_device.specs.Inlet.{InletState}
 use Rattle.sg_device.specs.declared.fault.OpenRefusal.{OpenRefusal}
@@ -17,7 +17,7 @@ use Rattle.sg_counter.specs.Bringing.{store_in}
 use Rattle.sg_standing.specs.Sources.{store_at}
 use Rattle.sg_standing.specs.States.{CoreState, setup_of}
 use Rattle.sg_standing.specs.Standing.{StandsFor}
-use Rattle.sg_source.specs.declared.inlet.InletPlan.{InletPlan}
+use Rattle.sg_run_plan.specs.declared.inlet.InletPlan.{InletPlan}
 use Rattle.sg_serve.specs.Actors.{DestView, IsDestFor, AreDestsFor, SourceView, IsSourceFor, AreSourcesFor, BeginsAt, AllBeginAt, OpensAt}
 use Rattle.sg_serve.specs.Devices.{IsFetching, AreFetching}
 use Rattle.sg_serve.specs.Early.{OutletsFail, InletsFail, SourceFails, SourcesFail}

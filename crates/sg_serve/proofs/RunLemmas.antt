@@ -36,7 +36,7 @@ use Rattle.sg_stores.specs.declared.kind.StoreKind.TheVariants.{Position, Buffer
 use Rattle.sg_standing.specs.States.{CoreState}
 use Rattle.sg_core.specs.Opening.{IsOpen, IsUnopened}
 use Rattle.sg_turns.specs.Actors.{AreSources, AreDests}
-use Rattle.sg_destination.specs.declared.outlet.OutletPlan.{OutletPlan}
+use Rattle.sg_run_plan.specs.declared.outlet.OutletPlan.{OutletPlan}
 use Rattle.sg_serve.specs.Actors.{source_view, dest_view, AreSourcesFor, AreDestsFor, AllBeginAt}
 use Rattle.sg_serve.specs.Devices.{with_all_closed, OpensStores, OpensInlets, ClosesStores, ClosesInlets, ClosesOutlets, inlets_asked, outlets_asked}
 use Rattle.sg_serve.specs.Early.{StoresFail, InletsFail, OutletsFail, SourcesFail}
@@ -48,7 +48,7 @@ use Rattle.sg_serve.specs.declared.ending.Early.{Early}
 use Rattle.sg_serve.specs.declared.ending.Early.TheVariants.{OpenFault, Damage, DiskFault, NoMemory}
 use Rattle.sg_serve.specs.declared.ending.PlanEnded.{PlanEnded}
 use Rattle.sg_serve.specs.declared.ending.PlanEnded.TheVariants.{Before, Ran}
-use Rattle.sg_serve.specs.declared.plan.RunPlan.{RunPlan}
+use Rattle.sg_run_plan.specs.declared.plan.RunPlan.{RunPlan}
 use Rattle.sg_serve.proofs.ActorLemmas.{fetching-at}
 use Rattle.sg_serve.proofs.DeviceLemmas.{rose-wider, inlets-none, outlets-none}
 

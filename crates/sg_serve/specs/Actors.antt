@@ -5,8 +5,8 @@ use Rattle.sg_device.specs.Outlet.{OutletState, IsNew}
 use Rattle.sg_outside.specs.World.{WorldState, Files, StandsIn}
 use Rattle.sg_outside.specs.declared.request.InletSpec.{InletSpec}
 use Rattle.sg_machine.specs.declared.setup.SourceSetup.{SourceSetup}
-use Rattle.sg_source.specs.declared.inlet.InletPlan.{InletPlan}
-use Rattle.sg_destination.specs.declared.outlet.OutletPlan.{OutletPlan}
+use Rattle.sg_run_plan.specs.declared.inlet.InletPlan.{InletPlan}
+use Rattle.sg_run_plan.specs.declared.outlet.OutletPlan.{OutletPlan}
 use Rattle.sg_actor.specs.DestTurns.{IsNewDest}
 use Rattle.sg_actor.specs.SourceTurns.{ActorState, IsNewSource}
 use Rattle.sg_actor.specs.declared.outage.Outage.{Outage}

@@ -9,8 +9,8 @@ use Rattle.sg_outside.specs.declared.request.InletSpec.TheVariants.{File as File
 use Rattle.sg_outside.specs.declared.request.OutletSpec.{OutletSpec}
 use Rattle.sg_outside.specs.declared.request.OutletSpec.TheVariants.{File as FileTo, Tcp, ByPath}
 use Rattle.sg_outside.specs.declared.request.StoreSpec.{StoreSpec}
-use Rattle.sg_source.specs.declared.inlet.InletPlan.{InletPlan}
-use Rattle.sg_destination.specs.declared.outlet.OutletPlan.{OutletPlan}
+use Rattle.sg_run_plan.specs.declared.inlet.InletPlan.{InletPlan}
+use Rattle.sg_run_plan.specs.declared.outlet.OutletPlan.{OutletPlan}
 
 -- What is asked for.
 

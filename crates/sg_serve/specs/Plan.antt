@@ -2,7 +2,7 @@
 use Rattle.std.specs.Prelude.{◌≡◌, ◌≤◌, ℕ, Some, List, length, slice_get}
 use Rattle.sg_core.specs.Opening.{NumberStores, HaveWindows, HaveCapacities}
 use Rattle.sg_serve.specs.Devices.{AreFetching, AreNotByPath}
-use Rattle.sg_serve.specs.declared.plan.RunPlan.{RunPlan}
+use Rattle.sg_run_plan.specs.declared.plan.RunPlan.{RunPlan}
 
 -- The setup numbers its stores, and has a source for each inlet and a destination for each outlet. There are no more than 128 inlets, 64
 -- outlets and 192 stores.

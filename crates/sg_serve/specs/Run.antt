@@ -22,7 +22,7 @@ use Rattle.sg_stores.specs.declared.kind.StoreKind.{StoreKind}
 use Rattle.sg_standing.specs.States.{CoreState}
 use Rattle.sg_core.specs.Calls.{Serves as CoreServes}
 use Rattle.sg_core.specs.Opening.{AreKinds, IsOpen, IsUnopened}
-use Rattle.sg_destination.specs.declared.outlet.OutletPlan.{OutletPlan}
+use Rattle.sg_run_plan.specs.declared.outlet.OutletPlan.{OutletPlan}
 use Rattle.sg_serve.specs.Early.{OutletsFail}
 use Rattle.sg_turns.specs.Actors.{SourceTook, DestTook}
 use Rattle.sg_turns.specs.Serving.{Serves, ServesWith}
@@ -38,7 +38,7 @@ use Rattle.sg_serve.specs.declared.ending.Early.{Early}
 use Rattle.sg_serve.specs.declared.ending.Early.TheVariants.{OpenFault, Damage, DiskFault, NoMemory}
 use Rattle.sg_serve.specs.declared.ending.PlanEnded.{PlanEnded}
 use Rattle.sg_serve.specs.declared.ending.PlanEnded.TheVariants.{Before, Ran}
-use Rattle.sg_serve.specs.declared.plan.RunPlan.{RunPlan}
+use Rattle.sg_run_plan.specs.declared.plan.RunPlan.{RunPlan}
 
 -- How far a run came.
 

@@ -5,7 +5,6 @@ mod counts;
 mod ending;
 mod held;
 mod outlets;
-mod plan;
 mod rewinds;
 mod run;
 mod sources;
@@ -13,6 +12,5 @@ mod stores;
 
 pub use counts::{Counts, Fault};
 pub use ending::{Device, Early, PlanEnded};
-pub use plan::RunPlan;
 pub use run::run_plan;
 pub use sg_engine::Ended;

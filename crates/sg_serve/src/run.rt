@@ -7,17 +7,16 @@ ghost use Rattle.sg_serve.specs.Devices.{AreNotByPath};
 ghost use Rattle.sg_serve.specs.Plan.{IsRunnable, AllKnow};
 ghost use Rattle.sg_serve.specs.Run.{early_of, ClosesAll, RunsPlan, RunsOver, RunsDests};
 
+use sg_run_plan::{OutletPlan, RunPlan};
 use crate::counts::count_all;
 use crate::held::{Held, close_all, hold_stores};
 use crate::outlets::open_dests;
-use crate::plan::RunPlan;
 use crate::sources::open_sources;
 use crate::stores::open_stores;
 use crate::{Early, PlanEnded};
 use sg_actor::SourceActor;
 use sg_core::{Core, CoreRefusal};
 use sg_crew::serve;
-use sg_destination::OutletPlan;
 use sg_engine::Served;
 use sg_route::Router;
 use sg_world::World;

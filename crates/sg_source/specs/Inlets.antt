@@ -16,7 +16,7 @@ use Rattle.sg_driver.specs.declared.defaults.Defaults.{Defaults}
 use Rattle.sg_source.specs.declared.inlet.SourceDriver.{SourceDriver}
 use Rattle.sg_source.specs.declared.inlet.Place.{Place}
 use Rattle.sg_source.specs.declared.inlet.Place.TheVariants as place
-use Rattle.sg_source.specs.declared.inlet.InletPlan.{InletPlan}
+use Rattle.sg_run_plan.specs.declared.inlet.InletPlan.{InletPlan}
 use Rattle.sg_driver.specs.Limits.{window_size, fetch_limit, message_size, connections, ports}
 use Rattle.sg_driver.specs.Driver.{driver_kind, options_of, name_of}
 use Rattle.sg_source.specs.Sources.{port_words, connection_words}

@@ -5,6 +5,7 @@ ghost use Rattle.sg_options.specs.Settings.{items_of};
 ghost use Rattle.sg_driver.specs.Defaults.{AreDefaults};
 ghost use Rattle.sg_source.specs.Inlets as spec;
 
+use sg_run_plan::InletPlan;
 use sg_device::{Name, NoMemory};
 use sg_driver::{
     CONNECTIONS, Defaults, FETCH_LIMIT, MESSAGE_SIZE, PORTS, WINDOW_SIZE, driver_kind, name_of,
@@ -54,21 +55,6 @@ pub struct SourceDriver {
 const FACILITY_WORDS: [&[u8]; 1] = [b"default-facility"];
 
 const LEVEL_WORDS: [&[u8]; 2] = [b"default-level", b"default-priority"];
-
-/// An inlet.
-#[derive(Drop)]
-pub struct InletPlan {
-    pub spec: InletSpec,
-    /// The name of its source, none of an inline one.
-    pub source: Option<Name>,
-    /// The number of its driver.
-    pub driver: u32,
-    pub kind: FrameKind,
-    /// How many bytes a record may have.
-    pub limit: u32,
-    /// How many records are taken in one turn.
-    pub fetch: u32,
-}
 
 fn is_flagged(word: &[u8], call: &Call) -> bool
     ensures { result ≡ spec.is_flagged word.now call.now }

@@ -5,7 +5,7 @@ use Rattle.sg_outside.specs.World.{Files, WorldState, OnlyReads, IsContent}
 use Rattle.sg_lex.specs.declared.token.Token.{Token}
 use Rattle.sg_expand.specs.Expansion.{Outcome, Goes, RunsMain}
 use Rattle.sg_expand.specs.One.{AreAlike as OutcomesAreAlike}
-use Rattle.sg_source.specs.declared.inlet.InletPlan.{InletPlan}
+use Rattle.sg_run_plan.specs.declared.inlet.InletPlan.{InletPlan}
 use Rattle.sg_config.specs.Alike.{AreAlike}
 use Rattle.sg_config.specs.Means.{Means}
 use Rattle.sg_config.specs.declared.config.Config.{Config}

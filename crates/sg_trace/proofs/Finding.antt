@@ -2,7 +2,7 @@
 use Rattle.std.proofs.Common.{◌≡◌, ◌∙◌, ◌<◌, ◌≤◌, ◌^◌, ℕ, ◌+◌, Bool, true, false, if◌then◌else◌, List, [], ◌∷◌, drop, length, get_or, Option, Some, None, Result, suc, sym, ap, subst, refl, arith}
 use Rattle.std.proofs.lemmas.Option.{slice_get_read}
 use Rattle.sg_list.proofs.ListLemmas.{drop-get}
-use Rattle.sg_source.specs.declared.inlet.InletPlan.{InletPlan}
+use Rattle.sg_run_plan.specs.declared.inlet.InletPlan.{InletPlan}
 use Rattle.sg_outside.specs.World.{WorldState}
 use Rattle.sg_config.specs.Alike.{IsWithin}
 use Rattle.sg_config.specs.declared.config.Config.{Config}

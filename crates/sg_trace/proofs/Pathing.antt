@@ -2,7 +2,7 @@
 use Rattle.std.proofs.Common.{◌≡◌, ◌∙◌, ◌<◌, ◌≤◌, ℕ, List, [], map, length, None, Result, Err, refl, sym, ap, subst, arith}
 use Rattle.std.proofs.lemmas.List.{length-map}
 use Rattle.sg_outside.specs.World.{WorldState}
-use Rattle.sg_source.specs.declared.inlet.InletPlan.{InletPlan}
+use Rattle.sg_run_plan.specs.declared.inlet.InletPlan.{InletPlan}
 use Rattle.sg_tree.specs.Offers.{Woods, woods_of, AreOffers}
 use Rattle.sg_tree.specs.Readings.{inlet_of}
 use Rattle.sg_table.specs.Forest.{forest_of}

@@ -2,8 +2,8 @@
 ghost use Rattle.std.specs.Prelude.{◌≡◌, ◌<◌, ◌^◌, length};
 ghost use Rattle.sg_trace.specs.Tracing.{is_named, first_of, IsReader};
 
+use sg_run_plan::InletPlan;
 use sg_device::Name;
-use sg_source::InletPlan;
 use sg_traced::Reader;
 
 fn is_named(source: &[u8], name: &Option<Name>) -> bool

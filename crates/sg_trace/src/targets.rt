@@ -1,8 +1,7 @@
 // What the destinations of a configuration send.
 ghost use Rattle.std.specs.Prelude.{◌≡◌, ◌++◌, ◌∷◌, [], map, IfOk, OnOk};
 ghost use Rattle.sg_trace.specs.Tracing.{target_of};
-
-use sg_destination::OutletPlan;
+use sg_run_plan::OutletPlan;
 use sg_device::NoMemory;
 use sg_traced::Target;
 use std::alloc::Global;

@@ -6,12 +6,11 @@ use crate::World;
 use crate::world::LONGEST;
 use regex::bytes::Regex;
 use sg_device::{FileRefusal, Name, NoMemory, OpenRefusal, SayRefusal};
-use sg_expand::Files;
 use sg_host::{
     HostDrain, HostFeed, HostInlets, HostOpener, HostOutlets, HostPaths, HostStore, HostStores,
     Rest, Timer, read_file, say, tell,
 };
-use sg_outside::{InletSpec, Machine, OutletSpec, StoreSpec};
+use sg_outside::{Files, InletSpec, Machine, OutletSpec, StoreSpec};
 use sg_pattern::{BuildFault, Builder, Patterns};
 use std::alloc::Global;
 

@@ -5,10 +5,9 @@ use crate::World;
 use crate::world::LONGEST;
 use regex::bytes::Regex;
 use sg_device::{FileRefusal, OpenRefusal, SayRefusal};
-use sg_expand::Files;
 use sg_memory::{MemoryDrain, MemoryFeed, MemoryOpener, MemoryWorld};
 use sg_memory_disk::MemoryStore;
-use sg_outside::{InletSpec, Machine, OutletSpec, StoreSpec};
+use sg_outside::{Files, InletSpec, Machine, OutletSpec, StoreSpec};
 use sg_pattern::{BuildFault, Builder, Patterns};
 use std::alloc::Global;
 

@@ -3,8 +3,7 @@ ghost use Rattle.std.specs.Prelude.{◌≡◌, MatchResult};
 ghost use Rattle.sg_outside.specs.World.{InletOpens, InletRefused, OutletOpens, OutletRefused, StoreOpens, StoreRefused, PathsOpen, PathsRefused, ClosesInlet, ClosesOutlet, ClosesStore, ClosesPaths, Says, IsByPath};
 
 use sg_device::{Disk, Inlet, OpenRefusal, Opener, Outlet, SayRefusal};
-use sg_expand::Files;
-use sg_outside::{InletSpec, OutletSpec, StoreSpec};
+use sg_outside::{Files, InletSpec, OutletSpec, StoreSpec};
 use sg_pattern::Builder;
 use std::alloc::Global;
 

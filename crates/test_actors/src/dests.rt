@@ -7,7 +7,7 @@ use sg_actor::{DestActor, GivenUp};
 use sg_device::Outlet;
 use sg_list::Seq;
 use sg_machine::{DestSetup, Setup};
-use sg_memory::{MemoryOutlet, OutletPlan};
+use sg_memory::{MemoryOutlet, OutletScript};
 use sg_memory_disk::Plan;
 use sg_outfmt::Shape;
 use sg_template::{Env, Template};
@@ -145,7 +145,7 @@ fn shows<T: Wait>(rt: &T, alloc: Global, row: &str) -> Result<bool, Fail> {
     let mut core = core(alloc, texts, how.contains("broken"))?;
     let outlet = MemoryOutlet::new(
         alloc,
-        OutletPlan {
+        OutletScript {
             fails,
             first,
             laters,

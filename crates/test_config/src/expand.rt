@@ -3,10 +3,10 @@
 // to: its tokens, or what is wrong with it, with the file's number and name and the line.
 
 use sg_device::{FileRefusal, Name, NoMemory};
-use sg_expand::{ExpandRefusal, Expanded, Files, expand};
+use sg_expand::{ExpandRefusal, Expanded, expand};
 use sg_lex::{ConfigFault, Token, TokenKind};
 use sg_list::Seq;
-use sg_outside::Machine;
+use sg_outside::{Files, Machine};
 use std::alloc::{AllocError, Global};
 use std::test::Fail;
 

@@ -6,7 +6,7 @@ mod say;
 
 use crate::text::copied;
 use ends::ends_of;
-use sg_ends::Endpoints;
+use sg_plan::Endpoints;
 use sg_forest::forest_of;
 use sg_names::{Names, names_of};
 use sg_parse_text::Statement;

@@ -2,16 +2,16 @@
 ghost use Rattle.std.specs.Prelude.{◌<◌, ◌^◌, length, None};
 ghost use Rattle.sg_resolve.specs.First.{IsFirstFault};
 
+use sg_run_plan::InletPlan;
 use crate::text::{put_fault, put_number};
 use sg_device::NoMemory;
-use sg_ends::Owner;
+use sg_plan::Owner;
 use sg_fault::fault_at;
 use sg_machine::{DestSetup, SourceSetup};
 use sg_outside::{InletSpec, OutletSpec};
 use sg_parse_text::Statement;
 use sg_plan::{Plan, plan_of};
 use sg_resolve::first_fault;
-use sg_source::InletPlan;
 use std::alloc::Global;
 use std::io;
 

@@ -16,7 +16,7 @@ use sg_engine::Served;
 use sg_frame::FrameKind;
 use sg_list::Seq;
 use sg_machine::{Admission, BufferSetup, DestSetup, Setup, SourceSetup};
-use sg_memory::{MemoryInlet, MemoryOutlet, OutletPlan, Pace};
+use sg_memory::{MemoryInlet, MemoryOutlet, OutletScript, Pace};
 use sg_memory_disk::{MemoryDisk, Plan};
 use sg_msg::{Message, Offer};
 use sg_outfmt::Shape;
@@ -241,7 +241,7 @@ fn dest<'a, T: Clock>(
 ) -> Result<DestActor<MeetingOutlet<'a, T>>, Fail>
     ensures { IfOk result (λ a. IsDest (λ outlet. outlet_of outlet.inner) dest a) }
 {
-    let plan = OutletPlan {
+    let plan = OutletScript {
         fails: Plan::new(Vec::new(alloc)),
         first: 0,
         laters: Plan::new(Vec::new(alloc)),

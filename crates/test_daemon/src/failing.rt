@@ -1,5 +1,5 @@
 // Calls of a machine in memory that fail.
-use sg_memory::{MemoryWorld, OutletPlan};
+use sg_memory::{MemoryWorld, OutletScript};
 use sg_memory_disk::{DiskPlan, Plan};
 use std::alloc::{AllocError, Global};
 use std::test::Fail;
@@ -36,7 +36,7 @@ fn fail_pulls(plan: Plan, world: &mut MemoryWorld) -> Result<(), AllocError> {
 }
 
 fn fail_sends(alloc: Global, plan: Plan, world: &mut MemoryWorld) -> Result<(), AllocError> {
-    let plan = OutletPlan::failing(alloc, plan);
+    let plan = OutletScript::failing(alloc, plan);
     world.plans.outlets.push_back(plan)?;
     Ok(())
 }

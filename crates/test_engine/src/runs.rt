@@ -13,7 +13,7 @@ use sg_engine::{Ended, Served, serve};
 use sg_frame::FrameKind;
 use sg_list::Seq;
 use sg_machine::{DestSetup, Setup, SourceSetup};
-use sg_memory::{MemoryInlet, MemoryOutlet, OutletPlan, Pace};
+use sg_memory::{MemoryInlet, MemoryOutlet, OutletScript, Pace};
 use sg_memory_disk::{MemoryDisk, Plan};
 use sg_outfmt::Shape;
 use sg_template::{Env, Template};
@@ -84,7 +84,7 @@ fn dest(
 {
     let outlet = MemoryOutlet::new(
         alloc,
-        OutletPlan {
+        OutletScript {
             fails: Plan::new(numbers(alloc, fails)?),
             first: 0,
             laters: Plan::new(Vec::new(alloc)),

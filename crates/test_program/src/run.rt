@@ -27,7 +27,7 @@ use crate::stores::put_store;
 use answers::{append_code, append_end, append_taken};
 use reading::{calls, peer_parts};
 use sg_device::NoMemory;
-use sg_memory::{MemoryConnection, MemoryFile, MemoryWorld, OutletPlan, Pace, WorldPlans};
+use sg_memory::{MemoryConnection, MemoryFile, MemoryWorld, OutletScript, Pace, WorldPlans};
 use sg_memory_disk::{DiskPlan, MemoryStores, Plan};
 use sg_run::run_file;
 use sg_world::MemoryMachine;
@@ -235,7 +235,7 @@ impl Stage {
     }
 
     fn fail_sends(&mut self, plan: Plan) -> Result<(), NoMemory> {
-        let plan = OutletPlan::failing(self.alloc, plan);
+        let plan = OutletScript::failing(self.alloc, plan);
         self.plans.outlets.push_back(plan)?;
         Ok(())
     }

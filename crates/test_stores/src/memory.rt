@@ -7,7 +7,7 @@ use sg_device::{
     SendRefusal,
 };
 use sg_memory::{
-    MemoryConnection, MemoryFeed, MemoryFile, MemoryOpener, MemoryWorld, OutletPlan, Pace,
+    MemoryConnection, MemoryFeed, MemoryFile, MemoryOpener, MemoryWorld, OutletScript, Pace,
     PathsPlan, WorldPlans, is_record_end,
 };
 use sg_memory_disk::Plan;
@@ -144,7 +144,7 @@ fn frames(alloc: Global, words: &str) -> Result<Frames, Fail> {
 
 // An outlet whose second send fails and takes two frames before that, and that is once not ready.
 fn outlet(alloc: Global, world: &mut MemoryWorld) -> Result<Vec<u8>, Fail> {
-    let mut plan = OutletPlan::failing(alloc, plan(alloc, 2)?);
+    let mut plan = OutletScript::failing(alloc, plan(alloc, 2)?);
     plan.first = 2;
     plan.laters = self::plan(alloc, 0)?;
     world.plans.outlets.push_back(plan)?;

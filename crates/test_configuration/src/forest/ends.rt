@@ -1,6 +1,6 @@
 // The statements of drivers: those with names, and those in the elements of top-level log statements.
 
-use sg_ends::{Endpoints, Owner};
+use sg_plan::{Endpoints, Owner};
 use sg_list::Seq;
 use sg_parse_base::Spot;
 use sg_parse_obj::Object;

@@ -3,7 +3,7 @@ use crate::machine::{add_file, machine_with};
 use crate::moments::due::{Due, LINES};
 use crate::moments::images::picks;
 use sg_device::NoMemory;
-use sg_memory::{MemoryFile, OutletPlan};
+use sg_memory::{MemoryFile, OutletScript};
 use sg_memory_disk::{DiskPlan, MemoryStores, Plan};
 use sg_run::run_file;
 use sg_world::MemoryMachine;
@@ -71,12 +71,12 @@ fn stopping(
 }
 
 // As many calls fail as a destination makes until it is given up, and more.
-fn dying(alloc: Global, calls: u64) -> Result<OutletPlan, NoMemory> {
+fn dying(alloc: Global, calls: u64) -> Result<OutletScript, NoMemory> {
     let mut fails = Vec::new(alloc);
     for behind in 0..10 {
         fails.push(calls.saturating_add(behind))?;
     }
-    Ok(OutletPlan::failing(alloc, Plan::new(fails)))
+    Ok(OutletScript::failing(alloc, Plan::new(fails)))
 }
 
 // A machine over these stores whose devices stop so.

@@ -4,7 +4,7 @@ use Rattle.sg_pipes.proofs.Sent.{pipes}
 use Rattle.sg_loaded.specs.declared.loaded.Unloaded.TheVariants.{NoMemory}
 use Rattle.sg_serve.specs.Plan.{IsRunnable, AllKnow}
 use Rattle.sg_serve.specs.Run.{RunsPlan}
-use Rattle.sg_serve.specs.declared.plan.RunPlan.{RunPlan}
+use Rattle.sg_run_plan.specs.declared.plan.RunPlan.{RunPlan}
 use Rattle.sg_run.specs.Outcomes.{EndsSo}
 use Rattle.sg_run.specs.Run.{offers_by, inlets_by, dests_by}
 use Rattle.sg_run.proofs.PlanLemmas.{runnable, all-know}

@@ -1,5 +1,0 @@
-use Rattle.sg_bounded.proofs.RunLemmas.{runs-bounded}
-use Rattle.sg_bounded.proofs.laws.runs_are_bounded.Goals as goal
-
-pub returns : goal.returns
-returns g c = runs-bounded g.W.Feed.Inlet.state g.W.Drain.Outlet.state g.R.Router.offers g.R.Router.inlets g.R.Router.dests

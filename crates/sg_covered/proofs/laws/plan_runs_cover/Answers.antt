@@ -1,6 +1,0 @@
-use Rattle.sg_covered.proofs.RunLemmas.{covers}
-use Rattle.sg_covered.proofs.laws.plan_runs_cover.Goals as goal
-
-pub returns : goal.returns
-returns g c = covers g.W.Feed.Inlet.state g.W.Drain.Outlet.state g.R.Router.offers g.R.Router.inlets g.R.Router.dests
-    (record { now = c.images_are_safe.ensures; between = c.images_between_are_safe.ensures })

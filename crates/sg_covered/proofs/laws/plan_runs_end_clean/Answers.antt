@@ -1,5 +1,0 @@
-use Rattle.sg_covered.proofs.CleanLemmas.{ends-clean}
-use Rattle.sg_covered.proofs.laws.plan_runs_end_clean.Goals as goal
-
-pub returns : goal.returns
-returns g c = ends-clean g.W.Feed.Inlet.state g.W.Drain.Outlet.state g.R.Router.offers g.R.Router.inlets g.R.Router.dests c.lists_are_one.ensures c.clean_runs_end.ensures

@@ -1,5 +1,0 @@
-use Rattle.sg_covered.proofs.HappenedLemmas.{happens}
-use Rattle.sg_covered.proofs.laws.plan_runs_happen.Goals as goal
-
-pub returns : goal.returns
-returns g c = happens g.W.Feed.Inlet.state g.W.Drain.Outlet.state g.R.Router.offers g.R.Router.inlets g.R.Router.dests

@@ -1,4 +1,0 @@
-pub mod PreludeLemmas
-pub mod SourceLemmas
-pub mod DestLemmas
-pub mod HeadlineLemmas

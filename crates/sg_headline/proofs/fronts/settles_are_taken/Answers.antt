@@ -1,5 +1,0 @@
-use Rattle.sg_headline.proofs.TakenLemmas.{settles-taken}
-use Rattle.sg_headline.proofs.fronts.settles_are_taken.Goals as goal
-
-pub returns : goal.returns
-returns c = settles-taken

@@ -1,0 +1,5 @@
+use Rattle.sg_many_runs.proofs.CleanLemmas.{ends-clean}
+use Rattle.sg_many_runs.proofs.covering.plan_runs_end_clean.Goals as goal
+
+pub returns : goal.returns
+returns g c = ends-clean g.W.Feed.Inlet.state g.W.Drain.Outlet.state g.R.Router.offers g.R.Router.inlets g.R.Router.dests c.lists_are_one.ensures c.clean_runs_end.ensures

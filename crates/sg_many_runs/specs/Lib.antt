@@ -1,0 +1,12 @@
+pub mod Reopening
+pub mod Pieces
+pub mod Resuming
+pub mod Covered
+pub mod Passes
+pub mod Adding
+pub mod Once
+pub mod Happened
+pub mod Clean
+pub mod Rest
+pub mod PlanRuns
+pub mod Fresh

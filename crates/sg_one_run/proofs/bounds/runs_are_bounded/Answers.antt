@@ -1,0 +1,5 @@
+use Rattle.sg_one_run.proofs.BoundRunLemmas.{runs-bounded}
+use Rattle.sg_one_run.proofs.bounds.runs_are_bounded.Goals as goal
+
+pub returns : goal.returns
+returns g c = runs-bounded g.W.Feed.Inlet.state g.W.Drain.Outlet.state g.R.Router.offers g.R.Router.inlets g.R.Router.dests

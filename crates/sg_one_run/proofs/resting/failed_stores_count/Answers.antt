@@ -1,0 +1,5 @@
+use Rattle.sg_one_run.proofs.FailingLemmas.{failed-count}
+use Rattle.sg_one_run.proofs.resting.failed_stores_count.Goals as goal
+
+pub returns : goal.returns
+returns g c = failed-count g.W.Feed.Inlet.state g.W.Drain.Outlet.state g.R.Router.offers g.R.Router.inlets g.R.Router.dests

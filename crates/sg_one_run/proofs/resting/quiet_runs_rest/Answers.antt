@@ -1,0 +1,5 @@
+use Rattle.sg_one_run.proofs.RestingLemmas.{quiet-rest}
+use Rattle.sg_one_run.proofs.resting.quiet_runs_rest.Goals as goal
+
+pub returns : goal.returns
+returns g c = quiet-rest g.W.Feed.Inlet.state g.W.Drain.Outlet.state g.R.Router.offers g.R.Router.inlets g.R.Router.dests

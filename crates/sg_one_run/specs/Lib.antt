@@ -1,0 +1,13 @@
+pub mod Texts
+pub mod Calls
+pub mod Turns
+pub mod Fronts
+pub mod Laws
+pub mod Drops
+pub mod Credits
+pub mod Headline
+pub mod Failing
+pub mod Resting
+pub mod Ending
+pub mod Counts
+pub mod Bounds

@@ -1,5 +1,0 @@
-use Rattle.sg_quiet.proofs.EndingLemmas.{clean-end}
-use Rattle.sg_quiet.proofs.laws.clean_runs_end.Goals as goal
-
-pub returns : goal.returns
-returns g c = clean-end g.W.Feed.Inlet.state g.W.Drain.Outlet.state g.R.Router.offers g.R.Router.inlets g.R.Router.dests

@@ -1,0 +1,13 @@
+// An outlet of a run.
+
+use sg_outfmt::Shape;
+use sg_outside::OutletSpec;
+use sg_template::Env;
+
+/// An outlet.
+#[derive(Drop)]
+pub struct OutletPlan {
+    pub spec: OutletSpec,
+    pub shape: Shape,
+    pub env: Env,
+}

@@ -1,4 +1,0 @@
-pub mod Covered
-pub mod Passes
-pub mod Law
-pub mod Once
