@@ -16,7 +16,6 @@ use std::alloc::Global;
 const PIECE: usize = 65_536;
 
 /// What a source keeps of its inlet between two turns.
-#[derive(Drop)]
 pub struct Reader {
     pub(crate) framer: Framer,
     /// What was pulled and isn't fed to the framer yet: the first bytes of the buffer. `Idle` where
@@ -33,6 +32,21 @@ pub struct Reader {
     pub(crate) failed: bool,
     /// The present part is given up, for its bad count.
     pub(crate) given_up: bool,
+}
+
+impl Drop for Reader {
+    fn drop(self) {
+        let Reader {
+            framer: _framer,
+            pulled: _pulled,
+            ahead: _ahead,
+            held: _held,
+            end: _end,
+            ended: _ended,
+            failed: _failed,
+            given_up: _given_up,
+        } = self;
+    }
 }
 
 /// Room for what a pull brings. A function of its own: the list of 65,536 zeros is kept out of the

@@ -17,7 +17,7 @@ const ENOUGH: usize = 262_144;
 pub(crate) const MOST: usize = 100;
 
 /// What a destination is set up with.
-#[derive(Debug, Drop)]
+#[derive(Debug)]
 pub struct DestSpec {
     /// The destination's number.
     pub(crate) dest: u32,
@@ -25,6 +25,17 @@ pub struct DestSpec {
     pub(crate) env: Env,
     /// Whether it is given up at the third failure in a row.
     pub(crate) gives_up: bool,
+}
+
+impl Drop for DestSpec {
+    fn drop(self) {
+        let DestSpec {
+            dest: _dest,
+            shape: _shape,
+            env: _env,
+            gives_up: _gives_up,
+        } = self;
+    }
 }
 
 // Appends the frame of a message.

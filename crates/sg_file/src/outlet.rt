@@ -10,10 +10,18 @@ use std::alloc::Global;
 /// A file that is appended to, by one write for all frames of a send. A frame that was taken is with
 /// the kernel, or on the disk where that is asked. What a full disk left of a frame that wasn't taken
 /// is cut off again, where nobody else changed the file's length.
-#[derive(Drop)]
 pub struct FileOutlet {
     target: Target,
     counts: OutletCounts,
+}
+
+impl Drop for FileOutlet {
+    fn drop(self) {
+        let FileOutlet {
+            target: _target,
+            counts: _counts,
+        } = self;
+    }
 }
 
 impl FileOutlet {

@@ -23,7 +23,6 @@ pub(crate) struct Search {
 }
 
 /// A call or a comparison of an expression, with its matcher.
-#[derive(Drop)]
 pub(crate) enum Check {
     Facility(Items<(u8, u8)>),
     Level(Items<(u8, u8)>),
@@ -34,6 +33,22 @@ pub(crate) enum Check {
         cmp: Cmp,
         right: Template,
     },
+}
+
+impl Drop for Check {
+    fn drop(self) {
+        match self {
+            Check::Facility(_0) => {}
+            Check::Level(_0) => {}
+            Check::Field(_0) => {}
+            Check::Tags(_0) => {}
+            Check::Compare {
+                left: _left,
+                cmp: _cmp,
+                right: _right,
+            } => {}
+        }
+    }
 }
 
 /// Room for two texts that are compared.

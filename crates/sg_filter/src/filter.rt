@@ -14,11 +14,20 @@ use std::alloc::{AllocError, Global};
 use std::marker::Model;
 
 /// An expression with its matchers, seen as what it asks of a message and what it answers.
-#[derive(Drop)]
 pub struct Filter {
     nodes: Vec<Node>,
     start: u32,
     room: Room,
+}
+
+impl Drop for Filter {
+    fn drop(self) {
+        let Filter {
+            nodes: _nodes,
+            start: _start,
+            room: _room,
+        } = self;
+    }
 }
 
 impl Model for Filter {

@@ -28,7 +28,6 @@ pub enum Framed {
 }
 
 /// Takes a stream's bytes in pieces of any size, and gives its items.
-#[derive(Drop)]
 pub struct Framer {
     kind: FrameKind,
     limit: u32,
@@ -38,6 +37,19 @@ pub struct Framer {
     scanned: usize,
     kept: BytesMut,
     runs: VecDeque<Run>,
+}
+
+impl Drop for Framer {
+    fn drop(self) {
+        let Framer {
+            kind: _kind,
+            limit: _limit,
+            place: _place,
+            scanned: _scanned,
+            kept: _kept,
+            runs: _runs,
+        } = self;
+    }
 }
 
 impl Model for Framer {

@@ -89,7 +89,6 @@ pub struct OpenedInlet {
 }
 
 /// The inlets opened, those closed, and the number of openings that failed.
-#[derive(Drop)]
 pub struct HostInlets {
     rt: HostRuntime,
     rest: Rest,
@@ -99,6 +98,20 @@ pub struct HostInlets {
     opened: Vec<OpenedInlet>,
     closed: Option<Box<InletCell>>,
     pub faults: u64,
+}
+
+impl Drop for HostInlets {
+    fn drop(self) {
+        let HostInlets {
+            rt: _rt,
+            rest: _rest,
+            listeners: _listeners,
+            alive: _alive,
+            opened: _opened,
+            closed: _closed,
+            faults: _faults,
+        } = self;
+    }
 }
 
 impl HostInlets {

@@ -61,13 +61,24 @@ impl Outlet for HostDrain {
 }
 
 /// The outlets opened, those closed, and the number of openings that failed.
-#[derive(Drop)]
 pub struct HostOutlets {
     rt: HostRuntime,
     rest: Rest,
     opened: Vec<OutletSpec>,
     closed: Option<Box<OutletCell>>,
     pub faults: u64,
+}
+
+impl Drop for HostOutlets {
+    fn drop(self) {
+        let HostOutlets {
+            rt: _rt,
+            rest: _rest,
+            opened: _opened,
+            closed: _closed,
+            faults: _faults,
+        } = self;
+    }
 }
 
 impl HostOutlets {

@@ -171,13 +171,24 @@ impl Opener for HostOpener {
 }
 
 /// The openers opened, those closed, and the number of openings that failed.
-#[derive(Drop)]
 pub struct HostPaths {
     rt: HostRuntime,
     rest: Rest,
     opened: Vec<OutletSpec>,
     closed: Option<Box<PathsCell>>,
     pub faults: u64,
+}
+
+impl Drop for HostPaths {
+    fn drop(self) {
+        let HostPaths {
+            rt: _rt,
+            rest: _rest,
+            opened: _opened,
+            closed: _closed,
+            faults: _faults,
+        } = self;
+    }
 }
 
 impl HostPaths {

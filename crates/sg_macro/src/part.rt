@@ -6,7 +6,7 @@ use sg_device::Name;
 use std::alloc::{AllocError, Global};
 
 /// A part of a template.
-#[derive(Debug, Drop)]
+#[derive(Debug)]
 pub enum Part {
     /// A text that stands for itself.
     Literal(Name),
@@ -14,6 +14,22 @@ pub enum Part {
     Macro { kind: Macro, default: Name },
     /// The value of a name, and the text that stands in place of an empty one.
     Pair { name: Name, default: Name },
+}
+
+impl Drop for Part {
+    fn drop(self) {
+        match self {
+            Part::Literal(_0) => {}
+            Part::Macro {
+                kind: _kind,
+                default: _default,
+            } => {}
+            Part::Pair {
+                name: _name,
+                default: _default,
+            } => {}
+        }
+    }
 }
 
 impl Part {

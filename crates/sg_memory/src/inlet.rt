@@ -11,7 +11,7 @@ use std::collections::VecDeque;
 /// An inlet that gives at most a piece at a pull, all bytes with one moment. It tells its content. A
 /// file is one part from the start, and ends where it is hung up; a slot has a part for each
 /// connection.
-#[derive(Debug, Drop)]
+#[derive(Debug)]
 pub struct MemoryInlet {
     parts: MemoryParts,
     from: u64,
@@ -35,6 +35,25 @@ pub struct MemoryInlet {
     ghost alone: { single ≡ true → parts.waiting.items ≡ [] },
     ghost idle: { idles ≤ pulls },
     ghost over: { ended ≡ true → hung ≡ false → left_of parts.present ≡ [] },
+}
+
+impl Drop for MemoryInlet {
+    fn drop(self) {
+        let MemoryInlet {
+            parts: _parts,
+            from: _from,
+            piece: _piece,
+            at: _at,
+            once: _once,
+            single: _single,
+            plan: _plan,
+            pulls: _pulls,
+            idles: _idles,
+            faults: _faults,
+            ended: _ended,
+            hung: _hung,
+        } = self;
+    }
 }
 
 /// How an inlet in memory gives its bytes.

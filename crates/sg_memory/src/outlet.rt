@@ -7,7 +7,7 @@ use sg_device::{Frames, Outlet, OutletFault, Reopened, SendRefusal};
 use std::alloc::Global;
 
 /// An outlet that keeps the frames it takes, and tells them.
-#[derive(Debug, Drop)]
+#[derive(Debug)]
 pub struct MemoryOutlet {
     frames: Frames,
     /// The calls that fail, and those that are too early.
@@ -15,6 +15,18 @@ pub struct MemoryOutlet {
     faults: u64,
     failing: u64,
     laters: u64,
+}
+
+impl Drop for MemoryOutlet {
+    fn drop(self) {
+        let MemoryOutlet {
+            frames: _frames,
+            plan: _plan,
+            faults: _faults,
+            failing: _failing,
+            laters: _laters,
+        } = self;
+    }
 }
 
 impl MemoryOutlet {

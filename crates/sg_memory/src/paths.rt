@@ -18,7 +18,7 @@ pub struct TakenText {
 }
 
 /// An opener that keeps the texts it takes, and tells them.
-#[derive(Debug, Drop)]
+#[derive(Debug)]
 pub struct MemoryPaths {
     alloc: Global,
     opened: Vec<Name>,
@@ -27,6 +27,19 @@ pub struct MemoryPaths {
     pub plan: PathsPlan,
     faults: u64,
     laters: u64,
+}
+
+impl Drop for MemoryPaths {
+    fn drop(self) {
+        let MemoryPaths {
+            alloc: _alloc,
+            opened: _opened,
+            taken: _taken,
+            plan: _plan,
+            faults: _faults,
+            laters: _laters,
+        } = self;
+    }
 }
 
 impl MemoryPaths {

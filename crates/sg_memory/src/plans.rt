@@ -66,7 +66,7 @@ impl PathsPlan {
 }
 
 /// The calls of a machine that fail, and those of the devices that it opens.
-#[derive(Debug, Drop)]
+#[derive(Debug)]
 pub struct WorldPlans {
     pub reads: Plan,
     pub inlet_opens: Plan,
@@ -83,6 +83,23 @@ pub struct WorldPlans {
     pub outlets: VecDeque<OutletScript>,
     /// The same of the openers.
     pub paths: VecDeque<PathsPlan>,
+}
+
+impl Drop for WorldPlans {
+    fn drop(self) {
+        let WorldPlans {
+            reads: _reads,
+            inlet_opens: _inlet_opens,
+            outlet_opens: _outlet_opens,
+            paths_opens: _paths_opens,
+            says: _says,
+            builds: _builds,
+            dues: _dues,
+            inlets: _inlets,
+            outlets: _outlets,
+            paths: _paths,
+        } = self;
+    }
 }
 
 impl WorldPlans {

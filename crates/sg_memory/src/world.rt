@@ -30,7 +30,7 @@ use std::alloc::Global;
 
 /// A machine in memory, which tells its files, its devices and the bytes said. No call changes a
 /// file: what an outlet takes stands in the outlet.
-#[derive(Debug, Drop)]
+#[derive(Debug)]
 pub struct MemoryWorld {
     files: Vec<MemoryFile>,
     /// The connections that peers make to the slots, in order.
@@ -56,6 +56,33 @@ pub struct MemoryWorld {
     paths_faults: u64,
     say_faults: u64,
     build_faults: u64,
+}
+
+impl Drop for MemoryWorld {
+    fn drop(self) {
+        let MemoryWorld {
+            files: _files,
+            connections: _connections,
+            pace: _pace,
+            plans: _plans,
+            stores: _stores,
+            opened_inlets: _opened_inlets,
+            opened_outlets: _opened_outlets,
+            opened_paths: _opened_paths,
+            closed_inlets: _closed_inlets,
+            closed_outlets: _closed_outlets,
+            closed_paths: _closed_paths,
+            unread: _unread,
+            said: _said,
+            hints: _hints,
+            read_faults: _read_faults,
+            inlet_faults: _inlet_faults,
+            outlet_faults: _outlet_faults,
+            paths_faults: _paths_faults,
+            say_faults: _say_faults,
+            build_faults: _build_faults,
+        } = self;
+    }
 }
 
 impl MemoryWorld {

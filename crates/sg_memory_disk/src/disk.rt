@@ -11,7 +11,7 @@ use std::alloc::{AllocError, Global};
 
 /// A disk in memory, which tells its bytes and its images. A write or a sync that finds no memory
 /// fails as on a full disk.
-#[derive(Debug, Drop)]
+#[derive(Debug)]
 pub struct MemoryDisk {
     pub(crate) alloc: Global,
     pub(crate) first: Vec<u8>,
@@ -20,6 +20,18 @@ pub struct MemoryDisk {
     pub(crate) calls: DiskCalls,
     ghost reads: { bytes.items ≡ bytes_after first.items (events_of [] changes.items) },
     ghost short: { length bytes.items < 2 ^ 63 },
+}
+
+impl Drop for MemoryDisk {
+    fn drop(self) {
+        let MemoryDisk {
+            alloc: _alloc,
+            first: _first,
+            bytes: _bytes,
+            changes: _changes,
+            calls: _calls,
+        } = self;
+    }
 }
 
 impl MemoryDisk {

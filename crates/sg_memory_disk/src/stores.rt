@@ -68,7 +68,7 @@ impl Disk for MemoryStore {
 }
 
 /// The stores that are there, those opened and those closed, and the openings and disks that fail.
-#[derive(Debug, Drop)]
+#[derive(Debug)]
 pub struct MemoryStores {
     pub opens: Plan,
     /// The plans of the disks that will be opened, in order. No call fails of those behind them.
@@ -78,6 +78,19 @@ pub struct MemoryStores {
     opened: Vec<OpenedStore>,
     closed: Option<Box<StoreCell>>,
     faults: u64,
+}
+
+impl Drop for MemoryStores {
+    fn drop(self) {
+        let MemoryStores {
+            opens: _opens,
+            plans: _plans,
+            names: _names,
+            opened: _opened,
+            closed: _closed,
+            faults: _faults,
+        } = self;
+    }
 }
 
 impl MemoryStores {

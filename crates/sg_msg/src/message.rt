@@ -16,13 +16,25 @@ use std::marker::Model;
 ///
 /// Handles share their pairs and their tags. A change is that handle's own: every other handle says
 /// what it said before.
-#[derive(Debug, Drop)]
+#[derive(Debug)]
 pub struct Message {
     pri: u8,
     sent: Stamp,
     received: Stamp,
     pairs: Pairs,
     tags: Tags,
+}
+
+impl Drop for Message {
+    fn drop(self) {
+        let Message {
+            pri: _pri,
+            sent: _sent,
+            received: _received,
+            pairs: _pairs,
+            tags: _tags,
+        } = self;
+    }
 }
 
 impl Model for Message {

@@ -9,13 +9,24 @@ use sg_parse_text::Statement;
 use std::alloc::{AllocError, Global};
 
 /// The statements of each kind by their names.
-#[derive(Drop)]
 pub struct Names {
     pub sources: Register,
     pub destinations: Register,
     pub filters: Register,
     pub rewrites: Register,
     pub templates: Register,
+}
+
+impl Drop for Names {
+    fn drop(self) {
+        let Names {
+            sources: _sources,
+            destinations: _destinations,
+            filters: _filters,
+            rewrites: _rewrites,
+            templates: _templates,
+        } = self;
+    }
 }
 
 impl Names {

@@ -12,7 +12,6 @@ use std::net::{Shutdown, TcpStream};
 
 /// A connection to a host, made at the first send. A frame that was taken is with the kernel; what
 /// becomes of it there isn't known.
-#[derive(Drop)]
 pub struct TcpOutlet {
     rt: HostRuntime,
     host: String,
@@ -22,6 +21,21 @@ pub struct TcpOutlet {
     counts: OutletCounts,
     health: Health,
     rest: Rest,
+}
+
+impl Drop for TcpOutlet {
+    fn drop(self) {
+        let TcpOutlet {
+            rt: _rt,
+            host: _host,
+            port: _port,
+            stream: _stream,
+            retry: _retry,
+            counts: _counts,
+            health: _health,
+            rest: _rest,
+        } = self;
+    }
 }
 
 impl TcpOutlet {

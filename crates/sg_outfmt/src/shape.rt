@@ -7,7 +7,7 @@ use sg_template::{Template, TemplateFault};
 use std::alloc::{AllocError, Global};
 
 /// What a frame is made of.
-#[derive(Debug, Drop)]
+#[derive(Debug)]
 pub enum Shape {
     /// A template's text.
     Text(Template),
@@ -16,6 +16,19 @@ pub enum Shape {
     /// The text of a template behind the path of the file that it goes to, which another template
     /// gives. `unpacked` tells them apart.
     ByPath { path: Template, text: Template },
+}
+
+impl Drop for Shape {
+    fn drop(self) {
+        match self {
+            Shape::Text(_0) => {}
+            Shape::Counted5424 => {}
+            Shape::ByPath {
+                path: _path,
+                text: _text,
+            } => {}
+        }
+    }
 }
 
 /// The kinds of destinations.

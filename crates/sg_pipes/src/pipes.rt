@@ -16,13 +16,22 @@ use sg_tree::{InletRule, is_skipped, read_item};
 use std::alloc::{AllocError, Global};
 
 /// Log paths that give the offers of records.
-#[derive(Drop)]
 pub struct Pipes {
     table: Table,
     /// Its memory is used again for each record.
     work: Work,
     peer: Peer,
     ghost within: { IsWithin (forest_of table) } by { IsWithin-prop (forest_of table) },
+}
+
+impl Drop for Pipes {
+    fn drop(self) {
+        let Pipes {
+            table: _table,
+            work: _work,
+            peer: _peer,
+        } = self;
+    }
 }
 
 // What the statements offer for a message of an inlet.

@@ -20,7 +20,6 @@ use sg_tree::deliver;
 use std::alloc::{AllocError, Global};
 
 /// What is to be done for a message, and what was done.
-#[derive(Drop)]
 pub(crate) struct Work {
     pub(crate) alloc: Global,
     /// The statements that are offered the message.
@@ -30,6 +29,18 @@ pub(crate) struct Work {
     /// What was left last.
     pub(crate) back: Gone,
     pub(crate) offers: Vec<Offer>,
+}
+
+impl Drop for Work {
+    fn drop(self) {
+        let Work {
+            alloc: _alloc,
+            offered: _offered,
+            frames: _frames,
+            back: _back,
+            offers: _offers,
+        } = self;
+    }
 }
 
 fn is_for(top: &Top, inlet: u32) -> bool

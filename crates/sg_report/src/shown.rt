@@ -3,7 +3,7 @@
 use sg_list::Seq;
 
 /// What a report shows beside the numbers that the core has come to.
-#[derive(Debug, Drop)]
+#[derive(Debug)]
 pub struct Shown {
     /// For each inlet the number of its source driver. They ascend, so that the inlets of one driver
     /// stand together.
@@ -23,4 +23,19 @@ pub struct Shown {
     pub inlets: Seq<u32>,
     /// The exit status.
     pub status: u8,
+}
+
+impl Drop for Shown {
+    fn drop(self) {
+        let Shown {
+            drivers: _drivers,
+            files: _files,
+            bad_frames: _bad_frames,
+            held: _held,
+            sinks: _sinks,
+            stores: _stores,
+            inlets: _inlets,
+            status: _status,
+        } = self;
+    }
 }

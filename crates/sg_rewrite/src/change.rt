@@ -21,7 +21,6 @@ pub(crate) struct Search {
 }
 
 /// A rewrite with what searches for its pattern.
-#[derive(Drop)]
 pub(crate) enum Change {
     Set { name: Bytes, text: Text },
     Unset { name: Name },
@@ -30,6 +29,26 @@ pub(crate) enum Change {
     GroupUnset { globs: Seq<Name> },
     SetTag { tag: Name },
     ClearTag { tag: Name },
+}
+
+impl Drop for Change {
+    fn drop(self) {
+        match self {
+            Change::Set {
+                name: _name,
+                text: _text,
+            } => {}
+            Change::Unset { name: _name } => {}
+            Change::Subst(_0) => {}
+            Change::GroupSet {
+                globs: _globs,
+                text: _text,
+            } => {}
+            Change::GroupUnset { globs: _globs } => {}
+            Change::SetTag { tag: _tag } => {}
+            Change::ClearTag { tag: _tag } => {}
+        }
+    }
 }
 
 fn copied_names(alloc: Global, names: &[Name]) -> Result<Seq<Name>, NoMemory>

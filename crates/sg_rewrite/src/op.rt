@@ -6,7 +6,7 @@ use sg_template::Template;
 
 /// A rewrite as a configuration writes it, without its condition (syslog-ng's administration guide,
 /// "Modifying messages using rewrite rules").
-#[derive(Debug, Drop)]
+#[derive(Debug)]
 pub enum Op {
     /// Gives the name the template's text.
     Set {
@@ -42,4 +42,28 @@ pub enum Op {
     ClearTag {
         tag: Name,
     },
+}
+
+impl Drop for Op {
+    fn drop(self) {
+        match self {
+            Op::Set {
+                name: _name,
+                text: _text,
+            } => {}
+            Op::Unset { name: _name } => {}
+            Op::Subst {
+                name: _name,
+                pattern: _pattern,
+                text: _text,
+            } => {}
+            Op::GroupSet {
+                globs: _globs,
+                text: _text,
+            } => {}
+            Op::GroupUnset { globs: _globs } => {}
+            Op::SetTag { tag: _tag } => {}
+            Op::ClearTag { tag: _tag } => {}
+        }
+    }
 }

@@ -28,10 +28,18 @@ pub(crate) struct Buffers {
 }
 
 /// A rewrite, with what searches for its pattern and room for texts.
-#[derive(Drop)]
 pub struct Rewrite {
     change: Change,
     buffers: Buffers,
+}
+
+impl Drop for Rewrite {
+    fn drop(self) {
+        let Rewrite {
+            change: _change,
+            buffers: _buffers,
+        } = self;
+    }
 }
 
 impl Model for Rewrite {

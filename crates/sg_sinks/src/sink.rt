@@ -13,7 +13,7 @@ use std::marker::Model;
 /// A destination: its setup, how many entries it has taken, the lengths of those that stand on its disk,
 /// in bytes of format 2, those that wait in memory, each with its block, whether the store of its
 /// disk-buffer has failed, and the numbers of dropped offers by cause.
-#[derive(Debug, Drop)]
+#[derive(Debug)]
 pub struct Sink {
     pub(crate) setup: DestSetup,
     pub(crate) taken: u64,
@@ -27,6 +27,23 @@ pub struct Sink {
     pub(crate) dropped_disk: u64,
     // For so many offers more there is memory.
     pub(crate) room: usize,
+}
+
+impl Drop for Sink {
+    fn drop(self) {
+        let Sink {
+            setup: _setup,
+            taken: _taken,
+            lengths: _lengths,
+            used: _used,
+            queue: _queue,
+            blocks: _blocks,
+            broken: _broken,
+            dropped_full: _dropped_full,
+            dropped_disk: _dropped_disk,
+            room: _room,
+        } = self;
+    }
 }
 
 impl Model for Sink {

@@ -22,7 +22,6 @@ pub struct Test {
 
 /// An element of a list, and the place of the one behind it. A reference is the place of a pipe in the
 /// table, and is below the pipe's own place.
-#[derive(Drop)]
 pub enum Pipe {
     /// The end of a list of elements.
     End,
@@ -56,6 +55,37 @@ pub enum Pipe {
     Embedded {
         logs: Vec<Branch>,
     },
+}
+
+impl Drop for Pipe {
+    fn drop(self) {
+        match self {
+            Pipe::End => {}
+            Pipe::Filter {
+                filter: _filter,
+                next: _next,
+            } => {}
+            Pipe::Rewrite {
+                condition: _condition,
+                rewrite: _rewrite,
+                next: _next,
+            } => {}
+            Pipe::Deliver {
+                drivers: _drivers,
+                next: _next,
+            } => {}
+            Pipe::Junction {
+                channels: _channels,
+                next: _next,
+            } => {}
+            Pipe::If {
+                tests: _tests,
+                other: _other,
+                next: _next,
+            } => {}
+            Pipe::Embedded { logs: _logs } => {}
+        }
+    }
 }
 
 /// A top-level statement, and the numbers of the inlets that it names.

@@ -5,7 +5,6 @@ use crate::{Pipe, Top};
 use sg_tree::{DestRule, InletRule};
 
 /// The log paths of a configuration as numbered pipes. It holds no tree.
-#[derive(Drop)]
 pub struct Table {
     pub inlets: Vec<InletRule>,
     pub dests: Vec<DestRule>,
@@ -14,4 +13,15 @@ pub struct Table {
     /// Each refers to those in front of it alone.
     pub pipes: Vec<Pipe>,
     pub ghost in_order: { IsTable pipes.items } by { IsTable-prop pipes.items },
+}
+
+impl Drop for Table {
+    fn drop(self) {
+        let Table {
+            inlets: _inlets,
+            dests: _dests,
+            tops: _tops,
+            pipes: _pipes,
+        } = self;
+    }
 }

@@ -14,8 +14,17 @@ pub struct Reader {
 }
 
 /// What a destination sends.
-#[derive(Debug, Drop)]
+#[derive(Debug)]
 pub struct Target {
     pub shape: Shape,
     pub env: Env,
+}
+
+impl Drop for Target {
+    fn drop(self) {
+        let Target {
+            shape: _shape,
+            env: _env,
+        } = self;
+    }
 }

@@ -3,7 +3,6 @@
 use sg_frame::Framer;
 
 /// What a trace keeps.
-#[derive(Drop)]
 pub(crate) struct Tracer {
     pub(crate) framer: Framer,
     /// The number of the next record.
@@ -12,4 +11,15 @@ pub(crate) struct Tracer {
     pub(crate) bytes: Vec<u8>,
     /// What isn't said yet.
     pub(crate) text: Vec<u8>,
+}
+
+impl Drop for Tracer {
+    fn drop(self) {
+        let Tracer {
+            framer: _framer,
+            number: _number,
+            bytes: _bytes,
+            text: _text,
+        } = self;
+    }
 }

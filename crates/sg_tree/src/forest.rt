@@ -22,7 +22,6 @@ pub struct InletRule {
 pub struct DestRule {}
 
 /// The log paths of a configuration. Inlets, destinations and filters are named by their places.
-#[derive(Drop)]
 pub struct Forest {
     pub inlets: Vec<InletRule>,
     pub dests: Vec<DestRule>,
@@ -31,4 +30,16 @@ pub struct Forest {
     pub rewrites: Vec<RewriteRule>,
     /// The top-level statements, in the order of the text.
     pub paths: Vec<Path>,
+}
+
+impl Drop for Forest {
+    fn drop(self) {
+        let Forest {
+            inlets: _inlets,
+            dests: _dests,
+            filters: _filters,
+            rewrites: _rewrites,
+            paths: _paths,
+        } = self;
+    }
 }

@@ -7,12 +7,20 @@ use sg_msg::is_hard;
 use sg_rewrite::Op;
 
 /// A rewrite, with the condition that a message must meet to be changed.
-#[derive(Drop)]
 pub struct RewriteRule {
     pub condition: Option<Expr>,
     /// Its names have 1 to 255 bytes and are no macros'.
     pub op: Op,
     pub ghost sound: { op_sound op ≡ true },
+}
+
+impl Drop for RewriteRule {
+    fn drop(self) {
+        let RewriteRule {
+            condition: _condition,
+            op: _op,
+        } = self;
+    }
 }
 
 fn is_name(name: &[u8]) -> bool

@@ -16,7 +16,6 @@ use std::alloc::Global;
 
 /// The machine. It tells nothing of the content of files and devices. When a device begins to fail,
 /// and when it works again, it says so on standard error.
-#[derive(Drop)]
 pub struct HostMachine {
     rt: HostRuntime,
     inlets: HostInlets,
@@ -29,6 +28,23 @@ pub struct HostMachine {
     say_faults: u64,
     build_faults: u64,
     timer: Timer,
+}
+
+impl Drop for HostMachine {
+    fn drop(self) {
+        let HostMachine {
+            rt: _rt,
+            inlets: _inlets,
+            outlets: _outlets,
+            paths: _paths,
+            stores: _stores,
+            unread: _unread,
+            read_faults: _read_faults,
+            say_faults: _say_faults,
+            build_faults: _build_faults,
+            timer: _timer,
+        } = self;
+    }
 }
 
 impl HostMachine {
