@@ -1,6 +1,7 @@
 #!/usr/bin/env python3
-"""Whether the documents say what the tables of the code have: options, flags, macros, faults, exit statuses, the usage line; whether the files and crates
-that they name are there, and the names that PROMISES.md gives for its claims; and whether definitions are quoted word for word."""
+"""Whether the documents say what the tables of the code have: options, flags, macros, faults, exit statuses, the usage line; whether the files, headings and
+crates that they name are there, and the names that PROMISES.md gives for its claims, in rows of 60 words; whether definitions are quoted word for word; and
+whether crates.txt names what its crates cite alone, each room standing on those alone that its heading names."""
 import glob
 import os
 import re
@@ -89,11 +90,21 @@ for name in ["SOURCE_DRIVERS", "SOURCE", "LISTENER", "DESTINATION", "WRITER", "S
 for path in ["filters.rt", "rewrites.rt", "form.rt", "class.rt"]:
     expect(f"words of {path} in the hints", {w for w in words(read(f"crates/sg_parse_expr/src/{path}")) if w.islower()} - hinted - {"yes", "on"})
 
+
+
+def headings_of(path):
+    """The anchors of a document's headings."""
+    found = re.findall(r"^#+ (.+)$", read(path), re.M) if os.path.exists(path) else []
+    return {re.sub(r"[^\w -]", "", heading.lower()).replace(" ", "-") for heading in found}
+
+
 documents = ["README.md"] + sorted(f"docs/{name}" for name in os.listdir("docs") if name.endswith(".md"))
 for path in documents:
     text = read(path)
     links = [link for link in re.findall(r"\]\(([^)#]+)\)", text) if "://" not in link]
     expect(f"links of {path}", [link for link in links if not os.path.exists(os.path.join(os.path.dirname(path), link))])
+    anchors = re.findall(r"\]\(([^)#]*)#([^)]+)\)", text)
+    expect(f"headings that {path} links to", [f"{link}#{anchor}" for link, anchor in anchors if "://" not in link and anchor not in headings_of(os.path.join(os.path.dirname(path), link) if link else path)])
     files = re.findall(r"`((?:sg|test|bench)_[a-z0-9_]+/[A-Za-z0-9_./-]+)`", text)
     expect(f"files of {path}", [file for file in files if not os.path.exists(os.path.join("crates", file))])
     scripts = re.findall(r"`((?:tests|bench|examples|crates|docs)/[A-Za-z0-9_./-]+)`", text)
@@ -128,8 +139,13 @@ for section in re.split(r"^(?=## )", read("docs/THEOREM.md"), flags=re.M):
         else:
             named += [f"crates/{path}" for path in re.findall(r"`(sg_[a-z0-9_]+/(?:specs|src)/[A-Za-z0-9_/]+\.(?:antt|rt))`", part)]
 
+# each name of its table of clauses stands in a file of its row
+for names, says, files in re.findall(r"^\| (.+) \| (.+) \| ((?:`sg_\w+/[^`|]+`(?:[,;] )?)+) \|$", read("docs/THEOREM.md"), re.M):
+    there = set(re.findall(r"\w+", "\n".join(read(f"crates/{file}") for file in re.findall(r"`([^`]+)`", files) if os.path.exists(f"crates/{file}"))))
+    expect(f"names of a clause: {names[:60]}", {name for span in re.findall(r"`([^`]+)`", names) for name in re.findall(r"\w+", span)} - there)
+
 # and so do the lines of the headline's record that README.md quotes
-headline = "crates/sg_delivered/specs/Headline.antt"
+headline = "crates/sg_one_run/specs/Headline.antt"
 table_rows = re.findall(r"^\| [^|]+ \| (.+) \|$", re.search(r"\| phrase \|.*?\n\n", read("README.md"), re.S).group(0), re.M)[1:]
 quoted = [text for row in table_rows for text in re.findall(r"`([^`]+)`", row) if " " in text and not text.startswith("run ")]
 expect("quotations of README.md", [text for text in quoted if not stands_in(text, headline)])
@@ -166,13 +182,61 @@ for line in promises[: promises.index("## What is tested")].splitlines():
     row = re.fullmatch(r"\| (.+) \| (.+) \|", line)
     if row and row.group(1) != "claim":
         spans = re.findall(r"`([^`]+)`", row.group(2))
-        beside = [span for span in spans if re.fullmatch(r"sg_\w+", span)] + (["sg_daemon"] if "sg_daemon" in section else [])
+        beside = [span for span in spans if re.fullmatch(r"(?:sg|test)_\w+", span)] + (["sg_daemon"] if "sg_daemon" in section else [])
         files = [span for span in spans if span.endswith(".antt")]
         expect(f"files of a claim: {line[:60]}", [file for file in files if not any(os.path.exists(f"crates/{crate}/{file}") for crate in beside)])
         names = {name for span in spans if span not in beside + files for name in re.findall(r"\w+", span)}
         expect(f"names of a claim: {line[:60]}", names.difference(*map(names_of, beside)))
 
-below = {line.split(":")[0]: line.split(":")[1].split() for line in read("crates.txt").splitlines() if re.match(r"[a-z]", line)}
+# a row says its claim in 60 words at most, with the names of its clause
+long = [f"{len(words_of)} words: {row[:60]}" for row in promises.splitlines() if row.startswith("| ") for words_of in [row.replace(" | ", " ").strip("| ").split()] if len(words_of) > 60]
+expect("long rows of PROMISES.md", long)
+
+below = {line.split(":")[0].split()[0]: line.split("#")[0].split(":")[1].split() for line in read("crates.txt").splitlines() if re.match(r"[a-z]", line)}
+
+
+def cited_by(crate):
+    """The names in front of `::`, `.`, `·` or `;` in the code, definitions and proofs of a crate, which are those of other crates among them."""
+    found = set()
+    for kind in ["src", "specs", "proofs"]:
+        for path in glob.glob(f"crates/{crate}/{kind}/**/*", recursive=True):
+            if path.endswith(".rt"):
+                text = re.sub(r'//[^\n]*|/\*.*?\*/|r?"(?:[^"\\]|\\.)*"|\'(?:[^\'\\]|\\.)\'', " ", read(path), flags=re.S)
+            elif path.endswith(".antt"):
+                text = re.sub(r"(?<![^\s(){}.;,@])--[^\n]*", " ", re.sub(r"\{-.*?-\}", " ", read(path), flags=re.S))
+            else:
+                continue
+            found |= set(re.findall(r"(?<!\w)([a-z][a-z0-9_]*)\s*(?:::|[.·;])", text)) | set(re.findall(r"(?:\bRattle[.·]|\.below\.)(\w+)", text))
+    return found
+
+
+# each edge of crates.txt is cited: a crate loads all that it names
+expect("edges of crates.txt that are cited nowhere", [f"{crate}: {lower}" for crate in below for cited in [cited_by(crate)] for lower in below[crate] if lower not in cited])
+
+# a room stands on itself, and on the rooms and crates that its heading names; rooms above it in the list alone
+room_of, may, room = {}, {}, None
+for line in read("crates.txt").splitlines():
+    heading = re.match(r"# ([A-Z][A-Za-z ]+): .*It may stand on(?: no other room|: (.+))\.$", line)
+    if heading:
+        room = heading.group(1)
+        may[room] = [name for name in (heading.group(2) or "").split(", ") if name]
+        expect(f"rooms and crates that {room} may stand on", [name for name in may[room] if name not in list(may)[:-1] and name not in below])
+    elif re.match(r"[a-z]", line):
+        room_of[line.split(":")[0].split()[0]] = room
+expect("crates in no room", [crate for crate in below if room_of[crate] is None])
+edges = [(crate, lower) for crate in below for lower in below[crate] if lower in below and room_of[crate] is not None]
+allowed = lambda crate, lower: room_of[lower] in [room_of[crate]] + may[room_of[crate]] or lower in may[room_of[crate]]
+expect("edges from a room to one that it may not stand on", [f"{crate} ({room_of[crate]}): {lower} ({room_of[lower]})" for crate, lower in edges if not allowed(crate, lower)])
+listed = [name for name in re.findall(r"^### (.+)$", architecture[architecture.index("## The crates") : architecture.index("## Where is ..")], re.M)]
+expect("rooms in ARCHITECTURE.md", set(may).symmetric_difference(listed + [name for name in may if name.startswith("Tests")]))
+
+# as many crates as are said are in each room, and on the way of a record and of a token
+said_rooms = dict(re.findall(r"^\| ([A-Z][A-Za-z ]+) \| (\d+) \|", architecture, re.M))
+expect("crates of a room, counted", [f"{name} {list(room_of.values()).count(name)}" for name in may if said_rooms.get(name) != str(list(room_of.values()).count(name))])
+for number, way in re.findall(r"handled by the code of (\d+) crates([^.]*)\.", architecture):
+    on_it = set(re.findall(r"`(sg_\w+)`", way))
+    expect("crates of a way, counted", [] if len(on_it) == int(number) else [f"{len(on_it)} and not {number}"])
+
 expect("crates in ARCHITECTURE.md", [crate for crate in below if f"`{crate}`" not in architecture])
 expect("crates of tests in PROMISES.md", [crate for crate in below if crate.startswith("test_") and f"`{crate}`" not in promises])
 

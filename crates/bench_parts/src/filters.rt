@@ -68,16 +68,20 @@ fn rewrite(alloc: Global, op: &Op, message: &Message, turns: u64) -> Result<bool
     requires { IsOp op.now }
 {
     let mut patterns = Patterns { too_large: 0 };
-    match Rewrite::new(alloc, &mut patterns, op) {
-        Ok(mut rewrite) => apply(alloc, &mut rewrite, message, turns),
+    let mut made = Rewrite::new(alloc, &mut patterns, op);
+    match &mut made {
+        Ok(rewrite) => apply(alloc, rewrite, message, turns),
         Err(_) => Err(AllocError),
     }
 }
 
 fn subst(alloc: Global, turns: u64) -> Result<bool, AllocError> {
     let message = message(alloc)?;
-    let op = op(alloc)?;
-    rewrite(alloc, &op, &message, turns)
+    let made = op(alloc);
+    match &made {
+        Ok(op) => rewrite(alloc, op, &message, turns),
+        Err(_) => Err(AllocError),
+    }
 }
 
 /// Does this so many times. Whether it was done.

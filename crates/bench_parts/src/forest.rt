@@ -57,13 +57,18 @@ fn rewrite(alloc: Global) -> Result<Element, AllocError> {
     Ok(Element::Rewrite(RewriteRule { condition, op }))
 }
 
+fn push(elements: &mut Vec<Element>, element: Element) -> Result<(), AllocError> {
+    elements.push(element)?;
+    Ok(())
+}
+
 fn elements(alloc: Global) -> Result<Vec<Element>, AllocError> {
     let mut elements = Vec::new(alloc);
-    elements.push(level(alloc)?)?;
-    elements.push(has(alloc, b"PROGRAM", b"app")?)?;
-    elements.push(has(alloc, b"MESSAGE", b"timed out")?)?;
-    elements.push(rewrite(alloc)?)?;
-    elements.push(Element::Deliver(vec![in alloc; 0]?))?;
+    push(&mut elements, level(alloc)?)?;
+    push(&mut elements, has(alloc, b"PROGRAM", b"app")?)?;
+    push(&mut elements, has(alloc, b"MESSAGE", b"timed out")?)?;
+    push(&mut elements, rewrite(alloc)?)?;
+    push(&mut elements, Element::Deliver(vec![in alloc; 0]?))?;
     Ok(elements)
 }
 
@@ -81,18 +86,22 @@ fn path(alloc: Global) -> Result<Path, AllocError> {
     })
 }
 
+fn paths(alloc: Global) -> Result<Vec<Path>, AllocError> {
+    let mut paths = Vec::new(alloc);
+    paths.push(path(alloc)?)?;
+    Ok(paths)
+}
+
 pub(crate) fn forest(alloc: Global) -> Result<Forest, AllocError> {
     let mut inlets = Vec::new(alloc);
     inlets.push(inlet(alloc))?;
     let mut dests = Vec::new(alloc);
     dests.push(DestRule {})?;
-    let mut paths = Vec::new(alloc);
-    paths.push(path(alloc)?)?;
     Ok(Forest {
         inlets,
         dests,
         filters: Vec::new(alloc),
         rewrites: Vec::new(alloc),
-        paths,
+        paths: paths(alloc)?,
     })
 }

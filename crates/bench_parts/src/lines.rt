@@ -60,17 +60,18 @@ fn convert(converter: &Converter, mut from: File, mut to: File) -> io::Result<u6
     Ok(count)
 }
 
-fn say(rt: HostRuntime, count: u64) -> io::Result<bool> {
+// Writes the frames of a file to another one, and says how many they were.
+fn write(rt: HostRuntime, converter: &Converter, from: &str, to: &str) -> io::Result<bool> {
+    let count = convert(converter, File::open(&rt, from)?, File::create(&rt, to)?)?;
     println!(rt; "{count}")?;
     Ok(true)
 }
 
-/// Writes the frames of a file to another one, and says how many they were. Whether the form is one.
+/// The frames of a file in another one. Whether the form is one.
 pub(crate) fn run(rt: HostRuntime, form: &str, from: &str, to: &str) -> io::Result<bool> {
-    let from = File::open(&rt, from)?;
-    let to = File::create(&rt, to)?;
-    match Converter::new(rt.alloc(), form)? {
-        Some(converter) => say(rt, convert(&converter, from, to)?),
+    let made = Converter::new(rt.alloc(), form)?;
+    match &made {
+        Some(converter) => write(rt, converter, from, to),
         None => Ok(false),
     }
 }

@@ -57,17 +57,30 @@ fn turn<R: Router>(alloc: Global, router: &mut R, item: Bytes) -> Result<bool, A
     Ok(offers.len() == 1)
 }
 
-// Routes the record so many times. Whether each time it had an offer.
-fn route(alloc: Global, turns: u64) -> Result<bool, AllocError> {
-    let Some(mut pipes) = pipes(alloc, &forest(alloc)?) else {
-        return Ok(false);
-    };
-    let item = Bytes::copy_from_slice(alloc, RECORD)?;
+// Takes so many turns. Whether the record had an offer in each.
+fn turns(alloc: Global, pipes: &mut Pipes, item: &Bytes, count: u64) -> Result<bool, AllocError>
+    requires { 0 < length pipes.old.table.inlets.items }
+{
     let mut good = true;
-    for _ in 0..turns {
-        good &= turn(alloc, &mut pipes, item.clone()?)?;
+    for _ in 0..count {
+        good &= turn(alloc, pipes, item.clone()?)?;
     }
     Ok(good)
+}
+
+fn routed(alloc: Global, forest: &Forest, item: &Bytes, count: u64) -> Result<bool, AllocError> {
+    let mut made = pipes(alloc, forest);
+    match &mut made {
+        Some(pipes) => turns(alloc, pipes, item, count),
+        None => Ok(false),
+    }
+}
+
+// Routes the record so many times.
+fn route(alloc: Global, turns: u64) -> Result<bool, AllocError> {
+    let item = Bytes::copy_from_slice(alloc, RECORD)?;
+    let forest = forest(alloc)?;
+    routed(alloc, &forest, &item, turns)
 }
 
 /// Does this so many times. Whether it was done.

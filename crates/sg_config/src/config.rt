@@ -2,10 +2,10 @@
 ghost use Rattle.std.specs.Prelude.{◌≡◌};
 ghost use Rattle.sg_config.specs.declared.config.LoadRefusal.TheVariants.{NoMemory as LacksMemory};
 
-use sg_run_plan::{InletPlan, OutletPlan};
 use sg_lex::ConfigFault;
 use sg_machine::Setup;
 use sg_outside::StoreSpec;
+use sg_run_plan::{InletPlan, OutletPlan};
 use sg_tree::Forest;
 use std::alloc::AllocError;
 

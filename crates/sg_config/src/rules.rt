@@ -4,8 +4,8 @@ ghost use Rattle.std.specs.Option.{option_copied};
 ghost use Rattle.sg_tree.specs.Readings.{inlet_of};
 ghost use Rattle.sg_config.specs.Readings.{reading_of, readings_at, readings_of};
 
-use sg_run_plan::InletPlan;
 use sg_device::{Name, NoMemory};
+use sg_run_plan::InletPlan;
 use sg_source::SourceDriver;
 use sg_tree::InletRule;
 use std::alloc::Global;

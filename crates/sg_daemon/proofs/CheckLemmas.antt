@@ -5,10 +5,10 @@ use Rattle.sg_outside.specs.World.{WorldState, Files}
 use Rattle.sg_config.specs.declared.config.Config.{Config}
 use Rattle.sg_loaded.specs.Compiling.{CanBeCompiled}
 use Rattle.sg_loaded.specs.Loading.{Configures}
-use Rattle.sg_checked.specs.Checking.{Checks, OnlyChecks, IsUntroubled}
-use Rattle.sg_checked.specs.Checking as checked
-use Rattle.sg_checked.specs.declared.unchecked.Unchecked.{Unchecked}
-use Rattle.sg_checked.specs.declared.unchecked.Unchecked.TheVariants.{SayFault as Unsaid, NoMemory as Starved}
+use Rattle.sg_daemon.specs.Checked.{Checks, OnlyChecks, IsUntroubled}
+use Rattle.sg_daemon.specs.Checked as checked
+use Rattle.sg_daemon.specs.declared.unchecked.Unchecked.{Unchecked}
+use Rattle.sg_daemon.specs.declared.unchecked.Unchecked.TheVariants.{SayFault as Unsaid, NoMemory as Starved}
 use Rattle.sg_run.specs.declared.end.End.TheVariants.{Clean}
 use Rattle.sg_daemon.specs.Checking.{EndsCheck, ChecksFile}
 use Rattle.sg_daemon.specs.declared.status.Status.{Status}

@@ -7,9 +7,9 @@ use Rattle.sg_loaded.specs.Compiling.{CanBeCompiled}
 use Rattle.sg_loaded.specs.Loading.{Configures}
 use Rattle.sg_loaded.specs.declared.loaded.Unloaded.{Unloaded}
 use Rattle.sg_loaded.specs.declared.loaded.Unloaded.TheVariants.{Bad, Unread, NoMemory as Unfed}
-use Rattle.sg_traced.specs.Traces.{IsComplete as IsTraced}
-use Rattle.sg_traced.specs.declared.untraced.Untraced.{Untraced}
-use Rattle.sg_traced.specs.declared.untraced.Untraced.TheVariants.{NotOpened, InletFault, RoundsSpent, SayFault, NoMemory}
+use Rattle.sg_trace.specs.Traces.{IsComplete as IsTraced}
+use Rattle.sg_trace.specs.declared.untraced.Untraced.{Untraced}
+use Rattle.sg_trace.specs.declared.untraced.Untraced.TheVariants.{NotOpened, InletFault, RoundsSpent, SayFault, NoMemory}
 use Rattle.sg_trace.specs.Tracing.{first_of, TracesFile}
 use Rattle.sg_trace.specs.Completeness.{IsUntroubled, IsComplete as IsShown}
 use Rattle.sg_trace.specs.declared.unshown.Unshown.{Unshown}

@@ -5,9 +5,9 @@ use Rattle.sg_config.specs.declared.config.Config.{Config}
 use Rattle.sg_loaded.specs.Compiling.{CanBeCompiled}
 use Rattle.sg_loaded.specs.Loading.{Configures}
 use Rattle.sg_loaded.specs.declared.loaded.Unloaded.TheVariants as unloaded
-use Rattle.sg_checked.specs.Checking.{OnlyChecks, Checks, IsUntroubled}
-use Rattle.sg_checked.specs.declared.unchecked.Unchecked.{Unchecked}
-use Rattle.sg_checked.specs.declared.unchecked.Unchecked.TheVariants.{Bad, Unread, SayFault, NoMemory}
+use Rattle.sg_daemon.specs.Checked.{OnlyChecks, Checks, IsUntroubled}
+use Rattle.sg_daemon.specs.declared.unchecked.Unchecked.{Unchecked}
+use Rattle.sg_daemon.specs.declared.unchecked.Unchecked.TheVariants.{Bad, Unread, SayFault, NoMemory}
 use Rattle.sg_run.specs.declared.end.End.TheVariants.{Clean}
 use Rattle.sg_daemon.specs.Loading.{TellsUnloaded}
 use Rattle.sg_daemon.specs.declared.status.Status.{Status}

@@ -5,8 +5,8 @@ use Rattle.sg_config.specs.declared.config.Config.{Config}
 use Rattle.sg_loaded.specs.Compiling.{CanBeCompiled}
 use Rattle.sg_loaded.specs.Loading.{Configures}
 use Rattle.sg_serve.specs.declared.ending.Device.TheVariants.{Inlet}
-use Rattle.sg_traced.specs.declared.untraced.Untraced.{Untraced}
-use Rattle.sg_traced.specs.declared.untraced.Untraced.TheVariants.{NotOpened, InletFault, RoundsSpent, SayFault, NoMemory}
+use Rattle.sg_trace.specs.declared.untraced.Untraced.{Untraced}
+use Rattle.sg_trace.specs.declared.untraced.Untraced.TheVariants.{NotOpened, InletFault, RoundsSpent, SayFault, NoMemory}
 use Rattle.sg_trace.specs.Tracing.{first_of, TracesFile}
 use Rattle.sg_trace.specs.Completeness.{IsUntroubled}
 use Rattle.sg_trace.specs.declared.unshown.Unshown.{Unshown}

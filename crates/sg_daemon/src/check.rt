@@ -2,8 +2,7 @@
 ghost use Rattle.sg_daemon.specs.Checking.{ChecksFile};
 
 use crate::say::tell_unloaded;
-use crate::status::Status;
-use sg_checked::{Unchecked, check_file};
+use crate::{Status, Unchecked, check_file};
 use sg_run::{End, Unloaded};
 use sg_world::World;
 use std::alloc::Global;

@@ -2,6 +2,7 @@
 #![tactic(auto)]
 
 mod check;
+mod checked;
 mod drill;
 mod laws;
 mod run;
@@ -10,7 +11,10 @@ mod spooled;
 mod status;
 mod top;
 mod trace;
+mod unchecked;
 
+pub use checked::check_file;
 pub use laws::first_words_tell;
 pub use status::Status;
 pub use top::{daemon, offline};
+pub use unchecked::Unchecked;

@@ -5,8 +5,7 @@ ghost use Rattle.sg_daemon.specs.Tracing.{status_untraced, TracesCommand};
 use crate::say::tell_unloaded;
 use crate::status::Status;
 use sg_run::{Device, End};
-use sg_trace::{Unshown, trace_input};
-use sg_traced::Untraced;
+use sg_trace::{Unshown, Untraced, trace_input};
 use sg_world::World;
 use std::alloc::Global;
 

@@ -4,7 +4,6 @@ ghost use Rattle.sg_driver.specs.Driver.{driver_kind};
 ghost use Rattle.sg_driver.specs.Defaults.{AreDefaults};
 ghost use Rattle.sg_destination.specs.Outlets as spec;
 
-use sg_run_plan::OutletPlan;
 use crate::buffers::{DiskBuffer, buffer_of, port_of};
 use crate::templates::{Templates, shape_of};
 use sg_device::{Name, NoMemory};
@@ -13,6 +12,7 @@ use sg_options::{args_of, last_argument_value, mode_or, number_or, truth_or, zon
 use sg_outfmt::{DriverKind, Shape};
 use sg_outside::OutletSpec;
 use sg_parse_expr::Call;
+use sg_run_plan::OutletPlan;
 use sg_template::Env;
 use std::alloc::Global;
 

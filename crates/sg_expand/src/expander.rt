@@ -8,7 +8,6 @@ ghost use Rattle.sg_expand.specs.Places.{IsPlaced};
 ghost use Rattle.sg_expand.specs.Whole.{IsNew, Gives, BeginsText, DoesFrame, Works, RunsWhole};
 ghost use Rattle.sg_outside.specs.World.{OnlyReads};
 
-use sg_outside::Files;
 use crate::block::Block;
 use crate::directive::{begins_version, is_version};
 use crate::fault::{ExpandRefusal, Expanded, Stop, fault_at};
@@ -18,6 +17,7 @@ use sg_block::{Line, Part, Table, Values};
 use sg_device::{Name, NoMemory};
 use sg_lex::{ConfigFault, ConfigKind, LexFault, TEXT_LIMIT, Token, line_at, tokens};
 use sg_list::Seq;
+use sg_outside::Files;
 use std::alloc::Global;
 
 #[derive(Drop)]

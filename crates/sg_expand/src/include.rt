@@ -5,7 +5,6 @@ ghost use Rattle.sg_block.specs.Tokens.{line_at};
 ghost use Rattle.sg_expand.specs.Expansion.{include_read, named_file};
 ghost use Rattle.sg_expand.specs.Machine.{DoesStep, TakesFile, NamesFile, ChecksName, state_of};
 
-use sg_outside::Files;
 use crate::directive::names_no_file;
 use crate::expander::{Expander, lex};
 use crate::fault::{Stop, fault_at};
@@ -13,6 +12,7 @@ use crate::frame::{Context, Rest, empty_scope};
 use sg_block::{Line, Replaced, replace};
 use sg_device::{FileRefusal, Name};
 use sg_lex::ConfigKind;
+use sg_outside::Files;
 
 /// How many files one inside the other may include at most.
 const DEPTH_LIMIT: u32 = 15;

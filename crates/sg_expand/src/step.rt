@@ -9,7 +9,6 @@ ghost use Rattle.sg_block.specs.Values.{reached, IsReplaced};
 ghost use Rattle.sg_expand.specs.Expansion.{Moves, retold, front, step, version_read, define_read, text_of, text_in, plain, with_block, with_variable};
 ghost use Rattle.sg_expand.specs.Machine.{Does, DoesStep, Pushes, tokens_frame, state_of, EmitsToken};
 
-use sg_outside::Files;
 use crate::block::Block;
 use crate::directive::{begins_define, begins_ignored, begins_include, begins_version, is_version};
 use crate::expander::Expander;
@@ -20,6 +19,7 @@ use sg_block::{Definition, Part, Replaced, find, is_front, is_tick, read_definit
 use sg_device::{Name, NoMemory};
 use sg_lex::{ConfigKind, Token};
 use sg_list::Seq;
+use sg_outside::Files;
 
 /// The token at a place, of another text.
 fn retold(tokens: &Part, place: usize, text: Name) -> Token

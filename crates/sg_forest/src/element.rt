@@ -10,13 +10,13 @@ use crate::flag::has_flag;
 use crate::reference::{calls_meant, filter_meant};
 use crate::rule::{append, push_calls};
 use sg_device::NoMemory;
-use sg_plan::{Owner, numbers_of};
 use sg_filter::Expr;
 use sg_lower::lower_expression;
 use sg_names::Names;
 use sg_parse_base::line_of;
 use sg_parse_expr::Call;
 use sg_parse_path::{RawBranch, RawElement, RawLog};
+use sg_plan::{Owner, numbers_of};
 use sg_tree::{Element, Path};
 use std::alloc::Global;
 

@@ -4,9 +4,9 @@ ghost use Rattle.sg_forest.specs.Forests.{IsForest};
 
 use crate::statement::{calls_by_place, filters_of, rules_of, tops_of};
 use sg_device::NoMemory;
-use sg_plan::Endpoints;
 use sg_names::Names;
 use sg_parse_text::Statement;
+use sg_plan::Endpoints;
 use sg_tree::{DestRule, Forest, InletRule};
 use std::alloc::Global;
 

@@ -4,8 +4,8 @@ ghost use Rattle.std.specs.List.{flat_map};
 ghost use Rattle.sg_forest.specs.References.{source_in};
 
 use sg_device::NoMemory;
-use sg_plan::{Owner, numbers_of};
 use sg_parse_path::RawElement;
+use sg_plan::{Owner, numbers_of};
 use std::alloc::Global;
 
 #[tactic(auto, unfolding(crate::specs::References::source_in))]

@@ -9,7 +9,6 @@ use crate::element::lower_log;
 use crate::rule::{append, push_rules};
 use crate::source::sources_of;
 use sg_device::NoMemory;
-use sg_plan::Endpoints;
 use sg_filter::Expr;
 use sg_lower::lower_expression;
 use sg_names::Names;
@@ -17,6 +16,7 @@ use sg_parse_expr::Call;
 use sg_parse_obj::Object;
 use sg_parse_path::RawLog;
 use sg_parse_text::Statement;
+use sg_plan::Endpoints;
 use sg_tree::{Path, RewriteRule};
 use std::alloc::Global;
 

@@ -6,13 +6,13 @@ ghost use Rattle.sg_report.specs.Fault.{name_at};
 ghost use Rattle.sg_hint.specs.Spots.{plain_spot, IsReading, IsSpot, IsStopped, SpotsAgain, SpotsBy};
 ghost use Rattle.sg_hint.specs.Listed.{IsListed};
 
-use sg_outside::Files;
 use crate::listed::{is_same, listed_spot};
 use crate::stopped::column_by;
 use crate::written::{Spotted, name_at};
 use sg_device::{FileRefusal, Name, NoMemory};
 use sg_expand::{ExpandRefusal, Expanded, expand, expansions_stay_within};
 use sg_lex::{ConfigFault, TEXT_LIMIT};
+use sg_outside::Files;
 use std::alloc::{AllocError, Global};
 
 fn expanded_spot(

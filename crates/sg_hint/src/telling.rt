@@ -4,12 +4,12 @@ ghost use Rattle.sg_outside.specs.World.{OnlyReads, IsContent};
 ghost use Rattle.sg_report.specs.Fault.{name_at};
 ghost use Rattle.sg_hint.specs.Hint.{Hints, HintsOf};
 
-use sg_outside::Files;
 use crate::line::line_of;
 use crate::spot::{read, spot};
 use crate::written::{name_at, written};
 use sg_device::{Name, NoMemory};
 use sg_lex::{ConfigFault, TEXT_LIMIT};
+use sg_outside::Files;
 use sg_world::World;
 use std::alloc::Global;
 

@@ -6,7 +6,6 @@ ghost use Rattle.sg_loaded.specs.Compiling.{CanBeCompiled};
 ghost use Rattle.sg_loaded.specs.Completeness.{IsUntroubled, IsComplete};
 ghost use Rattle.sg_loaded.specs.Loading.{OnlyLoads, Configures, LoadsTokens, LoadsFile, IsLeftUnread, IsLeftTooLong};
 
-use sg_outside::Files;
 use crate::compiling::compile_config;
 use crate::{Loaded, Unloaded};
 use sg_config::{LoadRefusal, load, texts_mean_one};
@@ -14,6 +13,7 @@ use sg_device::{FileRefusal, Name, NoMemory};
 use sg_expand::{ExpandRefusal, Expanded, expand, expansions_are_one, expansions_stay_within};
 use sg_lex::{ConfigFault, ConfigKind};
 use sg_list::Seq;
+use sg_outside::Files;
 use sg_pattern::Builder;
 use std::alloc::Global;
 

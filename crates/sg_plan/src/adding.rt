@@ -6,13 +6,13 @@ ghost use Rattle.sg_destination.specs.declared.buffers.DiskBuffer.{DiskBuffer};
 ghost use Rattle.sg_source.specs.Inlets.{plan_of, slots_at};
 ghost use Rattle.sg_plan.specs.Parts.{name_in, stores_by, number_by, buffer_by, inlets_of};
 
-use sg_run_plan::InletPlan;
+use crate::Owner;
 use sg_destination::DiskBuffer;
 use sg_device::{Name, NoMemory};
-use crate::Owner;
 use sg_list::Seq;
 use sg_machine::{BufferSetup, SourceSetup};
 use sg_outside::StoreSpec;
+use sg_run_plan::InletPlan;
 use sg_source::SourceDriver;
 
 fn copied(owner: &Owner) -> Result<Owner, NoMemory>

@@ -4,10 +4,10 @@ ghost use Rattle.sg_driver.specs.Defaults.{AreDefaults};
 ghost use Rattle.sg_plan.specs.Owned.{owner_at};
 ghost use Rattle.sg_plan.specs.Reading.{IsRead, Reads};
 
+use crate::Owner;
 use crate::globals::Globals;
 use sg_destination::{DestinationDriver, read_destination};
 use sg_device::NoMemory;
-use crate::Owner;
 use sg_parse_base::Spot;
 use sg_parse_expr::Call;
 use sg_parse_obj::Side;

@@ -1,5 +1,5 @@
 -- Options that are read and checked.
-use Rattle.std.proofs.Common.{◌≡◌, ℕ, ◌+◌, ◌*◌, List, [], ◌∷◌, ◌++◌, Option, refl, sym, ap, ◌∙◌, subst}
+use Rattle.std.proofs.Common.{◌≡◌, ℕ, ◌+◌, ◌*◌, List, [], ◌∷◌, ◌++◌, Option, None, refl, sym, ap, ◌∙◌, subst}
 use Rattle.std.specs.Option.{option_map}
 use Rattle.std.specs.Prelude.{◌&&◌, ◌||◌, not, is_none, if◌then◌else◌, codes, false}
 use Rattle.sg_parse_expr.specs.declared.tree.Call.{Call}
@@ -136,7 +136,7 @@ module _ (a b : Call) (h : AreAlike (writer_words ++ (sender_words ++ destinatio
       let reopen = h.same (codes "time-reopen" ∷ []) refl in
       let fsync = h.same (codes "fsync" ∷ []) refl in
       let perm = h.same (codes "perm" ∷ []) refl in
-      λ i. outlet.File (h.name i) (truth_or (value_behind (fsync i)) false) (mode_or (value_behind (perm i)) defaults.mode) (number_or (value_behind (reopen i)) reopen_time defaults.reopen)
+      λ i. outlet.File (h.name i) (truth_or (value_behind (fsync i)) false) (mode_or (value_behind (perm i)) defaults.mode) None (number_or (value_behind (reopen i)) reopen_time defaults.reopen)
 
   spec-alike : (kind : DriverKind) → spec_by kind defaults a ≡ spec_by kind defaults b
   spec-alike File = file-alike

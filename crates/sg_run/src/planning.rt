@@ -4,12 +4,12 @@ ghost use Rattle.sg_pipes.specs.Within.{IsWithin};
 ghost use Rattle.sg_table.specs.Forest.{forest_of};
 ghost use Rattle.sg_run.specs.Meaning.{planned, paths_of};
 
-use sg_run_plan::{InletPlan, RunPlan};
 use sg_config::Config;
 use sg_device::NoMemory;
 use sg_list::Seq;
 use sg_machine::SourceSetup;
 use sg_pipes::Pipes;
+use sg_run_plan::{InletPlan, RunPlan};
 use sg_table::Table;
 use std::alloc::Global;
 

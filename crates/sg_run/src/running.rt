@@ -11,14 +11,14 @@ ghost use Rattle.sg_run.specs.Run.{RunsBy, RunsConfig, RunsFile};
 use crate::end::Outcome;
 use crate::planning::{drivers_of, files_of, plan_of, routers_of};
 use crate::reporting::{Lines, outcome_of};
-use sg_one_run::runs_are_bounded;
 use sg_config::{Config, outlets_are_direct, texts_mean_one};
-use sg_many_runs::{plan_runs_cover, plan_runs_end_clean, plan_runs_happen, plan_runs_rest};
-use sg_one_run::runs_deliver;
 use sg_device::NoMemory;
 use sg_loaded::{Loaded, Unloaded, load_file};
+use sg_many_runs::{plan_runs_cover, plan_runs_end_clean, plan_runs_happen, plan_runs_rest};
+use sg_one_run::{
+    clean_runs_end, failed_stores_count, quiet_runs_rest, runs_are_bounded, runs_deliver,
+};
 use sg_pipes::Pipes;
-use sg_one_run::{clean_runs_end, failed_stores_count, quiet_runs_rest};
 use sg_serve::run_plan;
 use sg_table::Table;
 use sg_world::World;

@@ -5,11 +5,11 @@ ghost use Rattle.sg_serve.specs.Devices.{outlet_asked, outlets_asked, reopen_ask
 ghost use Rattle.sg_serve.specs.Early.{outlet_refusal, OutletsFail};
 ghost use Rattle.sg_serve.specs.Actors.{dest_view, IsDestFor, AreDestsFor};
 
-use sg_run_plan::OutletPlan;
 use crate::{Device, Early};
 use sg_actor::DestActor;
 use sg_device::OpenRefusal;
 use sg_outside::OutletSpec;
+use sg_run_plan::OutletPlan;
 use sg_world::World;
 use std::alloc::Global;
 use std::collections::VecDeque;

@@ -7,7 +7,6 @@ ghost use Rattle.sg_serve.specs.Devices.{AreNotByPath};
 ghost use Rattle.sg_serve.specs.Plan.{IsRunnable, AllKnow};
 ghost use Rattle.sg_serve.specs.Run.{early_of, ClosesAll, RunsPlan, RunsOver, RunsDests};
 
-use sg_run_plan::{OutletPlan, RunPlan};
 use crate::counts::count_all;
 use crate::held::{Held, close_all, hold_stores};
 use crate::outlets::open_dests;
@@ -19,6 +18,7 @@ use sg_core::{Core, CoreRefusal};
 use sg_crew::serve;
 use sg_engine::Served;
 use sg_route::Router;
+use sg_run_plan::{OutletPlan, RunPlan};
 use sg_world::World;
 use std::alloc::Global;
 use std::sync::Wait;

@@ -12,7 +12,6 @@ ghost use Rattle.sg_serve.specs.declared.ending.Early.TheVariants.{DiskFault};
 ghost use Rattle.sg_serve.specs.Rewinds.{position_at, places_of, rewinds_from, AreApartIn, Begins, HasBegun};
 ghost use Rattle.sg_serve.specs.Actors.{source_view, IsSourceFor, AreAllSources, OpensAt};
 
-use sg_run_plan::InletPlan;
 use crate::rewinds::begin;
 use crate::{Device, Early};
 use sg_actor::{SourceActor, SourceSpec};
@@ -21,6 +20,7 @@ use sg_device::{Inlet, NoMemory, OpenRefusal};
 use sg_machine::SourceSetup;
 use sg_outside::InletSpec;
 use sg_route::Router;
+use sg_run_plan::InletPlan;
 use sg_world::World;
 use std::alloc::Global;
 use std::collections::VecDeque;

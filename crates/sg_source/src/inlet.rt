@@ -5,7 +5,6 @@ ghost use Rattle.sg_options.specs.Settings.{items_of};
 ghost use Rattle.sg_driver.specs.Defaults.{AreDefaults};
 ghost use Rattle.sg_source.specs.Inlets as spec;
 
-use sg_run_plan::InletPlan;
 use sg_device::{Name, NoMemory};
 use sg_driver::{
     CONNECTIONS, Defaults, FETCH_LIMIT, MESSAGE_SIZE, PORTS, WINDOW_SIZE, driver_kind, name_of,
@@ -21,6 +20,7 @@ use sg_outside::InletSpec;
 use sg_parse_base::Spot;
 use sg_parse_expr::{Arg, Call};
 use sg_r3164::ReadOpts;
+use sg_run_plan::InletPlan;
 use std::alloc::Global;
 
 /// Where the records of a source's driver come from.

@@ -12,8 +12,8 @@ use Rattle.sg_config.specs.declared.config.Config.{Config}
 use Rattle.sg_loaded.specs.Loading.{OnlyLoads, Configures, IsConfigured}
 use Rattle.sg_loaded.specs.Reading.{ComesTo, Expands}
 use Rattle.sg_loaded.specs.declared.loaded.Loaded.{Loaded}
-use Rattle.sg_traced.specs.Traces.{Feed, spec_of, read_inlets, IsUntroubled as IsTracedUntroubled, IsComplete as IsTraced}
-use Rattle.sg_traced.specs.declared.untraced.Untraced.{Untraced}
+use Rattle.sg_trace.specs.Traces.{Feed, spec_of, read_inlets, IsUntroubled as IsTracedUntroubled, IsComplete as IsTraced}
+use Rattle.sg_trace.specs.declared.untraced.Untraced.{Untraced}
 use Rattle.sg_trace.specs.declared.unshown.Unshown.{Unshown}
 use Rattle.sg_trace.specs.Tracing.{first_of, shown, TracesInlet, TracesSource}
 use Rattle.sg_trace.specs.Completeness.{IsUntroubled, IsComplete}

@@ -1,3 +1,9 @@
+pub mod Times
+pub mod Readings
+pub mod Sayings
+pub mod Takings
+pub mod Tracings
+pub mod Wholes
 mod Finding
 mod Sending
 mod Pathing

@@ -11,11 +11,11 @@ use Rattle.sg_pipes.specs.Within.{IsWithin as StaysWithin}
 use Rattle.sg_config.specs.Alike.{IsWithin}
 use Rattle.sg_config.specs.declared.config.Config.{Config}
 use Rattle.sg_loaded.specs.Compiling.{Compiles}
-use Rattle.sg_traced.specs.Traces.{Traces}
-use Rattle.sg_traced.specs.declared.target.Reader.{Reader}
-use Rattle.sg_traced.specs.declared.target.Target.{Target}
-use Rattle.sg_traced.specs.declared.untraced.Untraced.{Untraced}
-use Rattle.sg_traced.specs.declared.untraced.Untraced.TheVariants.{NoMemory}
+use Rattle.sg_trace.specs.Traces.{Traces}
+use Rattle.sg_trace.specs.declared.target.Reader.{Reader}
+use Rattle.sg_trace.specs.declared.target.Target.{Target}
+use Rattle.sg_trace.specs.declared.untraced.Untraced.{Untraced}
+use Rattle.sg_trace.specs.declared.untraced.Untraced.TheVariants.{NoMemory}
 use Rattle.sg_trace.specs.declared.unshown.Unshown.{Unshown}
 use Rattle.sg_trace.specs.declared.unshown.Unshown.TheVariants as unshown
 use Rattle.sg_trace.specs.Tracing.{target_of, IsReader, shown, TracesInlet}

@@ -1,7 +1,7 @@
 -- What the destinations send.
 use Rattle.std.proofs.Common.{◌≡◌, ◌∙◌, List, [], ◌∷◌, ◌++◌, map, sym, ap, append_assoc}
 use Rattle.sg_run_plan.specs.declared.outlet.OutletPlan.{OutletPlan}
-use Rattle.sg_traced.specs.declared.target.Target.{Target}
+use Rattle.sg_trace.specs.declared.target.Target.{Target}
 use Rattle.sg_trace.specs.Tracing.{target_of}
 
 -- one destination more

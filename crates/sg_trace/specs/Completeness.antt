@@ -3,7 +3,7 @@ use Rattle.std.specs.Prelude.{◌≡◌, ◌≤◌, ℕ, ◌+◌, ◌^◌, List,
 use Rattle.sg_device.specs.Faults.{Rose}
 use Rattle.sg_outside.specs.World.{WorldState}
 use Rattle.sg_loaded.specs.Completeness.{IsUntroubled as IsLoadedUntroubled, IsComplete as IsLoaded}
-use Rattle.sg_traced.specs.Traces.{Feed, spec_of, read_inlets, IsComplete as IsTraced}
+use Rattle.sg_trace.specs.Traces.{Feed, spec_of, read_inlets, IsComplete as IsTraced}
 use Rattle.sg_trace.specs.declared.unshown.Unshown.{Unshown}
 use Rattle.sg_trace.specs.declared.unshown.Unshown.TheVariants.{Unloaded, Untraced}
 

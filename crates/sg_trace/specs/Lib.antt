@@ -1,2 +1,9 @@
+pub mod Rows
+pub mod Saying
+pub mod Reading
+pub mod Taking
+pub mod Traces
+pub mod Pulling
+pub mod Opened
 pub mod Tracing
 pub mod Completeness

@@ -11,11 +11,11 @@ use Rattle.sg_config.specs.declared.config.Config.{Config}
 use Rattle.sg_loaded.specs.Loading.{OnlyLoads, LoadsFile, IsConfigured}
 use Rattle.sg_loaded.specs.declared.loaded.Loaded.{Loaded}
 use Rattle.sg_loaded.specs.declared.loaded.Unloaded.TheVariants.{Bad, Unread, NoMemory}
-use Rattle.sg_traced.specs.Traces.{Traces}
-use Rattle.sg_traced.specs.declared.target.Reader.{Reader}
-use Rattle.sg_traced.specs.declared.target.Target.{Target}
-use Rattle.sg_traced.specs.declared.untraced.Untraced.{Untraced}
-use Rattle.sg_traced.specs.declared.untraced.Untraced.TheVariants as untraced
+use Rattle.sg_trace.specs.Traces.{Traces}
+use Rattle.sg_trace.specs.declared.target.Reader.{Reader}
+use Rattle.sg_trace.specs.declared.target.Target.{Target}
+use Rattle.sg_trace.specs.declared.untraced.Untraced.{Untraced}
+use Rattle.sg_trace.specs.declared.untraced.Untraced.TheVariants as untraced
 use Rattle.sg_trace.specs.declared.unshown.Unshown.{Unshown}
 use Rattle.sg_trace.specs.declared.unshown.Unshown.TheVariants as unshown
 

@@ -2,9 +2,9 @@
 ghost use Rattle.std.specs.Prelude.{◌≡◌, ◌<◌, ◌^◌, length};
 ghost use Rattle.sg_trace.specs.Tracing.{is_named, first_of, IsReader};
 
-use sg_run_plan::InletPlan;
+use crate::Reader;
 use sg_device::Name;
-use sg_traced::Reader;
+use sg_run_plan::InletPlan;
 
 fn is_named(source: &[u8], name: &Option<Name>) -> bool
     ensures { result ≡ is_named source.now name.now }

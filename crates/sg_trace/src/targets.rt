@@ -1,9 +1,10 @@
 // What the destinations of a configuration send.
 ghost use Rattle.std.specs.Prelude.{◌≡◌, ◌++◌, ◌∷◌, [], map, IfOk, OnOk};
 ghost use Rattle.sg_trace.specs.Tracing.{target_of};
-use sg_run_plan::OutletPlan;
+
+use crate::Target;
 use sg_device::NoMemory;
-use sg_traced::Target;
+use sg_run_plan::OutletPlan;
 use std::alloc::Global;
 use std::collections::VecDeque;
 

@@ -1,7 +1,7 @@
 // Why a file isn't traced to its end.
 
+use crate::Untraced;
 use sg_loaded::Unloaded;
-use sg_traced::Untraced;
 
 /// Why INPUT wasn't traced to its end.
 #[derive(Drop)]

@@ -1,7 +1,5 @@
 pub mod Going
 pub mod Views
 pub mod Turning
-pub mod Tops
 pub mod Keeping
-pub mod Makings
 pub mod Bounding

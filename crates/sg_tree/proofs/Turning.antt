@@ -1,90 +1,9 @@
--- One turn of each loop of the walk.
-use Rattle.std.proofs.Common.{◌≡◌, ℕ, Bool, true, false, List, [], ◌∷◌, ◌++◌, Option, Vec, Result, refl, sym, ap, ◌∙◌, subst, ◌<◌, arith}
+-- The siblings of a round.
+use Rattle.std.proofs.Common.{◌≡◌, Bool, true, false, refl, sym, ap, ◌∙◌}
 use mathlib.Core.Bool.{beq}
-use Rattle.std.specs.Prelude.{◌&&◌, ◌||◌, cond, IfOk}
-use Rattle.std.proofs.lemmas.List.{append_assoc}
-use Rattle.std.proofs.lemmas.Result.{IfOk-weaker}
-use Rattle.std.specs.declared.alloc.Global.{Global}
-use Rattle.sg_msg.specs.Message.{Content}
-use Rattle.sg_filter.specs.declared.expr.Expr.{Expr}
-use Rattle.sg_tree.specs.declared.sound.RewriteRule.{RewriteRule}
-use Rattle.sg_msg.specs.declared.offer.Offer.{Offer}
-use Rattle.sg_tree.specs.declared.gone.Gone.{Gone}
-use Rattle.sg_tree.specs.declared.tree.Element.{Element, Filter, Rewrite, Deliver, Junction, If}
-use Rattle.sg_tree.specs.declared.tree.Path.{Path}
-use Rattle.sg_filter.specs.Decisions.{Decision, decides, decision_of}
-use Rattle.sg_tree.specs.Rules.{Rule, rule_of, rewritten_by}
-use Rattle.sg_tree.specs.Walk.{Marks, Walked, Steps, Siblings, filter, rewrite, deliver, junction, choose, sibling, walk, round, both, each, then_each, deliveries_to, counted, up_to_final, is_in_round, stopped, size, siblings_size}
-use Rattle.sg_tree.specs.Plain.{element_view, steps_view, siblings_view, choice_view, marks, own_steps}
-use Rattle.sg_tree.specs.Gives.{Gives}
-use Rattle.sg_tree.proofs.Going.{Behind, left, behind-at, behind-more, behind-gives}
-use Rattle.sg_tree.proofs.Views.{view-Filter, view-Rewrite, view-Deliver, view-Junction, view-If, view-Path}
+use Rattle.std.specs.Prelude.{cond}
+use Rattle.sg_tree.specs.Walk.{Marks, is_in_round}
 
--- the steps of a list that begins with a known element
-module _ (named : List Expr) (els rest : List Element) (logs : List Path) (e : Element) (h : els ≡ e ∷ rest) where
-  front : steps_view named els logs ≡ element_view named e (steps_view named rest logs)
-  front = ap (λ (x : List Element). steps_view named x logs) h
-
-  here : (e' : Element) → e ≡ e' → steps_view named els logs ≡ element_view named e' (steps_view named rest logs)
-  here e' is = front ∙ ap (λ (x : Element). element_view named x (steps_view named rest logs)) is
-
-  pub at-Filter : (expr : Expr) → e ≡ Filter expr → steps_view named els logs ≡ filter (decision_of named expr) (steps_view named rest logs)
-  at-Filter expr is = here (Filter expr) is ∙ view-Filter named expr (steps_view named rest logs)
-
-  pub at-Rewrite : (rule : RewriteRule) → e ≡ Rewrite rule → steps_view named els logs ≡ rewrite (rule_of named rule) (steps_view named rest logs)
-  at-Rewrite rule is = here (Rewrite rule) is ∙ view-Rewrite named rule (steps_view named rest logs)
-
-  pub at-Deliver : (drivers : Vec ℕ Global) → e ≡ Deliver drivers → steps_view named els logs ≡ deliver drivers.items (steps_view named rest logs)
-  at-Deliver drivers is = here (Deliver drivers) is ∙ view-Deliver named drivers (steps_view named rest logs)
-
-  pub at-Junction : (channels : Vec Path Global) → e ≡ Junction channels → steps_view named els logs ≡ junction (siblings_view named channels.items) (steps_view named rest logs)
-  at-Junction channels is = here (Junction channels) is ∙ view-Junction named channels (steps_view named rest logs)
-
-  pub at-If : (tests : Vec (Expr × Vec Element Global) Global) (other : Option (Vec Element Global)) → e ≡ If tests other
-      → steps_view named els logs ≡ choose (choice_view named tests.items other) (steps_view named rest logs)
-  at-If tests other is = here (If tests other) is ∙ view-If named tests other (steps_view named rest logs)
-
-pub at-Path : (named : List Expr) (ps more : List Path) (p : Path) → ps ≡ p ∷ more → siblings_view named ps ≡ sibling (marks p) (own_steps named p) (siblings_view named more)
-at-Path named ps more p h = ap (siblings_view named) h ∙ view-Path named p (siblings_view named more)
-
--- the elements that go on
-module _ (old new : List Offer) (whole : Walked) (steps rest : Steps) (m : Content) (f : Bool) (b : Behind old new whole (walk steps m f)) where
-  pub filter-on : (decision : Decision) → steps ≡ filter decision rest → decides decision m ≡ true → Behind old new whole (walk rest m f)
-  filter-on decision is on =
-      behind-at old new whole _ _ (ap (λ (s : Steps). walk s m f) is ∙ ap (λ (y : Bool). cond y (walk rest m f) stopped) on) b
-
-  pub rewrite-on : (rule : Rule) (m' : Content) → steps ≡ rewrite rule rest → m' ≡ rewritten_by rule m → Behind old new whole (walk rest m' f)
-  rewrite-on rule m' is e =
-      behind-at old new whole _ _ (ap (λ (s : Steps). walk s m f) is ∙ ap (λ (x : Content). walk rest x f) (sym e)) b
-
-  pub deliver-on : (drivers : List ℕ) (new' : List Offer) → steps ≡ deliver drivers rest → new' ≡ new ++ deliveries_to drivers m f → Behind old new' whole (walk rest m f)
-  deliver-on drivers new' is e =
-      behind-more old new new' (deliveries_to drivers m f) whole (walk rest m f) (behind-at old new whole _ _ (ap (λ (s : Steps). walk s m f) is) b) e
-
--- the rest behind what came out
-pub then-gives : (a b c : List Offer) (first gone : Gone) (w : Walked) (rest : Content → Walked)
-    → Gives a b first w → Gives b c gone (then_each (left [] first) rest) → Gives a c gone (then_each w rest)
-then-gives a b c first gone w rest g h =
-    let later = each rest first.out.items in
-    let same : later ≡ each rest w.out = ap (each rest) g.out in
-    record {
-      offers = h.offers ∙ ap (λ x. x ++ later.deliveries) g.offers ∙ append_assoc a w.deliveries later.deliveries ∙ ap (λ (x : Walked). a ++ (w.deliveries ++ x.deliveries)) same;
-      out = h.out ∙ ap (λ (x : Walked). x.out) same;
-      processed = h.processed ∙ ap (λ p. p && later.processed) g.processed ∙ ap (λ (x : Walked). w.processed && x.processed) same;
-    }
-
-pub rest-gives : {E : Type 0} (r : Result Gone E) (old a b c : List Offer) (first : Gone) (whole before w : Walked) (rest : Content → Walked)
-    → Behind old a whole before → before ≡ then_each w rest → Gives a b first w
-    → IfOk r (λ gone. Gives b c gone (then_each (left [] first) rest)) → IfOk r (λ gone. Gives old c gone whole)
-rest-gives r old a b c first whole before w rest behind is g =
-    IfOk-weaker r _ _ (λ gone h. behind-gives old a c gone whole (then_each w rest) (behind-at old a whole before (then_each w rest) is behind) (then-gives a b c first gone w rest g h))
-
-pub ok-at : {E : Type 0} (r : Result Gone E) (old old' new : List Offer) (w w' : Walked) → old ≡ old' → w ≡ w'
-    → IfOk r (λ gone. Gives old new gone w) → IfOk r (λ gone. Gives old' new gone w')
-ok-at r old old' new w w' eo ew h =
-    subst (λ (x : Walked). IfOk r (λ gone. Gives old' new gone x)) ew (subst (λ (x : List Offer). IfOk r (λ gone. Gives x new gone w)) eo h)
-
--- the siblings of a round
 pub same-turn : (late fallback : Bool) (mark : Marks) → mark.fallback ≡ fallback → beq fallback late ≡ is_in_round late mark
 same-turn true true mark e = sym e
 same-turn true false mark e = sym e
@@ -93,31 +12,3 @@ same-turn false false mark e = sym (ap (λ (x : Bool). cond x false true) e)
 
 pub in-round : (late : Bool) (mark : Marks) (b : Bool) → beq mark.fallback late ≡ b → is_in_round late mark ≡ b
 in-round late mark b e = sym (same-turn late mark.fallback mark refl) ∙ e
-
-module _ (named : List Expr) (ps more : List Path) (p : Path) (h : ps ≡ p ∷ more) (late : Bool) (m : Content) (f : Bool) where
-  abbrev pub mine : Walked
-  mine = counted (marks p) (walk (own_steps named p) m (f || (marks p).flow))
-
-  abbrev pub later : Walked
-  later = round (siblings_view named more) late m f
-
-  pub round-skips : is_in_round late (marks p) ≡ false → round (siblings_view named ps) late m f ≡ later
-  round-skips no-turn = ap (λ (s : Siblings). round s late m f) (at-Path named ps more p h) ∙ ap (λ (x : Bool). cond x (up_to_final (marks p).is_final mine later) later) no-turn
-
-  round-takes : is_in_round late (marks p) ≡ true → round (siblings_view named ps) late m f ≡ up_to_final (marks p).is_final mine later
-  round-takes turn = ap (λ (s : Siblings). round s late m f) (at-Path named ps more p h) ∙ ap (λ (x : Bool). cond x (up_to_final (marks p).is_final mine later) later) turn
-
-  pub round-ends : is_in_round late (marks p) ≡ true → (mine.processed && (marks p).is_final) ≡ true → round (siblings_view named ps) late m f ≡ mine
-  round-ends turn last = round-takes turn ∙ ap (λ (x : Bool). cond x mine (both mine later)) last
-
-  pub round-goes-on : is_in_round late (marks p) ≡ true → (mine.processed && (marks p).is_final) ≡ false → round (siblings_view named ps) late m f ≡ both mine later
-  round-goes-on turn last = round-takes turn ∙ ap (λ (x : Bool). cond x mine (both mine later)) last
-
-pub behind-size : (named : List Expr) (logs : List Path) → siblings_size (siblings_view named logs) < size (steps_view named [] logs)
-behind-size named [] = omega arith
-behind-size named (log ∷ logs) = omega arith
-
--- the same with these deliveries and this message
-pub moved : (old a a' : List Offer) (whole : Walked) (rest : Steps) (m m' : Content) (f : Bool) → a' ≡ a → m' ≡ m → Behind old a whole (walk rest m f) → Behind old a' whole (walk rest m' f)
-moved old a a' whole rest m m' f ea em b =
-    behind-at old a' whole (walk rest m f) (walk rest m' f) (ap (λ (x : Content). walk rest x f) (sym em)) (subst (λ (x : List Offer). Behind old x whole (walk rest m f)) (sym ea) b)

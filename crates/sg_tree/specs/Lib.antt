@@ -3,7 +3,6 @@ pub mod Sound
 pub mod Rules
 pub mod Walk
 pub mod Plain
-pub mod Gives
 pub mod Readings
 pub mod Offers
 pub mod Laws

@@ -1,6 +1,7 @@
 // The message of a record, as its inlet reads it.
 ghost use Rattle.std.specs.Prelude.{◌≡◌, ◌≤ℤ◌, pos, IfOk, OnOk};
 ghost use Rattle.sg_r3164.specs.declared.opts.ReadOpts.{ReadOpts as AReadOpts};
+ghost use Rattle.sg_tree.specs.Offers.{is_skipped};
 ghost use Rattle.sg_tree.specs.Readings.{inlet_of, IsReading, Reads5424, ReadsBy, with_tags};
 
 use crate::InletRule;
@@ -53,6 +54,13 @@ fn set_tags(message: &mut Message, tags: &[Name]) -> Result<(), AllocError>
         message.set_tag(tag.bytes())?;
     }
     Ok(())
+}
+
+/// Whether the record has no offers since it is empty.
+pub fn is_skipped(rule: &InletRule, item: &[u8]) -> bool
+    ensures { result ≡ is_skipped (inlet_of rule.now) item.now }
+{
+    item.is_empty() & !rule.empty_lines
 }
 
 /// The message of a record of an inlet, with the inlet's tags. One that isn't of RFC 5424's form, where

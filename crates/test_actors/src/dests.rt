@@ -1,17 +1,19 @@
 // A destination, turn by turn.
-ghost use Rattle.std.specs.Prelude.{◌≡◌, ◌<◌, IfOk, OnOk, length};
+ghost use Rattle.std.specs.Prelude.{◌≡◌, ◌<◌, IfOk, length};
+ghost use Rattle.sg_memory.specs.Outlet.{outlet_of};
 ghost use Rattle.sg_actor.specs.Outages.{HasFailures};
 
 use crate::small::{Small, message, note_turn};
 use sg_actor::{DestActor, GivenUp};
-use sg_device::Outlet;
+use sg_device::{NoMemory, Outlet};
 use sg_list::Seq;
 use sg_machine::{DestSetup, Setup};
 use sg_memory::{MemoryOutlet, OutletScript};
 use sg_memory_disk::Plan;
+use sg_msg::Message;
 use sg_outfmt::Shape;
 use sg_template::{Env, Template};
-use std::alloc::Global;
+use std::alloc::{AllocError, Global};
 use std::sync::Wait;
 use std::test::Fail;
 
@@ -34,6 +36,43 @@ too early for the second | a b | | 1 | | 0 1 | | ft1r+ fr~ ft1r+ f- | a b | -
 early and late failures | a b | 1 | 1 | | 0 2 | gives-up | ft1r+ fr+ fr~ ft1r+ f- | a b | -
 a failed store | a | | 0 | | | broken | f- - | | store";
 
+#[derive(Drop)]
+struct Row<'a> {
+    texts: &'a str,
+    fails: &'a str,
+    first: &'a str,
+    laters: &'a str,
+    waits: &'a str,
+    how: &'a str,
+    turns: &'a str,
+    taken: &'a str,
+    cause: &'a str,
+}
+
+fn cell(row: &str, place: usize) -> &str {
+    row.split('|').nth(place).unwrap_or("").trim()
+}
+
+fn read_row(row: &str) -> Row<'_> {
+    Row {
+        texts: cell(row, 1),
+        fails: cell(row, 2),
+        first: cell(row, 3),
+        laters: cell(row, 4),
+        waits: cell(row, 5),
+        how: cell(row, 6),
+        turns: cell(row, 7),
+        taken: cell(row, 8),
+        cause: cell(row, 9),
+    }
+}
+
+// Whether a row has its cells, and the words that say how the destination is are known.
+fn is_known(row: &str) -> bool {
+    let how = cell(row, 6);
+    row.split('|').count() == 10 && (how.is_empty() || how == "gives-up" || how == "broken")
+}
+
 fn numbers(alloc: Global, words: &str) -> Result<Vec<u64>, Fail> {
     let mut numbers = Vec::new(alloc);
     for word in words.split_whitespace() {
@@ -43,23 +82,47 @@ fn numbers(alloc: Global, words: &str) -> Result<Vec<u64>, Fail> {
     Ok(numbers)
 }
 
-fn core(alloc: Global, texts: &str, broken: bool) -> Result<Small, Fail>
-    ensures { IfOk result (λ core. length core.setup.dests ≡ 1) }
+fn outlet_script(alloc: Global, row: &Row<'_>) -> Result<OutletScript, Fail> {
+    let fails = numbers(alloc, row.fails)?;
+    let laters = numbers(alloc, row.laters)?;
+    let waits = numbers(alloc, row.waits)?;
+    Ok(OutletScript {
+        fails: Plan::new(fails),
+        first: row.first.parse()?,
+        laters: Plan::new(laters),
+        waits: Plan::new(waits),
+    })
+}
+
+fn messages(alloc: Global, texts: &str) -> Result<Vec<Message>, NoMemory> {
+    let mut messages = Vec::new(alloc);
+    for text in texts.split_whitespace() {
+        messages.push(message(alloc, text.as_bytes())?)?;
+    }
+    Ok(messages)
+}
+
+fn setup(alloc: Global) -> Result<Setup, NoMemory>
+    ensures { IfOk result (λ setup. length setup.dests ≡ 1) }
 {
     let mut dests = Seq::empty(alloc);
     dests.push(DestSetup {
         fifo: 100,
         buffer: None,
     })?;
-    let mut messages = Vec::new(alloc);
-    for text in texts.split_whitespace() {
-        messages.push(message(alloc, text.as_bytes())?)?;
-    }
+    Ok(Setup {
+        sources: Seq::empty(alloc),
+        dests,
+    })
+}
+
+fn core(alloc: Global, texts: &str, broken: bool) -> Result<Small, NoMemory>
+    ensures { IfOk result (λ core. length core.setup.dests ≡ 1) }
+{
+    let setup = setup(alloc)?;
+    let messages = messages(alloc, texts)?;
     Ok(Small {
-        setup: Setup {
-            sources: Seq::empty(alloc),
-            dests,
-        },
+        setup,
         window: 0,
         records: 0,
         end: 0,
@@ -72,20 +135,54 @@ fn core(alloc: Global, texts: &str, broken: bool) -> Result<Small, Fail>
     })
 }
 
+fn shape(alloc: Global) -> Result<Shape, NoMemory> {
+    match Template::read(alloc, b"$MSG ") {
+        Ok(template) => Ok(Shape::Text(template)),
+        Err(_) => Err(AllocError),
+    }
+}
+
+fn dest(
+    alloc: Global,
+    script: OutletScript,
+    gives_up: bool,
+) -> Result<DestActor<MemoryOutlet>, NoMemory>
+    ensures dest { IfOk result (λ actor. actor.spec.dest ≡ 0) }
+    ensures failures { IfOk result (λ actor. HasFailures actor.outage (outlet_of actor.outlet)) }
+{
+    let shape = shape(alloc)?;
+    let env = Env {
+        zone: None,
+        digits: 0,
+        iso: false,
+        old: None,
+    };
+    let outlet = MemoryOutlet::new(alloc, script);
+    match DestActor::new(alloc, outlet, shape, env, 0, gives_up) {
+        Ok(actor) => Ok(actor),
+        Err(_) => Err(AllocError),
+    }
+}
+
+// Whether there was memory for the turn.
 fn take_turn<T: Wait, O: Outlet>(
     rt: &T,
     alloc: Global,
     actor: &mut DestActor<O>,
     core: &mut Small,
-) -> Result<(), Fail>
+) -> bool
     requires dest { actor.old.spec.dest < length core.old.setup.dests }
     requires failures { HasFailures actor.old.outage (O.state actor.old.outlet) }
-    ensures dest { OnOk result (actor.new.spec.dest < length core.new.setup.dests) }
-    ensures failures { OnOk result (HasFailures actor.new.outage (O.state actor.new.outlet)) }
+    ensures dest { actor.new.spec.dest < length core.new.setup.dests }
+    ensures failures { HasFailures actor.new.outage (O.state actor.new.outlet) }
 {
-    let turned = actor.turn(rt, alloc, core)?;
-    note_turn(&mut core.log, turned);
-    Ok(())
+    match actor.turn(rt, alloc, core) {
+        Ok(turned) => {
+            note_turn(&mut core.log, turned);
+            true
+        }
+        Err(_) => false,
+    }
 }
 
 // As many turns as there are words.
@@ -95,24 +192,15 @@ fn take_turns<T: Wait, O: Outlet>(
     actor: &mut DestActor<O>,
     core: &mut Small,
     turns: &str,
-) -> Result<(), Fail>
+) -> bool
     requires dest { actor.old.spec.dest < length core.old.setup.dests }
     requires failures { HasFailures actor.old.outage (O.state actor.old.outlet) }
 {
+    let mut all = true;
     for _turn in turns.split(' ') {
-        take_turn(rt, alloc, actor, core)?;
+        all = take_turn(rt, alloc, actor, core) && all;
     }
-    Ok(())
-}
-
-// Whether each of these words says how the destination is.
-fn are_known(how: &str) -> bool {
-    for word in how.split_whitespace() {
-        if word != "gives-up" && word != "broken" {
-            return false;
-        }
-    }
-    true
+    all
 }
 
 fn is_cause(given_up: Option<GivenUp>, word: &str) -> bool {
@@ -123,64 +211,44 @@ fn is_cause(given_up: Option<GivenUp>, word: &str) -> bool {
     }
 }
 
-// Whether the turns are those of the row.
-fn shows<T: Wait>(rt: &T, alloc: Global, row: &str) -> Result<bool, Fail> {
-    if row.split('|').count() != 10 {
-        return Ok(false);
-    }
-    let mut cells = row.split('|');
-    let _shown = cells.next();
-    let texts = cells.next().unwrap_or("");
-    let fails = Plan::new(numbers(alloc, cells.next().unwrap_or(""))?);
-    let first = cells.next().unwrap_or("").trim().parse()?;
-    let laters = Plan::new(numbers(alloc, cells.next().unwrap_or(""))?);
-    let waits = Plan::new(numbers(alloc, cells.next().unwrap_or(""))?);
-    let how = cells.next().unwrap_or("");
-    let turns = cells.next().unwrap_or("").trim();
-    let taken = cells.next().unwrap_or("").trim();
-    let cause = cells.next().unwrap_or("").trim();
-    if !are_known(how) {
-        return Ok(false);
-    }
-    let mut core = core(alloc, texts, how.contains("broken"))?;
-    let outlet = MemoryOutlet::new(
-        alloc,
-        OutletScript {
-            fails,
-            first,
-            laters,
-            waits,
-        },
-    );
-    let Ok(template) = Template::read(alloc, b"$MSG ") else {
-        return Ok(false);
-    };
-    let env = Env {
-        zone: None,
-        digits: 0,
-        iso: false,
-        old: None,
-    };
-    let shape = Shape::Text(template);
-    let Ok(mut actor) = DestActor::new(alloc, outlet, shape, env, 0, how.contains("gives-up"))
-    else {
-        return Ok(false);
-    };
-    let result = take_turns(rt, alloc, &mut actor, &mut core, turns);
+// Whether these are the turns of the row, and the texts that were taken.
+fn took(core: &Small, outlet: &MemoryOutlet, row: &Row<'_>) -> bool {
+    core.log.trim_ascii() == row.turns.as_bytes()
+        && outlet.frames().bytes().trim_ascii() == row.taken.as_bytes()
+}
+
+// Whether the destination's turns are those of the row.
+fn goes<T: Wait>(
+    rt: &T,
+    alloc: Global,
+    actor: DestActor<MemoryOutlet>,
+    core: &mut Small,
+    row: &Row<'_>,
+) -> bool
+    requires dest { actor.spec.dest < length core.old.setup.dests }
+    requires failures { HasFailures actor.outage (outlet_of actor.outlet) }
+{
+    let mut actor = actor;
+    let done = take_turns(rt, alloc, &mut actor, core, row.turns);
     let given_up = actor.given_up();
     let outlet = actor.into_outlet();
-    result?;
-    let same = core.log.trim_ascii() == turns.as_bytes();
-    Ok(
-        same && outlet.frames().bytes().trim_ascii() == taken.as_bytes()
-            && is_cause(given_up, cause),
-    )
+    done && took(core, &outlet, row) && is_cause(given_up, row.cause)
+}
+
+fn shows<T: Wait>(rt: &T, alloc: Global, row: &Row<'_>) -> Result<bool, Fail> {
+    let script = outlet_script(alloc, row)?;
+    let mut core = core(alloc, row.texts, row.how == "broken")?;
+    let actor = dest(alloc, script, row.how == "gives-up")?;
+    Ok(goes(rt, alloc, actor, &mut core, row))
 }
 
 #[test]
 fn destinations_take_turns(rt: HostRuntime) -> Result<(), Fail> {
     for row in ROWS.lines() {
-        assert!(rt; shows(&rt, rt.alloc(), row)?, "{row}");
+        assert!(rt;
+            is_known(row) && shows(&rt, rt.alloc(), &read_row(row))?,
+            "{row}"
+        );
     }
     Ok(())
 }

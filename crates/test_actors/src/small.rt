@@ -1,5 +1,5 @@
 // A small core, and a router that gives each record to one destination.
-ghost use Rattle.std.specs.Prelude.{◌≡◌, codes, IfOk, Some};
+ghost use Rattle.std.specs.Prelude.{◌≡◌, ◌≤◌, ◌+◌, codes, IfOk, Some};
 ghost use Rattle.sg_msg.specs.Message.{value_of};
 
 use bytes::Bytes;
@@ -132,6 +132,7 @@ impl<O: Outlet> Settler<O> for Small {
     fn settle<T: Wait>(&mut self, _rt: &T, _d: u32, place: u64, n: u32, _taken: Taken<O>) -> Settled
         ensures step { Unit {0} }
         ensures setup { self.new.setup ≡ self.old.setup }
+        ensures left { 4 ≤ 4 + 1 }
     {
         note(&mut self.log, &[b't', digit(u64::from(n))]);
         if place != self.settled || self.messages.len() < n as usize {

@@ -1,5 +1,5 @@
 // A source, turn by turn.
-ghost use Rattle.std.specs.Prelude.{◌≡◌, ◌<◌, IfOk, OnOk, is_some, length};
+ghost use Rattle.std.specs.Prelude.{◌≡◌, ◌<◌, ◌≤◌, IfOk, IfSome, is_some, length};
 ghost use Rattle.sg_device.specs.Inlet.{IsFresh};
 ghost use Rattle.sg_memory.specs.Inlet.{inlet_of};
 ghost use Rattle.sg_counter.specs.Bringing.{store_in};
@@ -8,14 +8,14 @@ ghost use Rattle.sg_actor.specs.SourceTurns.{FitsSource};
 
 use crate::small::{Plain, Small, note_turn};
 use sg_actor::{SourceActor, SourceSpec};
-use sg_device::Inlet;
+use sg_device::{Inlet, NoMemory};
 use sg_frame::FrameKind;
 use sg_list::Seq;
 use sg_machine::{DestSetup, Setup, SourceSetup};
 use sg_memory::{MemoryInlet, MemoryPart, Pace};
 use sg_memory_disk::Plan;
 use sg_route::Router;
-use std::alloc::Global;
+use std::alloc::{AllocError, Global};
 use std::collections::VecDeque;
 use std::sync::Wait;
 use std::test::Fail;
@@ -42,32 +42,62 @@ a bad count behind the last that is taken | slot counted ends | 1 | 100 | 1 ax |
 a bad count alone | slot counted idle | 100 | 100 | x/1 a | c+ c+ c+ ca1@0+ c+~ c~ | 1
 a part of bad counts | slot counted idle | 100 | 100 | x/y | c+ c+ c+ c+ c~ c~ | 2";
 
-fn number(word: &str) -> Result<u64, Fail> {
-    Ok(word.trim().parse()?)
+// The kinds of inlets, and what fails.
+const KINDS: &str = "\
+file lines ends
+file lines ends refused
+file lines ends broken
+file lines ends fails
+file lines idle
+slot lines idle
+slot counted ends
+slot counted idle";
+
+#[derive(Drop)]
+struct Row<'a> {
+    how: &'a str,
+    fetch: &'a str,
+    window: &'a str,
+    text: &'a str,
+    turns: &'a str,
+    bad: &'a str,
 }
 
-// Whether these words say of what kind the inlet is, how it is cut into records, how it ends, and what
-// fails.
-fn are_known(how: &str) -> bool {
-    let mut words = how.split_whitespace();
-    let kind = words.next().unwrap_or("");
-    let cut = words.next().unwrap_or("");
-    let end = words.next().unwrap_or("");
-    if !(kind == "file" || kind == "slot")
-        || !(cut == "lines" || cut == "counted")
-        || !(end == "ends" || end == "idle")
-    {
-        return false;
+fn cell(row: &str, place: usize) -> &str {
+    row.split('|').nth(place).unwrap_or("").trim()
+}
+
+fn read_row(row: &str) -> Row<'_> {
+    Row {
+        how: cell(row, 1),
+        fetch: cell(row, 2),
+        window: cell(row, 3),
+        text: cell(row, 4),
+        turns: cell(row, 5),
+        bad: cell(row, 6),
     }
-    match words.next() {
-        None => true,
-        Some(word) => {
-            words.next().is_none() && (word == "refused" || word == "broken" || word == "fails")
+}
+
+// Whether a row has its cells, and its kind is one of those above.
+fn is_known(row: &str) -> bool {
+    let how = cell(row, 1);
+    for kind in KINDS.lines() {
+        if kind == how {
+            return row.split('|').count() == 7;
         }
     }
+    false
 }
 
-fn bytes_of(alloc: Global, text: &str) -> Result<Vec<u8>, Fail> {
+// Whether the word is this number.
+fn is_number(word: &str, number: u64) -> bool {
+    match word.parse::<u64>() {
+        Ok(read) => read == number,
+        Err(_) => false,
+    }
+}
+
+fn bytes_of(alloc: Global, text: &str) -> Result<Vec<u8>, NoMemory> {
     let mut bytes = Vec::new(alloc);
     for byte in text.as_bytes() {
         bytes.push(if *byte == b'$' { b'\n' } else { *byte })?;
@@ -75,28 +105,41 @@ fn bytes_of(alloc: Global, text: &str) -> Result<Vec<u8>, Fail> {
     Ok(bytes)
 }
 
-fn inlet(alloc: Global, how: &str, text: &str) -> Result<MemoryInlet, Fail>
+fn parts(alloc: Global, text: &str) -> Result<VecDeque<MemoryPart>, NoMemory> {
+    let mut parts = VecDeque::new(alloc);
+    for part in text.split('/') {
+        let bytes = bytes_of(alloc, part)?;
+        parts.push_back(MemoryPart::new(alloc, b"1.2.3.4", bytes)?)?;
+    }
+    Ok(parts)
+}
+
+// The pulls that fail.
+fn pulls(alloc: Global, fails: bool) -> Result<Plan, NoMemory> {
+    let mut pulls = Vec::new(alloc);
+    if fails {
+        pulls.push(0)?;
+    }
+    Ok(Plan::new(pulls))
+}
+
+fn inlet(alloc: Global, how: &str, text: &str) -> Result<MemoryInlet, NoMemory>
     ensures fresh { IfOk result (λ inlet. IsFresh (inlet_of inlet)) }
     ensures from { IfOk result (λ inlet. (inlet_of inlet).from ≡ 0) }
 {
     let pace = Pace { piece: 64, at: 0 };
-    let mut fails = Vec::new(alloc);
-    if how.contains("fails") {
-        fails.push(0)?;
-    }
-    let plan = Plan::new(fails);
+    let plan = pulls(alloc, how.contains("fails"))?;
     let once = how.contains("ends");
     if how.contains("file") {
-        return Ok(MemoryInlet::file(alloc, bytes_of(alloc, text)?, 0, pace, once, plan)?);
+        let bytes = bytes_of(alloc, text)?;
+        MemoryInlet::file(alloc, bytes, 0, pace, once, plan)
+    } else {
+        let parts = parts(alloc, text)?;
+        MemoryInlet::slot(alloc, parts, pace, once, plan)
     }
-    let mut parts = VecDeque::new(alloc);
-    for part in text.split('/') {
-        parts.push_back(MemoryPart::new(alloc, b"1.2.3.4", bytes_of(alloc, part)?)?)?;
-    }
-    Ok(MemoryInlet::slot(alloc, parts, pace, once, plan)?)
 }
 
-fn setup(alloc: Global, stored: bool) -> Result<Setup, Fail>
+fn setup(alloc: Global, stored: bool) -> Result<Setup, NoMemory>
     ensures sources { IfOk result (λ setup. length setup.sources ≡ 1) }
     ensures dests { IfOk result (λ setup. length setup.dests ≡ 1) }
     ensures store { IfOk result (λ setup. is_some (store_in setup.sources 0) ≡ stored) }
@@ -114,43 +157,98 @@ fn setup(alloc: Global, stored: bool) -> Result<Setup, Fail>
     Ok(Setup { sources, dests })
 }
 
-fn core(alloc: Global, how: &str, window: u64, stored: bool) -> Result<Small, Fail>
+fn core(alloc: Global, row: &Row<'_>, stored: bool) -> Result<Small, Fail>
     ensures sources { IfOk result (λ core. length core.setup.sources ≡ 1) }
     ensures dests { IfOk result (λ core. length core.setup.dests ≡ 1) }
     ensures store { IfOk result (λ core. is_some (store_in core.setup.sources 0) ≡ stored) }
 {
+    let setup = setup(alloc, stored)?;
     Ok(Small {
-        setup: setup(alloc, stored)?,
-        window,
+        setup,
+        window: row.window.parse()?,
         records: 0,
         end: 0,
         stored: 0,
-        broken: how.contains("broken"),
-        refuses: how.contains("refused"),
+        broken: row.how.contains("broken"),
+        refuses: row.how.contains("refused"),
         messages: Vec::new(alloc),
         settled: 0,
         log: Vec::new(alloc),
     })
 }
 
+fn fetch_of(word: &str) -> Option<u32>
+    ensures some { IfSome result (λ fetch. 0 < fetch) }
+    ensures most { IfSome result (λ fetch. fetch ≤ 1000) }
+{
+    match word.parse::<u32>() {
+        Ok(fetch) if fetch > 0 && fetch <= 1000 => Some(fetch),
+        _ => None,
+    }
+}
+
+fn kind(how: &str) -> FrameKind {
+    if how.contains("counted") {
+        FrameKind::Counted
+    } else {
+        FrameKind::Lines
+    }
+}
+
+fn source(
+    alloc: Global,
+    row: &Row<'_>,
+    fetch: u32,
+    stored: bool,
+    core: &Small,
+) -> Result<SourceActor<Plain, MemoryInlet>, NoMemory>
+    requires some { 0 < fetch }
+    requires most { fetch ≤ 1000 }
+    requires sources { length core.now.setup.sources ≡ 1 }
+    requires dests { length core.now.setup.dests ≡ 1 }
+    requires store { is_some (store_in core.now.setup.sources 0) ≡ stored }
+    ensures fits { IfOk result (λ actor. FitsSource core.now.setup actor.spec 1 1) }
+    ensures ready { IfOk result (λ actor. IsReady 1 actor.spec
+        (source (inlet_of actor.inlet) actor.reader actor.buffer.items)) }
+{
+    let spec = SourceSpec {
+        inlet: 0,
+        kind: kind(row.how),
+        limit: 100,
+        fetch,
+        from: 0,
+        stored,
+    };
+    let inlet = inlet(alloc, row.how, row.text)?;
+    match SourceActor::new(alloc, inlet, Plain { routed: 0 }, spec) {
+        Ok(actor) => Ok(actor),
+        Err(_) => Err(AllocError),
+    }
+}
+
+// Whether there was memory for the turn.
 fn take_turn<T: Wait, R: Router, I: Inlet>(
     rt: &T,
     alloc: Global,
     actor: &mut SourceActor<R, I>,
     core: &mut Small,
-) -> Result<(), Fail>
+) -> bool
     requires fits { FitsSource core.old.setup actor.old.spec (R.inlets actor.old.router)
         (R.dests actor.old.router) }
     requires ready { IsReady (R.dests actor.old.router) actor.old.spec
         (source (I.state actor.old.inlet) actor.old.reader actor.old.buffer.items) }
-    ensures fits { OnOk result (FitsSource core.new.setup actor.new.spec
-        (R.inlets actor.new.router) (R.dests actor.new.router)) }
-    ensures ready { OnOk result (IsReady (R.dests actor.new.router) actor.new.spec
-        (source (I.state actor.new.inlet) actor.new.reader actor.new.buffer.items)) }
+    ensures fits { FitsSource core.new.setup actor.new.spec (R.inlets actor.new.router)
+        (R.dests actor.new.router) }
+    ensures ready { IsReady (R.dests actor.new.router) actor.new.spec
+        (source (I.state actor.new.inlet) actor.new.reader actor.new.buffer.items) }
 {
-    let turned = actor.turn(rt, alloc, core)?;
-    note_turn(&mut core.log, turned);
-    Ok(())
+    match actor.turn(rt, alloc, core) {
+        Ok(turned) => {
+            note_turn(&mut core.log, turned);
+            true
+        }
+        Err(_) => false,
+    }
 }
 
 // As many turns as there are words.
@@ -160,63 +258,58 @@ fn take_turns<T: Wait, R: Router, I: Inlet>(
     actor: &mut SourceActor<R, I>,
     core: &mut Small,
     turns: &str,
-) -> Result<(), Fail>
+) -> bool
     requires fits { FitsSource core.old.setup actor.old.spec (R.inlets actor.old.router)
         (R.dests actor.old.router) }
     requires ready { IsReady (R.dests actor.old.router) actor.old.spec
         (source (I.state actor.old.inlet) actor.old.reader actor.old.buffer.items) }
 {
+    let mut all = true;
     for _turn in turns.split(' ') {
-        take_turn(rt, alloc, actor, core)?;
+        all = take_turn(rt, alloc, actor, core) && all;
     }
-    Ok(())
+    all
 }
 
-// Whether the turns are those of the row.
-fn shows<T: Wait>(rt: &T, alloc: Global, row: &str) -> Result<bool, Fail> {
-    if row.split('|').count() != 7 {
-        return Ok(false);
-    }
-    let mut cells = row.split('|');
-    let _shown = cells.next();
-    let how = cells.next().unwrap_or("");
-    let fetch = number(cells.next().unwrap_or(""))?;
-    let window = number(cells.next().unwrap_or(""))?;
-    let text = cells.next().unwrap_or("").trim();
-    let turns = cells.next().unwrap_or("").trim();
-    let bad = number(cells.next().unwrap_or(""))?;
-    if !are_known(how) || fetch == 0 || fetch > 1000 {
-        return Ok(false);
-    }
-    let stored = how.contains("file");
-    let spec = SourceSpec {
-        inlet: 0,
-        kind: if how.contains("counted") {
-            FrameKind::Counted
-        } else {
-            FrameKind::Lines
-        },
-        limit: 100,
-        fetch: fetch.clamp(1, 1000) as u32,
-        from: 0,
-        stored,
-    };
-    let mut core = core(alloc, how, window, stored)?;
-    let inlet = inlet(alloc, how, text)?;
-    let Ok(mut actor) = SourceActor::new(alloc, inlet, Plain { routed: 0 }, spec) else {
-        return Ok(false);
-    };
-    let taken = take_turns(rt, alloc, &mut actor, &mut core, turns);
-    let same = actor.bad_frames() == bad && actor.failed() == how.contains("fails");
+// Whether the source's turns are those of the row.
+fn goes<T: Wait>(
+    rt: &T,
+    alloc: Global,
+    actor: SourceActor<Plain, MemoryInlet>,
+    core: &mut Small,
+    row: &Row<'_>,
+) -> bool
+    requires fits { FitsSource core.old.setup actor.spec 1 1 }
+    requires ready { IsReady 1 actor.spec
+        (source (inlet_of actor.inlet) actor.reader actor.buffer.items) }
+{
+    let mut actor = actor;
+    let done = take_turns(rt, alloc, &mut actor, core, row.turns);
+    let bad = actor.bad_frames();
+    let failed = actor.failed();
     let _inlet = actor.into_inlet();
-    taken?;
-    Ok(same && core.log.trim_ascii() == turns.as_bytes())
+    done && is_number(row.bad, bad)
+        && failed == row.how.contains("fails")
+        && core.log.trim_ascii() == row.turns.as_bytes()
+}
+
+fn shows<T: Wait>(rt: &T, alloc: Global, row: &Row<'_>) -> Result<bool, Fail> {
+    let Some(fetch) = fetch_of(row.fetch) else {
+        return Ok(false);
+    };
+    let stored = row.how.contains("file");
+    let mut core = core(alloc, row, stored)?;
+    let actor = source(alloc, row, fetch, stored, &core)?;
+    Ok(goes(rt, alloc, actor, &mut core, row))
 }
 
 #[test]
 fn sources_take_turns(rt: HostRuntime) -> Result<(), Fail> {
     for row in ROWS.lines() {
-        assert!(rt; shows(&rt, rt.alloc(), row)?, "{row}");
+        assert!(rt;
+            is_known(row) && shows(&rt, rt.alloc(), &read_row(row))?,
+            "{row}"
+        );
     }
     Ok(())
 }

@@ -5,3 +5,5 @@
 mod expand;
 #[cfg(test)]
 mod lex;
+#[cfg(test)]
+mod texts;

@@ -5,7 +5,6 @@ ghost use Rattle.sg_driver.specs.Defaults.{AreDefaults};
 mod names;
 mod objects;
 
-use sg_run_plan::{InletPlan, OutletPlan};
 use crate::text::{put_fault, put_flag, put_name, put_named, put_number};
 use names::Named;
 use objects::{Statements, defaults_of, read_statements, templates_of};
@@ -20,6 +19,7 @@ use sg_outfmt::frame;
 use sg_outside::{InletSpec, OutletSpec};
 use sg_parse_expr::Call;
 use sg_parse_obj::Object;
+use sg_run_plan::{InletPlan, OutletPlan};
 use sg_source::{SourceDriver, inlet_count, read_source, source_fault};
 use sg_time::Stamp;
 use std::alloc::Global;
@@ -54,11 +54,14 @@ fn put_tags(out: &mut Vec<u8>, tags: &[Name]) -> Result<(), NoMemory> {
     Ok(())
 }
 
+fn put_zone(alloc: Global, out: &mut Vec<u8>, zone: i16) -> Result<(), NoMemory> {
+    out.extend_from_slice(format!(in alloc; " zone {zone}")?.as_bytes())
+}
+
 // How the records of a source are read.
 fn put_reading(alloc: Global, out: &mut Vec<u8>, source: &SourceDriver) -> Result<(), NoMemory> {
-    let pri = source.opts.pri;
-    let zone = source.opts.zone;
-    out.extend_from_slice(format!(in alloc; " pri {pri} zone {zone}")?.as_bytes())?;
+    put_number(alloc, out, b" pri ", u64::from(source.opts.pri))?;
+    put_zone(alloc, out, source.opts.zone)?;
     put_flag(out, source.opts.keep_hostname, b" host")?;
     put_flag(out, source.opts.keep_timestamp, b" stamp")?;
     put_flag(out, source.opts.parse, b" parsed")?;
@@ -88,13 +91,24 @@ fn put_last(alloc: Global, out: &mut Vec<u8>, source: &SourceDriver) -> Result<(
     put_plan(alloc, out, &plan)
 }
 
-// The last of its inlets, and how they are read.
-fn put_source(alloc: Global, out: &mut Vec<u8>, source: &SourceDriver) -> Result<(), NoMemory> {
+fn put_store(alloc: Global, out: &mut Vec<u8>, source: &SourceDriver) -> Result<(), NoMemory> {
+    out.extend_from_slice(b" store ")?;
+    let store = source.store(alloc)?;
+    put_name(out, store.as_ref())
+}
+
+// The last of its inlets, how they are read, and how many they are.
+fn put_source(
+    alloc: Global,
+    out: &mut Vec<u8>,
+    source: &SourceDriver,
+    inlets: u32,
+) -> Result<(), NoMemory> {
     put_last(alloc, out, source)?;
     put_number(alloc, out, b" ", u64::from(source.window))?;
-    out.extend_from_slice(b" store ")?;
-    put_name(out, source.store(alloc)?.as_ref())?;
-    put_reading(alloc, out, source)
+    put_store(alloc, out, source)?;
+    put_reading(alloc, out, source)?;
+    put_number(alloc, out, b" inlets ", u64::from(inlets))
 }
 
 fn source_text(
@@ -109,8 +123,7 @@ fn source_text(
         return put_fault(alloc, out, fault_at(fault));
     }
     let source = read_source(alloc, call, defaults)?;
-    put_source(alloc, out, &source)?;
-    put_number(alloc, out, b" inlets ", u64::from(inlet_count(call)))
+    put_source(alloc, out, &source, inlet_count(call))
 }
 
 fn put_outlet(alloc: Global, out: &mut Vec<u8>, spec: &OutletSpec) -> Result<(), NoMemory> {
@@ -242,14 +255,29 @@ fn put_objects(alloc: Global, out: &mut Vec<u8>, objects: &[Object]) -> Result<(
     Ok(())
 }
 
+fn put_statements(
+    alloc: Global,
+    out: &mut Vec<u8>,
+    statements: &Statements,
+) -> Result<(), NoMemory> {
+    match statements {
+        Statements::Found(objects) => put_objects(alloc, out, objects),
+        Statements::Bad(fault) => put_fault(alloc, out, *fault),
+    }
+}
+
+fn put_read(alloc: Global, out: &mut Vec<u8>, tokens: &[Token]) -> Result<(), NoMemory>
+    requires { length tokens.now < 2 ^ 32 }
+{
+    let read = read_statements(alloc, tokens)?;
+    put_statements(alloc, out, &read)
+}
+
 /// What the drivers of these tokens come to.
 pub(crate) fn answer(alloc: Global, tokens: &[Token]) -> io::Result<Vec<u8>>
     requires { length tokens.now < 2 ^ 32 }
 {
     let mut out = Vec::new(alloc);
-    match read_statements(alloc, tokens)? {
-        Statements::Found(objects) => put_objects(alloc, &mut out, &objects)?,
-        Statements::Bad(fault) => put_fault(alloc, &mut out, fault)?,
-    }
+    put_read(alloc, &mut out, tokens)?;
     Ok(out)
 }

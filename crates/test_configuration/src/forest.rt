@@ -6,10 +6,10 @@ mod say;
 
 use crate::text::copied;
 use ends::ends_of;
-use sg_plan::Endpoints;
 use sg_forest::forest_of;
 use sg_names::{Names, names_of};
 use sg_parse_text::Statement;
+use sg_plan::Endpoints;
 use sg_tree::Forest;
 use std::alloc::Global;
 use std::io;

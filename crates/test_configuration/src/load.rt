@@ -6,16 +6,21 @@ mod plans;
 
 use crate::text::{copied, fault};
 use sg_config::{Config, LoadRefusal, load};
+use sg_device::NoMemory;
 use sg_lex::Token;
 use std::alloc::Global;
 use std::io;
 
+fn say(alloc: Global, out: &mut Vec<u8>, config: &Config) -> Result<(), NoMemory> {
+    plans::say_inlets(alloc, out, config)?;
+    plans::say_outlets(alloc, out, config)?;
+    plans::say_stores(out, config)?;
+    paths::say_forest(alloc, out, &config.forest)
+}
+
 fn config(alloc: Global, config: &Config) -> io::Result<Vec<u8>> {
     let mut out = copied(alloc, b"ok")?;
-    plans::say_inlets(alloc, &mut out, config)?;
-    plans::say_outlets(alloc, &mut out, config)?;
-    plans::say_stores(&mut out, config)?;
-    paths::say_forest(alloc, &mut out, &config.forest)?;
+    say(alloc, &mut out, config)?;
     Ok(out)
 }
 
@@ -23,9 +28,10 @@ fn config(alloc: Global, config: &Config) -> io::Result<Vec<u8>> {
 pub(crate) fn answer(alloc: Global, tokens: &[Token]) -> io::Result<Vec<u8>>
     requires { length tokens.now < 2 ^ 32 }
 {
-    match load(alloc, tokens) {
-        Ok(found) => config(alloc, &found),
-        Err(LoadRefusal::Bad(found)) => fault(alloc, &found),
+    let loaded = load(alloc, tokens);
+    match &loaded {
+        Ok(found) => config(alloc, found),
+        Err(LoadRefusal::Bad(found)) => fault(alloc, found),
         Err(LoadRefusal::NoMemory) => copied(alloc, b"no memory"),
     }
 }

@@ -27,7 +27,7 @@ mod resolve;
 mod rows;
 mod text;
 
-use rows::{Area, read_row};
+use rows::{Area, Row, read_row};
 use sg_lex::{TEXT_LIMIT, Token, tokens};
 use sg_parse_text::{Statement, statements};
 use std::alloc::Global;
@@ -48,7 +48,8 @@ fn of_statements(alloc: Global, area: Area, all: &[Statement]) -> io::Result<Vec
 fn of_text(alloc: Global, area: Area, tokens: &[Token]) -> io::Result<Vec<u8>>
     requires { length tokens.now < 2 ^ 32 }
 {
-    match statements(alloc, tokens) {
+    let read = statements(alloc, tokens);
+    match &read {
         Ok(found) => of_statements(alloc, area, found.as_slice()),
         Err(_) => copied(alloc, b"no configuration"),
     }
@@ -67,17 +68,23 @@ fn of_tokens(alloc: Global, area: Area, is_long: bool, tokens: &[Token]) -> io::
     }
 }
 
-// What a line of standard input comes to.
-fn answer(alloc: Global, line: &str) -> io::Result<Vec<u8>> {
-    let Some(row) = read_row(alloc, line)? else {
-        return copied(alloc, b"not understood");
-    };
+fn of_row(alloc: Global, row: &Row) -> io::Result<Vec<u8>> {
     if row.text.len() > TEXT_LIMIT {
         return copied(alloc, b"too long");
     }
-    match tokens(alloc, 0, &row.text) {
-        Ok(found) => of_tokens(alloc, row.area, row.is_long, &found),
+    let read = tokens(alloc, 0, &row.text);
+    match &read {
+        Ok(found) => of_tokens(alloc, row.area, row.is_long, found),
         Err(_) => copied(alloc, b"no tokens"),
+    }
+}
+
+// What a line of standard input comes to.
+fn answer(alloc: Global, line: &str) -> io::Result<Vec<u8>> {
+    let read = read_row(alloc, line)?;
+    match &read {
+        Some(row) => of_row(alloc, row),
+        None => copied(alloc, b"not understood"),
     }
 }
 

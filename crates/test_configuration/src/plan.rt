@@ -2,16 +2,15 @@
 ghost use Rattle.std.specs.Prelude.{◌<◌, ◌^◌, length, None};
 ghost use Rattle.sg_resolve.specs.First.{IsFirstFault};
 
-use sg_run_plan::InletPlan;
 use crate::text::{put_fault, put_number};
 use sg_device::NoMemory;
-use sg_plan::Owner;
 use sg_fault::fault_at;
 use sg_machine::{DestSetup, SourceSetup};
 use sg_outside::{InletSpec, OutletSpec};
 use sg_parse_text::Statement;
-use sg_plan::{Plan, plan_of};
+use sg_plan::{Owner, Plan, plan_of};
 use sg_resolve::first_fault;
+use sg_run_plan::InletPlan;
 use std::alloc::Global;
 use std::io;
 
@@ -129,33 +128,29 @@ fn put_stores(out: &mut Vec<u8>, plan: &Plan) -> Result<(), NoMemory> {
     Ok(())
 }
 
-fn plan_text(alloc: Global, plan: &Plan) -> Result<Vec<u8>, NoMemory> {
-    let mut out = Vec::new(alloc);
-    put_inlets(alloc, &mut out, plan)?;
+fn put_whole(alloc: Global, out: &mut Vec<u8>, plan: &Plan) -> Result<(), NoMemory> {
+    put_inlets(alloc, out, plan)?;
     out.extend_from_slice(b"| ")?;
-    put_outlets(alloc, &mut out, plan)?;
+    put_outlets(alloc, out, plan)?;
     out.extend_from_slice(b"| ")?;
-    put_stores(&mut out, plan)?;
-    Ok(out)
+    put_stores(out, plan)
 }
 
-fn planned(alloc: Global, statements: &[Statement]) -> Result<Vec<u8>, NoMemory>
+fn put_planned(alloc: Global, out: &mut Vec<u8>, statements: &[Statement]) -> Result<(), NoMemory>
     requires { IsFirstFault statements.now None }
 {
     let plan = plan_of(alloc, statements)?;
-    plan_text(alloc, &plan)
+    put_whole(alloc, out, &plan)
 }
 
 /// The plan of these statements, or the number and the line of what is wrong with them.
 pub(crate) fn answer(alloc: Global, statements: &[Statement]) -> io::Result<Vec<u8>>
     requires { length statements.now < 2 ^ 32 }
 {
+    let mut out = Vec::new(alloc);
     match first_fault(alloc, statements)? {
-        Some(fault) => {
-            let mut out = Vec::new(alloc);
-            put_fault(alloc, &mut out, fault_at(fault))?;
-            Ok(out)
-        }
-        None => Ok(planned(alloc, statements)?),
+        Some(fault) => put_fault(alloc, &mut out, fault_at(fault))?,
+        None => put_planned(alloc, &mut out, statements)?,
     }
+    Ok(out)
 }

@@ -1,7 +1,8 @@
 // What is wrong with a configuration.
 ghost use Rattle.std.specs.Prelude.{◌<◌, ◌^◌, length};
 
-use crate::text::{copied, fault};
+use crate::text::{copied, fault, put_number};
+use sg_device::NoMemory;
 use sg_fault::fault_at;
 use sg_lex::Token;
 use sg_names::{Names, names_of};
@@ -11,15 +12,21 @@ use sg_resolve::first_fault;
 use std::alloc::Global;
 use std::io;
 
+fn put_counts(alloc: Global, out: &mut Vec<u8>, names: &Names) -> Result<(), NoMemory> {
+    put_number(alloc, out, b"ok ", u64::from(names.sources.count))?;
+    put_number(alloc, out, b" ", u64::from(names.destinations.count))?;
+    put_number(alloc, out, b" ", u64::from(names.filters.count))?;
+    put_number(alloc, out, b" ", u64::from(names.rewrites.count))?;
+    put_number(alloc, out, b" ", u64::from(names.templates.count))
+}
+
 // How many statements of each kind there are.
-fn counted(alloc: Global, names: &Names) -> io::Result<Vec<u8>> {
-    let ends = format!(in alloc; "ok {} {}", names.sources.count, names.destinations.count)?;
-    let ways = format!(in alloc;
-        " {} {} {}",
-        names.filters.count, names.rewrites.count, names.templates.count
-    )?;
-    let mut out = Vec::from_slice(alloc, ends.as_bytes())?;
-    out.extend_from_slice(ways.as_bytes())?;
+fn counted(alloc: Global, statements: &[Statement]) -> io::Result<Vec<u8>>
+    requires { length statements.now < 2 ^ 32 }
+{
+    let mut out = Vec::new(alloc);
+    let (names, _) = names_of(alloc, statements)?;
+    put_counts(alloc, &mut out, &names)?;
     Ok(out)
 }
 
@@ -30,8 +37,7 @@ fn checked(alloc: Global, statements: &[Statement]) -> io::Result<Vec<u8>> {
     if let Some(found) = first_fault(alloc, statements)? {
         return fault(alloc, &fault_at(found));
     }
-    let (names, _) = names_of(alloc, statements)?;
-    counted(alloc, &names)
+    counted(alloc, statements)
 }
 
 /// What is wrong with these tokens, or how many statements they have.

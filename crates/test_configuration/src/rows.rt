@@ -1,6 +1,6 @@
 // The rows of standard input.
 
-use crate::text::put_number;
+use crate::text::{copied, put_number};
 use std::alloc::Global;
 use std::io;
 
@@ -67,21 +67,30 @@ fn put_piece(alloc: Global, out: &mut Vec<u8>, piece: &[u8], number: u32) -> io:
     Ok(())
 }
 
-// A text of so many pieces; none where its parts aren't there.
-fn long(alloc: Global, count: u32, parts: &str) -> io::Result<Option<Vec<u8>>> {
-    let mut out = Vec::new(alloc);
+// The head, the piece and the tail of a text of many pieces.
+fn parts_of(parts: &str) -> Option<(&str, &str, &str)> {
     let Some((head, rest)) = parts.split_once('|') else {
-        return Ok(None);
+        return None;
     };
-    let Some((piece, tail)) = rest.split_once('|') else {
-        return Ok(None);
-    };
-    out.extend_from_slice(head.as_bytes())?;
-    for number in 0..count {
-        put_piece(alloc, &mut out, piece.as_bytes(), number)?;
+    match rest.split_once('|') {
+        Some((piece, tail)) => Some((head, piece, tail)),
+        None => None,
     }
+}
+
+fn put_pieces(alloc: Global, out: &mut Vec<u8>, piece: &[u8], count: u32) -> io::Result<()> {
+    for number in 0..count {
+        put_piece(alloc, out, piece, number)?;
+    }
+    Ok(())
+}
+
+// A text of so many pieces.
+fn long(alloc: Global, count: u32, head: &str, piece: &str, tail: &str) -> io::Result<Vec<u8>> {
+    let mut out = copied(alloc, head.as_bytes())?;
+    put_pieces(alloc, &mut out, piece.as_bytes(), count)?;
     out.extend_from_slice(tail.as_bytes())?;
-    Ok(Some(out))
+    Ok(out)
 }
 
 fn row_of(alloc: Global, area: Area, text: &[u8], is_long: bool) -> io::Result<Option<Row>> {
@@ -93,16 +102,31 @@ fn row_of(alloc: Global, area: Area, text: &[u8], is_long: bool) -> io::Result<O
     }))
 }
 
-fn read_text(alloc: Global, area: Area, text: &str) -> io::Result<Option<Row>> {
-    if let Some((count, parts)) = text.split_once(' ') {
-        if let Ok(count) = count.parse() {
-            let Some(text) = long(alloc, count, parts)? else {
-                return Ok(None);
-            };
-            return row_of(alloc, area, &text, true);
-        }
+// A row of a text of so many pieces; none where its parts aren't there.
+fn long_row(alloc: Global, area: Area, count: u32, parts: &str) -> io::Result<Option<Row>> {
+    let Some((head, piece, tail)) = parts_of(parts) else {
+        return Ok(None);
+    };
+    let text = long(alloc, count, head, piece, tail)?;
+    row_of(alloc, area, &text, true)
+}
+
+// The number at the front of a text, and what stands behind it.
+fn counted(text: &str) -> Option<(u32, &str)> {
+    let Some((count, parts)) = text.split_once(' ') else {
+        return None;
+    };
+    match count.parse::<u32>() {
+        Ok(count) => Some((count, parts)),
+        Err(_) => None,
     }
-    row_of(alloc, area, text.as_bytes(), false)
+}
+
+fn read_text(alloc: Global, area: Area, text: &str) -> io::Result<Option<Row>> {
+    match counted(text) {
+        Some((count, parts)) => long_row(alloc, area, count, parts),
+        None => row_of(alloc, area, text.as_bytes(), false),
+    }
 }
 
 /// The row of a line, where it is understood.

@@ -4,12 +4,15 @@ ghost use Rattle.sg_counter.specs.Bringing.{AllWithin, AllMayEnter, store_in};
 
 use crate::cores::{SECOND, add_offer, add_record, disks, open};
 use crate::told::{Teller, told};
-use sg_counter::{CoreFront, Counter, Refill, Refused, Settled, Settler, Stored};
-use sg_machine::{Admission, Verdict};
+use sg_counter::{Counter, Settler};
+use sg_machine::Admission;
 use sg_memory_disk::{DiskChange, MemoryDisk};
 use sg_msg::Offer;
 use std::alloc::{AllocError, Global};
 use std::sync::Wait;
+use test_replies::{
+    Text, put_admitted, put_front, put_number, put_refilled, put_settled, put_stored,
+};
 
 // A row has what is shown; the windows; how many entries without flow-control the queue takes; the capacity of
 // the disk-buffer of destination 0; and the calls. Its answers stand in their order, and behind them how many
@@ -24,34 +27,11 @@ use std::sync::Wait;
 // refill: how many moved, - where none waits, o where the first doesn't fit. p0 stores the position of
 // source 0, c0 tells its credit. A store that has failed answers x.
 
-fn letter(verdict: Verdict) -> char {
-    match verdict {
-        Verdict::Queued => 'Q',
-        Verdict::Spooled => 'S',
-        Verdict::Waits => 'W',
-        Verdict::DroppedFull => 'F',
-        Verdict::DroppedDisk => 'D',
-    }
-}
-
 fn number(word: Option<&str>) -> u32 {
     match word {
         Some(word) => word.parse().unwrap_or(u32::MAX),
         None => u32::MAX,
     }
-}
-
-fn say(out: &mut String, word: &str) -> Result<(), AllocError> {
-    if !out.is_empty() {
-        out.push(' ')?;
-    }
-    out.push_str(word)?;
-    Ok(())
-}
-
-fn say_number(alloc: Global, out: &mut String, number: u64) -> Result<(), AllocError> {
-    let word = format!(in alloc; "{number}")?;
-    say(out, word.as_str())
 }
 
 // The offer of a word as d1f100, behind its d.
@@ -112,8 +92,8 @@ fn admit<C: Counter, T: Wait>(
     counter: &mut C,
     i: u32,
     text: &str,
-    out: &mut String,
-) -> Result<(), AllocError>
+    out: &mut Text,
+)
     requires left { 0 < C.left counter.old }
     requires inlet { i < 3 }
     requires sources { length (C.setup counter.old).sources ≡ 3 }
@@ -121,121 +101,17 @@ fn admit<C: Counter, T: Wait>(
     ensures setup { C.setup counter.new ≡ C.setup counter.old }
     ensures left { C.left counter.old ≤ C.left counter.new + 1 }
 {
-    let records = records(alloc, text)?;
+    let records = match records(alloc, text) {
+        Ok(records) => records,
+        Err(_) => return out.miss(),
+    };
     if records.is_empty() {
-        return Ok(());
+        return;
     }
     if records.len() > 1000 {
-        return Ok(());
+        return;
     }
-    match counter.admit(rt, alloc, i, records) {
-        Ok(verdicts) => {
-            say(out, if verdicts.is_empty() { "." } else { "" })?;
-            for verdict in &verdicts {
-                out.push(letter(*verdict))?;
-            }
-            Ok(())
-        }
-        Err(Refused::NoCredit(records)) => {
-            let word = format!(in alloc; "-{}", records.len())?;
-            say(out, word.as_str())
-        }
-        Err(Refused::NoMemory(_)) => say(out, "memory"),
-    }
-}
-
-fn front<C: Counter, T: Wait>(
-    rt: &T,
-    alloc: Global,
-    counter: &mut C,
-    d: u32,
-    most: u32,
-    out: &mut String,
-) -> Result<(), AllocError>
-    requires left { 0 < C.left counter.old }
-    requires dest { d < 3 }
-    requires some { 0 < most }
-    requires few { most ≤ 1000 }
-    requires dests { length (C.setup counter.old).dests ≡ 3 }
-    ensures setup { C.setup counter.new ≡ C.setup counter.old }
-    ensures left { C.left counter.old ≤ C.left counter.new + 1 }
-{
-    match counter.front(rt, alloc, d, most)? {
-        CoreFront::Entries { place, messages } => {
-            let count = messages.len();
-            let word = format!(in alloc; "{place}+{count}")?;
-            say(out, word.as_str())
-        }
-        CoreFront::Empty => say(out, "e"),
-        CoreFront::Broken => say(out, "x"),
-    }
-}
-
-fn settle<C: Settler<Teller>, T: Wait>(
-    rt: &T,
-    counter: &mut C,
-    d: u32,
-    place: u64,
-    n: u32,
-    out: &mut String,
-) -> Result<(), AllocError>
-    requires left { 0 < C.left counter.old }
-    requires dest { d < 3 }
-    requires some { 0 < n }
-    requires dests { length (C.setup counter.old).dests ≡ 3 }
-    ensures setup { C.setup counter.new ≡ C.setup counter.old }
-    ensures left { C.left counter.old ≤ C.left counter.new + 1 }
-{
-    say(
-        out,
-        match counter.settle(rt, d, place, n, told(0)) {
-            Settled::Done => "k",
-            Settled::NotFront => "-",
-            Settled::DiskFailed => "x",
-        },
-    )
-}
-
-fn refill<C: Counter, T: Wait>(
-    rt: &T,
-    alloc: Global,
-    counter: &mut C,
-    d: u32,
-    out: &mut String,
-) -> Result<(), AllocError>
-    requires left { 0 < C.left counter.old }
-    requires dest { d < 3 }
-    requires dests { length (C.setup counter.old).dests ≡ 3 }
-    ensures setup { C.setup counter.new ≡ C.setup counter.old }
-    ensures left { C.left counter.old ≤ C.left counter.new + 1 }
-{
-    match counter.refill(rt, d) {
-        Refill::Moved(n) => say_number(alloc, out, u64::from(n)),
-        Refill::NoneWaits => say(out, "-"),
-        Refill::NoRoom => say(out, "o"),
-        Refill::Broken => say(out, "x"),
-    }
-}
-
-fn store<C: Counter, T: Wait>(
-    rt: &T,
-    alloc: Global,
-    counter: &mut C,
-    i: u32,
-    out: &mut String,
-) -> Result<(), AllocError>
-    requires left { 0 < C.left counter.old }
-    requires inlet { i < 3 }
-    requires sources { length (C.setup counter.old).sources ≡ 3 }
-    requires stores { (i : ℕ) → i < 3 → IsSome (store_in (C.setup counter.old).sources i) }
-    ensures setup { C.setup counter.new ≡ C.setup counter.old }
-    ensures left { C.left counter.old ≤ C.left counter.new + 1 }
-{
-    match counter.store(rt, i) {
-        Stored::Wrote(position) => say_number(alloc, out, position),
-        Stored::Unchanged => say(out, "="),
-        Stored::Broken => say(out, "x"),
-    }
+    put_admitted(out, counter.admit(rt, alloc, i, records))
 }
 
 // A call by its first word, which has a letter and numbers.
@@ -244,8 +120,8 @@ fn call<C: Settler<Teller>, T: Wait>(
     alloc: Global,
     counter: &mut C,
     text: &str,
-    out: &mut String,
-) -> Result<(), AllocError>
+    out: &mut Text,
+)
     requires left { 0 < C.left counter.old }
     requires sources { length (C.setup counter.old).sources ≡ 3 }
     requires dests { length (C.setup counter.old).dests ≡ 3 }
@@ -259,16 +135,20 @@ fn call<C: Settler<Teller>, T: Wait>(
     let place = number(words.next());
     let n = number(words.next());
     if which >= 3 {
-        return say(out, "?");
+        return out.put_word(b"?");
     }
     match first.chars().next() {
         Some('a') => admit(rt, alloc, counter, which, rest, out),
-        Some('f') if place > 0 && place <= 1000 => front(rt, alloc, counter, which, place, out),
-        Some('s') if n > 0 => settle(rt, counter, which, u64::from(place), n, out),
-        Some('m') => refill(rt, alloc, counter, which, out),
-        Some('p') => store(rt, alloc, counter, which, out),
-        Some('c') => say_number(alloc, out, counter.credit(rt, which)),
-        _ => say(out, "?"),
+        Some('f') if place > 0 && place <= 1000 => {
+            put_front(out, counter.front(rt, alloc, which, place))
+        }
+        Some('s') if n > 0 => {
+            put_settled(out, counter.settle(rt, which, u64::from(place), n, told(0)))
+        }
+        Some('m') => put_refilled(out, counter.refill(rt, which)),
+        Some('p') => put_stored(out, counter.store(rt, which)),
+        Some('c') => put_number(out, counter.credit(rt, which)),
+        _ => out.put_word(b"?"),
     }
 }
 
@@ -277,35 +157,35 @@ fn call_all<C: Settler<Teller>, T: Wait>(
     alloc: Global,
     counter: &mut C,
     text: &str,
-) -> Result<String, AllocError>
+    out: &mut Text,
+)
     requires left { 1000 < C.left counter.old }
     requires sources { length (C.setup counter.old).sources ≡ 3 }
     requires dests { length (C.setup counter.old).dests ≡ 3 }
     requires stores { (i : ℕ) → i < 3 → IsSome (store_in (C.setup counter.old).sources i) }
 {
-    let mut out = String::new(alloc);
     let mut spare = 1000u32;
     for part in text.split('/') {
         if spare == 0 {
-            return Ok(out);
+            return;
         }
         spare -= 1;
-        call(rt, alloc, counter, part.trim(), &mut out)?;
+        call(rt, alloc, counter, part.trim(), out);
     }
-    Ok(out)
+}
+
+fn syncs_of(disk: &MemoryDisk) -> u64 {
+    let changes = disk.changes().iter();
+    let syncs = changes.filter(|change| matches!(change, DiskChange::Synced));
+    syncs.count() as u64
 }
 
 // How many syncs each store has made.
-fn say_syncs(alloc: Global, disks: &[MemoryDisk], out: &mut String) -> Result<(), AllocError> {
-    say(out, "syncs")?;
+fn put_syncs(out: &mut Text, disks: &[MemoryDisk]) {
+    out.put_word(b"syncs");
     for disk in disks {
-        let changes = disk.changes().iter();
-        let syncs = changes
-            .filter(|change| matches!(change, DiskChange::Synced))
-            .count();
-        say_number(alloc, out, syncs as u64)?;
+        put_number(out, syncs_of(disk));
     }
-    Ok(())
 }
 
 // Whether these are so many numbers.
@@ -373,25 +253,48 @@ fn are_calls(text: &str) -> bool {
     true
 }
 
-/// What the calls of a row answer.
-pub(crate) fn said<T: Wait>(rt: &T, alloc: Global, row: &str) -> Result<String, AllocError> {
+// A row's setup, and its calls.
+#[derive(Clone, Copy, Drop)]
+struct Asked<'a> {
+    window: u32,
+    fifo: u32,
+    capacity: u32,
+    text: &'a str,
+}
+
+fn words_of(row: &str) -> Asked<'_> {
     let mut parts = row.split('|').skip(1);
-    let window = number(Some(parts.next().unwrap_or("").trim()));
-    let fifo = number(Some(parts.next().unwrap_or("").trim()));
-    let capacity = u64::from(number(Some(parts.next().unwrap_or("").trim())));
-    let text = parts.next().unwrap_or("");
-    if row.split('|').count() != 5 || !are_calls(text) {
-        return format!(in alloc; "not understood");
+    Asked {
+        window: number(Some(parts.next().unwrap_or("").trim())),
+        fifo: number(Some(parts.next().unwrap_or("").trim())),
+        capacity: number(Some(parts.next().unwrap_or("").trim())),
+        text: parts.next().unwrap_or(""),
     }
-    if window == 0 || window == u32::MAX || fifo == u32::MAX || capacity > 1 << 30 {
-        return format!(in alloc; "no such setup");
+}
+
+fn answers<T: Wait>(rt: &T, alloc: Global, asked: Asked<'_>) -> Result<Vec<u8>, AllocError> {
+    if asked.window == 0 || asked.capacity > 1 << 30 {
+        return Vec::from_slice(alloc, b"no such setup");
     }
-    let Ok(mut core) = open(alloc, window, fifo, capacity, SECOND, disks(alloc)?) else {
-        return format!(in alloc; "not opened");
+    let capacity = u64::from(asked.capacity);
+    let disks = disks(alloc)?;
+    let Ok(mut core) = open(alloc, asked.window, asked.fifo, capacity, SECOND, disks) else {
+        return Vec::from_slice(alloc, b"not opened");
     };
-    let said = call_all(rt, alloc, &mut core, text);
-    let disks = core.into_stores();
-    let mut said = said?;
-    say_syncs(alloc, &disks, &mut said)?;
-    Ok(said)
+    let mut out = Text::new(alloc);
+    call_all(rt, alloc, &mut core, asked.text, &mut out);
+    put_syncs(&mut out, &core.into_stores());
+    out.done()
+}
+
+/// What the calls of a row answer.
+pub(crate) fn said<T: Wait>(rt: &T, alloc: Global, row: &str) -> Result<Vec<u8>, AllocError> {
+    let asked = words_of(row);
+    if row.split('|').count() != 5 || !are_calls(asked.text) {
+        return Vec::from_slice(alloc, b"not understood");
+    }
+    if asked.window == u32::MAX || asked.fifo == u32::MAX {
+        return Vec::from_slice(alloc, b"no such setup");
+    }
+    answers(rt, alloc, asked)
 }

@@ -1,5 +1,5 @@
 // What a crash leaves of the stores of a core, and what a core finds there.
-ghost use Rattle.std.specs.Prelude.{◌≡◌, ◌≤◌, ◌<◌, ◌+◌, ◌^◌, IfOk, length};
+ghost use Rattle.std.specs.Prelude.{◌≡◌, ◌≤◌, ◌<◌, ◌+◌, ◌^◌, IfOk, IfSome, length};
 ghost use Rattle.test_core_runs.specs.Cores.{IsTried};
 
 use crate::cores::{FIFO, FIRST, SECOND, WINDOW, open};
@@ -34,16 +34,22 @@ pub(crate) fn are_picks(letters: &str) -> bool {
     !letters.is_empty()
 }
 
+fn pick_of(letter: u8) -> Option<Pick> {
+    match letter {
+        b'o' => Some(Pick::Old),
+        b'n' => Some(Pick::New),
+        b'1' => Some(Pick::Ones),
+        b'0' => Some(Pick::Zeros),
+        _ => None,
+    }
+}
+
 /// The picks of these letters; none for any other.
 pub(crate) fn picks(alloc: Global, letters: &str) -> Result<Vec<Pick>, AllocError> {
     let mut picks = Vec::new(alloc);
     for letter in letters.as_bytes() {
-        match *letter {
-            b'o' => picks.push(Pick::Old)?,
-            b'n' => picks.push(Pick::New)?,
-            b'1' => picks.push(Pick::Ones)?,
-            b'0' => picks.push(Pick::Zeros)?,
-            _ => {}
+        if let Some(pick) = pick_of(*letter) {
+            picks.push(pick)?;
         }
     }
     Ok(picks)
@@ -166,6 +172,29 @@ fn not_opened(disks: &[MemoryDisk], told: &mut Told) -> Result<(), AllocError> {
     Ok(())
 }
 
+// A core over what a crash leaves by these picks.
+fn opened(
+    alloc: Global,
+    disks: &[MemoryDisk],
+    letters: &str,
+    told: &mut Told,
+) -> Result<Option<Core<MemoryDisk>>, AllocError>
+    requires { length disks.now ≡ 5 }
+    ensures tried { IfOk result (λ made. IfSome made IsTried) }
+    ensures calls { IfOk result (λ made. IfSome made (λ core. core.calls ≡ 0)) }
+{
+    let picks = picks(alloc, letters)?;
+    let images = images(alloc, disks, &picks)?;
+    match open(alloc, WINDOW, FIFO, FIRST, SECOND, images) {
+        Ok(core) => Ok(Some(core)),
+        Err((_, CoreRefusal::NoMemory)) => Err(AllocError),
+        Err((disks, _)) => {
+            not_opened(&disks, told)?;
+            Ok(None)
+        }
+    }
+}
+
 /// Opens a core over what a crash leaves by these picks at the end of a run. What it finds, which must be what it may
 /// find, and its disks then.
 pub(crate) fn open_again(
@@ -177,26 +206,22 @@ pub(crate) fn open_again(
 ) -> Result<Option<(Found, Vec<MemoryDisk>)>, AllocError>
     requires { length disks.now ≡ 5 }
 {
-    let picks = picks(alloc, letters)?;
-    let images = images(alloc, disks, &picks)?;
-    let mut core = match open(alloc, WINDOW, FIFO, FIRST, SECOND, images) {
-        Ok(core) => core,
-        Err((_, CoreRefusal::NoMemory)) => return Err(AllocError),
-        Err((disks, _)) => {
-            not_opened(&disks, told)?;
-            return Ok(None);
-        }
+    let Some(mut core) = opened(alloc, disks, letters, told)? else {
+        return Ok(None);
     };
     told.openings = told.openings.saturating_add(1);
     let found = find(alloc, &mut core, &ended.run.made);
     let disks = core.into_stores();
-    let Some(found) = found? else {
-        told.right = false;
-        return Ok(None);
-    };
-    let right = is_found(&found, ended, told);
-    told.right = told.right & right;
-    Ok(Some((found, disks)))
+    match found? {
+        Some(found) => {
+            told.right = is_found(&found, ended, told) & told.right;
+            Ok(Some((found, disks)))
+        }
+        None => {
+            told.right = false;
+            Ok(None)
+        }
+    }
 }
 
 /// Opens over several images that a crash leaves of these disks at the end of a run.

@@ -33,14 +33,8 @@ use std::alloc::{AllocError, Global};
 use std::io;
 use std::sync::Wait;
 
-fn copied(alloc: Global, text: &str) -> Result<String, AllocError> {
-    let mut copy = String::new(alloc);
-    copy.push_str(text)?;
-    Ok(copy)
-}
-
 // What a row of standard input comes to.
-fn answer<T: Wait>(rt: &T, alloc: Global, row: &str) -> Result<String, AllocError> {
+fn answer<T: Wait>(rt: &T, alloc: Global, row: &str) -> Result<Vec<u8>, AllocError> {
     let (kind, rest) = row.split_once(' ').unwrap_or((row, ""));
     match kind {
         "calls" => calls::said(rt, alloc, rest),
@@ -50,18 +44,20 @@ fn answer<T: Wait>(rt: &T, alloc: Global, row: &str) -> Result<String, AllocErro
         "fails" => rows::failures(alloc, rest, false),
         "older" => rows::older(alloc, rest),
         "migrates" => migration::said(alloc, rest),
-        _ => copied(alloc, "no such row"),
+        _ => Vec::from_slice(alloc, b"no such row"),
+    }
+}
+
+fn say(rt: HostRuntime, answer: Result<Vec<u8>, AllocError>) -> io::Result<()> {
+    match answer {
+        Ok(said) => println!(rt; "{}", said.escape_ascii()),
+        Err(_) => println!(rt; "no memory"),
     }
 }
 
 fn main(rt: HostRuntime) -> io::Result<()> {
-    let alloc = rt.alloc();
-    for line in rt.lines(alloc) {
-        let line = line?;
-        match answer(&rt, alloc, line.as_str()) {
-            Ok(said) => println!(rt; "{said}")?,
-            Err(_) => println!(rt; "no memory")?,
-        }
+    for line in rt.lines(rt.alloc()) {
+        say(rt, answer(&rt, rt.alloc(), line?.as_str()))?;
     }
     Ok(())
 }

@@ -12,7 +12,9 @@ use crate::steps::Run;
 use sg_core::{Core, CoreRefusal};
 use sg_counter::CoreFront;
 use sg_memory_disk::{DiskChange, MemoryDisk};
+use sg_msg::Message;
 use std::alloc::{AllocError, Global};
+use test_replies::Text;
 
 // The store of destination 0.
 const STORE: usize = 3;
@@ -121,27 +123,33 @@ pub(crate) fn over_older(alloc: Global, count: u32) -> Result<Ended, AllocError>
     Ok(unbegun(Run::over(alloc, &made, found)?, [0; 3]))
 }
 
-// The texts of the entries of destination 0, with a comma behind each.
-fn texts(alloc: Global, core: &mut Core<MemoryDisk>) -> Result<(String, u64, u32), AllocError>
+fn put_texts(out: &mut Text, messages: &[Message]) {
+    for message in messages {
+        out.put(message.get(b"MESSAGE").unwrap_or(b"?"));
+        out.push(b',');
+    }
+}
+
+// The texts of the entries of destination 0, with a comma behind each: the first one's place and their number.
+fn put_front(
+    alloc: Global,
+    core: &mut Core<MemoryDisk>,
+    out: &mut Text,
+) -> Result<(u64, u32), AllocError>
     requires tried { IsTried core.old }
     requires calls { core.old.calls + 1 < 2 ^ 54 }
     ensures tried { IsTried core.new }
     ensures calls { core.new.calls ≤ core.old.calls + 1 }
 {
-    let mut said = String::new(alloc);
     match core.front(alloc, 0, 1000)? {
         CoreFront::Entries { place, messages } => {
-            for message in messages.as_slice() {
-                let text = message.get(b"MESSAGE").unwrap_or(b"?");
-                let text = format!(in alloc; "{},", text.escape_ascii())?;
-                said.push_str(&text)?;
-            }
-            Ok((said, place, messages.len().min(1000) as u32))
+            put_texts(out, messages.as_slice());
+            Ok((place, messages.len().min(1000) as u32))
         }
-        CoreFront::Empty => Ok((said, 0, 0)),
+        CoreFront::Empty => Ok((0, 0)),
         CoreFront::Broken => {
-            said.push_str("broken")?;
-            Ok((said, 0, 0))
+            out.put(b"broken");
+            Ok((0, 0))
         }
     }
 }
@@ -151,44 +159,48 @@ fn found(
     alloc: Global,
     disks: Vec<MemoryDisk>,
     settles: bool,
-) -> Result<(String, Vec<MemoryDisk>), AllocError>
+) -> Result<(Vec<u8>, Vec<MemoryDisk>), AllocError>
     requires { length disks.items ≡ 5 }
 {
+    let mut out = Text::new(alloc);
     let mut core = match open(alloc, WINDOW, FIFO, FIRST, SECOND, disks) {
         Ok(core) => core,
-        Err((disks, _)) => return Ok((format!(in alloc; "refused")?, disks)),
+        Err((disks, _)) => return Ok((Vec::from_slice(alloc, b"refused")?, disks)),
     };
-    let told = texts(alloc, &mut core);
-    if let Ok((_, place, n)) = &told {
+    let told = put_front(alloc, &mut core, &mut out);
+    if let Ok((place, n)) = &told {
         if settles && *n > 0 {
             core.settle(0, *place, *n);
         }
     }
     let disks = core.into_stores();
-    Ok((told?.0, disks))
+    told?;
+    Ok((out.done()?, disks))
+}
+
+fn put_change(out: &mut Text, change: &DiskChange) {
+    match change {
+        DiskChange::Wrote(written) => {
+            out.put_count(b" ", written.bytes.len() as u64);
+            out.put_count(b"@", written.at);
+        }
+        DiskChange::Synced => out.put(b" sync"),
+        DiskChange::Tore(_) | DiskChange::Lost(_) => out.put(b" torn"),
+    }
 }
 
 // What the disk-buffer's store was changed by.
-fn changes(alloc: Global, disks: &[MemoryDisk]) -> Result<String, AllocError> {
-    let mut said = String::new(alloc);
-    let Some(disk) = disks.get(STORE) else {
-        return Ok(said);
-    };
-    for change in disk.changes() {
-        match change {
-            DiskChange::Wrote(written) => {
-                let (size, at) = (written.bytes.len(), written.at);
-                let word = format!(in alloc; " {size}@{at}")?;
-                said.push_str(&word)?;
-            }
-            DiskChange::Synced => said.push_str(" sync")?,
-            DiskChange::Tore(_) | DiskChange::Lost(_) => said.push_str(" torn")?,
+fn changes(alloc: Global, disks: &[MemoryDisk]) -> Result<Vec<u8>, AllocError> {
+    let mut out = Text::new(alloc);
+    if let Some(disk) = disks.get(STORE) {
+        for change in disk.changes() {
+            put_change(&mut out, change);
         }
     }
-    Ok(said)
+    out.done()
 }
 
-// How many images of a stopped opening have these texts, and how many haven't.
+// How often a stopped opening is refused, and how many images have these texts and how many haven't.
 #[derive(Clone, Copy, Drop)]
 struct Stopped {
     refused: u64,
@@ -196,68 +208,119 @@ struct Stopped {
     other: u64,
 }
 
-// An opening that stops behind so many calls, and what a core finds over each image then.
+impl Stopped {
+    fn refuse(&mut self, refusal: CoreRefusal) {
+        if refusal == CoreRefusal::DiskFault(STORE as u32) {
+            self.refused = self.refused.saturating_add(1);
+        }
+    }
+
+    fn compare(&mut self, said: &[u8], wanted: &[u8]) {
+        if said == wanted {
+            self.same = self.same.saturating_add(1);
+        } else {
+            self.other = self.other.saturating_add(1);
+        }
+    }
+
+    fn put(&self, out: &mut Text) {
+        out.put_count(b"; ", self.refused);
+        out.put_count(b" refused, ", self.same);
+        out.put(b" images the same");
+    }
+}
+
+// What an opening that stops behind so many calls leaves.
 fn stop_opening(
     alloc: Global,
     parts: &str,
     calls: u64,
-    wanted: &str,
+    sums: &mut Stopped,
+) -> Result<Vec<MemoryDisk>, AllocError> {
+    let disks = disks_with(alloc, parts, Some(calls))?;
+    match open(alloc, WINDOW, FIFO, FIRST, SECOND, disks) {
+        Ok(core) => Ok(core.into_stores()),
+        Err((disks, refusal)) => {
+            sums.refuse(refusal);
+            Ok(disks)
+        }
+    }
+}
+
+// What a core finds over an image of these disks.
+fn look_into(
+    alloc: Global,
+    disks: &[MemoryDisk],
+    letters: &str,
+    wanted: &[u8],
     sums: &mut Stopped,
 ) -> Result<(), AllocError> {
-    let disks = disks_with(alloc, parts, Some(calls))?;
-    let disks = match open(alloc, WINDOW, FIFO, FIRST, SECOND, disks) {
-        Ok(core) => core.into_stores(),
-        Err((disks, refusal)) => {
-            if refusal == CoreRefusal::DiskFault(STORE as u32) {
-                sums.refused = sums.refused.saturating_add(1);
-            }
-            disks
-        }
-    };
-    for letters in ["o", "n", "1", "0"] {
-        let picks = picks(alloc, letters)?;
-        let images = images(alloc, &disks, &picks)?;
-        if images.len() == 5 {
-            let (said, _) = found(alloc, images, false)?;
-            if said.as_str() == wanted {
-                sums.same = sums.same.saturating_add(1);
-            } else {
-                sums.other = sums.other.saturating_add(1);
-            }
-        }
+    let picks = picks(alloc, letters)?;
+    let images = images(alloc, disks, &picks)?;
+    if images.len() == 5 {
+        let (said, _) = found(alloc, images, false)?;
+        sums.compare(&said, wanted);
     }
     Ok(())
 }
 
-/// The texts of the entries that a core finds over these bytes, what it has changed by then, what another finds over
-/// what that leaves, and once more when these are settled. Then its opening is stopped behind each number of calls
-/// up to 30: how often it is refused, and how many images have the same texts.
-pub(crate) fn said(alloc: Global, parts: &str) -> Result<String, AllocError> {
-    if !are_parts(parts) {
-        return format!(in alloc; "not understood");
-    }
-    let (first, disks) = found(alloc, disks_with(alloc, parts, None)?, false)?;
-    let changes = changes(alloc, &disks)?;
-    if disks.len() != 5 {
-        return format!(in alloc; "no stores");
-    }
-    let (second, disks) = found(alloc, disks, true)?;
-    if disks.len() != 5 {
-        return format!(in alloc; "no stores");
-    }
-    let (third, _) = found(alloc, disks, false)?;
+fn stop_openings(alloc: Global, parts: &str, wanted: &[u8]) -> Result<Stopped, AllocError> {
     let mut sums = Stopped {
         refused: 0,
         same: 0,
         other: 0,
     };
     for calls in 0..30u64 {
-        stop_opening(alloc, parts, calls, &first, &mut sums)?;
+        let disks = stop_opening(alloc, parts, calls, &mut sums)?;
+        for letters in ["o", "n", "1", "0"] {
+            look_into(alloc, &disks, letters, wanted, &mut sums)?;
+        }
     }
-    let read = format!(in alloc; "{first} {second} {third}:{changes}")?;
-    let tried = format!(in alloc; "{} refused, {} images the same", sums.refused, sums.same)?;
+    Ok(sums)
+}
+
+// The texts that are found over what an opening left, and once more when these are settled.
+fn put_again(alloc: Global, disks: Vec<MemoryDisk>, out: &mut Text) -> Result<(), AllocError> {
+    if disks.len() != 5 {
+        out.put(b" no stores");
+        return Ok(());
+    }
+    let (second, disks) = found(alloc, disks, true)?;
+    out.push(b' ');
+    out.put(&second);
+    if disks.len() != 5 {
+        out.put(b" no stores");
+        return Ok(());
+    }
+    let (third, _) = found(alloc, disks, false)?;
+    out.push(b' ');
+    out.put(&third);
+    Ok(())
+}
+
+fn answers(alloc: Global, parts: &str) -> Result<Vec<u8>, AllocError> {
+    let (first, disks) = found(alloc, disks_with(alloc, parts, None)?, false)?;
+    let changes = changes(alloc, &disks)?;
+    let sums = stop_openings(alloc, parts, &first)?;
+    let mut out = Text::new(alloc);
     if sums.other > 0 {
-        return format!(in alloc; "DIFFERS in {}: {read}; {tried}", sums.other);
+        out.put_count(b"DIFFERS in ", sums.other);
+        out.put(b": ");
     }
-    format!(in alloc; "{read}; {tried}")
+    out.put(&first);
+    put_again(alloc, disks, &mut out)?;
+    out.push(b':');
+    out.put(&changes);
+    sums.put(&mut out);
+    out.done()
+}
+
+/// The texts of the entries that a core finds over these bytes, what it has changed by then, what another finds over
+/// what that leaves, and once more when these are settled. Then its opening is stopped behind each number of calls
+/// up to 30: how often it is refused, and how many images have the same texts.
+pub(crate) fn said(alloc: Global, parts: &str) -> Result<Vec<u8>, AllocError> {
+    if are_parts(parts) {
+        return answers(alloc, parts);
+    }
+    Vec::from_slice(alloc, b"not understood")
 }

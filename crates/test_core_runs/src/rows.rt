@@ -10,6 +10,7 @@ use crate::runs::{Ended, run_over, unbegun};
 use crate::steps::Run;
 use sg_memory_disk::{DiskPlan, MemoryDisk, Plan};
 use std::alloc::{AllocError, Global};
+use test_replies::Text;
 
 // The steps of a run at most.
 const MOST: u64 = 1000;
@@ -67,25 +68,33 @@ impl Sums {
         }
     }
 
-    fn said(&self, alloc: Global) -> Result<String, AllocError> {
-        let runs = format!(in alloc;
-            "{} runs, {} go on, {} refused, {} with a store that failed",
-            self.runs, self.more, self.refused, self.failed
-        )?;
-        let steps = format!(in alloc;
-            "{} tallies, {} fronts, {} rewinds",
-            self.steps, self.fronts, self.rewinds
-        )?;
-        let found = format!(in alloc;
-            "{} openings, {} entries",
-            self.told.openings, self.told.entries
-        )?;
-        match self.differs {
-            Some((run, step)) => {
-                format!(in alloc; "DIFFERS in run {run} at step {step}: {runs}, {steps}, {found}")
-            }
-            None => format!(in alloc; "{runs}, {steps}, {found}"),
+    fn put_runs(&self, out: &mut Text) {
+        out.put_number(self.runs);
+        out.put_count(b" runs, ", self.more);
+        out.put_count(b" go on, ", self.refused);
+        out.put_count(b" refused, ", self.failed);
+        out.put(b" with a store that failed, ");
+    }
+
+    fn put_steps(&self, out: &mut Text) {
+        out.put_number(self.steps);
+        out.put_count(b" tallies, ", self.fronts);
+        out.put_count(b" fronts, ", self.rewinds);
+        out.put_count(b" rewinds, ", self.told.openings);
+        out.put_count(b" openings, ", self.told.entries);
+        out.put(b" entries");
+    }
+
+    fn said(&self, alloc: Global) -> Result<Vec<u8>, AllocError> {
+        let mut out = Text::new(alloc);
+        if let Some((run, step)) = self.differs {
+            out.put_count(b"DIFFERS in run ", run);
+            out.put_count(b" at step ", step);
+            out.put(b": ");
         }
+        self.put_runs(&mut out);
+        self.put_steps(&mut out);
+        out.done()
     }
 }
 
@@ -117,8 +126,17 @@ fn are_failures(row: &str) -> bool {
     are_numbers(numbers, 4) && are_picks(tear) && are_numbers(more, 1)
 }
 
-fn not_understood(alloc: Global) -> Result<String, AllocError> {
-    format!(in alloc; "not understood")
+fn not_understood(alloc: Global) -> Result<Vec<u8>, AllocError> {
+    Vec::from_slice(alloc, b"not understood")
+}
+
+// How many steps a run has, up to 1,000; whether it ends with the one in which a store fails; and how many steps more
+// go on over what it leaves.
+#[derive(Clone, Copy, Drop)]
+struct Extent {
+    steps: u64,
+    brief: bool,
+    more: u64,
 }
 
 // One of the disks, or none, stops behind some calls.
@@ -192,188 +210,214 @@ fn one(
     disks: Vec<MemoryDisk>,
     begun: Ended,
     seed: u64,
-    steps: u64,
-    brief: bool,
-    more: u64,
+    extent: Extent,
 ) -> Result<(), AllocError>
     requires disks { length disks.items ≡ 5 }
-    requires steps { steps ≤ 1000 }
-    requires more { more ≤ 1000 }
 {
-    let (ended, disks) = run_over(alloc, disks, begun, 0, seed, steps, brief)?;
+    let steps = extent.steps.min(MOST);
+    let (ended, disks) = run_over(alloc, disks, begun, 0, seed, steps, extent.brief)?;
     look_into(alloc, &disks, &ended, &mut sums.told)?;
     sums.runs = sums.runs.saturating_add(1);
     sums.add(number, &ended);
-    again(alloc, sums, number, &ended, &disks, more)
+    again(alloc, sums, number, &ended, &disks, extent.more.min(MOST))
 }
 
-// A run that begins over fresh stores.
-fn fresh(alloc: Global) -> Ended {
-    unbegun(Run::new(alloc), [0; 3])
+// A run that begins over these fresh stores.
+fn one_fresh(
+    alloc: Global,
+    sums: &mut Sums,
+    number: u64,
+    disks: Vec<MemoryDisk>,
+    seed: u64,
+    extent: Extent,
+) -> Result<(), AllocError>
+    requires { length disks.items ≡ 5 }
+{
+    let begun = unbegun(Run::new(alloc), [0; 3]);
+    one(alloc, sums, number, disks, begun, seed, extent)
+}
+
+// The numbers of a row; 0 where there are fewer.
+fn numbers(row: &str) -> [u64; 5] {
+    let mut words = row.split(' ');
+    [
+        number(words.next()),
+        number(words.next()),
+        number(words.next()),
+        number(words.next()),
+        number(words.next()),
+    ]
 }
 
 /// `SEED COUNT STEPS MORE`: so many runs with seeds from that one on.
-pub(crate) fn runs(alloc: Global, row: &str) -> Result<String, AllocError> {
+pub(crate) fn runs(alloc: Global, row: &str) -> Result<Vec<u8>, AllocError> {
     if !are_numbers(row, 4) {
         return not_understood(alloc);
     }
-    let mut words = row.split(' ');
-    let seed = number(words.next());
-    let count = number(words.next());
-    let steps = number(words.next()).min(MOST);
-    let more = number(words.next()).min(MOST);
+    let asked = numbers(row);
+    let extent = Extent {
+        steps: asked[2],
+        brief: false,
+        more: asked[3],
+    };
     let mut sums = Sums::new();
-    for k in 0..count {
+    for k in 0..asked[1] {
         let disks = disks(alloc)?;
-        let seed = seed.wrapping_add(k);
-        one(
-            alloc,
-            &mut sums,
-            k,
-            disks,
-            fresh(alloc),
-            seed,
-            steps,
-            false,
-            more,
-        )?;
+        let seed = asked[0].wrapping_add(k);
+        one_fresh(alloc, &mut sums, k, disks, seed, extent)?;
     }
     sums.said(alloc)
 }
 
 /// `SEED STEPS MORE`: the run of that seed, ended behind each of its steps.
-pub(crate) fn moments(alloc: Global, row: &str) -> Result<String, AllocError> {
+pub(crate) fn moments(alloc: Global, row: &str) -> Result<Vec<u8>, AllocError> {
     if !are_numbers(row, 3) {
         return not_understood(alloc);
     }
-    let mut words = row.split(' ');
-    let seed = number(words.next());
-    let steps = number(words.next()).min(MOST);
-    let more = number(words.next()).min(MOST);
+    let asked = numbers(row);
     let mut sums = Sums::new();
-    for k in 0..steps {
+    for steps in 0..asked[1].min(MOST) {
         let disks = disks(alloc)?;
-        one(
-            alloc,
-            &mut sums,
-            k,
-            disks,
-            fresh(alloc),
-            seed,
-            k,
-            false,
-            more,
-        )?;
+        let extent = Extent {
+            steps,
+            brief: false,
+            more: asked[2],
+        };
+        one_fresh(alloc, &mut sums, steps, disks, asked[0], extent)?;
     }
     sums.said(alloc)
 }
 
+// A store fails: for good or once, and what then a write or a sync leaves.
+#[derive(Clone, Copy, Drop)]
+struct Failing<'a> {
+    store: u64,
+    stops: bool,
+    tear: &'a str,
+}
+
 // From a call on each one fails, or that one alone.
-fn plan(alloc: Global, call: u64, stops: bool, tear: &str) -> Result<DiskPlan, AllocError> {
-    let tears = picks(alloc, tear)?;
-    if stops {
+fn plan(alloc: Global, call: u64, failing: Failing<'_>) -> Result<DiskPlan, AllocError> {
+    let tears = picks(alloc, failing.tear)?;
+    if failing.stops {
         return Ok(DiskPlan {
             fails: Plan::never(alloc),
             left: Some(call),
             tears,
         });
     }
-    let fails = vec![in alloc; call]?;
+    let fails = Plan::new(vec![in alloc; call]?);
     Ok(DiskPlan {
-        fails: Plan::new(fails),
+        fails,
         left: None,
         tears,
     })
 }
 
 // Disks of which one fails by such a plan.
-fn failing(
+fn failing_disks(
     alloc: Global,
-    store: u64,
     call: u64,
-    stops: bool,
-    tear: &str,
+    failing: Failing<'_>,
 ) -> Result<Vec<MemoryDisk>, AllocError>
     ensures { IfOk result (λ disks. length disks.items ≡ 5) }
 {
+    let plan = plan(alloc, call, failing)?;
     let mut disks = disks(alloc)?;
-    if store >= 5 {
-        return Ok(disks);
+    if failing.store < 5 {
+        disks[failing.store as usize].fail(plan);
     }
-    let plan = plan(alloc, call, stops, tear)?;
-    disks[store as usize].fail(plan);
     Ok(disks)
+}
+
+// A run in which the store fails behind so many calls.
+fn one_failing(
+    alloc: Global,
+    sums: &mut Sums,
+    call: u64,
+    failing: Failing<'_>,
+    seed: u64,
+    extent: Extent,
+) -> Result<(), AllocError> {
+    let disks = failing_disks(alloc, call, failing)?;
+    one_fresh(alloc, sums, call, disks, seed, extent)
+}
+
+fn all_failing(
+    alloc: Global,
+    seed: u64,
+    calls: u64,
+    failing: Failing<'_>,
+    extent: Extent,
+) -> Result<Vec<u8>, AllocError> {
+    let brief = Extent {
+        brief: true,
+        ..extent
+    };
+    let mut sums = Sums::new();
+    for call in 0..calls {
+        let seed = seed.wrapping_add(call);
+        one_failing(alloc, &mut sums, call, failing, seed, extent)?;
+        one_failing(alloc, &mut sums, call, failing, seed, brief)?;
+    }
+    sums.said(alloc)
 }
 
 /// `SEED STORE CALLS STEPS TEAR MORE`: for each number of calls up to that one a run in which the store fails behind so
 /// many, for good or once; and the same run, ended with the step in which it fails.
-pub(crate) fn failures(alloc: Global, row: &str, stops: bool) -> Result<String, AllocError> {
-    if !are_failures(row) {
+pub(crate) fn failures(alloc: Global, row: &str, stops: bool) -> Result<Vec<u8>, AllocError> {
+    let asked = numbers(row);
+    if !are_failures(row) || asked[1] >= 5 {
         return not_understood(alloc);
     }
-    let mut words = row.split(' ');
-    let seed = number(words.next());
-    let store = number(words.next());
-    let calls = number(words.next());
-    let steps = number(words.next()).min(MOST);
-    let tear = words.next().unwrap_or("");
-    let more = number(words.next()).min(MOST);
-    if store >= 5 {
-        return not_understood(alloc);
-    }
-    let mut sums = Sums::new();
-    for call in 0..calls {
-        let seed = seed.wrapping_add(call);
-        let long = failing(alloc, store, call, stops, tear)?;
-        one(
-            alloc,
-            &mut sums,
-            call,
-            long,
-            fresh(alloc),
-            seed,
-            steps,
-            false,
-            more,
-        )?;
-        let brief = failing(alloc, store, call, stops, tear)?;
-        one(
-            alloc,
-            &mut sums,
-            call,
-            brief,
-            fresh(alloc),
-            seed,
-            steps,
-            true,
-            more,
-        )?;
-    }
-    sums.said(alloc)
+    let mut words = row.split(' ').skip(4);
+    let failing = Failing {
+        store: asked[1],
+        stops,
+        tear: words.next().unwrap_or(""),
+    };
+    let extent = Extent {
+        steps: asked[3],
+        brief: false,
+        more: number(words.next()),
+    };
+    all_failing(alloc, asked[0], asked[2], failing, extent)
+}
+
+// A run over a disk-buffer of these bytes and so many entries, whose store stops behind so many calls.
+fn one_older(
+    alloc: Global,
+    sums: &mut Sums,
+    call: u64,
+    parts: &str,
+    count: u32,
+    seed: u64,
+    extent: Extent,
+) -> Result<(), AllocError> {
+    let disks = disks_with(alloc, parts, Some(call))?;
+    let begun = over_older(alloc, count)?;
+    one(alloc, sums, call, disks, begun, seed, extent)
 }
 
 /// `SEED CALLS STEPS MORE COUNT | PARTS`: for each number of calls up to that one a run over a disk-buffer of an older
 /// format, whose store stops behind so many. It has these bytes, which are those of so many entries: the first three of
 /// an entry's text are its number, as is the moment it was sent.
-pub(crate) fn older(alloc: Global, row: &str) -> Result<String, AllocError> {
+pub(crate) fn older(alloc: Global, row: &str) -> Result<Vec<u8>, AllocError> {
     let (words, parts) = row.split_once(" | ").unwrap_or((row, ""));
     if !are_numbers(words, 5) || !are_parts(parts) {
         return not_understood(alloc);
     }
-    let mut words = words.split(' ');
-    let seed = number(words.next());
-    let calls = number(words.next());
-    let steps = number(words.next()).min(MOST);
-    let more = number(words.next()).min(MOST);
-    let count = number(words.next()).min(9) as u32;
+    let asked = numbers(words);
+    let count = asked[4].min(9) as u32;
+    let extent = Extent {
+        steps: asked[2],
+        brief: false,
+        more: asked[3],
+    };
     let mut sums = Sums::new();
-    for call in 0..calls {
-        let disks = disks_with(alloc, parts, Some(call))?;
-        let begun = over_older(alloc, count)?;
-        let seed = seed.wrapping_add(call);
-        one(
-            alloc, &mut sums, call, disks, begun, seed, steps, false, more,
-        )?;
+    for call in 0..asked[1] {
+        let seed = asked[0].wrapping_add(call);
+        one_older(alloc, &mut sums, call, parts, count, seed, extent)?;
     }
     sums.said(alloc)
 }

@@ -1,4 +1,4 @@
-// The first message of a disk-buffer whose store is written over while it is open.
+// The first message of a disk-buffer whose store is written over, or gives fewer bytes, while it is open.
 ghost use Rattle.std.specs.Prelude.{◌≡◌, false};
 
 use sg_buffer::{first_messages, look};
@@ -15,12 +15,21 @@ const ONE: &str =
 // The entry's first byte, which tells its format.
 const FORMAT: usize = 69;
 
-// A disk that tells nothing. Behind so many reads the byte that tells the entry's format is 9.
+// Behind so many reads the byte that tells the entry's format is this one, and a read gives so many bytes
+// at most.
+#[derive(Clone, Copy)]
+struct Change {
+    until: u64,
+    format: u8,
+    most: usize,
+}
+
+// A disk that tells nothing.
 #[derive(Drop)]
 struct ChangingDisk {
     bytes: Vec<u8>,
     reads: u64,
-    until: u64,
+    change: Change,
     faults: u64,
 }
 
@@ -40,10 +49,12 @@ impl Disk for ChangingDisk {
         self.reads = self.reads.saturating_add(1);
         let size = self.bytes.len();
         let start = if at < size as u64 { at as usize } else { size };
-        let count = into.len().min(size - start);
+        let late = self.reads > self.change.until;
+        let most = if late { self.change.most } else { size };
+        let count = into.len().min(size - start).min(most);
         into[..count].copy_from_slice(&self.bytes[start..start + count]);
-        if self.reads > self.until && FORMAT >= start && FORMAT - start < count {
-            into[FORMAT - start] = 9;
+        if late && FORMAT >= start && FORMAT - start < count {
+            into[FORMAT - start] = self.change.format;
         }
         Ok(count)
     }
@@ -76,20 +87,32 @@ fn says(message: &Message, name: &[u8], text: &[u8]) -> bool {
     }
 }
 
-// `one` where it is read as it stood, `unread` where it spells no entry any more.
+// The payload that spells no entry, in a message of PRI 43.
+fn is_unread(message: &Message, text: &[u8]) -> bool {
+    message.pri() == 43
+        && says(message, b"PROGRAM", b"syslog-ng")
+        && says(message, b"MESSAGE", text)
+}
+
+fn is_long(message: &Message, length: usize) -> bool {
+    match message.get(b"MESSAGE") {
+        Some(value) => value.len() == length,
+        None => false,
+    }
+}
+
+// `one` where it is read as it stood, `unread` where it spells no entry any more, `cut` where five of its
+// bytes are read.
 fn said_by(message: &Message) -> &'static str {
     if says(message, b"MESSAGE", b"one") {
         return "one";
     }
-    if message.pri() == 43
-        && says(message, b"PROGRAM", b"syslog-ng")
-        && says(
-            message,
-            b"MESSAGE",
-            b"Error processing log message: \x09\x01",
-        )
-    {
+    if is_unread(message, b"Error processing log message: \x09\x01") {
         return "unread";
+    }
+    let cut = b"Error processing log message: \x02\x01\0\0\0";
+    if is_unread(message, cut) && is_long(message, cut.len()) {
+        return "cut";
     }
     "another"
 }
@@ -111,12 +134,12 @@ fn first_of(alloc: Global, spool: &mut Spool<ChangingDisk>) -> Result<&'static s
     }
 }
 
-// What is read of a store that changes behind so many reads.
-fn reads(alloc: Global, until: u64) -> Result<&'static str, Fail> {
+// What is read of a store that changes.
+fn reads(alloc: Global, change: Change) -> Result<&'static str, Fail> {
     let disk = ChangingDisk {
         bytes: store(alloc)?,
         reads: 0,
-        until,
+        change,
         faults: 0,
     };
     match Spool::open(disk, 1000) {
@@ -129,23 +152,38 @@ fn reads(alloc: Global, until: u64) -> Result<&'static str, Fail> {
     }
 }
 
-// An entry that is written over before it is looked through is damaged; after that its bytes are said, and memory never lacks for it.
-#[test]
-fn written_over(rt: HostRuntime) -> Result<(), Fail> {
-    let alloc = rt.alloc();
-    let mut unread = 0;
-    for until in 0..30 {
-        let said = reads(alloc, until)?;
-        assert!(rt;
-            said == "damaged" || said == "unread" || said == "one",
-            "{until}"
-        );
-        assert!(rt; said != "damaged" || unread == 0, "{until}");
-        if said == "unread" {
-            unread += 1;
+// How often the first message is as the word says, where the store changes behind ever more reads: before that
+// it is damaged, and later it is read as it stood. Memory never lacks for it.
+fn count_of(alloc: Global, format: u8, most: usize, word: &str) -> Result<u64, Fail> {
+    let mut count: u64 = 0;
+    for until in 0..31 {
+        let said = reads(
+            alloc,
+            Change {
+                until,
+                format,
+                most,
+            },
+        )?;
+        if said == word {
+            count = count.saturating_add(1);
+        } else if said != "one" && (said != "damaged" || count > 0) {
+            return Ok(0);
         }
     }
-    assert!(rt; unread > 0);
-    assert_eq!(rt; reads(alloc, 30)?, "one");
+    Ok(count)
+}
+
+#[test]
+fn changed_while_open(rt: HostRuntime) -> Result<(), Fail> {
+    let alloc = rt.alloc();
+    assert!(rt; count_of(alloc, 9, 131, "unread")? > 0);
+    assert!(rt; count_of(alloc, 2, 5, "cut")? > 0);
+    let late = Change {
+        until: 30,
+        format: 9,
+        most: 5,
+    };
+    assert_eq!(rt; reads(alloc, late)?, "one");
     Ok(())
 }

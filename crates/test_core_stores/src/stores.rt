@@ -109,16 +109,22 @@ fn is_refused(refusal: CoreRefusal, wanted: &str) -> Result<bool, Fail> {
     Ok(refusal == CoreRefusal::Damage(store.parse()?, at.parse()?))
 }
 
-fn opens(alloc: Global, row: &str) -> Result<bool, Fail> {
-    let (parts, wanted) = row.split_once(" => ").ok_or("no answer")?;
+// The disks of a row.
+fn parts_of(alloc: Global, parts: &str) -> Result<Vec<MemoryDisk>, Fail>
+    ensures { IfOk result (λ disks. length disks.items ≡ 2) }
+{
     let (position, buffer) = parts.split_once(" | ").ok_or("no disk-buffer")?;
-    let disks = disks_of(
+    disks_of(
         alloc,
         bytes_of(alloc, position)?,
         bytes_of(alloc, buffer)?,
         1000,
-    )?;
-    match open(alloc, disks) {
+    )
+}
+
+fn opens(alloc: Global, row: &str) -> Result<bool, Fail> {
+    let (parts, wanted) = row.split_once(" => ").ok_or("no answer")?;
+    match open(alloc, parts_of(alloc, parts)?) {
         Ok(opened) => {
             let is = is_opened(&opened, wanted);
             let Opened { stores, found: _ } = opened;
@@ -180,6 +186,19 @@ fn closed(stores: Stores<MemoryDisk>) -> Vec<MemoryDisk>
     stores.into_disks()
 }
 
+// The same of opened stores; and their disks.
+fn append_to(opened: Opened<MemoryDisk>, first: &Block, second: &Block) -> (bool, Vec<MemoryDisk>)
+    requires { length opened.stores ≡ 2 }
+    ensures { length result.1.items ≡ 2 }
+{
+    let Opened {
+        mut stores,
+        found: _,
+    } = opened;
+    let done = append(&mut stores, first, second);
+    (done, closed(stores))
+}
+
 // Two entries are appended over a disk that lets so many calls pass. Whether all of them did, and the disks, which work again.
 fn appended(alloc: Global, calls: u64) -> Result<(bool, Vec<MemoryDisk>), Fail>
     ensures { IfOk result (λ r. length r.1.items ≡ 2) }
@@ -188,14 +207,7 @@ fn appended(alloc: Global, calls: u64) -> Result<(bool, Vec<MemoryDisk>), Fail>
     let second = block_of(alloc, SECOND)?;
     let disks = disks_of(alloc, zeros(alloc, 128)?, zeros(alloc, 128)?, calls)?;
     match open(alloc, disks) {
-        Ok(opened) => {
-            let Opened {
-                mut stores,
-                found: _,
-            } = opened;
-            let done = append(&mut stores, &first, &second);
-            Ok((done, closed(stores)))
-        }
+        Ok(opened) => Ok(append_to(opened, &first, &second)),
         Err((disks, _)) => Ok((false, disks)),
     }
 }
@@ -218,15 +230,17 @@ fn entries_in(alloc: Global, disks: Vec<MemoryDisk>) -> Result<usize, Fail>
 }
 
 // Once all calls passed both entries stand there, and else none of them, the first or both; after 20 calls all have passed.
+fn is_whole(alloc: Global, calls: u64) -> Result<bool, Fail> {
+    let (done, disks) = appended(alloc, calls)?;
+    let count = entries_in(alloc, disks)?;
+    Ok(count <= 2 && (count == 2 || !done) && (done || calls < 20))
+}
+
 #[test]
 fn stopped(rt: HostRuntime) -> Result<(), Fail> {
     let alloc = rt.alloc();
     for calls in 0..21 {
-        let (done, disks) = appended(alloc, calls)?;
-        let count = entries_in(alloc, disks)?;
-        assert!(rt; count <= 2, "{calls}");
-        assert!(rt; count == 2 || !done, "{calls}");
-        assert!(rt; done || calls < 20, "{calls}");
+        assert!(rt; is_whole(alloc, calls)?, "{calls}");
     }
     Ok(())
 }

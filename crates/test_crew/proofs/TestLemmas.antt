@@ -1,4 +1,3 @@
--- The stores of two sources and two destinations.
 use Rattle.std.proofs.Common.{arith, ◌≡◌, List, [], ◌∷◌, ◌++◌, length, slice_get, ◌<◌, ◌≤◌, ◌^◌, ℕ, refl, ap, zero, suc, sym, ◌∙◌, subst, Some, None}
 use Rattle.sg_device.specs.Inlet.{InletState}
 use Rattle.sg_device.specs.Outlet.{OutletState}
@@ -11,30 +10,7 @@ use Rattle.sg_list.proofs.ListLemmas.{some-same}
 use Rattle.sg_machine.specs.declared.setup.BufferSetup.{BufferSetup}
 use Rattle.sg_machine.specs.declared.setup.DestSetup.{DestSetup}
 use Rattle.sg_core.specs.Opening.{NumberStores, HaveCapacities, buffer_store_in}
-use Rattle.test_crew.specs.Runs.{tried, meeting}
-
-no-buffer : (d s : ℕ) → buffer_store_in tried.dests d ≡ Some s → ⊥
-no-buffer zero s e = let wrong : None ≡ Some s = e in cc
-no-buffer (suc zero) s e = let wrong : None ≡ Some s = e in cc
-no-buffer (suc (suc d)) s e = let wrong : None ≡ Some s = e in cc
-
--- each source has the store of its number
-own-store : (i s : ℕ) → store_in tried.sources i ≡ Some s → (i ≡ s) × (s < 2)
-own-store zero s e = let is = some-same 0 s e in (is, omega (arith, is))
-own-store (suc zero) s e = let is = some-same 1 s e in (is, omega (arith, is))
-own-store (suc (suc i)) s e = absurd (let wrong : None ≡ Some s = e in cc)
-
-numbers-tried : NumberStores tried 2
-numbers-tried = record {
-  positions = λ i s e. (own-store i s e).1;
-  buffers = λ d s e. absurd (no-buffer d s e);
-  inlets_apart = λ i j s e q. (own-store i s e).0 ∙ sym (own-store j s q).0;
-  dests_apart = λ d e s h k. absurd (no-buffer d s h);
-  apart = λ i d s e q. no-buffer d s q;
-}
-
-pub numbers : (setup : Setup) (count : ℕ) → setup ≡ tried → count ≡ 2 → NumberStores setup count
-numbers setup count is two = subst (λ s. NumberStores s count) (sym is) (subst (λ n. NumberStores tried n) (sym two) numbers-tried)
+use Rattle.test_crew.specs.Runs.{meeting}
 
 -- The stores of a source and a destination that meet.
 
@@ -79,23 +55,13 @@ capacities-meeting (suc (suc d)) setup buffer get has = absurd (let wrong : None
 pub meeting-capacities : (setup : Setup) → setup ≡ meeting → HaveCapacities setup.dests
 meeting-capacities setup is = subst (λ (s : Setup). HaveCapacities s.dests) (sym is) capacities-meeting
 
--- Lists of one source, and of two destinations.
+-- The list of one source.
 
-pub one-source : {R I : Type 0} (state : I → InletState) (inlets dests : R → ℕ) (setup : Setup) (held none : List (SourceActor R I)) (a : SourceActor R I)
-    → length setup.sources ≡ 1 → IsSource state inlets dests setup 0 a → none ≡ [] → held ≡ none ++ a ∷ [] → AreSources state inlets dests setup held
-one-source {R} {I} state inlets dests setup held none a count is empty e =
-    subst (AreSources state inlets dests setup) (sym (e ∙ ap (λ l. l ++ a ∷ []) empty)) (record { all = sym count; each = each })
+pub one-source : {R I : Type 0} (state : I → InletState) (inlets dests : R → ℕ) (setup : Setup) (held : List (SourceActor R I)) (a : SourceActor R I)
+    → length setup.sources ≡ 1 → IsSource state inlets dests setup 0 a → held ≡ a ∷ [] → AreSources state inlets dests setup held
+one-source {R} {I} state inlets dests setup held a count is e =
+    subst (AreSources state inlets dests setup) (sym e) (record { all = sym count; each = each })
   where
     each : (i : ℕ) (x : SourceActor R I) → slice_get (a ∷ []) i ≡ Some x → IsSource state inlets dests setup i x
     each zero x there = subst (IsSource state inlets dests setup 0) (some-same a x there) is
     each (suc i) x there = absurd (let wrong : None ≡ Some x = there in cc)
-
-pub two-dests : {O : Type 0} (state : O → OutletState) (setup : Setup) (held mid none : List (DestActor O)) (a b : DestActor O)
-    → length setup.dests ≡ 2 → IsDest state 0 a → IsDest state 1 b → none ≡ [] → mid ≡ none ++ a ∷ [] → held ≡ mid ++ b ∷ [] → AreDests state setup held
-two-dests {O} state setup held mid none a b count is second empty e f =
-    subst (AreDests state setup) (sym (f ∙ ap (λ l. l ++ b ∷ []) (e ∙ ap (λ l. l ++ a ∷ []) empty))) (record { all = sym count; each = each })
-  where
-    each : (d : ℕ) (x : DestActor O) → slice_get (a ∷ b ∷ []) d ≡ Some x → IsDest state d x
-    each zero x there = subst (IsDest state 0) (some-same a x there) is
-    each (suc zero) x there = subst (IsDest state 1) (some-same b x there) second
-    each (suc (suc d)) x there = absurd (let wrong : None ≡ Some x = there in cc)

@@ -4,6 +4,4 @@
 #[cfg(test)]
 mod meeting;
 #[cfg(test)]
-mod router;
-#[cfg(test)]
 mod runs;

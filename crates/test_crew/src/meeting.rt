@@ -7,29 +7,27 @@ ghost use Rattle.sg_standing.specs.States.{setup_of};
 ghost use Rattle.sg_turns.specs.Actors.{IsSource, AreSources, IsDest, AreDests};
 ghost use Rattle.test_crew.specs.Runs.{meeting, two};
 
-use crate::router::{ByDigit, message};
 use sg_actor::{DestActor, SourceActor, SourceSpec};
 use sg_core::Core;
 use sg_crew::serve;
-use sg_device::{Frames, Inlet, InletFault, Outlet, OutletFault, Pull, Reopened, SendRefusal};
+use sg_device::{
+    Frames, Inlet, InletFault, NoMemory, Outlet, OutletFault, Pull, Reopened, SendRefusal,
+};
 use sg_engine::Served;
 use sg_frame::FrameKind;
 use sg_list::Seq;
 use sg_machine::{Admission, BufferSetup, DestSetup, Setup, SourceSetup};
 use sg_memory::{MemoryInlet, MemoryOutlet, OutletScript, Pace};
 use sg_memory_disk::{MemoryDisk, Plan};
-use sg_msg::{Message, Offer};
-use sg_outfmt::Shape;
-use sg_template::{Env, Template};
-use sg_time::Stamp;
-use std::alloc::Global;
-use std::collections::VecDeque;
+use sg_msg::Offer;
+use sg_template::Env;
+use std::alloc::{AllocError, Global};
 use std::sync::Wait;
 use std::sync::atomic::{AtomicU64, Ordering};
-use std::test::Fail;
 use std::thread;
 use std::thread::Threads;
 use std::time::{Clock, Duration};
+use test_flow::{ByDigit, close_dests, close_sources, disks, message, shape, two_dests};
 
 // In how many rounds they meet.
 const MEETINGS: u64 = 2;
@@ -126,7 +124,7 @@ impl<'a, T: Clock> Outlet for MeetingOutlet<'a, T> {
     }
 }
 
-fn setup(alloc: Global) -> Result<Setup, Fail>
+fn setup(alloc: Global) -> Result<Setup, NoMemory>
     ensures { IfOk result (λ setup. setup ≡ meeting) }
 {
     let mut sources = Seq::empty(alloc);
@@ -149,28 +147,21 @@ fn setup(alloc: Global) -> Result<Setup, Fail>
     Ok(Setup { sources, dests })
 }
 
-fn disks(alloc: Global) -> Result<Vec<MemoryDisk>, Fail> {
-    let mut disks = Vec::new(alloc);
-    disks.push(MemoryDisk::new(alloc, vec![in alloc; 0u8; 128]?)?)?;
-    disks.push(MemoryDisk::new(alloc, vec![in alloc; 0u8; 128]?)?)?;
-    Ok(disks)
-}
-
-fn open(alloc: Global, disks: Vec<MemoryDisk>) -> Result<Core<MemoryDisk>, Fail>
+fn open(alloc: Global, disks: Vec<MemoryDisk>) -> Result<Core<MemoryDisk>, NoMemory>
     ensures setup { IfOk result (λ core. setup_of core ≡ meeting) }
     ensures calls { IfOk result (λ core. core.calls ≡ 0) }
 {
     let setup = setup(alloc)?;
     if disks.len() != 2 {
-        return Err(Fail::new("disks"));
+        return Err(AllocError);
     }
     match Core::open(alloc, setup, disks) {
         Ok(core) => Ok(core),
-        Err(_) => Err(Fail::new("core")),
+        Err(_) => Err(AllocError),
     }
 }
 
-fn entry(alloc: Global) -> Result<Vec<Admission>, Fail>
+fn entry(alloc: Global) -> Result<Vec<Admission>, NoMemory>
     ensures { IfOk result (λ records. IsBatch meeting records.items) }
 {
     let message = message(alloc, b"1")?;
@@ -189,7 +180,7 @@ fn entry(alloc: Global) -> Result<Vec<Admission>, Fail>
 }
 
 // A core that finds an entry of the second destination in its store.
-fn recovered(alloc: Global) -> Result<Core<MemoryDisk>, Fail>
+fn recovered(alloc: Global) -> Result<Core<MemoryDisk>, NoMemory>
     ensures setup { IfOk result (λ core. setup_of core ≡ meeting) }
     ensures calls { IfOk result (λ core. core.calls ≡ 0) }
 {
@@ -198,7 +189,7 @@ fn recovered(alloc: Global) -> Result<Core<MemoryDisk>, Fail>
     let admitted = core.admit(alloc, 0, records).is_ok();
     let disks = core.into_stores();
     if !admitted {
-        return Err(Fail::new("admit"));
+        return Err(AllocError);
     }
     open(alloc, disks)
 }
@@ -207,7 +198,7 @@ fn source<'a, T: Clock>(
     rt: &'a T,
     alloc: Global,
     flags: &'a Flags,
-) -> Result<SourceActor<ByDigit, MeetingInlet<'a, T>>, Fail>
+) -> Result<SourceActor<ByDigit, MeetingInlet<'a, T>>, NoMemory>
     ensures { IfOk result (λ a. IsSource (λ inlet. inlet_of inlet.inner) two two meeting 0 a) }
 {
     let pace = Pace { piece: 2, at: 0 };
@@ -217,7 +208,7 @@ fn source<'a, T: Clock>(
         rt,
         flags,
         meetings: MEETINGS,
-        inner: MemoryInlet::file(alloc, text, 0, pace, true, Plan::new(Vec::new(alloc)))?,
+        inner: MemoryInlet::file(alloc, text, 0, pace, true, Plan::never(alloc))?,
     };
     let spec = SourceSpec {
         inlet: 0,
@@ -229,7 +220,7 @@ fn source<'a, T: Clock>(
     };
     match SourceActor::new(alloc, inlet, ByDigit { routed: 0 }, spec) {
         Ok(source) => Ok(source),
-        Err(_) => Err(Fail::new("memory")),
+        Err(_) => Err(AllocError),
     }
 }
 
@@ -238,33 +229,26 @@ fn dest<'a, T: Clock>(
     alloc: Global,
     flags: &'a Flags,
     dest: u32,
-) -> Result<DestActor<MeetingOutlet<'a, T>>, Fail>
+) -> Result<DestActor<MeetingOutlet<'a, T>>, NoMemory>
     ensures { IfOk result (λ a. IsDest (λ outlet. outlet_of outlet.inner) dest a) }
 {
-    let plan = OutletScript {
-        fails: Plan::new(Vec::new(alloc)),
-        first: 0,
-        laters: Plan::new(Vec::new(alloc)),
-        waits: Plan::new(Vec::new(alloc)),
-    };
+    let plan = OutletScript::never(alloc);
     let outlet = MeetingOutlet {
         rt,
         flags,
         meetings: if dest == 1 { MEETINGS } else { 0 },
         inner: MemoryOutlet::new(alloc, plan),
     };
-    let Ok(template) = Template::read(alloc, b"$MSG ") else {
-        return Err(Fail::new("template"));
-    };
+    let shape = shape(alloc)?;
     let env = Env {
         zone: None,
         digits: 0,
         iso: false,
         old: None,
     };
-    match DestActor::new(alloc, outlet, Shape::Text(template), env, dest, false) {
+    match DestActor::new(alloc, outlet, shape, env, dest, false) {
         Ok(dest) => Ok(dest),
-        Err(_) => Err(Fail::new("memory")),
+        Err(_) => Err(AllocError),
     }
 }
 
@@ -282,26 +266,10 @@ fn close<'a, T: Clock>(
     close_dests(dests);
 }
 
-fn close_sources<'a, T: Clock>(sources: Vec<SourceActor<ByDigit, MeetingInlet<'a, T>>>) {
-    let mut rest = VecDeque::from(sources);
-    while let Some(source) = rest.pop_front() {
-        let _inlet = source.into_inlet();
-    }
-    rest.destroy_empty();
-}
-
-fn close_dests<'a, T: Clock>(dests: Vec<DestActor<MeetingOutlet<'a, T>>>) {
-    let mut rest = VecDeque::from(dests);
-    while let Some(dest) = rest.pop_front() {
-        let _outlet = dest.into_outlet();
-    }
-    rest.destroy_empty();
-}
-
 fn with_source<'a, T: Clock>(
     mut sources: Vec<SourceActor<ByDigit, MeetingInlet<'a, T>>>,
     source: SourceActor<ByDigit, MeetingInlet<'a, T>>,
-) -> Result<Vec<SourceActor<ByDigit, MeetingInlet<'a, T>>>, Fail>
+) -> Result<Vec<SourceActor<ByDigit, MeetingInlet<'a, T>>>, NoMemory>
     ensures { IfOk result (λ held. held.items ≡ sources.entry.items ++ source.entry ∷ []) }
 {
     match sources.push(source) {
@@ -309,7 +277,7 @@ fn with_source<'a, T: Clock>(
         Err(failed) => {
             let _inlet = failed.value.into_inlet();
             close_sources(sources);
-            Err(Fail::new("memory"))
+            Err(AllocError)
         }
     }
 }
@@ -318,43 +286,27 @@ fn sources<'a, T: Clock>(
     rt: &'a T,
     alloc: Global,
     flags: &'a Flags,
-) -> Result<Vec<SourceActor<ByDigit, MeetingInlet<'a, T>>>, Fail>
+) -> Result<Vec<SourceActor<ByDigit, MeetingInlet<'a, T>>>, NoMemory>
     ensures { IfOk result
         (λ held. AreSources (λ inlet. inlet_of inlet.inner) two two meeting held.items) }
 {
     let first = source(rt, alloc, flags)?;
-    Ok(with_source(Vec::new(alloc), first)?)
-}
-
-fn with_dest<'a, T: Clock>(
-    mut dests: Vec<DestActor<MeetingOutlet<'a, T>>>,
-    dest: DestActor<MeetingOutlet<'a, T>>,
-) -> Result<Vec<DestActor<MeetingOutlet<'a, T>>>, Fail>
-    ensures { IfOk result (λ held. held.items ≡ dests.entry.items ++ dest.entry ∷ []) }
-{
-    match dests.push(dest) {
-        Ok(()) => Ok(dests),
-        Err(failed) => {
-            let _outlet = failed.value.into_outlet();
-            close_dests(dests);
-            Err(Fail::new("memory"))
-        }
-    }
+    let held = with_source(Vec::new(alloc), first)?;
+    Ok(held)
 }
 
 fn dests<'a, T: Clock>(
     rt: &'a T,
     alloc: Global,
     flags: &'a Flags,
-) -> Result<Vec<DestActor<MeetingOutlet<'a, T>>>, Fail>
+) -> Result<Vec<DestActor<MeetingOutlet<'a, T>>>, NoMemory>
     ensures { IfOk result (λ held. AreDests (λ outlet. outlet_of outlet.inner) meeting held.items) }
 {
     let first = dest(rt, alloc, flags, 0)?;
-    let dests = with_dest(Vec::new(alloc), first)?;
     match dest(rt, alloc, flags, 1) {
-        Ok(second) => Ok(with_dest(dests, second)?),
+        Ok(second) => Ok(two_dests(alloc, first, second)?),
         Err(e) => {
-            close_dests(dests);
+            let _outlet = first.into_outlet();
             Err(e)
         }
     }
@@ -368,7 +320,7 @@ fn met<T: Threads + Wait + Sync + Clock>(
     rt: &T,
     alloc: Global,
     flags: &Flags,
-) -> Result<u64, Fail> {
+) -> Result<u64, NoMemory> {
     let sources = sources(rt, alloc, flags)?;
     let dests = match dests(rt, alloc, flags) {
         Ok(dests) => dests,
@@ -390,7 +342,7 @@ fn met<T: Threads + Wait + Sync + Clock>(
 }
 
 #[test]
-fn actors_in_turn(rt: HostRuntime) -> Result<(), Fail> {
+fn actors_in_turn(rt: HostRuntime) -> Result<(), NoMemory> {
     let flags = Flags {
         pulled: AtomicU64::new(0),
         sent: AtomicU64::new(0),

@@ -1,6 +1,6 @@
 // Commands over a machine whose input is one line.
-use crate::answer::answer;
-use crate::machine::{field, text, with_input};
+use crate::answer::{answer, is_text};
+use crate::machine::{field, with_input};
 use std::alloc::{AllocError, Global};
 use std::sync::Wait;
 use std::test::Fail;
@@ -42,16 +42,19 @@ fn run_command<T: Threads + Wait + Sync>(
     answer(rt, alloc, line, &mut machine)
 }
 
+// Whether a row holds, and whether it was understood.
+fn holds<T: Threads + Wait + Sync>(rt: &T, alloc: Global, row: &str) -> Result<bool, AllocError> {
+    let Some((line, wanted)) = field(row) else {
+        return Ok(false);
+    };
+    let said = run_command(rt, alloc, line)?;
+    is_text(alloc, &said, wanted)
+}
+
 #[test]
 fn commands(rt: HostRuntime) -> Result<(), Fail> {
-    let alloc = rt.alloc();
     for row in ROWS.lines() {
-        let (line, wanted) = field(row)?;
-        assert_eq!(rt;
-            run_command(&rt, alloc, line)?,
-            text(alloc, wanted)?,
-            "{line}"
-        );
+        assert!(rt; holds(&rt, rt.alloc(), row)?, "{row}");
     }
     Ok(())
 }

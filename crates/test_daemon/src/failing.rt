@@ -42,7 +42,12 @@ fn fail_sends(alloc: Global, plan: Plan, world: &mut MemoryWorld) -> Result<(), 
 }
 
 // Lets calls of one kind fail.
-fn fail(alloc: Global, kind: &str, plan: Plan, world: &mut MemoryWorld) -> Result<(), Fail> {
+fn fail(
+    alloc: Global,
+    kind: &str,
+    plan: Plan,
+    world: &mut MemoryWorld,
+) -> Result<bool, AllocError> {
     match kind {
         "read" => world.plans.reads = plan,
         "store" => world.stores.opens = plan,
@@ -52,9 +57,29 @@ fn fail(alloc: Global, kind: &str, plan: Plan, world: &mut MemoryWorld) -> Resul
         "outlet" => world.plans.outlet_opens = plan,
         "send" | "sends" => fail_sends(alloc, plan, world)?,
         "say" => world.plans.says = plan,
-        _ => return Err(Fail::new("no such call")),
+        _ => return Ok(false),
     }
-    Ok(())
+    Ok(true)
+}
+
+// The calls of a kind that fail.
+fn plan_of(alloc: Global, kind: &str, numbers: &str) -> Result<Plan, Fail> {
+    if kind == "sends" {
+        plan_from(alloc, numbers)
+    } else {
+        plan(alloc, numbers)
+    }
+}
+
+// Lets these calls fail.
+fn fail_call(alloc: Global, call: &str, world: &mut MemoryWorld) -> Result<(), Fail> {
+    let (kind, numbers) = call.split_once(' ').unwrap_or((call, ""));
+    let plan = plan_of(alloc, kind, numbers)?;
+    if fail(alloc, kind, plan, world)? {
+        Ok(())
+    } else {
+        Err(Fail::new("no such call"))
+    }
 }
 
 /// Lets calls fail: of one kind after the other, parted by `, `, each with the numbers of the calls among their kind. `read`,
@@ -65,13 +90,7 @@ pub(crate) fn fail_all(alloc: Global, calls: &str, world: &mut MemoryWorld) -> R
         return Ok(());
     }
     for call in calls.split(", ") {
-        let (kind, numbers) = call.split_once(' ').unwrap_or((call, ""));
-        let plan = if kind == "sends" {
-            plan_from(alloc, numbers)?
-        } else {
-            plan(alloc, numbers)?
-        };
-        fail(alloc, kind, plan, world)?;
+        fail_call(alloc, call, world)?;
     }
     Ok(())
 }

@@ -2,14 +2,13 @@
 use sg_memory::{MemoryFile, MemoryWorld, Pace};
 use sg_world::MemoryMachine;
 use std::alloc::{AllocError, Global};
-use std::test::Fail;
 
 const CONFIG: &[u8] =
     b"@version: 4.2\nsource s { file(\"in\" flags(no-parse)); };\ndestination d { file(\"out\" template(\"$MSG\\n\")); };\nlog { source(s); destination(d); flags(flow-control); };\n";
 
 /// The field before the next `;`, and the rest.
-pub(crate) fn field(row: &str) -> Result<(&str, &str), Fail> {
-    Ok(row.split_once(';').ok_or("a field is missing")?)
+pub(crate) fn field(row: &str) -> Option<(&str, &str)> {
+    row.split_once(';')
 }
 
 /// A text, with `~` for LF.
@@ -42,11 +41,15 @@ pub(crate) fn add_file(
     Ok(())
 }
 
-/// A machine with this input.
-pub(crate) fn with_input(alloc: Global, input: &[u8]) -> Result<MemoryMachine, AllocError> {
+fn files(alloc: Global, input: &[u8]) -> Result<Vec<MemoryFile>, AllocError> {
     let mut files = Vec::new(alloc);
     add_file(alloc, b"c", CONFIG, &mut files)?;
     add_file(alloc, b"bad", b"# x\n", &mut files)?;
     add_file(alloc, b"in", input, &mut files)?;
-    Ok(with_files(alloc, files))
+    Ok(files)
+}
+
+/// A machine with this input.
+pub(crate) fn with_input(alloc: Global, input: &[u8]) -> Result<MemoryMachine, AllocError> {
+    Ok(with_files(alloc, files(alloc, input)?))
 }

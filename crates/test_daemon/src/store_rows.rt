@@ -1,10 +1,10 @@
 // Stores of disk-buffers, listed over the machine in memory.
-use crate::answer::answer;
+use crate::answer::{answer, is_text};
 use crate::failing::fail_all;
-use crate::machine::{field, text, with_files};
+use crate::machine::{field, with_files};
 use sg_device::Name;
 use sg_memory::MemoryWorld;
-use sg_memory_disk::MemoryDisk;
+use sg_memory_disk::{MemoryDisk, MemoryStores};
 use sg_outside::StoreSpec;
 use sg_world::MemoryMachine;
 use std::alloc::{AllocError, Global};
@@ -63,16 +63,22 @@ struct Row<'a> {
     answer: &'a str,
 }
 
-fn read_row(row: &str) -> Result<Row<'_>, Fail> {
-    let (length, rest) = field(row)?;
-    let (parts, rest) = field(rest)?;
-    let (calls, answer) = field(rest)?;
-    Ok(Row {
-        length,
-        parts,
-        calls,
-        answer,
-    })
+fn read_row(row: &str) -> Option<Row<'_>> {
+    let Some((length, rest)) = field(row) else {
+        return None;
+    };
+    let Some((parts, rest)) = field(rest) else {
+        return None;
+    };
+    match field(rest) {
+        Some((calls, answer)) => Some(Row {
+            length,
+            parts,
+            calls,
+            answer,
+        }),
+        None => None,
+    }
 }
 
 // The hexadecimal digits of a part.
@@ -101,28 +107,46 @@ fn lay_part(alloc: Global, store: &mut [u8], part: &str) -> Result<(), Fail> {
     lay(store, place.parse()?, &bytes)
 }
 
+// Lays the parts of a row.
+fn lay_parts(alloc: Global, store: &mut [u8], parts: &str) -> Result<(), Fail> {
+    if parts.is_empty() {
+        return Ok(());
+    }
+    for part in parts.split(", ") {
+        lay_part(alloc, store, part)?;
+    }
+    Ok(())
+}
+
 // The bytes of a row's store.
 fn laid(alloc: Global, row: &Row<'_>) -> Result<Vec<u8>, Fail> {
     let mut store = vec![in alloc; 0u8; row.length.parse()?]?;
-    if row.parts.is_empty() {
-        return Ok(store);
-    }
-    for part in row.parts.split(", ") {
-        lay_part(alloc, &mut store, part)?;
-    }
+    lay_parts(alloc, &mut store, row.parts)?;
     Ok(store)
+}
+
+fn disk(alloc: Global, bytes: &[u8]) -> Result<MemoryDisk, AllocError> {
+    MemoryDisk::new(alloc, bytes.to_vec(alloc)?)
+}
+
+// The store `q` of these bytes.
+fn stores_with(alloc: Global, bytes: &[u8]) -> Result<MemoryStores, AllocError> {
+    let disk = disk(alloc, bytes)?;
+    let mut stores = MemoryStores::new(alloc);
+    stores.put(alloc, b"q", disk)?;
+    Ok(stores)
 }
 
 // A machine with the store `q` of these bytes.
 fn with_store(alloc: Global, bytes: &[u8]) -> Result<MemoryMachine, AllocError> {
+    let stores = stores_with(alloc, bytes)?;
     let mut machine = with_files(alloc, Vec::new(alloc));
-    let disk = MemoryDisk::new(alloc, bytes.to_vec(alloc)?)?;
-    machine.world.stores.put(alloc, b"q", disk)?;
+    machine.world.stores = stores;
     Ok(machine)
 }
 
 // Whether the store that was closed last holds these bytes.
-fn holds(world: &MemoryWorld, bytes: &[u8]) -> bool {
+fn keeps(world: &MemoryWorld, bytes: &[u8]) -> bool {
     match world.stores.closed() {
         Some(cell) => match &cell.closed {
             Some(store) => store.disk.bytes() == bytes,
@@ -132,27 +156,42 @@ fn holds(world: &MemoryWorld, bytes: &[u8]) -> bool {
     }
 }
 
-// What a row answers, and whether the store holds the bytes as before.
-fn list_row<T: Threads + Wait + Sync>(
+// Whether this machine lists what the row says, and its store holds the bytes as before.
+fn lists_so<T: Threads + Wait + Sync>(
     rt: &T,
     alloc: Global,
     row: &Row<'_>,
-) -> Result<(Vec<u8>, bool), Fail> {
-    let bytes = laid(alloc, row)?;
-    let mut machine = with_store(alloc, &bytes)?;
+    bytes: &[u8],
+    machine: &mut MemoryMachine,
+) -> Result<bool, Fail> {
     fail_all(alloc, row.calls, &mut machine.world)?;
-    let listed = answer(rt, alloc, "spool q", &mut machine)?;
-    Ok((listed, holds(&machine.world, &bytes)))
+    let listed = answer(rt, alloc, "spool q", machine)?;
+    Ok(keeps(&machine.world, bytes) && is_text(alloc, &listed, row.answer)?)
+}
+
+fn lists_bytes<T: Threads + Wait + Sync>(
+    rt: &T,
+    alloc: Global,
+    row: &Row<'_>,
+    bytes: &[u8],
+) -> Result<bool, Fail> {
+    let mut machine = with_store(alloc, bytes)?;
+    lists_so(rt, alloc, row, bytes, &mut machine)
+}
+
+// Whether a row holds, and whether it was understood.
+fn holds<T: Threads + Wait + Sync>(rt: &T, alloc: Global, line: &str) -> Result<bool, Fail> {
+    let Some(row) = read_row(line) else {
+        return Ok(false);
+    };
+    let bytes = laid(alloc, &row)?;
+    lists_bytes(rt, alloc, &row, &bytes)
 }
 
 #[test]
 fn stores(rt: HostRuntime) -> Result<(), Fail> {
-    let alloc = rt.alloc();
     for line in ROWS.lines() {
-        let row = read_row(line)?;
-        let (listed, unchanged) = list_row(&rt, alloc, &row)?;
-        assert_eq!(rt; listed, text(alloc, row.answer)?, "{line}");
-        assert!(rt; unchanged, "{line}");
+        assert!(rt; holds(&rt, rt.alloc(), line)?, "{line}");
     }
     Ok(())
 }
@@ -167,11 +206,23 @@ fn is_there(alloc: Global, name: &[u8], world: &mut MemoryWorld) -> Result<bool,
 }
 
 // Whether a store that isn't there can't be opened, and isn't made.
-fn opens_what_is_there<T: Threads + Wait + Sync>(rt: &T, alloc: Global) -> Result<bool, Fail> {
-    let mut machine = with_store(alloc, &vec![in alloc; 0u8; 128]?)?;
-    let listed = answer(rt, alloc, "spool r", &mut machine)?;
+fn is_not_made<T: Threads + Wait + Sync>(
+    rt: &T,
+    alloc: Global,
+    machine: &mut MemoryMachine,
+) -> Result<bool, AllocError> {
+    let listed = answer(rt, alloc, "spool r", machine)?;
     let made = is_there(alloc, b"r", &mut machine.world)?;
     Ok(!made && listed.as_slice() == b"4;cannot open store 0\n".as_slice())
+}
+
+fn opens_what_is_there<T: Threads + Wait + Sync>(
+    rt: &T,
+    alloc: Global,
+) -> Result<bool, AllocError> {
+    let bytes = vec![in alloc; 0u8; 128]?;
+    let mut machine = with_store(alloc, &bytes)?;
+    is_not_made(rt, alloc, &mut machine)
 }
 
 // A store of many entries.
@@ -185,30 +236,40 @@ fn many(alloc: Global) -> Result<Vec<u8>, Fail> {
     Ok(store)
 }
 
+fn push_line(alloc: Global, k: u32, lines: &mut Vec<u8>) -> Result<(), AllocError> {
+    let line = format!(in alloc; "entry {k} source 2 end 9223372036854775807 flow no length 43\n")?;
+    lines.extend_from_slice(line.as_bytes())
+}
+
 // What is said of it.
 fn lines_of_many(alloc: Global) -> Result<Vec<u8>, AllocError> {
     let mut lines = b"0;".to_vec(alloc)?;
     for k in 0..1000u32 {
-        let line = format!(in alloc;
-            "entry {k} source 2 end 9223372036854775807 flow no length 43\n"
-        )?;
-        lines.extend_from_slice(line.as_bytes())?;
+        push_line(alloc, k, &mut lines)?;
     }
     lines.extend_from_slice(b"entries 1000\n")?;
     Ok(lines)
 }
 
+fn listed<T: Threads + Wait + Sync>(
+    rt: &T,
+    alloc: Global,
+    bytes: &[u8],
+) -> Result<Vec<u8>, AllocError> {
+    let mut machine = with_store(alloc, bytes)?;
+    answer(rt, alloc, "spool q", &mut machine)
+}
+
 // Whether a store of many entries, whose lines are said in pieces, is listed whole.
 fn lists_many<T: Threads + Wait + Sync>(rt: &T, alloc: Global) -> Result<bool, Fail> {
-    let mut machine = with_store(alloc, &many(alloc)?)?;
-    let listed = answer(rt, alloc, "spool q", &mut machine)?;
+    let bytes = many(alloc)?;
+    let listed = listed(rt, alloc, &bytes)?;
     Ok(listed == lines_of_many(alloc)?)
 }
 
 #[test]
 fn other_stores(rt: HostRuntime) -> Result<(), Fail> {
-    let alloc = rt.alloc();
-    assert!(rt; opens_what_is_there(&rt, alloc)?);
-    assert!(rt; lists_many(&rt, alloc)?);
+    assert!(rt; opens_what_is_there(&rt, rt.alloc())?);
+    assert!(rt; lists_many(&rt, rt.alloc())?);
     Ok(())
 }

@@ -10,6 +10,18 @@ use std::{env, io};
 const USAGE: &str =
     "usage: test_devices send PATH [fsync] | lines PATH | pull PATH | read PATH | store PATH | look PATH";
 
+fn run(rt: HostRuntime, what: &str, path: &str, fsync: bool) -> io::Result<bool> {
+    match what {
+        "send" => work::send(rt, path, fsync),
+        "lines" => work::lines(rt, path),
+        "pull" => work::pull(rt, path),
+        "read" => work::read(rt, path),
+        "store" => work::store(rt, path),
+        "look" => work::look(rt, path),
+        _ => Ok(false),
+    }
+}
+
 fn main(rt: HostRuntime) -> io::Result<ExitCode> {
     let mut words = env::args(&rt)?.skip(1);
     let (Some(what), Some(path)) = (words.next(), words.next()) else {
@@ -17,14 +29,6 @@ fn main(rt: HostRuntime) -> io::Result<ExitCode> {
         return Ok(ExitCode::from(1));
     };
     let fsync = words.next().is_some();
-    let done = match what.as_str() {
-        "send" => work::send(rt, path.as_str(), fsync)?,
-        "lines" => work::lines(rt, path.as_str())?,
-        "pull" => work::pull(rt, path.as_str())?,
-        "read" => work::read(rt, path.as_str())?,
-        "store" => work::store(rt, path.as_str())?,
-        "look" => work::look(rt, path.as_str())?,
-        _ => false,
-    };
+    let done = run(rt, what.as_str(), path.as_str(), fsync)?;
     Ok(ExitCode::from(if done { 0 } else { 4 }))
 }

@@ -2,6 +2,4 @@
 #![tactic(auto)]
 
 #[cfg(test)]
-mod router;
-#[cfg(test)]
 mod runs;

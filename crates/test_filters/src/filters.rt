@@ -439,18 +439,24 @@ fn read_one(alloc: Global, read: &mut Vec<Expr>, call: &str) -> bool {
     }
 }
 
+// All of them. Says whether their words are understood.
+fn read_all(alloc: Global, read: &mut Vec<Expr>, text: &str) -> bool {
+    for call in text.split("; ") {
+        if !read_one(alloc, read, call) {
+            return false;
+        }
+    }
+    read.len() == 1
+}
+
 // The expression, if its words are understood.
 fn expr_of(alloc: Global, text: &str) -> Option<Expr> {
     let mut read = Vec::new(alloc);
-    for call in text.split("; ") {
-        if !read_one(alloc, &mut read, call) {
-            return None;
-        }
+    if read_all(alloc, &mut read, text) {
+        read.pop()
+    } else {
+        None
     }
-    if read.len() > 1 {
-        return None;
-    }
-    read.pop()
 }
 
 fn named(alloc: Global) -> Result<Vec<Expr>, Fail> {
@@ -473,14 +479,24 @@ fn digit(filter: &mut Filter, other: &mut Filter, message: &Message) -> Result<c
     })
 }
 
-// For each message whether the filter holds, and an equal one does.
-fn digits(alloc: Global, filter: &mut Filter, messages: &[Message]) -> Result<String, AllocError> {
+// For each message whether two filters hold.
+fn digits_of(
+    alloc: Global,
+    filter: &mut Filter,
+    other: &mut Filter,
+    messages: &[Message],
+) -> Result<String, AllocError> {
     let mut text = String::new(alloc);
-    let mut other = filter.share(alloc)?;
     for message in messages {
-        text.push(digit(filter, &mut other, message)?)?;
+        text.push(digit(filter, other, message)?)?;
     }
     Ok(text)
+}
+
+// For each message whether the filter holds, and an equal one does.
+fn digits(alloc: Global, filter: &mut Filter, messages: &[Message]) -> Result<String, AllocError> {
+    let mut other = filter.share(alloc)?;
+    digits_of(alloc, filter, &mut other, messages)
 }
 
 // The word of a row for this refusal, where this count of patterns was too large.
@@ -500,9 +516,10 @@ fn answers(
     messages: &[Message],
 ) -> Result<String, AllocError> {
     let mut patterns = Patterns { too_large: 0 };
-    match Filter::new(alloc, &mut patterns, expr, named) {
-        Ok(mut filter) => digits(alloc, &mut filter, messages),
-        Err(refusal) => String::from_str(alloc, word_of(refusal, patterns.too_large)),
+    let mut made = Filter::new(alloc, &mut patterns, expr, named);
+    match &mut made {
+        Ok(filter) => digits(alloc, filter, messages),
+        Err(refusal) => String::from_str(alloc, word_of(*refusal, patterns.too_large)),
     }
 }
 
@@ -525,37 +542,80 @@ fn holds(alloc: Global, row: &str, named: &[Expr], messages: &[Message]) -> bool
     }
 }
 
+// The first row that doesn't hold; empty where each does.
+fn first_wrong(alloc: Global, named: &[Expr], messages: &[Message]) -> &'static str {
+    if messages.len() != 8 || named.len() != 3 {
+        return "another number of messages or of names";
+    }
+    for row in ROWS.lines() {
+        if !holds(alloc, row, named, messages) {
+            return row;
+        }
+    }
+    ""
+}
+
+fn wrong_with(alloc: Global, named: &[Expr]) -> Result<&'static str, Fail> {
+    let messages = messages(alloc)?;
+    Ok(first_wrong(alloc, named, &messages))
+}
+
+fn wrong_row(alloc: Global) -> Result<&'static str, Fail> {
+    let named = named(alloc)?;
+    wrong_with(alloc, &named)
+}
+
 #[test]
 fn rows(rt: HostRuntime) -> Result<(), Fail> {
-    let messages = messages(rt.alloc())?;
-    let named = named(rt.alloc())?;
-    assert!(rt; messages.len() == 8 && named.len() == 3);
-    for row in ROWS.lines() {
-        assert!(rt; holds(rt.alloc(), row, &named, &messages), "{row}");
-    }
+    assert_eq!(rt; wrong_row(rt.alloc())?, "");
     Ok(())
+}
+
+fn denied(alloc: Global, place: u32) -> Result<Expr, AllocError> {
+    Ok(Expr::Not(Boxed::new(alloc, Expr::Named(place))?))
+}
+
+fn push_denied(alloc: Global, named: &mut Vec<Expr>, place: u32) -> Result<(), AllocError> {
+    named.push(denied(alloc, place)?)?;
+    Ok(())
+}
+
+fn any_level(alloc: Global) -> Result<Vec<Expr>, Fail> {
+    let mut named = Vec::new(alloc);
+    let Some(level) = level_of(alloc, "0-7") else {
+        return Err(Fail::new("no level"));
+    };
+    named.push(level)?;
+    Ok(named)
 }
 
 // Names of which each is the one before it, denied. The first holds of every message.
 fn chain(alloc: Global, count: u32) -> Result<Vec<Expr>, Fail> {
-    let mut named = Vec::new(alloc);
-    named.push(level_of(alloc, "0-7").ok_or("no level")?)?;
+    let mut named = any_level(alloc)?;
     for place in 1..count {
-        let before = Boxed::new(alloc, Expr::Named(place - 1))?;
-        named.push(Expr::Not(before))?;
+        push_denied(alloc, &mut named, place - 1)?;
     }
     Ok(named)
 }
 
+// Whether the last names hold of every message and of none.
+fn ends_so(alloc: Global, named: &[Expr], messages: &[Message]) -> bool {
+    gives(alloc, &Expr::Named(20_000), named, messages, "11111111")
+        && gives(alloc, &Expr::Named(19_999), named, messages, "00000000")
+}
+
+fn ends_with(alloc: Global, named: &[Expr]) -> Result<bool, Fail> {
+    let messages = messages(alloc)?;
+    Ok(ends_so(alloc, named, &messages))
+}
+
+fn long_chain_ends(alloc: Global) -> Result<bool, Fail> {
+    let named = chain(alloc, 20_001)?;
+    ends_with(alloc, &named)
+}
+
 #[test]
 fn deep_names(rt: HostRuntime) -> Result<(), Fail> {
-    let messages = messages(rt.alloc())?;
-    let named = chain(rt.alloc(), 20_001)?;
-    for (place, expected) in [(20_000, "11111111"), (19_999, "00000000")] {
-        assert!(rt;
-            gives(rt.alloc(), &Expr::Named(place), &named, &messages, expected),
-            "{place}"
-        );
-    }
+    assert!(rt; long_chain_ends(rt.alloc())?);
     Ok(())
 }

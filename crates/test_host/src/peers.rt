@@ -88,9 +88,15 @@ fn counted(rt: HostRuntime, outlet: &TcpOutlet) -> Result<String, Fail> {
 }
 
 fn away(rt: HostRuntime) -> Result<String, Fail> {
-    let mut outlet = outlet(rt, free_port(rt)?, 100)?;
-    let first = tried(rt, &mut outlet, &["ab"])?;
-    let counted = counted(rt, &outlet)?;
+    let port = free_port(rt)?;
+    let mut outlet = outlet(rt, port, 100)?;
+    refused(rt, &mut outlet)
+}
+
+// Frames that are refused, and a reopening at once.
+fn refused(rt: HostRuntime, outlet: &mut TcpOutlet) -> Result<String, Fail> {
+    let first = tried(rt, outlet, &["ab"])?;
+    let counted = counted(rt, outlet)?;
     let later = reopened(outlet.reopen());
     let laters = outlet.counts().laters;
     Ok(format!(in rt.alloc(); "{first}{counted} {later}laters {laters}")?)
@@ -99,10 +105,15 @@ fn away(rt: HostRuntime) -> Result<String, Fail> {
 fn ready(rt: HostRuntime) -> Result<String, Fail> {
     let port = free_port(rt)?;
     let mut outlet = outlet(rt, port, 0)?;
-    let first = tried(rt, &mut outlet, &["ab"])?;
+    ready_later(rt, &mut outlet, port)
+}
+
+// Frames that are sent before anybody listens on the port, and again then.
+fn ready_later(rt: HostRuntime, outlet: &mut TcpOutlet, port: u16) -> Result<String, Fail> {
+    let first = tried(rt, outlet, &["ab"])?;
     let listener = TcpListener::bind(&rt, ("127.0.0.1", port))?;
     let second = reopened(outlet.reopen());
-    let last = delivered(rt, &mut outlet, &listener, &["ab"], 2)?;
+    let last = delivered(rt, outlet, &listener, &["ab"], 2)?;
     Ok(format!(in rt.alloc(); "{first}{second}{last}")?)
 }
 
@@ -121,11 +132,19 @@ fn closed_behind(
 fn closed(rt: HostRuntime) -> Result<String, Fail> {
     let (listener, port) = listen(rt)?;
     let mut outlet = outlet(rt, port, 0)?;
-    let first = closed_behind(rt, &mut outlet, &listener)?;
-    let refused = tried(rt, &mut outlet, &["cd"])?;
+    closed_between(rt, &mut outlet, &listener)
+}
+
+fn closed_between(
+    rt: HostRuntime,
+    outlet: &mut TcpOutlet,
+    listener: &TcpListener,
+) -> Result<String, Fail> {
+    let first = closed_behind(rt, outlet, listener)?;
+    let refused = tried(rt, outlet, &["cd"])?;
     let second = outlet.taken();
     let ready = reopened(outlet.reopen());
-    let last = delivered(rt, &mut outlet, &listener, &["cd"], 2)?;
+    let last = delivered(rt, outlet, listener, &["cd"], 2)?;
     Ok(format!(in rt.alloc(); "taken {first} {refused}taken {second} {ready}{last}")?)
 }
 
@@ -152,10 +171,12 @@ fn amount(taken: u64) -> &'static str {
 // A peer that takes nothing for five seconds has taken some of the frames.
 fn slow(rt: HostRuntime) -> Result<String, Fail> {
     let (listener, port) = listen(rt)?;
+    let frames = many(rt)?;
     let mut outlet = outlet(rt, port, 0)?;
-    let refused = answer(send(&mut outlet, &many(rt)?));
-    let (_stream, _peer) = listener.accept()?;
+    let refused = answer(send(&mut outlet, &frames));
     let amount = amount(outlet.taken());
+    drop(outlet);
+    let (_stream, _peer) = listener.accept()?;
     Ok(format!(in rt.alloc(); "{refused}{amount}")?)
 }
 

@@ -11,13 +11,9 @@ use std::time::Instant;
 /// What a step over slots comes to.
 pub(crate) fn take(rt: HostRuntime, what: &str) -> Result<String, Fail> {
     match what {
-        "served" => served(rt),
-        "second" => second(rt),
-        "once" => once(rt),
-        "hung" => hung(rt),
         "shared" => shared(rt),
         "idle" => idle(rt),
-        _ => Err("no such step".into()),
+        _ => by_one(rt, what),
     }
 }
 
@@ -81,13 +77,35 @@ fn pull_times(slot: &mut SlotInlet, times: u32, text: &mut String) -> Result<(),
     Ok(())
 }
 
-fn served(rt: HostRuntime) -> Result<String, Fail> {
+// A step over one slot.
+fn by_one(rt: HostRuntime, what: &str) -> Result<String, Fail> {
     let (listener, port) = listen(rt)?;
-    let mut slot = slot(rt, &listener, false)?;
-    let _stream = sender(rt, port, b"abcd")?;
+    let mut slot = slot(rt, &listener, what == "once")?;
     let mut text = String::new(rt.alloc());
-    pull_times(&mut slot, 4, &mut text)?;
+    steps(rt, port, &mut slot, what, &mut text)?;
     Ok(text)
+}
+
+fn steps(
+    rt: HostRuntime,
+    port: u16,
+    slot: &mut SlotInlet,
+    what: &str,
+    text: &mut String,
+) -> Result<(), Fail> {
+    match what {
+        "served" => served(rt, port, slot, text),
+        "second" => second(rt, port, slot, text),
+        "once" => once(rt, port, slot, text),
+        "hung" => hung(rt, port, slot, text),
+        _ => Err("no such step".into()),
+    }
+}
+
+fn served(rt: HostRuntime, port: u16, slot: &mut SlotInlet, text: &mut String) -> Result<(), Fail> {
+    let _stream = sender(rt, port, b"abcd")?;
+    pull_times(slot, 4, text)?;
+    Ok(())
 }
 
 // A connection that sends these bytes and ends, and two pulls before it does.
@@ -103,24 +121,18 @@ fn serve_one(
     Ok(())
 }
 
-fn second(rt: HostRuntime) -> Result<String, Fail> {
-    let (listener, port) = listen(rt)?;
-    let mut slot = slot(rt, &listener, false)?;
-    let mut text = String::new(rt.alloc());
+fn second(rt: HostRuntime, port: u16, slot: &mut SlotInlet, text: &mut String) -> Result<(), Fail> {
     for bytes in [b"ab".as_slice(), b"ef"] {
-        serve_one(rt, port, &mut slot, bytes, &mut text)?;
+        serve_one(rt, port, slot, bytes, text)?;
     }
-    pull(&mut slot, &mut text)?;
-    Ok(text)
+    pull(slot, text)?;
+    Ok(())
 }
 
-fn once(rt: HostRuntime) -> Result<String, Fail> {
-    let (listener, port) = listen(rt)?;
-    let mut slot = slot(rt, &listener, true)?;
+fn once(rt: HostRuntime, port: u16, slot: &mut SlotInlet, text: &mut String) -> Result<(), Fail> {
     drop(sender(rt, port, b"ab")?);
-    let mut text = String::new(rt.alloc());
-    pull_times(&mut slot, 4, &mut text)?;
-    Ok(text)
+    pull_times(slot, 4, text)?;
+    Ok(())
 }
 
 // A pull, a hangup and another pull.
@@ -138,16 +150,13 @@ fn is_at_end(stream: &mut TcpStream) -> Result<bool, Fail> {
 }
 
 // A connection that was hung up is closed.
-fn hung(rt: HostRuntime) -> Result<String, Fail> {
-    let (listener, port) = listen(rt)?;
-    let mut slot = slot(rt, &listener, false)?;
+fn hung(rt: HostRuntime, port: u16, slot: &mut SlotInlet, text: &mut String) -> Result<(), Fail> {
     let mut stream = client(rt, port)?;
-    let mut text = String::new(rt.alloc());
-    hang_up(&mut slot, &mut text)?;
+    hang_up(slot, text)?;
     if is_at_end(&mut stream)? {
         text.push_str(":eof")?;
     }
-    Ok(text)
+    Ok(())
 }
 
 // A connection that a slot takes before it sends these bytes.

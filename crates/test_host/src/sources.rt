@@ -61,11 +61,15 @@ fn places(folder: &Folder) -> Result<String, Fail> {
 fn pulls(folder: &Folder, what: &str) -> Result<String, Fail> {
     folder.file("in", b"abc")?;
     let mut inlet = inlet(folder, what == "once", 0)?;
+    all_pulls(folder, &mut inlet, what)
+}
+
+fn all_pulls(folder: &Folder, inlet: &mut FileInlet, what: &str) -> Result<String, Fail> {
     let mut text = String::new(folder.alloc);
-    first_pulls(folder, &mut inlet, what, &mut text)?;
-    pull(&mut inlet, &mut text)?;
+    first_pulls(folder, inlet, what, &mut text)?;
+    pull(inlet, &mut text)?;
     change(folder, what)?;
-    last_pulls(&mut inlet, what, &mut text)?;
+    last_pulls(inlet, what, &mut text)?;
     Ok(text)
 }
 

@@ -43,10 +43,11 @@ fn by_both_names(folder: &Folder) -> Result<String, Fail> {
 
 // A store is locked while it is open, under each of its names.
 fn lock(folder: &Folder) -> Result<String, Fail> {
-    let path = folder.at("q")?;
-    let held = FileDisk::open(folder.alloc, folder.rt, path.as_bytes(), true)?;
-    let others = by_both_names(folder)?;
+    let held = store(folder)?;
+    let others = by_both_names(folder);
     drop(held);
+    let others = others?;
+    let path = folder.at("q")?;
     let last = opened(folder, path.as_bytes());
     Ok(format!(in folder.alloc; "opened {others} {last}")?)
 }
@@ -120,16 +121,26 @@ fn missing(folder: &Folder) -> Result<String, Fail> {
 
 // A read ends at the end of the file.
 fn short(folder: &Folder) -> Result<String, Fail> {
-    let path = folder.file("q", b"abc")?;
-    let mut disk = FileDisk::open(folder.alloc, folder.rt, path.as_bytes(), true)?;
+    folder.file("q", b"abc")?;
+    let mut disk = store(folder)?;
+    read_twice(folder, &mut disk)
+}
+
+fn read_twice(folder: &Folder, disk: &mut FileDisk) -> Result<String, Fail> {
     let mut buffer = [0u8; 8];
     let first = disk.read_at(0, &mut buffer)?;
     let second = disk.read_at(3, &mut buffer)?;
     Ok(format!(in folder.alloc; "{first} {second}")?)
 }
 
-fn word<T: Drop>(result: Result<T, DiskFault>) -> &'static str {
-    if result.is_ok() { "done" } else { "refused" }
+// The store of a step.
+fn store(folder: &Folder) -> Result<FileDisk, Fail> {
+    let path = folder.at("q")?;
+    Ok(FileDisk::open(folder.alloc, folder.rt, path.as_bytes(), true)?)
+}
+
+fn word<T: Drop>(answer: Result<T, DiskFault>) -> &'static str {
+    if answer.is_ok() { "done" } else { "refused" }
 }
 
 // Makes the store's file shorter by another handle.
@@ -167,12 +178,15 @@ fn write_again(disk: &mut FileDisk) -> Result<usize, DiskFault> {
 
 // A store that was truncated while it was open is a fault where a read or its length shows that.
 fn truncated(folder: &Folder) -> Result<String, Fail> {
-    let path = folder.at("q")?;
-    let mut disk = FileDisk::open(folder.alloc, folder.rt, path.as_bytes(), true)?;
-    let before = write_four(&mut disk)?;
+    let mut disk = store(folder)?;
+    truncated_between(folder, &mut disk)
+}
+
+fn truncated_between(folder: &Folder, disk: &mut FileDisk) -> Result<String, Fail> {
+    let before = write_four(disk)?;
     truncate(folder, 130)?;
-    let seen = look(folder, &mut disk)?;
-    let again = write_again(&mut disk)?;
+    let seen = look(folder, disk)?;
+    let again = write_again(disk)?;
     Ok(format!(in folder.alloc; "{before} {seen} again {again}")?)
 }
 

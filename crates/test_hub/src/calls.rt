@@ -5,14 +5,15 @@ ghost use Rattle.test_hub.specs.Cores.{IsTried, MayAsk};
 
 use crate::cores::{add_offer, add_record};
 use crate::told::{Teller, told};
-use sg_counter::{
-    CoreCall, CoreFront, CoreReply, Counter, Refill, Refused, Settled, Settler, Stored,
-};
+use sg_counter::{CoreCall, CoreReply, Counter, Settler};
 use sg_list::Seq;
-use sg_machine::{Admission, Verdict};
+use sg_machine::Admission;
 use sg_msg::Offer;
 use std::alloc::{AllocError, Global};
 use std::sync::Wait;
+use test_replies::{
+    Text, put_admitted, put_front, put_number, put_refilled, put_settled, put_stored,
+};
 
 // Sources 0 and 1 have the position stores 0 and 1. Destination 0 is a queue in memory, destination 1 has a
 // disk-buffer in store 2. Each call begins with a word: a0 an admit of source 0, behind which stand r9, a record that
@@ -27,19 +28,6 @@ pub(crate) fn number(word: Option<&str>) -> u32 {
         Some(word) => word.parse().unwrap_or(u32::MAX),
         None => u32::MAX,
     }
-}
-
-pub(crate) fn say(out: &mut String, word: &str) -> Result<(), AllocError> {
-    if !out.is_empty() {
-        out.push(' ')?;
-    }
-    out.push_str(word)?;
-    Ok(())
-}
-
-pub(crate) fn say_number(alloc: Global, out: &mut String, number: u64) -> Result<(), AllocError> {
-    let word = format!(in alloc; "{number}")?;
-    say(out, word.as_str())
 }
 
 // The offer of a word as d0f100, behind its d.
@@ -232,62 +220,15 @@ pub(crate) fn ask<C: Settler<Teller>, T: Wait>(
     }
 }
 
-fn letter(verdict: Verdict) -> char {
-    match verdict {
-        Verdict::Queued => 'Q',
-        Verdict::Spooled => 'S',
-        Verdict::Waits => 'W',
-        Verdict::DroppedFull => 'F',
-        Verdict::DroppedDisk => 'D',
-    }
-}
-
-fn say_verdicts(out: &mut String, verdicts: &[Verdict]) -> Result<(), AllocError> {
-    say(out, if verdicts.is_empty() { "." } else { "" })?;
-    for verdict in verdicts {
-        out.push(letter(*verdict))?;
-    }
-    Ok(())
-}
-
-fn say_front(alloc: Global, out: &mut String, front: CoreFront) -> Result<(), AllocError> {
-    match front {
-        CoreFront::Entries { place, messages } => {
-            let count = messages.len();
-            let word = format!(in alloc; "{place}+{count}")?;
-            say(out, word.as_str())
-        }
-        CoreFront::Empty => say(out, "e"),
-        CoreFront::Broken => say(out, "x"),
-    }
-}
-
 /// Says a reply.
-pub(crate) fn say_reply(
-    alloc: Global,
-    out: &mut String,
-    reply: CoreReply,
-) -> Result<(), AllocError> {
+pub(crate) fn put_reply(out: &mut Text, reply: CoreReply) {
     match reply {
-        CoreReply::Credit(credit) => say_number(alloc, out, credit),
-        CoreReply::Admitted(Ok(verdicts)) => say_verdicts(out, verdicts.as_slice()),
-        CoreReply::Admitted(Err(Refused::NoCredit(records))) => {
-            let word = format!(in alloc; "-{}", records.len())?;
-            say(out, word.as_str())
-        }
-        CoreReply::Front(Ok(front)) => say_front(alloc, out, front),
-        CoreReply::Settled(Settled::Done) => say(out, "k"),
-        CoreReply::Settled(Settled::NotFront) => say(out, "-"),
-        CoreReply::Refilled(Refill::Moved(n)) => say_number(alloc, out, u64::from(n)),
-        CoreReply::Refilled(Refill::NoneWaits) => say(out, "-"),
-        CoreReply::Refilled(Refill::NoRoom) => say(out, "o"),
-        CoreReply::Stored(Stored::Wrote(position)) => say_number(alloc, out, position),
-        CoreReply::Stored(Stored::Unchanged) => say(out, "="),
-        CoreReply::Settled(Settled::DiskFailed)
-        | CoreReply::Refilled(Refill::Broken)
-        | CoreReply::Stored(Stored::Broken) => say(out, "x"),
-        CoreReply::Admitted(Err(Refused::NoMemory(_))) | CoreReply::Front(Err(_)) => {
-            say(out, "memory")
-        }
+        CoreReply::Credit(credit) => put_number(out, credit),
+        CoreReply::Admitted(Ok(verdicts)) => put_admitted(out, Ok(verdicts.into_vec())),
+        CoreReply::Admitted(Err(refused)) => put_admitted(out, Err(refused)),
+        CoreReply::Front(front) => put_front(out, front),
+        CoreReply::Settled(settled) => put_settled(out, settled),
+        CoreReply::Refilled(refill) => put_refilled(out, refill),
+        CoreReply::Stored(stored) => put_stored(out, stored),
     }
 }

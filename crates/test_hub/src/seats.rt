@@ -5,14 +5,16 @@ ghost use Rattle.sg_standing.specs.States.{setup_of};
 ghost use Rattle.sg_hub.specs.Seats.{SeatStep};
 ghost use Rattle.test_hub.specs.Cores.{IsTried, MayAsk};
 
-use crate::calls::{ask, is_call, number, read_call, say, say_number, say_reply};
+use crate::calls::{ask, is_call, number, put_reply, read_call};
 use crate::cores::open;
 use sg_core::Core;
 use sg_counter::{CoreCall, CoreReply};
 use sg_hub::{Hub, HubSeat, Seat};
+use sg_machine::Tally;
 use sg_memory_disk::MemoryDisk;
 use std::alloc::{AllocError, Global};
 use std::sync::Wait;
+use test_replies::{Text, put_number};
 
 // A row has what is shown; the windows; how many entries without flow-control the queue takes; the capacity of
 // the disk-buffer; and the calls, at most 1,000. Before each stands the seat at which it is made, 1 or 2. Where there
@@ -39,69 +41,54 @@ pub(crate) fn ask_at<T: Wait>(
 }
 
 // The answer to one call of a row at a core.
-fn answer<T: Wait>(
-    rt: &T,
-    alloc: Global,
-    core: &mut Core<MemoryDisk>,
-    text: &str,
-    out: &mut String,
-) -> Result<(), AllocError>
+fn answer<T: Wait>(rt: &T, alloc: Global, core: &mut Core<MemoryDisk>, text: &str, out: &mut Text)
     requires few { core.old.calls + 1 < 2 ^ 54 }
     requires tried { IsTried (setup_of core.old) }
     ensures calls { core.new.calls ≤ core.old.calls + 1 }
     ensures tried { IsTried (setup_of core.new) }
 {
     let (_, words) = text.split_once(' ').unwrap_or(("", ""));
-    match read_call(alloc, words)? {
-        Some(call) => {
-            let reply = ask(rt, alloc, core, call);
-            say_reply(alloc, out, reply)
-        }
-        None => Ok(()),
+    match read_call(alloc, words) {
+        Ok(Some(call)) => put_reply(out, ask(rt, alloc, core, call)),
+        Ok(None) => {}
+        Err(_) => out.miss(),
     }
 }
 
 // The answers to the calls of a row at a core.
-fn at_core<T: Wait>(
-    rt: &T,
-    alloc: Global,
-    core: &mut Core<MemoryDisk>,
-    text: &str,
-) -> Result<String, AllocError>
+fn at_core<T: Wait>(rt: &T, alloc: Global, core: &mut Core<MemoryDisk>, text: &str, out: &mut Text)
     requires calls { core.old.calls ≡ 0 }
     requires tried { IsTried (setup_of core.old) }
 {
-    let mut out = String::new(alloc);
     let mut spare = CALLS;
     for part in text.split('/') {
         if spare == 0 {
-            return Ok(out);
+            return;
         }
         spare -= 1;
-        answer(rt, alloc, core, part.trim(), &mut out)?;
+        answer(rt, alloc, core, part.trim(), out);
     }
-    Ok(out)
+}
+
+// What the core has come to.
+fn put_tally(out: &mut Text, tally: &Tally) {
+    out.put_word(b"records");
+    for source in tally.sources.as_slice() {
+        put_number(out, source.records);
+    }
+    out.put_word(b"left");
+    for dest in tally.dests.as_slice() {
+        put_number(out, dest.left);
+    }
 }
 
 // What was said, and what the core has come to.
-fn with_tally(
-    alloc: Global,
-    said: Result<String, AllocError>,
-    core: Core<MemoryDisk>,
-) -> Result<String, AllocError> {
+fn with_tally(alloc: Global, out: Text, core: Core<MemoryDisk>) -> Result<Vec<u8>, AllocError> {
+    let mut out = out;
     let tally = core.tally(alloc);
     let _disks = core.into_stores();
-    let mut out = said?;
-    let tally = tally?;
-    say(&mut out, "records")?;
-    for source in tally.sources.as_slice() {
-        say_number(alloc, &mut out, source.records)?;
-    }
-    say(&mut out, "left")?;
-    for dest in tally.dests.as_slice() {
-        say_number(alloc, &mut out, dest.left)?;
-    }
-    Ok(out)
+    put_tally(&mut out, &tally?);
+    out.done()
 }
 
 // The answer to one call of a row at a seat.
@@ -111,20 +98,18 @@ fn answer_at<T: Wait>(
     hub: &Hub<MemoryDisk>,
     seat: &mut Seat<MemoryDisk>,
     text: &str,
-    out: &mut String,
-) -> Result<(), AllocError>
+    out: &mut Text,
+)
     requires seat { IsDeskOf hub.now seat.old }
     requires left { 0 < seat.old.left }
     requires tried { IsTried (setup_of hub.now.made) }
     ensures seat { IsDeskOf hub.entry.now seat.new }
     ensures left { seat.old.left ≤ seat.new.left + 1 }
 {
-    match read_call(alloc, text)? {
-        Some(call) => {
-            let reply = ask_at(rt, alloc, hub, seat, call);
-            say_reply(alloc, out, reply)
-        }
-        None => Ok(()),
+    match read_call(alloc, text) {
+        Ok(Some(call)) => put_reply(out, ask_at(rt, alloc, hub, seat, call)),
+        Ok(None) => {}
+        Err(_) => out.miss(),
     }
 }
 
@@ -153,8 +138,8 @@ fn take_part<T: Wait>(
     one: &mut Seat<MemoryDisk>,
     two: &mut Seat<MemoryDisk>,
     text: &str,
-    out: &mut String,
-) -> Result<(), AllocError>
+    out: &mut Text,
+)
     requires one { IsDeskOf hub.now one.old }
     requires two { IsDeskOf hub.now two.old }
     requires one_left { 0 < one.old.left }
@@ -169,10 +154,7 @@ fn take_part<T: Wait>(
     match which.chars().next() {
         Some('1') => answer_at(rt, alloc, hub, one, words, out),
         Some('2') => answer_at(rt, alloc, hub, two, words, out),
-        _ => {
-            meet(hub, one, two);
-            Ok(())
-        }
+        _ => meet(hub, one, two),
     }
 }
 
@@ -184,7 +166,8 @@ fn at_seats<T: Wait>(
     one: &mut Seat<MemoryDisk>,
     two: &mut Seat<MemoryDisk>,
     text: &str,
-) -> Result<String, AllocError>
+    out: &mut Text,
+)
     requires one { IsDeskOf hub.now one.old }
     requires two { IsDeskOf hub.now two.old }
     requires one_left { 1000 < one.old.left }
@@ -194,16 +177,14 @@ fn at_seats<T: Wait>(
     ensures two { IsDeskOf hub.entry.now two.new }
     ensures one_left { 0 < one.new.left }
 {
-    let mut out = String::new(alloc);
     let mut spare = CALLS;
     for part in text.split('/') {
         if spare == 0 {
-            return Ok(out);
+            return;
         }
         spare -= 1;
-        take_part(rt, alloc, hub, one, two, part.trim(), &mut out)?;
+        take_part(rt, alloc, hub, one, two, part.trim(), out);
     }
-    Ok(out)
 }
 
 // What two seats of a hub over this core answer, and the core at its end.
@@ -212,7 +193,7 @@ fn at_hub<T: Wait>(
     alloc: Global,
     core: Core<MemoryDisk>,
     text: &str,
-) -> Result<String, AllocError>
+) -> Result<Vec<u8>, AllocError>
     requires calls { core.calls ≡ 0 }
     requires tried { IsTried (setup_of core) }
 {
@@ -223,10 +204,11 @@ fn at_hub<T: Wait>(
             return Err(e);
         }
     };
+    let mut out = Text::new(alloc);
     let mut two = hub.split(&mut one, CALLS + 1);
-    let said = at_seats(rt, alloc, &hub, &mut one, &mut two, text);
+    at_seats(rt, alloc, &hub, &mut one, &mut two, text, &mut out);
     hub.join(&mut one, two);
-    with_tally(alloc, said, hub.close(rt, one))
+    with_tally(alloc, out, hub.close(rt, one))
 }
 
 // Whether it is a call at one of the seats, or that they meet.
@@ -250,25 +232,74 @@ fn are_parts(alloc: Global, text: &str) -> Result<bool, AllocError> {
     Ok(true)
 }
 
-/// What the calls of a row answer at two seats, which is what they answer at a core.
-pub(crate) fn said<T: Wait>(rt: &T, alloc: Global, row: &str) -> Result<String, AllocError> {
+// A row's setup, and its calls.
+#[derive(Clone, Copy, Drop)]
+struct Asked<'a> {
+    window: u32,
+    fifo: u32,
+    capacity: u32,
+    text: &'a str,
+}
+
+fn words_of(row: &str) -> Asked<'_> {
     let mut parts = row.split('|').skip(1);
-    let window = number(Some(parts.next().unwrap_or("").trim()));
-    let fifo = number(Some(parts.next().unwrap_or("").trim()));
-    let capacity = u64::from(number(Some(parts.next().unwrap_or("").trim())));
-    let text = parts.next().unwrap_or("");
-    if row.split('|').count() != 5 || !are_parts(alloc, text)? {
-        return format!(in alloc; "not understood");
+    Asked {
+        window: number(Some(parts.next().unwrap_or("").trim())),
+        fifo: number(Some(parts.next().unwrap_or("").trim())),
+        capacity: number(Some(parts.next().unwrap_or("").trim())),
+        text: parts.next().unwrap_or(""),
     }
-    if window == 0 || window == u32::MAX || fifo == u32::MAX || capacity > 1 << 30 {
-        return format!(in alloc; "no such setup");
+}
+
+fn said_at_core<T: Wait>(rt: &T, alloc: Global, asked: Asked<'_>) -> Result<Vec<u8>, AllocError>
+    requires window { 0 < asked.window }
+    requires capacity { asked.capacity ≤ 2 ^ 30 }
+{
+    let capacity = u64::from(asked.capacity);
+    let mut core = open(alloc, asked.window, asked.fifo, capacity)?;
+    let mut out = Text::new(alloc);
+    at_core(rt, alloc, &mut core, asked.text, &mut out);
+    with_tally(alloc, out, core)
+}
+
+fn said_at_hub<T: Wait>(rt: &T, alloc: Global, asked: Asked<'_>) -> Result<Vec<u8>, AllocError>
+    requires window { 0 < asked.window }
+    requires capacity { asked.capacity ≤ 2 ^ 30 }
+{
+    let capacity = u64::from(asked.capacity);
+    let core = open(alloc, asked.window, asked.fifo, capacity)?;
+    at_hub(rt, alloc, core, asked.text)
+}
+
+fn differing(alloc: Global, said: &[u8], plain: &[u8]) -> Result<Vec<u8>, AllocError> {
+    let mut out = Text::new(alloc);
+    out.put(b"DIFFERS ");
+    out.put(said);
+    out.put(b" | ");
+    out.put(plain);
+    out.done()
+}
+
+fn compared<T: Wait>(rt: &T, alloc: Global, asked: Asked<'_>) -> Result<Vec<u8>, AllocError> {
+    if asked.window == 0 || asked.capacity > 1 << 30 {
+        return Vec::from_slice(alloc, b"no such setup");
     }
-    let mut core = open(alloc, window, fifo, capacity)?;
-    let plain = at_core(rt, alloc, &mut core, text);
-    let plain = with_tally(alloc, plain, core)?;
-    let said = at_hub(rt, alloc, open(alloc, window, fifo, capacity)?, text)?;
-    if said.as_str() == plain.as_str() {
+    let plain = said_at_core(rt, alloc, asked)?;
+    let said = said_at_hub(rt, alloc, asked)?;
+    if said.as_slice() == plain.as_slice() {
         return Ok(said);
     }
-    format!(in alloc; "DIFFERS {said} | {plain}")
+    differing(alloc, &said, &plain)
+}
+
+/// What the calls of a row answer at two seats, which is what they answer at a core.
+pub(crate) fn said<T: Wait>(rt: &T, alloc: Global, row: &str) -> Result<Vec<u8>, AllocError> {
+    let asked = words_of(row);
+    if row.split('|').count() != 5 || !are_parts(alloc, asked.text)? {
+        return Vec::from_slice(alloc, b"not understood");
+    }
+    if asked.window == u32::MAX || asked.fifo == u32::MAX {
+        return Vec::from_slice(alloc, b"no such setup");
+    }
+    compared(rt, alloc, asked)
 }

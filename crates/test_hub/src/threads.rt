@@ -4,17 +4,18 @@ ghost use Rattle.sg_booth.specs.Desks.{IsDeskOf};
 ghost use Rattle.sg_standing.specs.States.{setup_of};
 ghost use Rattle.test_hub.specs.Cores.{IsTried, MayAsk};
 
-use crate::calls::say_number;
 use crate::cores::{add_record, open};
 use crate::seats::ask_at;
 use sg_core::Core;
 use sg_counter::{CoreCall, CoreReply};
 use sg_hub::{Hub, Seat};
 use sg_list::Seq;
+use sg_machine::Tally;
 use sg_memory_disk::MemoryDisk;
 use std::alloc::{AllocError, Global};
 use std::sync::Wait;
 use std::thread::{Threads, join};
+use test_replies::{Text, put_number};
 
 // An admit of one record without offers.
 fn one_record(alloc: Global, inlet: u32, end: u64) -> Result<CoreCall, AllocError>
@@ -107,23 +108,27 @@ fn filled<R: Threads + Wait + Sync>(
     }
 }
 
+fn put_tally(out: &mut Text, tally: &Tally) {
+    for source in tally.sources.as_slice() {
+        put_number(out, source.records);
+    }
+}
+
 /// How many records each source has brought in, and the calls of the core.
 pub(crate) fn said<R: Threads + Wait + Sync>(
     rt: &R,
     alloc: Global,
     row: &str,
-) -> Result<String, AllocError> {
+) -> Result<Vec<u8>, AllocError> {
     let Ok(count) = row.trim().parse::<u32>() else {
-        return format!(in alloc; "no such count");
+        return Vec::from_slice(alloc, b"no such count");
     };
     let core = filled(rt, alloc, open(alloc, 100, 0, 400)?, u64::from(count));
-    let mut out = String::new(alloc);
     let tally = core.tally(alloc);
     let calls = core.calls();
     let _disks = core.into_stores();
-    for source in tally?.sources.as_slice() {
-        say_number(alloc, &mut out, source.records)?;
-    }
-    say_number(alloc, &mut out, calls)?;
-    Ok(out)
+    let mut out = Text::new(alloc);
+    put_tally(&mut out, &tally?);
+    put_number(&mut out, calls);
+    out.done()
 }

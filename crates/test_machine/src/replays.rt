@@ -141,21 +141,28 @@ fn add_offer(draft: &mut Draft, offer: Offer) -> Result<(), Fail> {
     Ok(())
 }
 
+fn add_failed(draft: &mut Draft, store: u32) -> Result<(), Fail> {
+    draft.failed.push(store)?;
+    Ok(())
+}
+
+fn add_verdict(draft: &mut Draft, verdict: Option<Verdict>) -> Result<(), Fail> {
+    draft.verdicts.push(verdict.ok_or("no such word")?)?;
+    Ok(())
+}
+
 // Takes a word behind the first one.
 fn add(alloc: Global, draft: &mut Draft, word: &str) -> Result<(), Fail> {
-    if let Some(verdict) = verdict(word) {
-        draft.verdicts.push(verdict)?;
-    } else if let Some(end) = word.strip_prefix('r') {
-        add_record(alloc, draft, end.parse()?)?;
-    } else if let Some(text) = word.strip_prefix('d') {
-        let offer = offer(alloc, text)?;
-        add_offer(draft, offer)?;
-    } else if let Some(store) = word.strip_prefix('x') {
-        draft.failed.push(store.parse()?)?;
-    } else {
-        return Err(Fail::from("no such word"));
+    if let Some(end) = word.strip_prefix('r') {
+        return add_record(alloc, draft, end.parse()?);
     }
-    Ok(())
+    if let Some(text) = word.strip_prefix('d') {
+        return add_offer(draft, offer(alloc, text)?);
+    }
+    match word.strip_prefix('x') {
+        Some(store) => add_failed(draft, store.parse()?),
+        None => add_verdict(draft, verdict(word)),
+    }
 }
 
 fn number(word: Option<&str>) -> u64 {
@@ -319,20 +326,26 @@ fn comes_to(
     }
 }
 
-fn is_right(alloc: Global, row: &str) -> Result<bool, Fail> {
-    if row.split('|').count() != 5 {
-        return Ok(false);
-    }
-    let mut parts = row.split('|').skip(1);
-    let window = parts.next().unwrap_or("").trim().parse()?;
-    let capacity = capacity(parts.next().unwrap_or("").trim())?;
-    let events = events(alloc, parts.next().unwrap_or(""))?;
-    let answer = parts.next().unwrap_or("").trim();
-    let setup = setup(alloc, window, capacity)?;
+// A part of a row, and the rest of it.
+fn cut(text: &str) -> Result<(&str, &str), Fail> {
+    Ok(text.split_once('|').ok_or("a part is missing")?)
+}
+
+fn replays_to(alloc: Global, setup: &Setup, text: &str) -> Result<bool, Fail> {
+    let (words, answer) = cut(text)?;
+    let events = events(alloc, words)?;
     if events.len() >= 100 {
         return Ok(false);
     }
-    Ok(comes_to(alloc, &setup, &events, answer)?)
+    Ok(comes_to(alloc, setup, &events, answer.trim())?)
+}
+
+fn is_right(alloc: Global, row: &str) -> Result<bool, Fail> {
+    let (_, rest) = cut(row)?;
+    let (window, rest) = cut(rest)?;
+    let (buffers, rest) = cut(rest)?;
+    let setup = setup(alloc, window.trim().parse()?, capacity(buffers.trim())?)?;
+    replays_to(alloc, &setup, rest)
 }
 
 #[test]

@@ -14,38 +14,37 @@ struct Stack {
 }
 
 // Numbers; `-` is none of them.
-fn numbers(alloc: Global, text: &str, between: char) -> Result<Option<Vec<u32>>, AllocError> {
+fn numbers(alloc: Global, text: &str, between: char) -> Option<Vec<u32>> {
     let mut all = Vec::new(alloc);
-    if text == "-" {
-        return Ok(Some(all));
+    if text == "-" || push_numbers(&mut all, text, between) {
+        Some(all)
+    } else {
+        None
     }
-    for word in text.split(between) {
-        let Ok(number) = word.parse::<u32>() else {
-            return Ok(None);
-        };
-        all.push(number)?;
-    }
-    Ok(Some(all))
 }
 
-// The last so many, taken off the list, in their order.
-fn last<T: Drop>(
-    alloc: Global,
-    list: &mut Vec<T>,
-    count: &str,
-) -> Result<Option<Vec<T>>, AllocError> {
-    let mut taken = Vec::new(alloc);
-    let Ok(count) = count.parse::<usize>() else {
-        return Ok(None);
-    };
-    for _ in 0..count {
-        let Some(item) = list.pop() else {
-            return Ok(None);
+fn push_numbers(all: &mut Vec<u32>, text: &str, between: char) -> bool {
+    for word in text.split(between) {
+        let Ok(number) = word.parse::<u32>() else {
+            return false;
         };
-        taken.push(item)?;
+        if all.push(number).is_err() {
+            return false;
+        }
     }
-    taken.reverse();
-    Ok(Some(taken))
+    true
+}
+
+// The last so many, taken off the list, in their order; none where there aren't so many.
+fn last<T: Drop>(list: &mut Vec<T>, count: &str) -> Option<Vec<T>> {
+    let Ok(count) = count.parse::<usize>() else {
+        return None;
+    };
+    if count > list.len() {
+        return None;
+    }
+    let from = list.len() - count;
+    list.split_off(from).ok()
 }
 
 // Whether each letter is that of a flag; `-` is none.
@@ -72,169 +71,260 @@ fn path_of(elements: Vec<Element>, embedded: Vec<Path>, sources: Vec<u32>, flags
     }
 }
 
-fn put_channel(alloc: Global, stack: &mut Stack, rest: &str) -> Result<bool, AllocError> {
-    let Some((count, flags)) = rest.split_once(' ') else {
-        return Ok(false);
-    };
-    let Some(elements) = last(alloc, &mut stack.elements, count)? else {
-        return Ok(false);
-    };
-    if !are_flags(flags) {
-        return Ok(false);
+fn push_path(stack: &mut Stack, path: Option<Path>) -> bool {
+    match path {
+        Some(path) => stack.paths.push(path).is_ok(),
+        None => false,
     }
-    let path = path_of(elements, Vec::new(alloc), Vec::new(alloc), flags);
-    stack.paths.push(path)?;
-    Ok(true)
 }
 
-fn put_log(alloc: Global, stack: &mut Stack, rest: &str) -> Result<bool, AllocError> {
+fn push_element(stack: &mut Stack, element: Option<Element>) -> bool {
+    match element {
+        Some(element) => stack.elements.push(element).is_ok(),
+        None => false,
+    }
+}
+
+fn channel_of(alloc: Global, stack: &mut Stack, count: &str, flags: &str) -> Option<Path> {
+    match last(&mut stack.elements, count) {
+        Some(elements) => Some(path_of(elements, Vec::new(alloc), Vec::new(alloc), flags)),
+        None => None,
+    }
+}
+
+fn put_channel(alloc: Global, stack: &mut Stack, rest: &str) -> bool {
+    match rest.split_once(' ') {
+        Some((count, flags)) if are_flags(flags) => {
+            let channel = channel_of(alloc, stack, count, flags);
+            push_path(stack, channel)
+        }
+        _ => false,
+    }
+}
+
+// The words of a statement: its sources, how many elements and embedded statements it has, and its flags.
+#[derive(Clone, Copy, Drop)]
+struct Words<'r> {
+    sources: &'r str,
+    count: &'r str,
+    logs: &'r str,
+    flags: &'r str,
+}
+
+fn words_of(rest: &str) -> Option<Words<'_>> {
     let Some((sources, rest)) = rest.split_once(' ') else {
-        return Ok(false);
+        return None;
     };
     let Some((count, rest)) = rest.split_once(' ') else {
-        return Ok(false);
+        return None;
     };
-    let Some((logs, flags)) = rest.split_once(' ') else {
-        return Ok(false);
-    };
-    let Some(elements) = last(alloc, &mut stack.elements, count)? else {
-        return Ok(false);
-    };
-    let Some(embedded) = last(alloc, &mut stack.paths, logs)? else {
-        return Ok(false);
-    };
-    let Some(sources) = numbers(alloc, sources, ',')? else {
-        return Ok(false);
-    };
-    if !are_flags(flags) {
-        return Ok(false);
+    match rest.split_once(' ') {
+        Some((logs, flags)) if are_flags(flags) => Some(Words {
+            sources,
+            count,
+            logs,
+            flags,
+        }),
+        _ => None,
     }
-    let path = path_of(elements, embedded, sources, flags);
-    stack.paths.push(path)?;
-    Ok(true)
 }
 
-fn put_branches(
+fn log_of(alloc: Global, stack: &mut Stack, words: Words<'_>) -> Option<Path> {
+    let Some(sources) = numbers(alloc, words.sources, ',') else {
+        return None;
+    };
+    let Some(elements) = last(&mut stack.elements, words.count) else {
+        return None;
+    };
+    match last(&mut stack.paths, words.logs) {
+        Some(embedded) => Some(path_of(elements, embedded, sources, words.flags)),
+        None => None,
+    }
+}
+
+fn put_log(alloc: Global, stack: &mut Stack, rest: &str) -> bool {
+    match words_of(rest) {
+        Some(words) => {
+            let log = log_of(alloc, stack, words);
+            push_path(stack, log)
+        }
+        None => false,
+    }
+}
+
+fn branch_of(
+    alloc: Global,
+    stack: &mut Stack,
+    text: &str,
+    count: &str,
+) -> Option<(Expr, Vec<Element>)> {
+    let Ok(test) = contains(alloc, text) else {
+        return None;
+    };
+    match last(&mut stack.elements, count) {
+        Some(elements) => Some((test, elements)),
+        None => None,
+    }
+}
+
+// Puts a branch in front of these.
+fn push_first(
+    alloc: Global,
+    stack: &mut Stack,
+    text: &str,
+    count: &str,
+    branches: &mut Vec<(Expr, Vec<Element>)>,
+) -> bool {
+    match branch_of(alloc, stack, text, count) {
+        Some(branch) => branches.insert(0, branch).is_ok(),
+        None => false,
+    }
+}
+
+fn if_of(
     alloc: Global,
     stack: &mut Stack,
     text: &str,
     count: &str,
     other: Option<Vec<Element>>,
-) -> Result<bool, AllocError> {
-    let Some(elements) = last(alloc, &mut stack.elements, count)? else {
-        return Ok(false);
-    };
+) -> Option<Element> {
     let mut branches = Vec::new(alloc);
-    branches.push((contains(alloc, text)?, elements))?;
-    stack.elements.push(Element::If { branches, other })?;
-    Ok(true)
-}
-
-fn put_if(alloc: Global, stack: &mut Stack, rest: &str) -> Result<bool, AllocError> {
-    let Some((text, count)) = rest.split_once(' ') else {
-        return Ok(false);
-    };
-    put_branches(alloc, stack, text, count, None)
-}
-
-fn put_else(alloc: Global, stack: &mut Stack, rest: &str) -> Result<bool, AllocError> {
-    let Some((text, counts)) = rest.split_once(' ') else {
-        return Ok(false);
-    };
-    let Some((count, others)) = counts.split_once(' ') else {
-        return Ok(false);
-    };
-    let Some(other) = last(alloc, &mut stack.elements, others)? else {
-        return Ok(false);
-    };
-    put_branches(alloc, stack, text, count, Some(other))
-}
-
-// A branch in front of those of the `if` before it.
-fn put_first(alloc: Global, stack: &mut Stack, rest: &str) -> Result<bool, AllocError> {
-    let Some((text, count)) = rest.split_once(' ') else {
-        return Ok(false);
-    };
-    let Some(Element::If { branches, other }) = stack.elements.pop() else {
-        return Ok(false);
-    };
-    let mut branches = branches;
-    let Some(elements) = last(alloc, &mut stack.elements, count)? else {
-        return Ok(false);
-    };
-    branches.insert(0, (contains(alloc, text)?, elements))?;
-    stack.elements.push(Element::If { branches, other })?;
-    Ok(true)
-}
-
-fn put_rule(
-    alloc: Global,
-    stack: &mut Stack,
-    condition: Option<Expr>,
-    text: &str,
-) -> Result<bool, AllocError> {
-    let Some(element) = rule(alloc, condition, text)? else {
-        return Ok(false);
-    };
-    stack.elements.push(element)?;
-    Ok(true)
-}
-
-fn put_when(alloc: Global, stack: &mut Stack, rest: &str) -> Result<bool, AllocError> {
-    let Some((text, new)) = rest.split_once(' ') else {
-        return Ok(false);
-    };
-    let condition = contains(alloc, text)?;
-    put_rule(alloc, stack, Some(condition), new)
-}
-
-// An element of one part.
-fn element_of(
-    alloc: Global,
-    stack: &mut Stack,
-    word: &str,
-    rest: &str,
-) -> Result<Option<Element>, AllocError> {
-    match word {
-        "has" => Ok(Some(Element::Filter(contains(alloc, rest)?))),
-        "tagged" => Ok(Some(Element::Filter(tagged(alloc, rest)?))),
-        "is" => match rest.parse::<u32>() {
-            Ok(number) => Ok(Some(Element::Filter(Expr::Named(number)))),
-            Err(_) => Ok(None),
-        },
-        "to" => match numbers(alloc, rest, ' ')? {
-            Some(dests) => Ok(Some(Element::Deliver(dests))),
-            None => Ok(None),
-        },
-        "junction" => match last(alloc, &mut stack.paths, rest)? {
-            Some(channels) => Ok(Some(Element::Junction(channels))),
-            None => Ok(None),
-        },
-        _ => Ok(None),
+    if push_first(alloc, stack, text, count, &mut branches) {
+        Some(Element::If { branches, other })
+    } else {
+        None
     }
 }
 
-fn put_element(
+fn put_if(alloc: Global, stack: &mut Stack, rest: &str) -> bool {
+    let Some((text, count)) = rest.split_once(' ') else {
+        return false;
+    };
+    let element = if_of(alloc, stack, text, count, None);
+    push_element(stack, element)
+}
+
+fn else_of(
     alloc: Global,
     stack: &mut Stack,
-    word: &str,
-    rest: &str,
-) -> Result<bool, AllocError> {
-    let Some(element) = element_of(alloc, stack, word, rest)? else {
-        return Ok(false);
+    text: &str,
+    count: &str,
+    others: &str,
+) -> Option<Element> {
+    match last(&mut stack.elements, others) {
+        Some(other) => if_of(alloc, stack, text, count, Some(other)),
+        None => None,
+    }
+}
+
+fn put_else(alloc: Global, stack: &mut Stack, rest: &str) -> bool {
+    let Some((text, counts)) = rest.split_once(' ') else {
+        return false;
     };
-    stack.elements.push(element)?;
-    Ok(true)
+    let Some((count, others)) = counts.split_once(' ') else {
+        return false;
+    };
+    let element = else_of(alloc, stack, text, count, others);
+    push_element(stack, element)
+}
+
+// Puts a branch in front of those of this `if`.
+fn add_first(
+    alloc: Global,
+    stack: &mut Stack,
+    text: &str,
+    count: &str,
+    element: &mut Element,
+) -> bool {
+    match element {
+        Element::If { branches, .. } => push_first(alloc, stack, text, count, branches),
+        _ => false,
+    }
+}
+
+// The last `if`, taken off the list, with a branch in front of the others.
+fn first_of(alloc: Global, stack: &mut Stack, text: &str, count: &str) -> Option<Element> {
+    let Some(mut element) = stack.elements.pop() else {
+        return None;
+    };
+    if add_first(alloc, stack, text, count, &mut element) {
+        Some(element)
+    } else {
+        None
+    }
+}
+
+fn put_first(alloc: Global, stack: &mut Stack, rest: &str) -> bool {
+    let Some((text, count)) = rest.split_once(' ') else {
+        return false;
+    };
+    let element = first_of(alloc, stack, text, count);
+    push_element(stack, element)
+}
+
+fn when_of(alloc: Global, rest: &str) -> Option<Element> {
+    let Some((text, new)) = rest.split_once(' ') else {
+        return None;
+    };
+    match contains(alloc, text) {
+        Ok(condition) => rule(alloc, Some(condition), new),
+        Err(_) => None,
+    }
+}
+
+fn filter_of(test: Result<Expr, AllocError>) -> Option<Element> {
+    match test {
+        Ok(test) => Some(Element::Filter(test)),
+        Err(_) => None,
+    }
+}
+
+fn named_of(rest: &str) -> Option<Element> {
+    match rest.parse::<u32>() {
+        Ok(number) => Some(Element::Filter(Expr::Named(number))),
+        Err(_) => None,
+    }
+}
+
+fn delivery_of(alloc: Global, rest: &str) -> Option<Element> {
+    match numbers(alloc, rest, ' ') {
+        Some(dests) => Some(Element::Deliver(dests)),
+        None => None,
+    }
+}
+
+fn junction_of(stack: &mut Stack, rest: &str) -> Option<Element> {
+    match last(&mut stack.paths, rest) {
+        Some(channels) => Some(Element::Junction(channels)),
+        None => None,
+    }
+}
+
+// An element of one part.
+fn element_of(alloc: Global, stack: &mut Stack, word: &str, rest: &str) -> Option<Element> {
+    match word {
+        "set" => rule(alloc, None, rest),
+        "when" => when_of(alloc, rest),
+        "has" => filter_of(contains(alloc, rest)),
+        "tagged" => filter_of(tagged(alloc, rest)),
+        "is" => named_of(rest),
+        "to" => delivery_of(alloc, rest),
+        "junction" => junction_of(stack, rest),
+        _ => None,
+    }
+}
+
+fn put_element(alloc: Global, stack: &mut Stack, word: &str, rest: &str) -> bool {
+    let element = element_of(alloc, stack, word, rest);
+    push_element(stack, element)
 }
 
 // Whether the part was understood.
-fn put(alloc: Global, stack: &mut Stack, part: &str) -> Result<bool, AllocError> {
+fn put(alloc: Global, stack: &mut Stack, part: &str) -> bool {
     let Some((word, rest)) = part.split_once(' ') else {
-        return Ok(false);
+        return false;
     };
     match word {
-        "set" => put_rule(alloc, stack, None, rest),
-        "when" => put_when(alloc, stack, rest),
         "if" => put_if(alloc, stack, rest),
         "else" => put_else(alloc, stack, rest),
         "first" => put_first(alloc, stack, rest),
@@ -242,6 +332,16 @@ fn put(alloc: Global, stack: &mut Stack, part: &str) -> Result<bool, AllocError>
         "log" => put_log(alloc, stack, rest),
         _ => put_element(alloc, stack, word, rest),
     }
+}
+
+// Whether each part was understood, and no element is left over.
+fn put_all(alloc: Global, stack: &mut Stack, parts: &str) -> bool {
+    for part in parts.split("; ") {
+        if !put(alloc, stack, part) {
+            return false;
+        }
+    }
+    stack.elements.is_empty()
 }
 
 fn filters(alloc: Global) -> Result<Vec<Expr>, AllocError> {
@@ -259,14 +359,24 @@ fn dests(alloc: Global) -> Result<Vec<DestRule>, AllocError> {
     Ok(all)
 }
 
-fn forest_of(alloc: Global, paths: Vec<Path>) -> Result<Forest, AllocError> {
+// Inlets, destinations and filters, and no log paths.
+fn without_paths(alloc: Global) -> Result<Forest, AllocError> {
+    let dests = dests(alloc)?;
+    let inlets = inlets(alloc)?;
     Ok(Forest {
-        inlets: inlets(alloc)?,
-        dests: dests(alloc)?,
+        inlets,
+        dests,
         filters: filters(alloc)?,
         rewrites: Vec::new(alloc),
-        paths,
+        paths: Vec::new(alloc),
     })
+}
+
+// Log paths beside the inlets, destinations and filters.
+fn forest_of(alloc: Global, paths: Vec<Path>) -> Result<Forest, AllocError> {
+    let mut forest = without_paths(alloc)?;
+    forest.paths = paths;
+    Ok(forest)
 }
 
 /// The log paths of these parts, if each was understood and no element is left over.
@@ -275,12 +385,7 @@ pub(crate) fn read(alloc: Global, parts: &str) -> Result<Option<Forest>, AllocEr
         elements: Vec::new(alloc),
         paths: Vec::new(alloc),
     };
-    for part in parts.split("; ") {
-        if !put(alloc, &mut stack, part)? {
-            return Ok(None);
-        }
-    }
-    if !stack.elements.is_empty() {
+    if !put_all(alloc, &mut stack, parts) {
         return Ok(None);
     }
     Ok(Some(forest_of(alloc, stack.paths)?))

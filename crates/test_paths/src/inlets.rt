@@ -33,11 +33,16 @@ fn tagged(alloc: Global, tag: &str) -> Result<InletRule, AllocError> {
     })
 }
 
+fn push(all: &mut Vec<InletRule>, rule: InletRule) -> Result<(), AllocError> {
+    all.push(rule)?;
+    Ok(())
+}
+
 pub(crate) fn inlets(alloc: Global) -> Result<Vec<InletRule>, AllocError> {
     let mut all = Vec::new(alloc);
-    all.push(inlet(alloc, false))?;
-    all.push(inlet(alloc, false))?;
-    all.push(inlet(alloc, true))?;
-    all.push(tagged(alloc, "t")?)?;
+    push(&mut all, inlet(alloc, false))?;
+    push(&mut all, inlet(alloc, false))?;
+    push(&mut all, inlet(alloc, true))?;
+    push(&mut all, tagged(alloc, "t")?)?;
     Ok(all)
 }

@@ -20,11 +20,15 @@
 //! none. There are three destinations. Inlet 2 takes empty lines, and inlet 3 reads RFC 5424 and tags with t.
 #![tactic(auto)]
 
+mod applied;
 mod forest;
+mod gone;
 mod inlets;
 mod offers;
+mod plain;
 mod rules;
 mod table;
+mod walk;
 
 use sg_tree::{Forest, PathRefusal};
 use std::alloc::{AllocError, Global};
@@ -34,7 +38,7 @@ fn copied(alloc: Global, text: &[u8]) -> Result<Vec<u8>, AllocError> {
     Vec::from_slice(alloc, text)
 }
 
-fn refused(alloc: Global, refusal: PathRefusal) -> Result<Vec<u8>, AllocError> {
+fn refused(alloc: Global, refusal: &PathRefusal) -> Result<Vec<u8>, AllocError> {
     match refusal {
         PathRefusal::BadPattern(_) => copied(alloc, b"no pattern"),
         PathRefusal::PatternTooLarge(_) => copied(alloc, b"too large"),
@@ -52,10 +56,20 @@ fn offered(
     if inlet as usize >= forest.inlets.len() {
         return copied(alloc, b"no such inlet");
     }
-    match table::pipes(alloc, forest, inlet) {
-        Ok(Some(mut pipes)) => offers::said(alloc, forest, &mut pipes, inlet, records),
+    let mut made = table::pipes(alloc, forest, inlet);
+    match &mut made {
+        Ok(Some(pipes)) => offers::said(alloc, forest, pipes, inlet, records),
         Ok(None) => copied(alloc, b"no such destination"),
         Err(refusal) => refused(alloc, refusal),
+    }
+}
+
+// What log paths offer for records.
+fn told(alloc: Global, parts: &str, inlet: u32, records: &str) -> Result<Vec<u8>, AllocError> {
+    let read = forest::read(alloc, parts)?;
+    match &read {
+        Some(forest) => offered(alloc, forest, inlet, records),
+        None => copied(alloc, b"not understood"),
     }
 }
 
@@ -67,13 +81,10 @@ fn answer(alloc: Global, line: &str) -> Result<Vec<u8>, AllocError> {
     let Some((inlet, records)) = rest.split_once(" ~ ") else {
         return copied(alloc, b"no inlet");
     };
-    let Some(forest) = forest::read(alloc, parts)? else {
-        return copied(alloc, b"not understood");
-    };
-    let Ok(inlet) = inlet.parse::<u32>() else {
-        return copied(alloc, b"no inlet");
-    };
-    offered(alloc, &forest, inlet, records)
+    match inlet.parse::<u32>() {
+        Ok(inlet) => told(alloc, parts, inlet, records),
+        Err(_) => copied(alloc, b"no inlet"),
+    }
 }
 
 fn main(rt: HostRuntime) -> io::Result<()> {

@@ -1,11 +1,12 @@
 // What is offered, as it is said.
 ghost use Rattle.std.specs.Prelude.{◌≡◌, ◌<◌, length};
 
+use crate::plain::offers_plain;
 use bytes::Bytes;
 use sg_msg::Offer;
 use sg_pattern::Patterns;
 use sg_route::Router;
-use sg_tree::{Forest, PathRefusal, offers_plain};
+use sg_tree::{Forest, PathRefusal};
 use std::alloc::{AllocError, Global};
 
 // `1w=text`

@@ -7,7 +7,7 @@ use sg_filter::Expr;
 use sg_lex::Line;
 use sg_pattern::{Flags, Kind, PatternText};
 use sg_rewrite::Op;
-use sg_template::{Template, TemplateFault};
+use sg_template::Template;
 use sg_tree::{Element, RewriteRule, is_sound};
 use sqlite_items::Items;
 use std::alloc::{AllocError, Global};
@@ -56,29 +56,23 @@ fn checked(op: &Op) -> Option<()>
     None
 }
 
-fn template(alloc: Global, text: &str) -> Result<Option<Template>, AllocError> {
+fn op_of(alloc: Global, text: &str) -> Option<Op> {
+    let Ok(name) = name_of(alloc, "MESSAGE") else {
+        return None;
+    };
     match Template::read(alloc, text.as_bytes()) {
-        Ok(template) => Ok(Some(template)),
-        Err(TemplateFault::NoMemory) => Err(AllocError),
-        Err(_) => Ok(None),
+        Ok(text) => Some(Op::Set { name, text }),
+        Err(_) => None,
     }
 }
 
 /// MESSAGE becomes the text, where the condition holds.
-pub(crate) fn rule(
-    alloc: Global,
-    condition: Option<Expr>,
-    text: &str,
-) -> Result<Option<Element>, AllocError> {
-    let Some(text) = template(alloc, text)? else {
-        return Ok(None);
+pub(crate) fn rule(alloc: Global, condition: Option<Expr>, text: &str) -> Option<Element> {
+    let Some(op) = op_of(alloc, text) else {
+        return None;
     };
-    let op = Op::Set {
-        name: name_of(alloc, "MESSAGE")?,
-        text,
-    };
-    let Some(()) = checked(&op) else {
-        return Ok(None);
-    };
-    Ok(Some(Element::Rewrite(RewriteRule { condition, op })))
+    match checked(&op) {
+        Some(()) => Some(Element::Rewrite(RewriteRule { condition, op })),
+        None => None,
+    }
 }

@@ -81,32 +81,75 @@ fn written(alloc: Global, spans: &[(usize, usize)]) -> Result<String, AllocError
     Ok(text)
 }
 
-// Whether a row holds, also of a second matcher, and whether it was understood.
-fn holds(alloc: Global, row: &str) -> Result<bool, Fail> {
+// The parts of a row.
+#[derive(Drop)]
+struct Row<'r> {
+    kind: Kind,
+    letters: &'r str,
+    pattern: &'r str,
+    text: &'r str,
+    spans: &'r str,
+}
+
+fn row_of(row: &str) -> Option<Row<'_>> {
     let Some((head, rest)) = row.split_once(' ') else {
-        return Ok(false);
+        return None;
     };
-    let Some((letters, rest)) = rest.split_once(' ') else {
-        return Ok(false);
+    let (Some((letters, rest)), Some(kind)) = (rest.split_once(' '), kind_of(head)) else {
+        return None;
     };
     let Some((pattern, rest)) = rest.split_once(" |") else {
-        return Ok(false);
+        return None;
     };
-    let (Some((text, spans)), Some(kind)) = (rest.split_once(" |"), kind_of(head)) else {
-        return Ok(false);
-    };
-    if !are_flags(letters) {
-        return Ok(false);
+    match rest.split_once(" |") {
+        Some((text, spans)) if are_flags(letters) => Some(Row {
+            kind,
+            letters,
+            pattern,
+            text,
+            spans,
+        }),
+        _ => None,
     }
-    let mut patterns = Patterns { too_large: 0 };
-    let flags = flags_of(letters);
-    let mut matcher = Matcher::new(alloc, &mut patterns, kind, pattern.as_bytes(), flags)?;
+}
+
+// Whether a matcher gives the spans of a row.
+fn gives(alloc: Global, matcher: &mut Matcher, row: &Row<'_>) -> Result<bool, AllocError> {
+    let found = matcher.spans(alloc, row.text.as_bytes())?;
+    let text = written(alloc, &found)?;
+    Ok(text.as_str() == row.spans)
+}
+
+// Whether a second matcher gives them.
+fn shared_gives(alloc: Global, matcher: &Matcher, row: &Row<'_>) -> Result<bool, AllocError> {
     let mut other = matcher.share(alloc)?;
-    let found = matcher.spans(alloc, text.as_bytes())?;
-    let again = other.spans(alloc, text.as_bytes())?;
-    let same = again.as_slice() == found.as_slice();
-    let finds = matcher.finds(text.as_bytes())? == !spans.is_empty();
-    Ok(same && finds && written(alloc, &found)?.as_str() == spans)
+    gives(alloc, &mut other, row)
+}
+
+// Whether both do, and the first one finds where there are any.
+fn all_give(alloc: Global, matcher: &mut Matcher, row: &Row<'_>) -> Result<bool, AllocError> {
+    let first = gives(alloc, matcher, row)?;
+    let second = shared_gives(alloc, matcher, row)?;
+    let finds = matcher.finds(row.text.as_bytes())?;
+    Ok(first && second && finds != row.spans.is_empty())
+}
+
+fn row_holds(alloc: Global, row: &Row<'_>) -> Result<bool, AllocError> {
+    let mut patterns = Patterns { too_large: 0 };
+    let (pattern, flags) = (row.pattern.as_bytes(), flags_of(row.letters));
+    let mut made = Matcher::new(alloc, &mut patterns, row.kind, pattern, flags);
+    match &mut made {
+        Ok(matcher) => all_give(alloc, matcher, row),
+        Err(_) => Ok(false),
+    }
+}
+
+// Whether a row holds, and whether it was understood.
+fn holds(alloc: Global, row: &str) -> Result<bool, AllocError> {
+    match row_of(row) {
+        Some(row) => row_holds(alloc, &row),
+        None => Ok(false),
+    }
 }
 
 #[test]
@@ -122,17 +165,28 @@ fn refusal(alloc: Global, patterns: &mut Patterns, text: &[u8]) -> Option<Patter
     Matcher::new(alloc, patterns, Kind::Regex, text, flags_of("-")).err()
 }
 
-#[test]
-fn refusals(rt: HostRuntime) -> Result<(), Fail> {
-    let alloc = rt.alloc();
+// Whether each of these is no regular expression, and the count of those that were too large stays.
+fn are_refused(alloc: Global, texts: &[&[u8]]) -> bool {
     let mut patterns = Patterns { too_large: 0 };
-    let syntax = Some(PatternRefusal::Syntax);
-    assert!(rt; refusal(alloc, &mut patterns, b"a(") == syntax);
-    assert!(rt; refusal(alloc, &mut patterns, b"\xFF") == syntax);
-    assert!(rt; refusal(alloc, &mut patterns, b"(?=a)") == syntax);
-    assert_eq!(rt; patterns.too_large, 0);
-    let large = refusal(alloc, &mut patterns, b"(\\w{1000}){100}");
-    assert!(rt; large == Some(PatternRefusal::TooLarge) && patterns.too_large == 1);
+    for text in texts {
+        if refusal(alloc, &mut patterns, *text) != Some(PatternRefusal::Syntax) {
+            return false;
+        }
+    }
+    patterns.too_large == 0
+}
+
+// Whether this one is too large, and the count rises.
+fn is_too_large(alloc: Global, text: &[u8]) -> bool {
+    let mut patterns = Patterns { too_large: 0 };
+    let refusal = refusal(alloc, &mut patterns, text);
+    refusal == Some(PatternRefusal::TooLarge) && patterns.too_large == 1
+}
+
+#[test]
+fn refusals(rt: HostRuntime) {
+    let alloc = rt.alloc();
+    assert!(rt; are_refused(alloc, &[b"a(", b"\xFF", b"(?=a)"]));
+    assert!(rt; is_too_large(alloc, b"(\\w{1000}){100}"));
     assert!(rt; glob_matches(b"\xFF?", b"\xFF\x00") && !glob_matches(b"a", b""));
-    Ok(())
 }

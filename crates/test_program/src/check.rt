@@ -3,46 +3,59 @@
 // with commas between them, the building of the patterns of these numbers, from 0, is refused as too large: numbers go on where they
 // are tried once more, and one that is no pattern has none.
 
+use crate::commands::check;
 use crate::faults::{append_fault, append_unread, append_words};
 use crate::heard::Heard;
 use crate::machine::{add_file, add_text, machine_with};
-use sg_checked::{Unchecked, check_file};
+use sg_daemon::Unchecked;
 use sg_device::NoMemory;
+use sg_memory::MemoryFile;
 use sg_memory_disk::Plan;
 use sg_world::MemoryMachine;
 use std::alloc::Global;
 
-// The numbers of a word, none where a part of it isn't one.
-fn numbers(alloc: Global, word: &str) -> Result<Option<Vec<u64>>, NoMemory> {
-    let mut out = Vec::new(alloc);
+fn are_numbers(word: &str) -> bool {
     for part in word.split(',') {
-        match part.parse::<u64>() {
-            Ok(number) => out.push(number)?,
-            Err(_) => return Ok(None),
+        if part.parse::<u64>().is_err() {
+            return false;
         }
     }
-    Ok(Some(out))
+    true
 }
 
-fn machine_of(alloc: Global, text: &str) -> Result<MemoryMachine, NoMemory> {
+// The numbers at the front of a row, none where it begins with no numbers, and the text.
+fn parts(row: &str) -> (&str, &str) {
+    match row.split_once(' ') {
+        Some((word, text)) if are_numbers(word) => (word, text),
+        _ => ("", row),
+    }
+}
+
+// The buildings of patterns that are refused.
+fn builds(alloc: Global, numbers: &str) -> Result<Plan, NoMemory> {
+    let mut calls = Vec::new(alloc);
+    for part in numbers.split(',') {
+        if let Ok(number) = part.parse::<u64>() {
+            calls.push(number)?;
+        }
+    }
+    Ok(Plan::new(calls))
+}
+
+fn files(alloc: Global, text: &str) -> Result<Vec<MemoryFile>, NoMemory> {
     let mut files = Vec::new(alloc);
     add_file(alloc, b"d", b"filter f {\n message(\"x\"); };", &mut files)?;
     add_text(alloc, b"c", text, &mut files)?;
-    Ok(machine_with(alloc, files))
+    Ok(files)
 }
 
 fn machine(alloc: Global, row: &str) -> Result<MemoryMachine, NoMemory> {
-    let Some((word, text)) = row.split_once(' ') else {
-        return machine_of(alloc, row);
-    };
-    match numbers(alloc, word)? {
-        Some(calls) => {
-            let mut machine = machine_of(alloc, text)?;
-            machine.world.plans.builds = Plan::new(calls);
-            Ok(machine)
-        }
-        None => machine_of(alloc, row),
-    }
+    let (numbers, text) = parts(row);
+    let builds = builds(alloc, numbers)?;
+    let files = files(alloc, text)?;
+    let mut machine = machine_with(alloc, files);
+    machine.world.plans.builds = builds;
+    Ok(machine)
 }
 
 fn append_unchecked(
@@ -58,13 +71,18 @@ fn append_unchecked(
     }
 }
 
-/// What is said of the file, and behind it what was refused.
-pub(crate) fn answer(alloc: Global, row: &str) -> Result<Heard, NoMemory> {
-    let mut machine = machine(alloc, row)?;
-    let checked = check_file(alloc, b"c", &mut machine);
+// What is said of the file of this machine, and behind it what was refused.
+fn said(alloc: Global, machine: &mut MemoryMachine) -> Result<Heard, NoMemory> {
+    let checked = check(alloc, machine);
     let mut out = machine.world.said().to_vec(alloc)?;
     if let Err(unchecked) = &checked {
         append_unchecked(alloc, unchecked, &mut out)?;
     }
     Ok(Heard::Answer(out))
+}
+
+/// What is said of the file.
+pub(crate) fn answer(alloc: Global, row: &str) -> Result<Heard, NoMemory> {
+    let mut machine = machine(alloc, row)?;
+    said(alloc, &mut machine)
 }

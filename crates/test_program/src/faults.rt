@@ -4,7 +4,7 @@ use sg_lex::ConfigFault;
 use sg_list::Seq;
 use sg_loaded::Unloaded;
 use sg_report::fault_text;
-use sg_traced::Untraced;
+use sg_trace::Untraced;
 use std::alloc::Global;
 
 pub(crate) fn append_words(words: &[u8], out: &mut Vec<u8>) -> Result<(), NoMemory> {

@@ -2,13 +2,15 @@
 // return: the file is named `c`, and includes others by the names `d`, which refers to a filter that isn't there, and `e`, which
 // defines one. Of a row `gone TEXT` the file isn't there any more when the hint is asked for.
 
+use crate::commands::check;
 use crate::heard::Heard;
 use crate::machine::{add_file, machine_with};
-use sg_checked::{Unchecked, check_file};
+use sg_daemon::Unchecked;
 use sg_device::{Name, NoMemory};
 use sg_hint::hint;
 use sg_lex::ConfigFault;
 use sg_list::Seq;
+use sg_memory::MemoryFile;
 use sg_world::MemoryMachine;
 use std::alloc::Global;
 
@@ -25,58 +27,80 @@ fn spaced(alloc: Global, text: &str) -> Result<Vec<u8>, NoMemory> {
     Ok(out)
 }
 
-// A machine with the included files, and the file `c` where it has a text.
-fn machine(alloc: Global, text: Option<&str>) -> Result<MemoryMachine, NoMemory> {
+fn add_spaced(alloc: Global, text: &str, files: &mut Vec<MemoryFile>) -> Result<(), NoMemory> {
+    let bytes = spaced(alloc, text)?;
+    add_file(alloc, b"c", &bytes, files)
+}
+
+// The files that are included.
+fn included(alloc: Global) -> Result<Vec<MemoryFile>, NoMemory> {
     let mut files = Vec::new(alloc);
-    add_file(
-        alloc,
-        b"d",
-        b"# included\nlog { filter(g); };\n",
-        &mut files,
-    )?;
-    add_file(
-        alloc,
-        b"e",
-        b"filter first { message(\"x\"); };\n",
-        &mut files,
-    )?;
+    let (d, e) = (
+        b"# included\nlog { filter(g); };\n".as_slice(),
+        b"filter first { message(\"x\"); };\n".as_slice(),
+    );
+    add_file(alloc, b"d", d, &mut files)?;
+    add_file(alloc, b"e", e, &mut files)?;
+    Ok(files)
+}
+
+// The included files, and the file `c` where it has a text.
+fn files(alloc: Global, text: Option<&str>) -> Result<Vec<MemoryFile>, NoMemory> {
+    let mut files = included(alloc)?;
     if let Some(text) = text {
-        let bytes = spaced(alloc, text)?;
-        add_file(alloc, b"c", &bytes, &mut files)?;
+        add_spaced(alloc, text, &mut files)?;
     }
-    Ok(machine_with(alloc, files))
+    Ok(files)
+}
+
+fn machine(alloc: Global, text: Option<&str>) -> Result<MemoryMachine, NoMemory> {
+    Ok(machine_with(alloc, files(alloc, text)?))
+}
+
+fn hint_text(
+    alloc: Global,
+    machine: &mut MemoryMachine,
+    fault: &ConfigFault,
+    names: &Seq<Name>,
+) -> Result<Vec<u8>, NoMemory> {
+    match hint(alloc, machine, fault, names.as_slice())? {
+        Some(text) => Ok(text),
+        None => b"no hint".to_vec(alloc),
+    }
 }
 
 // The hint beside a fault, where the file `c` has this text when it is asked for.
-fn hint_text(
+fn hinted(
     alloc: Global,
     text: Option<&str>,
     fault: &ConfigFault,
     names: &Seq<Name>,
 ) -> Result<Vec<u8>, NoMemory> {
     let mut machine = machine(alloc, text)?;
-    match hint(alloc, &mut machine, fault, names.as_slice())? {
-        Some(text) => Ok(text),
-        None => b"no hint".to_vec(alloc),
-    }
+    hint_text(alloc, &mut machine, fault, names)
 }
 
-// What becomes of a file with this text, which has the other one when the hint is asked for.
-fn told(alloc: Global, text: &str, later: Option<&str>) -> Result<Vec<u8>, NoMemory> {
-    let mut machine = machine(alloc, Some(text))?;
-    let checked = check_file(alloc, b"c", &mut machine);
+// What becomes of the file `c` of this machine, which has the text when the hint is asked for.
+fn told(
+    alloc: Global,
+    machine: &mut MemoryMachine,
+    later: Option<&str>,
+) -> Result<Vec<u8>, NoMemory> {
+    let checked = check(alloc, machine);
     match &checked {
         Ok(()) => b"ok".to_vec(alloc),
-        Err(Unchecked::Bad(fault, names)) => hint_text(alloc, later, fault, names),
+        Err(Unchecked::Bad(fault, names)) => hinted(alloc, later, fault, names),
         Err(_) => b"not loaded".to_vec(alloc),
     }
 }
 
 /// The hint beside the file's fault.
 pub(crate) fn answer(alloc: Global, row: &str) -> Result<Heard, NoMemory> {
-    let said = match row.strip_prefix("gone ") {
-        Some(text) => told(alloc, text, None)?,
-        None => told(alloc, row, Some(row))?,
+    let (text, later) = match row.strip_prefix("gone ") {
+        Some(text) => (text, None),
+        None => (row, Some(row)),
     };
+    let mut machine = machine(alloc, Some(text))?;
+    let said = told(alloc, &mut machine, later)?;
     Ok(Heard::Answer(said))
 }

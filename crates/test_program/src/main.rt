@@ -12,6 +12,7 @@
 #![tactic(auto)]
 
 mod check;
+mod commands;
 mod faults;
 mod heard;
 mod hint;

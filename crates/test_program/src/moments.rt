@@ -38,7 +38,7 @@ fn told<T: Threads + Wait + Sync>(
     rt: &T,
     alloc: Global,
     row: &str,
-) -> Result<Option<String>, NoMemory> {
+) -> Result<Option<Vec<u8>>, NoMemory> {
     let (kind, rest) = row.split_once(' ').unwrap_or((row, ""));
     match kind {
         "each" => rows::each(rt, alloc, rest),
@@ -56,7 +56,7 @@ pub(crate) fn answer<T: Threads + Wait + Sync>(
     row: &str,
 ) -> Result<Heard, NoMemory> {
     match told(rt, alloc, row)? {
-        Some(said) => Ok(Heard::Answer(said.into_bytes())),
+        Some(said) => Ok(Heard::Answer(said)),
         None => Ok(Heard::Unknown),
     }
 }

@@ -21,6 +21,7 @@ ghost use Rattle.std.specs.Prelude.{◌≡◌, ◌≤◌, ◌<◌, ◌^◌};
 mod answers;
 mod reading;
 
+use crate::commands;
 use crate::heard::Heard;
 use crate::machine::broken;
 use crate::stores::put_store;
@@ -29,7 +30,6 @@ use reading::{calls, peer_parts};
 use sg_device::NoMemory;
 use sg_memory::{MemoryConnection, MemoryFile, MemoryWorld, OutletScript, Pace, WorldPlans};
 use sg_memory_disk::{DiskPlan, MemoryStores, Plan};
-use sg_run::run_file;
 use sg_world::MemoryMachine;
 use std::alloc::Global;
 use std::collections::VecDeque;
@@ -98,7 +98,7 @@ fn run_in<T: Threads + Wait + Sync>(
     requires some { 0 < rounds }
     requires rounds { rounds ≤ 2 ^ 36 }
 {
-    let end = run_file(rt, alloc, b"c", true, rounds, machine);
+    let end = commands::run(rt, alloc, rounds, machine);
     append_end(alloc, &end, out)?;
     append_taken(&machine.world, out)?;
     match &end {

@@ -23,9 +23,12 @@ fn append_unshown(alloc: Global, unshown: &Unshown, out: &mut Vec<u8>) -> Result
     }
 }
 
-fn traced(alloc: Global, source: &str, input: &str, config: &str) -> Result<Heard, NoMemory> {
-    let mut machine = machine(alloc, input, config)?;
-    let shown = trace_input(alloc, b"c", source.as_bytes(), b"in", &mut machine);
+fn show(alloc: Global, source: &str, machine: &mut MemoryMachine) -> Result<(), Unshown> {
+    trace_input(alloc, b"c", source.as_bytes(), b"in", machine)
+}
+
+fn traced(alloc: Global, source: &str, machine: &mut MemoryMachine) -> Result<Heard, NoMemory> {
+    let shown = show(alloc, source, machine);
     let mut out = machine.world.said().to_vec(alloc)?;
     if let Err(unshown) = &shown {
         append_unshown(alloc, unshown, &mut out)?;
@@ -41,5 +44,6 @@ pub(crate) fn answer(alloc: Global, row: &str) -> Result<Heard, NoMemory> {
     let Some((input, config)) = rest.split_once('\t') else {
         return Ok(Heard::Unknown);
     };
-    traced(alloc, source, input, config)
+    let mut machine = machine(alloc, input, config)?;
+    traced(alloc, source, &mut machine)
 }

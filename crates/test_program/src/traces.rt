@@ -12,7 +12,7 @@ use sg_device::NoMemory;
 use sg_frame::FrameKind;
 use sg_outfmt::Shape;
 use sg_template::{Env, Template};
-use sg_traced::{Reader, Target, Untraced, trace_file};
+use sg_trace::{Reader, Target, Untraced, trace_file};
 use sg_world::MemoryMachine;
 use split::Split;
 use std::alloc::{AllocError, Global};

@@ -3,7 +3,7 @@ use crate::messages::{message_without_pairs, set};
 use crate::ops::{LINE, checked_op, op_of, rewrite_of};
 use sg_msg::Message;
 use sg_pattern::{BuildRefusal, Patterns};
-use sg_rewrite::Rewrite;
+use sg_rewrite::{Op, Rewrite};
 use std::alloc::{AllocError, Global};
 use std::test::Fail;
 
@@ -31,18 +31,27 @@ fn long_message(alloc: Global) -> Option<Message> {
     }
 }
 
-// The length of the pair's value after the rewrite of another handle of the message.
+// The length of the pair's value after the rewrite.
 fn length_after(
+    alloc: Global,
+    rewrite: &mut Rewrite,
+    message: &mut Message,
+) -> Result<usize, AllocError> {
+    rewrite.apply(alloc, message)?;
+    match message.get(b"k") {
+        Some(value) => Ok(value.len()),
+        None => Ok(0),
+    }
+}
+
+// The length after the rewrite of another handle of the message.
+fn other_length(
     alloc: Global,
     rewrite: &mut Rewrite,
     message: &Message,
 ) -> Result<usize, AllocError> {
     let mut other = message.share()?;
-    rewrite.apply(alloc, &mut other)?;
-    match other.get(b"k") {
-        Some(value) => Ok(value.len()),
-        None => Ok(0),
-    }
+    length_after(alloc, rewrite, &mut other)
 }
 
 // How many bytes the rewrite makes of the pair's value.
@@ -53,8 +62,9 @@ fn length_of(
     pattern: &str,
     text: &str,
 ) -> Option<usize> {
-    match rewrite_of(alloc, words, "k", pattern, text) {
-        Some(mut rewrite) => length_after(alloc, &mut rewrite, message).ok(),
+    let mut made = rewrite_of(alloc, words, "k", pattern, text);
+    match &mut made {
+        Some(rewrite) => other_length(alloc, rewrite, message).ok(),
         None => None,
     }
 }
@@ -67,13 +77,20 @@ const LENGTHS: [(&str, &str, &str, usize); 4] = [
     ("text sg", "aa", "b", 300_000),
 ];
 
+// The words of the first row that doesn't hold; empty where each does.
+fn wrong_length(alloc: Global, message: &Message) -> &'static str {
+    for (words, pattern, text, length) in LENGTHS {
+        if length_of(alloc, message, words, pattern, text) != Some(length) {
+            return words;
+        }
+    }
+    ""
+}
+
 #[test]
 fn lengths(rt: HostRuntime) -> Result<(), Fail> {
     let message = long_message(rt.alloc()).ok_or("no message")?;
-    for (words, pattern, text, length) in LENGTHS {
-        let found = length_of(rt.alloc(), &message, words, pattern, text);
-        assert_eq!(rt; found, Some(length), "{words}");
-    }
+    assert_eq!(rt; wrong_length(rt.alloc(), &message), "");
     Ok(())
 }
 
@@ -94,20 +111,11 @@ fn set_many(alloc: Global, message: &mut Message) -> bool {
     true
 }
 
-// A message of 1,000 pairs `n0` to `n999`, and a tag.
-fn many_pairs(alloc: Global) -> Option<Message> {
-    let Some(mut message) = message_without_pairs(alloc, 13) else {
-        return None;
-    };
-    if set_many(alloc, &mut message) && message.set_tag(b"red").is_ok() {
-        Some(message)
-    } else {
-        None
-    }
-}
-
-// How many pairs the rewrite leaves, where the tag is.
+// The pairs `n0` to `n999` and a tag more, and how many pairs the rewrite leaves, where the tag is.
 fn pairs_after(alloc: Global, rewrite: &mut Rewrite, message: &mut Message) -> Option<usize> {
+    if !set_many(alloc, message) || message.set_tag(b"red").is_err() {
+        return None;
+    }
     if rewrite.apply(alloc, message).is_err() {
         return None;
     }
@@ -117,28 +125,40 @@ fn pairs_after(alloc: Global, rewrite: &mut Rewrite, message: &mut Message) -> O
     }
 }
 
-// How many pairs are left of 1,000 without those whose names match.
-fn left_without(alloc: Global, glob: &str) -> Option<usize> {
-    let Some(mut rewrite) = rewrite_of(alloc, "groupunset", glob, "", "") else {
-        return None;
-    };
-    match many_pairs(alloc) {
-        Some(mut message) => pairs_after(alloc, &mut rewrite, &mut message),
+fn pairs_of_many(alloc: Global, rewrite: &mut Rewrite) -> Option<usize> {
+    let mut made = message_without_pairs(alloc, 13);
+    match &mut made {
+        Some(message) => pairs_after(alloc, rewrite, message),
         None => None,
     }
 }
 
-// Why a pattern is refused, and the count of those that were too large.
-fn refusal_of(alloc: Global, pattern: &str) -> (Option<BuildRefusal>, u64) {
-    let Some(op) = op_of(alloc, "regex -", "k", pattern, "") else {
-        return (None, 0);
-    };
-    let Some(()) = checked_op(&op) else {
+// How many pairs are left of 1,000 without those whose names match.
+fn left_without(alloc: Global, glob: &str) -> Option<usize> {
+    let mut made = rewrite_of(alloc, "groupunset", glob, "", "");
+    match &mut made {
+        Some(rewrite) => pairs_of_many(alloc, rewrite),
+        None => None,
+    }
+}
+
+// Why a rewrite isn't made, and the count of patterns that were too large.
+fn refusal_by(alloc: Global, op: &Op) -> (Option<BuildRefusal>, u64) {
+    let Some(()) = checked_op(op) else {
         return (None, 0);
     };
     let mut patterns = Patterns { too_large: 0 };
-    let refusal = Rewrite::new(alloc, &mut patterns, &op).err();
+    let refusal = Rewrite::new(alloc, &mut patterns, op).err();
     (refusal, patterns.too_large)
+}
+
+// Why a pattern is refused, and the count of those that were too large.
+fn refusal_of(alloc: Global, pattern: &str) -> (Option<BuildRefusal>, u64) {
+    let made = op_of(alloc, "regex -", "k", pattern, "");
+    match &made {
+        Some(op) => refusal_by(alloc, op),
+        None => (None, 0),
+    }
 }
 
 #[test]

@@ -94,17 +94,26 @@ fn row_of(line: &str) -> Option<Row<'_>> {
     })
 }
 
-// Whether the rewrite makes this of another handle of the message.
+// Whether the rewrite makes this of the message.
 fn makes(
+    alloc: Global,
+    rewrite: &mut Rewrite,
+    message: &mut Message,
+    expected: &[u8],
+) -> Result<bool, AllocError> {
+    rewrite.apply(alloc, message)?;
+    Ok(written(alloc, message)?.as_slice() == expected)
+}
+
+// Whether it makes this of another handle of the message.
+fn makes_other(
     alloc: Global,
     rewrite: &mut Rewrite,
     message: &Message,
     expected: &[u8],
 ) -> Result<bool, AllocError> {
     let mut other = message.share()?;
-    rewrite.apply(alloc, &mut other)?;
-    let text = written(alloc, &other)?;
-    Ok(text.as_slice() == expected)
+    makes(alloc, rewrite, &mut other, expected)
 }
 
 // Whether an equal rewrite makes this of it.
@@ -115,7 +124,7 @@ fn shared_makes(
     expected: &[u8],
 ) -> Result<bool, AllocError> {
     let mut other = rewrite.share(alloc)?;
-    makes(alloc, &mut other, message, expected)
+    makes_other(alloc, &mut other, message, expected)
 }
 
 // Whether both do.
@@ -125,9 +134,14 @@ fn both_make(
     message: &Message,
     expected: &[u8],
 ) -> Result<bool, AllocError> {
-    let first = makes(alloc, rewrite, message, expected)?;
+    let first = makes_other(alloc, rewrite, message, expected)?;
     let second = shared_makes(alloc, rewrite, message, expected)?;
     Ok(first && second)
+}
+
+// Whether the message says this.
+fn says(alloc: Global, message: &Message, text: &[u8]) -> Result<bool, AllocError> {
+    Ok(written(alloc, message)?.as_slice() == text)
 }
 
 // Whether both do, and the message says what it said before.
@@ -139,8 +153,7 @@ fn gives(
 ) -> Result<bool, AllocError> {
     let before = written(alloc, message)?;
     let made = both_make(alloc, rewrite, message, expected)?;
-    let after = written(alloc, message)?;
-    Ok(made && before.as_slice() == after.as_slice())
+    Ok(made && says(alloc, message, &before)?)
 }
 
 fn gives_text(alloc: Global, rewrite: &mut Rewrite, message: &Message, expected: &str) -> bool {
@@ -158,16 +171,23 @@ fn rewrite_by(alloc: Global, row: &Row) -> Option<Rewrite> {
     None
 }
 
+// Whether this rewrite gives what the row says.
+fn gives_row(alloc: Global, rewrite: &mut Rewrite, row: &Row) -> bool {
+    let made = message_at(alloc, row.place);
+    match &made {
+        Some(message) => gives_text(alloc, rewrite, message, row.expected),
+        None => false,
+    }
+}
+
 // Whether a row holds, and whether it was understood.
 fn holds(alloc: Global, line: &str) -> bool {
     let Some(row) = row_of(line) else {
         return false;
     };
-    let Some(mut rewrite) = rewrite_by(alloc, &row) else {
-        return false;
-    };
-    match message_at(alloc, row.place) {
-        Some(message) => gives_text(alloc, &mut rewrite, &message, row.expected),
+    let mut made = rewrite_by(alloc, &row);
+    match &mut made {
+        Some(rewrite) => gives_row(alloc, rewrite, &row),
         None => false,
     }
 }

@@ -5,8 +5,6 @@ ghost use Rattle.sg_serve.specs.Devices.{IsFetching, AreFetching, AreNotByPath};
 ghost use Rattle.sg_serve.specs.Plan.{IsRunnable};
 ghost use Rattle.test_serve.specs.Plans.{tried};
 
-use sg_run_plan::{InletPlan, OutletPlan, RunPlan};
-use crate::router::ByDigit;
 use sg_device::{Name, NoMemory};
 use sg_frame::FrameKind;
 use sg_list::Seq;
@@ -15,12 +13,14 @@ use sg_memory::{MemoryFile, MemoryWorld, OutletScript as Sends, Pace};
 use sg_memory_disk::Plan;
 use sg_outfmt::Shape;
 use sg_outside::{InletSpec, OutletSpec, StoreSpec};
+use sg_run_plan::{InletPlan, OutletPlan, RunPlan};
 use sg_serve::{Device, Early, Ended, Fault, PlanEnded, run_plan};
 use sg_template::{Env, Template};
 use sg_world::MemoryMachine;
 use std::alloc::{AllocError, Global};
 use std::sync::Wait;
 use std::thread::Threads;
+use test_flow::ByDigit;
 
 // The call that fails, how the run ends, what failed first, and the frames of the last outlet: those of one source in their
 // order, and the two sources' in any, as ` or ` says.
@@ -144,9 +144,9 @@ fn plan(alloc: Global) -> Result<RunPlan, NoMemory>
     ensures setup { IfOk result (λ plan. plan.setup ≡ tried) }
 {
     let setup = setup(alloc)?;
+    let stores = stores(alloc)?;
     let inlets = inlets(alloc)?;
     let outlets = outlets(alloc)?;
-    let stores = stores(alloc)?;
     Ok(RunPlan {
         setup,
         inlets,
@@ -179,20 +179,21 @@ fn call(alloc: Global, number: u64) -> Result<Plan, NoMemory> {
     Ok(Plan::new(vec![in alloc; number]?))
 }
 
-// Lets the call fail that a row names.
-fn fail(alloc: Global, fails: &str, world: &mut MemoryWorld) -> Result<bool, NoMemory> {
-    let Some((kind, number)) = fails.split_once(' ') else {
-        if fails == "sends" {
-            world.plans.outlets.push_back(Sends::never(alloc))?;
-            let all = Plan::new(vec![in alloc; 0, 1, 2, 3, 4, 5, 6, 7]?);
-            world.plans.outlets.push_back(Sends::failing(alloc, all))?;
-            return Ok(true);
-        }
-        return Ok(fails == "none");
-    };
-    let Ok(number) = number.parse() else {
-        return Ok(false);
-    };
+// Lets each send of the last outlet fail.
+fn fail_sends(alloc: Global, world: &mut MemoryWorld) -> Result<(), NoMemory> {
+    let all = Plan::new(vec![in alloc; 0, 1, 2, 3, 4, 5, 6, 7]?);
+    world.plans.outlets.push_back(Sends::never(alloc))?;
+    world.plans.outlets.push_back(Sends::failing(alloc, all))?;
+    Ok(())
+}
+
+// Lets this call of a kind fail.
+fn fail_call(
+    alloc: Global,
+    kind: &str,
+    number: u64,
+    world: &mut MemoryWorld,
+) -> Result<bool, NoMemory> {
     let plan = call(alloc, number)?;
     match kind {
         "store" => world.stores.opens = plan,
@@ -202,6 +203,21 @@ fn fail(alloc: Global, fails: &str, world: &mut MemoryWorld) -> Result<bool, NoM
         _ => return Ok(false),
     }
     Ok(true)
+}
+
+// Lets the call fail that a row names.
+fn fail(alloc: Global, fails: &str, world: &mut MemoryWorld) -> Result<bool, NoMemory> {
+    if fails == "sends" {
+        fail_sends(alloc, world)?;
+        return Ok(true);
+    }
+    match fails.split_once(' ') {
+        Some((kind, number)) => match number.parse::<u64>() {
+            Ok(number) => fail_call(alloc, kind, number, world),
+            Err(_) => Ok(false),
+        },
+        None => Ok(fails == "none"),
+    }
 }
 
 fn ended(ending: &PlanEnded, how: &str) -> bool {
@@ -254,21 +270,60 @@ fn has_taken(world: &MemoryWorld, frames: &str) -> bool {
     are(taken, one) || are(taken, other)
 }
 
-fn shows<T: Threads + Wait + Sync>(rt: &T, alloc: Global, row: &str) -> Result<bool, NoMemory> {
-    if row.split(';').count() != 4 {
-        return Ok(false);
+// The parts of a row.
+#[derive(Clone, Copy, Drop)]
+struct Row<'a> {
+    fails: &'a str,
+    how: &'a str,
+    what: &'a str,
+    frames: &'a str,
+}
+
+fn cell(row: &str, place: usize) -> &str {
+    row.split(';').nth(place).unwrap_or("")
+}
+
+fn read_row(row: &str) -> Row<'_> {
+    Row {
+        fails: cell(row, 0),
+        how: cell(row, 1),
+        what: cell(row, 2),
+        frames: cell(row, 3),
     }
-    let (fails, rest) = row.split_once(';').unwrap_or((row, ""));
-    let (how, rest) = rest.split_once(';').unwrap_or((rest, ""));
-    let (what, frames) = rest.split_once(';').unwrap_or((rest, ""));
-    let mut machine = machine(alloc)?;
-    if !fail(alloc, fails, &mut machine.world)? {
-        return Ok(false);
-    }
-    let plan = plan(alloc)?;
+}
+
+fn run<T: Threads + Wait + Sync>(
+    rt: &T,
+    alloc: Global,
+    machine: &mut MemoryMachine,
+) -> Result<PlanEnded, NoMemory> {
     let routers = routers(alloc)?;
-    let ending = run_plan(rt, alloc, plan, routers, 100, &mut machine);
-    Ok(ended(&ending, how) && failed(&ending, what) && has_taken(&machine.world, frames))
+    let plan = plan(alloc)?;
+    Ok(run_plan(rt, alloc, plan, routers, 100, machine))
+}
+
+// Whether a run on the machine, with the call failing that the row names, ends as the row says.
+fn goes<T: Threads + Wait + Sync>(
+    rt: &T,
+    alloc: Global,
+    machine: &mut MemoryMachine,
+    row: Row<'_>,
+) -> Result<bool, NoMemory> {
+    if !fail(alloc, row.fails, &mut machine.world)? {
+        return Ok(false);
+    }
+    let ending = run(rt, alloc, machine)?;
+    Ok(
+        ended(&ending, row.how)
+            && failed(&ending, row.what)
+            && has_taken(&machine.world, row.frames),
+    )
+}
+
+fn shows<T: Threads + Wait + Sync>(rt: &T, alloc: Global, row: &str) -> Result<bool, NoMemory> {
+    let mut machine = machine(alloc)?;
+    let right = goes(rt, alloc, &mut machine, read_row(row))?;
+    Ok(right && row.split(';').count() == 4)
 }
 
 #[test]

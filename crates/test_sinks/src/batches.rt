@@ -2,7 +2,7 @@
 ghost use Rattle.std.specs.Prelude.{◌≡◌, ◌≤◌, ◌<◌, ◌+◌, ◌^◌, IfOk, OnOk, length};
 ghost use Rattle.sg_counter.specs.Bringing.{AllWithin, AllMayEnter};
 
-use crate::sinks::{capacity, letter, message, number, shows, small};
+use crate::sinks::{capacity, cut, letter, message, number, shows, small};
 use sg_list::Seq;
 use sg_machine::{Admission, BufferSetup, DestSetup};
 use sg_msg::Offer;
@@ -187,30 +187,36 @@ fn enter_all(alloc: Global, sinks: &mut Seq<Sink>, text: &str) -> Result<Option<
     Ok(said)
 }
 
-fn is_right(alloc: Global, row: &str) -> Result<bool, Fail> {
-    if row.split('|').count() != 8 {
-        return Ok(false);
-    }
-    let mut parts = row.split('|').skip(1);
-    let capacity = capacity(parts.next().unwrap_or(""))?;
-    let mut sinks = destinations(alloc, capacity)?;
-    let Some(said) = enter_all(alloc, &mut sinks, parts.next().unwrap_or(""))? else {
-        return Ok(false);
-    };
-    Ok(
-        said.taken.as_str() == parts.next().unwrap_or("").trim()
-            && said.verdicts.as_str() == parts.next().unwrap_or("").trim()
-            && said.left.as_str().trim() == parts.next().unwrap_or("").trim()
-            && shows_both(
-                alloc,
-                &sinks,
-                parts.next().unwrap_or(""),
-                parts.next().unwrap_or(""),
-            )?,
-    )
+// Whether the last batch came to these answers, and what stands behind them.
+fn says<'a>(said: &Said, text: &'a str) -> Result<(bool, &'a str), Fail> {
+    let (taken, rest) = cut(text)?;
+    let (verdicts, rest) = cut(rest)?;
+    let (left, rest) = cut(rest)?;
+    let same = said.taken.as_str() == taken.trim()
+        && said.verdicts.as_str() == verdicts.trim()
+        && said.left.as_str().trim() == left.trim();
+    Ok((same, rest))
 }
 
-fn shows_both(alloc: Global, sinks: &Seq<Sink>, first: &str, second: &str) -> Result<bool, Fail> {
+// Whether the batches answer so, and leave that.
+fn comes_to(alloc: Global, sinks: &mut Seq<Sink>, text: &str) -> Result<bool, Fail> {
+    let (batches, wanted) = cut(text)?;
+    let Some(said) = enter_all(alloc, sinks, batches)? else {
+        return Ok(false);
+    };
+    let (same, left) = says(&said, wanted)?;
+    Ok(same && shows_both(alloc, sinks, left)?)
+}
+
+fn is_right(alloc: Global, row: &str) -> Result<bool, Fail> {
+    let (_, rest) = cut(row)?;
+    let (buffer, rest) = cut(rest)?;
+    let mut sinks = destinations(alloc, capacity(buffer)?)?;
+    comes_to(alloc, &mut sinks, rest)
+}
+
+fn shows_both(alloc: Global, sinks: &Seq<Sink>, text: &str) -> Result<bool, Fail> {
+    let (first, second) = cut(text)?;
     match (sinks.get(0), sinks.get(1)) {
         (Some(sink), Some(queue)) => {
             Ok(shows(alloc, sink, first)? && shows(alloc, queue, second)?)

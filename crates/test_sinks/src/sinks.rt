@@ -71,20 +71,29 @@ pub(crate) fn small(word: &str) -> Result<u32, Fail> {
     Ok(word.trim().parse()?)
 }
 
-fn offer(alloc: Global, sink: &mut Sink, word: &str) -> Result<char, Fail> {
+// An offer of these words, and whether the store fails within the call.
+fn offer_of(alloc: Global, word: &str) -> Result<(Offer, bool), Fail> {
     if !(word.starts_with('f') || word.starts_with('n')) {
         return Err(Fail::from("no such call"));
     }
     let size = word.get(1..).unwrap_or("");
-    let size = number(size.strip_suffix('x').unwrap_or(size))?;
-    let offer = Offer {
-        dest: 0,
-        message: message(alloc, size)?,
-        flow: word.starts_with('f'),
-    };
+    let message = message(alloc, number(size.strip_suffix('x').unwrap_or(size))?)?;
+    let flow = word.starts_with('f');
+    Ok((
+        Offer {
+            dest: 0,
+            message,
+            flow,
+        },
+        word.ends_with('x'),
+    ))
+}
+
+fn offer(alloc: Global, sink: &mut Sink, word: &str) -> Result<char, Fail> {
+    let (offer, fails) = offer_of(alloc, word)?;
     let block = offer_block(alloc, sink.setup().buffer, 0, 10, &offer)?;
     sink.reserve(1)?;
-    Ok(letter(sink.offer(0, 7, offer, block, word.ends_with('x'))))
+    Ok(letter(sink.offer(0, 7, offer, block, fails)))
 }
 
 // Whether the first that wait are those of the next places.
@@ -154,29 +163,44 @@ pub(crate) fn shows(alloc: Global, sink: &Sink, text: &str) -> Result<bool, Fail
     Ok(said.as_str() == text.trim())
 }
 
-fn is_right(alloc: Global, row: &str) -> Result<bool, Fail> {
-    if row.split('|').count() != 6 {
-        return Ok(false);
-    }
-    let mut parts = row.split('|').skip(1);
-    let fifo = small(parts.next().unwrap_or(""))?;
-    let capacity = capacity(parts.next().unwrap_or(""))?;
+// A part of a row, and the rest of it.
+pub(crate) fn cut(text: &str) -> Result<(&str, &str), Fail> {
+    Ok(text.split_once('|').ok_or("a part is missing")?)
+}
+
+fn setup_of(fifo: u32, capacity: u64) -> DestSetup {
     let buffer = BufferSetup { store: 0, capacity };
-    let setup = DestSetup {
+    DestSetup {
         fifo,
         buffer: if capacity == 0 { None } else { Some(buffer) },
-    };
-    let mut sink = Sink::new(alloc, setup);
+    }
+}
+
+// What the calls answer.
+fn called(alloc: Global, sink: &mut Sink, calls: &str) -> Result<String, Fail> {
     let mut answers = String::new(alloc);
-    for word in parts.next().unwrap_or("").split_whitespace() {
-        if let Some(answer) = call(alloc, &mut sink, word)? {
+    for word in calls.split_whitespace() {
+        if let Some(answer) = call(alloc, sink, word)? {
             answers.push(answer)?;
         }
     }
-    Ok(
-        answers.as_str() == parts.next().unwrap_or("").trim()
-            && shows(alloc, &sink, parts.next().unwrap_or(""))?,
-    )
+    Ok(answers)
+}
+
+// Whether the calls answer so, and leave that.
+fn comes_to(alloc: Global, sink: &mut Sink, text: &str) -> Result<bool, Fail> {
+    let (calls, rest) = cut(text)?;
+    let (wanted, left) = cut(rest)?;
+    let answers = called(alloc, sink, calls)?;
+    Ok(answers.as_str() == wanted.trim() && shows(alloc, sink, left)?)
+}
+
+fn is_right(alloc: Global, row: &str) -> Result<bool, Fail> {
+    let (_, rest) = cut(row)?;
+    let (fifo, rest) = cut(rest)?;
+    let (buffer, rest) = cut(rest)?;
+    let mut sink = Sink::new(alloc, setup_of(small(fifo)?, capacity(buffer)?));
+    comes_to(alloc, &mut sink, rest)
 }
 
 #[test]

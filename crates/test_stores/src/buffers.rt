@@ -45,30 +45,17 @@ const FOUND: [&str; 8] = [
 const ONE_RENEWED: &str =
     "64 01 0000003d 02 01 00000000 0000000000000004 0d 0000000000000000 0000 0000000000000000 0000 00000000 00000001 00000007 4d455353414745 00000003 6f6e65 00";
 
-fn is_head(head: &Head, line: &str) -> Result<bool, Fail> {
-    let mut words = line.split(' ');
-    let source: u32 = words.next().ok_or("no source")?.parse()?;
-    let end: u64 = words.next().ok_or("no end")?.parse()?;
-    let flow = match words.next() {
-        Some("true") => true,
-        Some("false") => false,
-        _ => return Err(Fail::from("no flow-control")),
-    };
-    let length: u64 = words.next().ok_or("no length")?.parse()?;
-    Ok(
-        *head
-            == Head {
-                source,
-                end,
-                flow,
-                length,
-            },
-    )
+fn is_head(alloc: Global, head: &Head, line: &str) -> Result<bool, Fail> {
+    let said = format!(in alloc;
+        "{} {} {} {}",
+        head.source, head.end, head.flow, head.length
+    )?;
+    Ok(said.as_str() == line)
 }
 
-fn are_heads(found: &Found, lines: &str) -> Result<bool, Fail> {
+fn are_heads(alloc: Global, found: &Found, lines: &str) -> Result<bool, Fail> {
     for (head, line) in found.heads.iter().zip(lines.lines()) {
-        if !is_head(head, line)? {
+        if !is_head(alloc, head, line)? {
             return Ok(false);
         }
     }
@@ -80,20 +67,31 @@ fn is_damage(refusal: StoreRefusal, lines: &str) -> Result<bool, Fail> {
     Ok(refusal == StoreRefusal::Damage(at))
 }
 
+// What is found in an opened disk-buffer.
+fn look_through(alloc: Global, spool: Spool<MemoryDisk>) -> Result<Found, StoreRefusal>
+    requires open { spool.closed ≡ false }
+    requires unstaged { spool.rows.staged ≡ 0 }
+{
+    let mut spool = spool;
+    let found = look(alloc, &mut spool);
+    let _ = spool.into_disk();
+    found
+}
+
+fn found_in(alloc: Global, disk: MemoryDisk) -> Result<Found, StoreRefusal> {
+    match Spool::open(disk, 1000) {
+        Ok(spool) => look_through(alloc, spool),
+        Err((_, refusal)) => Err(refusal),
+    }
+}
+
 // Whether this is found in that store.
 fn finds(alloc: Global, row: &str) -> Result<bool, Fail> {
     let (parts, wanted) = row.split_once(" => ").ok_or("no answer")?;
     let disk = MemoryDisk::new(alloc, store(alloc, parts)?)?;
-    match Spool::open(disk, 1000) {
-        Ok(mut spool) => {
-            let found = look(alloc, &mut spool);
-            let _ = spool.into_disk();
-            match found {
-                Ok(found) => are_heads(&found, wanted),
-                Err(refusal) => is_damage(refusal, wanted),
-            }
-        }
-        Err((_, refusal)) => is_damage(refusal, wanted),
+    match found_in(alloc, disk) {
+        Ok(found) => are_heads(alloc, &found, wanted),
+        Err(refusal) => is_damage(refusal, wanted),
     }
 }
 

@@ -86,63 +86,121 @@ fn text(alloc: Global, bytes: &[u8]) -> Result<String, Fail> {
     Ok(text)
 }
 
-// The row, with what its calls leave: the bytes as a read gives them, and the image.
-fn leaves(alloc: Global, row: &str) -> Result<String, Fail> {
+// The calls, the number of the one that fails, what it leaves, and the picks of an image.
+#[derive(Drop)]
+struct Row<'a> {
+    calls: &'a str,
+    failing: &'a str,
+    tears: &'a str,
+    picks: &'a str,
+}
+
+// The parts of a row, and what its calls leave.
+fn parts(row: &str) -> Result<(Row<'_>, &str), Fail> {
     let (calls, rest) = row.split_once(' ').ok_or("no calls")?;
     let (failing, rest) = rest.split_once(' ').ok_or("no failing call")?;
     let (tears, rest) = rest.split_once(' ').ok_or("no tears")?;
-    let (wanted, _) = rest.split_once(' ').ok_or("no picks")?;
-    let mut plan = DiskPlan::failing(alloc, fails(alloc, failing)?);
-    plan.tears = picks(alloc, tears)?;
-    let mut disk = MemoryDisk::failing(alloc, b"abcd".to_vec(alloc)?, plan)?;
-    for word in calls.split(',') {
-        call(&mut disk, word)?;
-    }
-    let image = disk.image(&picks(alloc, wanted)?)?;
-    let (read, image) = (text(alloc, disk.bytes())?, text(alloc, &image)?);
-    Ok(format!(in alloc;
-        "{calls} {failing} {tears} {wanted} {} {}",
-        read.as_str(),
-        image.as_str()
-    )?)
+    let (picks, left) = rest.split_once(' ').ok_or("no picks")?;
+    let row = Row {
+        calls,
+        failing,
+        tears,
+        picks,
+    };
+    Ok((row, left))
 }
 
-// Whether a store that stops after a call is left as it was synced last, and stands there again.
-fn stops(alloc: Global) -> Result<bool, Fail> {
-    let mut world = MemoryWorld::new(alloc, Vec::new(alloc), Pace { piece: 1, at: 0 });
-    let spec = StoreSpec {
-        name: Name::new(alloc, b"a")?,
-        create: true,
-    };
-    world.stores.plans.push_back(DiskPlan::stopping(alloc, 1))?;
-    let mut store = world.open_store(alloc, &spec)?;
-    let wrote = store.write_at(0, b"x").is_ok() && store.sync().is_err();
-    let twice = world.open_store(alloc, &spec).is_err();
-    let image = store.disk.image(&[Pick::Old])?;
-    world.close_store(store);
-    let again = world.open_store(alloc, &spec)?;
-    let kept = again.disk.bytes().first() == Some(&b'x') && image.first() == Some(&0);
-    world.close_store(again);
-    world
-        .stores
-        .put(alloc, b"b", MemoryDisk::new(alloc, image)?)?;
-    let mut other = StoreSpec {
-        name: Name::new(alloc, b"b")?,
-        create: false,
-    };
-    let put = world.open_store(alloc, &other)?;
-    world.close_store(put);
-    other.name = Name::new(alloc, b"c")?;
-    Ok(wrote && twice && kept && world.open_store(alloc, &other).is_err())
+// A disk of `abcd` on which a call fails.
+fn failing(alloc: Global, row: &Row) -> Result<MemoryDisk, Fail> {
+    let mut plan = DiskPlan::failing(alloc, fails(alloc, row.failing)?);
+    plan.tears = picks(alloc, row.tears)?;
+    Ok(MemoryDisk::failing(alloc, b"abcd".to_vec(alloc)?, plan)?)
+}
+
+fn call_all(disk: &mut MemoryDisk, calls: &str) -> Result<(), Fail> {
+    for word in calls.split(',') {
+        call(disk, word)?;
+    }
+    Ok(())
+}
+
+// The bytes of a disk as a read gives them, and an image.
+fn said(alloc: Global, disk: &MemoryDisk, words: &str) -> Result<String, Fail> {
+    let mut said = text(alloc, disk.bytes())?;
+    let image = disk.image(&picks(alloc, words)?)?;
+    said.push(' ')?;
+    said.push_str(text(alloc, &image)?.as_str())?;
+    Ok(said)
+}
+
+// What the calls of a row leave, and what they are to leave.
+fn leaves(alloc: Global, line: &str) -> Result<(String, &str), Fail> {
+    let (row, wanted) = parts(line)?;
+    let mut disk = failing(alloc, &row)?;
+    call_all(&mut disk, row.calls)?;
+    Ok((said(alloc, &disk, row.picks)?, wanted))
 }
 
 #[test]
 fn disks_in_memory(rt: HostRuntime) -> Result<(), Fail> {
     let alloc = rt.alloc();
     for row in DISKS.lines() {
-        let left = leaves(alloc, row)?;
-        assert_eq!(rt; left.as_str(), row);
+        let (left, wanted) = leaves(alloc, row)?;
+        assert_eq!(rt; left.as_str(), wanted, "{row}");
     }
-    assert!(rt; stops(alloc)?);
+    Ok(())
+}
+
+fn spec(alloc: Global, name: &[u8], create: bool) -> Result<StoreSpec, Fail> {
+    Ok(StoreSpec {
+        name: Name::new(alloc, name)?,
+        create,
+    })
+}
+
+// A machine whose first store stops after a call.
+fn stopping(alloc: Global) -> Result<MemoryWorld, Fail> {
+    let mut world = MemoryWorld::new(alloc, Vec::new(alloc), Pace { piece: 1, at: 0 });
+    world.stores.plans.push_back(DiskPlan::stopping(alloc, 1))?;
+    Ok(world)
+}
+
+// The image of a store that is synced no more behind a write; None where the sync succeeds, or the store
+// is opened twice.
+fn stopped(alloc: Global, world: &mut MemoryWorld) -> Result<Option<Vec<u8>>, Fail> {
+    let spec = spec(alloc, b"a", true)?;
+    let mut store = world.open_store(alloc, &spec)?;
+    let wrote = store.write_at(0, b"x").is_ok() && store.sync().is_err();
+    let once = world.open_store(alloc, &spec).is_err();
+    let image = store.disk.image(&[Pick::Old])?;
+    world.close_store(store);
+    Ok(if wrote && once { Some(image) } else { None })
+}
+
+// The first byte of a store.
+fn first(alloc: Global, world: &mut MemoryWorld, spec: &StoreSpec) -> Result<Option<u8>, Fail> {
+    let store = world.open_store(alloc, spec)?;
+    let first = store.disk.bytes().first().copied();
+    world.close_store(store);
+    Ok(first)
+}
+
+// Puts a store with these bytes into a machine.
+fn put(alloc: Global, world: &mut MemoryWorld, name: &[u8], bytes: Vec<u8>) -> Result<(), Fail> {
+    world
+        .stores
+        .put(alloc, name, MemoryDisk::new(alloc, bytes)?)?;
+    Ok(())
+}
+
+#[test]
+fn stores_in_memory(rt: HostRuntime) -> Result<(), Fail> {
+    let alloc = rt.alloc();
+    let mut world = stopping(alloc)?;
+    let image = stopped(alloc, &mut world)?.ok_or("not stopped")?;
+    assert!(rt; first(alloc, &mut world, &spec(alloc, b"a", true)?)? == Some(b'x'));
+    put(alloc, &mut world, b"b", image)?;
+    assert!(rt; first(alloc, &mut world, &spec(alloc, b"b", false)?)? == Some(0));
+    assert!(rt; world.open_store(alloc, &spec(alloc, b"c", false)?).is_err());
     Ok(())
 }

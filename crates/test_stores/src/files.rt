@@ -3,8 +3,8 @@ use sg_device::Disk;
 use sg_host::FileDisk;
 use sg_spool::{Appended, Block, Front, Spool};
 use std::alloc::Global;
-use std::str;
 use std::test::Fail;
+use std::{env, fs, process, str};
 
 // At most 188 bytes of a file.
 const CAPACITY: u64 = 60;
@@ -85,32 +85,49 @@ fn first(alloc: Global, spool: &mut Spool<FileDisk>) -> Result<Front, Fail> {
     Ok(spool.front(alloc)?)
 }
 
-// Whether the file has this number of entries and this first one, and isn't too long.
-fn has(alloc: Global, rt: HostRuntime, path: &str, wanted: &str) -> Result<bool, Fail> {
-    let mut spool = open(alloc, rt, path)?;
+// The number of entries and the first one, and the disk.
+fn said(alloc: Global, spool: Spool<FileDisk>) -> Result<(String, FileDisk), Fail> {
+    let mut spool = spool;
     let count = spool.count();
     let front = first(alloc, &mut spool);
-    let mut disk = spool.into_disk();
-    let front = front?;
-    let length = disk.len()?;
-    let text = match &front {
-        Front::Item(payload) => str::from_utf8(payload)?,
-        Front::Empty => "-",
-        Front::DiskFailed => "failed",
+    let disk = spool.into_disk();
+    let text = match &front? {
+        Front::Item(payload) => format!(in alloc; "{count} {}", str::from_utf8(payload)?)?,
+        Front::Empty => format!(in alloc; "{count} -")?,
+        Front::DiskFailed => format!(in alloc; "{count} failed")?,
     };
-    let said = format!(in alloc; "{count} {text}")?;
+    Ok((text, disk))
+}
+
+// Whether the file has this number of entries and this first one, and isn't too long.
+fn has(alloc: Global, rt: HostRuntime, path: &str, wanted: &str) -> Result<bool, Fail> {
+    let (said, mut disk) = said(alloc, open(alloc, rt, path)?)?;
+    let length = disk.len()?;
     Ok(said.as_str() == wanted && length <= 188)
 }
 
-/// Whether a disk-buffer in the file of this path, which isn't there yet, has after each call the list that
-/// it is to have, though it was closed.
-pub(crate) fn keeps_its_list(alloc: Global, rt: HostRuntime, path: &str) -> Result<bool, Fail> {
-    for line in CALLS.lines() {
-        let (asked, wanted) = line.split_once(": ").ok_or("no colon")?;
-        call(alloc, rt, path, asked)?;
-        if !has(alloc, rt, path, wanted)? {
-            return Ok(false);
-        }
+// Whether a disk-buffer in the file of this path has what it is to have behind a call, though it was closed.
+fn keeps_its_list(alloc: Global, rt: HostRuntime, path: &str, row: &str) -> Result<bool, Fail> {
+    let (asked, wanted) = row.split_once(": ").ok_or("no colon")?;
+    call(alloc, rt, path, asked)?;
+    has(alloc, rt, path, wanted)
+}
+
+/// A path in the folder for temporary files that has this name in it, and the number of the process.
+pub(crate) fn temporary(alloc: Global, rt: HostRuntime, name: &str) -> Result<String, Fail> {
+    let folder = env::temp_dir(&rt)?;
+    let folder = folder.as_path().to_str().ok_or("no text")?;
+    let id = process::id(rt.process());
+    Ok(format!(in alloc; "{folder}/test_stores_{name}_{id}")?)
+}
+
+#[test]
+fn disk_buffer_in_a_file(rt: HostRuntime) -> Result<(), Fail> {
+    let alloc = rt.alloc();
+    let path = temporary(alloc, rt, "disk_buffer")?;
+    for row in CALLS.lines() {
+        assert!(rt; keeps_its_list(alloc, rt, path.as_str(), row)?, "{row}");
     }
-    Ok(true)
+    fs::remove_file(&rt, path.as_str())?;
+    Ok(())
 }

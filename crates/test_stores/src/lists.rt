@@ -21,25 +21,26 @@ fn open(disk: MemoryDisk, capacity: u64) -> Result<Spool<MemoryDisk>, StoreRefus
     }
 }
 
+// Whether the first entry is this one, which is taken off.
+fn begins(alloc: Global, spool: &mut Spool<MemoryDisk>, number: u64) -> Result<bool, Fail> {
+    if spool.staged() > 0 {
+        return Ok(false);
+    }
+    let Front::Item(found) = spool.front(alloc)? else {
+        return Ok(false);
+    };
+    Ok(found.as_slice() == payload(alloc, number)?.as_slice() && take_off(spool, 1)? == 1)
+}
+
 // Whether the list has these entries, which are taken off it.
 fn drains(alloc: Global, spool: &mut Spool<MemoryDisk>, numbers: &[u64]) -> Result<bool, Fail> {
     if spool.count() != numbers.len() as u64 {
         return Ok(false);
     }
     for number in numbers {
-        let wanted = payload(alloc, *number)?;
-        if spool.staged() > 0 {
+        if !begins(alloc, spool, *number)? {
             return Ok(false);
         }
-        match spool.front(alloc)? {
-            Front::Item(found) => {
-                if found.as_slice() != wanted.as_slice() {
-                    return Ok(false);
-                }
-            }
-            _ => return Ok(false),
-        }
-        take_off(spool, 1)?;
     }
     Ok(spool.count() == 0)
 }
@@ -77,37 +78,37 @@ fn batch(number: u64) -> (u64, u64) {
     ((number % 100_000) * 5, 1 + number / 5 % 5)
 }
 
-// Stages entries and commits them, and else takes 1 to 3 off. How many that were.
-fn take_step(alloc: Global, spool: &mut Spool<MemoryDisk>, number: u64) -> Result<u64, Fail> {
-    if number % 5 >= 3 {
-        let taken = match take_off(spool, 1 + number % 3) {
-            Ok(taken) => taken,
-            Err(_) => 0,
-        };
-        return Ok(taken);
-    }
+// Stages so many entries, as far as there is room. How many that were.
+fn stage_all(
+    alloc: Global,
+    spool: &mut Spool<MemoryDisk>,
+    first: u64,
+    count: u64,
+) -> Result<u64, Fail> {
     let mut staged: u64 = 0;
-    let (first, count) = batch(number);
     for k in 0..count {
         if stage(alloc, spool, first.saturating_add(k))? != Appended::Done {
             break;
         }
         staged = staged.saturating_add(1);
     }
-    if spool.commit().is_err() {
-        return Ok(0);
-    }
     Ok(staged)
+}
+
+// Stages entries and commits them, and else takes 1 to 3 off. How many that were.
+fn take_step(alloc: Global, spool: &mut Spool<MemoryDisk>, number: u64) -> Result<u64, Fail> {
+    if number % 5 >= 3 {
+        return Ok(take_off(spool, 1 + number % 3).unwrap_or(0));
+    }
+    let (first, count) = batch(number);
+    let staged = stage_all(alloc, spool, first, count)?;
+    Ok(if spool.commit().is_ok() { staged } else { 0 })
 }
 
 // The same to a plain list.
 fn follow(numbers: &mut Vec<u64>, number: u64, changed: u64) -> Result<(), Fail> {
     if number % 5 >= 3 {
-        for _ in 0..changed {
-            if !numbers.is_empty() {
-                let _ = numbers.remove(0);
-            }
-        }
+        remove_first(numbers, changed);
         return Ok(());
     }
     let (first, _) = batch(number);
@@ -115,6 +116,14 @@ fn follow(numbers: &mut Vec<u64>, number: u64, changed: u64) -> Result<(), Fail>
         numbers.push(first.saturating_add(k))?;
     }
     Ok(())
+}
+
+fn remove_first(numbers: &mut Vec<u64>, count: u64) {
+    for _ in 0..count {
+        if !numbers.is_empty() {
+            let _ = numbers.remove(0);
+        }
+    }
 }
 
 // So many steps on an open list and a plain one.
@@ -149,10 +158,16 @@ fn fresh(alloc: Global) -> Result<MemoryDisk, Fail> {
     Ok(MemoryDisk::new(alloc, vec![in alloc; 0u8; 128]?)?)
 }
 
-// Some thousand steps. Whether the list is the plain one, and the file within its bound.
-fn long(alloc: Global, capacity: u64, steps: u64) -> Result<bool, Fail> {
+// The disk and the entries behind so many steps.
+fn begun(alloc: Global, capacity: u64, steps: u64) -> Result<(MemoryDisk, Vec<u64>), Fail> {
     let mut numbers = Vec::new(alloc);
     let disk = run_from(alloc, fresh(alloc)?, capacity, &mut numbers, steps)?;
+    Ok((disk, numbers))
+}
+
+// Some thousand steps. Whether the list is the plain one, and the file within its bound.
+fn long(alloc: Global, capacity: u64, steps: u64) -> Result<bool, Fail> {
+    let (disk, numbers) = begun(alloc, capacity, steps)?;
     let bytes = disk.bytes().to_vec(alloc)?;
     let bound = capacity.saturating_mul(2).saturating_add(68).max(128);
     Ok(bytes.len() as u64 <= bound && holds(alloc, bytes, &numbers)?)
@@ -166,93 +181,126 @@ fn beside_plain_lists(rt: HostRuntime) -> Result<(), Fail> {
     Ok(())
 }
 
-// Whether each image has the list, or the list after so many changes as one of these says.
+// A step over a list: the entries before it, its number, and how many entries it changes.
+#[derive(Drop)]
+struct Step {
+    numbers: Vec<u64>,
+    number: u64,
+    whole: u64,
+}
+
+// Whether a store of these bytes has the entries of a step that changed so many.
+fn holds_after(alloc: Global, bytes: &[u8], step: &Step, changed: u64) -> Result<bool, Fail> {
+    let mut after = step.numbers.to_vec(alloc)?;
+    follow(&mut after, step.number, changed)?;
+    holds(alloc, bytes.to_vec(alloc)?, &after)
+}
+
+// The same, where it changed as many as one of these says.
+fn holds_one(alloc: Global, bytes: &[u8], step: &Step, changes: &[u64]) -> Result<bool, Fail> {
+    for changed in changes {
+        if holds_after(alloc, bytes, step, *changed)? {
+            return Ok(true);
+        }
+    }
+    Ok(false)
+}
+
+// Whether each image has the list after so many changes as one of these says.
 fn images_hold(
     alloc: Global,
     disk: &MemoryDisk,
-    numbers: &[u64],
-    number: u64,
+    step: &Step,
     changes: &[u64],
 ) -> Result<bool, Fail> {
     for pick in PICKS {
         let image = disk.image(&[pick])?;
-        let mut found = false;
-        for changed in changes {
-            let mut after = numbers.to_vec(alloc)?;
-            follow(&mut after, number, *changed)?;
-            if holds(alloc, image.to_vec(alloc)?, &after)? {
-                found = true;
-            }
-        }
-        if !found {
+        if !holds_one(alloc, &image, step, changes)? {
             return Ok(false);
         }
     }
     Ok(true)
 }
 
-// One step that is stopped after so many calls, opening included. Whether each image then has the list
-// before the step or after all of it; under a greater capacity also after the first ones that are staged.
-fn stopped(
+// A step over an open list, and its disk.
+fn stepped(
     alloc: Global,
-    bytes: Vec<u8>,
-    capacity: u64,
-    numbers: &[u64],
-    number: u64,
-    limits: (u64, u64, bool),
-) -> Result<bool, Fail> {
-    let (calls, whole, greater) = limits;
-    let mut disk = MemoryDisk::new(alloc, bytes)?;
-    disk.stop_after(calls);
-    let Ok(mut spool) = open(disk, capacity) else {
-        return Ok(true);
-    };
-    let result = take_step(alloc, &mut spool, number);
-    let disk = spool.into_disk();
-    let done = result?;
-    if done > 0 {
-        return images_hold(alloc, &disk, numbers, number, &[whole]);
-    }
-    if greater {
-        return images_hold(alloc, &disk, numbers, number, &[0, 1, 2, 3, 4, whole]);
-    }
-    images_hold(alloc, &disk, numbers, number, &[0, whole])
-}
-
-// How many entries a step changes.
-fn whole_step(
-    alloc: Global,
-    disk: MemoryDisk,
-    capacity: u64,
+    spool: Spool<MemoryDisk>,
     number: u64,
 ) -> Result<(MemoryDisk, u64), Fail> {
-    let mut spool = open(disk, capacity)?;
+    let mut spool = spool;
     let result = take_step(alloc, &mut spool, number);
     let disk = spool.into_disk();
     Ok((disk, result?))
 }
 
+// A disk with these bytes that stops after so many calls.
+fn stopping(alloc: Global, bytes: &[u8], calls: u64) -> Result<MemoryDisk, Fail> {
+    let mut disk = MemoryDisk::new(alloc, bytes.to_vec(alloc)?)?;
+    disk.stop_after(calls);
+    Ok(disk)
+}
+
+// One step that is stopped after some calls, opening included. Whether each image then has the list
+// before the step or after all of it; under a greater capacity also after the first ones that are staged.
+fn stopped(
+    alloc: Global,
+    disk: MemoryDisk,
+    capacity: u64,
+    step: &Step,
+    greater: bool,
+) -> Result<bool, Fail> {
+    let Ok(spool) = open(disk, capacity) else {
+        return Ok(true);
+    };
+    let (disk, done) = stepped(alloc, spool, step.number)?;
+    if done > 0 {
+        return images_hold(alloc, &disk, step, &[step.whole]);
+    }
+    if greater {
+        return images_hold(alloc, &disk, step, &[0, 1, 2, 3, 4, step.whole]);
+    }
+    images_hold(alloc, &disk, step, &[0, step.whole])
+}
+
+// One step on a store of these bytes, stopped at each of its calls.
+fn stops(
+    alloc: Global,
+    bytes: &[u8],
+    capacity: u64,
+    step: &Step,
+    greater: bool,
+) -> Result<bool, Fail> {
+    for calls in 0..40 {
+        if !stopped(
+            alloc,
+            stopping(alloc, bytes, calls)?,
+            capacity,
+            step,
+            greater,
+        )? {
+            return Ok(false);
+        }
+    }
+    Ok(true)
+}
+
 // A stretch of steps over the end of the ring, each stopped at each of its calls.
 fn stretch(alloc: Global, before: u64, capacity: u64) -> Result<bool, Fail> {
-    let mut numbers = Vec::new(alloc);
-    let mut disk = run_from(alloc, fresh(alloc)?, before, &mut numbers, 40)?;
+    let (mut disk, mut numbers) = begun(alloc, before, 40)?;
     for number in 40..70 {
         let bytes = disk.bytes().to_vec(alloc)?;
-        let (next, whole) = whole_step(alloc, disk, capacity, number)?;
-        for calls in 0..40 {
-            let limits = (calls, whole, before < capacity);
-            if !stopped(
-                alloc,
-                bytes.to_vec(alloc)?,
-                capacity,
-                &numbers,
-                number,
-                limits,
-            )? {
-                return Ok(false);
-            }
+        let (next, whole) = stepped(alloc, open(disk, capacity)?, number)?;
+        let step = Step {
+            numbers,
+            number,
+            whole,
+        };
+        if !stops(alloc, &bytes, capacity, &step, before < capacity)? {
+            return Ok(false);
         }
         disk = next;
+        numbers = step.numbers;
         follow(&mut numbers, number, whole)?;
     }
     holds(alloc, disk.bytes().to_vec(alloc)?, &numbers)

@@ -7,8 +7,8 @@ use sg_device::{
     SendRefusal,
 };
 use sg_memory::{
-    MemoryConnection, MemoryFeed, MemoryFile, MemoryOpener, MemoryWorld, OutletScript, Pace,
-    PathsPlan, WorldPlans, is_record_end,
+    MemoryConnection, MemoryDrain, MemoryFeed, MemoryFile, MemoryOpener, MemoryWorld, OutletScript,
+    Pace, PathsPlan, WorldPlans, is_record_end,
 };
 use sg_memory_disk::Plan;
 use sg_outside::{InletSpec, OutletSpec};
@@ -38,8 +38,20 @@ fn add_text(text: &mut Vec<u8>, bytes: &[u8]) -> Result<(), Fail> {
     Ok(())
 }
 
-// What pulls give, with `.` for an end, `|` for the next part, `_` for nothing, `!` for a fault and
-// `#` for a hangup behind the third pull, if that is wanted.
+// What a pull gives, with `.` for an end, `|` for the next part, `_` for nothing and `!` for a fault.
+fn add_pull(feed: &mut MemoryFeed, given: &mut Vec<u8>) -> Result<(), Fail> {
+    let mut buffer = [0u8; 8];
+    match feed.pull(&mut buffer) {
+        Ok(Pull::Bytes { len, .. }) => add_text(given, &buffer[..len])?,
+        Ok(Pull::End) => given.push(b'.')?,
+        Ok(Pull::Next) => given.push(b'|')?,
+        Ok(Pull::Idle) => given.push(b'_')?,
+        Err(_) => given.push(b'!')?,
+    }
+    Ok(())
+}
+
+// What pulls give, with `#` for a hangup behind the third one, if that is wanted.
 fn pulled(
     alloc: Global,
     feed: &mut MemoryFeed,
@@ -47,19 +59,12 @@ fn pulled(
     pulls: usize,
 ) -> Result<Vec<u8>, Fail> {
     let mut given = Vec::new(alloc);
-    let mut buffer = [0u8; 8];
     for pull in 0..pulls {
         if hangs && pull == 3 {
             feed.hangup();
             given.push(b'#')?;
         }
-        match feed.pull(&mut buffer) {
-            Ok(Pull::Bytes { len, .. }) => add_text(&mut given, &buffer[..len])?,
-            Ok(Pull::End) => given.push(b'.')?,
-            Ok(Pull::Next) => given.push(b'|')?,
-            Ok(Pull::Idle) => given.push(b'_')?,
-            Err(_) => given.push(b'!')?,
-        }
+        add_pull(feed, &mut given)?;
     }
     Ok(given)
 }
@@ -81,21 +86,33 @@ cut 3 3 0 abcdefgh
 515/0 0 2 0 __
 none 0 0 - -";
 
-// A machine with two files and three connections.
-fn machine(alloc: Global) -> Result<MemoryWorld, Fail> {
+// Adds a connection to port 514.
+fn connect(
+    alloc: Global,
+    world: &mut MemoryWorld,
+    slot: u16,
+    peer: &[u8],
+    bytes: &[u8],
+) -> Result<(), Fail> {
+    let mut connection = MemoryConnection::new(alloc, b"127.0.0.1", 514, peer, bytes)?;
+    connection.slot = slot;
+    world.connections.push(connection)?;
+    Ok(())
+}
+
+fn two_files(alloc: Global) -> Result<Vec<MemoryFile>, Fail> {
     let mut files = Vec::new(alloc);
     files.push(MemoryFile::new(alloc, b"in", b"one\ntwo\n")?)?;
     files.push(MemoryFile::new(alloc, b"cut", b"abcdefgh")?)?;
-    let mut world = MemoryWorld::new(alloc, files, PACE);
-    for (slot, peer, bytes) in [
-        (0, b"1.1.1.1", b"ab".as_slice()),
-        (0, b"1.1.1.2", b"cdefg"),
-        (1, b"1.1.1.3", b"x"),
-    ] {
-        let mut connection = MemoryConnection::new(alloc, b"127.0.0.1", 514, peer, bytes)?;
-        connection.slot = slot;
-        world.connections.push(connection)?;
-    }
+    Ok(files)
+}
+
+// A machine with two files and three connections.
+fn machine(alloc: Global) -> Result<MemoryWorld, Fail> {
+    let mut world = MemoryWorld::new(alloc, two_files(alloc)?, PACE);
+    connect(alloc, &mut world, 0, b"1.1.1.1", b"ab")?;
+    connect(alloc, &mut world, 0, b"1.1.1.2", b"cdefg")?;
+    connect(alloc, &mut world, 1, b"1.1.1.3", b"x")?;
     Ok(world)
 }
 
@@ -103,34 +120,68 @@ fn machine(alloc: Global) -> Result<MemoryWorld, Fail> {
 fn request(alloc: Global, word: &str) -> Result<InletSpec, Fail> {
     let once = word.ends_with('!');
     let word = word.trim_end_matches(['!', '#']);
-    if let Some((port, slot)) = word.split_once('/') {
-        return Ok(InletSpec::Slot {
-            ip: name(alloc, b"127.0.0.1")?,
-            port: port.parse()?,
-            slot: slot.parse()?,
+    match word.split_once('/') {
+        Some((port, slot)) => slot_of(alloc, port, slot, once),
+        None => Ok(InletSpec::File {
+            path: name(alloc, word.as_bytes())?,
             once,
-        });
+            limit: 4,
+        }),
     }
-    Ok(InletSpec::File {
-        path: name(alloc, word.as_bytes())?,
+}
+
+fn slot_of(alloc: Global, port: &str, slot: &str, once: bool) -> Result<InletSpec, Fail> {
+    Ok(InletSpec::Slot {
+        ip: name(alloc, b"127.0.0.1")?,
+        port: port.parse()?,
+        slot: slot.parse()?,
         once,
-        limit: 4,
     })
 }
 
-// The row, with what its inlet gives: its place, a space, and what the pulls give.
-fn gives(alloc: Global, world: &mut MemoryWorld, row: &str) -> Result<String, Fail> {
+// What a row asks for, the place, and the number of pulls.
+#[derive(Drop)]
+struct Row<'a> {
+    spec: &'a str,
+    from: u64,
+    pulls: usize,
+}
+
+// The parts of a row, and what its inlet is to give.
+fn parts(row: &str) -> Result<(Row<'_>, &str), Fail> {
     let (spec, rest) = row.split_once(' ').ok_or("no request")?;
     let (from, rest) = rest.split_once(' ').ok_or("no place")?;
-    let (pulls, _) = rest.split_once(' ').ok_or("no pulls")?;
-    let Ok((mut feed, place)) = world.open_inlet(alloc, &request(alloc, spec)?, from.parse()?)
-    else {
-        return Ok(format!(in alloc; "{spec} {from} {pulls} - -")?);
+    let (pulls, given) = rest.split_once(' ').ok_or("no pulls")?;
+    let row = Row {
+        spec,
+        from: from.parse()?,
+        pulls: pulls.parse()?,
+    };
+    Ok((row, given))
+}
+
+// What an inlet gives: its place, a space, and what the pulls give.
+fn gives(alloc: Global, world: &mut MemoryWorld, row: &Row) -> Result<String, Fail> {
+    let request = request(alloc, row.spec)?;
+    let Ok((mut feed, place)) = world.open_inlet(alloc, &request, row.from) else {
+        return Ok(format!(in alloc; "- -")?);
     };
     is_send(&feed);
-    let given = pulled(alloc, &mut feed, spec.ends_with('#'), pulls.parse()?)?;
+    let given = pulled(alloc, &mut feed, row.spec.ends_with('#'), row.pulls)?;
     world.close_inlet(feed);
-    Ok(format!(in alloc; "{spec} {from} {pulls} {place} {}", str::from_utf8(&given)?)?)
+    Ok(format!(in alloc; "{place} {}", str::from_utf8(&given)?)?)
+}
+
+#[test]
+fn inlets_in_memory(rt: HostRuntime) -> Result<(), Fail> {
+    let alloc = rt.alloc();
+    let mut world = machine(alloc)?;
+    for line in INLETS.lines() {
+        let (row, wanted) = parts(line)?;
+        let given = gives(alloc, &mut world, &row)?;
+        assert_eq!(rt; given.as_str(), wanted, "{line}");
+    }
+    Ok(())
 }
 
 // Frames of these words.
@@ -142,39 +193,63 @@ fn frames(alloc: Global, words: &str) -> Result<Frames, Fail> {
     Ok(frames)
 }
 
-// An outlet whose second send fails and takes two frames before that, and that is once not ready.
-fn outlet(alloc: Global, world: &mut MemoryWorld) -> Result<Vec<u8>, Fail> {
-    let mut plan = OutletScript::failing(alloc, plan(alloc, 2)?);
-    plan.first = 2;
-    plan.laters = self::plan(alloc, 0)?;
-    world.plans.outlets.push_back(plan)?;
+// An outlet whose second send fails and takes two frames before that, whose first reopening is too early,
+// and whose fourth send is.
+fn outlet_plan(alloc: Global) -> Result<OutletScript, Fail> {
+    let mut outlet = OutletScript::failing(alloc, plan(alloc, 2)?);
+    outlet.first = 2;
+    outlet.laters = plan(alloc, 0)?;
+    outlet.waits = plan(alloc, 3)?;
+    Ok(outlet)
+}
+
+fn open_drain(alloc: Global, world: &mut MemoryWorld) -> Result<MemoryDrain, Fail> {
     let spec = OutletSpec::Tcp {
         host: name(alloc, b"h")?,
         port: 514,
         reopen: 60,
     };
-    let mut drain = world.open_outlet(alloc, &spec)?;
-    is_send(&drain);
-    let mut text = Vec::new(alloc);
-    for words in ["a b", "c d e", "f"] {
-        let frames = frames(alloc, words)?;
-        if frames.is_empty() {
-            continue;
-        }
-        match drain.send(&frames) {
-            Ok(()) => text.push(b'+')?,
-            Err(SendRefusal::Fault) => text.push(b'!')?,
-            Err(SendRefusal::Later) => text.push(b'~')?,
-            Err(SendRefusal::NoMemory) => text.push(b'0')?,
-        }
-        match drain.reopen() {
-            Ok(Reopened::Ready) => text.push(b'r')?,
-            Ok(Reopened::Later) => text.push(b'l')?,
-            Err(OutletFault) => text.push(b'!')?,
-        }
+    Ok(world.open_outlet(alloc, &spec)?)
+}
+
+fn sent(drain: &mut MemoryDrain, frames: &Frames) -> char {
+    if frames.is_empty() {
+        return '-';
     }
-    world.close_outlet(drain);
+    match drain.send(frames) {
+        Ok(()) => '+',
+        Err(SendRefusal::Fault) => '!',
+        Err(SendRefusal::Later) => '~',
+        Err(SendRefusal::NoMemory) => '0',
+    }
+}
+
+fn reopened(drain: &mut MemoryDrain) -> char {
+    match drain.reopen() {
+        Ok(Reopened::Ready) => 'r',
+        Ok(Reopened::Later) => 'l',
+        Err(OutletFault) => '!',
+    }
+}
+
+// What each of four sends gives, and a reopening behind it.
+fn sends(alloc: Global, drain: &mut MemoryDrain) -> Result<String, Fail> {
+    let mut text = String::new(alloc);
+    for words in ["a b", "c d e", "f", "g h"] {
+        let frames = frames(alloc, words)?;
+        text.push(sent(drain, &frames))?;
+        text.push(reopened(drain))?;
+    }
     Ok(text)
+}
+
+fn outlet(alloc: Global, world: &mut MemoryWorld) -> Result<String, Fail> {
+    world.plans.outlets.push_back(outlet_plan(alloc)?)?;
+    let mut drain = open_drain(alloc, world)?;
+    is_send(&drain);
+    let text = sends(alloc, &mut drain);
+    world.close_outlet(drain);
+    text
 }
 
 // The frames that the last outlet took.
@@ -185,46 +260,71 @@ fn taken(alloc: Global, world: &MemoryWorld) -> Result<Vec<u8>, Fail> {
 }
 
 #[test]
-fn devices_in_memory(rt: HostRuntime) -> Result<(), Fail> {
+fn outlets_in_memory(rt: HostRuntime) -> Result<(), Fail> {
     let alloc = rt.alloc();
     let mut world = machine(alloc)?;
-    for row in INLETS.lines() {
-        let given = gives(alloc, &mut world, row)?;
-        assert_eq!(rt; given.as_str(), row);
+    assert_eq!(rt; outlet(alloc, &mut world)?.as_str(), "+l!r+r~r");
+    assert_eq!(rt; taken(alloc, &world)?.as_slice(), b"abcdfg".as_slice());
+    assert!(rt; paths(alloc, &mut world)?);
+    Ok(())
+}
+
+// Whether a read of a file is refused so.
+fn is_refused(alloc: Global, world: &mut MemoryWorld, path: &[u8], wanted: FileRefusal) -> bool {
+    match world.read_file(alloc, path, 7) {
+        Ok(_) => false,
+        Err(refusal) => refusal == wanted,
     }
-    assert_eq!(rt; outlet(alloc, &mut world)?.as_slice(), b"+l!r+r".as_slice());
-    assert_eq!(rt; taken(alloc, &world)?.as_slice(), b"abcdf".as_slice());
-    assert!(rt; files(alloc, &mut world)?);
-    assert!(rt; world.read_file(alloc, b"in", 7) == Err(FileRefusal::TooLong));
-    assert!(rt; world.read_file(alloc, b"on", 7) == Err(FileRefusal::Failed));
-    assert_eq!(rt;
-        world.read_file(alloc, b"in", 8)?.as_slice(),
-        b"one\ntwo\n".as_slice()
-    );
-    world.plans.says = plan(alloc, 1)?;
-    world.plans.builds = plan(alloc, 0)?;
-    world.plans.dues = plan(alloc, 1)?;
-    world.say(b"said\n")?;
-    assert!(rt; world.say(b"not\n") == Err(SayRefusal::Fault));
-    world.tell(b"hint\n");
-    assert_eq!(rt; world.said(), b"said\n".as_slice());
-    assert!(rt; world.fails_build() && !world.fails_build());
-    assert!(rt; !world.is_due() && world.is_due());
+}
+
+#[test]
+fn files_in_memory(rt: HostRuntime) -> Result<(), Fail> {
+    let alloc = rt.alloc();
+    let mut world = machine(alloc)?;
+    assert!(rt; is_refused(alloc, &mut world, b"in", FileRefusal::TooLong));
+    assert!(rt; is_refused(alloc, &mut world, b"on", FileRefusal::Failed));
+    let text = world.read_file(alloc, b"in", 8)?;
+    assert_eq!(rt; text.as_slice(), b"one\ntwo\n".as_slice());
     assert!(rt; is_record_end(4, b"abcdefgh", 4) && !is_record_end(5, b"abcdefgh", 4));
     Ok(())
 }
 
+// Whether a machine says one text, and fails at the second.
+fn says_once(alloc: Global, world: &mut MemoryWorld) -> Result<bool, Fail> {
+    world.plans.says = plan(alloc, 1)?;
+    world.say(b"said\n")?;
+    Ok(world.say(b"not\n") == Err(SayRefusal::Fault))
+}
+
+#[test]
+fn texts_in_memory(rt: HostRuntime) -> Result<(), Fail> {
+    let alloc = rt.alloc();
+    let mut world = machine(alloc)?;
+    assert!(rt; says_once(alloc, &mut world)?);
+    world.tell(b"hint\n");
+    assert_eq!(rt; world.said(), b"said\n".as_slice());
+    world.plans.builds = plan(alloc, 0)?;
+    assert!(rt; world.fails_build() && !world.fails_build());
+    world.plans.dues = plan(alloc, 1)?;
+    assert!(rt; !world.is_due() && world.is_due());
+    Ok(())
+}
+
+fn paths_plan(alloc: Global) -> Result<PathsPlan, Fail> {
+    let mut paths = PathsPlan::never(alloc);
+    paths.fails = plan(alloc, 2)?;
+    Ok(paths)
+}
+
 // Whether an opener opens, takes and closes as it should.
-fn files(alloc: Global, world: &mut MemoryWorld) -> Result<bool, Fail> {
+fn paths(alloc: Global, world: &mut MemoryWorld) -> Result<bool, Fail> {
     let spec = OutletSpec::ByPath {
         fsync: false,
         mode: 0o600,
         folders: None,
         reopen: 60,
     };
-    let mut plan = PathsPlan::never(alloc);
-    plan.fails = self::plan(alloc, 2)?;
-    world.plans.paths.push_back(plan)?;
+    world.plans.paths.push_back(paths_plan(alloc)?)?;
     let mut opener = world.open_paths(alloc, &spec)?;
     is_send(&opener);
     let kept = keeps(&mut opener, b"a")?;

@@ -1,6 +1,6 @@
 // The device calls and answers of small lists, over disks in memory.
 use sg_device::NoMemory;
-use sg_memory_disk::{DiskChange, MemoryDisk};
+use sg_memory_disk::{DiskChange, MemoryDisk, Written};
 use sg_spool::{Appended, Block, Front, Recode, Spool, Walked};
 use sg_stable::StoreRefusal;
 use std::alloc::Global;
@@ -166,12 +166,12 @@ fn take_all(alloc: Global, spool: &mut Spool<MemoryDisk>, text: &mut String) -> 
 }
 
 // Takes so many entries off a list that has them.
-fn take_off(spool: &mut Spool<MemoryDisk>, n: u64) -> Result<(), Fail> {
+fn take_off(spool: &mut Spool<MemoryDisk>, n: u64) -> Result<&'static str, Fail> {
     if n == 0 || n > spool.count() || spool.staged() > 0 {
         return Err(Fail::from("not so many"));
     }
     spool.advance(n)?;
-    Ok(())
+    Ok("Done")
 }
 
 fn said(appended: Appended) -> &'static str {
@@ -182,27 +182,37 @@ fn said(appended: Appended) -> &'static str {
     }
 }
 
-// A call: `append TEXT`, `stage TEXT`, `commit` or `advance N`.
-fn perform(alloc: Global, spool: &mut Spool<MemoryDisk>, call: &str) -> Result<&'static str, Fail> {
-    if call == "commit" {
-        spool.commit()?;
-        return Ok("Done");
-    }
-    let (name, text) = call.split_once(' ').ok_or("no call")?;
-    if name == "stage" {
-        return Ok(said(spool.stage(&block(alloc, text.as_bytes())?)));
-    }
+fn append(spool: &mut Spool<MemoryDisk>, block: &Block) -> Result<&'static str, Fail> {
     if spool.staged() > 0 {
         return Err(Fail::from("something is staged"));
     }
-    if name == "append" {
-        return Ok(said(spool.append(&block(alloc, text.as_bytes())?)));
-    }
-    if name != "advance" {
-        return Err(Fail::from("no call"));
-    }
-    take_off(spool, text.parse()?)?;
+    Ok(said(spool.append(block)))
+}
+
+fn commit(spool: &mut Spool<MemoryDisk>) -> Result<&'static str, Fail> {
+    spool.commit()?;
     Ok("Done")
+}
+
+// A call: `append TEXT`, `stage TEXT`, `commit` or `advance N`.
+fn perform(alloc: Global, spool: &mut Spool<MemoryDisk>, call: &str) -> Result<&'static str, Fail> {
+    let (name, text) = call.split_once(' ').unwrap_or((call, ""));
+    match name {
+        "append" => append(spool, &block(alloc, text.as_bytes())?),
+        "stage" => Ok(said(spool.stage(&block(alloc, text.as_bytes())?))),
+        "commit" if text.is_empty() => commit(spool),
+        "advance" => take_off(spool, text.parse()?),
+        _ => Err(Fail::from("no call")),
+    }
+}
+
+// A write's place and bytes in hexadecimal.
+fn add_write(alloc: Global, text: &mut String, written: &Written) -> Result<(), Fail> {
+    text.push_str(format!(in alloc; "{} ", written.at)?.as_str())?;
+    for byte in written.bytes.as_slice() {
+        text.push_str(format!(in alloc; "{byte:02x}")?.as_str())?;
+    }
+    Ok(())
 }
 
 // The changes of a disk as text.
@@ -216,15 +226,28 @@ fn changes(alloc: Global, disk: &MemoryDisk) -> Result<String, Fail> {
             DiskChange::Synced => text.push_str("sync")?,
             DiskChange::Tore(_) => text.push_str("torn")?,
             DiskChange::Lost(_) => text.push_str("lost")?,
-            DiskChange::Wrote(written) => {
-                text.push_str(format!(in alloc; "{} ", written.at)?.as_str())?;
-                for byte in written.bytes.as_slice() {
-                    text.push_str(format!(in alloc; "{byte:02x}")?.as_str())?;
-                }
-            }
+            DiskChange::Wrote(written) => add_write(alloc, &mut text, written)?,
         }
     }
     Ok(text)
+}
+
+// A call on a store: the answer, and the disk.
+fn answer(
+    alloc: Global,
+    disk: MemoryDisk,
+    capacity: u64,
+    call: &str,
+) -> Result<(&'static str, MemoryDisk), Fail> {
+    let mut spool = open(disk, capacity)?;
+    let said = perform(alloc, &mut spool, call);
+    let disk = spool.into_disk();
+    Ok((said?, disk))
+}
+
+// The list of a store, which keeps it.
+fn list(alloc: Global, disk: &MemoryDisk) -> Result<String, Fail> {
+    drain(alloc, MemoryDisk::new(alloc, disk.bytes().to_vec(alloc)?)?)
 }
 
 // One call on a store: whether it answers as the row says and leaves that list; and the disk.
@@ -235,14 +258,10 @@ fn row(
     row: &str,
 ) -> Result<(bool, MemoryDisk), Fail> {
     let (call, wanted) = row.split_once(": ").ok_or("no colon")?;
-    let (answer, list) = wanted.split_once(',').ok_or("no comma")?;
-    let mut spool = open(disk, capacity)?;
-    let said = perform(alloc, &mut spool, call);
-    let disk = spool.into_disk();
-    let said = said?;
-    let bytes = disk.bytes().to_vec(alloc)?;
-    let listed = drain(alloc, MemoryDisk::new(alloc, bytes)?)?;
-    Ok((said == answer && listed.as_str() == list, disk))
+    let (said, listed) = wanted.split_once(',').ok_or("no comma")?;
+    let (answer, disk) = answer(alloc, disk, capacity, call)?;
+    let same = answer == said && list(alloc, &disk)?.as_str() == listed;
+    Ok((same, disk))
 }
 
 // Runs a table of calls from a fresh store, and counts the rows that come out as they say.
@@ -268,49 +287,89 @@ fn tables(rt: HostRuntime) -> Result<(), Fail> {
     Ok(())
 }
 
-// The changes that these calls make, on a store of these bytes.
-fn traced(
+// Performs calls on a store, and gives back its disk.
+fn performed(
     alloc: Global,
-    bytes: &[u8],
+    disk: MemoryDisk,
     capacity: u64,
-    calls: &[&str],
-) -> Result<(String, MemoryDisk), Fail> {
-    let disk = MemoryDisk::new(alloc, bytes.to_vec(alloc)?)?;
+    calls: &str,
+) -> Result<MemoryDisk, Fail> {
     let mut spool = open(disk, capacity)?;
     let result = perform_all(alloc, &mut spool, calls);
     let disk = spool.into_disk();
     result?;
-    Ok((changes(alloc, &disk)?, disk))
+    Ok(disk)
 }
 
-fn perform_all(alloc: Global, spool: &mut Spool<MemoryDisk>, calls: &[&str]) -> Result<(), Fail> {
-    for call in calls {
+fn perform_all(alloc: Global, spool: &mut Spool<MemoryDisk>, calls: &str) -> Result<(), Fail> {
+    for call in calls.split(", ") {
         perform(alloc, spool, call)?;
     }
     Ok(())
 }
 
+// A disk whose changes since its opening are not there.
+fn closed(alloc: Global, disk: &MemoryDisk) -> Result<MemoryDisk, Fail> {
+    Ok(MemoryDisk::new(alloc, disk.bytes().to_vec(alloc)?)?)
+}
+
+// The store that a table of calls leaves.
+fn after(alloc: Global, table: &str) -> Result<MemoryDisk, Fail> {
+    let (_, disk) = rows(alloc, table, 20)?;
+    closed(alloc, &disk)
+}
+
+// The store behind RING, with an entry that goes over its end.
+fn wrapped(alloc: Global) -> Result<MemoryDisk, Fail> {
+    let disk = performed(alloc, after(alloc, RING)?, 20, "append qrst")?;
+    closed(alloc, &disk)
+}
+
+// The store on which calls are traced.
+fn start(alloc: Global, name: &str) -> Result<MemoryDisk, Fail> {
+    match name {
+        "fresh" => fresh(alloc),
+        "ring" => after(alloc, RING),
+        "row" => after(alloc, ROW),
+        "wrapped" => wrapped(alloc),
+        _ => Err(Fail::from("no such store")),
+    }
+}
+
+// The changes that these calls make on that store.
+fn traced(alloc: Global, store: &str, capacity: u64, calls: &str) -> Result<String, Fail> {
+    let disk = performed(alloc, start(alloc, store)?, capacity, calls)?;
+    changes(alloc, &disk)
+}
+
 #[test]
 fn device_calls(rt: HostRuntime) -> Result<(), Fail> {
-    let alloc = rt.alloc();
-    let (text, _) = traced(alloc, &[0; 128], 20, &["append ab", "advance 1"])?;
-    assert_eq!(rt; text.as_str(), APPENDED);
-    let (_, ring) = rows(alloc, RING, 20)?;
-    let (text, _) = traced(alloc, ring.bytes(), 20, &["append qrst", "advance 1"])?;
-    assert_eq!(rt; text.as_str(), WRAPPED);
-    let (_, wrapped) = traced(alloc, ring.bytes(), 20, &["append qrst"])?;
-    let (text, _) = traced(alloc, wrapped.bytes(), 60, &["append 00000000000000"])?;
-    assert_eq!(rt; text.as_str(), GATHERED);
-    let calls = ["stage ab", "stage cd", "commit", "advance 2"];
-    let (text, _) = traced(alloc, &[0; 128], 20, &calls)?;
-    assert_eq!(rt; text.as_str(), COMMITTED);
-    let (_, row) = rows(alloc, ROW, 20)?;
-    let calls = ["stage abcd", "stage ef", "commit", "advance 2"];
-    let (text, _) = traced(alloc, row.bytes(), 20, &calls)?;
-    assert_eq!(rt; text.as_str(), STAGED_OVER);
-    let calls = ["stage ab", "stage 00000000000000", "commit"];
-    let (text, _) = traced(alloc, wrapped.bytes(), 60, &calls)?;
-    assert_eq!(rt; text.as_str(), STAGED_GATHERED);
+    for (store, capacity, calls, wanted) in [
+        ("fresh", 20, "append ab, advance 1", APPENDED),
+        ("ring", 20, "append qrst, advance 1", WRAPPED),
+        ("wrapped", 60, "append 00000000000000", GATHERED),
+        (
+            "fresh",
+            20,
+            "stage ab, stage cd, commit, advance 2",
+            COMMITTED,
+        ),
+        (
+            "row",
+            20,
+            "stage abcd, stage ef, commit, advance 2",
+            STAGED_OVER,
+        ),
+        (
+            "wrapped",
+            60,
+            "stage ab, stage 00000000000000, commit",
+            STAGED_GATHERED,
+        ),
+    ] {
+        let text = traced(rt.alloc(), store, capacity, calls)?;
+        assert_eq!(rt; text.as_str(), wanted, "{calls}");
+    }
     Ok(())
 }
 
@@ -359,33 +418,47 @@ fn first(alloc: Global, spool: &mut Spool<MemoryDisk>) -> Result<(u64, Walked), 
     Ok((gate, spool.item(alloc, gate)?))
 }
 
-// A store with one entry, spelled anew.
-fn migrated(alloc: Global) -> Result<MemoryDisk, Fail> {
+// A fresh store that gets one entry.
+fn with_entry(alloc: Global) -> Result<MemoryDisk, Fail> {
     let mut spool = open(fresh(alloc)?, 1000)?;
     let result = put(alloc, &mut spool, FORMAT1);
     let disk = spool.into_disk();
     result?;
-    let bytes = disk.bytes().to_vec(alloc)?;
-    let mut spool = open(MemoryDisk::new(alloc, bytes)?, 1000)?;
+    Ok(disk)
+}
+
+// A store spelled anew.
+fn respelled(alloc: Global, disk: MemoryDisk) -> Result<MemoryDisk, Fail> {
+    let mut spool = open(disk, 1000)?;
     let result = respell(alloc, &mut spool);
     let disk = spool.into_disk();
     result?;
     Ok(disk)
 }
 
-#[test]
-fn migration(rt: HostRuntime) -> Result<(), Fail> {
-    let alloc = rt.alloc();
-    let disk = migrated(alloc)?;
-    assert_eq!(rt; changes(alloc, &disk)?.as_str(), MIGRATED);
+fn first_of(alloc: Global, disk: MemoryDisk) -> Result<(u64, Walked), Fail> {
     let mut spool = open(disk, 1000)?;
     let result = first(alloc, &mut spool);
     let _ = spool.into_disk();
-    let (gate, Walked::Item { payload, next }) = result? else {
-        return Err(Fail::from("no item"));
-    };
-    assert_eq!(rt; (gate, next), (117, 169));
-    assert_eq!(rt; payload.as_slice(), FORMAT1.as_slice());
+    result
+}
+
+// Whether the entry stands first, moved to its new place.
+fn is_moved(alloc: Global, disk: MemoryDisk) -> Result<bool, Fail> {
+    match first_of(alloc, disk)? {
+        (gate, Walked::Item { payload, next }) => {
+            Ok(gate == 117 && next == 169 && payload.as_slice() == FORMAT1.as_slice())
+        }
+        _ => Ok(false),
+    }
+}
+
+#[test]
+fn migration(rt: HostRuntime) -> Result<(), Fail> {
+    let alloc = rt.alloc();
+    let disk = respelled(alloc, closed(alloc, &with_entry(alloc)?)?)?;
+    assert_eq!(rt; changes(alloc, &disk)?.as_str(), MIGRATED);
+    assert!(rt; is_moved(alloc, disk)?);
     Ok(())
 }
 
@@ -400,33 +473,38 @@ const DAMAGED: &str = "1 1 1
 64 1 64
 64 255 64";
 
-#[test]
-fn damaged(rt: HostRuntime) -> Result<(), Fail> {
-    let alloc = rt.alloc();
-    let mut good: usize = 0;
-    for line in DAMAGED.lines() {
-        if is_damaged(alloc, line)? {
-            good = good.saturating_add(1);
-        }
+// A store of 128 bytes, all zero but for this byte.
+fn store(alloc: Global, at: usize, byte: u8) -> Result<MemoryDisk, Fail> {
+    let mut bytes = vec![in alloc; 0u8; 128]?;
+    if at < bytes.len() {
+        bytes[at] = byte;
     }
-    assert_eq!(rt; good, DAMAGED.lines().count());
-    Ok(())
+    Ok(MemoryDisk::new(alloc, bytes)?)
+}
+
+// Whether a store isn't opened, because of damage at this place.
+fn is_refused(disk: MemoryDisk, damage: u64) -> bool {
+    match open(disk, 20) {
+        Ok(spool) => {
+            let _ = spool.into_disk();
+            false
+        }
+        Err(refusal) => refusal == StoreRefusal::Damage(damage),
+    }
 }
 
 fn is_damaged(alloc: Global, line: &str) -> Result<bool, Fail> {
     let (at, rest) = line.split_once(' ').ok_or("no place")?;
     let (byte, damage) = rest.split_once(' ').ok_or("no byte")?;
-    let at: usize = at.parse()?;
-    let mut bytes = vec![in alloc; 0u8; 128]?;
-    if at < bytes.len() {
-        bytes[at] = byte.parse()?;
+    let disk = store(alloc, at.parse()?, byte.parse()?)?;
+    Ok(is_refused(disk, damage.parse()?))
+}
+
+#[test]
+fn damaged(rt: HostRuntime) -> Result<(), Fail> {
+    let alloc = rt.alloc();
+    for line in DAMAGED.lines() {
+        assert!(rt; is_damaged(alloc, line)?, "{line}");
     }
-    let damage: u64 = damage.parse()?;
-    match open(MemoryDisk::new(alloc, bytes)?, 20) {
-        Ok(spool) => {
-            let _ = spool.into_disk();
-            Ok(false)
-        }
-        Err(refusal) => Ok(refusal == StoreRefusal::Damage(damage)),
-    }
+    Ok(())
 }

@@ -1,5 +1,5 @@
 // A position store over disks in memory, stopped at each call, and over a real file.
-use crate::files::keeps_its_list;
+use crate::files::temporary;
 use sg_device::{Disk, DiskFault, Name, OpenRefusal};
 use sg_host::{FileDisk, HostStores};
 use sg_memory::{MemoryWorld, Pace};
@@ -7,8 +7,8 @@ use sg_memory_disk::{DiskChange, DiskPlan, MemoryDisk, Pick, Plan};
 use sg_outside::StoreSpec;
 use sg_stable::{Stable, StoreRefusal};
 use std::alloc::Global;
+use std::fs;
 use std::test::Fail;
-use std::{env, fs, process};
 
 const PICKS: [Pick; 4] = [Pick::Old, Pick::New, Pick::Ones, Pick::Zeros];
 
@@ -22,8 +22,12 @@ fn spec(alloc: Global, name: &[u8], create: bool) -> Result<StoreSpec, Fail> {
     })
 }
 
+fn zeros(alloc: Global, len: usize) -> Result<Vec<u8>, Fail> {
+    Ok(vec![in alloc; 0u8; len]?)
+}
+
 fn fresh(alloc: Global) -> Result<MemoryDisk, Fail> {
-    Ok(MemoryDisk::new(alloc, vec![in alloc; 0u8; 128]?)?)
+    Ok(MemoryDisk::new(alloc, zeros(alloc, 128)?)?)
 }
 
 // The position that stands on a disk, or why there is none.
@@ -38,6 +42,22 @@ fn position<D: Disk + Drop>(disk: D) -> Result<u64, StoreRefusal> {
     }
 }
 
+// Whether this position stands on a disk.
+fn stands<D: Disk + Drop>(disk: D, value: u64) -> bool {
+    match position(disk) {
+        Ok(found) => found == value,
+        Err(_) => false,
+    }
+}
+
+// Whether a disk is damaged at this place.
+fn is_damaged<D: Disk + Drop>(disk: D, place: u64) -> bool {
+    match position(disk) {
+        Ok(_) => false,
+        Err(refusal) => refusal == StoreRefusal::Damage(place),
+    }
+}
+
 // Puts a position, and gives the disk back with the answer.
 fn put<D: Disk + Drop>(disk: D, value: u64) -> Result<(D, Result<(), DiskFault>), StoreRefusal> {
     match Stable::open(disk) {
@@ -49,15 +69,6 @@ fn put<D: Disk + Drop>(disk: D, value: u64) -> Result<(D, Result<(), DiskFault>)
     }
 }
 
-// A store of this length, all zero but for this byte.
-fn store(alloc: Global, len: usize, at: usize) -> Result<MemoryDisk, Fail> {
-    let mut bytes = vec![in alloc; 0u8; len]?;
-    if at < len {
-        bytes[at] = 1;
-    }
-    Ok(MemoryDisk::new(alloc, bytes)?)
-}
-
 fn is_write(change: &DiskChange, at: u64, bytes: &[u8]) -> bool {
     match change {
         DiskChange::Wrote(written) => written.at == at && written.bytes.as_slice() == bytes,
@@ -65,21 +76,48 @@ fn is_write(change: &DiskChange, at: u64, bytes: &[u8]) -> bool {
     }
 }
 
+// Whether the changes of a fresh store are those of a put of 8.
+fn has_put(disk: &MemoryDisk) -> bool {
+    let changes = disk.changes();
+    changes.len() == 5
+        && is_write(&changes[1], 32, &[0, 0, 0, 0, 0, 0, 0, 8])
+        && is_write(&changes[3], 0, &[1])
+}
+
+// Whether a crash leaves the bytes as a read gives them.
+fn is_stable(disk: &MemoryDisk) -> Result<bool, Fail> {
+    for pick in PICKS {
+        if disk.image(&[pick])?.as_slice() != disk.bytes() {
+            return Ok(false);
+        }
+    }
+    Ok(true)
+}
+
 #[test]
 fn in_memory(rt: HostRuntime) -> Result<(), Fail> {
     let alloc = rt.alloc();
-    assert!(rt; position(fresh(alloc)?) == Ok(0));
+    assert!(rt; stands(fresh(alloc)?, 0));
     let (disk, result) = put(fresh(alloc)?, 8)?;
     is_send(&disk);
     assert!(rt; result.is_ok() && !disk.starved());
-    let changes = disk.changes();
-    assert_eq!(rt; changes.len(), 5);
-    assert!(rt; is_write(&changes[1], 32, &[0, 0, 0, 0, 0, 0, 0, 8]));
-    assert!(rt; is_write(&changes[3], 0, &[1]));
-    for pick in PICKS {
-        assert_eq!(rt; disk.image(&[pick])?.as_slice(), disk.bytes());
+    assert!(rt; has_put(&disk));
+    assert!(rt; is_stable(&disk)?);
+    assert!(rt; stands(disk, 8));
+    Ok(())
+}
+
+// A store of this length, all zero but for this byte.
+fn store(alloc: Global, len: usize, at: usize) -> Result<MemoryDisk, Fail> {
+    let mut bytes = zeros(alloc, len)?;
+    if at < bytes.len() {
+        bytes[at] = 1;
     }
-    assert!(rt; position(disk) == Ok(8));
+    Ok(MemoryDisk::new(alloc, bytes)?)
+}
+
+#[test]
+fn damaged_in_memory(rt: HostRuntime) -> Result<(), Fail> {
     for (len, at, place) in [
         (127, 200, 127),
         (129, 200, 128),
@@ -87,40 +125,89 @@ fn in_memory(rt: HostRuntime) -> Result<(), Fail> {
         (128, 15, 15),
         (0, 200, 0),
     ] {
-        assert!(rt; position(store(alloc, len, at)?) == Err(StoreRefusal::Damage(place)));
-    }
-    // Opening takes four calls, and a put four more.
-    for calls in 0..9 {
-        let mut stopped = fresh(alloc)?;
-        stopped.stop_after(calls);
-        let failing = MemoryDisk::failing(
-            alloc,
-            vec![in alloc; 0u8; 128]?,
-            DiskPlan::failing(alloc, Plan::new(vec![in alloc; calls]?)),
-        )?;
-        for disk in [stopped, failing] {
-            match put(disk, 8) {
-                Err(refusal) => {
-                    assert!(rt; calls < 4 && refusal == StoreRefusal::DiskFault);
-                }
-                Ok((disk, result)) => {
-                    assert_eq!(rt; result.is_ok(), calls == 8);
-                    for pick in PICKS {
-                        let value = position(MemoryDisk::new(alloc, disk.image(&[pick])?)?)?;
-                        assert!(rt; value == 8 || (value == 0 && calls < 8), "{calls}");
-                    }
-                }
-            }
-        }
+        assert!(rt;
+            is_damaged(store(rt.alloc(), len, at)?, place),
+            "{len} {at}"
+        );
     }
     Ok(())
+}
+
+// A disk that stops after so many calls.
+fn stopping(alloc: Global, calls: u64) -> Result<MemoryDisk, Fail> {
+    let mut disk = fresh(alloc)?;
+    disk.stop_after(calls);
+    Ok(disk)
+}
+
+// A disk whose call of this number fails.
+fn failing(alloc: Global, call: u64) -> Result<MemoryDisk, Fail> {
+    let plan = DiskPlan::failing(alloc, Plan::new(vec![in alloc; call]?));
+    Ok(MemoryDisk::failing(alloc, zeros(alloc, 128)?, plan)?)
+}
+
+// Whether 8 stands on each image of a disk, or 0 where that may be.
+fn images_stand(alloc: Global, disk: &MemoryDisk, may_be_old: bool) -> Result<bool, Fail> {
+    for pick in PICKS {
+        let value = position(MemoryDisk::new(alloc, disk.image(&[pick])?)?)?;
+        if value != 8 && (value != 0 || !may_be_old) {
+            return Ok(false);
+        }
+    }
+    Ok(true)
+}
+
+// Whether a put of 8 over a disk of which so many calls succeed is all or nothing. Opening takes four calls,
+// and the put four more.
+fn is_whole(alloc: Global, disk: MemoryDisk, calls: u64) -> Result<bool, Fail> {
+    match put(disk, 8) {
+        Err(refusal) => Ok(calls < 4 && refusal == StoreRefusal::DiskFault),
+        Ok((disk, result)) => {
+            Ok(result.is_ok() == (calls == 8) && images_stand(alloc, &disk, calls < 8)?)
+        }
+    }
+}
+
+#[test]
+fn at_each_call(rt: HostRuntime) -> Result<(), Fail> {
+    let alloc = rt.alloc();
+    for calls in 0..9 {
+        assert!(rt;
+            is_whole(alloc, stopping(alloc, calls)?, calls)?,
+            "stopped {calls}"
+        );
+        assert!(rt;
+            is_whole(alloc, failing(alloc, calls)?, calls)?,
+            "failed {calls}"
+        );
+    }
+    Ok(())
+}
+
+// Puts a position into a store of a machine, and closes it. Whether that succeeds.
+fn puts(
+    alloc: Global,
+    world: &mut MemoryWorld,
+    spec: &StoreSpec,
+    value: u64,
+) -> Result<bool, Fail> {
+    let store = world.open_store(alloc, spec)?;
+    is_send(&store);
+    let (store, result) = put(store, value)?;
+    world.close_store(store);
+    Ok(result.is_ok())
+}
+
+// Whether this position stands in a store of a machine.
+fn keeps(alloc: Global, world: &mut MemoryWorld, name: &[u8], value: u64) -> Result<bool, Fail> {
+    let store = world.open_store(alloc, &spec(alloc, name, false)?)?;
+    Ok(stands(store, value))
 }
 
 #[test]
 fn in_a_machine(rt: HostRuntime) -> Result<(), Fail> {
     let alloc = rt.alloc();
-    let pace = Pace { piece: 1, at: 0 };
-    let mut world = MemoryWorld::new(alloc, Vec::new(alloc), pace);
+    let mut world = MemoryWorld::new(alloc, Vec::new(alloc), Pace { piece: 1, at: 0 });
     assert!(rt; world.open_store(alloc, &spec(alloc, b"a", false)?).is_err());
     for (name, create, value) in [
         (b"a", true, 8),
@@ -128,16 +215,13 @@ fn in_a_machine(rt: HostRuntime) -> Result<(), Fail> {
         (b"a", false, 10),
         (b"a", true, 11),
     ] {
-        let store = world.open_store(alloc, &spec(alloc, name, create)?)?;
-        is_send(&store);
-        let (store, result) = put(store, value)?;
-        assert!(rt; result.is_ok());
-        world.close_store(store);
+        assert!(rt;
+            puts(alloc, &mut world, &spec(alloc, name, create)?, value)?,
+            "{value}"
+        );
     }
-    for (name, value) in [(b"a", 11), (b"b", 9)] {
-        let store = world.open_store(alloc, &spec(alloc, name, false)?)?;
-        assert!(rt; position(store) == Ok(value));
-    }
+    assert!(rt; keeps(alloc, &mut world, b"a", 11)?);
+    assert!(rt; keeps(alloc, &mut world, b"b", 9)?);
     assert!(rt; !world.starved());
     Ok(())
 }
@@ -146,39 +230,51 @@ fn open(alloc: Global, rt: HostRuntime, path: &str, create: bool) -> Result<File
     FileDisk::open(alloc, rt, path.as_bytes(), create)
 }
 
-#[test]
-fn in_a_file(rt: HostRuntime) -> Result<(), Fail> {
-    let alloc = rt.alloc();
-    let folder = env::temp_dir(&rt)?;
-    let folder = folder.as_path().to_str().ok_or("no text")?;
-    let id = process::id(rt.process());
-    let path = format!(in alloc; "{folder}/test_stores_store_{id}")?;
-    let path = path.as_str();
-    assert!(rt; open(alloc, rt, path, false).is_err());
+// Makes a store in a file, and closes it.
+fn make(alloc: Global, rt: HostRuntime, path: &str) -> Result<(), Fail> {
     let mut stores = HostStores::new(alloc, rt);
     let store = stores.open(alloc, &spec(alloc, path.as_bytes(), true)?)?;
     is_send(&store);
     stores.close(store);
-    let mut last = 0;
-    for value in [8, 9, 1 << 63, 0, 7] {
-        let (_, result) = put(open(alloc, rt, path, true)?, value)?;
-        assert!(rt; result.is_ok());
-        assert!(rt; position(open(alloc, rt, path, false)?) == Ok(value));
-        last = value;
-    }
-    // Killed while the slot that isn't selected was written: five puts leave an odd selector.
+    Ok(())
+}
+
+// Whether a position that is put into a file stands there.
+fn puts_in_file(alloc: Global, rt: HostRuntime, path: &str, value: u64) -> Result<bool, Fail> {
+    let (_, result) = put(open(alloc, rt, path, true)?, value)?;
+    Ok(result.is_ok() && stands(open(alloc, rt, path, false)?, value))
+}
+
+// Whether a position stands in a file of 128 bytes, whatever is written to the slot that isn't selected.
+fn stands_killed(alloc: Global, rt: HostRuntime, path: &str, value: u64) -> Result<bool, Fail> {
     let mut disk = open(alloc, rt, path, false)?;
-    assert_eq!(rt; disk.len()?, 128);
+    let len = disk.len()?;
     disk.write_at(16, &[255, 255, 255])?;
-    assert!(rt; position(disk) == Ok(last));
+    Ok(len == 128 && stands(disk, value))
+}
+
+// Whether a write far behind the end of a file fails, and counts as a fault, and one at its end is damage.
+fn fails_far_behind(alloc: Global, rt: HostRuntime, path: &str) -> Result<bool, Fail> {
     let mut disk = open(alloc, rt, path, false)?;
     disk.write_at(128, &[0])?;
-    assert_eq!(rt; disk.faults(), 0);
-    assert!(rt; disk.write_at(u64::MAX, &[0]).is_err());
-    assert_eq!(rt; disk.faults(), 1);
-    assert!(rt; position(disk) == Err(StoreRefusal::Damage(128)));
-    fs::remove_file(&rt, path)?;
-    assert!(rt; keeps_its_list(alloc, rt, path)?);
+    let before = disk.faults();
+    let failed = disk.write_at(u64::MAX, &[0]).is_err();
+    Ok(before == 0 && failed && disk.faults() == 1 && is_damaged(disk, 128))
+}
+
+#[test]
+fn in_a_file(rt: HostRuntime) -> Result<(), Fail> {
+    let alloc = rt.alloc();
+    let path = temporary(alloc, rt, "store")?;
+    let path = path.as_str();
+    assert!(rt; open(alloc, rt, path, false).is_err());
+    make(alloc, rt, path)?;
+    for value in [8, 9, 1 << 63, 0, 7] {
+        assert!(rt; puts_in_file(alloc, rt, path, value)?, "{value}");
+    }
+    // Five puts leave an odd selector.
+    assert!(rt; stands_killed(alloc, rt, path, 7)?);
+    assert!(rt; fails_far_behind(alloc, rt, path)?);
     fs::remove_file(&rt, path)?;
     Ok(())
 }

@@ -6,14 +6,34 @@ use crate::driver::names::Named;
 use sg_device::{Name, NoMemory};
 use sg_driver::Defaults;
 use sg_lex::{ConfigFault, Token};
-use sg_parse_base::is_symbol;
+use sg_parse_base::{Spot, is_symbol};
 use sg_parse_obj::{Object, ParseRefusal, statement};
 use std::alloc::{AllocError, Global};
 
 /// The statements, or why there are none.
+#[derive(Drop)]
 pub enum Statements {
     Found(Vec<Object>),
     Bad(ConfigFault),
+}
+
+// Adds the statement at this place: where it ends, or its fault.
+fn push_statement(
+    alloc: Global,
+    tokens: &[Token],
+    at: usize,
+    objects: &mut Vec<Object>,
+) -> Result<Result<usize, ConfigFault>, NoMemory>
+    requires { (at < length tokens.now) × (length tokens.now < 2 ^ 32) }
+{
+    match statement(alloc, tokens, at) {
+        Ok((object, end)) => {
+            objects.push(object)?;
+            Ok(Ok(end))
+        }
+        Err(ParseRefusal::Bad(fault)) => Ok(Err(fault)),
+        Err(ParseRefusal::NoMemory) => Err(AllocError),
+    }
 }
 
 // The statements up to the end, each with a semicolon behind it.
@@ -30,13 +50,9 @@ pub(crate) fn read_statements(alloc: Global, tokens: &[Token]) -> Result<Stateme
             at += 1;
             continue;
         }
-        match statement(alloc, tokens, at) {
-            Ok((object, end)) => {
-                objects.push(object)?;
-                at = end;
-            }
-            Err(ParseRefusal::Bad(fault)) => return Ok(Statements::Bad(fault)),
-            Err(ParseRefusal::NoMemory) => return Err(AllocError),
+        match push_statement(alloc, tokens, at, &mut objects)? {
+            Ok(end) => at = end,
+            Err(fault) => return Ok(Statements::Bad(fault)),
         }
     }
     Ok(Statements::Found(objects))
@@ -63,17 +79,28 @@ pub(crate) fn defaults_of(objects: &[Object]) -> Defaults
     defaults
 }
 
+fn template_text(alloc: Global, text: Option<&Spot>) -> Result<Name, NoMemory> {
+    match text {
+        Some(text) => text.token.text.copy(),
+        None => Name::new(alloc, b""),
+    }
+}
+
+fn push_template(alloc: Global, named: &mut Named, object: &Object) -> Result<(), NoMemory> {
+    match object {
+        Object::Template { name, text } => {
+            let text = template_text(alloc, text.as_ref())?;
+            named.push(name.token.text.copy()?, text)
+        }
+        _ => Ok(()),
+    }
+}
+
 /// The templates.
 pub(crate) fn templates_of(alloc: Global, objects: &[Object]) -> Result<Named, NoMemory> {
     let mut named = Named::new(alloc);
     for object in objects {
-        if let Object::Template { name, text } = object {
-            let text = match text {
-                Some(text) => text.token.text.copy()?,
-                None => Name::new(alloc, b"")?,
-            };
-            named.push(name.token.text.copy()?, text)?;
-        }
+        push_template(alloc, &mut named, object)?;
     }
     Ok(named)
 }

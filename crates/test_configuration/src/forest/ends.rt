@@ -1,11 +1,11 @@
 // The statements of drivers: those with names, and those in the elements of top-level log statements.
 
-use sg_plan::{Endpoints, Owner};
 use sg_list::Seq;
 use sg_parse_base::Spot;
 use sg_parse_obj::Object;
 use sg_parse_path::{RawElement, RawRef};
 use sg_parse_text::Statement;
+use sg_plan::{Endpoints, Owner};
 use std::alloc::{AllocError, Global};
 
 fn owner(name: &Spot, named: bool) -> Result<Owner, AllocError> {

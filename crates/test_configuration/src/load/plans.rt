@@ -1,12 +1,12 @@
 // Inlets, outlets and stores.
 
-use sg_run_plan::{InletPlan, OutletPlan};
 use crate::plan::put_source;
 use crate::text::{put, put_name, put_number};
 use sg_config::Config;
 use sg_device::NoMemory;
 use sg_machine::{BufferSetup, DestSetup};
 use sg_outside::{InletSpec, OutletSpec};
+use sg_run_plan::{InletPlan, OutletPlan};
 use std::alloc::Global;
 
 fn say_inlet_spec(alloc: Global, out: &mut Vec<u8>, spec: &InletSpec) -> Result<(), NoMemory> {

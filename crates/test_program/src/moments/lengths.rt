@@ -12,11 +12,11 @@ use std::sync::Wait;
 use std::thread::Threads;
 
 // What `spool` says of the disk-buffer.
-fn listed(alloc: Global, stores: MemoryStores) -> Result<MemoryMachine, NoMemory> {
+fn listed(alloc: Global, stores: MemoryStores) -> MemoryMachine {
     let mut machine = machine_with(alloc, Vec::new(alloc));
     machine.world.stores = stores;
     let _listed = list_store(alloc, BUFFER, &mut machine);
-    Ok(machine)
+    machine
 }
 
 // The length at the end of the first line, where this is an entry and the only one.
@@ -35,12 +35,13 @@ fn append_length(
     alloc: Global,
     stores: &MemoryStores,
     letters: &str,
-    out: &mut String,
+    out: &mut Vec<u8>,
 ) -> Result<(), NoMemory> {
+    out.push(b' ')?;
     let picks = picks(alloc, letters)?;
-    let machine = listed(alloc, left(alloc, stores, &picks, &picks)?)?;
-    let length = length_of(machine.world.said()).escape_ascii();
-    out.push_str(&format!(in alloc; " {length}")?)?;
+    let stores = left(alloc, stores, &picks, &picks)?;
+    let machine = listed(alloc, stores);
+    out.extend_from_slice(length_of(machine.world.said()))?;
     Ok(())
 }
 
@@ -59,17 +60,21 @@ fn stopped<T: Threads + Wait + Sync>(
     Ok(ran.stores)
 }
 
+fn append_count(alloc: Global, calls: u64, out: &mut Vec<u8>) -> Result<(), NoMemory> {
+    out.extend_from_slice(format!(in alloc; "; {calls}")?.as_bytes())?;
+    Ok(())
+}
+
 fn append_lengths<T: Threads + Wait + Sync>(
     rt: &T,
     alloc: Global,
     calls: u64,
-    out: &mut String,
+    out: &mut Vec<u8>,
 ) -> Result<(), NoMemory> {
+    append_count(alloc, calls, out)?;
     let stores = stopped(rt, alloc, calls)?;
-    out.push_str(&format!(in alloc; "; {calls}")?)?;
     append_length(alloc, &stores, "o", out)?;
-    append_length(alloc, &stores, "n", out)?;
-    Ok(())
+    append_length(alloc, &stores, "n", out)
 }
 
 /// The lengths behind runs that stop behind each number of calls up to that of the row: where nothing was written since the last
@@ -78,11 +83,11 @@ pub(crate) fn lengths<T: Threads + Wait + Sync>(
     rt: &T,
     alloc: Global,
     row: &str,
-) -> Result<Option<String>, NoMemory> {
+) -> Result<Option<Vec<u8>>, NoMemory> {
     let Ok(last) = row.parse::<u16>() else {
         return Ok(None);
     };
-    let mut out = format!(in alloc; "lengths")?;
+    let mut out = b"lengths".to_vec(alloc)?;
     for calls in 0..u64::from(last) + 1 {
         append_lengths(rt, alloc, calls, &mut out)?;
     }

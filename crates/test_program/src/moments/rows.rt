@@ -30,6 +30,23 @@ fn code_text(alloc: Global, code: Option<u8>) -> Result<String, NoMemory> {
     }
 }
 
+// The exit status of a run with working devices.
+fn working<T: Threads + Wait + Sync>(
+    rt: &T,
+    alloc: Global,
+    stores: MemoryStores,
+    due: &mut Due,
+) -> Result<Option<u8>, NoMemory> {
+    let ran = run(rt, alloc, stores, NEVER, due)?;
+    Ok(ran.code)
+}
+
+fn end_text(alloc: Global, code: Option<u8>, due: &Due) -> Result<String, NoMemory> {
+    let code = code_text(alloc, code)?;
+    let taken = due.said(alloc)?;
+    format!(in alloc; "status {code}, {taken}")
+}
+
 // A run with working devices. None where it is right, and else what it came to.
 fn finish<T: Threads + Wait + Sync>(
     rt: &T,
@@ -37,13 +54,27 @@ fn finish<T: Threads + Wait + Sync>(
     stores: MemoryStores,
     due: &mut Due,
 ) -> Result<Option<String>, NoMemory> {
-    let ran = run(rt, alloc, stores, NEVER, due)?;
-    if ran.code == Some(0) && due.is_done() {
+    let code = working(rt, alloc, stores, due)?;
+    if code == Some(0) && due.is_done() {
         return Ok(None);
     }
-    let code = code_text(alloc, ran.code)?;
-    let taken = due.said(alloc)?;
-    Ok(Some(format!(in alloc; "status {code}, {taken}")?))
+    Ok(Some(end_text(alloc, code, due)?))
+}
+
+fn place_text(alloc: Global, stopped: u64, letters: &str, said: &str) -> Result<String, NoMemory> {
+    format!(in alloc; "behind {stopped} by {letters}: {said}")
+}
+
+// What a crash leaves of these stores by these picks.
+fn crashed(
+    alloc: Global,
+    stores: &MemoryStores,
+    position: &str,
+    buffer: &str,
+) -> Result<MemoryStores, NoMemory> {
+    let position = picks(alloc, position)?;
+    let buffer = picks(alloc, buffer)?;
+    left(alloc, stores, &position, &buffer)
 }
 
 // A run over what a crash leaves of these stores by these picks.
@@ -55,16 +86,12 @@ fn look<T: Threads + Wait + Sync>(
     due: &Due,
     sums: &mut Sums,
 ) -> Result<(), NoMemory> {
-    let picks = picks(alloc, letters)?;
-    let images = left(alloc, stores, &picks, &picks)?;
     let mut due = due.copy(alloc)?;
+    let images = crashed(alloc, stores, letters, letters)?;
     sums.runs = sums.runs.saturating_add(1);
     match finish(rt, alloc, images, &mut due)? {
         None => sums.right = sums.right.saturating_add(1),
-        Some(said) => {
-            let stopped = sums.stopped;
-            sums.differs = Some(format!(in alloc; "behind {stopped} by {letters}: {said}")?);
-        }
+        Some(said) => sums.differs = Some(place_text(alloc, sums.stopped, letters, &said)?),
     }
     Ok(())
 }
@@ -149,13 +176,49 @@ fn series(row: &str) -> Option<(&str, &str, &str)> {
     Some((begin, store, tear))
 }
 
-// Runs in which the store of these words stops at each of its calls.
+// A run in which the store of these words stops behind so many calls, and those behind it: whether it met a stop; none where the
+// words are others.
+fn stop_behind<T: Threads + Wait + Sync>(
+    rt: &T,
+    alloc: Global,
+    words: (&str, &str, &str),
+    calls: u64,
+    sums: &mut Sums,
+) -> Result<Option<bool>, NoMemory> {
+    let (begin, store, tear) = words;
+    let Some(stops) = at(store, calls, tear) else {
+        return Ok(None);
+    };
+    match begun(alloc, begin)? {
+        Some(stores) => Ok(Some(stop(rt, alloc, stores, stops, sums)?)),
+        None => Ok(None),
+    }
+}
+
+// Runs in which the store of these words stops at each of its calls. Whether one met no stop.
+fn stop_each<T: Threads + Wait + Sync>(
+    rt: &T,
+    alloc: Global,
+    words: (&str, &str, &str),
+    sums: &mut Sums,
+) -> Result<bool, NoMemory> {
+    for calls in 0..1_000 {
+        match stop_behind(rt, alloc, words, calls, sums)? {
+            Some(true) => {}
+            Some(false) => return Ok(true),
+            None => return Ok(false),
+        }
+    }
+    Ok(false)
+}
+
+// What comes of these runs; none where the row has other words.
 fn sum_up<T: Threads + Wait + Sync>(
     rt: &T,
     alloc: Global,
     row: &str,
 ) -> Result<Option<Sums>, NoMemory> {
-    let Some((begin, store, tear)) = series(row) else {
+    let Some(words) = series(row) else {
         return Ok(None);
     };
     let mut sums = Sums {
@@ -165,15 +228,11 @@ fn sum_up<T: Threads + Wait + Sync>(
         right: 0,
         differs: None,
     };
-    for calls in 0..1_000 {
-        let (Some(stores), Some(stops)) = (begun(alloc, begin)?, at(store, calls, tear)) else {
-            return Ok(None);
-        };
-        if !stop(rt, alloc, stores, stops, &mut sums)? {
-            return Ok(Some(sums));
-        }
+    if stop_each(rt, alloc, words, &mut sums)? {
+        Ok(Some(sums))
+    } else {
+        Ok(None)
     }
-    Ok(None)
 }
 
 /// Runs in which a store stops at each of its calls, and those behind them.
@@ -181,9 +240,9 @@ pub(crate) fn each<T: Threads + Wait + Sync>(
     rt: &T,
     alloc: Global,
     row: &str,
-) -> Result<Option<String>, NoMemory> {
+) -> Result<Option<Vec<u8>>, NoMemory> {
     match sum_up(rt, alloc, row)? {
-        Some(sums) => Ok(Some(said(alloc, &sums)?)),
+        Some(sums) => Ok(Some(said(alloc, &sums)?.into_bytes())),
         None => Ok(None),
     }
 }
@@ -193,9 +252,9 @@ pub(crate) fn stops<T: Threads + Wait + Sync>(
     rt: &T,
     alloc: Global,
     row: &str,
-) -> Result<Option<String>, NoMemory> {
+) -> Result<Option<Vec<u8>>, NoMemory> {
     match sum_up(rt, alloc, row)? {
-        Some(sums) => Ok(Some(format!(in alloc; "{}", sums.stopped)?)),
+        Some(sums) => Ok(Some(format!(in alloc; "{}", sums.stopped)?.into_bytes())),
         None => Ok(None),
     }
 }
@@ -241,19 +300,20 @@ fn stop_once<T: Threads + Wait + Sync>(
     due: &mut Due,
 ) -> Result<MemoryStores, NoMemory> {
     let mut words = text.split_whitespace();
-    let position = count(words.next());
-    let buffer = count(words.next());
-    let outlet = count(words.next());
     let stops = Stops {
-        position,
-        buffer,
-        outlet,
+        position: count(words.next()),
+        buffer: count(words.next()),
+        outlet: count(words.next()),
         tear: "",
     };
+    let position = words.next().unwrap_or("");
+    let buffer = words.next().unwrap_or("");
     let ran = run(rt, alloc, stores, stops, due)?;
-    let position = picks(alloc, words.next().unwrap_or(""))?;
-    let buffer = picks(alloc, words.next().unwrap_or(""))?;
-    left(alloc, &ran.stores, &position, &buffer)
+    crashed(alloc, &ran.stores, position, buffer)
+}
+
+fn differs(alloc: Global, said: &str, stops: &str) -> Result<Vec<u8>, NoMemory> {
+    Ok(format!(in alloc; "DIFFERS {said}: {stops}")?.into_bytes())
 }
 
 // What comes of runs over these stores that stop as the words say, one behind the other.
@@ -262,14 +322,14 @@ fn chained<T: Threads + Wait + Sync>(
     alloc: Global,
     mut stores: MemoryStores,
     stops: &str,
-) -> Result<String, NoMemory> {
+) -> Result<Vec<u8>, NoMemory> {
     let mut due = Due::new(alloc)?;
     for text in stops.split('/') {
         stores = stop_once(rt, alloc, stores, text, &mut due)?;
     }
     match finish(rt, alloc, stores, &mut due)? {
-        None => Ok(format!(in alloc; "right")?),
-        Some(said) => Ok(format!(in alloc; "DIFFERS {said}: {stops}")?),
+        None => b"right".to_vec(alloc),
+        Some(said) => differs(alloc, &said, stops),
     }
 }
 
@@ -278,7 +338,7 @@ pub(crate) fn chain<T: Threads + Wait + Sync>(
     rt: &T,
     alloc: Global,
     row: &str,
-) -> Result<Option<String>, NoMemory> {
+) -> Result<Option<Vec<u8>>, NoMemory> {
     let (begin, rest) = row.split_once(' ').unwrap_or((row, ""));
     if !are_stops(rest) {
         return Ok(None);

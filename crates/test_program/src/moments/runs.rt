@@ -1,13 +1,14 @@
 // Runs whose devices stop.
+use crate::commands;
 use crate::machine::{add_file, machine_with};
 use crate::moments::due::{Due, LINES};
 use crate::moments::images::picks;
 use sg_device::NoMemory;
 use sg_memory::{MemoryFile, OutletScript};
 use sg_memory_disk::{DiskPlan, MemoryStores, Plan};
-use sg_run::run_file;
 use sg_world::MemoryMachine;
 use std::alloc::Global;
+use std::collections::VecDeque;
 use std::mem::replace;
 use std::sync::Wait;
 use std::thread::Threads;
@@ -79,6 +80,14 @@ fn dying(alloc: Global, calls: u64) -> Result<OutletScript, NoMemory> {
     Ok(OutletScript::failing(alloc, Plan::new(fails)))
 }
 
+fn outlets(alloc: Global, calls: Option<u64>) -> Result<VecDeque<OutletScript>, NoMemory> {
+    let mut scripts = VecDeque::new(alloc);
+    if let Some(calls) = calls {
+        scripts.push_back(dying(alloc, calls)?)?;
+    }
+    Ok(scripts)
+}
+
 // A machine over these stores whose devices stop so.
 fn machine(
     alloc: Global,
@@ -86,12 +95,31 @@ fn machine(
     stops: Stops<'_>,
 ) -> Result<MemoryMachine, NoMemory> {
     let stores = stopping(alloc, stores, stops)?;
+    let outlets = outlets(alloc, stops.outlet)?;
     let mut machine = machine_with(alloc, files(alloc)?);
     machine.world.stores = stores;
-    if let Some(calls) = stops.outlet {
-        machine.world.plans.outlets.push_back(dying(alloc, calls)?)?;
-    }
+    machine.world.plans.outlets = outlets;
     Ok(machine)
+}
+
+// A run of this machine: its exit status, and whether that was before its rounds.
+fn run_in<T: Threads + Wait + Sync>(
+    rt: &T,
+    alloc: Global,
+    machine: &mut MemoryMachine,
+    due: &mut Due,
+) -> (Option<u8>, bool) {
+    let end = commands::run(rt, alloc, 1 << 36, machine);
+    if let Some(cell) = machine.world.closed_outlets() {
+        due.take_all(cell);
+    }
+    match &end {
+        Ok(outcome) => (
+            Some(outcome.end.code()),
+            outcome.text.starts_with(b"store "),
+        ),
+        Err(_) => (None, false),
+    }
 }
 
 /// A run over these stores whose devices stop so.
@@ -103,17 +131,7 @@ pub(crate) fn run<T: Threads + Wait + Sync>(
     due: &mut Due,
 ) -> Result<Ran, NoMemory> {
     let mut machine = machine(alloc, stores, stops)?;
-    let end = run_file(rt, alloc, b"c", true, 1 << 36, &mut machine);
-    let (code, early) = match &end {
-        Ok(outcome) => (
-            Some(outcome.end.code()),
-            outcome.text.starts_with(b"store "),
-        ),
-        Err(_) => (None, false),
-    };
-    if let Some(cell) = machine.world.closed_outlets() {
-        due.take_all(cell);
-    }
+    let (code, early) = run_in(rt, alloc, &mut machine, due);
     let empty = MemoryStores::new(alloc);
     Ok(Ran {
         code,

@@ -1,5 +1,6 @@
 // Offers that a message's text decides.
-ghost use Rattle.std.specs.Prelude.{◌≡◌, IfOk};
+ghost use Rattle.std.specs.Prelude.{◌≡◌, ◌≤◌, ◌≤ℤ◌, pos, length, IfOk};
+ghost use Rattle.sg_route.specs.Offers.{AllWithin};
 
 use bytes::Bytes;
 use sg_msg::{Message, Offer};
@@ -30,6 +31,27 @@ fn offer(dest: u32, message: &Message, flow: bool) -> Result<Offer, AllocError>
     })
 }
 
+// The message of a record.
+fn message(alloc: Global, item: Bytes, at: i64, peer: &[u8]) -> Result<Message, AllocError>
+    requires { (pos 0 ≤ℤ at) × (at ≤ℤ pos 250_000_000_000_000_000) }
+{
+    let peer = Bytes::copy_from_slice(alloc, peer)?;
+    read(alloc, item, at, &peer, &OPTS)
+}
+
+fn offers_of(alloc: Global, message: &Message, both: bool) -> Result<Vec<Offer>, AllocError>
+    ensures bound { IfOk result (λ offers. length offers.items ≤ 1024) }
+    ensures within { IfOk result (λ offers. AllWithin 2 offers.items) }
+{
+    let mut offers = Vec::new(alloc);
+    offers.push(offer(0, message, false)?)?;
+    if !both {
+        return Ok(offers);
+    }
+    offers.push(offer(1, message, true)?)?;
+    Ok(offers)
+}
+
 impl Router for Split {
     ghost inlets = { λ _. 1 };
 
@@ -45,18 +67,11 @@ impl Router for Split {
         at: i64,
         peer: &[u8],
     ) -> Result<Vec<Offer>, AllocError> {
-        let mut offers = Vec::new(alloc);
         if item.as_slice().contains(&b'x') {
-            return Ok(offers);
+            return Ok(Vec::new(alloc));
         }
         let both = item.as_slice().contains(&b'b');
-        let peer = Bytes::copy_from_slice(alloc, peer)?;
-        let message = read(alloc, item, at, &peer, &OPTS)?;
-        offers.push(offer(0, &message, false)?)?;
-        if !both {
-            return Ok(offers);
-        }
-        offers.push(offer(1, &message, true)?)?;
-        Ok(offers)
+        let message = message(alloc, item, at, peer)?;
+        offers_of(alloc, &message, both)
     }
 }

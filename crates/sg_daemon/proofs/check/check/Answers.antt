@@ -1,4 +1,4 @@
-use Rattle.sg_checked.specs.declared.unchecked.Unchecked.TheVariants.{Bad, Unread}
+use Rattle.sg_daemon.specs.declared.unchecked.Unchecked.TheVariants.{Bad, Unread}
 use Rattle.sg_loaded.specs.declared.loaded.Unloaded.TheVariants as unloaded
 use Rattle.sg_daemon.proofs.CheckLemmas.{checks-ok, checks-unsaid, checks-starved, checks-refused}
 use Rattle.sg_daemon.proofs.SaidLemmas.{says-tells, tells-of}

@@ -1,6 +1,0 @@
-pub mod Times
-pub mod Readings
-pub mod Sayings
-pub mod Takings
-pub mod Tracings
-pub mod Wholes

@@ -1,5 +1,0 @@
-use Rattle.std.proofs.Common.{deque_len}
-use Rattle.test_crew.proofs.runs.close_dests.Given as goal
-
-abbrev pub decreases-loop-dest : goal.decreases-loop-dest
-decreases-loop-dest l = deque_len l.rest

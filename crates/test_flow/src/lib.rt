@@ -1,0 +1,15 @@
+//! What tests of runs share: a router, lists of sources and destinations, and runs of two files into two
+//! destinations, with devices in memory.
+#![tactic(auto)]
+
+mod lists;
+mod outcome;
+mod preparing;
+mod router;
+mod rows;
+
+pub use lists::{close_dests, close_sources, two_dests};
+pub use outcome::{Outcome, finish};
+pub use preparing::{Prepared, disks, prepare, shape};
+pub use router::{ByDigit, message};
+pub use rows::{Row, lines, read_row, rounds_of};

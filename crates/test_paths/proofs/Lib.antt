@@ -1,0 +1,4 @@
+pub mod Going
+pub mod Turning
+pub mod Tops
+pub mod Makings
