@@ -23,9 +23,9 @@ expect() {
     fi
 }
 
-# run WORD..: at most five seconds, since a device over a FIFO waits for nobody
+# run WORD..: at most eight seconds, since a device over a FIFO waits for nobody
 run() {
-    timeout 5 "$program" "$@" >said 2>told
+    timeout 8 "$program" "$@" >said 2>told
     status=$?
     { cat said; sed 's/^[0-9T:+-]* //' told; echo "status $status"; } >got
 }
@@ -41,6 +41,33 @@ for what in send lines pull read store; do
         store) expect "a FIFO: $what" 'store fifo: cannot open: not a regular file\nstatus 4\n' ;;
     esac
 done
+
+# Nor is one waited for that gets the name between the look at it and the opening.
+if command -v python3 >/dev/null; then
+    echo line >swapped
+    python3 -c '
+import os, time
+os.mkfifo("other")
+for name in ("swapped", "other"):
+    os.link(name, name + ".kept")
+end = time.time() + 40
+while time.time() < end and not os.path.exists("swapped.over"):
+    for name in ("other", "swapped"):
+        os.link(name + ".kept", "next")
+        os.rename("next", "swapped")
+' &
+    swapping=$!
+    hung=0
+    for try in $(seq 30); do
+        run pull swapped
+        [ $status = 124 ] && hung=$((hung + 1))
+    done
+    echo "hung $hung" >got
+    : >swapped.over
+    wait $swapping
+    rm -f swapped swapped.kept swapped.over other other.kept next
+    expect 'a FIFO put in the place of a source' 'hung 0\n'
+fi
 
 # Modes of what is made, a destination's whatever the umask.
 run store q </dev/null
@@ -93,6 +120,24 @@ for fsync in '' fsync; do
     expect "whole lines under a limit $fsync" 'same\n'
 done
 
+# The same where another one has emptied the file since it was opened, or appended to it: no line is torn.
+for change in ': >shared' 'printf "of another\n" >>shared'; do
+    rm -f shared more
+    mkfifo more
+    (ulimit -f 1 && exec timeout 20 "$program" lines shared <more >said 2>told) &
+    exec 3>more
+    seq -f 'mine %05g' 1 5 >&3
+    for try in 1 2 3 4 5 6 7 8 9 10; do [ "$(grep -c '' shared 2>/dev/null)" = 5 ] && break; sleep 0.1; done
+    eval "$change"
+    seq -f 'mine %05g' 6 500 >&3
+    exec 3>&-
+    wait
+    grep -v -x -E 'mine [0-9]{5}|of another' shared >got
+    expect "no line is torn behind $change" ''
+    [ "$(grep -c '' shared)" -gt 20 ] && [ -z "$(tail -c 1 shared)" ] && echo whole >got || tail -n 1 shared >got
+    expect "the last line behind $change" 'whole\n'
+done
+
 # A full disk, and what comes once it has space again: no line is torn, and what was told.
 mkdir small
 if mount -t tmpfs -o size=16k none small 2>/dev/null; then
@@ -132,6 +177,19 @@ if mount -t tmpfs -o size=16k none small 2>/dev/null; then
     wait
     grep -c -x 'of another' small/out >got
     expect 'lines of another one stay' '1\n'
+    # two destinations of one program append while the disk is full at times: what was taken of each is there, once and whole
+    umount small
+    mounted=
+    mount -t tmpfs -o size=6m none small && mounted=yes
+    : >filling
+    (while [ -e filling ]; do head -c 8000000 /dev/zero >small/filler; rm small/filler; done) 2>/dev/null &
+    filling=$!
+    timeout 60 "$program" both small/out </dev/null >said 2>told
+    rm filling
+    wait $filling
+    echo "taken $(grep -c -E 'a[0-9]{6}x{892}$' small/out) $(grep -c -E 'b[0-9]{6}x{892}$' small/out)" >wanted.taken
+    cmp -s said wanted.taken && echo same >got || cat said wanted.taken >got
+    expect 'two destinations over one file' 'same\n'
     umount small && mounted=
 else
     echo 'no file system of its own can be mounted here: a full disk is tried by a limit on the size alone'

@@ -78,6 +78,7 @@ again 'a folder in the place of the store' 4 'cannot open store 0\n' - run c --o
 rmdir pos-in
 : >in
 expect 'an empty file' 0 "$(report 0 0 0 0 '' 0)" '' run c --once
+[ ! -e pos-in ] && [ ! -e id-in ] && passed=$((passed + 1)) || { failed=$((failed + 1)); echo 'an empty file: a position store in which nothing was stored'; }
 printf 'one\ntwo' >in
 expect 'an open last line' 0 "$(report 1 4 1 0 '' 0)" 'one\n' run c --once
 printf 'one\ntwo\n' >in
@@ -136,14 +137,35 @@ expect 'no configuration' 3 'cannot read none\n' - run none --once
 config none out >c1
 told='source none: cannot open: No such file or directory (os error 2)\n'
 expect 'no source file' 4 'cannot open inlet 0\n' - run c1 --once
+[ ! -e pos-none ] && passed=$((passed + 1)) || { failed=$((failed + 1)); echo 'a start that failed left its position store'; }
 config in none/out >c2
 told='destination none/out: cannot open: No such file or directory (os error 2)\n'
 expect 'a destination that cannot be made' 4 'cannot open destination 0\n' - run c2 --once
+[ ! -e pos-in ] && passed=$((passed + 1)) || { failed=$((failed + 1)); echo 'a start that failed at its destination left its position store'; }
+# A position store that was there before stays.
+expect 'before a start that fails' 0 "$(report 2 8 2 0 '' 0)" 'one\ntwo\n' run c --once
+told='destination none/out: cannot open: No such file or directory (os error 2)\n'
+again 'a start that fails beside a store' 4 'cannot open destination 0\n' 'one\ntwo\n' run c2 --once
+again 'which has kept its position' 0 "$(report 0 8 0 0 '' 0)" 'one\ntwo\n' run c --once
+# A destination that is the source, by each of its names, or a store of the run.
+ln in same
+for own in in same pos-in; do
+    config in $own >c2
+    told="destination $own: cannot open: it is a source or a store of this run\n"
+    expect "the destination $own of the source in" 4 'cannot open destination 0\n' - run c2 --once
+done
+rm same
+[ "$(cat in)" = "$(printf 'one\ntwo')" ] && passed=$((passed + 1)) || { failed=$((failed + 1)); echo 'a source that is a destination:'; cat in; }
 config . out >c3
 told='source .: cannot open: not a regular file\n'
 expect 'a source that is a folder' 4 'cannot open inlet 0\n' - run c3 --once
 printf '@version: 4.2\nsource s { file("nowhere"); };\ndestination d { file("out" template("$MSG\\n")); };\nfilter f { message("e"); };\nlog { source(s); filter(f); destination(d); flags(flow-control); };\nlog { source(s); destination { network("h" port(1) template("$PRI\\n")); }; };\n' >t
 printf '<11>x: one\n<12>x: tow\n' >in
+# waits FILE MIB RECORDS: what is told of the memory that records can take, of 65,536 bytes each; a printf format
+waits() {
+    printf '%s: records that wait take at most %s MiB of memory: %s of up to 65536 bytes (log-fifo-size of queues in memory and log-iw-size; log-msg-size)\\n' "$1" "$2" "$3"
+}
+told=$(waits t 1257 20100)
 expect 'a configuration is checked' 0 't: ok\n' - check t
 expect 'a file is traced' 0 'record 0 destination 0 flow yes length 4\none\n\nrecord 0 destination 1 flow no length 3\n11\n\nrecord 1 destination 1 flow no length 3\n12\n\n' - trace t s in
 expect 'a source without a driver' 2 't:0: unknown name\n' - trace t d in
@@ -171,7 +193,7 @@ hint() {
 # what `check` says of the first configuration, changed by sed, and at which column of its line that is
 while IFS='~' read -r change status text column; do
     sed "$change" c >changed
-    [ "$status" = 0 ] || told=$(hint changed "$text" "$column")
+    if [ "$status" = 0 ]; then told=$(waits changed 632 10100); else told=$(hint changed "$text" "$column"); fi
     expect "changed by $change" "$status" "changed$text\n" - check changed
 done <<'END'
 4s/source(s)/source(x)/~2~:4: unknown name~14
@@ -203,8 +225,10 @@ log { source(s_src); filter(f_syslog); destination(d_syslog); };
 log { source(s_src); filter(f_error); destination(d_error); };
 END
 : >scl.conf
+told=$(waits dist 1938 31000)
 expect 'a usual distribution file' 0 'dist: ok\n' - check dist
 cp "$top/examples/debian/syslogr.conf" "$top/examples/debian/in.log" .
+told=$(waits syslogr.conf 8257 132100)
 expect 'the configuration of Debian, converted' 0 'syslogr.conf: ok\n' - check syslogr.conf
 accepted='Nov 28 06:00:00 web sshd[42]: Accepted publickey for root\n'
 cron='Nov 28 06:00:01 web CRON[7]: (root) CMD (true)\n'
@@ -216,6 +240,7 @@ repeated() {
     config in out | awk -v times="$1" '{ for (k = 0; k < (/^log/ ? times : 1); k++) print }'
 }
 repeated 1024 >many
+told=$(waits many 632 10100)
 expect '1,024 deliveries' 0 'many: ok\n' - check many
 repeated 1025 >many
 told='many:1028:1: too many offers\n   log { source(s); destination(d); flags(flow-control); };\n   ^\n'
@@ -223,7 +248,18 @@ expect '1,025 deliveries' 2 'many:1028: too many offers\n' - check many
 printf '@version: 4.2\n@include "bad"\n' >bad
 told='bad:2:1: includes nested too deep\n   @include "bad"\n   ^\n'
 expect 'a file that includes itself is checked' 2 'bad:2: includes nested too deep\n' - check bad
+told=$(waits c 632 10100)
 expect 'a configuration that moves lines' 0 'c: ok\n' - check c
+# what is told of memory: more than 256 MiB, a record of 65,536 bytes more, a disk-buffer in the place of the queue, smaller records
+sed '3s/"));/") log-fifo-size(3997));/' c >changed
+told=$(waits changed 257 4097)
+expect 'more than 256 MiB' 0 'changed: ok\n' - check changed
+sed '3s/"));/") log-fifo-size(3996));/' c >changed
+expect '256 MiB' 0 'changed: ok\n' - check changed
+sed "$buffer" c >changed
+expect 'a disk-buffer and no queue' 0 'changed: ok\n' - check changed
+sed '2s/no-parse)/no-parse) log-msg-size(8192)/' c >changed
+expect 'records of 8,192 bytes' 0 'changed: ok\n' - check changed
 expect 'a check of nothing' 1 "$usage" - check
 expect 'no rounds' 1 "$usage" - run c --rounds 0
 expect 'a drill' 0 'source 0 records 1000 bad-frames 0 position 44310\ndestination 0 taken 500 dropped-full 0 dropped-disk 0 left 0\ndestination 1 taken 500 dropped-full 0 dropped-disk 0 left 0\nstatus 0\n' - drill 1000
@@ -261,12 +297,77 @@ if [ -w /dev/full ]; then
     [ "$(cat dead)" = one ] && passed=$((passed + 1)) || { failed=$((failed + 1)); echo 'then a working one:'; cat dead; }
 fi
 
+# Streams that are closed: no store has the number of one, and what is told isn't written into it.
+if [ -w /dev/full ]; then
+    for closed in '' '<&-' '>&-' '2>&-' '<&- >&-' '<&- 2>&-' '>&- 2>&-' '<&- >&- 2>&-'; do
+        rm -f pos-* queue-* dead
+        ln -s /dev/full dead
+        printf 'one\n' >in
+        eval "timeout 60 \"\$program\" run c4 --once >said 2>errors $closed"
+        first=$?
+        rm dead
+        timeout 60 "$program" run c4 --once >said 2>errors
+        [ "$first $?" = '6 0' ] && [ "$(cat dead)" = one ] && passed=$((passed + 1)) || { failed=$((failed + 1)); echo "closed streams $closed: status $first, and then:"; cat said errors; }
+    done
+    # Standard error that is a full pipe: the run doesn't wait for its reader.
+    rm -f pos-* queue-* dead
+    ln -s /dev/full dead
+    mkfifo pipe
+    exec 8<>pipe
+    timeout 1 head -c 2000000 /dev/zero >&8
+    timeout 20 "$program" run c4 --once >said 2>&8
+    [ $? = 6 ] && passed=$((passed + 1)) || { failed=$((failed + 1)); echo 'a standard error that is a full pipe:'; cat said; }
+    exec 8>&-
+    rm pipe dead
+fi
+
+# A disk-buffer whose file is made whole.
+config in out | sed "$buffer" | sed 's/reliable(yes)/& prealloc(yes)/' >c8
+printf 'one\n' >in
+rm -f out pos-* queue-*
+again 'a disk-buffer that is made whole' 0 "$(report 1 4 1 0 '' 0)" 'one\n' run c8 --once
+[ "$(stat -c %s queue-file,out)" = 2097220 ] && passed=$((passed + 1)) || { failed=$((failed + 1)); echo 'the size of a disk-buffer that is made whole:'; stat -c %s queue-file,out; }
+printf 'two\n' >>in
+again 'and opened again' 0 "$(report 1 8 1 0 '' 0)" 'one\ntwo\n' run c8 --once
+rm -f pos-* queue-* out
+
 # A disk-buffer whose only entry is none.
 config in out | sed "$buffer" >c4
 rm -f out pos-*
 { head -c 64 /dev/zero; printf '\1\0\0\0\2ab'; head -c 57 /dev/zero; } >queue-file,out
 again 'a disk-buffer whose entry is none' 5 'store 1 damaged at 64\n' - run c4 --once
 rm queue-file,out
+
+# Another file whose lines are as long as those of the one before, so that one ends at the stored position, and one that was truncated
+# and has grown again: both are read from their beginning. What was appended to alone is read on.
+another='source in: it is another file than at the last run: it is read from its beginning\n'
+seq -f '%04g' 1 300 >in
+expect 'before a file of equal lines' 0 "$(report 300 1500 300 0 '' 0)" "$(seq -f '%04g' 1 300)\n" run c --once
+seq -f '%04g' 301 700 >in.new && mv in.new in
+told=$another
+again 'a file of equal lines' 0 "$(report 400 2000 400 0 '' 0)" "$(seq -f '%04g' 1 700)\n" run c --once
+seq -f '%04g' 701 1200 >in
+told=$another
+again 'truncated and grown again' 0 "$(report 500 2500 500 0 '' 0)" "$(seq -f '%04g' 1 1200)\n" run c --once
+seq -f '%04g' 1201 1300 >>in
+again 'what was appended' 0 "$(report 100 3000 100 0 '' 0)" "$(seq -f '%04g' 1 1300)\n" run c --once
+printf 'one\n' >in
+again 'a file of few bytes' 0 "$(report 1 4 1 0 '' 0)" "$(seq -f '%04g' 1 1300)\none\n" run c --once
+printf 'two\n' >>in
+again 'and more of them' 0 "$(report 1 8 1 0 '' 0)" "$(seq -f '%04g' 1 1300)\none\ntwo\n" run c --once
+[ "$(stat -c %a id-in)" = 600 ] && passed=$((passed + 1)) || { failed=$((failed + 1)); echo 'the mode of a mark'; }
+# A mark that isn't there, or isn't one: the stored position stands. A trace makes none.
+rm id-in
+expect 'a trace beside a store' 0 'record 0 destination 0 flow yes length 4\none\n\nrecord 1 destination 0 flow yes length 4\ntwo\n\n' - trace c s in
+[ ! -e id-in ] && passed=$((passed + 1)) || { failed=$((failed + 1)); echo 'a trace made a mark'; }
+printf 'one\ntwo\n' >in
+expect 'a mark is made' 0 "$(report 2 8 2 0 '' 0)" 'one\ntwo\n' run c --once
+rm id-in
+again 'no mark' 0 "$(report 0 8 0 0 '' 0)" 'one\ntwo\n' run c --once
+printf 'x\n' >id-in
+told='store id-in: cannot read: it is no mark of a file\nstore id-in: works again\n'
+again 'a mark that is none' 0 "$(report 0 8 0 0 '' 0)" 'one\ntwo\n' run c --once
+again 'a mark that was mended' 0 "$(report 0 8 0 0 '' 0)" 'one\ntwo\n' run c --once
 
 # Another file under the source's name, in which no line ends at the stored position, is read from its beginning.
 printf 'one\ntwo\n' >in
@@ -335,6 +436,9 @@ list 'an empty disk-buffer' '' 0 'entries 0\n'
 list 'a disk-buffer' "$entry1$entry2" 0 "${listed}entry 1 source 2 end 9223372036854775807 flow no length 43\nentries 2\n"
 list 'a payload that is no entry' "$entry1\1\0\0\0\2ab" 5 "${listed}store 0 damaged at 116\n"
 list 'a gate that leads nowhere' "$entry1\1\0\1\0\0" 5 'store 0 damaged at 116\n'
+ulimit -S -v 400000
+list 'an entry of 1 GiB that is not there' '\1\100\0\0\0\2ab' 5 'store 0 damaged at 64\n'
+ulimit -S -v unlimited
 told='store none: cannot open: No such file or directory (os error 2)\n'
 again 'no disk-buffer' 4 'cannot open store 0\n' - spool none
 [ ! -e none ] && passed=$((passed + 1)) || { failed=$((failed + 1)); echo 'no disk-buffer: it was made'; }
@@ -382,6 +486,27 @@ if mount -t tmpfs -o size=16k none small 2>/dev/null; then
     umount small && mounted=
 fi
 
+# A disk that fills up breaks a disk-buffer whose file grows, and not one whose file was made whole.
+if [ -w /dev/full ] && mount -t tmpfs -o size=4m none small 2>/dev/null; then
+    mounted=yes
+    for whole in no yes; do
+        rm -f pos-* small/* dead
+        ln -s /dev/full dead
+        config in dead | sed "$buffer" | sed "s/reliable(yes)/& dir(\"small\") prealloc($whole)/" >c9
+        printf 'one\n' >in
+        told=$nospace
+        again "a disk-buffer before the disk is full, prealloc($whole)" 6 "$(report 1 4 0 1 'fault sink 0\n' 6)" - run c9 --once
+        head -c 8000000 /dev/zero >small/filler 2>/dev/null
+        seq 1 1000 >>in
+        timeout 60 "$program" run c9 --once >said 2>errors
+        case $whole in
+            no) grep -q '^fault store 1$' said ;;
+            yes) grep -q ' left 1001$' said && ! grep -q '^fault store' said ;;
+        esac && passed=$((passed + 1)) || { failed=$((failed + 1)); echo "a disk-buffer on a full disk, prealloc($whole):"; cat said errors; }
+    done
+    umount small && mounted=
+fi
+
 # start_run WORD..: starts a run that goes on, and leaves its process in $process.
 start_run() {
     timeout 60 "$program" "$@" >said 2>errors &
@@ -417,6 +542,7 @@ mkdir -p examples/first examples/blocks
 cp "$top/examples/first/errors.conf" "$top/examples/first/in.log" examples/first
 cp "$top/examples/blocks/copy.conf" "$top/examples/blocks/blocks.conf" "$top/examples/blocks/in.log" examples/blocks
 full='2026-02-05T17:32:18+01:00 app: disk is full\n'
+told=$(waits examples/first/errors.conf 632 10100)
 expect 'the first example is checked' 0 'examples/first/errors.conf: ok\n' - check examples/first/errors.conf
 expect 'the first example is traced' 0 "record 0 destination 0 flow yes length 44\n$full\n" - trace examples/first/errors.conf s examples/first/in.log
 expect 'the first example is run' 0 'source 0 records 2 bad-frames 0 position 98\ndestination 0 taken 1 dropped-full 0 dropped-disk 0 left 0\nstatus 0\n' - run examples/first/errors.conf --once

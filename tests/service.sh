@@ -49,7 +49,7 @@ inside() {
     check 'the unit is one' sh -c '[ -z "$(systemd-analyze verify --man=no syslogr.service 2>&1)" ]'
     begins "$file" "$listener" "$out" "$peer" "$path"
     check 'it runs' is ActiveState active
-    check 'the memory that it may take' is MemoryMax 1073741824
+    check 'the memory that it may take' is MemoryMax 2147483648
     check 'a file of another user' has one /var/log/syslogr/out.log
     check 'the mode of perm()' mode /var/log/syslogr/out.log 640
     check 'the position store' mode /var/lib/syslogr/pos-_2fvar_2flog_2fapp_2fin.log 600

@@ -37,10 +37,16 @@ if [ -x "$devices" ]; then
     expect 'a store that is made: locked, synced, linked, and its folder synced' 'flock q.new\nfsync q.new\nlink\nfsync .\n'
     calls "$devices" store q </dev/null
     expect 'a store that is there: locked, and its folder synced' 'flock q\nfsync .\n'
+    head -c 128 /dev/zero >other
+    (sleep 0.5; mv other q) &
+    strace -f -e trace=flock -e inject=flock:delay_enter=1500000:when=1 -o trace "$devices" store q </dev/null >said 2>told
+    wait
+    { cat said; grep -c LOCK_EX trace; } >got
+    expect 'a store whose name means another file before it is locked: that one is locked too' 'opened\n2\n'
     printf 'one\ntwo\n' | calls "$devices" send d fsync
     expect 'a destination made under fsync: its folder, and then the frames' 'fsync .\nfdatasync d\n'
     printf 'one\ntwo\n' | calls "$devices" send d fsync
-    expect 'a destination that is there' 'fdatasync d\n'
+    expect 'a destination that is there: the same, since the folder may not have been synced when it was made' 'fsync .\nfdatasync d\n'
     printf 'one\ntwo\n' | calls "$devices" send e
     expect 'a destination without fsync' ''
 fi
@@ -48,7 +54,7 @@ if [ -x "$program" ]; then
     printf '@version: 4.2\nsource s { file("in" flags(no-parse)); };\ndestination d { file("out" template("$MSG\\n")); };\nlog { source(s); destination(d); flags(flow-control); };\n' >c
     printf 'one\ntwo\n' >in
     calls "$program" run c --once
-    expect 'a run: its store is made and synced at its opening, and each put of a position is two writes, each synced' 'flock pos-in.new\nfsync pos-in.new\nlink\nfsync .\nfsync pos-in\npwrite64 pos-in\nfsync pos-in\npwrite64 pos-in\nfsync pos-in\n'
+    expect 'a run: its store is made and synced at its opening, its mark before the first pull, and each put of a position is two writes, each synced' 'flock pos-in.new\nfsync pos-in.new\nlink\nfsync .\nfsync pos-in\nfsync id-in.new\nfsync .\npwrite64 pos-in\nfsync pos-in\npwrite64 pos-in\nfsync pos-in\n'
     calls "$program" run c --once
     expect 'a run with nothing new' 'flock pos-in\nfsync .\nfsync pos-in\n'
 fi

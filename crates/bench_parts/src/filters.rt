@@ -17,7 +17,7 @@ fn filter(alloc: Global) -> Result<Filter, AllocError> {
         name: Name::new(alloc, b"MESSAGE")?,
         pattern: pattern(alloc, Kind::Regex, b"error|fail")?,
     };
-    let mut patterns = Patterns { too_large: 0 };
+    let mut patterns = Patterns::new(alloc);
     match Filter::new(alloc, &mut patterns, &expr, &[]) {
         Ok(filter) => Ok(filter),
         Err(_) => Err(AllocError),
@@ -67,7 +67,7 @@ fn apply(
 fn rewrite(alloc: Global, op: &Op, message: &Message, turns: u64) -> Result<bool, AllocError>
     requires { IsOp op.now }
 {
-    let mut patterns = Patterns { too_large: 0 };
+    let mut patterns = Patterns::new(alloc);
     let mut made = Rewrite::new(alloc, &mut patterns, op);
     match &mut made {
         Ok(rewrite) => apply(alloc, rewrite, message, turns),

@@ -154,7 +154,7 @@ fn over_file(
     count: u64,
     each: u32,
 ) -> Result<bool, AllocError> {
-    let Ok(disk) = FileDisk::open(alloc, rt, path.as_bytes(), true) else {
+    let Ok(disk) = FileDisk::open(alloc, rt, path.as_bytes(), Some(128)) else {
         return Ok(false);
     };
     let Some(mut core) = buffered(alloc, disk)? else {

@@ -17,6 +17,7 @@ pub(crate) fn inlet(alloc: Global) -> InletRule {
         opts: OPTS,
         rfc5424: false,
         empty_lines: false,
+        one_line: false,
         tags: Vec::new(alloc),
     }
 }

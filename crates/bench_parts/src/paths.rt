@@ -27,7 +27,7 @@ fn read(alloc: Global, turns: u64) -> Result<bool, AllocError> {
 fn compiled(alloc: Global, forest: &Forest) -> Option<Table>
     ensures { IfSome result (λ table. all_offers (forest_of table).tops ≤ 1024) }
 {
-    let mut patterns = Patterns { too_large: 0 };
+    let mut patterns = Patterns::new(alloc);
     match compile(alloc, forest, &mut patterns) {
         Ok(table) => Some(table),
         Err(_) => None,

@@ -38,7 +38,7 @@ fn fill(spool: &mut Spool<FileDisk>, block: &Block, commits: u64, staged: u64) -
 /// Opens the file, or makes it, and fills it. Whether all entries were taken.
 pub(crate) fn run(rt: HostRuntime, path: &str, commits: u64, staged: u64) -> bool {
     let alloc = rt.alloc();
-    let Ok(disk) = FileDisk::open(alloc, rt, path.as_bytes(), true) else {
+    let Ok(disk) = FileDisk::open(alloc, rt, path.as_bytes(), Some(128)) else {
         return false;
     };
     let Ok(payload) = entry(alloc) else {

@@ -2,7 +2,7 @@
 use Rattle.std.specs.Prelude.{◌-◌, ◌≤◌, List, length, take, drop}
 use Rattle.std.specs.Arc.{arc_value}
 use Rattle.sg_lex.specs.declared.token.Token.{Token}
-use Rattle.sg_block.specs.declared.part.Part.TheInside.{Inside}
+use Rattle.sg_block.specs.declared.part.TokenSpan.TheInside.{Inside}
 use Rattle.sg_block.specs.Brackets.{HasEnds}
 
 abbrev pub tokens_of : Inside → List Token

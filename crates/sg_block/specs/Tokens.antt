@@ -5,7 +5,7 @@ use Rattle.std.specs.Str.{bytes_eq}
 use Rattle.sg_lex.specs.declared.token.Token.{Token}
 use Rattle.sg_lex.specs.declared.token.TokenKind.{TokenKind}
 use Rattle.sg_lex.specs.declared.token.TokenKind.TheVariants.{Word, Str, Sym, Op, At, Tick}
-use Rattle.sg_block.specs.declared.token.Line.{Line}
+use Rattle.sg_block.specs.declared.token.FileLine.{FileLine}
 
 -- kinds are told apart by numbers
 abbrev pub kind_number : TokenKind → ℕ
@@ -71,13 +71,13 @@ size_of [] = 0
 size_of (token ∷ tokens) = token_size token + size_of tokens
 
 -- where a token stands
-abbrev pub line_of : Token → Line
+abbrev pub line_of : Token → FileLine
 line_of token = record { file = token.file; line = token.line }
 
 -- the text of the token at a place, and where it stands
 abbrev pub text_at : List Token → ℕ → List ℕ
 text_at tokens place = option_map_or (λ token. token.text) (slice_get tokens place) []
 
-abbrev pub line_at : List Token → ℕ → Line
+abbrev pub line_at : List Token → ℕ → FileLine
 line_at tokens place = option_map_or line_of (slice_get tokens place)
     (record { file = 0; line = 0 })

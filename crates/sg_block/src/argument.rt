@@ -3,8 +3,8 @@ ghost use Rattle.std.specs.Prelude.{◌≡◌, ◌<◌, [], ◌∷◌, ◌++◌,
 ghost use Rattle.sg_block.specs.declared.argument.Argument.{Argument as ArgumentValue};
 ghost use Rattle.sg_block.specs.Arguments.{has_name, lacks, is_missing, is_unknown, last_named, defaults, bindings, HasNames, AddsName, Takes, TakesLast};
 
-use crate::part::Part;
-use crate::table::Table;
+use crate::part::TokenSpan;
+use crate::table::NameMap;
 use sg_device::{Name, NoMemory};
 use std::alloc::Global;
 use std::collections::VecDeque;
@@ -14,7 +14,7 @@ use std::marker::Model;
 #[derive(Drop)]
 pub struct Argument {
     pub name: Name,
-    pub tokens: Part,
+    pub tokens: TokenSpan,
 }
 
 /// Arguments in order, seen as their list.
@@ -97,10 +97,10 @@ impl Arguments {
     }
 
     /// The names of all.
-    fn names(&self, alloc: Global) -> Result<Table<bool>, NoMemory>
+    fn names(&self, alloc: Global) -> Result<NameMap<bool>, NoMemory>
         ensures { IfOk result (λ names. HasNames names self.now) }
     {
-        let mut names = Table::new(alloc);
+        let mut names = NameMap::new(alloc);
         let mut place = self.len();
         while place > 0 {
             place -= 1;
@@ -139,7 +139,7 @@ impl Arguments {
     pub fn last_named(mut self, alloc: Global) -> Result<Arguments, NoMemory>
         ensures { IfOk result (λ kept. kept ≡ last_named self) }
     {
-        let mut names = Table::new(alloc);
+        let mut names = NameMap::new(alloc);
         let mut kept = Arguments::new(alloc);
         while let Some(argument) = self.pop_back() {
             let known = is_among(&names, &argument);
@@ -199,7 +199,7 @@ fn keep_copy(left: &mut Arguments, known: bool, parameter: &Argument) -> Result<
 }
 
 /// Adds an argument's name to the names.
-fn add_name(alloc: Global, names: &mut Table<bool>, argument: &Argument) -> Result<(), NoMemory>
+fn add_name(alloc: Global, names: &mut NameMap<bool>, argument: &Argument) -> Result<(), NoMemory>
     ensures { OnOk result (AddsName names.old names.new argument.now) }
 {
     names.insert(argument.name.bytes().to_vec(alloc)?, true)?;
@@ -207,7 +207,7 @@ fn add_name(alloc: Global, names: &mut Table<bool>, argument: &Argument) -> Resu
 }
 
 /// Whether the argument's name is among the names.
-fn is_among(names: &Table<bool>, argument: &Argument) -> bool
+fn is_among(names: &NameMap<bool>, argument: &Argument) -> bool
     ensures { (arguments : List ArgumentValue) → HasNames names.now arguments
         → result ≡ has_name argument.now.name arguments }
 {
@@ -215,7 +215,7 @@ fn is_among(names: &Table<bool>, argument: &Argument) -> bool
 }
 
 /// Whether a parameter must be given, and its name isn't among the names.
-fn is_lacking(names: &Table<bool>, parameter: &Argument) -> bool
+fn is_lacking(names: &NameMap<bool>, parameter: &Argument) -> bool
     ensures { (given : List ArgumentValue) → HasNames names.now given
         → result ≡ lacks parameter.now given }
 {

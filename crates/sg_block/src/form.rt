@@ -7,7 +7,7 @@ ghost use Rattle.sg_block.specs.Forms.{separated, next_argument, TakesArgument, 
 ghost use Rattle.sg_block.specs.Brackets.{bracketed};
 
 use crate::argument::{Argument, Arguments};
-use crate::part::Part;
+use crate::part::TokenSpan;
 use crate::token::{is_block_type, is_block_word};
 use sg_device::{Name, NoMemory};
 use std::alloc::Global;
@@ -19,13 +19,13 @@ pub struct Definition {
     /// Of the arguments of one name the last.
     pub parameters: Arguments,
     /// The tokens between the parentheses, as they are written.
-    pub written: Part,
-    pub body: Part,
-    pub behind: Part,
+    pub written: TokenSpan,
+    pub body: TokenSpan,
+    pub behind: TokenSpan,
 }
 
 /// The commas at the front.
-fn commas(tokens: &Part) -> usize
+fn commas(tokens: &TokenSpan) -> usize
     ensures value { result ≡ prefix_len (is_symbol 44) tokens.now }
     ensures bound { result ≤ length tokens.now }
 {
@@ -38,7 +38,7 @@ fn commas(tokens: &Part) -> usize
 }
 
 /// The tokens behind any commas: none where commas end the tokens.
-fn separated(tokens: Part) -> Option<Part>
+fn separated(tokens: TokenSpan) -> Option<TokenSpan>
     ensures value { result ≡ separated tokens }
     ensures shorter { IfSome result (λ rest. length rest ≤ length tokens) }
 {
@@ -50,7 +50,10 @@ fn separated(tokens: Part) -> Option<Part>
 }
 
 /// The argument at the front, and what stands behind it and its commas.
-fn next_argument(alloc: Global, tokens: &Part) -> Result<Option<(Argument, Part)>, NoMemory>
+fn next_argument(
+    alloc: Global,
+    tokens: &TokenSpan,
+) -> Result<Option<(Argument, TokenSpan)>, NoMemory>
     ensures value { IfOk result (λ found. found ≡ next_argument tokens.now) }
     ensures shorter { IfOk result
         (λ found. IfSome found (λ next. length next.1 < length tokens.now)) }
@@ -72,7 +75,11 @@ fn next_argument(alloc: Global, tokens: &Part) -> Result<Option<(Argument, Part)
 }
 
 /// Takes the argument at the front off, and puts it behind the others: false where none stands there.
-fn take_argument(alloc: Global, found: &mut Arguments, rest: &mut Part) -> Result<bool, NoMemory>
+fn take_argument(
+    alloc: Global,
+    found: &mut Arguments,
+    rest: &mut TokenSpan,
+) -> Result<bool, NoMemory>
     ensures { IfOk result (TakesArgument found.old rest.old found.new rest.new) }
 {
     match next_argument(alloc, rest)? {
@@ -86,7 +93,7 @@ fn take_argument(alloc: Global, found: &mut Arguments, rest: &mut Part) -> Resul
 }
 
 /// The arguments that the tokens are: none where something else stands there.
-pub fn arguments(alloc: Global, tokens: Part) -> Result<Option<Arguments>, NoMemory>
+pub fn arguments(alloc: Global, tokens: TokenSpan) -> Result<Option<Arguments>, NoMemory>
     ensures { IfOk result (λ found. found ≡ arguments tokens) }
 {
     let mut found = Arguments::new(alloc);
@@ -99,7 +106,7 @@ pub fn arguments(alloc: Global, tokens: Part) -> Result<Option<Arguments>, NoMem
     Ok(Some(found))
 }
 
-fn is_block_word_at(tokens: &Part, place: usize) -> bool
+fn is_block_word_at(tokens: &TokenSpan, place: usize) -> bool
     ensures { result ≡ passes_at tokens.now place is_block_word }
 {
     match tokens.get(place) {
@@ -108,7 +115,7 @@ fn is_block_word_at(tokens: &Part, place: usize) -> bool
     }
 }
 
-fn is_block_type_at(tokens: &Part, place: usize) -> bool
+fn is_block_type_at(tokens: &TokenSpan, place: usize) -> bool
     ensures { result ≡ passes_at tokens.now place is_block_type }
 {
     match tokens.get(place) {
@@ -117,7 +124,7 @@ fn is_block_type_at(tokens: &Part, place: usize) -> bool
     }
 }
 
-fn begins_definition(tokens: &Part) -> bool
+fn begins_definition(tokens: &TokenSpan) -> bool
     ensures value { result ≡ begins_definition tokens.now }
     ensures within { IsTrue result → 2 < length tokens.now }
 {
@@ -128,8 +135,8 @@ fn begins_definition(tokens: &Part) -> bool
 fn with_body(
     alloc: Global,
     name: &[u8],
-    given: Part,
-    rest: &Part,
+    given: TokenSpan,
+    rest: &TokenSpan,
 ) -> Result<Option<Definition>, NoMemory>
     ensures { IfOk result (λ found. found
         ≡ with_body name.now given (arguments given) (bracketed 123 125 rest.now 0)) }
@@ -153,7 +160,7 @@ fn with_body(
 }
 
 /// The definition at the front, if one stands there.
-pub fn read_definition(alloc: Global, tokens: &Part) -> Result<Option<Definition>, NoMemory>
+pub fn read_definition(alloc: Global, tokens: &TokenSpan) -> Result<Option<Definition>, NoMemory>
     ensures { IfOk result (λ found. found ≡ definition tokens.now) }
 {
     if !begins_definition(tokens) {
@@ -166,7 +173,10 @@ pub fn read_definition(alloc: Global, tokens: &Part) -> Result<Option<Definition
 }
 
 /// The arguments that are given behind the word at the front, and the tokens behind them.
-pub fn use_form(alloc: Global, tokens: &Part) -> Result<Option<(Arguments, Part)>, NoMemory>
+pub fn use_form(
+    alloc: Global,
+    tokens: &TokenSpan,
+) -> Result<Option<(Arguments, TokenSpan)>, NoMemory>
     ensures { IfOk result (λ found. found ≡ use_form tokens.now) }
 {
     let Some((inner, behind)) = tokens.bracketed(b'(', b')', 1)? else {

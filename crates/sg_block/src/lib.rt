@@ -12,8 +12,8 @@ mod values;
 
 pub use argument::{Argument, Arguments};
 pub use form::{Definition, read_definition, use_form};
-pub use part::Part;
+pub use part::TokenSpan;
 pub use shared::Shared;
-pub use table::Table;
-pub use token::{Line, copy_token, is_at, is_front, is_tick, line_of, token_size};
+pub use table::NameMap;
+pub use token::{FileLine, copy_token, is_at, is_front, is_tick, line_of, token_size};
 pub use values::{Replaced, Values, find, replace};

@@ -3,7 +3,7 @@ ghost use Rattle.std.specs.Prelude.{◌≡◌, ◌-◌, ◌<◌, ◌≤◌, ◌|
 ghost use Rattle.sg_list.specs.Lists.{passes_at};
 
 use crate::source::Source;
-use crate::token::{Line, is_name, is_string, is_symbol, is_word, line_of};
+use crate::token::{FileLine, is_name, is_string, is_symbol, is_word, line_of};
 use sg_device::NoMemory;
 use sg_lex::Token;
 use std::alloc::Global;
@@ -12,13 +12,13 @@ use std::sync::Arc;
 
 /// Some tokens of a file, one after the other, seen as that list. Parts share the file's tokens.
 #[derive(Drop)]
-pub struct Part {
+pub struct TokenSpan {
     source: Arc<Source>,
     from: usize,
     to: usize,
 }
 
-impl Model for Part {
+impl Model for TokenSpan {
     ghost use Rattle.std.specs.Prelude.{◌-◌, ◌≤◌, List, length, take, drop};
     ghost use Rattle.std.specs.Arc.{arc_value};
     ghost use Rattle.sg_lex.specs.declared.token.Token.{Token};
@@ -32,18 +32,18 @@ impl Model for Part {
     ghost invariant = { IsPart };
 }
 
-impl Part {
+impl TokenSpan {
     ghost use Rattle.sg_block.specs.Brackets.{bracketed, IsClosing};
     ghost use Rattle.sg_block.specs.Tokens.{is_word, is_string, is_name, is_at, is_tick, is_symbol, line_at, text_at};
     ghost use Rattle.sg_block.specs.Trimmed.{trimmed};
 
     /// The tokens of a whole file.
-    pub fn new(alloc: Global, tokens: Vec<Token>) -> Result<Part, NoMemory>
+    pub fn new(alloc: Global, tokens: Vec<Token>) -> Result<TokenSpan, NoMemory>
         ensures { IfOk result (λ part. part ≡ tokens.items) }
     {
         let to = tokens.len();
         let source = Source::new(alloc, tokens)?;
-        Ok(Part {
+        Ok(TokenSpan {
             source: Arc::new(alloc, source)?,
             from: 0,
             to,
@@ -51,10 +51,10 @@ impl Part {
     }
 
     /// The same tokens.
-    pub fn share(&self) -> Result<Part, NoMemory>
+    pub fn share(&self) -> Result<TokenSpan, NoMemory>
         ensures { IfOk result (λ part. part ≡ self.now) }
     {
-        Ok(Part {
+        Ok(TokenSpan {
             source: Arc::try_clone(&self.source)?,
             from: self.from,
             to: self.to,
@@ -94,7 +94,7 @@ impl Part {
     }
 
     /// The tokens from a place on.
-    pub fn behind(mut self, place: usize) -> Part
+    pub fn behind(mut self, place: usize) -> TokenSpan
         requires { place ≤ length self }
         ensures { result ≡ drop place self }
     {
@@ -103,7 +103,7 @@ impl Part {
     }
 
     /// The tokens before a place.
-    fn before(mut self, place: usize) -> Part
+    fn before(mut self, place: usize) -> TokenSpan
         requires { place ≤ length self }
         ensures { result ≡ take place self }
     {
@@ -112,7 +112,7 @@ impl Part {
     }
 
     /// The tokens between two places.
-    fn between(&self, from: usize, to: usize) -> Result<Part, NoMemory>
+    fn between(&self, from: usize, to: usize) -> Result<TokenSpan, NoMemory>
         requires order { from ≤ to }
         requires end { to ≤ length self.now }
         ensures { IfOk result (λ part. part ≡ take (to - from) (drop from self.now)) }
@@ -121,7 +121,7 @@ impl Part {
     }
 
     /// The tokens without one trailing `;`.
-    pub fn trimmed(self) -> Part
+    pub fn trimmed(self) -> TokenSpan
         ensures { result ≡ trimmed self }
     {
         let count = self.len();
@@ -156,7 +156,7 @@ impl Part {
         opening: u8,
         closing: u8,
         place: usize,
-    ) -> Result<Option<(Part, Part)>, NoMemory>
+    ) -> Result<Option<(TokenSpan, TokenSpan)>, NoMemory>
         requires { ((closing == 41) || (closing == 125)) ≡ true }
         ensures value { IfOk result (λ found. found ≡ bracketed opening closing self.now place) }
         ensures shorter { IfOk result
@@ -224,7 +224,7 @@ impl Part {
     }
 
     /// Where the token at a place stands.
-    pub fn line(&self, place: usize) -> Line
+    pub fn line(&self, place: usize) -> FileLine
         requires { place < length self.now }
         ensures { result ≡ line_at self.now place }
     {

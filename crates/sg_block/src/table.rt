@@ -9,11 +9,11 @@ use std::marker::Model;
 
 /// Values by name, which are found in time in proportion to the logarithm of their number.
 #[derive(Drop)]
-pub struct Table<V> {
+pub struct NameMap<V> {
     entries: BTreeMap<Vec<u8>, V>,
 }
 
-impl<V> Model for Table<V> {
+impl<V> Model for NameMap<V> {
     ghost use Rattle.std.specs.Ordering.{nat_cmp};
     ghost use Rattle.std.specs.Cmp.Lexicographic.{slice_cmp};
     ghost use Rattle.std.specs.FinMap as map;
@@ -27,11 +27,11 @@ impl<V> Model for Table<V> {
     ghost view = { λ t. map.from_entries (by_bytes t.entries.entries) };
 }
 
-impl<V> Table<V> {
+impl<V> NameMap<V> {
     pub fn new(alloc: Global) -> Self
         ensures { result ≡ map.empty }
     {
-        Table {
+        NameMap {
             entries: BTreeMap::new(alloc),
         }
     }

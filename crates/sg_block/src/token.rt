@@ -8,15 +8,15 @@ use sg_lex::{Token, TokenKind};
 
 /// A line of a file.
 #[derive(Clone, Copy)]
-pub struct Line {
+pub struct FileLine {
     pub file: u32,
     pub line: u32,
 }
 
-pub fn line_of(token: &Token) -> Line
+pub fn line_of(token: &Token) -> FileLine
     ensures { result ≡ line_of token.now }
 {
-    Line {
+    FileLine {
         file: token.file,
         line: token.line,
     }

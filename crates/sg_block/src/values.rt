@@ -5,14 +5,14 @@ ghost use Rattle.std.specs.List.{prefix_len};
 ghost use Rattle.sg_lex.specs.Tokens.{is_name_byte};
 ghost use Rattle.sg_block.specs.Values.{reached, tick_length, joined, spaced, variable_length, replaced, IsCapped, IsReplaced};
 
-use crate::table::Table;
+use crate::table::NameMap;
 use sg_device::{Name, NoMemory};
 use sg_lex::Token;
 use sg_list::Seq;
 use std::alloc::Global;
 
 /// Values by name: tokens that are expanded already.
-pub type Values = Table<Seq<Token>>;
+pub type Values = NameMap<Seq<Token>>;
 
 /// What is reached by name: the arguments in reach, then the variables.
 pub fn find<'a>(scope: &'a Values, variables: &'a Values, name: &[u8]) -> Option<&'a Seq<Token>>

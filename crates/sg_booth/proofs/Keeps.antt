@@ -14,7 +14,7 @@ use Rattle.sg_booth.specs.declared.office.Exchange.{Exchange}
 use Rattle.sg_booth.specs.declared.table.Notes.{Notes}
 use Rattle.sg_booth.specs.declared.table.Held.{Held}
 use Rattle.sg_booth.specs.Lists.{total, times, joined_up, CountsOnce, CountsSome, StartsWith}
-use Rattle.sg_booth.specs.Rule.{Makes, places_of, first_notes, spent_notes, MadeIs, Fits, IsGiven, IsHome, IsKept, drawn, drew, passed_notes, exchange_of, passed, returned, learned, Takes, looked, cut_left, cut_right, both_notes, LiesAsGiven}
+use Rattle.sg_booth.specs.Rule.{Makes, places_of, first_notes, spent_notes, MadeIs, Fits, IsGiven, IsHome, IsKept, drawn, drew, passed_notes, exchange_of, passed, returned, learned, Takes, looked, cut_left, cut_right, callless_notes, receipt_notes, both_notes, LiesAsGiven}
 use Rattle.sg_booth.proofs.Sums.{total_set, total_same, total_append, total_at, total_two, total_find, total_else, times-append, times-one, times-none, joined_up-append, counts_same, counts_more, counts_less, counts_some, starts_more}
 
 -- what holds of one view and of the others holds of all after a change of one
@@ -379,6 +379,33 @@ module _ {V C R : Type 0} (step : V → C → R → V → Type 0) (may : V → C
         counted = parts (λ (v : N). length (places_of v)) refl refl ∙ k.counted;
         fits = λ j u e. ⊎_elim (λ h. all_set (Fits made k.log) s.views id l fits_l (λ j u _ e. k.fits j u e) j u h) (λ is. subst (Fits made k.log) is fits_r) (at_snoc (set s.views id l) r u j e);
         home = home_same k.log (outs s.views) (outs vs) s.homes (parts (λ (v : N). v.out) refl refl) k.home;
+      }
+
+  -- a seat gives its calls to a new one
+  pub hands : (id : ℕ) (v : N) → Splits Rule id v (callless_notes v) (receipt_notes v)
+  hands id v s k at =
+      let l : N = callless_notes v in
+      let r : N = receipt_notes v in
+      let vs : List N = set s.views id l ++ r ∷ [] in
+      let fit = k.fits id v at in
+      let fits_l : Fits made k.log l = record { made_is = fit.made_is; seen = fit.seen; told = fit.told; sure = fit.sure; out = fit.out } in
+      let fits_r : Fits made k.log r = record { made_is = fit.made_is; seen = fit.seen; told = (k.log, refl); sure = λ h. absurd (omega arith); out = omega arith } in
+      let parts : (f : N → ℕ) → f l + f r ≡ f v → total f vs ≡ total f s.views = λ f e. let p = total_set f s.views id v l at in let q = total_append f (set s.views id l) (r ∷ []) in omega arith in
+      let plain : (n : ℕ) → n + 0 ≡ n = λ n. omega arith in
+      let bare : (n : ℕ) → 0 + n ≡ n = λ n. omega arith in
+      record {
+        log = k.log;
+        next = k.next;
+        words = k.words;
+        served = k.served;
+        turns_are = ap (λ m. m + k.next) (parts (λ (v : N). v.left) (plain v.left)) ∙ k.turns_are;
+        few = k.few;
+        roomy = k.roomy;
+        tickets = counts_same (length k.log) k.next (tickets_at s.views) (tickets_at vs) k.tickets (λ x. parts (λ (v : N). times x v.ticket) (plain (times x v.ticket)));
+        places = counts_same 0 (length k.log) (places_at s.views) (places_at vs) k.places (λ x. parts (λ (v : N). times x (places_of v)) (bare (times x (places_of v))));
+        counted = parts (λ (v : N). length (places_of v)) (bare (length (places_of v))) ∙ k.counted;
+        fits = λ j u e. ⊎_elim (λ h. all_set (Fits made k.log) s.views id l fits_l (λ j u _ e. k.fits j u e) j u h) (λ is. subst (Fits made k.log) is fits_r) (at_snoc (set s.views id l) r u j e);
+        home = home_same k.log (outs s.views) (outs vs) s.homes (parts (λ (v : N). v.out) (plain v.out)) k.home;
       }
 
   -- a seat takes in another, which holds no ticket

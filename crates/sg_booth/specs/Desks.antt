@@ -61,6 +61,13 @@ module _ {V C R : Type 0} where
   abbrev pub fresh_desk : DeskState V C R → ℕ → DeskState V C R
   fresh_desk desk turns = record desk { left = turns; own = []; joined = [] }
 
+  -- a desk with these calls and no turns
+  abbrev pub receipt_of : DeskState V C R → DeskState V C R
+  receipt_of desk = record desk { left = 0 }
+
+  abbrev pub without_calls : DeskState V C R → DeskState V C R
+  without_calls desk = record desk { own = []; joined = [] }
+
   -- two desks are one, which has seen what both had
   pub record HasJoined (old other new : DeskState V C R) : Type 0 where
     pub more : List (Exchange C R)
@@ -80,3 +87,30 @@ module _ {V C R : Type 0} where
     pub calls : entries_at history (places desk) ≡ entries_at desk.seen (places desk)
     pub all : length (places desk) + desk.left ≡ booth.turns
         → CountsOnce 0 (length history) (λ x. times x (places desk))
+
+  -- The calls of another desk came to this one by a join, and it has seen what that had
+  pub record HasTaken (desk other : DeskState V C R) : Type 0 where
+    pub seen : StartsWith desk.seen other.seen
+    pub calls : (x : ℕ) → times x (places other) ≤ times x (joined_up desk.joined)
+
+  -- The history begins with all that a desk had seen. Each call that it had made stands there at its place, once, and none of these is a
+  -- place of the closing desk's own
+  pub record HasCalls (history : List (Exchange C R)) (closing desk : DeskState V C R) : Type 0 where
+    pub seen : StartsWith history desk.seen
+    pub calls : entries_at history (places desk) ≡ entries_at desk.seen (places desk)
+    pub apart : (x : ℕ) → times x (places desk) + times x closing.own ≤ 1
+
+-- A desk that a receipt is joined into takes that one's calls, keeps them at each turn and each join, and hands them on where it is joined
+-- itself. Where it closes the booth, the history has these calls, whatever became of the desk that the receipt is of
+pub record ReceiptsStand {V C R : Type 0} (step : V → C → R → V → Type 0) : Type 0 where
+  pub joins : (desk old new : DeskState V C R) → HasJoined old (receipt_of desk) new
+      → HasTaken new desk
+  pub turns : (desk old new : DeskState V C R) (made : V) (call : C) (reply : R) → HasTaken old desk
+      → HasTurned step made old call reply new → HasTaken new desk
+  pub keeps : (desk old other new : DeskState V C R) → HasTaken old desk → HasJoined old other new
+      → HasTaken new desk
+  pub hands : (desk old other new : DeskState V C R) → HasTaken other desk → HasJoined old other new
+      → HasTaken new desk
+  pub closes : (desk closing : DeskState V C R) (booth : BoothState V) (office : V) → AreOrdered desk
+      → HasTaken closing desk → (closed : HasClosed step booth closing office)
+      → HasCalls closed.history closing desk

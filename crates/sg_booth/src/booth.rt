@@ -1,11 +1,11 @@
 // The lock.
-ghost use Rattle.std.specs.Prelude.{◌≡◌, ◌≤◌, ◌<◌, ◌-◌, ◌^◌, [], ◌∷◌, Some, IfOk, IfErr};
+ghost use Rattle.std.specs.Prelude.{◌≡◌, ◌≤◌, ◌<◌, ◌-◌, ◌^◌, Some, IfOk, IfErr};
 ghost use Rattle.sg_booth.specs.Rule.{IsOneSlot, office_of};
-ghost use Rattle.sg_booth.specs.Desks.{IsDeskOf, first_desk, HasTurned, fresh_desk, HasJoined, HasClosed};
+ghost use Rattle.sg_booth.specs.Desks.{IsDeskOf, AreOrdered, first_desk, HasTurned, fresh_desk, receipt_of, without_calls, HasJoined, HasClosed};
 
 use crate::desk::Desk;
 use crate::office::Office;
-use crate::steps::{cut, end, glue, hold, serve_at};
+use crate::steps::{cut, end, glue, hand_over, hold, serve_at};
 use crate::table::{About, Held, Lock, Slot};
 use atomic_table::{Badge, Refused, Table};
 use std::alloc::{AllocError, Global};
@@ -106,6 +106,25 @@ impl<V: Office> Booth<V> {
         }
     }
 
+    /// A receipt of the desk's calls so far: a desk without turns, which has them and has seen what the
+    /// desk has. Where it is joined into another desk, `receipts_stand` says where these calls stand,
+    /// whatever becomes of the desk itself, which goes on without them. Takes no memory.
+    pub fn receipt(&self, desk: &mut Desk<V>) -> Desk<V>
+        requires desk { IsDeskOf self.now desk.old }
+        ensures old { desk.new ≡ without_calls desk.old }
+        ensures new { result ≡ receipt_of desk.old }
+        ensures ordered { AreOrdered result }
+    {
+        let badge = mem::replace(&mut desk.badge, Badge::blank());
+        let mut place = badge.into_seat();
+        let receipt = hand_over(&self.lock, &mut place);
+        desk.badge = place.into_badge();
+        Desk {
+            badge: receipt.into_badge(),
+            left: 0,
+        }
+    }
+
     /// Makes two desks one, which has seen what both had. Takes no memory.
     pub fn join(&self, desk: &mut Desk<V>, other: Desk<V>)
         requires desk { IsDeskOf self.now desk.old }
@@ -124,7 +143,8 @@ impl<V: Office> Booth<V> {
     }
 
     /// Waits for a turn, and ends the booth in it. The office is what the history gives. A desk that was
-    /// dropped takes its turns with it: its calls stand in the history among those of others.
+    /// dropped takes its turns with it: its calls stand in the history among those of others, each of them
+    /// of which a receipt was joined at its place, by `receipts_stand`.
     pub fn close<R: Wait>(self, rt: &R, desk: Desk<V>) -> V
         requires desk { IsDeskOf self desk }
         requires left { 0 < desk.left }

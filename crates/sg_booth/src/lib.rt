@@ -14,5 +14,5 @@ mod table;
 
 pub use booth::Booth;
 pub use desk::Desk;
-pub use laws::{calls_stay, lies_as_given};
+pub use laws::{calls_stay, lies_as_given, receipts_stand};
 pub use office::{Exchange, Office};

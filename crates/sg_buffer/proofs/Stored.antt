@@ -1,6 +1,5 @@
 -- Entries and their payloads, one more and one by one.
-use Rattle.std.proofs.Common.{◌≡◌, inl, inr, ⊎_elim, ℕ, zero, suc, ◌+◌, ◌≤◌, true, false, List, [], ◌∷◌, ◌++◌, length, map, take, drop, refl, sym, ◌∙◌, ap, arith, Ok}
-use Rattle.sg_msg.specs.Message.{Content}
+use Rattle.std.proofs.Common.{◌≡◌, inl, inr, ⊎_elim, ℕ, suc, ◌+◌, ◌≤◌, true, false, List, [], ◌∷◌, ◌++◌, length, refl, sym, ◌∙◌, ap, arith, Ok}
 use Rattle.sg_msg.specs.Length.{encoded_len}
 use Rattle.sg_codec.proofs.WriteLemmas.{length-spelling}
 use Rattle.sg_codec.specs.declared.kept.Kept.{Kept}
@@ -76,17 +75,3 @@ pub stored_short : (kept : Kept) (payload : List ℕ) → Spells kept payload �
 stored_short kept payload spells read = ⊎_elim
     (λ two. let long : length payload ≡ length (spelling2 kept) = ap length two.spelled in omega (arith, long, length-spelling kept))
     (λ one. entry-len payload kept (spells1-first kept payload one) read) spells
-
--- the message of one entry more
-pub message_next : (k : ℕ) (entries : List Kept) (payload : List ℕ) (rest : Entries) (message : Content) → AreKept entries → drop k (spelled entries) ≡ payload ∷ rest → ((kept : Kept) → Spells kept payload → message ≡ kept.message)
-    → (map (λ kept. kept.message) (take k entries) ++ message ∷ [] ≡ map (λ kept. kept.message) (take (suc k) entries)) × (drop (suc k) (spelled entries) ≡ rest)
-message_next zero [] payload rest message fits is reads = absurd (let no : [] ≡ (payload ∷ rest) = is in cc)
-message_next (suc k) [] payload rest message fits is reads = absurd (let no : [] ≡ (payload ∷ rest) = is in cc)
-message_next zero (e ∷ es) payload rest message fits is reads =
-    let both : (spelling2 e ∷ spelled es) ≡ (payload ∷ rest) = is in
-    let first : spelling2 e ≡ payload = cc in
-    let others : spelled es ≡ rest = cc in
-    (ap (λ (m : Content). m ∷ []) (reads e (inl (record { fits = fits.0; spelled = sym first }))), others)
-message_next (suc k) (e ∷ es) payload rest message fits is reads =
-    let more = message_next k es payload rest message fits.1 is reads in
-    (ap (λ (l : List Content). e.message ∷ l) more.0, more.1)

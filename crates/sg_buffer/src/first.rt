@@ -1,12 +1,7 @@
 // The first entries of a disk-buffer.
-ghost use Rattle.std.specs.Prelude.{◌≡◌, ◌≤◌, List, ℕ, length, map, take, codes, ◌++◌, [], ◌∷◌, OnOk, IfOk, IfErr, false};
-ghost use Rattle.sg_device.specs.Disk.{WhereTold, content};
-ghost use Rattle.sg_codec.specs.declared.kept.Kept.{Kept as Entry};
-ghost use Rattle.sg_codec.specs.Spelling.{Spells};
+ghost use Rattle.std.specs.Prelude.{◌≡◌, ◌≤◌, length, codes, ◌++◌, [], ◌∷◌, OnOk, IfOk, IfErr, false};
 ghost use Rattle.sg_spool.specs.Calls.{Reads};
-ghost use Rattle.sg_spool.specs.Ring.{Entries, IsList};
-ghost use Rattle.sg_buffer.specs.Entries.{AreKept, spelled};
-ghost use Rattle.sg_buffer.specs.First.{ReadReason, content_in, unread_content};
+ghost use Rattle.sg_buffer.specs.First.{AreFirst, ReadReason, content_in, unread_content};
 
 use bytes::Bytes;
 use sg_codec::{CodecRefusal, Kept, decode};
@@ -31,11 +26,8 @@ pub fn first_messages<D: Disk>(
     requires enough { n ≤ spool.old.rows.count }
     requires unstaged { spool.old.rows.staged ≡ 0 }
     ensures reads { Reads D.state spool.old spool.new }
-    ensures messages { IfOk result (λ messages. WhereTold (content (D.state spool.old.disk))
-        (λ bytes. (entries : List Entry) → AreKept entries → IsList (spelled entries) bytes
-        → messages.items ≡ map (λ kept. kept.message) (take n entries))) }
-    ensures texts { IfOk result
-        (λ messages. (payloads : Entries) × (messages.items ≡ map content_in payloads)) }
+    ensures messages { IfOk result
+        (λ messages. AreFirst (D.state spool.old.disk) n messages.items) }
     ensures number { IfOk result (λ messages. length messages.items ≡ n) }
     ensures open { IfOk result (λ _. spool.new.closed ≡ false) }
     ensures cause { IfErr result
@@ -65,9 +57,7 @@ pub fn first_messages<D: Disk>(
 // The message of the entry that a payload spells, or what becomes of one that spells none.
 #[tactic(auto, using(crate::proofs::Firsts::content_read, crate::proofs::Firsts::content_unread))]
 fn message_of(alloc: Global, payload: &[u8]) -> Result<Message, AllocError>
-    ensures spelled { IfOk result
-        (λ message. (kept : Entry) → Spells kept payload.now → message ≡ kept.message) }
-    ensures exact { IfOk result (λ message. message ≡ content_in payload.now) }
+    ensures { IfOk result (λ message. message ≡ content_in payload.now) }
 {
     match decode(alloc, payload) {
         Ok(kept) => {

@@ -1,7 +1,6 @@
 -- One inlet more is read.
 use Rattle.std.proofs.Common.{◌≡◌, ◌∙◌, ℕ, ◌+◌, ◌<◌, ◌≤◌, List, [], ◌∷◌, ◌++◌, length, take, get_or, slice_get, map, Some, sym, ap}
-use Rattle.std.proofs.lemmas.List.{take_more, take_all, map-append}
-use Rattle.sg_resolve.proofs.Leasts.{flat-push}
+use Rattle.std.proofs.lemmas.List.{take_more, take_all, map-append, flat_map_more}
 use Rattle.sg_source.specs.declared.inlet.SourceDriver.{SourceDriver}
 use Rattle.sg_run_plan.specs.declared.inlet.InletPlan.{InletPlan}
 use Rattle.sg_tree.specs.Readings.{Inlet, inlet_of}
@@ -19,7 +18,7 @@ pub one-more : (drivers : List SourceDriver) (inlets : List InletPlan) (old new 
     → map inlet_of old ≡ readings_of drivers (take i inlets) → map inlet_of new ≡ map inlet_of old ++ reading-by drivers inlet
     → map inlet_of new ≡ readings_of drivers (take (i + 1) inlets)
 one-more drivers inlets old new i inlet within item before here =
-    here ∙ (λ j. before j ++ reading-by drivers (item j)) ∙ sym (flat-push (reading-by drivers) (take i inlets) (get_or inlets i inlet)) ∙ ap (readings_of drivers) (sym (take_more inlets i inlet within))
+    here ∙ (λ j. before j ++ reading-by drivers (item j)) ∙ flat_map_more (reading-by drivers) [] (take i inlets) (get_or inlets i inlet) ∙ ap (readings_of drivers) (sym (take_more inlets i inlet within))
 
 pub all-read : (drivers : List SourceDriver) (inlets : List InletPlan) (rules : List InletRule) (i : ℕ) → length inlets ≤ i
     → map inlet_of rules ≡ readings_of drivers (take i inlets) → map inlet_of rules ≡ readings_of drivers inlets

@@ -7,7 +7,13 @@ use Rattle.sg_tree.specs.Readings.{Inlet}
 
 -- as its driver says
 abbrev pub reading_of : SourceDriver → Inlet
-reading_of driver = record { opts = driver.opts; rfc5424 = driver.rfc5424; empty_lines = driver.empty_lines; tags = driver.tags }
+reading_of driver = record {
+  opts = driver.opts;
+  rfc5424 = driver.rfc5424;
+  empty_lines = driver.empty_lines;
+  one_line = driver.one_line;
+  tags = driver.tags;
+}
 
 abbrev pub readings_at : Option SourceDriver → List Inlet
 readings_at None = []

@@ -27,6 +27,7 @@ fn rule_of(alloc: Global, driver: &SourceDriver) -> Result<InletRule, NoMemory>
         opts: driver.opts,
         rfc5424: driver.rfc5424,
         empty_lines: driver.empty_lines,
+        one_line: driver.one_line,
         tags: copied_names(alloc, driver.tags.as_slice())?,
     })
 }

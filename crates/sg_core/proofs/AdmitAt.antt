@@ -1,9 +1,9 @@
 -- What a core keeps of the state after an admit.
-use Rattle.std.proofs.Common.{◌≡◌, ◌≢◌, ℕ, ◌+◌, ◌-◌, ◌^◌, ◌<◌, ◌≤◌, List, [], ◌∷◌, ◌++◌, length, Option, Some, None, Bool, true, false, ◌&&◌, ◌||◌, not, refl, sym, ap, ◌∙◌, arith, suc, zero, map, slice_get, subst, if◌then◌else◌, inl, inr, ◌⊎◌}
-use Rattle.std.specs.Prelude.{◌==◌, nat_lt, nat_le, option_and_then}
+use Rattle.std.proofs.Common.{◌≡◌, ◌≢◌, ℕ, ◌+◌, ◌-◌, ◌^◌, ◌<◌, ◌≤◌, List, [], ◌∷◌, ◌++◌, length, Option, Some, None, Bool, true, false, ◌||◌, refl, sym, ap, ◌∙◌, arith, suc, map, slice_get, subst, inl, inr, ◌⊎◌}
+use Rattle.std.specs.Prelude.{◌==◌, nat_lt, nat_le}
 use Rattle.std.specs.Option.{option_map_or}
 use Rattle.std.specs.List.{list_all}
-use Rattle.std.proofs.lemmas.Bool.{cases_eq, cases_lt, lt-ltb, le-leb, cases_Bool, false_from_ne_true, or_parts, or_left}
+use Rattle.std.proofs.lemmas.Bool.{cases_lt, lt-ltb, le-leb, false_from_ne_true, or_parts}
 use Rattle.std.proofs.lemmas.List.{append-nil, length-append, length-map, map-append}
 use Rattle.sg_list.specs.Lists.{change, passes_at}
 use Rattle.sg_list.proofs.ListLemmas.{some-same, length-change, slice_get-some, slice_get-none, slice_get-below}
@@ -18,22 +18,20 @@ use Rattle.sg_machine.specs.declared.state.Dest.{Dest}
 use Rattle.sg_machine.specs.declared.state.Inlet.{Inlet}
 use Rattle.sg_machine.specs.declared.state.State.{State}
 use Rattle.sg_machine.specs.Effects.{next_of, ends_of, admitted, after_act}
-use Rattle.sg_machine.specs.Legal.{is_same_list, is_admissible, may_admit, is_legal_act, store_of}
+use Rattle.sg_machine.specs.Legal.{is_same_list, is_admissible, may_admit, is_legal_act}
 use Rattle.sg_machine.specs.Marks.{outstanding_of}
-use Rattle.sg_machine.specs.Running.{IsSound as IsReplayed, owed, ends_at, records_from}
+use Rattle.sg_machine.specs.Running.{owed, ends_at, records_from}
 use Rattle.sg_machine.specs.Runs.{Kept}
-use Rattle.sg_machine.specs.Safe.{spooled_of, spooled_offers, would_spool, appends, tried_by}
+use Rattle.sg_machine.specs.Safe.{spooled_of, spooled_offers, would_spool, appends}
 use Rattle.sg_machine.specs.Verdicts.{Claim, claims_of, origin_of, is_listed, judged, take_offer, take_claim, take_claims}
 use Rattle.sg_machine.proofs.BatchLemmas.{working-appends}
-use Rattle.sg_machine.proofs.RecordLemmas.{Admits, admits, number-ends}
-use Rattle.sg_sinks.specs.Laws.{is_listed_in}
-use Rattle.sg_sinks.specs.Standing.{sink_of, lengths_of, IsSplit}
+use Rattle.sg_machine.proofs.RecordLemmas.{admits, number-ends}
+use Rattle.sg_sinks.specs.Standing.{lengths_of}
 use Rattle.sg_sinks.specs.States.{SinkState}
-use Rattle.sg_stores.specs.Appending.{IsAppended}
 use Rattle.sg_stores.specs.Stores.{StoreState, HasSize, HoldsEntries, length_of}
 use Rattle.sg_offers.specs.Answering.{fails_at, sinks_after, verdicts_from, failing_in, begun_of}
 use Rattle.sg_offers.specs.Batches.{sinks_at}
-use Rattle.sg_offers.specs.Laws.{Judged, Begun}
+use Rattle.sg_offers.specs.Laws.{Judged}
 use Rattle.sg_offers.specs.Payloads.{buffers_of, buffer_at}
 use Rattle.sg_offers.specs.declared.batch.Payload.{Payload}
 use Rattle.sg_offers.proofs.BegunSteps.{begun-by}
@@ -42,14 +40,14 @@ use Rattle.sg_offers.proofs.FailSteps.{judged-all}
 use Rattle.sg_offers.proofs.JudgeSteps.{listed-append}
 use Rattle.sg_standing.specs.Sources.{begun_all}
 use Rattle.sg_standing.specs.States.{CoreState}
-use Rattle.sg_standing.specs.Standing.{IsAt, IsSound, AreApart, IsPlaced, HoldsPosition, IsStored, AreStored, IsBuffer, IsBacked, AreBacked, AreSpellable, sinks_of, sources_from, setups_of, buffer_in}
-use Rattle.sg_standing.proofs.Calls.{apart-both, buffer_in-of, store_in-of}
+use Rattle.sg_standing.specs.Standing.{IsAt, IsSound, HoldsPosition, IsStored, AreStored, IsBacked, AreBacked, AreSpellable, sinks_of, sources_from, setups_of, buffer_in}
+use Rattle.sg_standing.proofs.Calls.{apart-both, store_in-of}
 use Rattle.sg_standing.proofs.ListSteps.{get-change, map-kept}
-use Rattle.sg_core.specs.Admits.{blocks_for, Appended, AppendedAll}
+use Rattle.sg_core.specs.Admits.{blocks_for, Appended}
 use Rattle.sg_core.specs.Steps.{AreNext}
-use Rattle.sg_core.proofs.AdmitDests.{Grows, Grown, grown, lengths-spooled, spellable-claims}
+use Rattle.sg_core.proofs.AdmitDests.{Grows, grown, lengths-spooled, spellable-claims}
 use Rattle.sg_core.proofs.AdmitSources.{sources-more}
-use Rattle.sg_core.proofs.AdmitSteps.{Admitting, DestOf, dest-of, TakesOf, takes-of, would-fail, is-nil, none-long, buffer-at-dest, buffer-seen, BackedAt, backed-or, Failing, failing-of, staged-count, broken-takes}
+use Rattle.sg_core.proofs.AdmitSteps.{Admitting, DestOf, dest-of, takes-of, would-fail, is-nil, none-long, buffer-at-dest, buffer-seen, backed-or, staged-count, broken-takes}
 
 length-sinks : (failed : List ℕ) (dests : List Dest) → length (sinks_at failed dests) ≡ length dests
 length-sinks failed [] = refl

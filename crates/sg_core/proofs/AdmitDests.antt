@@ -1,9 +1,8 @@
 -- The destinations of a state and the disk-buffers of a core, once records are in.
-use Rattle.std.proofs.Common.{◌≡◌, ◌≢◌, ℕ, ◌+◌, ◌<◌, ◌≤◌, List, [], ◌∷◌, ◌++◌, length, Option, Some, None, Bool, true, false, ◌&&◌, ◌||◌, not, refl, sym, ap, ◌∙◌, arith, suc, zero, map, take, slice_get, subst, if◌then◌else◌, append_assoc, inl, inr, ◌⊎◌}
+use Rattle.std.proofs.Common.{◌≡◌, ℕ, ◌+◌, List, [], ◌∷◌, ◌++◌, length, Option, Some, None, Bool, true, false, ◌&&◌, refl, sym, ap, ◌∙◌, arith, suc, map, slice_get, subst, if◌then◌else◌, append_assoc, inl, inr, ◌⊎◌}
 use Rattle.std.specs.Prelude.{◌==◌, option_and_then, IsSome}
-use Rattle.std.proofs.lemmas.Bool.{cases_eq, cases_Bool, and_parts, and_right}
-use Rattle.std.proofs.lemmas.List.{append-nil, map-append, length_push}
-use Rattle.sg_list.specs.Lists.{change}
+use Rattle.std.proofs.lemmas.Bool.{cases_eq, and_parts, and_right}
+use Rattle.std.proofs.lemmas.List.{append-nil, map-append}
 use Rattle.sg_list.proofs.ListLemmas.{some-same, change-none, get-change-same, get-change-other}
 use Rattle.sg_msg.specs.Length.{encoded_len}
 use Rattle.sg_msg.specs.declared.offer.Offer.{Offer}
@@ -13,15 +12,13 @@ use Rattle.sg_machine.specs.declared.event.Verdict.TheVariants.{Queued, Spooled,
 use Rattle.sg_machine.specs.declared.setup.BufferSetup.{BufferSetup}
 use Rattle.sg_machine.specs.declared.state.Dest.{Dest}
 use Rattle.sg_machine.specs.declared.state.Entry.{Entry}
-use Rattle.sg_machine.specs.declared.state.Origin.{Origin}
 use Rattle.sg_machine.specs.Counts.{as_kept}
 use Rattle.sg_machine.specs.Runs.{Kept}
 use Rattle.sg_machine.specs.Safe.{kept_from, spooled_of, spooled_offers}
 use Rattle.sg_machine.specs.Verdicts.{Claim, origin_of, same_verdict, entry_from, take_offer, take_claim, take_claims}
-use Rattle.sg_sinks.specs.Fitting.{space, has_space}
+use Rattle.sg_sinks.specs.Fitting.{space}
 use Rattle.sg_sinks.specs.Blocks.{block_of, kept_of_offer, block_of_offer}
 use Rattle.sg_sinks.specs.Standing.{kept_of, lengths_of}
-use Rattle.sg_sinks.specs.States.{SinkState}
 use Rattle.sg_sinks.proofs.SpaceLemmas.{space_push}
 use Rattle.sg_stores.specs.Appending.{IsNext}
 use Rattle.sg_stores.specs.Stores.{StoreState, HasSize, length_of}

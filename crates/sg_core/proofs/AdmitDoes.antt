@@ -1,10 +1,7 @@
 -- An admit, as one event.
-use Rattle.std.proofs.Common.{◌≡◌, ◌≢◌, ℕ, ◌+◌, ◌-◌, ◌^◌, ◌<◌, ◌≤◌, List, [], ◌∷◌, ◌++◌, length, Option, Some, None, Bool, true, false, ◌&&◌, ◌||◌, not, refl, sym, ap, ◌∙◌, arith, suc, zero, map, take, drop, slice_get, subst, if◌then◌else◌, inl, inr, ◌⊎◌}
-use Rattle.std.specs.Prelude.{option_and_then}
+use Rattle.std.proofs.Common.{◌≡◌, ℕ, ◌+◌, ◌-◌, ◌≤◌, List, [], ◌∷◌, ◌++◌, length, Option, Some, None, Bool, true, false, ◌||◌, refl, sym, ap, ◌∙◌, arith, suc, zero, map, take, drop, slice_get, subst, if◌then◌else◌, inl, inr, ◌⊎◌}
 use Rattle.std.specs.Option.{option_map_or}
-use Rattle.std.proofs.lemmas.Bool.{or_parts}
-use Rattle.sg_list.specs.Lists.{change}
-use Rattle.sg_list.proofs.ListLemmas.{some-same, slice_get-some, slice_get-below}
+use Rattle.sg_list.proofs.ListLemmas.{some-same}
 use Rattle.sg_device.specs.Disk.{Within}
 use Rattle.sg_device.specs.Faults.{Rose}
 use Rattle.sg_window.specs.Window.{outstanding as waiting_of}
@@ -15,7 +12,6 @@ use Rattle.sg_machine.specs.declared.event.Admission.{Admission}
 use Rattle.sg_machine.specs.declared.event.Event.{Event}
 use Rattle.sg_machine.specs.declared.event.Verdict.{Verdict}
 use Rattle.sg_machine.specs.declared.setup.BufferSetup.{BufferSetup}
-use Rattle.sg_machine.specs.declared.setup.DestSetup.{DestSetup}
 use Rattle.sg_machine.specs.declared.state.Dest.{Dest}
 use Rattle.sg_machine.specs.declared.state.Inlet.{Inlet}
 use Rattle.sg_machine.specs.declared.state.State.{State}
@@ -24,20 +20,20 @@ use Rattle.sg_machine.specs.Legal.{store_of}
 use Rattle.sg_machine.specs.Marks.{outstanding_of}
 use Rattle.sg_machine.specs.Running.{records_from}
 use Rattle.sg_machine.specs.Runs.{Kept, after_all}
-use Rattle.sg_machine.specs.Safe.{IsSafeList, has_failed, appends, spooled_of, spooled_offers, would_spool, failed_entries}
+use Rattle.sg_machine.specs.Safe.{has_failed, appends, spooled_of, spooled_offers, would_spool, failed_entries}
 use Rattle.sg_machine.specs.Verdicts.{Claim, claims_of, is_listed}
 use Rattle.sg_sinks.specs.States.{SinkState}
 use Rattle.sg_stores.specs.Appending.{IsAppended, IsListWithSome}
-use Rattle.sg_stores.specs.Stores.{StoreState, AllGo, Goes}
-use Rattle.sg_offers.specs.Answering.{fails_at, sinks_then, sinks_after, offered_by, failing_in, begun_of}
+use Rattle.sg_stores.specs.Stores.{StoreState}
+use Rattle.sg_offers.specs.Answering.{sinks_then, sinks_after, offered_by, failing_in, begun_of}
 use Rattle.sg_offers.specs.Laws.{Judged}
 use Rattle.sg_offers.specs.Payloads.{buffers_of}
 use Rattle.sg_offers.specs.declared.batch.Payload.{Payload}
 use Rattle.sg_offers.proofs.JudgeSteps.{listed-append}
 use Rattle.sg_offers.proofs.SinkLemmas.{offered-setup}
-use Rattle.sg_standing.specs.Sources.{HasCredit, begun_at, begun_all}
+use Rattle.sg_standing.specs.Sources.{begun_at, begun_all}
 use Rattle.sg_standing.specs.States.{CoreState, setup_of}
-use Rattle.sg_standing.specs.Standing.{IsAt, IsSafeStore, StandsFor, HavePositionsWithin, HaveListsWithin, HaveRisen, Does, buffer_in, failed_then, source_of}
+use Rattle.sg_standing.specs.Standing.{IsAt, IsSafeStore, StandsFor, HaveRisen, Does, buffer_in, failed_then}
 use Rattle.sg_standing.specs.declared.source.Source.{Source}
 use Rattle.sg_standing.proofs.Calls.{does-of, stays-refl, positions-by, lists-by}
 use Rattle.sg_standing.proofs.ListSteps.{map-kept}
@@ -45,11 +41,11 @@ use Rattle.sg_standing.proofs.More.{within-map}
 use Rattle.sg_standing.proofs.Safes.{spooled-left, settled-most}
 use Rattle.sg_standing.proofs.Still.{StaysSame}
 use Rattle.sg_standing.proofs.Unfailed.{entries-now}
-use Rattle.sg_core.specs.Admits.{blocks_for, Appended}
+use Rattle.sg_core.specs.Admits.{blocks_for}
 use Rattle.sg_core.proofs.AtSteps.{setup-parts}
 use Rattle.sg_core.proofs.Fits.{outstanding-same}
 use Rattle.sg_core.proofs.PositionSteps.{behind}
-use Rattle.sg_core.proofs.AdmitSteps.{Admitting, DestOf, dest-of, takes-of, is-nil, failing-of}
+use Rattle.sg_core.proofs.AdmitSteps.{Admitting, dest-of, takes-of, is-nil, failing-of}
 use Rattle.sg_core.proofs.AdmitAt.{AdmitsAt, admit-judged, legal-admit, at-admit, store-stays, spooled-takes, staged-worked}
 
 -- Setups stay.

@@ -1,10 +1,9 @@
 -- The sources of a core, once records are in.
-use Rattle.std.proofs.Common.{◌≡◌, ◌≢◌, ℕ, ◌+◌, ◌-◌, ◌^◌, ◌<◌, ◌≤◌, List, [], ◌∷◌, ◌++◌, length, Option, Some, None, refl, sym, ap, ◌∙◌, arith, suc, zero, slice_get, subst, append_assoc, if◌then◌else◌, Bool, true, false}
-use Rattle.std.specs.Prelude.{◌==◌}
-use Rattle.std.proofs.lemmas.List.{append-nil, length_push, length-append}
+use Rattle.std.proofs.Common.{◌≡◌, ◌≢◌, ℕ, ◌+◌, ◌-◌, ◌<◌, ◌≤◌, List, [], ◌∷◌, ◌++◌, length, Option, Some, None, refl, sym, ap, ◌∙◌, arith, suc, zero, slice_get, subst, append_assoc}
+use Rattle.std.proofs.lemmas.List.{append-nil, length_push}
 use Rattle.sg_list.specs.Lists.{change}
 use Rattle.sg_list.proofs.ListLemmas.{some-same, get-change-same}
-use Rattle.sg_window.specs.Window.{Window, window_of, outstanding, after_begin, StandsFor}
+use Rattle.sg_window.specs.Window.{Window, window_of, after_begin}
 use Rattle.sg_window.specs.declared.tracker.Record.{Record}
 use Rattle.sg_window.proofs.WindowLemmas.{stands-begin, outstanding-length}
 use Rattle.sg_machine.specs.declared.event.Admission.{Admission}

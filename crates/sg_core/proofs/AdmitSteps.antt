@@ -1,58 +1,36 @@
 -- An admit is an event of the machine, from each state that the core may be at.
-use Rattle.std.proofs.Common.{◌≡◌, ◌≢◌, ℕ, ◌+◌, ◌-◌, ◌^◌, ◌<◌, ◌≤◌, List, [], ◌∷◌, ◌++◌, length, Option, Some, None, Bool, true, false, ◌&&◌, ◌||◌, not, refl, sym, ap, ◌∙◌, arith, suc, zero, map, slice_get, subst, if◌then◌else◌, inl, inr, ◌⊎◌}
-use Rattle.std.specs.Prelude.{◌==◌, nat_lt, nat_le, option_and_then}
-use Rattle.std.specs.Option.{option_map_or}
-use Rattle.std.specs.List.{list_all}
-use Rattle.std.proofs.lemmas.Bool.{cases_eq, cases_Bool, false_from_ne_true, or_parts}
-use Rattle.std.proofs.lemmas.List.{append-nil, length-append, length-map}
-use Rattle.sg_list.specs.Lists.{change, passes_at}
+use Rattle.std.proofs.Common.{◌≡◌, ◌≢◌, ℕ, ◌+◌, ◌-◌, ◌<◌, ◌≤◌, List, [], ◌∷◌, ◌++◌, length, Option, Some, None, Bool, true, false, refl, sym, ap, ◌∙◌, arith, suc, zero, map, slice_get, subst, inl, inr, ◌⊎◌}
+use Rattle.std.proofs.lemmas.Bool.{false_from_ne_true}
+use Rattle.std.proofs.lemmas.List.{append-nil}
+use Rattle.sg_list.specs.Lists.{change}
 use Rattle.sg_list.proofs.ListLemmas.{some-same, slice_get-some, slice_get-below, slice_get-map}
-use Rattle.sg_counter.specs.Bringing.{MayEnter, AllMayEnter}
-use Rattle.sg_machine.specs.declared.event.Act.TheVariants.{Admit}
+use Rattle.sg_counter.specs.Bringing.{AllMayEnter}
 use Rattle.sg_machine.specs.declared.event.Admission.{Admission}
 use Rattle.sg_machine.specs.declared.event.Verdict.{Verdict}
 use Rattle.sg_machine.specs.declared.setup.BufferSetup.{BufferSetup}
-use Rattle.sg_machine.specs.declared.setup.DestSetup.{DestSetup}
-use Rattle.sg_machine.specs.declared.setup.SourceSetup.{SourceSetup}
 use Rattle.sg_machine.specs.declared.state.Dest.{Dest}
-use Rattle.sg_machine.specs.declared.state.Inlet.{Inlet}
 use Rattle.sg_machine.specs.declared.state.State.{State}
-use Rattle.sg_machine.specs.Effects.{next_of, ends_of, admitted, after_act}
-use Rattle.sg_machine.specs.Legal.{is_same_list, is_admissible, may_admit, is_legal_act, store_of}
-use Rattle.sg_machine.specs.Marks.{outstanding_of}
-use Rattle.sg_machine.specs.Running.{IsSound as IsReplayed, owed, ends_at}
+use Rattle.sg_machine.specs.Effects.{next_of}
 use Rattle.sg_machine.specs.Runs.{Kept}
-use Rattle.sg_machine.specs.Safe.{spooled_of, spooled_offers, would_spool, appends, tried_by}
-use Rattle.sg_machine.specs.Verdicts.{Claim, claims_of, is_listed, judged, take_claims}
-use Rattle.sg_machine.proofs.BatchLemmas.{working-appends}
-use Rattle.sg_machine.proofs.RecordLemmas.{Admits, admits, number-ends}
-use Rattle.sg_window.specs.declared.tracker.Record.{Record}
+use Rattle.sg_machine.specs.Safe.{would_spool}
+use Rattle.sg_machine.specs.Verdicts.{Claim, claims_of, is_listed}
 use Rattle.sg_sinks.specs.Fitting.{space}
 use Rattle.sg_sinks.specs.Laws.{is_listed_in}
-use Rattle.sg_sinks.specs.Standing.{sink_of, lengths_of, IsSplit}
+use Rattle.sg_sinks.specs.Standing.{sink_of, lengths_of}
 use Rattle.sg_sinks.specs.States.{SinkState}
-use Rattle.sg_stores.specs.Appending.{IsAppended}
-use Rattle.sg_stores.specs.Stores.{StoreState, HasSize, HoldsEntries, length_of}
-use Rattle.sg_offers.specs.Answering.{fails_at, sinks_after, verdicts_from, failing_in, begun_of}
-use Rattle.sg_offers.specs.Batches.{sinks_at, WouldFail, buffer_in as buffer_of_dest}
-use Rattle.sg_offers.specs.Laws.{Judged, Tried, Begun}
+use Rattle.sg_stores.specs.Stores.{StoreState, length_of}
+use Rattle.sg_offers.specs.Answering.{fails_at, sinks_after, verdicts_from, begun_of}
+use Rattle.sg_offers.specs.Batches.{sinks_at, WouldFail}
 use Rattle.sg_offers.specs.Payloads.{buffers_of, buffer_at, trial_in, trial_at, payloads_of, taken_at, FitAll, AllKept, AreSpelled}
 use Rattle.sg_offers.specs.declared.batch.Payload.{Payload}
-use Rattle.sg_offers.proofs.BegunSteps.{begun-by}
-use Rattle.sg_offers.proofs.ClaimLemmas.{within-from}
-use Rattle.sg_offers.proofs.FailSteps.{judged-all}
-use Rattle.sg_offers.proofs.JudgeSteps.{listed-append}
 use Rattle.sg_offers.proofs.PayloadLemmas.{length-payloads}
 use Rattle.sg_offers.proofs.TrySteps.{tried-by as tried-hold}
-use Rattle.sg_standing.specs.Sources.{begun_all, credit_at}
+use Rattle.sg_standing.specs.Sources.{begun_all}
 use Rattle.sg_standing.specs.States.{CoreState}
-use Rattle.sg_standing.specs.Standing.{IsAt, IsSound, AreApart, IsPlaced, HoldsPosition, IsStored, AreStored, IsBuffer, IsBacked, AreBacked, sinks_of, sources_from, setups_of, buffer_in}
-use Rattle.sg_standing.proofs.Calls.{apart-both, buffer_in-of}
-use Rattle.sg_standing.proofs.ListSteps.{get-change}
+use Rattle.sg_standing.specs.Standing.{IsAt, AreApart, IsBuffer, sinks_of, buffer_in}
 use Rattle.sg_core.specs.Admits.{AreApartBuffers, blocks_for, Appended, AppendedAll}
 use Rattle.sg_core.specs.Steps.{AreNext}
-use Rattle.sg_core.proofs.AdmitDests.{Grows, Grown, grown, lengths-spooled, length-taken, are-next, untried}
-use Rattle.sg_core.proofs.AdmitSources.{sources-more}
+use Rattle.sg_core.proofs.AdmitDests.{length-taken, are-next, untried}
 
 -- all that an admit has done, where the next record of the inlet has this number
 pub record Admitting (old new : CoreState) (i next : ℕ) (records : List Admission) (vs : List Verdict) (fails : List Bool) (payloads : List Payload) : Type 0 where

@@ -1,8 +1,7 @@
 -- An admit, by what its calls leave.
-use Rattle.std.proofs.Common.{◌≡◌, ℕ, ◌+◌, ◌-◌, ◌^◌, ◌<◌, ◌≤◌, List, [], ◌∷◌, ◌++◌, length, Option, Some, None, Bool, true, false, refl, sym, ap, ◌∙◌, arith, suc, zero, map, take, drop, slice_get, subst, inl, inr, ◌⊎◌}
-use Rattle.std.specs.Option.{option_map_or}
+use Rattle.std.proofs.Common.{◌≡◌, ℕ, ◌+◌, ◌-◌, ◌^◌, ◌<◌, ◌≤◌, List, [], ◌∷◌, length, Some, None, Bool, false, refl, sym, ap, ◌∙◌, arith, suc, zero, map, drop, slice_get, subst, inl, inr, ◌⊎◌}
 use Rattle.sg_list.specs.Lists.{change}
-use Rattle.sg_list.proofs.ListLemmas.{some-same, slice_get-some, slice_get-below}
+use Rattle.sg_list.proofs.ListLemmas.{some-same, slice_get-below}
 use Rattle.sg_counter.specs.Bringing.{AllMayEnter, IsBatch}
 use Rattle.sg_window.specs.declared.tracker.Record.{Record}
 use Rattle.sg_machine.specs.declared.event.Act.TheVariants.{Admit}
@@ -10,11 +9,10 @@ use Rattle.sg_machine.specs.declared.event.Admission.{Admission}
 use Rattle.sg_machine.specs.declared.event.Verdict.{Verdict}
 use Rattle.sg_machine.specs.declared.setup.BufferSetup.{BufferSetup}
 use Rattle.sg_machine.specs.declared.state.State.{State}
-use Rattle.sg_machine.specs.Verdicts.{Claim, claims_of}
+use Rattle.sg_machine.specs.Verdicts.{claims_of}
 use Rattle.sg_sinks.specs.States.{SinkState, Sunk}
-use Rattle.sg_stores.specs.Stores.{StoreState}
 use Rattle.sg_offers.specs.Answering.{fails_at, sinks_after, verdicts_from, begun_of}
-use Rattle.sg_offers.specs.Payloads.{buffers_of, buffer_at, trial_in, payloads_of, payloads_from, AllKept, AreSmall, AreSpelled}
+use Rattle.sg_offers.specs.Payloads.{buffers_of, buffer_at, trial_in, payloads_of, AllKept, AreSmall, AreSpelled}
 use Rattle.sg_offers.specs.Rooms.{seen_in, AreTo}
 use Rattle.sg_offers.specs.declared.batch.Payload.{Payload}
 use Rattle.sg_offers.proofs.ClaimLemmas.{within-from}

@@ -1,16 +1,15 @@
 -- Payloads that are staged and committed, one after another.
-use Rattle.std.proofs.Common.{◌≡◌, ◌≢◌, ℕ, ◌+◌, ◌<◌, ◌≤◌, List, [], ◌∷◌, ◌++◌, length, set, get_or, Option, Some, None, Bool, true, false, ◌&&◌, ◌||◌, not, refl, sym, ap, ◌∙◌, arith, suc, zero, slice_get, subst, if◌then◌else◌, append_assoc, inl, inr, ◌⊎◌}
-use Rattle.std.specs.Prelude.{◌==◌, option_and_then}
+use Rattle.std.proofs.Common.{◌≡◌, ◌≢◌, ℕ, ◌+◌, ◌<◌, List, [], ◌∷◌, ◌++◌, length, set, Option, Some, None, Bool, true, false, ◌&&◌, ◌||◌, refl, sym, ap, ◌∙◌, arith, suc, zero, slice_get, subst, if◌then◌else◌, append_assoc, inl, inr}
+use Rattle.std.specs.Prelude.{◌==◌}
 use Rattle.std.specs.Option.{option_map_or}
-use Rattle.std.proofs.lemmas.Bool.{cases_eq, cases_Bool, cases_lt, and_parts}
+use Rattle.std.proofs.lemmas.Bool.{cases_eq, cases_Bool}
 use Rattle.std.proofs.lemmas.List.{append-nil, length_push}
 use Rattle.std.proofs.Math.ListN.{length-set}
-use Rattle.sg_list.specs.Lists.{change}
-use Rattle.sg_list.proofs.ListLemmas.{some-same, length-change, slice_get-some, slice_get-below, get-change-same, get-change-other}
+use Rattle.sg_list.proofs.ListLemmas.{some-same, length-change, slice_get-some, slice_get-below}
 use Rattle.sg_machine.specs.declared.setup.BufferSetup.{BufferSetup}
 use Rattle.sg_machine.specs.Runs.{Kept}
-use Rattle.sg_stores.specs.Appending.{IsAppending, IsNext, StagesAt, Stages, CommitsAt, Commits}
-use Rattle.sg_stores.specs.Stores.{StoreState, Goes}
+use Rattle.sg_stores.specs.Appending.{IsAppending, IsNext, StagesAt, Stages}
+use Rattle.sg_stores.specs.Stores.{StoreState}
 use Rattle.sg_stores.proofs.StoreLemmas.{goes_trans}
 use Rattle.sg_stores.proofs.StageLemmas.{begins as appending-begins}
 use Rattle.sg_standing.proofs.Calls.{goes-refl, IsTouched, touched-or}
@@ -18,10 +17,10 @@ use Rattle.sg_offers.specs.declared.batch.Payload.{Payload}
 use Rattle.sg_offers.specs.Payloads.{buffers_of, buffer_at}
 use Rattle.sg_offers.specs.Rooms.{seen_in, AreTo}
 use Rattle.sg_offers.proofs.ItemLemmas.{seen-there, buffer-there}
-use Rattle.sg_sinks.specs.States.{SinkState, Sunk}
+use Rattle.sg_sinks.specs.States.{Sunk}
 use Rattle.sg_offers.specs.Answering.{fails_at}
 use Rattle.sg_core.specs.Steps.{AreNext}
-use Rattle.sg_core.specs.Admits.{AreApartBuffers, is_for, blocks_for, is_staged, StagesBy, StagesFor, CommitsBy, CommitsFor, Staged, StagedAll, Committed, CommittedAll, Appended, AppendedAll}
+use Rattle.sg_core.specs.Admits.{is_for, blocks_for, is_staged, StagesBy, StagesFor, Staged, StagedAll}
 
 -- Blocks, one more.
 

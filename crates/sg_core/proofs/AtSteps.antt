@@ -1,11 +1,10 @@
 -- What a core keeps of a state, once one of its stores has changed.
-use Rattle.std.proofs.Common.{◌≡◌, ◌≢◌, ℕ, ◌+◌, List, [], ◌∷◌, ◌++◌, length, Some, None, Option, Bool, true, false, not, ◌||◌, refl, sym, ap, ◌∙◌, arith, suc, zero, slice_get, subst, inl, inr, map}
+use Rattle.std.proofs.Common.{◌≡◌, ◌≢◌, ℕ, ◌+◌, List, [], ◌∷◌, ◌++◌, Some, None, Option, Bool, true, false, ◌||◌, refl, sym, ap, ◌∙◌, arith, suc, zero, slice_get, subst, map}
 use Rattle.std.specs.Prelude.{◌==◌}
 use Rattle.std.specs.List.{list_any}
-use Rattle.std.proofs.lemmas.Bool.{cases_eq}
 use Rattle.std.proofs.lemmas.List.{append-nil}
 use Rattle.sg_list.specs.Lists.{change}
-use Rattle.sg_list.proofs.ListLemmas.{some-same, get-change-same, get-change-other}
+use Rattle.sg_list.proofs.ListLemmas.{some-same, get-change-other}
 use Rattle.sg_machine.specs.declared.event.Act.TheVariants.{Look}
 use Rattle.sg_machine.specs.declared.setup.BufferSetup.{BufferSetup}
 use Rattle.sg_machine.specs.declared.state.Dest.{Dest}
@@ -17,7 +16,7 @@ use Rattle.sg_machine.specs.Verdicts.{is_listed}
 use Rattle.sg_sinks.specs.States.{SinkState}
 use Rattle.sg_stores.specs.Stores.{StoreState}
 use Rattle.sg_standing.specs.States.{CoreState, setup_of}
-use Rattle.sg_standing.specs.Standing.{IsAt, IsSound, IsPlaced, HoldsPosition, IsStored, AreStored, IsBuffer, IsBacked, AreBacked, Does}
+use Rattle.sg_standing.specs.Standing.{IsAt, IsSound, HoldsPosition, IsStored, AreStored, IsBuffer, IsBacked, AreBacked, Does}
 use Rattle.sg_standing.specs.declared.source.Source.{Source}
 use Rattle.sg_standing.proofs.Calls.{quiet}
 

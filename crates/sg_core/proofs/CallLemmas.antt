@@ -1,10 +1,9 @@
 -- The calls of a core through those that lend them.
-use Rattle.std.proofs.Common.{◌≡◌, ℕ, ◌+◌, ◌<◌, ◌≤◌, List, [], ◌∷◌, ◌++◌, length, Some, None, Option, Ok, Err, IsSome, refl, sym, ap, ◌∙◌, suc, zero, slice_get, subst, map, arith, length-append}
-use Rattle.std.proofs.lemmas.List.{append-nil, append_assoc, map-append, length-map}
+use Rattle.std.proofs.Common.{◌≡◌, ℕ, ◌+◌, List, [], ◌∷◌, ◌++◌, length, Ok, Err, refl, sym, ap, ◌∙◌, suc, zero, subst, map, arith, length-append}
+use Rattle.std.proofs.lemmas.List.{append-nil, append_assoc, map-append}
 use Rattle.sg_machine.specs.declared.event.Act.{Act}
 use Rattle.sg_machine.specs.declared.event.Event.{Event}
 use Rattle.sg_machine.specs.declared.state.State.{State}
-use Rattle.sg_machine.specs.declared.setup.SourceSetup.{SourceSetup}
 use Rattle.sg_standing.specs.States.{CoreState}
 use Rattle.sg_standing.specs.Sources.{store_at}
 use Rattle.sg_counter.specs.Bringing.{store_in}

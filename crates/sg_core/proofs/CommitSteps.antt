@@ -1,20 +1,18 @@
 -- Disk-buffers that commit, one after another.
-use Rattle.std.proofs.Common.{◌≡◌, ◌≢◌, ℕ, ◌+◌, ◌<◌, ◌≤◌, List, [], ◌∷◌, ◌++◌, length, set, get_or, Option, Some, None, Bool, true, false, ◌&&◌, ◌||◌, not, refl, sym, ap, ◌∙◌, arith, suc, zero, slice_get, subst, if◌then◌else◌, inl, inr, ◌⊎◌}
-use Rattle.std.specs.Prelude.{◌==◌, option_and_then}
+use Rattle.std.proofs.Common.{◌≡◌, ◌≢◌, ℕ, ◌+◌, ◌<◌, ◌≤◌, List, [], ◌∷◌, length, set, get_or, Option, Some, None, Bool, true, false, ◌&&◌, ◌||◌, not, refl, sym, ap, ◌∙◌, arith, suc, zero, slice_get, subst, if◌then◌else◌, inl, inr}
+use Rattle.std.specs.Prelude.{◌==◌}
 use Rattle.std.specs.Option.{option_map_or}
 use Rattle.std.proofs.lemmas.Bool.{cases_eq, cases_lt, eqb-true, and_right, false_from_ne_true}
 use Rattle.sg_list.specs.Lists.{change}
 use Rattle.sg_list.proofs.ListLemmas.{some-same, length-change, slice_get-some, slice_get-none, slice_get-below, get-change-same, get-change-other}
 use Rattle.sg_machine.specs.declared.setup.BufferSetup.{BufferSetup}
-use Rattle.sg_machine.specs.Runs.{Kept}
 use Rattle.sg_stores.specs.Appending.{CommitsAt, Commits}
-use Rattle.sg_stores.specs.Stores.{StoreState, Goes, AllGo}
+use Rattle.sg_stores.specs.Stores.{StoreState, Goes}
 use Rattle.sg_stores.proofs.StoreLemmas.{goes_trans}
 use Rattle.sg_standing.proofs.Calls.{goes-refl, IsTouched, touched-or}
 use Rattle.sg_offers.specs.declared.batch.Payload.{Payload}
 use Rattle.sg_offers.specs.Payloads.{buffer_at}
 use Rattle.sg_offers.specs.Answering.{fails_at}
-use Rattle.sg_core.specs.Steps.{AreNext}
 use Rattle.sg_core.specs.Admits.{AreApartBuffers, is_for, blocks_for, is_staged, CommitsBy, CommitsFor, Staged, StagedAll, Committed, CommittedAll, Appended, AppendedAll}
 use Rattle.sg_core.proofs.AppendSteps.{fails-set-same, fails-set-other}
 

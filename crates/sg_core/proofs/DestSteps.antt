@@ -1,15 +1,12 @@
 -- A state in which one destination has changed, and what a core keeps of it.
-use Rattle.std.proofs.Common.{◌≡◌, ◌≢◌, ℕ, ◌+◌, List, [], ◌∷◌, ◌++◌, length, Some, None, Option, Bool, true, false, refl, sym, ap, ◌∙◌, arith, suc, zero, map, slice_get, subst, inl, inr}
-use Rattle.std.specs.Prelude.{option_and_then}
+use Rattle.std.proofs.Common.{◌≡◌, ◌≢◌, ℕ, ◌+◌, List, [], ◌∷◌, ◌++◌, Some, None, Option, Bool, refl, sym, ap, ◌∙◌, arith, suc, zero, map, slice_get, subst, inl, inr}
 use Rattle.std.specs.Option.{option_map_or}
-use Rattle.std.proofs.lemmas.Bool.{cases_eq}
 use Rattle.std.proofs.lemmas.List.{append-nil}
 use Rattle.sg_list.specs.Lists.{change}
 use Rattle.sg_list.proofs.ListLemmas.{some-same, get-change-same, get-change-other}
 use Rattle.sg_machine.specs.declared.setup.BufferSetup.{BufferSetup}
 use Rattle.sg_machine.specs.declared.setup.DestSetup.{DestSetup}
 use Rattle.sg_machine.specs.declared.state.Dest.{Dest}
-use Rattle.sg_machine.specs.declared.state.Inlet.{Inlet}
 use Rattle.sg_machine.specs.declared.state.State.{State}
 use Rattle.sg_machine.specs.Legal.{store_of}
 use Rattle.sg_machine.specs.Running.{IsSound as IsReplayed}
@@ -19,8 +16,8 @@ use Rattle.sg_sinks.specs.Standing.{IsSplit, sink_of}
 use Rattle.sg_sinks.specs.States.{SinkState}
 use Rattle.sg_stores.specs.Stores.{StoreState}
 use Rattle.sg_standing.specs.States.{CoreState}
-use Rattle.sg_standing.specs.Standing.{IsAt, IsSound, AreApart, AreSpellable, IsBacked, IsBuffer, IsStored, AreStored, HoldsPosition, buffer_in, is_broken, sources_from}
-use Rattle.sg_standing.proofs.Calls.{apart-both, apart-dests, buffer_in-of}
+use Rattle.sg_standing.specs.Standing.{IsAt, AreApart, AreSpellable, IsBacked, IsBuffer, IsStored, HoldsPosition, buffer_in, is_broken, sources_from}
+use Rattle.sg_standing.proofs.Calls.{apart-both, apart-dests}
 use Rattle.sg_standing.proofs.ListSteps.{get-change}
 use Rattle.sg_core.proofs.SettleSteps.{with_dests}
 

@@ -1,8 +1,8 @@
 -- The sources and destinations of a core, beside the state that it is at.
-use Rattle.std.proofs.Common.{◌≡◌, ℕ, ◌+◌, ◌-◌, ◌<◌, ◌≤◌, List, [], ◌∷◌, length, Some, None, Option, Bool, true, false, refl, sym, ap, ◌∙◌, arith, suc, zero, map, slice_get, get_or, subst, if◌then◌else◌}
+use Rattle.std.proofs.Common.{◌≡◌, ℕ, ◌+◌, ◌-◌, ◌<◌, List, [], ◌∷◌, length, Some, None, Option, Bool, true, false, refl, sym, ap, ◌∙◌, arith, suc, zero, map, slice_get, get_or, subst, if◌then◌else◌}
 use Rattle.std.specs.Prelude.{◌==◌}
 use Rattle.std.specs.Option.{option_map}
-use Rattle.sg_list.proofs.ListLemmas.{some-same, slice_get-below, slice_get-map}
+use Rattle.sg_list.proofs.ListLemmas.{some-same, slice_get-below}
 use Rattle.sg_window.specs.Window.{outstanding as waiting_of}
 use Rattle.sg_window.specs.declared.tracker.Record.{Record}
 use Rattle.sg_machine.specs.declared.state.Entry.{Entry}
@@ -18,12 +18,11 @@ use Rattle.sg_machine.specs.Tallies.{source_tally, source_tallies, dest_tally, t
 use Rattle.sg_machine.proofs.OwedLemmas.{records-length}
 use Rattle.sg_machine.proofs.StepLemmas.{acked-owes}
 use Rattle.sg_sinks.specs.Standing.{sink_of, lengths_of, waiting_from}
-use Rattle.sg_sinks.specs.States.{SinkState}
 use Rattle.sg_stores.specs.Stores.{StoreState}
 use Rattle.sg_stores.specs.Positions.{WritesAt, IsThere, IsPositionStore, position_of, stored_in}
 use Rattle.sg_standing.specs.States.{CoreState}
 use Rattle.sg_standing.specs.Sources.{credit_of, mark_at, mark_in, begun_in, store_at}
-use Rattle.sg_standing.specs.Standing.{IsPlaced, HoldsPosition, IsStored, AreStored, is_broken, source_of, sources_from, IsAt}
+use Rattle.sg_standing.specs.Standing.{HoldsPosition, IsStored, AreStored, is_broken, source_of, sources_from, IsAt}
 use Rattle.sg_standing.specs.declared.source.Source.{Source}
 use Rattle.sg_counter.specs.declared.answers.Stored.{Stored}
 use Rattle.sg_core.specs.Tallying.{IsFit, AreFit, source_tally_of, sink_tally_of}

@@ -1,45 +1,35 @@
 -- Fronts, and the stores that they read.
-use Rattle.std.proofs.Common.{◌≡◌, ◌≢◌, ℕ, ◌+◌, ◌-◌, ◌<◌, ◌≤◌, List, [], ◌∷◌, ◌++◌, length, take, drop, Some, None, Option, Bool, true, false, not, refl, sym, ap, ◌∙◌, arith, suc, zero, map, slice_get, subst, ◌⊎◌, inl, inr, min, if◌then◌else◌}
-use Rattle.std.specs.Prelude.{◌==◌, is_some, option_and_then}
-use Rattle.std.specs.Option.{option_map, option_map_or}
-use Rattle.std.proofs.lemmas.List.{append-nil, length-map}
+use Rattle.std.proofs.Common.{◌≡◌, ℕ, ◌+◌, ◌-◌, ◌≤◌, List, [], ◌∷◌, ◌++◌, length, Some, None, Option, Bool, true, false, refl, sym, ap, ◌∙◌, map, slice_get, subst, inl}
+use Rattle.std.proofs.lemmas.List.{append-nil}
 use Rattle.sg_list.specs.Lists.{change}
-use Rattle.sg_list.proofs.ListLemmas.{some-same, get-change-same}
-use Rattle.sg_msg.specs.Message.{Content}
-use Rattle.sg_device.specs.Disk.{DiskState, DiskLog, clock, content, Moves, IsImageAt, IsLeftAt, event_count, WhereTold}
+use Rattle.sg_list.proofs.ListLemmas.{some-same}
+use Rattle.sg_device.specs.Disk.{DiskLog}
 use Rattle.sg_device.specs.Faults.{Rose}
-use Rattle.sg_queue.specs.declared.entry.Entry.{Entry as Waiting}
 use Rattle.sg_machine.specs.declared.event.Act.TheVariants.{Look}
-use Rattle.sg_machine.specs.declared.event.Event.{Event}
 use Rattle.sg_machine.specs.declared.setup.BufferSetup.{BufferSetup}
 use Rattle.sg_machine.specs.declared.state.Dest.{Dest}
 use Rattle.sg_machine.specs.declared.state.Entry.{Entry}
 use Rattle.sg_machine.specs.declared.state.State.{State}
 use Rattle.sg_machine.specs.Effects.{after_act}
-use Rattle.sg_machine.specs.Legal.{is_legal_act}
 use Rattle.sg_machine.specs.Running.{IsSound as IsReplayed}
 use Rattle.sg_machine.specs.Runs.{Kept, after_all}
-use Rattle.sg_machine.specs.Safe.{failed_entries, spooled_of}
+use Rattle.sg_machine.specs.Safe.{spooled_of}
 use Rattle.sg_machine.specs.Verdicts.{is_listed}
 use Rattle.sg_machine.proofs.MoveLemmas.{change-self}
-use Rattle.sg_buffer.specs.Entries.{AreKept, spelled}
-use Rattle.sg_sinks.specs.Runs.{run_of}
-use Rattle.sg_sinks.specs.Standing.{IsSplit, are_split, are_waiting, is_split_by, lengths_of, waiting_from, sink_of}
+use Rattle.sg_sinks.specs.Standing.{is_split_by, lengths_of, sink_of}
 use Rattle.sg_sinks.specs.States.{SinkState, with_broken}
 use Rattle.sg_sinks.proofs.LeftLemmas.{waiting-lengths}
 use Rattle.sg_stores.specs.Reading.{HasEntries, CanRead, Stays}
-use Rattle.sg_stores.specs.Stores.{BufferState, StoreState, Goes, HasSize, HoldsIn, HoldsEntries, coded}
+use Rattle.sg_stores.specs.Stores.{BufferState, StoreState, Goes, HasSize, HoldsIn, HoldsEntries}
 use Rattle.sg_standing.specs.States.{CoreState}
-use Rattle.sg_standing.specs.Standing.{IsAt, IsBuffer, IsSafeStore, StandsFor, Does, is_broken, sources_from, failed_then}
+use Rattle.sg_standing.specs.Standing.{IsAt, IsBuffer, Does, is_broken, sources_from}
 use Rattle.sg_standing.specs.declared.source.Source.{Source}
 use Rattle.sg_standing.proofs.ListSteps.{map-kept}
 use Rattle.sg_standing.proofs.Calls.{does-of, all-go-touched, risen-none, risen-touched, positions-buffer, lists-buffer}
-use Rattle.sg_standing.proofs.Still.{StaysSame}
-use Rattle.sg_core.specs.Answers.{buffer_at}
 use Rattle.sg_core.specs.Whole.{IsWhole}
-use Rattle.sg_core.proofs.AtSteps.{at-look, look-dest, listed-last, listed-other, setup-parts, setup-same}
-use Rattle.sg_core.proofs.DestSteps.{Leaves, IsShown, at-dest, dest-of, leaves-one, broken-listed}
-use Rattle.sg_core.proofs.SettleCalls.{IsWorking, working, buffer-of, any-split, failed-buffer}
+use Rattle.sg_core.proofs.AtSteps.{look-dest, listed-last, listed-other, setup-parts, setup-same}
+use Rattle.sg_core.proofs.DestSteps.{Leaves, at-dest, dest-of, leaves-one, broken-listed}
+use Rattle.sg_core.proofs.SettleCalls.{working, buffer-of, failed-buffer}
 use Rattle.sg_core.proofs.SettleSteps.{with_dests}
 
 -- A store that was read.

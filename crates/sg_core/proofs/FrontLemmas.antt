@@ -1,21 +1,20 @@
 -- What a front shows.
-use Rattle.std.proofs.Common.{◌≡◌, ◌≢◌, ℕ, ◌+◌, ◌-◌, ◌<◌, ◌≤◌, List, [], ◌∷◌, ◌++◌, length, take, drop, Some, None, Option, Bool, true, false, refl, sym, ap, ◌∙◌, arith, suc, zero, map, slice_get, subst, min, if◌then◌else◌}
+use Rattle.std.proofs.Common.{◌≡◌, ◌≢◌, ℕ, ◌+◌, ◌-◌, ◌<◌, ◌≤◌, List, [], ◌∷◌, ◌++◌, length, take, Some, None, Option, Bool, true, false, refl, sym, ap, ◌∙◌, arith, suc, zero, map, slice_get, subst}
 use Rattle.std.specs.Prelude.{◌==◌, is_some, option_and_then, Result, Ok, Err, IfOk}
 use Rattle.std.specs.Option.{option_map}
 use Rattle.std.proofs.lemmas.List.{length-map}
 use Rattle.sg_list.proofs.ListLemmas.{some-same}
 use Rattle.sg_msg.specs.Length.{encoded_len}
 use Rattle.sg_msg.specs.Message.{Content}
-use Rattle.sg_device.specs.Disk.{DiskState, content, WhereTold}
+use Rattle.sg_device.specs.Disk.{content, WhereTold}
 use Rattle.sg_queue.specs.declared.entry.Entry.{Entry as Waiting}
 use Rattle.sg_machine.specs.declared.setup.BufferSetup.{BufferSetup}
 use Rattle.sg_machine.specs.declared.state.Dest.{Dest}
 use Rattle.sg_machine.specs.declared.state.Entry.{Entry}
 use Rattle.sg_machine.specs.declared.state.State.{State}
-use Rattle.sg_machine.specs.Counts.{as_kept}
 use Rattle.sg_machine.specs.Runs.{Kept}
 use Rattle.sg_machine.specs.Safe.{spooled_of}
-use Rattle.sg_sinks.specs.Runs.{run_from, run_of}
+use Rattle.sg_sinks.specs.Runs.{run_of}
 use Rattle.sg_sinks.specs.Standing.{are_split, are_waiting, lengths_of, waiting_from, sink_of}
 use Rattle.sg_sinks.specs.States.{SinkState, with_broken}
 use Rattle.sg_sinks.proofs.LeftLemmas.{waiting-lengths, first-waits, rest-waits}
@@ -31,7 +30,7 @@ use Rattle.sg_core.proofs.DestSteps.{dest-of}
 use Rattle.sg_core.proofs.Fits.{left-length}
 use Rattle.sg_core.proofs.SettleCalls.{any-split, working, buffer-of}
 use Rattle.sg_core.proofs.SettleSteps.{split-by, spooled-rest}
-use Rattle.sg_core.proofs.Spooled.{spooled-cons, spooled-take}
+use Rattle.sg_core.proofs.Spooled.{spooled-cons}
 
 -- one message more
 pub take-message : (k : ℕ) (es : List Waiting) (m : Content) → option_map (λ (e : Waiting). e.message) (slice_get es k) ≡ Some m → map (λ (e : Waiting). e.message) (take (k + 1) es) ≡ map (λ (e : Waiting). e.message) (take k es) ++ m ∷ []

@@ -1,13 +1,11 @@
 -- A front that reads a disk-buffer, from what its parts did.
-use Rattle.std.proofs.Common.{◌≡◌, ◌≢◌, ℕ, ◌+◌, ◌<◌, ◌≤◌, List, [], length, take, map, Some, None, Option, Bool, true, false, refl, sym, ap, ◌∙◌, arith, slice_get, subst, Ok, Err}
+use Rattle.std.proofs.Common.{◌≡◌, ℕ, ◌+◌, ◌<◌, ◌≤◌, List, [], length, take, map, Some, None, true, false, refl, sym, ap, ◌∙◌, arith, slice_get, subst, Ok, Err}
 use Rattle.std.specs.Prelude.{option_and_then, Result}
-use Rattle.std.specs.Option.{option_map_or}
 use Rattle.sg_list.specs.Lists.{change}
 use Rattle.sg_list.proofs.ListLemmas.{get-change-same}
 use Rattle.sg_msg.specs.Message.{Content}
 use Rattle.sg_device.specs.Disk.{content, WhereTold}
 use Rattle.sg_device.specs.Faults.{Rose}
-use Rattle.sg_queue.specs.declared.entry.Entry.{Entry as Waiting}
 use Rattle.sg_machine.specs.declared.event.Act.TheVariants.{Look}
 use Rattle.sg_machine.specs.declared.setup.BufferSetup.{BufferSetup}
 use Rattle.sg_machine.specs.declared.state.Dest.{Dest}

@@ -31,3 +31,4 @@ pub mod RefillSteps
 pub mod RefillCalls
 pub mod RefillTurn
 pub mod AdmitTurn
+pub mod Faults

@@ -1,24 +1,23 @@
 -- The opening of a core.
-use Rattle.std.proofs.Common.{◌≡◌, ℕ, zero, suc, ◌+◌, ◌<◌, ◌≤◌, ◌^◌, List, [], ◌∷◌, ◌++◌, length, map, slice_get, Some, None, Option, refl, sym, ap, ◌∙◌, arith, subst}
+use Rattle.std.proofs.Common.{◌≡◌, ℕ, zero, suc, ◌+◌, ◌<◌, ◌≤◌, List, [], ◌∷◌, length, map, slice_get, Some, None, Option, refl, sym, ap, ◌∙◌, arith, subst}
 use Rattle.std.proofs.lemmas.List.{length-map}
-use Rattle.sg_list.proofs.ListLemmas.{some-same, slice_get-some, slice_get-below, slice_get-map}
+use Rattle.sg_list.proofs.ListLemmas.{some-same, slice_get-some, slice_get-below}
 use Rattle.sg_device.specs.Disk.{DiskState, content, WhereTold}
 use Rattle.sg_device.proofs.DiskCalls.{tells_same}
 use Rattle.sg_buffer.specs.Entries.{IsListOf}
-use Rattle.sg_buffer.specs.Heads.{head_of}
 use Rattle.sg_buffer.specs.declared.found.Found.{Found}
 use Rattle.sg_buffer.specs.declared.found.Head.{Head}
 use Rattle.sg_machine.specs.declared.setup.BufferSetup.{BufferSetup}
 use Rattle.sg_machine.specs.declared.setup.SourceSetup.{SourceSetup}
 use Rattle.sg_machine.specs.declared.setup.DestSetup.{DestSetup}
 use Rattle.sg_machine.specs.declared.setup.Setup.{Setup}
-use Rattle.sg_machine.specs.Runs.{Kept, Opening, opened}
+use Rattle.sg_machine.specs.Runs.{Kept}
 use Rattle.sg_counter.specs.Bringing.{store_in}
 use Rattle.sg_sinks.specs.Fitting.{space}
 use Rattle.sg_sinks.specs.States.{SinkState, fresh_sink, recovered as recovered_sink}
 use Rattle.sg_stores.specs.Stores.{StoreState, coded, length_of}
-use Rattle.sg_stores.specs.Positions.{IsThere, stored_in}
-use Rattle.sg_stores.specs.Opening.{IsOpenedAs, AreOpened, Keeps, ArePreserved, IsRefused}
+use Rattle.sg_stores.specs.Positions.{IsThere}
+use Rattle.sg_stores.specs.Opening.{IsOpenedAs, AreOpened, Keeps, IsRefused}
 use Rattle.sg_stores.specs.declared.answers.CoreRefusal.TheVariants.{NoMemory}
 use Rattle.sg_stores.specs.declared.kind.StoreKind.{StoreKind}
 use Rattle.sg_stores.specs.declared.kind.StoreKind.TheVariants.{Position, Buffer}
@@ -26,7 +25,6 @@ use Rattle.sg_stores.proofs.GetLemmas.{get-map}
 use Rattle.sg_stores.proofs.LookLemmas.{keeps}
 use Rattle.sg_stores.proofs.OpenLemmas.{refused-memory}
 use Rattle.sg_standing.specs.Sources.{begun_in}
-use Rattle.sg_standing.specs.States.{CoreState, setup_of}
 use Rattle.sg_standing.specs.declared.source.Source.{Source}
 use Rattle.sg_core.specs.Whole.{IsWhole}
 use Rattle.sg_offers.specs.Payloads.{buffers_of, buffer_at, AreSmall}

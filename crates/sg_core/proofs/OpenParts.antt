@@ -1,5 +1,5 @@
 -- The parts of a core at its opening.
-use Rattle.std.proofs.Common.{◌≡◌, ℕ, zero, suc, ◌+◌, ◌<◌, ◌≤◌, List, [], ◌∷◌, ◌++◌, length, map, drop, replicate, slice_get, slice_index_or, Some, None, Option, refl, sym, ap, ◌∙◌, arith, subst}
+use Rattle.std.proofs.Common.{◌≡◌, ℕ, zero, suc, ◌+◌, ◌<◌, List, [], ◌∷◌, ◌++◌, length, drop, replicate, slice_get, slice_index_or, Some, None, Option, refl, sym, ap, ◌∙◌, arith}
 use Rattle.std.specs.Option.{option_map}
 use Rattle.std.proofs.lemmas.List.{drop_all}
 use Rattle.sg_list.proofs.ListLemmas.{drop-get, some-same}
@@ -13,7 +13,7 @@ use Rattle.sg_sinks.specs.States.{SinkState, recovered}
 use Rattle.sg_stores.specs.Stores.{StoreState}
 use Rattle.sg_stores.specs.Positions.{IsThere}
 use Rattle.sg_stores.specs.declared.kind.StoreKind.{StoreKind}
-use Rattle.sg_stores.specs.declared.kind.StoreKind.TheVariants.{Position, Buffer}
+use Rattle.sg_stores.specs.declared.kind.StoreKind.TheVariants.{Position}
 use Rattle.sg_core.specs.Opening.{HaveWindows, AreThere, HaveStores, kind_by, kind_of, recovers, lengths_in, CanRecover, AreRecoverable}
 
 pub get-at : {A : Type 0} (xs : List A) (k : ℕ) (d : A) → k < length xs → slice_get xs k ≡ Some (slice_index_or xs k d)

@@ -1,44 +1,38 @@
 -- The state that a core begins at, over the stores that were opened.
-use Rattle.std.proofs.Common.{◌≡◌, ◌≢◌, ⊎_elim, ℕ, zero, suc, ◌+◌, ◌<◌, ◌≤◌, ◌^◌, List, [], ◌∷◌, ◌++◌, length, map, slice_get, Some, None, Option, refl, sym, ap, ◌∙◌, arith, subst, true, false, Bool, if◌then◌else◌}
+use Rattle.std.proofs.Common.{◌≡◌, ◌≢◌, ℕ, zero, suc, ◌+◌, ◌<◌, List, [], ◌∷◌, ◌++◌, length, map, slice_get, Some, None, Option, refl, sym, ap, ◌∙◌, arith, subst, true, false, Bool, if◌then◌else◌}
 use Rattle.std.specs.Prelude.{◌==◌, count_by}
 use Rattle.std.specs.Option.{option_map_or}
 use Rattle.std.proofs.lemmas.List.{append-nil, append_assoc}
 use Rattle.sg_list.proofs.ListLemmas.{some-same, slice_get-some, slice_get-below}
-use Rattle.sg_device.specs.Disk.{DiskState, content, clock, WhereTold, IsImage, EachNow}
+use Rattle.sg_device.specs.Disk.{DiskState, clock, IsImage}
 use Rattle.sg_stable.specs.Position.{IsPosition}
-use Rattle.sg_buffer.specs.Entries.{AreKept, IsListOf}
+use Rattle.sg_buffer.specs.Entries.{AreKept}
 use Rattle.sg_buffer.specs.Heads.{head_of}
 use Rattle.sg_buffer.specs.declared.found.Found.{Found}
 use Rattle.sg_buffer.specs.declared.found.Head.{Head}
 use Rattle.sg_queue.specs.declared.entry.Entry.{Entry as Waiting}
-use Rattle.sg_machine.specs.declared.event.Event.{Event}
 use Rattle.sg_machine.specs.declared.setup.BufferSetup.{BufferSetup}
 use Rattle.sg_machine.specs.declared.setup.SourceSetup.{SourceSetup}
 use Rattle.sg_machine.specs.declared.setup.DestSetup.{DestSetup}
 use Rattle.sg_machine.specs.declared.setup.Setup.{Setup}
-use Rattle.sg_machine.specs.declared.state.Entry.{Entry}
 use Rattle.sg_machine.specs.declared.state.Inlet.{Inlet}
 use Rattle.sg_machine.specs.declared.state.Dest.{Dest}
-use Rattle.sg_machine.specs.declared.state.State.{State}
-use Rattle.sg_machine.specs.Legal.{store_of}
 use Rattle.sg_machine.specs.Marks.{is_owed_to}
-use Rattle.sg_machine.specs.Running.{owed, is_split, are_split, ends_at, IsSound as IsReplayed}
+use Rattle.sg_machine.specs.Running.{owed, is_split, are_split}
 use Rattle.sg_machine.specs.Runs.{Kept, Opening, opened, opened_inlet, opened_inlets, opened_dest, opened_dests, recovered}
 use Rattle.sg_machine.specs.Safe.{spooled_of}
 use Rattle.sg_counter.specs.Bringing.{store_in}
-use Rattle.sg_sinks.specs.Fitting.{space}
 use Rattle.sg_sinks.specs.Laws.{is_listed_in}
 use Rattle.sg_sinks.specs.Standing.{IsSplit, is_split_by, lengths_of, waiting_from, blocks_of, sink_of}
 use Rattle.sg_sinks.specs.Standing.{are_split as are_parted}
 use Rattle.sg_sinks.specs.States.{SinkState, fresh_sink, recovered as recovered_sink}
-use Rattle.sg_stores.specs.Stores.{StoreState, BufferState, HoldsEntries, HasSize, coded, length_of}
+use Rattle.sg_stores.specs.Stores.{StoreState, HoldsEntries, HasSize, coded, length_of}
 use Rattle.sg_stores.specs.Positions.{position_of, stored_in}
 use Rattle.sg_stores.specs.Opening.{IsOpened, IsRecovered, IsOpenedAs, AreOpened}
 use Rattle.sg_stores.specs.declared.kind.StoreKind.{StoreKind}
 use Rattle.sg_stores.specs.declared.kind.StoreKind.TheVariants.{Position, Buffer}
 use Rattle.sg_standing.specs.States.{CoreState}
-use Rattle.sg_standing.specs.Standing.{source_of, sources_from, is_broken, sinks_of, IsPlaced, HoldsPosition, IsStored, AreStored, IsBuffer, IsBacked, AreBacked, setups_of, buffer_in, AreApart, AreSpellable, IsSound, IsAt, StandsFor}
-use Rattle.sg_standing.specs.declared.source.Source.{Source}
+use Rattle.sg_standing.specs.Standing.{sources_from, is_broken, IsPlaced, HoldsPosition, IsStored, AreStored, IsBacked, AreBacked, setups_of, buffer_in, AreSpellable, IsAt, StandsFor}
 use Rattle.sg_core.specs.Opening.{NumberStores, buffer_store_in, AreKinds, kind_by, kind_of, recovers, lengths_in, found_at, opened_source, opened_sink}
 
 -- Which store is of which kind.

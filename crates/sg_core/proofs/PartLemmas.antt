@@ -7,7 +7,7 @@ use Rattle.sg_list.proofs.ListLemmas.{some-same, get-change-same, slice_get-map,
 use Rattle.std.proofs.lemmas.List.{length-map, append-nil, map-append}
 use Rattle.sg_queue.specs.declared.entry.Entry.{Entry}
 use Rattle.sg_machine.specs.declared.setup.BufferSetup.{BufferSetup}
-use Rattle.sg_machine.proofs.MoveLemmas.{change-twice, change-agree, change-self}
+use Rattle.sg_machine.proofs.MoveLemmas.{change-twice, change-agree}
 use Rattle.sg_offers.specs.Rooms.{seen_in}
 use Rattle.sg_msg.specs.Length.{encoded_len}
 use Rattle.sg_sinks.specs.Fitting.{space, has_space}

@@ -1,9 +1,9 @@
 -- Calls that write a position.
-use Rattle.std.proofs.Common.{◌≡◌, ◌≢◌, ℕ, ◌+◌, List, [], ◌∷◌, ◌++◌, length, Some, Option, Bool, true, false, refl, sym, ap, ◌∙◌, arith, suc, zero, slice_get, subst, inl, inr, if◌then◌else◌, map}
-use Rattle.std.specs.Prelude.{◌==◌, option_and_then, option_to_list}
+use Rattle.std.proofs.Common.{◌≡◌, ◌≢◌, ℕ, ◌+◌, List, [], ◌∷◌, ◌++◌, length, Some, Option, Bool, true, false, refl, sym, ap, ◌∙◌, arith, suc, slice_get, subst, inl, inr, if◌then◌else◌, map}
+use Rattle.std.specs.Prelude.{◌==◌, option_to_list}
 use Rattle.std.specs.Option.{option_map}
 use Rattle.sg_list.specs.Lists.{change}
-use Rattle.sg_list.proofs.ListLemmas.{some-same, get-change-same, get-change-other}
+use Rattle.sg_list.proofs.ListLemmas.{get-change-same}
 use Rattle.sg_device.specs.Disk.{Within}
 use Rattle.sg_machine.specs.declared.event.Act.{Act}
 use Rattle.sg_machine.specs.declared.event.Act.TheVariants.{Store, Rewind, Look}

@@ -1,12 +1,10 @@
 -- Positions that are written, and writes that fail, on a state and on what a core keeps of it.
-use Rattle.std.proofs.Common.{◌≡◌, ◌≢◌, ℕ, ◌+◌, ◌≤◌, List, [], ◌∷◌, ◌++◌, length, Some, None, Option, Bool, true, false, not, ◌&&◌, ◌||◌, refl, sym, ap, ◌∙◌, arith, suc, zero, slice_get, subst, inl, inr, if◌then◌else◌, map}
-use Rattle.std.specs.Prelude.{◌==◌, option_and_then, option_to_list}
+use Rattle.std.proofs.Common.{◌≡◌, ◌≢◌, ℕ, ◌+◌, ◌≤◌, List, [], ◌∷◌, ◌++◌, length, Some, None, Option, Bool, true, false, not, refl, sym, ap, ◌∙◌, arith, suc, zero, slice_get, subst, inl, inr, if◌then◌else◌, map}
+use Rattle.std.specs.Prelude.{◌==◌}
 use Rattle.std.proofs.lemmas.Bool.{cases_eq}
 use Rattle.std.proofs.lemmas.List.{append-nil}
 use Rattle.sg_list.specs.Lists.{change, passes_at}
-use Rattle.sg_list.proofs.ListLemmas.{some-same, get-change-same, get-change-other, length-change}
-use Rattle.sg_device.specs.Disk.{EachNow}
-use Rattle.sg_stable.specs.Position.{IsPosition}
+use Rattle.sg_list.proofs.ListLemmas.{some-same, get-change-same}
 use Rattle.sg_window.specs.Window.{outstanding as waiting_of, mark_from}
 use Rattle.sg_window.specs.declared.tracker.Record.{Record}
 use Rattle.sg_window.proofs.WindowLemmas.{outstanding-length}
@@ -18,9 +16,9 @@ use Rattle.sg_machine.specs.declared.state.Dest.{Dest}
 use Rattle.sg_machine.specs.declared.state.State.{State}
 use Rattle.sg_machine.specs.Verdicts.{is_listed}
 use Rattle.sg_machine.specs.Marks.{mark, mark_of}
-use Rattle.sg_machine.specs.Legal.{is_this, works, is_nil, may_store, may_rewind, is_legal_act}
+use Rattle.sg_machine.specs.Legal.{works, is_nil, may_store, may_rewind, is_legal_act}
 use Rattle.sg_machine.specs.Effects.{stored_at, rewound, after_act}
-use Rattle.sg_machine.specs.Running.{IsSound as IsReplayed, records_from, ends_at, owed}
+use Rattle.sg_machine.specs.Running.{records_from, ends_at, owed}
 use Rattle.sg_machine.proofs.OwedLemmas.{records-length}
 use Rattle.sg_machine.proofs.StepLemmas.{mark-same}
 use Rattle.sg_sinks.specs.Laws.{is_listed_in}
@@ -28,8 +26,7 @@ use Rattle.sg_sinks.specs.Standing.{sink_of}
 use Rattle.sg_stores.specs.Stores.{StoreState}
 use Rattle.sg_standing.specs.States.{CoreState}
 use Rattle.sg_standing.specs.Sources.{mark_at, anew}
-use Rattle.sg_standing.specs.Standing.{is_broken, source_of, sources_from, setups_of, IsPlaced, HoldsPosition, IsStored, AreStored, AreBacked, IsSound, IsAt, AreApart}
-use Rattle.sg_counter.specs.Bringing.{store_in}
+use Rattle.sg_standing.specs.Standing.{is_broken, source_of, sources_from, IsPlaced, HoldsPosition, IsStored, AreStored, AreBacked, IsSound, IsAt, AreApart}
 use Rattle.sg_standing.specs.declared.source.Source.{Source}
 use Rattle.sg_standing.proofs.Calls.{apart-both, apart-inlets}
 use Rattle.sg_standing.proofs.ListSteps.{map-kept, get-change}

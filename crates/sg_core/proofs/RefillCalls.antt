@@ -1,10 +1,9 @@
 -- A refill is one event.
-use Rattle.std.proofs.Common.{◌≡◌, ◌≢◌, ℕ, ◌+◌, ◌-◌, ◌<◌, ◌≤◌, ◌^◌, List, [], ◌∷◌, ◌++◌, length, take, drop, Some, None, Option, Bool, true, false, not, ◌&&◌, refl, sym, ap, ◌∙◌, arith, suc, zero, map, slice_get, subst, ◌⊎◌, inl, inr, min, if◌then◌else◌}
+use Rattle.std.proofs.Common.{◌≡◌, ℕ, ◌+◌, ◌-◌, ◌<◌, ◌≤◌, ◌^◌, List, [], ◌∷◌, ◌++◌, length, take, drop, Some, Option, Bool, true, false, refl, sym, ap, ◌∙◌, arith, suc, zero, map, slice_get, subst, inr, min, if◌then◌else◌}
 use Rattle.std.specs.Prelude.{◌==◌, nat_lt, nat_le}
 use Rattle.std.specs.Option.{option_map_or}
-use Rattle.std.proofs.lemmas.List.{append-nil, length-map}
-use Rattle.sg_list.specs.Lists.{change, passes_at}
-use Rattle.sg_list.proofs.ListLemmas.{some-same, get-change-same}
+use Rattle.std.proofs.lemmas.List.{append-nil}
+use Rattle.sg_list.specs.Lists.{change}
 use Rattle.sg_msg.specs.Length.{encoded_len}
 use Rattle.sg_device.specs.Disk.{Within}
 use Rattle.sg_queue.specs.declared.entry.Entry.{Entry as Waiting}
@@ -15,20 +14,20 @@ use Rattle.sg_machine.specs.declared.setup.BufferSetup.{BufferSetup}
 use Rattle.sg_machine.specs.declared.state.Dest.{Dest}
 use Rattle.sg_machine.specs.declared.state.Entry.{Entry}
 use Rattle.sg_machine.specs.declared.state.State.{State}
-use Rattle.sg_machine.specs.Effects.{refilled_some, spool_first, spool_some, after_act}
+use Rattle.sg_machine.specs.Effects.{refilled_some, spool_first, spool_some}
 use Rattle.sg_machine.specs.Legal.{is_legal_act, works, may_refill, fit_in_turn, store_of}
 use Rattle.sg_machine.specs.Runs.{Kept, after_all, are_legal}
-use Rattle.sg_machine.specs.Safe.{IsSafeList, appends, settled_by, failed_entries, spooled_of, waiting, has_failed, tried_by}
+use Rattle.sg_machine.specs.Safe.{IsSafeList, appends, settled_by, failed_entries, spooled_of, waiting, has_failed}
 use Rattle.sg_machine.specs.Verdicts.{is_listed}
 use Rattle.sg_machine.proofs.MoveLemmas.{move-some}
 use Rattle.sg_sinks.specs.Fitting.{space}
-use Rattle.sg_sinks.specs.Standing.{IsSplit, are_split, lengths_of, waiting_from, sink_of, blocks_of}
+use Rattle.sg_sinks.specs.Standing.{are_split, lengths_of, waiting_from, sink_of, blocks_of}
 use Rattle.sg_sinks.specs.States.{SinkState, with_broken}
 use Rattle.sg_stores.specs.Appending.{IsListWithSome, IsAppended}
 use Rattle.sg_stores.specs.Stores.{StoreState, HasSize, HoldsEntries, length_of}
 use Rattle.sg_standing.specs.Sources.{acks_all}
 use Rattle.sg_standing.specs.States.{CoreState}
-use Rattle.sg_standing.specs.Standing.{IsAt, AreSpellable, IsBuffer, IsSafeStore, StandsFor, Does, is_broken, sources_from, failed_then}
+use Rattle.sg_standing.specs.Standing.{IsAt, AreSpellable, IsBuffer, IsSafeStore, Does, is_broken, sources_from, failed_then}
 use Rattle.sg_standing.specs.declared.source.Source.{Source}
 use Rattle.sg_standing.proofs.Calls.{does-of, all-go-touched, risen-none, risen-touched, positions-buffer, lists-buffer}
 use Rattle.sg_standing.proofs.ListSteps.{map-kept}
@@ -40,11 +39,9 @@ use Rattle.sg_core.specs.Steps.{AreNext, AppendsAt}
 use Rattle.sg_core.specs.Whole.{IsWhole}
 use Rattle.sg_core.proofs.AtSteps.{look-dest, listed-last, listed-other, setup-parts}
 use Rattle.sg_core.proofs.DestSteps.{at-dest, dest-of, leaves-one, broken-listed}
-use Rattle.sg_core.proofs.Fits.{left-length}
 use Rattle.sg_core.proofs.FrontCalls.{look-at}
 use Rattle.sg_core.proofs.RefillSteps.{moves-sink, moves-acks, are-next}
 use Rattle.sg_core.proofs.SettleCalls.{IsWorking, working, buffer-of, any-split, failed-buffer, acks-setup, not-true, not-false}
-use Rattle.sg_core.proofs.SettleSteps.{AcksAll, with_dests}
 use Rattle.sg_core.proofs.Waits.{spooled-some, waits-length, waits-lengths}
 
 -- what the parts of a refill did

@@ -1,20 +1,20 @@
 -- Entries that wait and go to the disk, on a state and on what a core keeps of it.
-use Rattle.std.proofs.Common.{◌≡◌, ◌≢◌, ℕ, ◌+◌, ◌-◌, ◌<◌, ◌≤◌, ◌^◌, List, [], ◌∷◌, ◌++◌, length, take, drop, Some, None, Option, Bool, true, false, not, ◌&&◌, refl, sym, ap, ◌∙◌, arith, suc, zero, map, slice_get, subst, append_assoc, if◌then◌else◌}
-use Rattle.std.specs.Prelude.{is_some, nat_le, IsSome}
+use Rattle.std.proofs.Common.{◌≡◌, ℕ, ◌+◌, ◌-◌, ◌≤◌, ◌^◌, List, [], ◌∷◌, ◌++◌, length, take, drop, Some, Option, Bool, true, false, ◌&&◌, refl, sym, ap, ◌∙◌, arith, suc, zero, map, slice_get, subst, append_assoc}
+use Rattle.std.specs.Prelude.{nat_le, IsSome}
 use Rattle.std.proofs.lemmas.Bool.{leb-true}
 use Rattle.std.proofs.lemmas.List.{append-nil, map-append}
 use Rattle.std.specs.Option.{option_map_or}
 use Rattle.sg_list.specs.Lists.{change}
-use Rattle.sg_list.proofs.ListLemmas.{some-same, get-change-same}
+use Rattle.sg_list.proofs.ListLemmas.{get-change-same}
 use Rattle.sg_msg.specs.Length.{encoded_len}
-use Rattle.sg_codec.specs.Spelling.{spelling2, IsKept}
+use Rattle.sg_codec.specs.Spelling.{spelling2}
 use Rattle.sg_queue.specs.declared.entry.Entry.{Entry as Waiting}
 use Rattle.sg_machine.specs.declared.setup.BufferSetup.{BufferSetup}
 use Rattle.sg_machine.specs.declared.state.Dest.{Dest}
 use Rattle.sg_machine.specs.declared.state.Entry.{Entry}
 use Rattle.sg_machine.specs.declared.state.State.{State}
 use Rattle.sg_machine.specs.Counts.{as_kept}
-use Rattle.sg_machine.specs.Effects.{spool_first, spool_some, refilled_some}
+use Rattle.sg_machine.specs.Effects.{spool_first, refilled_some}
 use Rattle.sg_machine.specs.Legal.{first_fits, fit_in_turn}
 use Rattle.sg_machine.specs.Running.{IsSound as IsReplayed}
 use Rattle.sg_machine.specs.Runs.{Kept}
@@ -29,15 +29,15 @@ use Rattle.sg_sinks.specs.Standing.{IsSplit, are_split, kept_of, blocks_of, wait
 use Rattle.sg_sinks.specs.States.{SinkState}
 use Rattle.sg_sinks.proofs.MoveSteps.{moving, split-first}
 use Rattle.sg_stores.specs.Appending.{IsNext}
-use Rattle.sg_stores.specs.Stores.{StoreState, HasSize, coded, length_of}
-use Rattle.sg_standing.specs.Sources.{acks, acks_all}
+use Rattle.sg_stores.specs.Stores.{StoreState, HasSize, length_of}
+use Rattle.sg_standing.specs.Sources.{acks_all}
 use Rattle.sg_standing.specs.Standing.{AreSpellable, sources_from}
 use Rattle.sg_standing.specs.declared.source.Source.{Source}
 use Rattle.sg_core.specs.Parts.{FitSome, CanAckAll, moved_some}
 use Rattle.sg_core.specs.Steps.{AreNext}
 use Rattle.sg_core.proofs.PartLemmas.{space-pushed}
 use Rattle.sg_core.proofs.SettleSteps.{AcksAll, with_dests}
-use Rattle.sg_core.proofs.Waits.{FirstWaits, first-waiting}
+use Rattle.sg_core.proofs.Waits.{first-waiting}
 use Rattle.sg_core.proofs.WindowSteps.{acks-one}
 
 -- What is kept of the destination.

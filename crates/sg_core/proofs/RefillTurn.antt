@@ -1,5 +1,5 @@
 -- A refill, from what its parts did.
-use Rattle.std.proofs.Common.{◌≡◌, ◌≢◌, ℕ, ◌+◌, ◌<◌, ◌≤◌, ◌^◌, List, [], ◌∷◌, length, take, map, Some, None, Option, Bool, true, false, refl, sym, ap, ◌∙◌, arith, suc, zero, slice_get, subst}
+use Rattle.std.proofs.Common.{◌≡◌, ◌≢◌, ℕ, ◌+◌, ◌<◌, ◌≤◌, ◌^◌, List, [], ◌∷◌, length, take, Some, None, Option, refl, sym, ap, ◌∙◌, arith, suc, zero, slice_get, subst}
 use Rattle.std.specs.Prelude.{option_and_then}
 use Rattle.sg_list.specs.Lists.{change}
 use Rattle.sg_list.proofs.ListLemmas.{get-change-same, slice_get-map, slice_get-below}
@@ -9,16 +9,14 @@ use Rattle.sg_machine.specs.declared.setup.BufferSetup.{BufferSetup}
 use Rattle.sg_machine.specs.declared.state.State.{State}
 use Rattle.sg_offers.specs.Payloads.{buffers_of}
 use Rattle.sg_sinks.specs.Fitting.{space}
-use Rattle.sg_sinks.specs.States.{SinkState, with_broken}
-use Rattle.sg_sinks.specs.Trials.{refill_of}
-use Rattle.sg_stores.specs.Stores.{StoreState}
+use Rattle.sg_sinks.specs.States.{SinkState}
 use Rattle.sg_counter.specs.declared.answers.Refill.{Refill}
-use Rattle.sg_counter.specs.declared.answers.Refill.TheVariants.{Moved, NoneWaits, NoRoom, Broken}
+use Rattle.sg_counter.specs.declared.answers.Refill.TheVariants.{NoneWaits}
 use Rattle.sg_standing.specs.States.{CoreState}
 use Rattle.sg_standing.specs.Standing.{IsAt}
 use Rattle.sg_standing.specs.declared.source.Source.{Source}
-use Rattle.sg_core.specs.Answers.{RefillsBy, RefillsAt, buffer_at, fitting}
-use Rattle.sg_core.specs.Parts.{CanAckAll, CanMove, FitSome, entries_at, moved_some}
+use Rattle.sg_core.specs.Answers.{RefillsBy, RefillsAt, buffer_at}
+use Rattle.sg_core.specs.Parts.{CanAckAll, CanMove, FitSome, entries_at}
 use Rattle.sg_core.specs.Whole.{IsWhole}
 use Rattle.sg_core.proofs.DestSteps.{dest-of}
 use Rattle.sg_core.proofs.SettleCalls.{buffer-of}

@@ -1,49 +1,48 @@
 -- A settle is one event.
-use Rattle.std.proofs.Common.{◌≡◌, ◌≢◌, ℕ, ◌+◌, ◌-◌, ◌<◌, ◌≤◌, List, [], ◌∷◌, ◌++◌, length, take, drop, Some, None, Option, Bool, true, false, not, ◌&&◌, refl, sym, ap, ◌∙◌, arith, suc, zero, map, slice_get, subst, ◌⊎◌, inl, inr, min, if◌then◌else◌}
+use Rattle.std.proofs.Common.{◌≡◌, ℕ, ◌+◌, ◌-◌, ◌<◌, ◌≤◌, List, [], ◌∷◌, ◌++◌, length, take, drop, Some, None, Option, Bool, true, false, not, refl, sym, ap, ◌∙◌, arith, suc, zero, map, slice_get, subst, ◌⊎◌, inl, inr, min, if◌then◌else◌}
 use Rattle.std.specs.Prelude.{◌==◌, nat_lt, nat_le}
 use Rattle.std.proofs.lemmas.List.{append-nil, length-map}
-use Rattle.sg_list.specs.Lists.{change, passes_at}
-use Rattle.sg_list.proofs.ListLemmas.{some-same, get-change-same}
+use Rattle.sg_list.specs.Lists.{change}
+use Rattle.sg_list.proofs.ListLemmas.{get-change-same}
 use Rattle.sg_device.specs.Disk.{Within}
 use Rattle.sg_queue.specs.declared.entry.Entry.{Entry as Waiting}
 use Rattle.sg_machine.specs.declared.event.Act.{Act}
 use Rattle.sg_machine.specs.declared.event.Act.TheVariants.{Settle}
 use Rattle.sg_machine.specs.declared.event.Event.{Event}
 use Rattle.sg_machine.specs.declared.setup.BufferSetup.{BufferSetup}
-use Rattle.sg_machine.specs.declared.setup.DestSetup.{DestSetup}
 use Rattle.sg_machine.specs.declared.state.Dest.{Dest}
 use Rattle.sg_machine.specs.declared.state.Entry.{Entry}
 use Rattle.sg_machine.specs.declared.state.State.{State}
-use Rattle.sg_machine.specs.Effects.{settled_some, after_act}
-use Rattle.sg_machine.specs.Legal.{is_legal_act, is_this, works, at_most_this, may_settle, store_of}
+use Rattle.sg_machine.specs.Effects.{settled_some}
+use Rattle.sg_machine.specs.Legal.{is_legal_act, works, at_most_this, may_settle, store_of}
 use Rattle.sg_machine.specs.Runs.{Kept, after_all}
 use Rattle.sg_machine.specs.Safe.{failed_entries, spooled_of}
 use Rattle.sg_machine.specs.Verdicts.{is_listed}
 use Rattle.sg_machine.proofs.MoveLemmas.{settle-some, change-twice, change-self}
 use Rattle.sg_sinks.specs.Fitting.{space}
-use Rattle.sg_sinks.specs.Laws.{is_listed_in, Settling}
+use Rattle.sg_sinks.specs.Laws.{Settling}
 use Rattle.sg_sinks.specs.Settling.{settled_first}
-use Rattle.sg_sinks.specs.Standing.{IsSplit, are_split, is_split_by, lengths_of, waiting_from, sink_of}
+use Rattle.sg_sinks.specs.Standing.{are_split, is_split_by, lengths_of, waiting_from, sink_of}
 use Rattle.sg_sinks.specs.States.{SinkState, with_broken}
 use Rattle.sg_sinks.proofs.LeftLemmas.{waiting-split}
 use Rattle.sg_sinks.proofs.SettleSteps.{lengths-drop, settling}
 use Rattle.sg_stores.specs.Advancing.{IsListOrRest, Advances, AdvancesAt}
 use Rattle.sg_stores.specs.Stores.{StoreState, HasSize, HoldsEntries, length_of}
 use Rattle.sg_standing.specs.Sources.{acked_at, acks, acks_all}
-use Rattle.sg_standing.specs.States.{CoreState, setup_of}
-use Rattle.sg_standing.specs.Standing.{IsAt, AreSpellable, IsBuffer, IsBacked, IsSafeStore, StandsFor, Does, is_broken, sources_from, failed_then}
+use Rattle.sg_standing.specs.States.{CoreState}
+use Rattle.sg_standing.specs.Standing.{IsAt, AreSpellable, IsBuffer, IsBacked, IsSafeStore, Does, is_broken, sources_from, failed_then}
 use Rattle.sg_standing.specs.declared.source.Source.{Source}
-use Rattle.sg_standing.proofs.Calls.{does-of, quiet, all-go-touched, all-go-same, risen-none, risen-touched, positions-buffer, lists-buffer}
+use Rattle.sg_standing.proofs.Calls.{does-of, quiet, all-go-touched, risen-none, risen-touched, positions-buffer, lists-buffer}
 use Rattle.sg_standing.proofs.ListSteps.{map-kept}
 use Rattle.sg_standing.proofs.More.{backed, within-map}
 use Rattle.sg_standing.proofs.Safes.{safe-same}
 use Rattle.sg_core.specs.Parts.{CanAckAll}
-use Rattle.sg_core.specs.Steps.{TakesOff, Advancing}
+use Rattle.sg_core.specs.Steps.{TakesOff}
 use Rattle.sg_core.specs.Whole.{IsWhole}
 use Rattle.sg_core.proofs.AtSteps.{setup-parts, listed-last, listed-other}
-use Rattle.sg_core.proofs.DestSteps.{Leaves, IsShown, at-dest, dest-of, leaves-same, leaves-one, broken-listed}
+use Rattle.sg_core.proofs.DestSteps.{at-dest, dest-of, leaves-same, leaves-one, broken-listed}
 use Rattle.sg_core.proofs.Fits.{left-length}
-use Rattle.sg_core.proofs.SettleSteps.{AcksAll, settles-all, with_dests}
+use Rattle.sg_core.proofs.SettleSteps.{settles-all}
 use Rattle.sg_core.proofs.Spooled.{lengths-spooled, spooled-drop, safe-dropped}
 
 pub any-split : (o : Option BufferSetup) (left : List Entry) → is_split_by o left ≡ true → are_split left ≡ true

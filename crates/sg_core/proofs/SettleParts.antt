@@ -1,5 +1,5 @@
 -- The steps of a settle.
-use Rattle.std.proofs.Common.{◌≡◌, ◌≢◌, ℕ, ◌+◌, ◌-◌, ◌<◌, ◌≤◌, List, [], ◌∷◌, ◌++◌, length, take, drop, Some, None, Option, Bool, true, false, ◌&&◌, not, refl, sym, ap, ◌∙◌, arith, suc, zero, map, slice_get, subst, set, inl, inr, min, if◌then◌else◌}
+use Rattle.std.proofs.Common.{◌≡◌, ℕ, ◌+◌, ◌-◌, ◌<◌, ◌≤◌, List, [], ◌∷◌, length, take, drop, Some, None, Option, Bool, true, false, refl, sym, ap, ◌∙◌, arith, suc, zero, map, slice_get, subst, set, min}
 use Rattle.std.specs.Prelude.{◌==◌, nat_le, option_and_then}
 use Rattle.std.specs.Option.{option_map_or}
 use Rattle.std.proofs.lemmas.List.{length-map}
@@ -8,27 +8,24 @@ use Rattle.sg_list.proofs.ListLemmas.{some-same, get-change-same, slice_get-map,
 use Rattle.sg_queue.specs.declared.entry.Entry.{Entry as Waiting}
 use Rattle.sg_machine.specs.declared.setup.BufferSetup.{BufferSetup}
 use Rattle.sg_machine.specs.declared.state.State.{State}
-use Rattle.sg_machine.specs.Runs.{Kept}
 use Rattle.sg_machine.specs.Safe.{spooled_of}
-use Rattle.sg_machine.specs.Verdicts.{is_listed}
 use Rattle.sg_machine.proofs.MoveLemmas.{change-twice, change-agree}
 use Rattle.sg_machine.proofs.RunLemmas.{both-true}
 use Rattle.sg_offers.specs.Rooms.{seen_in}
 use Rattle.sg_sinks.specs.Fitting.{space}
 use Rattle.sg_sinks.specs.Laws.{is_listed_in}
 use Rattle.sg_sinks.specs.Settling.{settled_spooled, settled_first}
-use Rattle.sg_sinks.specs.Standing.{lengths_of, sink_of}
 use Rattle.sg_sinks.specs.States.{SinkState, Sunk, with_broken}
 use Rattle.sg_stores.specs.Advancing.{CanAdvance, HasFirst}
-use Rattle.sg_stores.specs.Stores.{StoreState, HasSize, HoldsEntries, length_of}
+use Rattle.sg_stores.specs.Stores.{StoreState, HasSize, length_of}
 use Rattle.sg_standing.specs.States.{CoreState}
-use Rattle.sg_standing.specs.Standing.{IsAt, IsBacked, is_broken}
+use Rattle.sg_standing.specs.Standing.{IsAt}
 use Rattle.sg_core.specs.Answers.{can_settle, can_settle_at, broken_at, buffer_at}
 use Rattle.sg_core.specs.Parts.{HasWaiting, HasLeft, CanAckAll, entries_at, settling_at, lengths_at, settled_waiting_some}
 use Rattle.sg_core.specs.Steps.{CanTakeOff, TakesOff}
-use Rattle.sg_core.proofs.DestSteps.{dest-of, broken-listed}
+use Rattle.sg_core.proofs.DestSteps.{dest-of}
 use Rattle.sg_core.proofs.PartLemmas.{seen-written}
-use Rattle.sg_core.proofs.SettleCalls.{IsWorking, working, buffer-of, drop-min, take-min, settles-at}
+use Rattle.sg_core.proofs.SettleCalls.{working, buffer-of, drop-min, take-min, settles-at}
 use Rattle.sg_core.proofs.Spooled.{lengths-spooled}
 
 -- Those on the disk, then those that wait.

@@ -1,9 +1,9 @@
 -- Entries that are settled, on a state and on what a core keeps of it.
-use Rattle.std.proofs.Common.{◌≡◌, ◌≢◌, ℕ, ◌+◌, ◌-◌, ◌<◌, ◌≤◌, List, [], ◌∷◌, ◌++◌, length, take, drop, Some, None, Option, Bool, true, false, not, ◌&&◌, refl, sym, ap, ◌∙◌, arith, suc, zero, map, slice_get, subst, inl, inr, append_assoc, if◌then◌else◌}
-use Rattle.std.specs.Prelude.{is_some, ◌==◌}
+use Rattle.std.proofs.Common.{◌≡◌, ℕ, ◌+◌, ◌-◌, ◌≤◌, List, [], ◌∷◌, length, take, drop, Some, Bool, true, false, refl, sym, ap, ◌∙◌, arith, suc, zero, slice_get, subst, append_assoc, if◌then◌else◌}
+use Rattle.std.specs.Prelude.{is_some}
 use Rattle.std.proofs.lemmas.List.{append-nil}
 use Rattle.sg_list.specs.Lists.{change}
-use Rattle.sg_list.proofs.ListLemmas.{some-same, get-change-same}
+use Rattle.sg_list.proofs.ListLemmas.{get-change-same}
 use Rattle.sg_queue.specs.declared.entry.Entry.{Entry as Waiting}
 use Rattle.sg_machine.specs.declared.state.Dest.{Dest}
 use Rattle.sg_machine.specs.declared.state.Entry.{Entry}
@@ -13,8 +13,8 @@ use Rattle.sg_machine.specs.Running.{IsSound as IsReplayed}
 use Rattle.sg_machine.proofs.MoveLemmas.{settle-some, change-twice, change-agree, change-self}
 use Rattle.sg_machine.proofs.SplitLemmas.{settle-lessens}
 use Rattle.sg_sinks.specs.Standing.{are_split, are_waiting, lengths_of, waiting_from, waiting_at}
-use Rattle.sg_sinks.proofs.LeftLemmas.{waiting-split, waiting-lengths, first-waits, rest-waits}
-use Rattle.sg_standing.specs.Sources.{acks, acks_all}
+use Rattle.sg_sinks.proofs.LeftLemmas.{waiting-split, waiting-lengths, rest-waits}
+use Rattle.sg_standing.specs.Sources.{acks_all}
 use Rattle.sg_standing.specs.Standing.{sources_from}
 use Rattle.sg_standing.specs.declared.source.Source.{Source}
 use Rattle.sg_core.specs.Parts.{CanAckAll}

@@ -1,13 +1,8 @@
 -- A settle, from what its parts did.
-use Rattle.std.proofs.Common.{◌≡◌, ◌≢◌, ℕ, ◌+◌, ◌-◌, ◌<◌, ◌≤◌, List, length, take, Some, None, Option, Bool, true, false, refl, sym, ap, ◌∙◌, slice_get, subst, min}
-use Rattle.sg_list.specs.Lists.{change}
+use Rattle.std.proofs.Common.{◌≡◌, ℕ, ◌+◌, ◌-◌, ◌<◌, length, take, Some, None, Bool, true, false, refl, ap, ◌∙◌, slice_get, min}
 use Rattle.sg_machine.specs.declared.event.Act.TheVariants.{Settle}
-use Rattle.sg_machine.specs.declared.setup.BufferSetup.{BufferSetup}
-use Rattle.sg_offers.specs.Rooms.{seen_in}
 use Rattle.sg_sinks.specs.Fitting.{space}
-use Rattle.sg_sinks.specs.Settling.{settled_first}
-use Rattle.sg_sinks.specs.States.{SinkState, Sunk, with_broken}
-use Rattle.sg_stores.specs.Stores.{StoreState}
+use Rattle.sg_sinks.specs.States.{SinkState}
 use Rattle.sg_standing.specs.Sources.{acks_all}
 use Rattle.sg_standing.specs.States.{CoreState}
 use Rattle.sg_standing.specs.Standing.{Does}

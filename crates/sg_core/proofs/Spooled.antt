@@ -1,17 +1,16 @@
 -- The entries on a disk among those that are left.
-use Rattle.std.proofs.Common.{◌≡◌, ℕ, ◌+◌, ◌-◌, ◌≤◌, List, [], ◌∷◌, ◌++◌, length, take, drop, Bool, true, false, if◌then◌else◌, refl, sym, ap, ◌∙◌, arith, suc, zero, map, filter, subst, min}
+use Rattle.std.proofs.Common.{◌≡◌, ℕ, ◌+◌, ◌-◌, ◌≤◌, List, [], ◌∷◌, ◌++◌, length, take, drop, Bool, true, false, if◌then◌else◌, refl, sym, ap, ◌∙◌, arith, suc, zero, map, subst, min}
 use Rattle.std.specs.Prelude.{◌==◌}
 use Rattle.std.proofs.lemmas.List.{append-nil, length-append}
 use Rattle.sg_msg.specs.Length.{encoded_len}
-use Rattle.sg_machine.specs.declared.event.Act.{Act}
 use Rattle.sg_machine.specs.declared.event.Act.TheVariants.{Settle}
 use Rattle.sg_machine.specs.declared.state.Dest.{Dest}
 use Rattle.sg_machine.specs.declared.state.Entry.{Entry}
-use Rattle.sg_machine.specs.Counts.{as_kept, is_spooled}
+use Rattle.sg_machine.specs.Counts.{as_kept}
 use Rattle.sg_machine.specs.Runs.{Kept}
-use Rattle.sg_machine.specs.Safe.{IsSafeList, spooled_of, settled_by, is_settle}
+use Rattle.sg_machine.specs.Safe.{IsSafeList, spooled_of}
 use Rattle.sg_sinks.specs.Standing.{are_split, are_waiting, lengths_of}
-use Rattle.sg_sinks.proofs.LeftLemmas.{first-waits, rest-waits, waiting-split}
+use Rattle.sg_sinks.proofs.LeftLemmas.{first-waits, rest-waits}
 use Rattle.sg_sinks.proofs.SettleSteps.{drop-waiting}
 use Rattle.sg_stores.specs.Stores.{length_of}
 use Rattle.sg_standing.proofs.Safes.{spooled-append, spooled-left}

@@ -1,5 +1,5 @@
 -- Entries that wait for a disk-buffer.
-use Rattle.std.proofs.Common.{◌≡◌, ℕ, ◌+◌, ◌<◌, ◌≤◌, List, [], ◌∷◌, ◌++◌, length, take, drop, Some, None, Option, Bool, true, false, not, if◌then◌else◌, refl, sym, ap, ◌∙◌, arith, suc, zero, map, filter, slice_get, subst, append_assoc}
+use Rattle.std.proofs.Common.{◌≡◌, ℕ, ◌+◌, ◌<◌, ◌≤◌, List, [], ◌∷◌, ◌++◌, length, take, Some, Bool, true, false, if◌then◌else◌, refl, sym, ap, ◌∙◌, arith, suc, zero, map, slice_get, subst, append_assoc}
 use Rattle.std.specs.Prelude.{is_some}
 use Rattle.std.proofs.lemmas.List.{append-nil}
 use Rattle.sg_msg.specs.Length.{encoded_len}
@@ -8,13 +8,12 @@ use Rattle.sg_machine.specs.declared.state.Entry.{Entry}
 use Rattle.sg_machine.specs.Counts.{as_kept}
 use Rattle.sg_machine.specs.Effects.{spool_first, spool_some}
 use Rattle.sg_machine.specs.Running.{spooled_in}
-use Rattle.sg_machine.specs.Runs.{Kept}
 use Rattle.sg_machine.specs.Safe.{spooled_of, waiting}
 use Rattle.sg_sinks.specs.Standing.{are_split, are_waiting, waiting_from, waiting_at}
 use Rattle.sg_sinks.proofs.LeftLemmas.{first-waits, rest-waits}
-use Rattle.sg_sinks.proofs.MoveSteps.{entries-first, split-first}
+use Rattle.sg_sinks.proofs.MoveSteps.{split-first}
 use Rattle.sg_stores.specs.Stores.{length_of}
-use Rattle.sg_core.proofs.SettleSteps.{split-by, spooled-rest}
+use Rattle.sg_core.proofs.SettleSteps.{split-by}
 use Rattle.sg_core.proofs.Spooled.{spooled-cons, waiting-none}
 
 waiting-cons : (b : Bool) (e : Entry) (es : List Entry) → e.spooled ≡ b → waiting (e ∷ es) ≡ (if b then waiting es else as_kept e ∷ waiting es)

@@ -7,7 +7,7 @@ use Rattle.sg_machine.specs.declared.setup.Setup.{Setup}
 use Rattle.sg_machine.specs.Effects.{after_act}
 use Rattle.sg_sinks.specs.States.{SinkState}
 use Rattle.sg_offers.specs.Payloads.{buffers_of, AreSmall}
-use Rattle.sg_standing.specs.States.{CoreState, setup_of}
+use Rattle.sg_standing.specs.States.{CoreState}
 use Rattle.sg_standing.specs.Standing.{Does}
 use Rattle.sg_core.specs.Whole.{IsWhole}
 

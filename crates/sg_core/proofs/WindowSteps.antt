@@ -1,7 +1,6 @@
 -- The sources of a core, once an entry that its records wait for is settled or stands on the disk.
-use Rattle.std.proofs.Common.{◌≡◌, ◌≢◌, ℕ, ◌+◌, ◌-◌, ◌<◌, ◌≤◌, List, [], ◌∷◌, length, Some, None, Option, Bool, true, false, ◌&&◌, refl, sym, ap, ◌∙◌, arith, suc, zero, slice_get, count_by, subst, inl, inr}
+use Rattle.std.proofs.Common.{◌≡◌, ◌≢◌, ℕ, ◌+◌, ◌-◌, ◌<◌, ◌≤◌, List, [], ◌∷◌, length, Some, None, Option, Bool, true, false, ◌&&◌, refl, sym, ap, ◌∙◌, arith, suc, zero, slice_get}
 use Rattle.std.specs.Prelude.{◌==◌, is_some, unwrap_or}
-use Rattle.std.proofs.lemmas.Bool.{cases_lt}
 use Rattle.sg_list.specs.Lists.{change}
 use Rattle.sg_list.proofs.ListLemmas.{length-change}
 use Rattle.sg_window.specs.Window.{window_of, outstanding, after_ack, first_waiting, left_at, one_less, StandsFor}
@@ -16,8 +15,7 @@ use Rattle.sg_machine.specs.Running.{IsSound as IsReplayed, owed, records_from, 
 use Rattle.sg_machine.proofs.OwedLemmas.{one_if, Lessens, owed-change, records-same, records-less, records-length, records-get, admitted-owed}
 use Rattle.sg_sinks.specs.Standing.{waiting_at}
 use Rattle.sg_standing.specs.Sources.{CanAck, acked_at, acks}
-use Rattle.sg_standing.specs.Standing.{source_of, sources_from}
-use Rattle.sg_standing.specs.declared.source.Source.{Source}
+use Rattle.sg_standing.specs.Standing.{sources_from}
 
 -- a record that something is owed to is outstanding
 outstanding-owed : (rs : List Record) (n : ℕ) → 0 < left_at rs n

@@ -1,5 +1,5 @@
 -- What the answers of a core tell: the act that a call was, and when each comes.
-use Rattle.std.specs.Prelude.{◌≡◌, ◌≢◌, ◌<◌, ◌≤◌, ℕ, ◌+◌, ◌-◌, ◌==◌, nat_le, min, Bool, true, false, ◌&&◌, if◌then◌else◌, is_some, option_and_then, Option, Some, None, Result, Ok, Err, List, [], ◌∷◌, length, map, take, slice_get, zero, suc}
+use Rattle.std.specs.Prelude.{◌≡◌, ◌≢◌, ◌<◌, ℕ, ◌+◌, ◌-◌, ◌==◌, nat_le, min, Bool, true, false, ◌&&◌, if◌then◌else◌, is_some, option_and_then, Option, Some, None, Result, Ok, Err, List, [], ◌∷◌, length, map, take, slice_get, zero, suc}
 use Rattle.std.specs.Option.{option_map, option_map_or}
 use Rattle.sg_device.specs.Disk.{content}
 use Rattle.sg_msg.specs.Length.{encoded_len}
@@ -155,8 +155,9 @@ abbrev pub RefillsBy : Option BufferSetup → SinkState → SinkState → Refill
 RefillsBy None old new answer = answer ≡ NoneWaits
 RefillsBy (Some buffer) old new RefillBroken = new.broken ≡ true
 RefillsBy (Some buffer) old new NoneWaits = (old.broken ≡ false) × (old.entries ≡ [])
+    × (new ≡ old)
 RefillsBy (Some buffer) old new NoRoom = (old.broken ≡ false) × (old.entries ≢ [])
-    × (fitting 1000 (refill_of buffer old) old.entries ≡ 0)
+    × (fitting 1000 (refill_of buffer old) old.entries ≡ 0) × (new ≡ old)
 RefillsBy (Some buffer) old new (Moved n) = (new.broken ≡ false) × (0 < n)
     × (n ≡ fitting 1000 (refill_of buffer old) old.entries)
 

@@ -1,5 +1,5 @@
 -- What the calls of a core come to, by their replies.
-use Rattle.std.specs.Prelude.{◌≡◌, ◌<◌, ◌↔◌, ℕ, true, Some, Result, Ok, Err, MatchResult, IfOk, IfErr, OnErr, List, [], ◌∷◌, ◌++◌, length, slice_get}
+use Rattle.std.specs.Prelude.{◌≡◌, ◌<◌, ◌↔◌, ℕ, true, Some, Result, Ok, MatchResult, IfOk, IfErr, OnErr, List, [], ◌∷◌, ◌++◌, length, slice_get}
 use Rattle.sg_machine.specs.declared.event.Act.{Act}
 use Rattle.sg_machine.specs.declared.event.Act.TheVariants.{Admit as AdmitAct, Look}
 use Rattle.sg_machine.specs.declared.event.Admission.{Admission}

@@ -1,6 +1,7 @@
 pub mod Admits
 pub mod Answers
 pub mod Calls
+pub mod Failing
 pub mod Opening
 pub mod Parts
 pub mod Steps

@@ -1,5 +1,5 @@
 -- The tallies of the parts of a core.
-use Rattle.std.specs.Prelude.{◌≡◌, ℕ, ◌+◌, List, [], ◌∷◌, length, option_map}
+use Rattle.std.specs.Prelude.{◌≡◌, ◌+◌, List, [], ◌∷◌, length, option_map}
 use Rattle.sg_machine.specs.declared.tally.SourceTally.{SourceTally}
 use Rattle.sg_machine.specs.declared.tally.DestTally.{DestTally}
 use Rattle.sg_sinks.specs.States.{SinkState}

@@ -1,10 +1,16 @@
 // The core, and what it tells.
-ghost use Rattle.std.specs.Prelude.{◌≡◌, ◌<◌, Some, IfOk, map, length, slice_get, option_map};
+ghost use Rattle.std.specs.Prelude.{◌≡◌, ◌<◌, List, Some, IfOk, map, length, slice_get, option_map};
+ghost use Rattle.sg_device.specs.Disk.{DiskState};
+ghost use Rattle.sg_machine.specs.declared.setup.Setup.{Setup};
+ghost use Rattle.sg_machine.specs.declared.state.State.{State};
 ghost use Rattle.sg_stores.specs.Positions.{stored_in};
+ghost use Rattle.sg_stores.specs.Stores.{AllGo};
 ghost use Rattle.sg_standing.specs.Sources.{credit_at, store_at};
 ghost use Rattle.sg_standing.specs.Standing.{IsAt};
+ghost use Rattle.sg_standing.specs.States.{CoreState};
 ghost use Rattle.sg_core.specs.Answers.{credit_left, stored_position, Tallies};
-ghost use Rattle.sg_machine.specs.declared.state.State.{State};
+ghost use Rattle.sg_core.specs.Failing.{FailsAt};
+ghost use Rattle.sg_core.specs.Opening.{IsOpen};
 
 use crate::tallies::{tally_sinks, tally_sources};
 use sg_device::{Disk, NoMemory};
@@ -98,10 +104,14 @@ impl<D: Disk> Core<D> {
         self.stores.stored(self.sources.at(i as usize).setup.store)
     }
 
-    /// Whether a call on the store of that number has failed since the opening.
+    /// Whether a call on the store of that number has failed since the opening: exactly where its disk has
+    /// counted a fault since then.
     pub fn failed(&self, store: u32) -> bool
         requires { store < length self.now.stores }
-        ensures { option_map (λ s. s.failed) (slice_get self.now.stores store) ≡ Some result }
+        ensures flag { option_map (λ s. s.failed) (slice_get self.now.stores store) ≡ Some result }
+        ensures faults { (setup : Setup) (disks : List DiskState) (first : CoreState)
+            → IsOpen setup disks first → AllGo first.stores self.now.stores
+            → FailsAt disks self.now.stores store result }
     {
         self.stores.failed(store)
     }

@@ -7,6 +7,7 @@ mod appends;
 mod counter;
 mod flow;
 mod fronts;
+mod laws;
 mod opening;
 mod parts;
 mod positions;
@@ -16,6 +17,7 @@ mod tallies;
 
 pub use counter::calls_are_events;
 pub use flow::Core;
+pub use laws::{replies_tell_faults, stores_fail_by_faults};
 pub use sg_counter::{CoreCall, CoreFront, CoreReply, Counter, Refill, Refused, Settled, Stored};
 pub use sg_standing::{
     images_are_safe, images_between_are_safe, images_open_again, images_within_are_safe,

@@ -13,7 +13,8 @@ use Rattle.sg_run.specs.declared.end.End.TheVariants.{Clean}
 use Rattle.sg_daemon.specs.Checking.{EndsCheck, ChecksFile}
 use Rattle.sg_daemon.specs.declared.status.Status.{Status}
 use Rattle.sg_daemon.specs.declared.status.Status.TheVariants.{Ended, SayFault, NoMemory}
-use Rattle.sg_daemon.proofs.SaidLemmas.{rose-later, OnlyTells}
+use Rattle.sg_output.proofs.Sayings.{rose-on}
+use Rattle.sg_daemon.proofs.SaidLemmas.{OnlyTells}
 
 -- a configuration is checked whole, where no trouble comes
 abbrev pub IsWhole : WorldState → WorldState → List ℕ → Result Unit Unchecked → Type 0
@@ -33,9 +34,9 @@ checks-starved old new file only = (new, (Err Starved, record { checks = tt; onl
 -- no trouble came before what was told last
 before : (old mid new : WorldState) → OnlyTells mid new → IsUntroubled old new → IsUntroubled old mid
 before old mid new tells u = record {
-  read = λ rose. u.read (rose-later old.read_faults mid.read_faults new.read_faults rose tells.read);
+  read = λ rose. u.read (rose-on old.read_faults mid.read_faults new.read_faults rose tells.read);
   build = λ rose. u.build (subst (λ (n : ℕ). Rose old.build_faults n) (sym (ap (λ (w : WorldState). w.build_faults) tells.state)) rose);
-  say = λ rose. u.say (rose-later old.say_faults mid.say_faults new.say_faults rose tells.say);
+  say = λ rose. u.say (rose-on old.say_faults mid.say_faults new.say_faults rose tells.say);
 }
 
 pub checks-refused : (old mid new : WorldState) (file : List ℕ) (why : Unchecked) (status : Status) → OnlyChecks old mid → Checks old mid file (Err why)

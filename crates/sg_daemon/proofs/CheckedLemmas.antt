@@ -10,7 +10,7 @@ use Rattle.sg_loaded.specs.Loading.{OnlyLoads, IsConfigured, IsFaultOf, IsUnread
 use Rattle.sg_daemon.specs.declared.unchecked.Unchecked.{Unchecked}
 use Rattle.sg_daemon.specs.declared.unchecked.Unchecked.TheVariants.{Bad, Unread, SayFault, NoMemory}
 use Rattle.sg_daemon.specs.Checked.{ok_line, HasSaid, OnlyChecks, Checks, IsUntroubled, IsComplete}
-use Rattle.sg_daemon.specs.Said.{OnlySays}
+use Rattle.sg_output.specs.Saying.{OnlySays}
 
 same-said : (old new : WorldState) → OnlyLoads old new → new.said ≡ old.said
 same-said old new loads = ap (λ w. w.said) loads.0
@@ -29,7 +29,7 @@ ok-checks old w new file loaded (Err NoMemory) configured loads says = tt
 pub ok-only : (old w new : WorldState) → OnlyLoads old w → OnlySays w new → OnlyChecks old new
 ok-only old w new loads says =
     let (is, read, build) = loads in
-    let state = says.state in
+    let state = says.same in
     let later = says.later in
     record { state = grind arith; read = grind arith; build = grind arith; say = grind arith }
 

@@ -1,23 +1,18 @@
 -- Lemmas on what is said.
 use Rattle.std.proofs.Common.{◌≡◌, ◌≤◌, ℕ, List, refl, sym, subst, inr, arith}
-use Rattle.sg_device.specs.Faults.{Rose}
 use Rattle.sg_outside.specs.World.{WorldState, OnlyReads}
+use Rattle.sg_output.specs.Saying.{OnlySays}
+use Rattle.sg_output.proofs.Sayings.{only-says-none}
 use Rattle.sg_loaded.specs.declared.loaded.Unloaded.{Unloaded}
 use Rattle.sg_loaded.specs.declared.loaded.Unloaded.TheVariants.{Bad, Unread, NoMemory as Unfed}
 use Rattle.sg_daemon.specs.Loading.{TellsUnloaded}
-use Rattle.sg_daemon.specs.Said.{OnlySays, Concludes}
+use Rattle.sg_daemon.specs.Said.{Concludes}
 use Rattle.sg_daemon.specs.declared.status.Status.{Status}
 use Rattle.sg_daemon.specs.declared.status.Status.TheVariants.{NoMemory}
 
-pub rose-later : (before now later : ℕ) → Rose before now → now ≤ later → Rose before later
-rose-later before now later rose le = omega arith
-
-pub says-nothing : (world : WorldState) → OnlySays world world
-says-nothing world = record { state = refl; later = omega arith }
-
 -- without memory nothing was said
 pub starved : (world : WorldState) (status : Status) (text : List ℕ) → Concludes world world status text NoMemory
-starved world status text = record { says = says-nothing world; said = inr (inr refl) }
+starved world status text = record { says = only-says-none world; said = inr (inr refl) }
 
 -- text was said and files were read, and nothing else
 pub record OnlyTells (old new : WorldState) : Type 0 where
@@ -27,13 +22,13 @@ pub record OnlyTells (old new : WorldState) : Type 0 where
 
 pub says-tells : (old new : WorldState) → OnlySays old new → OnlyTells old new
 says-tells old new says =
-    let state = says.state in
+    let state = says.same in
     let later = says.later in
     record { state = grind arith; read = grind arith; say = later }
 
 pub reads-tells : (old said new : WorldState) → OnlySays old said → OnlyReads said new → OnlyTells old new
 reads-tells old said new says reads =
-    let state = says.state in
+    let state = says.same in
     let later = says.later in
     let (is, read) = reads in
     record { state = grind arith; read = grind arith; say = grind arith }
@@ -41,4 +36,4 @@ reads-tells old said new says reads =
 pub tells-of : (loaded new : WorldState) (why : Unloaded) (status : Status) → TellsUnloaded loaded new why status → OnlyTells loaded new
 tells-of loaded new (Bad fault names) status tells = reads-tells loaded tells.0 new (tells.1.0).says tells.1.1
 tells-of loaded new (Unread name) status tells = says-tells loaded new tells.says
-tells-of loaded new Unfed status tells = subst (λ (w : WorldState). OnlyTells loaded w) (sym tells.0) (says-tells loaded loaded (says-nothing loaded))
+tells-of loaded new Unfed status tells = subst (λ (w : WorldState). OnlyTells loaded w) (sym tells.0) (says-tells loaded loaded (only-says-none loaded))

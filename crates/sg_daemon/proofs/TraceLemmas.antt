@@ -19,7 +19,8 @@ use Rattle.sg_daemon.specs.Loading.{TellsUnloaded}
 use Rattle.sg_daemon.specs.Tracing.{status_untraced, IsComplete, TracesCommand}
 use Rattle.sg_daemon.specs.declared.status.Status.{Status}
 use Rattle.sg_daemon.specs.declared.status.Status.TheVariants.{Ended}
-use Rattle.sg_daemon.proofs.SaidLemmas.{rose-later, OnlyTells, tells-of}
+use Rattle.sg_output.proofs.Sayings.{rose-on}
+use Rattle.sg_daemon.proofs.SaidLemmas.{OnlyTells, tells-of}
 
 -- INPUT is traced to its end, where no trouble comes
 abbrev pub IsWhole : WorldState → WorldState → List ℕ → List ℕ → List ℕ → Result Unit Unshown → Type 0
@@ -45,11 +46,11 @@ traces-ended old new file source input untraced traces whole =
 before : (old shown new : WorldState) (input : List ℕ) → OnlyTells shown new → IsUntroubled old new input → IsUntroubled old shown input
 before old shown new input tells u = record {
   load = record {
-    read = λ rose. (u.load).read (rose-later old.read_faults shown.read_faults new.read_faults rose tells.read);
+    read = λ rose. (u.load).read (rose-on old.read_faults shown.read_faults new.read_faults rose tells.read);
     build = λ rose. (u.load).build (subst (λ (n : ℕ). Rose old.build_faults n) (sym (ap (λ (w : WorldState). w.build_faults) tells.state)) rose);
   };
   opening = λ rose. u.opening (subst (λ (n : ℕ). Rose old.inlet_faults n) (sym (ap (λ (w : WorldState). w.inlet_faults) tells.state)) rose);
-  say = λ rose. u.say (rose-later old.say_faults shown.say_faults new.say_faults rose tells.say);
+  say = λ rose. u.say (rose-on old.say_faults shown.say_faults new.say_faults rose tells.say);
   inlet = λ limit feed is. u.inlet limit feed (ap (λ (w : WorldState). w.inlets) tells.state ∙ is);
 }
 

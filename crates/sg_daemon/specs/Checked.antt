@@ -4,7 +4,7 @@ use Rattle.sg_device.specs.Faults.{Rose}
 use Rattle.sg_outside.specs.World.{WorldState}
 use Rattle.sg_loaded.specs.declared.loaded.Loaded.{Loaded}
 use Rattle.sg_loaded.specs.Loading.{IsConfigured, IsFaultOf, IsUnread}
-use Rattle.sg_daemon.specs.Said.{SaidText}
+use Rattle.sg_output.specs.Saying.{SaidText}
 use Rattle.sg_daemon.specs.declared.unchecked.Unchecked.{Unchecked}
 use Rattle.sg_daemon.specs.declared.unchecked.Unchecked.TheVariants.{Bad, Unread, SayFault, NoMemory}
 

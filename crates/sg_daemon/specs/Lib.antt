@@ -1,6 +1,7 @@
 pub mod Status
 pub mod Said
 pub mod Loading
+pub mod Held
 pub mod Checked
 pub mod Checking
 pub mod Running

@@ -1,8 +1,8 @@
 -- What is said at the end of a command.
-use Rattle.std.specs.Prelude.{◌≡◌, ◌⊎◌, ◌≤◌, ℕ, List, ◌++◌, codes}
-use Rattle.std.specs.Option.{option_map}
+use Rattle.std.specs.Prelude.{◌≡◌, ◌⊎◌, ℕ, List, ◌++◌, codes}
 use Rattle.sg_device.specs.Faults.{Rose}
 use Rattle.sg_outside.specs.World.{WorldState}
+use Rattle.sg_output.specs.Saying.{OnlySays, SaidText}
 use Rattle.sg_daemon.specs.declared.status.Status.{Status}
 use Rattle.sg_daemon.specs.declared.status.Status.TheVariants.{SayFault, NoMemory}
 
@@ -15,15 +15,6 @@ version_text = codes "syslogr 0.1.0\n"
 -- the text where the file of this name couldn't be read
 abbrev pub unread_text_of : List ℕ → List ℕ
 unread_text_of name = codes "cannot read " ++ (name ++ codes "\n")
-
--- text was said, and nothing else
-pub record OnlySays (old new : WorldState) : Type 0 where
-  pub state : new ≡ record old { say_faults = new.say_faults; said = new.said }
-  pub later : old.say_faults ≤ new.say_faults
-
--- this text was said
-abbrev pub SaidText : WorldState → WorldState → List ℕ → Type 0
-SaidText old new text = new.said ≡ option_map (λ said. said ++ text) old.said
 
 -- This text was said, which gives this status; or it couldn't be said, or memory ran out.
 pub record Concludes (old new : WorldState) (status : Status) (text : List ℕ) (result : Status) : Type 0 where

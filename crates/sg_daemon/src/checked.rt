@@ -5,9 +5,11 @@ ghost use Rattle.sg_config.specs.declared.config.Config.{Config as Meant};
 ghost use Rattle.sg_loaded.specs.Compiling.{CanBeCompiled};
 ghost use Rattle.sg_loaded.specs.Loading.{Configures};
 ghost use Rattle.sg_daemon.specs.Checked.{ok_line, HasSaid, OnlyChecks, Checks, IsUntroubled, IsComplete};
-ghost use Rattle.sg_daemon.specs.Said.{OnlySays};
+ghost use Rattle.sg_output.specs.Saying.{OnlySays};
 
 use crate::Unchecked;
+use crate::held::tell_held;
+use sg_config::Config;
 use sg_device::{NoMemory, SayRefusal};
 use sg_loaded::{Unloaded, load_file};
 use sg_world::World;
@@ -21,7 +23,7 @@ fn ok_text(alloc: Global, file: &[u8]) -> Result<Vec<u8>, NoMemory>
     Ok(text)
 }
 
-fn say_ok<W: World>(alloc: Global, file: &[u8], world: &mut W) -> Result<(), Unchecked>
+fn say_line<W: World>(alloc: Global, file: &[u8], world: &mut W) -> Result<(), Unchecked>
     ensures says { OnlySays (W.state world.old) (W.state world.new) }
     ensures has { HasSaid (W.state world.old) (W.state world.new) file.now result }
 {
@@ -31,6 +33,21 @@ fn say_ok<W: World>(alloc: Global, file: &[u8], world: &mut W) -> Result<(), Unc
         Err(SayRefusal::Fault) => Err(Unchecked::SayFault),
         Err(SayRefusal::NoMemory) => Err(Unchecked::NoMemory),
     }
+}
+
+// Says that it is one, and tells what memory its records can take.
+fn say_ok<W: World>(
+    alloc: Global,
+    file: &[u8],
+    config: &Config,
+    world: &mut W,
+) -> Result<(), Unchecked>
+    ensures says { OnlySays (W.state world.old) (W.state world.new) }
+    ensures has { HasSaid (W.state world.old) (W.state world.new) file.now result }
+{
+    let said = say_line(alloc, file, world);
+    tell_held(alloc, file, config, world);
+    said
 }
 
 /// Says `FILE: ok` where the file of this name is a configuration whose log paths can be compiled, and nothing
@@ -46,7 +63,7 @@ pub fn check_file<W: World>(alloc: Global, file: &[u8], world: &mut W) -> Result
         → IsUntroubled (W.state world.old) (W.state world.new) → IsComplete result }
 {
     match load_file(alloc, file, world) {
-        Ok(_loaded) => say_ok(alloc, file, world),
+        Ok(loaded) => say_ok(alloc, file, &loaded.config, world),
         Err(Unloaded::Bad(fault, names)) => Err(Unchecked::Bad(fault, names)),
         Err(Unloaded::Unread(name)) => Err(Unchecked::Unread(name)),
         Err(Unloaded::NoMemory) => Err(Unchecked::NoMemory),

@@ -4,6 +4,7 @@
 mod check;
 mod checked;
 mod drill;
+mod held;
 mod laws;
 mod run;
 mod say;
@@ -14,6 +15,7 @@ mod trace;
 mod unchecked;
 
 pub use checked::check_file;
+pub use held::{Held, held_by, held_hint};
 pub use laws::first_words_tell;
 pub use status::Status;
 pub use top::{daemon, offline};

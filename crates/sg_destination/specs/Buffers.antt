@@ -1,12 +1,12 @@
 -- The disk-buffer of a destination (syslog-ng's administration guide, "Using disk-based and memory buffering").
-use Rattle.std.specs.Prelude.{ℕ, nat_lt, if◌then◌else◌, List, [], ◌∷◌, ◌++◌, codes, decimal, Option}
+use Rattle.std.specs.Prelude.{ℕ, nat_lt, if◌then◌else◌, Bool, false, List, [], ◌∷◌, ◌++◌, codes, decimal, Option}
 use Rattle.std.specs.Option.{option_map}
 use Rattle.sg_parse_expr.specs.declared.tree.Call.{Call}
 use Rattle.sg_fault.specs.declared.placed.Placed.{Placed}
 use Rattle.sg_options.specs.declared.check.Check.{Check}
 use Rattle.sg_options.specs.declared.check.Check.TheVariants.{Within}
 use Rattle.sg_options.specs.Settings.{is_called, last_option, last_value}
-use Rattle.sg_options.specs.Values.{text_or, number_or}
+use Rattle.sg_options.specs.Values.{text_or, number_or, truth_or}
 use Rattle.sg_options.specs.Checks.{bad_values, faults_of}
 use Rattle.sg_options.specs.Stores.{buffer_name}
 use Rattle.sg_outfmt.specs.declared.shape.DriverKind.{DriverKind}
@@ -77,8 +77,15 @@ abbrev pub capacity_of : Call → ℕ
 capacity_of buffer = raised_capacity
     (number_or (last_value size_words (options_of buffer)) buffer_size 1048576)
 
+abbrev pub whole_of : Call → Bool
+whole_of buffer = truth_or (last_value (codes "prealloc" ∷ []) (options_of buffer)) false
+
 abbrev pub buffer_at : Call → Call → DiskBuffer
-buffer_at call buffer = record { store = store_of_buffer call buffer; capacity = capacity_of buffer }
+buffer_at call buffer = record {
+  store = store_of_buffer call buffer;
+  capacity = capacity_of buffer;
+  whole = whole_of buffer;
+}
 
 abbrev pub buffer_of : Call → Option DiskBuffer
 buffer_of call = option_map (buffer_at call) (counting_buffer call)

@@ -12,17 +12,19 @@ use sg_driver::{BUFFER_SIZE, PORTS, driver_kind, missing_unless, name_of};
 use sg_fault::{Placed, earlier};
 use sg_options::{
     Check, args_of, buffer_name, first_bad_argument, is_called, last_argument, last_argument_value,
-    nested_of, number_or, text_or,
+    nested_of, number_or, text_or, truth_or,
 };
 use sg_outfmt::DriverKind;
 use sg_parse_expr::{Arg, Call};
 use std::alloc::Global;
 
-/// The disk-buffer of a destination: the name of its store, and its capacity in bytes.
+/// The disk-buffer of a destination: the name of its store, its capacity in bytes, and whether its
+/// file is made with all the bytes that it can come to have.
 #[derive(Debug, Drop)]
 pub struct DiskBuffer {
     pub store: Name,
     pub capacity: u64,
+    pub whole: bool,
 }
 
 const CHECKS: [(&[u8], Check); 2] = [
@@ -162,6 +164,13 @@ fn capacity_of(buffer: &Call) -> u64
     }
 }
 
+// Whether its file is made whole.
+fn whole_of(buffer: &Call) -> bool
+    ensures { result ≡ spec.whole_of buffer.now }
+{
+    truth_or(last_argument_value(&[b"prealloc"], args_of(buffer)), false)
+}
+
 /// The disk-buffer of a destination, none where it has none.
 pub(crate) fn buffer_of(alloc: Global, call: &Call) -> Result<Option<DiskBuffer>, NoMemory>
     ensures { IfOk result (λ buffer. buffer ≡ spec.buffer_of call.now) }
@@ -170,6 +179,7 @@ pub(crate) fn buffer_of(alloc: Global, call: &Call) -> Result<Option<DiskBuffer>
         Some(buffer) => Ok(Some(DiskBuffer {
             store: store_of_buffer(alloc, call, buffer)?,
             capacity: capacity_of(buffer),
+            whole: whole_of(buffer),
         })),
         None => Ok(None),
     }

@@ -7,9 +7,9 @@ use Rattle.sg_lex.specs.declared.token.Token.{Token}
 use Rattle.sg_lex.specs.declared.fault.ConfigFault.{ConfigFault}
 use Rattle.sg_expand.specs.declared.expander.Expander.{Expander}
 use Rattle.sg_expand.specs.declared.fault.ExpandRefusal.TheVariants.{Bad, ReadFault as RefusalReadFault}
-use Rattle.sg_expand.specs.declared.fault.Stop.{Stop}
-use Rattle.sg_expand.specs.declared.fault.Stop.TheVariants.{Fault, ReadFault, NoMemory}
-use Rattle.sg_expand.specs.declared.frame.Frame.{Frame}
+use Rattle.sg_expand.specs.declared.fault.ExpandStop.{ExpandStop}
+use Rattle.sg_expand.specs.declared.fault.ExpandStop.TheVariants.{Fault, ReadFault, NoMemory}
+use Rattle.sg_expand.specs.declared.frame.ExpandFrame.{ExpandFrame}
 use Rattle.sg_expand.specs.Expansion.{State, Outcome, Goes, Stops, Faulty, Unread, Job, Tokens, Runs, first_context, main_tokens, RunsTokens, RunsMain, IsExpanded}
 use Rattle.sg_expand.specs.Expansion.Runs.{ends, moves, faults, includes, included_stops, file_faults, file_too_long, file_unread, uses, use_stops, binds, value_stops, body_runs}
 use Rattle.sg_expand.specs.Machine.{state_of, tokens_frame}
@@ -28,18 +28,18 @@ begun-leads : (text : List ℕ) (old new : Expander) (world : WorldState) → Be
     → (o : Outcome) → Leads (reverse new.frames.items) (state_of new) world o → RunsTokens (main_tokens text) (state_of old) world o
 begun-leads text old new world begun o h =
     let frames : reverse new.frames.items ≡ tokens_frame first_context true begun.0 ∷ [] = ap reverse begun.1.1.1 in
-    let led = subst (λ (s : State). Leads (tokens_frame first_context true begun.0 ∷ []) s world o) begun.1.1.0 (subst (λ (fs : List Frame). Leads fs (state_of new) world o) frames h) in
+    let led = subst (λ (s : State). Leads (tokens_frame first_context true begun.0 ∷ []) s world o) begun.1.1.0 (subst (λ (fs : List ExpandFrame). Leads fs (state_of new) world o) frames h) in
     subst (λ (found : Result (List Token) ConfigFault). RunsTokens found (state_of old) world o) (sym begun.1.0)
     (alone (state_of old) world begun.0 o led.0 led.1.0 led.1.1)
 
 -- and what waits then is done
-pub whole-done : (text : List ℕ) (old middle new : Expander) (world world' : WorldState) (result : Result Unit Stop)
+pub whole-done : (text : List ℕ) (old middle new : Expander) (world world' : WorldState) (result : Result Unit ExpandStop)
     → BeginsText text old middle (Ok tt) → Works middle world new world' result → RunsWhole text old world new world' result
 whole-done text old middle new world world' result begun works =
     answers-then result new world' (Leads (reverse middle.frames.items) (state_of middle) world) (RunsTokens (main_tokens text) (state_of old) world) (begun-leads text old middle world begun) works
 
 -- the text isn't begun
-pub whole-stops : (text : List ℕ) (old new : Expander) (world : WorldState) (stop : Stop) → BeginsText text old new (Err stop) → RunsWhole text old world new world (Err stop)
+pub whole-stops : (text : List ℕ) (old new : Expander) (world : WorldState) (stop : ExpandStop) → BeginsText text old new (Err stop) → RunsWhole text old world new world (Err stop)
 whole-stops text old new world (Fault fault) begun =
     let same : Stops (Faulty fault) new.names world ≡ Stops (Faulty fault) old.names world = ap (λ (names : List (List ℕ)). Stops (Faulty fault) names world) begun.1 in
     subst (λ (found : Result (List Token) ConfigFault). RunsTokens found (state_of old) world (Stops (Faulty fault) new.names world)) (sym begun.0) same

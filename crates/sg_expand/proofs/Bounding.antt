@@ -15,7 +15,7 @@ use Rattle.sg_block.specs.Forms.{Use, definition, use_form}
 use Rattle.sg_block.specs.Tokens.{is_word, is_tick, is_front, token_size, line_of, text_at, line_at}
 use Rattle.sg_block.specs.Values.{reached, replaced}
 use Rattle.sg_block.specs.declared.form.Definition.{Definition}
-use Rattle.sg_block.specs.declared.token.Line.{Line}
+use Rattle.sg_block.specs.declared.token.FileLine.{FileLine}
 use Rattle.sg_expand.specs.declared.block.Block.{Block}
 use Rattle.sg_expand.specs.declared.frame.Context.{Context}
 use Rattle.sg_expand.specs.Bounded.{HoldsWithin, StaysWithin}
@@ -50,7 +50,7 @@ keeps-if : (s : State) (b : Bool) (x y : Step) → StepKeeps s x → StepKeeps s
 keeps-if s true x y hx hy = hx
 keeps-if s false x y hx hy = hy
 
-keeps-charged : (size : ℕ) (line : Line) (s : State) (later : State → Step) → (s.total + size ≤ 1048576 → StepKeeps s (later (record s { total = s.total + size }))) → StepKeeps s (charged size line s later)
+keeps-charged : (size : ℕ) (line : FileLine) (s : State) (later : State → Step) → (s.total + size ≤ 1048576 → StepKeeps s (later (record s { total = s.total + size }))) → StepKeeps s (charged size line s later)
 keeps-charged size line s later h =
     ⊎_elim (λ (over : 1048576 < s.total + size). subst (λ (b : Bool). StepKeeps s (cond b (later (record s { total = s.total + size })) (Faults TooLong line))) (sym (lt-leb (s.total + size) 1048576 over)) tt)
     (λ (fits : s.total + size ≤ 1048576). subst (λ (b : Bool). StepKeeps s (cond b (later (record s { total = s.total + size })) (Faults TooLong line))) (sym (le-leb (s.total + size) 1048576 fits)) (h fits))
@@ -69,7 +69,7 @@ counted-grows total next (token ∷ tokens) within e =
     fork : {b : Bool} → nat_le (total + token_size token) 1048576 ≡ b → counted total (token ∷ tokens) ≡ cond b (counted (total + token_size token) tokens) (Err (line_of token))
     fork h = subst (λ (x : Bool). counted total (token ∷ tokens) ≡ cond x (counted (total + token_size token) tokens) (Err (line_of token))) h refl
 
-emitted-keeps : (fresh : Bool) (rest tokens : List Token) (s : State) (found : Result ℕ Line) → counted s.total tokens ≡ found → StepKeeps s (emitted_by fresh rest tokens s found)
+emitted-keeps : (fresh : Bool) (rest tokens : List Token) (s : State) (found : Result ℕ FileLine) → counted s.total tokens ≡ found → StepKeeps s (emitted_by fresh rest tokens s found)
 emitted-keeps fresh rest tokens s (Ok total) e = λ held h.
     let grows = counted-grows s.total total tokens h.1 e in
     let before : held + length s.out ≤ s.total = h.0 in
@@ -153,7 +153,7 @@ step-keeps context fresh tokens s asked e =
     subst (StepKeeps s) e (keeps-if s (begins_include tokens) (include_read context tokens s) (front context fresh tokens s) (include-keeps context tokens s) (front-keeps context fresh tokens s))
 
 -- the bytes of a file that are counted
-pub file-keeps : (line : Line) (name text : List ℕ) (s : State) (found : List Token) → file_tokens line s text ≡ Ok found → Keeps s (with_file name text s)
+pub file-keeps : (line : FileLine) (name text : List ℕ) (s : State) (found : List Token) → file_tokens line s text ≡ Ok found → Keeps s (with_file name text s)
 file-keeps line name text s found e =
     ⊎_elim (λ (over : 1048576 < s.total + (length text + 1)). let wrong : Err (fault_at TooLong line) ≡ Ok found = sym (fork (lt-leb (s.total + (length text + 1)) 1048576 over)) ∙ e in cc)
     (λ (fits : s.total + (length text + 1) ≤ 1048576). charge-keeps (length text + 1) s (with_file name text s) refl refl fits)

@@ -11,15 +11,15 @@ use Rattle.sg_block.specs.Arguments.{bindings}
 use Rattle.sg_block.specs.Trimmed.{trimmed}
 use Rattle.sg_block.specs.Values.{Values}
 use Rattle.sg_block.specs.declared.argument.Argument.{Argument}
-use Rattle.sg_block.specs.declared.token.Line.{Line}
+use Rattle.sg_block.specs.declared.token.FileLine.{FileLine}
 use Rattle.sg_expand.specs.declared.block.Block.{Block}
 use Rattle.sg_expand.specs.declared.expander.Expander.{Expander}
-use Rattle.sg_expand.specs.declared.fault.Stop.{Stop}
-use Rattle.sg_expand.specs.declared.fault.Stop.TheVariants.{Fault}
+use Rattle.sg_expand.specs.declared.fault.ExpandStop.{ExpandStop}
+use Rattle.sg_expand.specs.declared.fault.ExpandStop.TheVariants.{Fault}
 use Rattle.sg_expand.specs.declared.frame.Call.{Call}
 use Rattle.sg_expand.specs.declared.frame.Context.{Context}
-use Rattle.sg_expand.specs.declared.frame.Frame.{Frame}
-use Rattle.sg_expand.specs.declared.frame.Frame.TheVariants.{Binds}
+use Rattle.sg_expand.specs.declared.frame.ExpandFrame.{ExpandFrame}
+use Rattle.sg_expand.specs.declared.frame.ExpandFrame.TheVariants.{Binds}
 use Rattle.sg_expand.specs.declared.frame.Wait.{Wait}
 use Rattle.sg_expand.specs.Expansion.{State, Outcome, Goes, Stops, Step, Ends, Moves, Faults, Includes, Uses, Tokens, Binding, Runs, ends, moves, includes, included_stops, uses, use_stops, binds, value_stops, body_runs, step, body_context, file_context, file_tokens, with_file, with_out}
 use Rattle.sg_expand.specs.Faults.{fault_at}
@@ -27,15 +27,15 @@ use Rattle.sg_expand.specs.Machine.{state_of, tokens_frame, Calls, call_of, Does
 use Rattle.sg_expand.specs.Pending.{Later, Follows, RunsThen, job_of, Leads}
 
 -- the frames with one more or two more, the first to be done first
-pub last-first : (frames before below : List Frame) (frame : Frame) → reverse before ≡ below → frames ≡ before ++ frame ∷ [] → reverse frames ≡ frame ∷ below
-last-first frames before below frame r e = ap reverse e ∙ reverse-append before (frame ∷ []) ∙ ap (λ (l : List Frame). frame ∷ l) r
+pub last-first : (frames before below : List ExpandFrame) (frame : ExpandFrame) → reverse before ≡ below → frames ≡ before ++ frame ∷ [] → reverse frames ≡ frame ∷ below
+last-first frames before below frame r e = ap reverse e ∙ reverse-append before (frame ∷ []) ∙ ap (λ (l : List ExpandFrame). frame ∷ l) r
 
-last-two : (frames before below : List Frame) (under frame : Frame) → reverse before ≡ below → frames ≡ before ++ under ∷ frame ∷ [] → reverse frames ≡ frame ∷ under ∷ below
-last-two frames before below under frame r e = ap reverse e ∙ reverse-append before (under ∷ frame ∷ []) ∙ ap (λ (l : List Frame). frame ∷ under ∷ l) r
+last-two : (frames before below : List ExpandFrame) (under frame : ExpandFrame) → reverse before ≡ below → frames ≡ before ++ under ∷ frame ∷ [] → reverse frames ≡ frame ∷ under ∷ below
+last-two frames before below under frame r e = ap reverse e ∙ reverse-append before (under ∷ frame ∷ []) ∙ ap (λ (l : List ExpandFrame). frame ∷ under ∷ l) r
 
 -- what leads on from other frames and another state that are these
-pub leads-at : (frames frames' : List Frame) (s s' : State) (world : WorldState) (o : Outcome) → frames ≡ frames' → s ≡ s' → Leads frames s world o → Leads frames' s' world o
-leads-at frames frames' s s' world o ef es h = subst (λ (x : State). Leads frames' x world o) es (subst (λ (x : List Frame). Leads x s world o) ef h)
+pub leads-at : (frames frames' : List ExpandFrame) (s s' : State) (world : WorldState) (o : Outcome) → frames ≡ frames' → s ≡ s' → Leads frames s world o → Leads frames' s' world o
+leads-at frames frames' s s' world o ef es h = subst (λ (x : State). Leads frames' x world o) es (subst (λ (x : List ExpandFrame). Leads x s world o) ef h)
 
 -- a step that goes on with other tokens
 moved : (context : Context) (fresh : Bool) (tokens : List Token) (s : State) (world : WorldState) (again : Bool) (rest : List Token) (next : State) (later : Later) (o : Outcome)
@@ -43,7 +43,7 @@ moved : (context : Context) (fresh : Bool) (tokens : List Token) (s : State) (wo
 moved context fresh tokens s world again rest next later o e h = (h.0, (moves context fresh tokens s world again rest next h.0 e h.1.0, h.1.1))
 
 -- a file that is read
-read-in : (context : Context) (fresh : Bool) (tokens : List Token) (s : State) (world : WorldState) (line : Line) (name : List ℕ) (rest : List Token) (next : State)
+read-in : (context : Context) (fresh : Bool) (tokens : List Token) (s : State) (world : WorldState) (line : FileLine) (name : List ℕ) (rest : List Token) (next : State)
     (read : WorldState) (bytes : Vec ℕ Global) (found : List Token) (later : Later) (o : Outcome)
     → step context fresh tokens s ≡ Includes line name rest next → Reads world read name 1048576 (Ok bytes)
     → file_tokens line next bytes.items ≡ Ok found
@@ -77,7 +77,7 @@ value-in context serial body argument left bound s world later o (Stops refusal 
     (Stops refusal names w, (value_stops context serial body argument left bound s world refusal names w r, f))
 
 -- the binding of a use goes on
-calls-at : (context : Context) (serial : ℕ) (body : List Token) (left : List Argument) (bound : Values) (old new : Expander) (world : WorldState) (below : List Frame)
+calls-at : (context : Context) (serial : ℕ) (body : List Token) (left : List Argument) (bound : Values) (old new : Expander) (world : WorldState) (below : List ExpandFrame)
     → reverse old.frames.items ≡ below
     → Calls (record { context = context; serial = serial; body = body; left = left; bound = bound }) old new (Ok tt)
     → (o : Outcome) → Leads (reverse new.frames.items) (state_of new) world o
@@ -93,24 +93,24 @@ calls-at context serial body (argument ∷ left) bound old new world below r doe
     value-in context serial body argument left bound (state_of old) world (Leads below) o led.0 led.1.0 led.1.1
 
 -- the same of a call
-pub calls-lead : (call : Call) (old new : Expander) (world : WorldState) (below : List Frame)
+pub calls-lead : (call : Call) (old new : Expander) (world : WorldState) (below : List ExpandFrame)
     → reverse old.frames.items ≡ below → Calls call old new (Ok tt)
     → (o : Outcome) → Leads (reverse new.frames.items) (state_of new) world o → RunsThen (job_of call) (state_of old) world (Leads below) o
 calls-lead call old new world below r does o h = calls-at call.context call.serial call.body call.left call.bound old new world below r does o h
 
 -- a value that is bound
-pub binds-lead : (wait : Wait) (old new : Expander) (world : WorldState) (below : List Frame)
+pub binds-lead : (wait : Wait) (old new : Expander) (world : WorldState) (below : List ExpandFrame)
     → reverse old.frames.items ≡ below → DoesBind wait old new (Ok tt)
     → (o : Outcome) → Leads (reverse new.frames.items) (state_of new) world o → Leads (Binds wait ∷ below) (state_of old) world o
 binds-lead wait old new world below r does o h =
     calls-lead (record wait.call { bound = map.insert wait.call.bound wait.name old.out }) (record old { out = wait.out }) new world below r does o h
 
 -- an answer is one
-not-both : (stop : Stop) (result : Result Unit Stop) → result ≡ Ok tt → result ≡ Err stop → ⊥
+not-both : (stop : ExpandStop) (result : Result Unit ExpandStop) → result ≡ Ok tt → result ≡ Err stop → ⊥
 not-both stop result a b = cc
 
 -- a step
-pub step-leads : (asked : Step) (context : Context) (fresh : Bool) (tokens : List Token) (old new : Expander) (world world' : WorldState) (below : List Frame)
+pub step-leads : (asked : Step) (context : Context) (fresh : Bool) (tokens : List Token) (old new : Expander) (world world' : WorldState) (below : List ExpandFrame)
     → reverse old.frames.items ≡ below → step context fresh tokens (state_of old) ≡ asked
     → DoesStep asked context fresh old world new world' (Ok tt)
     → (o : Outcome) → Leads (reverse new.frames.items) (state_of new) world' o → RunsThen (Tokens context fresh tokens) (state_of old) world (Leads below) o

@@ -10,7 +10,7 @@ use Rattle.sg_lex.specs.declared.fault.ConfigFault.{ConfigFault}
 use Rattle.sg_lex.specs.declared.fault.ConfigKind.TheVariants.{TooLong}
 use Rattle.sg_block.specs.Arguments.{bindings}
 use Rattle.sg_block.specs.Trimmed.{trimmed}
-use Rattle.sg_block.specs.declared.token.Line.{Line}
+use Rattle.sg_block.specs.declared.token.FileLine.{FileLine}
 use Rattle.sg_expand.specs.declared.frame.Context.{Context}
 use Rattle.sg_expand.specs.Expansion.{State, Outcome, Goes, Stops, Faulty, Unread, Step, Ends, Moves, Faults, Includes, Uses, step, Job, Tokens, Binding, Runs, body_context, file_context, file_tokens, with_file, with_out}
 use Rattle.sg_expand.specs.Expansion.Runs.{ends, moves, faults, includes, included_stops, file_faults, file_too_long, file_unread, uses, use_stops, binds, value_stops, body_runs}
@@ -21,7 +21,7 @@ use Rattle.sg_expand.specs.Pending.{RunsThen}
 pub record Inclusion : Type 0 where
   pub context : Context
   pub fresh : Bool
-  pub line : Line
+  pub line : FileLine
   pub name : List ℕ
   pub rest : List Token
   pub next : State

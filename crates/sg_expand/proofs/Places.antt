@@ -11,7 +11,7 @@ use Rattle.sg_lex.specs.declared.token.Token.{Token}
 use Rattle.sg_block.specs.declared.argument.Argument.{Argument}
 use Rattle.sg_expand.specs.declared.block.Block.{Block}
 use Rattle.sg_block.specs.declared.form.Definition.{Definition}
-use Rattle.sg_block.specs.declared.token.Line.{Line}
+use Rattle.sg_block.specs.declared.token.FileLine.{FileLine}
 use Rattle.sg_block.specs.Arguments.{has_name, last_named, defaults, bindings}
 use Rattle.sg_block.specs.Brackets.{Parted, bracket, open_behind, inner_behind, parted_behind, inside, bracketed}
 use Rattle.sg_block.specs.Forms.{Next, Use, separated, argument_of, next_argument, and_others, arguments_within, arguments, begins_definition, with_body, defined, definition, given_in, use_form}
@@ -99,7 +99,7 @@ PartedOf n parted = AreOf n parted.0 × AreOf n parted.1
 abbrev NextOf : ℕ → Next → Type 0
 NextOf n next = ArgumentOf n next.0 × AreOf n next.1
 
-abbrev pub CountOf : ℕ → Result ℕ Line → Type 0
+abbrev pub CountOf : ℕ → Result ℕ FileLine → Type 0
 CountOf n (Ok total) = Unit {0}
 CountOf n (Err line) = line.file < n
 
@@ -218,7 +218,7 @@ module _ (n : ℕ) where
   reached-of scope variables name h k = first-of (get scope name) (get variables name) (h name) (k name)
 
   -- tokens that come out
-  count-if : (b : Bool) (x y : Result ℕ Line) → CountOf n x → CountOf n y → CountOf n (cond b x y)
+  count-if : (b : Bool) (x y : Result ℕ FileLine) → CountOf n x → CountOf n y → CountOf n (cond b x y)
   count-if true x y h k = h
   count-if false x y h k = k
 

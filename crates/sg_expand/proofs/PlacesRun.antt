@@ -23,7 +23,7 @@ use Rattle.sg_expand.specs.Expansion.Runs.{ends, moves, faults, includes, includ
 use Rattle.sg_expand.specs.Faults.{fault_at}
 use Rattle.sg_lex.specs.declared.fault.ConfigFault.{ConfigFault}
 use Rattle.sg_lex.specs.declared.fault.ConfigKind.TheVariants.{TooLong, Version}
-use Rattle.sg_block.specs.declared.token.Line.{Line}
+use Rattle.sg_block.specs.declared.token.FileLine.{FileLine}
 use Rattle.sg_expand.specs.Places.{IsPlaced}
 use Rattle.sg_block.specs.Tokens.{text_at}
 use Rattle.sg_block.specs.Values.{Values}
@@ -70,7 +70,7 @@ found-lexed : (n file : ℕ) (text : List ℕ) (found : Lexed) → file < n → 
 found-lexed n file text (Ok tokens) f h = h
 found-lexed n file text (Err fault) f h = fault_in-of n file text fault f
 
-file-found : (n : ℕ) (line : Line) (state : State) (text : List ℕ) → line.file < n → length state.names < n → FoundOf n (file_tokens line state text)
+file-found : (n : ℕ) (line : FileLine) (state : State) (text : List ℕ) → line.file < n → length state.names < n → FoundOf n (file_tokens line state text)
 file-found n line state text l f =
     found-if n (nat_le (state.total + (length text + 1)) 1048576) (lexed (length state.names) text (tokens_of (length state.names) text)) (Err (fault_at TooLong line))
     (found-lexed n (length state.names) text (tokens_of (length state.names) text) f (from-of n (length state.names) first_spot 0 text f)) l
@@ -132,7 +132,7 @@ asked-of : (n : ℕ) → 0 < n → (context : Context) (fresh : Bool) (tokens : 
 asked-of n some context fresh tokens state asked e j s = subst (StepOf n) e (step-of n some context fresh tokens state j.0 j.1 s)
 
 -- the tokens, or the fault, of a file that is read
-read-of : (n : ℕ) (line : Line) (name : List ℕ) (rest : List Token) (next : State) (text : List ℕ) (found : Result (List Token) ConfigFault) → StepOf n (Includes line name rest next) → file_tokens line next text ≡ found → FoundOf (n + 1) found
+read-of : (n : ℕ) (line : FileLine) (name : List ℕ) (rest : List Token) (next : State) (text : List ℕ) (found : Result (List Token) ConfigFault) → StepOf n (Includes line name rest next) → file_tokens line next text ≡ found → FoundOf (n + 1) found
 read-of n line name rest next text found p e =
     let same : length next.names ≡ n = p.1.1.0 in
     let stands : line.file < n = p.0 in

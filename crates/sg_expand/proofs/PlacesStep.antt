@@ -9,7 +9,7 @@ use Rattle.sg_lex.specs.declared.fault.ConfigKind.TheVariants.{IncludeDepth, Mis
 use Rattle.sg_expand.specs.declared.block.Block.{Block}
 use Rattle.sg_block.specs.declared.form.Definition.{Definition}
 use Rattle.sg_expand.specs.declared.frame.Context.{Context}
-use Rattle.sg_block.specs.declared.token.Line.{Line}
+use Rattle.sg_block.specs.declared.token.FileLine.{FileLine}
 use Rattle.sg_block.specs.Arguments.{is_missing, is_unknown}
 use Rattle.sg_expand.specs.Expansion.{State, Step, Ends, Moves, Faults, Includes, Uses, charged, emitted_by, emitted, text_of, plain_text, variable_tokens, plain, is_in_reach, use_size, used, use_of, word_or_use, definition_or_word, is_version, begins_version, begins_define, begins_include, begins_ignored, version_read, retold, with_variable, define_read, names_no_file, named_file, included, include_read, front, step}
 use Rattle.sg_block.specs.Forms.{Use, definition, use_form}
@@ -38,10 +38,10 @@ module _ (n : ℕ) (some : 0 < n) where
   choice-of true x y h k = h
   choice-of false x y h k = k
 
-  charged-of : (size : ℕ) (line : Line) (state : State) (later : State → Step) → line.file < n → StepOf n (later (record state { total = state.total + size })) → StepOf n (charged size line state later)
+  charged-of : (size : ℕ) (line : FileLine) (state : State) (later : State → Step) → line.file < n → StepOf n (later (record state { total = state.total + size })) → StepOf n (charged size line state later)
   charged-of size line state later h k = choice-of (nat_le (state.total + size) 1048576) (later (record state { total = state.total + size })) (Faults TooLong line) k h
 
-  emitted_by-of : (fresh : Bool) (rest tokens : List Token) (state : State) (count : Result ℕ Line) → AreOf n rest → AreOf n tokens → StateOf n state → CountOf n count → StepOf n (emitted_by fresh rest tokens state count)
+  emitted_by-of : (fresh : Bool) (rest tokens : List Token) (state : State) (count : Result ℕ FileLine) → AreOf n rest → AreOf n tokens → StateOf n state → CountOf n count → StepOf n (emitted_by fresh rest tokens state count)
   emitted_by-of fresh rest tokens state (Ok total) r t s c = (r, (s.0, s.1, s.2, each-append (IsOf n) state.out tokens s.3 t))
   emitted_by-of fresh rest tokens state (Err line) r t s c = c
 
@@ -70,7 +70,7 @@ module _ (n : ℕ) (some : 0 < n) where
 
   used-of : (tokens : List Token) (block : Block) (given : Use) (state : State) → AreOf n tokens → BlockOf n block → UseOf n given → StateOf n state → StepOf n (used tokens block given state)
   used-of tokens block given state t b u s =
-      let line : Line = line_at tokens 0 in
+      let line : FileLine = line_at tokens 0 in
       let stands : (line_at tokens 0).file < n = line-of n some tokens 0 t in
       let later : Step = charged (use_size tokens block) line state (Uses block given.0 given.1) in
       choice-of (is_missing block.parameters given.0) (Faults MissingArgument line) (cond (is_unknown block.parameters given.0) (Faults UnknownArgument line) later) stands
@@ -108,7 +108,7 @@ module _ (n : ℕ) (some : 0 < n) where
 
   named-of : (tokens : List Token) (name : List ℕ) (state : State) → AreOf n tokens → StateOf n state → StepOf n (named_file tokens name state)
   named-of tokens name state t s =
-      let line : Line = line_at tokens 0 in
+      let line : FileLine = line_at tokens 0 in
       let stands : (line_at tokens 0).file < n = line-of n some tokens 0 t in
       let asks : Step = Includes line name (drop 2 tokens) state in
       choice-of (nat_le 65536 (length state.names)) (Faults TooLong line) (cond (names_no_file name) (Faults Unsupported line) asks) stands

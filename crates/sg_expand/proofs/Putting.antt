@@ -3,10 +3,10 @@ use Rattle.std.proofs.Common.{◌≡◌, ℕ, ◌+◌, ◌<◌, ◌≤◌, ⊎_e
 use Rattle.std.proofs.lemmas.Bool.{cases_lt, le-leb, lt-leb}
 use Rattle.std.proofs.lemmas.List.{take_more, drop_more, take-append-drop}
 use Rattle.sg_lex.specs.declared.token.Token.{Token}
-use Rattle.sg_block.specs.declared.token.Line.{Line}
+use Rattle.sg_block.specs.declared.token.FileLine.{FileLine}
 use Rattle.sg_block.specs.Tokens.{token_size, line_of}
-use Rattle.sg_expand.specs.declared.fault.Stop.{Stop}
-use Rattle.sg_expand.specs.declared.fault.Stop.TheVariants.{Fault, ReadFault, NoMemory}
+use Rattle.sg_expand.specs.declared.fault.ExpandStop.{ExpandStop}
+use Rattle.sg_expand.specs.declared.fault.ExpandStop.TheVariants.{Fault, ReadFault, NoMemory}
 use Rattle.sg_expand.specs.Total.{Emits, counted}
 
 -- a token with which the total is within the limit
@@ -26,7 +26,7 @@ counted-more total next (x ∷ xs) ys h =
     (cases_lt 1048576 (total + token_size x))
 
 -- where some tokens pass the limit, so do more of them
-counted-stops : (total : ℕ) (line : Line) (xs ys : List Token) → counted total xs ≡ Err line → counted total (xs ++ ys) ≡ Err line
+counted-stops : (total : ℕ) (line : FileLine) (xs ys : List Token) → counted total xs ≡ Err line → counted total (xs ++ ys) ≡ Err line
 counted-stops total line [] ys h = let wrong : Ok total ≡ Err line = h in cc
 counted-stops total line (x ∷ xs) ys h =
     ⊎_elim (λ (passed : 1048576 < total + token_size x). over total x (xs ++ ys) passed ∙ (sym (over total x xs passed) ∙ h))
@@ -48,7 +48,7 @@ count-step first total next tokens place token within is so more =
     ap (counted first) grown ∙ counted-more first total (take place tokens) (token ∷ []) so ∙ more
 
 -- the token with which the total passes the limit
-count-stop : (first total : ℕ) (line : Line) (tokens : List Token) (place : ℕ) (token : Token) → place < length tokens → token ≡ get_or tokens place token
+count-stop : (first total : ℕ) (line : FileLine) (tokens : List Token) (place : ℕ) (token : Token) → place < length tokens → token ≡ get_or tokens place token
     → counted first (take place tokens) ≡ Ok total → counted total (token ∷ []) ≡ Err line → counted first tokens ≡ Err line
 count-stop first total line tokens place token within is so more =
     let rest : drop place tokens ≡ token ∷ drop (place + 1) tokens = drop_more tokens place token within ∙ ap (λ (t : Token). t ∷ drop (place + 1) tokens) (sym is) in
@@ -57,12 +57,12 @@ count-stop first total line tokens place token within is so more =
     ∙ counted-stops total line (token ∷ []) (drop (place + 1) tokens) more
 
 -- what stops a token stops those with which it comes
-pub emits-stop : (tokens : List Token) (place : ℕ) (token : Token) (first out next : List Token) (start total total' : ℕ) (stop : Stop) (result : Result Unit Stop) → result ≡ Err stop → place < length tokens → token ≡ get_or tokens place token
+pub emits-stop : (tokens : List Token) (place : ℕ) (token : Token) (first out next : List Token) (start total total' : ℕ) (stop : ExpandStop) (result : Result Unit ExpandStop) → result ≡ Err stop → place < length tokens → token ≡ get_or tokens place token
     → counted start (take place tokens) ≡ Ok total → Emits (token ∷ []) out total next total' (Err stop) → Emits tokens first start next total' result
 emits-stop tokens place token first out next start total total' stop result is within at so stops =
-    subst (λ (r : Result Unit Stop). Emits tokens first start next total' r) (sym is) (by stop stops)
+    subst (λ (r : Result Unit ExpandStop). Emits tokens first start next total' r) (sym is) (by stop stops)
   where
-    by : (stop : Stop) → Emits (token ∷ []) out total next total' (Err stop) → Emits tokens first start next total' (Err stop)
+    by : (stop : ExpandStop) → Emits (token ∷ []) out total next total' (Err stop) → Emits tokens first start next total' (Err stop)
     by (Fault fault) h = (h.0, count-stop start total h.0 tokens place token within at so h.1, h.2)
     by (ReadFault name) h = h
     by NoMemory h = tt

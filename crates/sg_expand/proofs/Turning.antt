@@ -7,11 +7,11 @@ use Rattle.sg_lex.specs.declared.token.Token.{Token}
 use Rattle.sg_lex.specs.declared.fault.ConfigFault.{ConfigFault}
 use Rattle.sg_lex.specs.declared.fault.ConfigKind.TheVariants.{TooLong}
 use Rattle.sg_expand.specs.declared.expander.Expander.{Expander}
-use Rattle.sg_expand.specs.declared.fault.Stop.{Stop}
-use Rattle.sg_expand.specs.declared.fault.Stop.TheVariants.{Fault, ReadFault, NoMemory}
+use Rattle.sg_expand.specs.declared.fault.ExpandStop.{ExpandStop}
+use Rattle.sg_expand.specs.declared.fault.ExpandStop.TheVariants.{Fault, ReadFault, NoMemory}
 use Rattle.sg_expand.specs.declared.frame.Context.{Context}
-use Rattle.sg_expand.specs.declared.frame.Frame.{Frame}
-use Rattle.sg_expand.specs.declared.frame.Frame.TheVariants.{Expands, Binds}
+use Rattle.sg_expand.specs.declared.frame.ExpandFrame.{ExpandFrame}
+use Rattle.sg_expand.specs.declared.frame.ExpandFrame.TheVariants.{Expands, Binds}
 use Rattle.sg_expand.specs.declared.frame.Rest.{Rest}
 use Rattle.sg_expand.specs.declared.frame.Wait.{Wait}
 use Rattle.sg_expand.specs.Expansion.{State, Outcome, Goes, Stops, Refusal, Faulty, Unread, Step, Ends, Moves, Faults, Includes, Uses, Job, Tokens, Runs, faults, file_faults, file_too_long, file_unread, step, file_tokens}
@@ -27,11 +27,11 @@ stopped : (job : Job) (s : State) (world : WorldState) (later : Later) (refusal 
 stopped job s world later refusal refusal' names names' world' e n r = (Stops refusal' names' world', (r, cc))
 
 -- an answer has one fault
-same-fault : (fault fault' : ConfigFault) (result : Result Unit Stop) → result ≡ Err (Fault fault) → result ≡ Err (Fault fault') → fault ≡ fault'
+same-fault : (fault fault' : ConfigFault) (result : Result Unit ExpandStop) → result ≡ Err (Fault fault) → result ≡ Err (Fault fault') → fault ≡ fault'
 same-fault fault fault' result a b = cc
 
 -- a step that stops
-pub step-stops : (asked : Step) (stop : Stop) (context : Context) (fresh : Bool) (tokens : List Token) (old new : Expander) (world world' : WorldState) (later : Later)
+pub step-stops : (asked : Step) (stop : ExpandStop) (context : Context) (fresh : Bool) (tokens : List Token) (old new : Expander) (world world' : WorldState) (later : Later)
     → step context fresh tokens (state_of old) ≡ asked → DoesStep asked context fresh old world new world' (Err stop)
     → Answers new world' (Err stop) (RunsThen (Tokens context fresh tokens) (state_of old) world later)
 step-stops asked NoMemory context fresh tokens old new world world' later e does = tt
@@ -62,36 +62,36 @@ step-stops (Uses block given rest next) (Fault fault) context fresh tokens old n
 step-stops (Uses block given rest next) (ReadFault other) context fresh tokens old new world world' later e does = absurd does.1
 
 -- a binding that stops
-binds-stop : (stop : Stop) (wait : Wait) (old new : Expander) (world : WorldState) (below : List Frame)
+binds-stop : (stop : ExpandStop) (wait : Wait) (old new : Expander) (world : WorldState) (below : List ExpandFrame)
     → DoesBind wait old new (Err stop) → Answers new world (Err stop) (Leads (Binds wait ∷ below) (state_of old) world)
 binds-stop NoMemory wait old new world below does = tt
 binds-stop (Fault fault) wait old new world below does = absurd does
 binds-stop (ReadFault name) wait old new world below does = absurd does
 
 -- what the frame on top asks for is done
-expands-at : (rest : Rest) (old : Expander) (world : WorldState) (new : Expander) (world' : WorldState) (result : Result Unit Stop)
+expands-at : (rest : Rest) (old : Expander) (world : WorldState) (new : Expander) (world' : WorldState) (result : Result Unit ExpandStop)
     → DoesStep (step rest.context rest.fresh rest.tokens (state_of old)) rest.context rest.fresh old world new world' result → DoesFrame (Expands rest) old world new world' result
 expands-at rest old world new world' (Ok done) does = λ o h.
     step-leads (step rest.context rest.fresh rest.tokens (state_of old)) rest.context rest.fresh rest.tokens old new world world' (reverse old.frames.items) refl refl does o h
 expands-at rest old world new world' (Err stop) does =
     step-stops (step rest.context rest.fresh rest.tokens (state_of old)) stop rest.context rest.fresh rest.tokens old new world world' (Leads (reverse old.frames.items)) refl does
 
-binds-at : (wait : Wait) (old : Expander) (world : WorldState) (new : Expander) (result : Result Unit Stop)
+binds-at : (wait : Wait) (old : Expander) (world : WorldState) (new : Expander) (result : Result Unit ExpandStop)
     → DoesBind wait old new result → DoesFrame (Binds wait) old world new world result
 binds-at wait old world new (Ok done) does = λ o h. binds-lead wait old new world (reverse old.frames.items) refl does o h
 binds-at wait old world new (Err stop) does = binds-stop stop wait old new world (reverse old.frames.items) does
 
 -- the same of a frame that is known to be one
-pub expands-does : (frame : Frame) (rest : Rest) (old : Expander) (world : WorldState) (new : Expander) (world' : WorldState) (result : Result Unit Stop) → frame ≡ Expands rest
+pub expands-does : (frame : ExpandFrame) (rest : Rest) (old : Expander) (world : WorldState) (new : Expander) (world' : WorldState) (result : Result Unit ExpandStop) → frame ≡ Expands rest
     → DoesStep (step rest.context rest.fresh rest.tokens (state_of old)) rest.context rest.fresh old world new world' result → DoesFrame frame old world new world' result
-expands-does frame rest old world new world' result e does = subst (λ (f : Frame). DoesFrame f old world new world' result) (sym e) (expands-at rest old world new world' result does)
+expands-does frame rest old world new world' result e does = subst (λ (f : ExpandFrame). DoesFrame f old world new world' result) (sym e) (expands-at rest old world new world' result does)
 
-pub binds-does : (frame : Frame) (wait : Wait) (old : Expander) (world : WorldState) (new : Expander) (result : Result Unit Stop) → frame ≡ Binds wait
+pub binds-does : (frame : ExpandFrame) (wait : Wait) (old : Expander) (world : WorldState) (new : Expander) (result : Result Unit ExpandStop) → frame ≡ Binds wait
     → DoesBind wait old new result → DoesFrame frame old world new world result
-binds-does frame wait old world new result e does = subst (λ (f : Frame). DoesFrame f old world new world result) (sym e) (binds-at wait old world new result does)
+binds-does frame wait old world new result e does = subst (λ (f : ExpandFrame). DoesFrame f old world new world result) (sym e) (binds-at wait old world new result does)
 
 -- an answer behind what leads on
-pub answers-then : (result : Result Unit Stop) (expander : Expander) (world : WorldState) (comes comes' : Outcome → Type 0)
+pub answers-then : (result : Result Unit ExpandStop) (expander : Expander) (world : WorldState) (comes comes' : Outcome → Type 0)
     → ((o : Outcome) → comes o → comes' o) → Answers expander world result comes → Answers expander world result comes'
 answers-then (Ok done) expander world comes comes' f h = f (Goes (state_of expander) world) h
 answers-then (Err (Fault fault)) expander world comes comes' f h = f (Stops (Faulty fault) expander.names world) h
@@ -99,11 +99,11 @@ answers-then (Err (ReadFault name)) expander world comes comes' f h = f (Stops (
 answers-then (Err NoMemory) expander world comes comes' f h = tt
 
 -- nothing waits
-pub ends-here : (frames : List Frame) (s : State) (world : WorldState) → length frames ≡ 0 → Leads (reverse frames) s world (Goes s world)
+pub ends-here : (frames : List ExpandFrame) (s : State) (world : WorldState) → length frames ≡ 0 → Leads (reverse frames) s world (Goes s world)
 ends-here [] s world e = refl
 ends-here (frame ∷ frames) s world e = absurd (omega arith)
 
 -- what waits with a frame on top
-pub frame-leads : (frames before : List Frame) (frame : Frame) (s : State) (world : WorldState) (o : Outcome) → frames ≡ before ++ frame ∷ [] → Leads (frame ∷ reverse before) s world o → Leads (reverse frames) s world o
+pub frame-leads : (frames before : List ExpandFrame) (frame : ExpandFrame) (s : State) (world : WorldState) (o : Outcome) → frames ≡ before ++ frame ∷ [] → Leads (frame ∷ reverse before) s world o → Leads (reverse frames) s world o
 frame-leads frames before frame s world o e h =
     leads-at (frame ∷ reverse before) (reverse frames) s s world o (sym (last-first frames before (reverse before) frame refl e)) refl h

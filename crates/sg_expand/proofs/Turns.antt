@@ -7,12 +7,12 @@ use Rattle.sg_outside.specs.World.{WorldState}
 use Rattle.sg_lex.specs.declared.token.Token.{Token}
 use Rattle.sg_block.specs.declared.argument.Argument.{Argument}
 use Rattle.sg_expand.specs.declared.expander.Expander.{Expander}
-use Rattle.sg_expand.specs.declared.fault.Stop.{Stop}
-use Rattle.sg_expand.specs.declared.fault.Stop.TheVariants.{Fault}
+use Rattle.sg_expand.specs.declared.fault.ExpandStop.{ExpandStop}
+use Rattle.sg_expand.specs.declared.fault.ExpandStop.TheVariants.{Fault}
 use Rattle.sg_expand.specs.declared.frame.Call.{Call}
 use Rattle.sg_expand.specs.declared.frame.Context.{Context}
-use Rattle.sg_expand.specs.declared.frame.Frame.{Frame}
-use Rattle.sg_expand.specs.declared.frame.Frame.TheVariants.{Expands, Binds}
+use Rattle.sg_expand.specs.declared.frame.ExpandFrame.{ExpandFrame}
+use Rattle.sg_expand.specs.declared.frame.ExpandFrame.TheVariants.{Expands, Binds}
 use Rattle.sg_expand.specs.declared.frame.Rest.{Rest}
 use Rattle.sg_expand.specs.declared.frame.Wait.{Wait}
 use Rattle.sg_expand.specs.Bounded.{IsBounded, waiting}
@@ -21,16 +21,16 @@ use Rattle.sg_expand.specs.Machine.{state_of, Calls, call_frames, call_of, DoesS
 use Rattle.sg_expand.specs.Whole.{IsNew, BeginsText}
 use Rattle.sg_expand.proofs.Bounding.{Holds, step-keeps, file-keeps}
 
-waiting-append : (xs ys : List Frame) → waiting (xs ++ ys) ≡ waiting xs + waiting ys
+waiting-append : (xs ys : List ExpandFrame) → waiting (xs ++ ys) ≡ waiting xs + waiting ys
 waiting-append [] ys = let e : waiting ys ≡ 0 + waiting ys = omega arith in e
 waiting-append (Expands rest ∷ xs) ys = waiting-append xs ys
 waiting-append (Binds wait ∷ xs) ys = let more = waiting-append xs ys in let e : length wait.out + waiting (xs ++ ys) ≡ length wait.out + waiting xs + waiting ys = omega arith in e
 
 -- tokens that are put on to be expanded hold nothing
-waiting-more : (frames before : List Frame) (rest : Rest) → frames ≡ before ++ Expands rest ∷ [] → waiting frames ≡ waiting before
+waiting-more : (frames before : List ExpandFrame) (rest : Rest) → frames ≡ before ++ Expands rest ∷ [] → waiting frames ≡ waiting before
 waiting-more frames before rest e = let sum = waiting-append before (Expands rest ∷ []) in let one : waiting frames ≡ waiting (before ++ Expands rest ∷ []) = ap waiting e in omega arith
 
-waiting-two : (frames before : List Frame) (rest other : Rest) → frames ≡ before ++ Expands rest ∷ Expands other ∷ [] → waiting frames ≡ waiting before
+waiting-two : (frames before : List ExpandFrame) (rest other : Rest) → frames ≡ before ++ Expands rest ∷ Expands other ∷ [] → waiting frames ≡ waiting before
 waiting-two frames before rest other e = let sum = waiting-append before (Expands rest ∷ Expands other ∷ []) in let one : waiting frames ≡ waiting (before ++ Expands rest ∷ Expands other ∷ []) = ap waiting e in omega arith
 
 -- from what holds in a state
@@ -62,7 +62,7 @@ calls-bounded call (argument ∷ left) old new e does h =
     record { held = omega arith; limit = omega arith }
 
 -- an answer is one
-not-both : (stop : Stop) (result : Result Unit Stop) → result ≡ Ok tt → result ≡ Err stop → ⊥
+not-both : (stop : ExpandStop) (result : Result Unit ExpandStop) → result ≡ Ok tt → result ≡ Err stop → ⊥
 not-both stop result a b = cc
 
 step-bounded : (asked : Step) (context : Context) (fresh : Bool) (tokens : List Token) (old new : Expander) (world world' : WorldState) → step context fresh tokens (state_of old) ≡ asked
@@ -91,22 +91,22 @@ step-bounded (Uses block given rest next) context fresh tokens old new world wor
     calls-bounded (call_of context block given) _ middle new refl does.1.1.1.1 (subst (λ (n : ℕ). Holds n (state_of middle)) (sym frames) begins)
 
 -- what the frame on top asks for is done
-pub expands-bounded : (frame : Frame) (rest : Rest) (old new : Expander) (world world' : WorldState) (result : Result Unit Stop) → frame ≡ Expands rest → IsBounded (frame ∷ old.frames.items) old
+pub expands-bounded : (frame : ExpandFrame) (rest : Rest) (old new : Expander) (world world' : WorldState) (result : Result Unit ExpandStop) → frame ≡ Expands rest → IsBounded (frame ∷ old.frames.items) old
     → DoesStep (step rest.context rest.fresh rest.tokens (state_of old)) rest.context rest.fresh old world new world' result → OnOk result (IsBounded new.frames.items new)
 expands-bounded frame rest old new world world' (Ok done) e bounded does =
-    let here : IsBounded (Expands rest ∷ old.frames.items) old = subst (λ (f : Frame). IsBounded (f ∷ old.frames.items) old) e bounded in
+    let here : IsBounded (Expands rest ∷ old.frames.items) old = subst (λ (f : ExpandFrame). IsBounded (f ∷ old.frames.items) old) e bounded in
     step-bounded (step rest.context rest.fresh rest.tokens (state_of old)) rest.context rest.fresh rest.tokens old new world world' refl does (here.held, here.limit)
 expands-bounded frame rest old new world world' (Err stop) e bounded does = tt
 
-pub binds-bounded : (frame : Frame) (wait : Wait) (old new : Expander) (result : Result Unit Stop) → frame ≡ Binds wait → IsBounded (frame ∷ old.frames.items) old → DoesBind wait old new result → OnOk result (IsBounded new.frames.items new)
+pub binds-bounded : (frame : ExpandFrame) (wait : Wait) (old new : Expander) (result : Result Unit ExpandStop) → frame ≡ Binds wait → IsBounded (frame ∷ old.frames.items) old → DoesBind wait old new result → OnOk result (IsBounded new.frames.items new)
 binds-bounded frame wait old new (Ok done) e bounded does =
-    let here : IsBounded (Binds wait ∷ old.frames.items) old = subst (λ (f : Frame). IsBounded (f ∷ old.frames.items) old) e bounded in
+    let here : IsBounded (Binds wait ∷ old.frames.items) old = subst (λ (f : ExpandFrame). IsBounded (f ∷ old.frames.items) old) e bounded in
     let sum : length wait.out + waiting old.frames.items + length old.out ≤ old.total = here.held in
     calls-bounded (record wait.call { bound = map.insert wait.call.bound wait.name old.out }) wait.call.left (record old { out = wait.out }) new refl does (omega arith, here.limit)
 binds-bounded frame wait old new (Err stop) e bounded does = tt
 
 -- the frame on top is taken off
-pub popped-bounded : (frames : List Frame) (before : Vec Frame Global) (frame : Frame) (expander : Expander) → frames ≡ before.items ++ frame ∷ [] → IsBounded frames expander → IsBounded (frame ∷ before.items) (record expander { frames = before })
+pub popped-bounded : (frames : List ExpandFrame) (before : Vec ExpandFrame Global) (frame : ExpandFrame) (expander : Expander) → frames ≡ before.items ++ frame ∷ [] → IsBounded frames expander → IsBounded (frame ∷ before.items) (record expander { frames = before })
 popped-bounded frames before frame expander e bounded =
     let sum = waiting-append before.items (frame ∷ []) in
     let same : waiting frames ≡ waiting (before.items ++ frame ∷ []) = ap waiting e in
@@ -114,7 +114,7 @@ popped-bounded frames before frame expander e bounded =
     let held : waiting frames + length expander.out ≤ expander.total = bounded.held in
     record { held = omega arith; limit = bounded.limit }
   where
-    one : (f : Frame) → waiting (f ∷ before.items) ≡ waiting before.items + waiting (f ∷ [])
+    one : (f : ExpandFrame) → waiting (f ∷ before.items) ≡ waiting before.items + waiting (f ∷ [])
     one (Expands rest) = let e : waiting before.items ≡ waiting before.items + 0 = omega arith in e
     one (Binds wait) = let e : length wait.out + waiting before.items ≡ waiting before.items + (length wait.out + 0) = omega arith in e
 

@@ -7,32 +7,32 @@ use Rattle.sg_lex.specs.declared.token.Token.{Token}
 use Rattle.sg_lex.specs.declared.fault.ConfigKind.TheVariants.{TooLong}
 use Rattle.sg_block.specs.Values.{Values}
 use Rattle.sg_block.specs.declared.argument.Argument.{Argument}
-use Rattle.sg_block.specs.declared.token.Line.{Line}
+use Rattle.sg_block.specs.declared.token.FileLine.{FileLine}
 use Rattle.sg_expand.specs.declared.expander.Expander.{Expander}
-use Rattle.sg_expand.specs.declared.fault.Stop.{Stop}
-use Rattle.sg_expand.specs.declared.fault.Stop.TheVariants.{Fault, ReadFault, NoMemory}
+use Rattle.sg_expand.specs.declared.fault.ExpandStop.{ExpandStop}
+use Rattle.sg_expand.specs.declared.fault.ExpandStop.TheVariants.{Fault, ReadFault, NoMemory}
 use Rattle.sg_expand.specs.declared.frame.Call.{Call}
 use Rattle.sg_expand.specs.declared.frame.Context.{Context}
-use Rattle.sg_expand.specs.declared.frame.Frame.{Frame}
-use Rattle.sg_expand.specs.declared.frame.Frame.TheVariants.{Binds}
+use Rattle.sg_expand.specs.declared.frame.ExpandFrame.{ExpandFrame}
+use Rattle.sg_expand.specs.declared.frame.ExpandFrame.TheVariants.{Binds}
 use Rattle.sg_expand.specs.declared.uses.Asked.{Asked}
 use Rattle.sg_expand.specs.Expansion.{State, Faults, Uses}
 use Rattle.sg_expand.specs.Machine.{Calls, Pushes, Does, DoesUse, BeginsUse, state_of, tokens_frame, call_of, call_frames}
 use Rattle.sg_expand.specs.Total.{IsSize}
 
 -- the use waits, and then the argument's tokens are put on
-pub calls-next : (call : Call) (argument : Argument) (left : List Argument) (context : Context) (out : List Token) (old begun new : Expander) (frames : Vec Frame Global) (result : Result Unit Stop)
+pub calls-next : (call : Call) (argument : Argument) (left : List Argument) (context : Context) (out : List Token) (old begun new : Expander) (frames : Vec ExpandFrame Global) (result : Result Unit ExpandStop)
     → call.left ≡ argument ∷ left → context ≡ call.context → out ≡ old.out → begun ≡ record old { out = [] }
     → frames.items ≡ begun.frames.items ++ Binds (record { call = record call { left = left }; name = argument.name; out = out }) ∷ []
     → Pushes (tokens_frame context false argument.tokens ∷ []) (record begun { frames = frames }) new result
     → Calls call old new result
 calls-next call argument left context out old begun new frames (Ok done) left-is context-is out-is begun-is waits pushed =
     let later = tokens_frame context false argument.tokens in
-    let wait : Frame = Binds (record { call = record call { left = left }; name = argument.name; out = out }) in
-    let first : new.frames.items ≡ begun.frames.items ++ (wait ∷ later ∷ []) = pushed.1 ∙ ap (λ (fs : List Frame). fs ++ later ∷ []) waits ∙ append_assoc begun.frames.items (wait ∷ []) (later ∷ []) in
+    let wait : ExpandFrame = Binds (record { call = record call { left = left }; name = argument.name; out = out }) in
+    let first : new.frames.items ≡ begun.frames.items ++ (wait ∷ later ∷ []) = pushed.1 ∙ ap (λ (fs : List ExpandFrame). fs ++ later ∷ []) waits ∙ append_assoc begun.frames.items (wait ∷ []) (later ∷ []) in
     let before : begun.frames.items ≡ old.frames.items = ap (λ (e : Expander). e.frames.items) begun-is in
     let both : (wait ∷ later ∷ []) ≡ call_frames call (argument ∷ left) old.out = cc in
-    (cc, first ∙ ap (λ (fs : List Frame). fs ++ (wait ∷ later ∷ [])) before ∙ ap (λ (fs : List Frame). old.frames.items ++ fs) (both ∙ ap (λ xs. call_frames call xs old.out) (sym left-is)))
+    (cc, first ∙ ap (λ (fs : List ExpandFrame). fs ++ (wait ∷ later ∷ [])) before ∙ ap (λ (fs : List ExpandFrame). old.frames.items ++ fs) (both ∙ ap (λ xs. call_frames call xs old.out) (sym left-is)))
 calls-next call argument left context out old begun new frames (Err (Fault fault)) left-is context-is out-is begun-is waits pushed = pushed
 calls-next call argument left context out old begun new frames (Err (ReadFault name)) left-is context-is out-is begun-is waits pushed = pushed
 calls-next call argument left context out old begun new frames (Err NoMemory) left-is context-is out-is begun-is waits pushed = tt
@@ -43,7 +43,7 @@ counted-size size found total is within =
     let small : size ≤ 1048576 = grind arith in
     (is.0 small, let e : found ≡ size = is.0 small in omega arith)
 
-begun : (context : Context) (call call' : Call) (behind : List Token) (next : State) (old middle new : Expander) (result : Result Unit Stop)
+begun : (context : Context) (call call' : Call) (behind : List Token) (next : State) (old middle new : Expander) (result : Result Unit ExpandStop)
     → call ≡ call' → state_of middle ≡ next → middle.frames.items ≡ old.frames.items ++ tokens_frame context false behind ∷ []
     → Calls call middle new result → DoesUse context call' behind next old new result
 begun context call call' behind next old middle new (Ok done) call-is state-is frames-is calls =
@@ -53,7 +53,7 @@ begun context call call' behind next old middle new (Err (ReadFault name)) call-
 begun context call call' behind next old middle new (Err NoMemory) call-is state-is frames-is calls = tt
 
 -- a use is counted, the tokens behind it are put on, and its binding begins
-pub begins-use : (context shared : Context) (place : Line) (asked : Asked) (behind : List Token) (bound : Values) (total : ℕ) (old middle new : Expander) (result : Result Unit Stop)
+pub begins-use : (context shared : Context) (place : FileLine) (asked : Asked) (behind : List Token) (bound : Values) (total : ℕ) (old middle new : Expander) (result : Result Unit ExpandStop)
     → total ≡ old.total + asked.size → old.total + asked.size ≤ 1048576 → shared ≡ context → bound ≡ map.empty
     → middle ≡ record old { total = total; frames = middle.frames } → middle.frames.items ≡ old.frames.items ++ tokens_frame context false behind ∷ []
     → Calls (record { context = shared; serial = asked.serial; body = asked.body; left = asked.left; bound = bound }) middle new result

@@ -2,8 +2,8 @@
 use Rattle.std.specs.Prelude.{ℕ, ◌+◌, ◌≤◌, List, [], ◌∷◌, length}
 use Rattle.sg_outside.specs.World.{WorldState}
 use Rattle.sg_expand.specs.declared.expander.Expander.{Expander}
-use Rattle.sg_expand.specs.declared.frame.Frame.{Frame}
-use Rattle.sg_expand.specs.declared.frame.Frame.TheVariants.{Expands, Binds}
+use Rattle.sg_expand.specs.declared.frame.ExpandFrame.{ExpandFrame}
+use Rattle.sg_expand.specs.declared.frame.ExpandFrame.TheVariants.{Expands, Binds}
 use Rattle.sg_expand.specs.Expansion.{State, Outcome, Job, Runs}
 use Rattle.sg_expand.specs.Expansion.Runs.{ends, moves, faults, includes, included_stops, file_faults, file_too_long, file_unread, uses, use_stops, binds, value_stops, body_runs}
 
@@ -43,12 +43,12 @@ StaysWithin held _ _ _ _ (body_runs context serial body bound state world outcom
     HoldsWithin held state × StaysWithin held _ _ _ _ r
 
 -- the tokens that came out before the values for which these frames wait
-abbrev pub waiting : List Frame → ℕ
+abbrev pub waiting : List ExpandFrame → ℕ
 waiting [] = 0
 waiting (Expands rest ∷ frames) = waiting frames
 waiting (Binds wait ∷ frames) = length wait.out + waiting frames
 
 -- what an expander holds of the list and of the values that are expanded, with these frames to be done, is no more than the total
-pub record IsBounded (frames : List Frame) (expander : Expander) : Type 0 where
+pub record IsBounded (frames : List ExpandFrame) (expander : Expander) : Type 0 where
   pub held : waiting frames + length expander.out ≤ expander.total
   pub limit : expander.total ≤ 1048576

@@ -20,7 +20,7 @@ use Rattle.sg_lex.specs.declared.fault.ConfigKind.{ConfigKind}
 use Rattle.sg_lex.specs.declared.fault.ConfigKind.TheVariants.{OpenString, BadByte, Version, IncludeDepth, UnknownVariable, MissingArgument, UnknownArgument, TooLong, Unsupported}
 use Rattle.sg_lex.specs.declared.fault.ConfigFault.{ConfigFault}
 use Rattle.sg_lex.specs.Tokens.{tokens_of, line_at as line_in}
-use Rattle.sg_block.specs.declared.token.Line.{Line}
+use Rattle.sg_block.specs.declared.token.FileLine.{FileLine}
 use Rattle.sg_block.specs.declared.argument.Argument.{Argument}
 use Rattle.sg_block.specs.declared.form.Definition.{Definition}
 use Rattle.sg_expand.specs.declared.block.Block.{Block}
@@ -68,18 +68,18 @@ pub data Step : Type 0 where
   -- to go on with these tokens, at whose front a use may stand or not
   Moves : Bool → List Token → State → Step
   -- a fault that stands at this line
-  Faults : ConfigKind → Line → Step
+  Faults : ConfigKind → FileLine → Step
   -- the directive's line, the name of the file to be read, and the tokens behind it
-  Includes : Line → List ℕ → List Token → State → Step
+  Includes : FileLine → List ℕ → List Token → State → Step
   -- the block, what is given, and the tokens behind the use
   Uses : Block → List Argument → List Token → State → Step
 
 -- the running total grows, or the fault stands at the line
-abbrev pub charged : ℕ → Line → State → (State → Step) → Step
+abbrev pub charged : ℕ → FileLine → State → (State → Step) → Step
 charged size line state later = if nat_le (state.total + size) 1048576 then later (record state { total = state.total + size }) else Faults TooLong line
 
 -- tokens come out, each of which is counted
-abbrev pub emitted_by : Bool → List Token → List Token → State → Result ℕ Line → Step
+abbrev pub emitted_by : Bool → List Token → List Token → State → Result ℕ FileLine → Step
 emitted_by fresh rest tokens state (Ok total) = Moves fresh rest
     (record state { total = total; out = state.out ++ tokens })
 emitted_by fresh rest tokens state (Err line) = Faults TooLong line
@@ -253,7 +253,7 @@ lexed file text (Ok tokens) = Ok tokens
 lexed file text (Err fault) = Err (fault_in file text fault)
 
 -- the tokens of the next file of this text, which an `@include` at this line asks for, once its bytes are counted
-abbrev pub file_tokens : Line → State → List ℕ → Result (List Token) ConfigFault
+abbrev pub file_tokens : FileLine → State → List ℕ → Result (List Token) ConfigFault
 file_tokens line state text =
     if nat_le (state.total + (length text + 1)) 1048576 then lexed (length state.names) text (tokens_of (length state.names) text)
     else Err (fault_at TooLong line)
@@ -278,13 +278,13 @@ pub data Runs : Job → State → WorldState → Outcome → Type 0 where
       → Runs (Tokens context again rest) next world outcome
       → Runs (Tokens context fresh tokens) state world outcome
   faults : (context : Context) (fresh : Bool) (tokens : List Token) (state : State)
-      (world : WorldState) (kind : ConfigKind) (line : Line)
+      (world : WorldState) (kind : ConfigKind) (line : FileLine)
       → step context fresh tokens state ≡ Faults kind line
       → Runs (Tokens context fresh tokens) state world
       (Stops (Faulty (fault_at kind line)) state.names world)
   -- a file is read, and its tokens are expanded before those behind the `@include`
   includes : (context : Context) (fresh : Bool) (tokens : List Token) (state : State)
-      (world : WorldState) (line : Line) (name : List ℕ) (rest : List Token) (next : State)
+      (world : WorldState) (line : FileLine) (name : List ℕ) (rest : List Token) (next : State)
       (read : WorldState) (bytes : Vec ℕ Global) (found : List Token) (middle : State)
       (later : WorldState) (outcome : Outcome)
       → step context fresh tokens state ≡ Includes line name rest next
@@ -295,7 +295,7 @@ pub data Runs : Job → State → WorldState → Outcome → Type 0 where
       → Runs (Tokens context fresh rest) middle later outcome
       → Runs (Tokens context fresh tokens) state world outcome
   included_stops : (context : Context) (fresh : Bool) (tokens : List Token) (state : State)
-      (world : WorldState) (line : Line) (name : List ℕ) (rest : List Token) (next : State)
+      (world : WorldState) (line : FileLine) (name : List ℕ) (rest : List Token) (next : State)
       (read : WorldState) (bytes : Vec ℕ Global) (found : List Token) (refusal : Refusal)
       (names : List (List ℕ)) (later : WorldState)
       → step context fresh tokens state ≡ Includes line name rest next
@@ -305,7 +305,7 @@ pub data Runs : Job → State → WorldState → Outcome → Type 0 where
       (Stops refusal names later)
       → Runs (Tokens context fresh tokens) state world (Stops refusal names later)
   file_faults : (context : Context) (fresh : Bool) (tokens : List Token) (state : State)
-      (world : WorldState) (line : Line) (name : List ℕ) (rest : List Token) (next : State)
+      (world : WorldState) (line : FileLine) (name : List ℕ) (rest : List Token) (next : State)
       (read : WorldState) (bytes : Vec ℕ Global) (fault : ConfigFault)
       → step context fresh tokens state ≡ Includes line name rest next
       → Reads world read name 1048576 (Ok bytes)
@@ -313,14 +313,14 @@ pub data Runs : Job → State → WorldState → Outcome → Type 0 where
       → Runs (Tokens context fresh tokens) state world
       (Stops (Faulty fault) (next.names ++ name ∷ []) read)
   file_too_long : (context : Context) (fresh : Bool) (tokens : List Token) (state : State)
-      (world : WorldState) (line : Line) (name : List ℕ) (rest : List Token) (next : State)
+      (world : WorldState) (line : FileLine) (name : List ℕ) (rest : List Token) (next : State)
       (read : WorldState)
       → step context fresh tokens state ≡ Includes line name rest next
       → Reads world read name 1048576 (Err FileTooLong)
       → Runs (Tokens context fresh tokens) state world
       (Stops (Faulty (fault_at TooLong line)) next.names read)
   file_unread : (context : Context) (fresh : Bool) (tokens : List Token) (state : State)
-      (world : WorldState) (line : Line) (name : List ℕ) (rest : List Token) (next : State)
+      (world : WorldState) (line : FileLine) (name : List ℕ) (rest : List Token) (next : State)
       (read : WorldState)
       → step context fresh tokens state ≡ Includes line name rest next
       → Reads world read name 1048576 (Err Failed)
@@ -368,7 +368,7 @@ first_state name = record { variables = map.empty; blocks = map.empty; serial = 
 abbrev pub first_context : Context
 first_context = record { depth = 0; scope = map.empty; limit = None }
 
-abbrev pub first_line : List Token → Line
+abbrev pub first_line : List Token → FileLine
 first_line tokens = option_map_or (λ token. record { file = token.file; line = token.line })
     (slice_get tokens 0) (record { file = 0; line = 1 })
 

@@ -11,15 +11,15 @@ use Rattle.sg_block.specs.Arguments.{is_missing, is_unknown, bindings}
 use Rattle.sg_block.specs.Tokens.{line_at}
 use Rattle.sg_block.specs.Trimmed.{trimmed}
 use Rattle.sg_block.specs.declared.argument.Argument.{Argument}
-use Rattle.sg_block.specs.declared.token.Line.{Line}
+use Rattle.sg_block.specs.declared.token.FileLine.{FileLine}
 use Rattle.sg_expand.specs.declared.block.Block.{Block}
 use Rattle.sg_expand.specs.declared.expander.Expander.{Expander}
-use Rattle.sg_expand.specs.declared.fault.Stop.{Stop}
-use Rattle.sg_expand.specs.declared.fault.Stop.TheVariants.{Fault, ReadFault, NoMemory}
+use Rattle.sg_expand.specs.declared.fault.ExpandStop.{ExpandStop}
+use Rattle.sg_expand.specs.declared.fault.ExpandStop.TheVariants.{Fault, ReadFault, NoMemory}
 use Rattle.sg_expand.specs.declared.frame.Call.{Call}
 use Rattle.sg_expand.specs.declared.frame.Context.{Context}
-use Rattle.sg_expand.specs.declared.frame.Frame.{Frame}
-use Rattle.sg_expand.specs.declared.frame.Frame.TheVariants.{Expands, Binds}
+use Rattle.sg_expand.specs.declared.frame.ExpandFrame.{ExpandFrame}
+use Rattle.sg_expand.specs.declared.frame.ExpandFrame.TheVariants.{Expands, Binds}
 use Rattle.sg_expand.specs.declared.frame.Wait.{Wait}
 use Rattle.sg_expand.specs.declared.uses.Asked.{Asked}
 use Rattle.sg_expand.specs.Expansion.{State, Step, Ends, Moves, Faults, Includes, Uses, body_context, file_context, file_tokens, with_file, names_no_file, charged, use_size, plain, word_or_use}
@@ -38,12 +38,12 @@ state_of expander = record {
 }
 
 -- these tokens are expanded next
-abbrev pub tokens_frame : Context → Bool → List Token → Frame
+abbrev pub tokens_frame : Context → Bool → List Token → ExpandFrame
 tokens_frame context fresh tokens = Expands
     (record { context = context; fresh = fresh; tokens = tokens })
 
 -- frames stand on those before, the first of them to be done the last
-abbrev pub Pushes : List Frame → Expander → Expander → Result Unit Stop → Type 0
+abbrev pub Pushes : List ExpandFrame → Expander → Expander → Result Unit ExpandStop → Type 0
 Pushes frames old new (Ok done) = (new ≡ record old { frames = new.frames })
     × (new.frames.items ≡ old.frames.items ++ frames)
 Pushes frames old new (Err (Fault fault)) = ⊥
@@ -51,7 +51,7 @@ Pushes frames old new (Err (ReadFault name)) = ⊥
 Pushes frames old new (Err NoMemory) = Unit {0}
 
 -- the frames with which the binding of a use goes on, and what comes out then
-abbrev pub call_frames : Call → List Argument → List Token → List Frame
+abbrev pub call_frames : Call → List Argument → List Token → List ExpandFrame
 call_frames call [] out =
     tokens_frame (body_context call.context call.bound call.serial) true (trimmed call.body) ∷ []
 call_frames call (argument ∷ left) out =
@@ -63,7 +63,7 @@ call_out [] out = out
 call_out (argument ∷ left) out = []
 
 -- the binding of a use goes on with the next argument, or with the body
-abbrev pub Calls : Call → Expander → Expander → Result Unit Stop → Type 0
+abbrev pub Calls : Call → Expander → Expander → Result Unit ExpandStop → Type 0
 Calls call old new (Ok done) =
     (new ≡ record old { frames = new.frames; out = call_out call.left old.out })
     × (new.frames.items ≡ old.frames.items ++ call_frames call call.left old.out)
@@ -72,7 +72,7 @@ Calls call old new (Err (ReadFault name)) = ⊥
 Calls call old new (Err NoMemory) = Unit {0}
 
 -- the value that is whole now is bound, and what came out before it stands in its place
-abbrev pub DoesBind : Wait → Expander → Expander → Result Unit Stop → Type 0
+abbrev pub DoesBind : Wait → Expander → Expander → Result Unit ExpandStop → Type 0
 DoesBind wait old new result =
     Calls (record wait.call { bound = map.insert wait.call.bound wait.name old.out })
     (record old { out = wait.out }) new result
@@ -87,7 +87,8 @@ call_of context block given = record {
   bound = map.empty;
 }
 
-abbrev pub DoesUse : Context → Call → List Token → State → Expander → Expander → Result Unit Stop
+abbrev pub DoesUse : Context → Call → List Token → State → Expander → Expander
+    → Result Unit ExpandStop
     → Type 0
 DoesUse context call rest next old new (Ok done) =
     (middle : Expander) × ((state_of middle ≡ next)
@@ -97,19 +98,20 @@ DoesUse context call rest next old new (Err (ReadFault name)) = ⊥
 DoesUse context call rest next old new (Err NoMemory) = Unit {0}
 
 -- nothing is left to be done
-abbrev pub DoesNothing : Expander → Expander → Result Unit Stop → Type 0
+abbrev pub DoesNothing : Expander → Expander → Result Unit ExpandStop → Type 0
 DoesNothing old new (Ok done) = new ≡ old
 DoesNothing old new (Err (Fault fault)) = ⊥
 DoesNothing old new (Err (ReadFault name)) = ⊥
 DoesNothing old new (Err NoMemory) = Unit {0}
 
-abbrev pub IsNoMemory : Result Unit Stop → Type 0
+abbrev pub IsNoMemory : Result Unit ExpandStop → Type 0
 IsNoMemory (Ok done) = ⊥
 IsNoMemory (Err (Fault fault)) = ⊥
 IsNoMemory (Err (ReadFault name)) = ⊥
 IsNoMemory (Err NoMemory) = Unit {0}
 
-abbrev pub DoesMove : Context → Bool → List Token → State → Expander → Expander → Result Unit Stop
+abbrev pub DoesMove : Context → Bool → List Token → State → Expander → Expander
+    → Result Unit ExpandStop
     → Type 0
 DoesMove context fresh rest next old new (Ok done) =
     (state_of new ≡ next)
@@ -118,7 +120,7 @@ DoesMove context fresh rest next old new (Err (Fault fault)) = ⊥
 DoesMove context fresh rest next old new (Err (ReadFault name)) = ⊥
 DoesMove context fresh rest next old new (Err NoMemory) = Unit {0}
 
-abbrev pub DoesFault : ConfigKind → Line → Expander → Expander → Result Unit Stop → Type 0
+abbrev pub DoesFault : ConfigKind → FileLine → Expander → Expander → Result Unit ExpandStop → Type 0
 DoesFault kind line old new (Ok done) = ⊥
 DoesFault kind line old new (Err (Fault fault)) = (fault ≡ fault_at kind line)
     × (new.names ≡ old.names)
@@ -126,14 +128,15 @@ DoesFault kind line old new (Err (ReadFault name)) = ⊥
 DoesFault kind line old new (Err NoMemory) = Unit {0}
 
 -- a token comes out as these, unless it names what is unknown
-abbrev pub EmitsToken : Option (List Token) → Line → Expander → Expander → Result Unit Stop → Type 0
+abbrev pub EmitsToken : Option (List Token) → FileLine → Expander → Expander
+    → Result Unit ExpandStop → Type 0
 EmitsToken None line old new result = DoesFault UnknownVariable line old new result
 EmitsToken (Some tokens) line old new result =
     (new ≡ record old { total = new.total; out = new.out })
     × Emits tokens old.out old.total new.out new.total result
 
 -- a step that reads no file does what is asked for
-abbrev pub Does : Step → Context → Expander → Expander → Result Unit Stop → Type 0
+abbrev pub Does : Step → Context → Expander → Expander → Result Unit ExpandStop → Type 0
 Does Ends context old new result = DoesNothing old new result
 Does (Moves fresh rest next) context old new result = DoesMove context fresh rest next old new
     result
@@ -150,7 +153,7 @@ pub record IsAskedFor (asked : Asked) (size : ℕ) (block : Block) (given : List
   pub left_is : asked.left ≡ bindings block.parameters given
 
 -- a use that gives these arguments, or what is wrong with it
-abbrev pub IsAsked : List Token → Block → List Argument → Result Asked Stop → Type 0
+abbrev pub IsAsked : List Token → Block → List Argument → Result Asked ExpandStop → Type 0
 IsAsked tokens block given (Ok asked) =
     (is_missing block.parameters given ≡ false) × ((is_unknown block.parameters given ≡ false)
     × IsAskedFor asked (use_size tokens block) block given)
@@ -164,7 +167,7 @@ IsAsked tokens block given (Err NoMemory) = Unit {0}
 
 -- the use at the front, if one stands there, or what is wrong with it
 abbrev pub FindsUse : Context → Bool → List Token → State
-    → Result (Option (Asked × List Token)) Stop → Type 0
+    → Result (Option (Asked × List Token)) ExpandStop → Type 0
 FindsUse context fresh tokens state (Ok None) = word_or_use context fresh tokens state
     ≡ plain context tokens state
 FindsUse context fresh tokens state (Ok (Some found)) =
@@ -177,25 +180,27 @@ FindsUse context fresh tokens state (Err (ReadFault name)) = ⊥
 FindsUse context fresh tokens state (Err NoMemory) = Unit {0}
 
 -- the use of a block begins, whichever block it is that asks so
-abbrev pub BeginsUse : Context → Line → Asked → List Token → Expander → Expander → Result Unit Stop
+abbrev pub BeginsUse : Context → FileLine → Asked → List Token → Expander → Expander
+    → Result Unit ExpandStop
     → Type 0
 BeginsUse context line asked rest old new result =
     (size : ℕ) (block : Block) (given : List Argument) → IsAskedFor asked size block given
     → Does (charged size line (state_of old) (Uses block given rest)) context old new result
 
 -- the name of the file that an `@include` asks for, which is counted, or what is wrong with it
-abbrev pub NamesFile : Step → Line → List Token → Expander → Expander → Result (List ℕ) Stop
+abbrev pub NamesFile : Step → FileLine → List Token → Expander → Expander
+    → Result (List ℕ) ExpandStop
     → Type 0
 NamesFile step line rest old new (Ok name) = (step ≡ Includes line name rest (state_of new))
     × (new.frames.items ≡ old.frames.items)
 NamesFile step line rest old new (Err (Fault fault)) = (kind : ConfigKind)
-    × ((place : Line)
+    × ((place : FileLine)
     × ((step ≡ Faults kind place) × ((fault ≡ fault_at kind place) × (new.names ≡ old.names))))
 NamesFile step line rest old new (Err (ReadFault name)) = ⊥
 NamesFile step line rest old new (Err NoMemory) = Unit {0}
 
 -- whether a file of this name may be read, as the next one
-abbrev pub ChecksName : List (List ℕ) → List ℕ → Line → Result Unit Stop → Type 0
+abbrev pub ChecksName : List (List ℕ) → List ℕ → FileLine → Result Unit ExpandStop → Type 0
 ChecksName names name line (Ok done) = (length names < 65536) × (names_no_file name ≡ false)
 ChecksName names name line (Err (Fault fault)) =
     ((65536 ≤ length names) × (fault ≡ fault_at TooLong line))
@@ -204,8 +209,8 @@ ChecksName names name line (Err (ReadFault other)) = ⊥
 ChecksName names name line (Err NoMemory) = ⊥
 
 -- a file was read, and its tokens are expanded before those behind the `@include`
-abbrev pub TakesFile : Context → Bool → Line → List ℕ → List Token → List ℕ → Expander → Expander
-    → Result Unit Stop → Type 0
+abbrev pub TakesFile : Context → Bool → FileLine → List ℕ → List Token → List ℕ → Expander
+    → Expander → Result Unit ExpandStop → Type 0
 TakesFile context fresh line name rest text old new (Ok done) =
     (found : List Token) × ((file_tokens line (state_of old) text ≡ Ok found) × ((state_of new ≡ with_file name text (state_of old))
     × (new.frames.items ≡ old.frames.items ++ tokens_frame context fresh rest ∷ tokens_frame (file_context context) true found ∷ [])))
@@ -215,8 +220,8 @@ TakesFile context fresh line name rest text old new (Err (ReadFault other)) = �
 TakesFile context fresh line name rest text old new (Err NoMemory) = Unit {0}
 
 -- what an `@include` of a name that may be read does, from where its name was counted
-abbrev pub DoesInclude : Context → Bool → Line → List ℕ → List Token → State → Expander → WorldState
-    → Expander → WorldState → Result Unit Stop → Type 0
+abbrev pub DoesInclude : Context → Bool → FileLine → List ℕ → List Token → State → Expander
+    → WorldState → Expander → WorldState → Result Unit ExpandStop → Type 0
 DoesInclude context fresh line name rest next old world new world' (Err NoMemory) = Unit {0}
 DoesInclude context fresh line name rest next old world new world' (Err (ReadFault other)) =
     (other ≡ name) × (Reads world world' name 1048576 (Err Failed) × (new.names ≡ next.names))
@@ -228,7 +233,7 @@ DoesInclude context fresh line name rest next old world new world' result =
 
 -- a step does what is asked for
 abbrev pub DoesStep : Step → Context → Bool → Expander → WorldState → Expander → WorldState
-    → Result Unit Stop → Type 0
+    → Result Unit ExpandStop → Type 0
 DoesStep (Includes line name rest next) context fresh old world new world' result =
     DoesInclude context fresh line name rest next old world new world' result
 DoesStep step context fresh old world new world' result = (world' ≡ world)

@@ -3,8 +3,8 @@ use Rattle.std.specs.Prelude.{◌≡◌, List, [], ◌∷◌}
 use Rattle.std.specs.FinMap as map
 use Rattle.sg_outside.specs.World.{WorldState}
 use Rattle.sg_expand.specs.declared.frame.Call.{Call}
-use Rattle.sg_expand.specs.declared.frame.Frame.{Frame}
-use Rattle.sg_expand.specs.declared.frame.Frame.TheVariants.{Expands, Binds}
+use Rattle.sg_expand.specs.declared.frame.ExpandFrame.{ExpandFrame}
+use Rattle.sg_expand.specs.declared.frame.ExpandFrame.TheVariants.{Expands, Binds}
 use Rattle.sg_expand.specs.Expansion.{State, Outcome, Goes, Stops, Job, Tokens, Binding, Runs, with_out}
 
 -- what goes on from a state of the expansion and of the machine
@@ -24,7 +24,7 @@ abbrev pub job_of : Call → Job
 job_of call = Binding call.context call.serial call.body call.left call.bound
 
 -- the value that is whole now is bound
-abbrev pub FrameThen : Frame → State → WorldState → Later → Outcome → Type 0
+abbrev pub FrameThen : ExpandFrame → State → WorldState → Later → Outcome → Type 0
 FrameThen (Expands rest) state world later outcome =
     RunsThen (Tokens rest.context rest.fresh rest.tokens) state world later outcome
 FrameThen (Binds wait) state world later outcome =
@@ -32,6 +32,6 @@ FrameThen (Binds wait) state world later outcome =
     (with_out wait.out state) world later outcome
 
 -- the frames that wait, the first to be done first, come to this outcome
-abbrev pub Leads : List Frame → State → WorldState → Outcome → Type 0
+abbrev pub Leads : List ExpandFrame → State → WorldState → Outcome → Type 0
 Leads [] state world outcome = outcome ≡ Goes state world
 Leads (frame ∷ frames) state world outcome = FrameThen frame state world (Leads frames) outcome

@@ -4,9 +4,9 @@ use Rattle.sg_outside.specs.World.{WorldState}
 use Rattle.sg_lex.specs.declared.token.Token.{Token}
 use Rattle.sg_lex.specs.declared.fault.ConfigFault.{ConfigFault}
 use Rattle.sg_expand.specs.declared.expander.Expander.{Expander}
-use Rattle.sg_expand.specs.declared.fault.Stop.{Stop}
-use Rattle.sg_expand.specs.declared.fault.Stop.TheVariants.{Fault, ReadFault, NoMemory}
-use Rattle.sg_expand.specs.declared.frame.Frame.{Frame}
+use Rattle.sg_expand.specs.declared.fault.ExpandStop.{ExpandStop}
+use Rattle.sg_expand.specs.declared.fault.ExpandStop.TheVariants.{Fault, ReadFault, NoMemory}
+use Rattle.sg_expand.specs.declared.frame.ExpandFrame.{ExpandFrame}
 use Rattle.sg_expand.specs.Expansion.{Outcome, Goes, Stops, Faulty, Unread, first_context, first_state, main_tokens, RunsTokens}
 use Rattle.sg_expand.specs.Machine.{state_of, tokens_frame}
 use Rattle.sg_expand.specs.Pending.{Leads}
@@ -16,14 +16,14 @@ abbrev pub IsNew : List ℕ → Expander → Type 0
 IsNew name expander = (expander.frames.items ≡ []) × (state_of expander ≡ first_state name)
 
 -- an answer is a list of tokens or a fault, but for lack of memory
-abbrev pub Gives : Result (List Token) ConfigFault → Result (List Token) Stop → Type 0
+abbrev pub Gives : Result (List Token) ConfigFault → Result (List Token) ExpandStop → Type 0
 Gives wanted (Ok tokens) = wanted ≡ Ok tokens
 Gives wanted (Err (Fault fault)) = wanted ≡ Err fault
 Gives wanted (Err (ReadFault name)) = ⊥
 Gives wanted (Err NoMemory) = Unit {0}
 
 -- the outcome to which an answer belongs, in the state that it leaves
-abbrev pub Answers : Expander → WorldState → Result Unit Stop → (Outcome → Type 0) → Type 0
+abbrev pub Answers : Expander → WorldState → Result Unit ExpandStop → (Outcome → Type 0) → Type 0
 Answers expander world (Ok done) comes = comes (Goes (state_of expander) world)
 Answers expander world (Err (Fault fault)) comes = comes (Stops (Faulty fault) expander.names world)
 Answers expander world (Err (ReadFault name)) comes = comes
@@ -31,8 +31,8 @@ Answers expander world (Err (ReadFault name)) comes = comes
 Answers expander world (Err NoMemory) comes = Unit {0}
 
 -- what was to be done first is done: what waits then leads to what it led to before
-abbrev pub DoesFrame : Frame → Expander → WorldState → Expander → WorldState → Result Unit Stop
-    → Type 0
+abbrev pub DoesFrame : ExpandFrame → Expander → WorldState → Expander → WorldState
+    → Result Unit ExpandStop → Type 0
 DoesFrame frame old world new world' (Ok done) =
     (outcome : Outcome) → Leads (reverse new.frames.items) (state_of new) world' outcome
     → Leads (frame ∷ reverse old.frames.items) (state_of old) world outcome
@@ -40,12 +40,12 @@ DoesFrame frame old world new world' (Err stop) = Answers new world' (Err stop)
     (Leads (frame ∷ reverse old.frames.items) (state_of old) world)
 
 -- what waits is done
-abbrev pub Works : Expander → WorldState → Expander → WorldState → Result Unit Stop → Type 0
+abbrev pub Works : Expander → WorldState → Expander → WorldState → Result Unit ExpandStop → Type 0
 Works old world new world' result = Answers new world' result
     (Leads (reverse old.frames.items) (state_of old) world)
 
 -- the main file's text is begun: its tokens are expanded next
-abbrev pub BeginsText : List ℕ → Expander → Expander → Result Unit Stop → Type 0
+abbrev pub BeginsText : List ℕ → Expander → Expander → Result Unit ExpandStop → Type 0
 BeginsText text old new (Ok done) =
     (tokens : List Token) × ((main_tokens text ≡ Ok tokens) ×
     ((state_of new ≡ state_of old)
@@ -56,7 +56,7 @@ BeginsText text old new (Err (ReadFault name)) = ⊥
 BeginsText text old new (Err NoMemory) = Unit {0}
 
 -- the main file's text is expanded
-abbrev pub RunsWhole : List ℕ → Expander → WorldState → Expander → WorldState → Result Unit Stop
-    → Type 0
+abbrev pub RunsWhole : List ℕ → Expander → WorldState → Expander → WorldState
+    → Result Unit ExpandStop → Type 0
 RunsWhole text old world new world' result = Answers new world' result
     (RunsTokens (main_tokens text) (state_of old) world)

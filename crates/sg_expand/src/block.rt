@@ -1,5 +1,5 @@
 // Blocks.
-use sg_block::{Arguments, Part};
+use sg_block::{Arguments, TokenSpan};
 
 /// A block: how many were defined before it, its parameters, of which those without tokens must be
 /// given, and the parameters and the body as they are written.
@@ -7,6 +7,6 @@ use sg_block::{Arguments, Part};
 pub struct Block {
     pub serial: u64,
     pub parameters: Arguments,
-    pub written: Part,
-    pub body: Part,
+    pub written: TokenSpan,
+    pub body: TokenSpan,
 }

@@ -4,9 +4,9 @@ ghost use Rattle.sg_expand.specs.Expansion.{is_directive, begins_version, begins
 ghost use Rattle.std.specs.List.{list_all};
 ghost use Rattle.std.specs.Char.{is_ascii_digit};
 
-use sg_block::{Part, is_at};
+use sg_block::{TokenSpan, is_at};
 
-fn is_directive(tokens: &Part, word: &[u8]) -> bool
+fn is_directive(tokens: &TokenSpan, word: &[u8]) -> bool
     ensures { result ≡ is_directive word.now tokens.now }
 {
     match tokens.get(0) {
@@ -16,7 +16,7 @@ fn is_directive(tokens: &Part, word: &[u8]) -> bool
 }
 
 /// `@version : WORD`
-pub fn begins_version(tokens: &Part) -> bool
+pub fn begins_version(tokens: &TokenSpan) -> bool
     ensures value { result ≡ begins_version tokens.now }
     ensures within { IsTrue result → 2 < length tokens.now }
 {
@@ -24,7 +24,7 @@ pub fn begins_version(tokens: &Part) -> bool
 }
 
 /// `@define WORD NAME`
-pub fn begins_define(tokens: &Part) -> bool
+pub fn begins_define(tokens: &TokenSpan) -> bool
     ensures value { result ≡ begins_define tokens.now }
     ensures within { IsTrue result → 2 < length tokens.now }
 {
@@ -32,7 +32,7 @@ pub fn begins_define(tokens: &Part) -> bool
 }
 
 /// `@include STR`
-pub fn begins_include(tokens: &Part) -> bool
+pub fn begins_include(tokens: &TokenSpan) -> bool
     ensures value { result ≡ begins_include tokens.now }
     ensures within { IsTrue result → 1 < length tokens.now }
 {
@@ -40,7 +40,7 @@ pub fn begins_include(tokens: &Part) -> bool
 }
 
 /// `@module WORD` and `@requires WORD`
-pub fn begins_ignored(tokens: &Part) -> bool
+pub fn begins_ignored(tokens: &TokenSpan) -> bool
     ensures value { result ≡ begins_ignored tokens.now }
     ensures within { IsTrue result → 1 < length tokens.now }
 {

@@ -10,10 +10,10 @@ ghost use Rattle.sg_outside.specs.World.{OnlyReads};
 
 use crate::block::Block;
 use crate::directive::{begins_version, is_version};
-use crate::fault::{ExpandRefusal, Expanded, Stop, fault_at};
-use crate::frame::{Context, Frame, Rest, empty_scope, push_frame};
+use crate::fault::{ExpandRefusal, ExpandStop, Expanded, fault_at};
+use crate::frame::{Context, ExpandFrame, Rest, empty_scope, push_frame};
 use crate::total::Total;
-use sg_block::{Line, Part, Table, Values};
+use sg_block::{FileLine, NameMap, TokenSpan, Values};
 use sg_device::{Name, NoMemory};
 use sg_lex::{ConfigFault, ConfigKind, LexFault, TEXT_LIMIT, Token, line_at, tokens};
 use sg_list::Seq;
@@ -24,9 +24,9 @@ use std::alloc::Global;
 pub struct Expander {
     pub alloc: Global,
     /// What is to be done, the first last.
-    pub frames: Vec<Frame>,
+    pub frames: Vec<ExpandFrame>,
     pub variables: Values,
-    pub blocks: Table<Block>,
+    pub blocks: NameMap<Block>,
     /// How many blocks were defined.
     pub serial: u64,
     pub total: Total,
@@ -36,63 +36,63 @@ pub struct Expander {
     pub out: Seq<Token>,
 }
 
-fn fault_in(file: u32, text: &[u8], fault: LexFault) -> Stop
+fn fault_in(file: u32, text: &[u8], fault: LexFault) -> ExpandStop
     requires text { length text.now ≤ TEXT_LIMIT }
     requires place { PlaceWithin (length text.now) fault }
     ensures { FaultIn file text.now fault result }
 {
     match fault {
-        LexFault::OpenString(place) => Stop::Fault(ConfigFault {
+        LexFault::OpenString(place) => ExpandStop::Fault(ConfigFault {
             kind: ConfigKind::OpenString,
             file,
             line: line_at(text, place),
         }),
-        LexFault::BadByte(place) => Stop::Fault(ConfigFault {
+        LexFault::BadByte(place) => ExpandStop::Fault(ConfigFault {
             kind: ConfigKind::BadByte,
             file,
             line: line_at(text, place),
         }),
-        LexFault::NoMemory => Stop::NoMemory,
+        LexFault::NoMemory => ExpandStop::NoMemory,
     }
 }
 
 /// The tokens of a file.
-pub fn lex(alloc: Global, file: u32, text: &[u8]) -> Result<Part, Stop>
+pub fn lex(alloc: Global, file: u32, text: &[u8]) -> Result<TokenSpan, ExpandStop>
     requires { length text.now ≤ TEXT_LIMIT }
     ensures { Gives (lexed file text.now (tokens_of file text.now)) result }
 {
     match tokens(alloc, file, text) {
-        Ok(found) => Ok(Part::new(alloc, found)?),
+        Ok(found) => Ok(TokenSpan::new(alloc, found)?),
         Err(fault) => Err(fault_in(file, text, fault)),
     }
 }
 
-fn first_line(tokens: &Part) -> Line
+fn first_line(tokens: &TokenSpan) -> FileLine
     ensures { result ≡ first_line tokens.now }
 {
     if tokens.is_empty() {
-        Line { file: 0, line: 1 }
+        FileLine { file: 0, line: 1 }
     } else {
         tokens.line(0)
     }
 }
 
 /// The tokens behind the version with which a main file begins.
-fn behind_version(tokens: Part) -> Result<Part, Stop>
+fn behind_version(tokens: TokenSpan) -> Result<TokenSpan, ExpandStop>
     ensures { Gives (behind_version tokens) result }
 {
     if begins_version(&tokens) && is_version(tokens.text(2)) {
         return Ok(tokens.behind(3));
     }
-    Err(Stop::Fault(fault_at(ConfigKind::Version, first_line(&tokens))))
+    Err(ExpandStop::Fault(fault_at(ConfigKind::Version, first_line(&tokens))))
 }
 
 /// The tokens of a main file's text behind its version.
-fn main_tokens(alloc: Global, text: &[u8]) -> Result<Part, Stop>
+fn main_tokens(alloc: Global, text: &[u8]) -> Result<TokenSpan, ExpandStop>
     ensures { Gives (main_tokens text.now) result }
 {
     if text.len() > TEXT_LIMIT {
-        return Err(Stop::Fault(fault_at(ConfigKind::TooLong, Line { file: 0, line: 1 })));
+        return Err(ExpandStop::Fault(fault_at(ConfigKind::TooLong, FileLine { file: 0, line: 1 })));
     }
     match lex(alloc, 0, text) {
         Ok(found) => behind_version(found),
@@ -110,7 +110,7 @@ impl Expander {
             alloc,
             frames: Vec::new(alloc),
             variables: Values::new(alloc),
-            blocks: Table::new(alloc),
+            blocks: NameMap::new(alloc),
             serial: 0,
             total: Total::new(),
             names,
@@ -119,7 +119,7 @@ impl Expander {
     }
 
     /// Does what is to be done until nothing is left.
-    fn work<F: Files>(&mut self, files: &mut F) -> Result<(), Stop>
+    fn work<F: Files>(&mut self, files: &mut F) -> Result<(), ExpandStop>
         requires bounded { IsBounded self.old.frames.items self.old }
         ensures does { Works self.old (F.state files.old) self.new (F.state files.new) result }
         ensures reads { OnlyReads (F.state files.old) (F.state files.new) }
@@ -130,12 +130,12 @@ impl Expander {
                 None => return Ok(()),
             }
         }
-        Err(Stop::NoMemory)
+        Err(ExpandStop::NoMemory)
     }
 
     /// Does what was to be done first. The tokens of the list and of the values that are expanded are
     /// together at most 1,048,576 before and after it.
-    fn do_frame<F: Files>(&mut self, files: &mut F, frame: Frame) -> Result<(), Stop>
+    fn do_frame<F: Files>(&mut self, files: &mut F, frame: ExpandFrame) -> Result<(), ExpandStop>
         requires bounded { IsBounded (frame ∷ self.old.frames.items) self.old }
         ensures bounded { OnOk result (IsBounded self.new.frames.items self.new) }
         ensures does { DoesFrame frame self.old (F.state files.old) self.new (F.state files.new)
@@ -143,12 +143,12 @@ impl Expander {
         ensures reads { OnlyReads (F.state files.old) (F.state files.new) }
     {
         match frame {
-            Frame::Expands(rest) => self.step(files, rest),
-            Frame::Binds(wait) => self.bind(wait),
+            ExpandFrame::Expands(rest) => self.step(files, rest),
+            ExpandFrame::Binds(wait) => self.bind(wait),
         }
     }
 
-    fn begin(&mut self, text: &[u8]) -> Result<(), Stop>
+    fn begin(&mut self, text: &[u8]) -> Result<(), ExpandStop>
         requires { self.old.frames.items ≡ [] }
         ensures { BeginsText text.now self.old self.new result }
     {
@@ -163,11 +163,11 @@ impl Expander {
             fresh: true,
             tokens,
         };
-        push_frame(&mut self.frames, Frame::Expands(rest))?;
+        push_frame(&mut self.frames, ExpandFrame::Expands(rest))?;
         Ok(())
     }
 
-    fn run<F: Files>(&mut self, files: &mut F, text: &[u8]) -> Result<(), Stop>
+    fn run<F: Files>(&mut self, files: &mut F, text: &[u8]) -> Result<(), ExpandStop>
         requires empty { self.old.frames.items ≡ [] }
         requires bounded { IsBounded [] self.old }
         ensures does { RunsWhole text.now self.old (F.state files.old) self.new (F.state files.new)
@@ -205,11 +205,11 @@ pub fn expand<F: Files>(
             tokens: expander.out,
             names: expander.names,
         }),
-        Err(Stop::Fault(fault)) => Err(ExpandRefusal::Bad {
+        Err(ExpandStop::Fault(fault)) => Err(ExpandRefusal::Bad {
             fault,
             names: expander.names,
         }),
-        Err(Stop::ReadFault(name)) => Err(ExpandRefusal::ReadFault(name)),
-        Err(Stop::NoMemory) => Err(ExpandRefusal::NoMemory),
+        Err(ExpandStop::ReadFault(name)) => Err(ExpandRefusal::ReadFault(name)),
+        Err(ExpandStop::NoMemory) => Err(ExpandRefusal::NoMemory),
     }
 }

@@ -1,9 +1,9 @@
 // What an expansion gives, and why there is none.
 ghost use Rattle.std.specs.Prelude.{◌≡◌};
-ghost use Rattle.sg_expand.specs.declared.fault.Stop.TheVariants.{NoMemory as StopNoMemory};
+ghost use Rattle.sg_expand.specs.declared.fault.ExpandStop.TheVariants.{NoMemory as StopNoMemory};
 ghost use Rattle.sg_expand.specs.Faults.{fault_at};
 
-use sg_block::Line;
+use sg_block::FileLine;
 use sg_device::Name;
 use sg_lex::{ConfigFault, ConfigKind, Token};
 use sg_list::Seq;
@@ -32,29 +32,29 @@ pub enum ExpandRefusal {
 
 /// Why an expansion stops.
 #[derive(Drop)]
-pub enum Stop {
+pub enum ExpandStop {
     Fault(ConfigFault),
     ReadFault(Name),
     NoMemory,
 }
 
-impl From<AllocError> for Stop {
+impl From<AllocError> for ExpandStop {
     ghost from_gives = { λ _ stop. stop ≡ StopNoMemory };
 
     fn from(_: AllocError) -> Self {
-        Stop::NoMemory
+        ExpandStop::NoMemory
     }
 }
 
-impl<T: Drop> From<AllocFailed<T>> for Stop {
+impl<T: Drop> From<AllocFailed<T>> for ExpandStop {
     ghost from_gives = { λ _ stop. stop ≡ StopNoMemory };
 
     fn from(_: AllocFailed<T>) -> Self {
-        Stop::NoMemory
+        ExpandStop::NoMemory
     }
 }
 
-pub fn fault_at(kind: ConfigKind, line: Line) -> ConfigFault
+pub fn fault_at(kind: ConfigKind, line: FileLine) -> ConfigFault
     ensures { result ≡ fault_at kind line }
 {
     ConfigFault {

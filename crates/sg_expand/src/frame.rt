@@ -2,7 +2,7 @@
 ghost use Rattle.std.specs.Prelude.{◌≡◌, [], ◌∷◌, ◌++◌, IfOk, OnOk};
 ghost use Rattle.std.specs.FinMap as map;
 
-use sg_block::{Arguments, Part, Shared, Values};
+use sg_block::{Arguments, Shared, TokenSpan, Values};
 use sg_device::{Name, NoMemory};
 use sg_lex::Token;
 use sg_list::Seq;
@@ -47,7 +47,7 @@ pub struct Rest {
     pub context: Context,
     /// Whether a use may stand at the front.
     pub fresh: bool,
-    pub tokens: Part,
+    pub tokens: TokenSpan,
 }
 
 /// A use whose arguments are being bound.
@@ -57,7 +57,7 @@ pub struct Call {
     pub context: Context,
     /// The block's number, and its body.
     pub serial: u64,
-    pub body: Part,
+    pub body: TokenSpan,
     /// The arguments that are left.
     pub left: Arguments,
     pub bound: Values,
@@ -74,13 +74,13 @@ pub struct Wait {
 }
 
 #[derive(Drop)]
-pub enum Frame {
+pub enum ExpandFrame {
     Expands(Rest),
     Binds(Wait),
 }
 
 /// Puts what is to be done first at the end.
-pub fn push_frame(frames: &mut Vec<Frame>, frame: Frame) -> Result<(), NoMemory>
+pub fn push_frame(frames: &mut Vec<ExpandFrame>, frame: ExpandFrame) -> Result<(), NoMemory>
     ensures { OnOk result (frames.new.items ≡ frames.old.items ++ frame ∷ []) }
 {
     frames.push(frame)?;

@@ -7,9 +7,9 @@ ghost use Rattle.sg_expand.specs.Machine.{DoesStep, TakesFile, NamesFile, Checks
 
 use crate::directive::names_no_file;
 use crate::expander::{Expander, lex};
-use crate::fault::{Stop, fault_at};
+use crate::fault::{ExpandStop, fault_at};
 use crate::frame::{Context, Rest, empty_scope};
-use sg_block::{Line, Replaced, replace};
+use sg_block::{FileLine, Replaced, replace};
 use sg_device::{FileRefusal, Name};
 use sg_lex::ConfigKind;
 use sg_outside::Files;
@@ -21,7 +21,7 @@ const FILE_LIMIT: usize = 65_536;
 
 impl Expander {
     /// The name of the file that an `@include` asks for, which is counted.
-    fn file_name(&mut self, rest: &Rest) -> Result<Name, Stop>
+    fn file_name(&mut self, rest: &Rest) -> Result<Name, ExpandStop>
         requires { 1 < length rest.now.tokens }
         ensures depth { OnOk result (rest.now.context.depth < 15) }
         ensures names { OnOk result (length self.new.names < 65536) }
@@ -31,7 +31,7 @@ impl Expander {
     {
         let line = rest.tokens.line(0);
         if rest.context.depth >= DEPTH_LIMIT {
-            return Err(Stop::Fault(fault_at(ConfigKind::IncludeDepth, line)));
+            return Err(ExpandStop::Fault(fault_at(ConfigKind::IncludeDepth, line)));
         }
         let scope = rest.context.scope.value();
         match replace(
@@ -41,11 +41,11 @@ impl Expander {
             rest.tokens.text(1),
             self.total.room(),
         )? {
-            Replaced::Unknown => Err(Stop::Fault(fault_at(
+            Replaced::Unknown => Err(ExpandStop::Fault(fault_at(
                 ConfigKind::UnknownVariable,
                 rest.tokens.line(1),
             ))),
-            Replaced::TooLong => Err(Stop::Fault(fault_at(ConfigKind::TooLong, line))),
+            Replaced::TooLong => Err(ExpandStop::Fault(fault_at(ConfigKind::TooLong, line))),
             Replaced::Text(name) => {
                 self.total.charge(name.bytes().len() as u64 + 1, line)?;
                 self.check_name(&name, line)?;
@@ -54,21 +54,21 @@ impl Expander {
         }
     }
 
-    fn check_name(&self, name: &Name, line: Line) -> Result<(), Stop>
+    fn check_name(&self, name: &Name, line: FileLine) -> Result<(), ExpandStop>
         ensures names { OnOk result (length self.now.names < 65536) }
         ensures value { ChecksName self.now.names name.now line result }
     {
         if self.names.len() >= FILE_LIMIT {
-            return Err(Stop::Fault(fault_at(ConfigKind::TooLong, line)));
+            return Err(ExpandStop::Fault(fault_at(ConfigKind::TooLong, line)));
         }
         if names_no_file(name.bytes()) {
-            return Err(Stop::Fault(fault_at(ConfigKind::Unsupported, line)));
+            return Err(ExpandStop::Fault(fault_at(ConfigKind::Unsupported, line)));
         }
         Ok(())
     }
 
     /// Expands the file that an `@include` names, and what stands behind it later.
-    pub fn include<F: Files>(&mut self, files: &mut F, rest: Rest) -> Result<(), Stop>
+    pub fn include<F: Files>(&mut self, files: &mut F, rest: Rest) -> Result<(), ExpandStop>
         requires { 1 < length rest.tokens }
         ensures does { DoesStep (include_read rest.context rest.tokens (state_of self.old))
             rest.context rest.fresh
@@ -79,18 +79,24 @@ impl Expander {
         let line = rest.tokens.line(0);
         let text = match files.read(self.alloc, name.bytes()) {
             Ok(text) => text,
-            Err(FileRefusal::Failed) => return Err(Stop::ReadFault(name)),
-            Err(FileRefusal::TooLong) => return Err(Stop::Fault(fault_at(
+            Err(FileRefusal::Failed) => return Err(ExpandStop::ReadFault(name)),
+            Err(FileRefusal::TooLong) => return Err(ExpandStop::Fault(fault_at(
                 ConfigKind::TooLong,
                 line,
             ))),
-            Err(FileRefusal::NoMemory) => return Err(Stop::NoMemory),
+            Err(FileRefusal::NoMemory) => return Err(ExpandStop::NoMemory),
         };
         self.take_file(rest, name, line, &text)?;
         Ok(())
     }
 
-    fn take_file(&mut self, rest: Rest, name: Name, line: Line, text: &[u8]) -> Result<(), Stop>
+    fn take_file(
+        &mut self,
+        rest: Rest,
+        name: Name,
+        line: FileLine,
+        text: &[u8],
+    ) -> Result<(), ExpandStop>
         requires tokens { 1 < length rest.tokens }
         requires depth { rest.context.depth < 15 }
         requires names { length self.old.names < 65536 }

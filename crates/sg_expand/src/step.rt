@@ -12,17 +12,19 @@ ghost use Rattle.sg_expand.specs.Machine.{Does, DoesStep, Pushes, tokens_frame, 
 use crate::block::Block;
 use crate::directive::{begins_define, begins_ignored, begins_include, begins_version, is_version};
 use crate::expander::Expander;
-use crate::fault::{Stop, fault_at};
-use crate::frame::{Context, Frame, Rest, push_frame};
+use crate::fault::{ExpandStop, fault_at};
+use crate::frame::{Context, ExpandFrame, Rest, push_frame};
 use crate::total::{put, put_all};
-use sg_block::{Definition, Part, Replaced, find, is_front, is_tick, read_definition, replace};
+use sg_block::{
+    Definition, Replaced, TokenSpan, find, is_front, is_tick, read_definition, replace,
+};
 use sg_device::{Name, NoMemory};
 use sg_lex::{ConfigKind, Token};
 use sg_list::Seq;
 use sg_outside::Files;
 
 /// The token at a place, of another text.
-fn retold(tokens: &Part, place: usize, text: Name) -> Token
+fn retold(tokens: &TokenSpan, place: usize, text: Name) -> Token
     requires { place < length tokens.now }
     ensures { retold (slice_get tokens.now place) text ≡ result ∷ [] }
 {
@@ -36,7 +38,7 @@ fn retold(tokens: &Part, place: usize, text: Name) -> Token
     }
 }
 
-fn is_front_at(tokens: &Part, place: usize) -> bool
+fn is_front_at(tokens: &TokenSpan, place: usize) -> bool
     ensures { result ≡ passes_at tokens.now place is_front }
 {
     match tokens.get(place) {
@@ -45,7 +47,7 @@ fn is_front_at(tokens: &Part, place: usize) -> bool
     }
 }
 
-fn is_tick_at(tokens: &Part, place: usize) -> bool
+fn is_tick_at(tokens: &TokenSpan, place: usize) -> bool
     ensures { result ≡ passes_at tokens.now place is_tick }
 {
     match tokens.get(place) {
@@ -56,7 +58,7 @@ fn is_tick_at(tokens: &Part, place: usize) -> bool
 
 impl Expander {
     /// Does what the front of these tokens asks for.
-    pub fn step<F: Files>(&mut self, files: &mut F, rest: Rest) -> Result<(), Stop>
+    pub fn step<F: Files>(&mut self, files: &mut F, rest: Rest) -> Result<(), ExpandStop>
         ensures does { DoesStep (step rest.context rest.fresh rest.tokens (state_of self.old))
             rest.context rest.fresh
             self.old (F.state files.old) self.new (F.state files.new) result }
@@ -68,7 +70,7 @@ impl Expander {
         self.step_without_files(rest)
     }
 
-    fn step_without_files(&mut self, rest: Rest) -> Result<(), Stop>
+    fn step_without_files(&mut self, rest: Rest) -> Result<(), ExpandStop>
         ensures { Does (front rest.context rest.fresh rest.tokens (state_of self.old)) rest.context
             self.old self.new result }
     {
@@ -91,7 +93,12 @@ impl Expander {
     }
 
     /// Leaves these tokens to be expanded next.
-    pub fn go_on(&mut self, context: Context, fresh: bool, tokens: Part) -> Result<(), Stop>
+    pub fn go_on(
+        &mut self,
+        context: Context,
+        fresh: bool,
+        tokens: TokenSpan,
+    ) -> Result<(), ExpandStop>
         ensures { Pushes (tokens_frame context fresh tokens ∷ []) self.old self.new result }
     {
         let rest = Rest {
@@ -99,11 +106,11 @@ impl Expander {
             fresh,
             tokens,
         };
-        push_frame(&mut self.frames, Frame::Expands(rest))?;
+        push_frame(&mut self.frames, ExpandFrame::Expands(rest))?;
         Ok(())
     }
 
-    fn read_version(&mut self, rest: Rest) -> Result<(), Stop>
+    fn read_version(&mut self, rest: Rest) -> Result<(), ExpandStop>
         requires { 2 < length rest.tokens }
         ensures { Does (version_read rest.fresh rest.tokens (state_of self.old)) rest.context
             self.old self.new result }
@@ -112,14 +119,14 @@ impl Expander {
         if is_version(word) || word == b"current".as_slice() {
             return self.go_on(rest.context, rest.fresh, rest.tokens.behind(3));
         }
-        Err(Stop::Fault(fault_at(ConfigKind::Version, rest.tokens.line(0))))
+        Err(ExpandStop::Fault(fault_at(ConfigKind::Version, rest.tokens.line(0))))
     }
 
     /// The text of a token, in which variables are replaced where it is a string.
     pub fn text_of(
         &self,
         context: &Context,
-        tokens: &Part,
+        tokens: &TokenSpan,
         place: usize,
         room: u64,
     ) -> Result<Replaced, NoMemory>
@@ -143,7 +150,7 @@ impl Expander {
         Ok(Replaced::Text(Name::new(self.alloc, text)?))
     }
 
-    fn define(&mut self, rest: Rest) -> Result<(), Stop>
+    fn define(&mut self, rest: Rest) -> Result<(), ExpandStop>
         requires { 2 < length rest.tokens }
         ensures { Does
             (define_read rest.fresh rest.tokens (state_of self.old)
@@ -152,11 +159,11 @@ impl Expander {
     {
         let line = rest.tokens.line(0);
         match self.text_of(&rest.context, &rest.tokens, 2, self.total.room())? {
-            Replaced::Unknown => Err(Stop::Fault(fault_at(
+            Replaced::Unknown => Err(ExpandStop::Fault(fault_at(
                 ConfigKind::UnknownVariable,
                 rest.tokens.line(2),
             ))),
-            Replaced::TooLong => Err(Stop::Fault(fault_at(ConfigKind::TooLong, line))),
+            Replaced::TooLong => Err(ExpandStop::Fault(fault_at(ConfigKind::TooLong, line))),
             Replaced::Text(text) => {
                 self.total.charge(text.bytes().len() as u64 + 1, line)?;
                 self.set_variable(&rest.tokens, text)?;
@@ -165,7 +172,7 @@ impl Expander {
         }
     }
 
-    fn set_variable(&mut self, tokens: &Part, text: Name) -> Result<(), NoMemory>
+    fn set_variable(&mut self, tokens: &TokenSpan, text: Name) -> Result<(), NoMemory>
         requires { 2 < length tokens.now }
         ensures { OnOk result (self.new ≡ record self.old {
           variables = map.insert self.old.variables (text_at tokens.now 1)
@@ -179,7 +186,7 @@ impl Expander {
         Ok(())
     }
 
-    fn define_block(&mut self, context: Context, defined: Definition) -> Result<(), Stop>
+    fn define_block(&mut self, context: Context, defined: Definition) -> Result<(), ExpandStop>
         ensures { Does (Moves true defined.behind (with_block defined (state_of self.old))) context
             self.old self.new result }
     {
@@ -195,7 +202,7 @@ impl Expander {
     }
 
     /// Puts out the token at the front, with variables replaced.
-    pub fn emit(&mut self, rest: Rest) -> Result<(), Stop>
+    pub fn emit(&mut self, rest: Rest) -> Result<(), ExpandStop>
         requires { 0 < length rest.tokens }
         ensures { Does (plain rest.context rest.tokens (state_of self.old)) rest.context self.old
             self.new result }
@@ -209,7 +216,7 @@ impl Expander {
         self.go_on(rest.context, fresh, rest.tokens.behind(1))
     }
 
-    fn emit_variable(&mut self, rest: &Rest) -> Result<(), Stop>
+    fn emit_variable(&mut self, rest: &Rest) -> Result<(), ExpandStop>
         requires { 0 < length rest.now.tokens }
         ensures { EmitsToken (reached rest.now.context.scope self.old.variables
             (text_at rest.now.tokens 0))
@@ -221,11 +228,14 @@ impl Expander {
             rest.tokens.text(0),
         ) {
             Some(value) => put_all(&mut self.out, &mut self.total, value.as_slice()),
-            None => Err(Stop::Fault(fault_at(ConfigKind::UnknownVariable, rest.tokens.line(0)))),
+            None => Err(ExpandStop::Fault(fault_at(
+                ConfigKind::UnknownVariable,
+                rest.tokens.line(0),
+            ))),
         }
     }
 
-    fn emit_text(&mut self, rest: &Rest) -> Result<(), Stop>
+    fn emit_text(&mut self, rest: &Rest) -> Result<(), ExpandStop>
         requires { 0 < length rest.now.tokens }
         ensures { EmitsToken
             (option_map (retold (slice_get rest.now.tokens 0))
@@ -234,8 +244,11 @@ impl Expander {
     {
         let line = rest.tokens.line(0);
         match self.text_of(&rest.context, &rest.tokens, 0, self.total.room())? {
-            Replaced::Unknown => Err(Stop::Fault(fault_at(ConfigKind::UnknownVariable, line))),
-            Replaced::TooLong => Err(Stop::Fault(fault_at(ConfigKind::TooLong, line))),
+            Replaced::Unknown => Err(ExpandStop::Fault(fault_at(
+                ConfigKind::UnknownVariable,
+                line,
+            ))),
+            Replaced::TooLong => Err(ExpandStop::Fault(fault_at(ConfigKind::TooLong, line))),
             Replaced::Text(text) => put(
                 &mut self.out,
                 &mut self.total,

@@ -2,8 +2,8 @@
 ghost use Rattle.std.specs.Prelude.{◌≡◌, ◌-◌, ◌≤◌, [], ◌∷◌};
 ghost use Rattle.sg_expand.specs.Total.{Emits, Charges};
 
-use crate::fault::{Stop, fault_at};
-use sg_block::{Line, copy_token, line_of, token_size};
+use crate::fault::{ExpandStop, fault_at};
+use sg_block::{FileLine, copy_token, line_of, token_size};
 use sg_lex::{ConfigKind, Token};
 use sg_list::Seq;
 use std::marker::Model;
@@ -43,11 +43,11 @@ impl Total {
     }
 
     /// Adds to the total, unless it would pass the limit.
-    pub fn charge(&mut self, size: u64, line: Line) -> Result<(), Stop>
+    pub fn charge(&mut self, size: u64, line: FileLine) -> Result<(), ExpandStop>
         ensures { Charges size line self.old self.new result }
     {
         if size > TOTAL_LIMIT - self.counted {
-            return Err(Stop::Fault(fault_at(ConfigKind::TooLong, line)));
+            return Err(ExpandStop::Fault(fault_at(ConfigKind::TooLong, line)));
         }
         self.counted += size;
         Ok(())
@@ -55,7 +55,7 @@ impl Total {
 }
 
 /// Puts a token out.
-pub fn put(out: &mut Seq<Token>, total: &mut Total, token: Token) -> Result<(), Stop>
+pub fn put(out: &mut Seq<Token>, total: &mut Total, token: Token) -> Result<(), ExpandStop>
     ensures { Emits (token ∷ []) out.old total.old out.new total.new result }
 {
     total.charge(token_size(&token), line_of(&token))?;
@@ -64,7 +64,7 @@ pub fn put(out: &mut Seq<Token>, total: &mut Total, token: Token) -> Result<(), 
 }
 
 /// Puts copies of tokens out, up to the one with which the total passes the limit.
-pub fn put_all(out: &mut Seq<Token>, total: &mut Total, tokens: &[Token]) -> Result<(), Stop>
+pub fn put_all(out: &mut Seq<Token>, total: &mut Total, tokens: &[Token]) -> Result<(), ExpandStop>
     ensures { Emits tokens.now out.old total.old out.new total.new result }
 {
     for token in tokens {

@@ -9,17 +9,17 @@ ghost use Rattle.sg_expand.specs.Machine.{IsAsked, FindsUse, BeginsUse, Does, Do
 
 use crate::block::Block;
 use crate::expander::Expander;
-use crate::fault::{Stop, fault_at};
-use crate::frame::{Call, Context, Frame, Rest, Scope, Wait, push_frame};
+use crate::fault::{ExpandStop, fault_at};
+use crate::frame::{Call, Context, ExpandFrame, Rest, Scope, Wait, push_frame};
 use crate::total::TOTAL_LIMIT;
-use sg_block::{Arguments, Part, Values, token_size, use_form};
+use sg_block::{Arguments, TokenSpan, Values, token_size, use_form};
 use sg_device::NoMemory;
 use sg_lex::{ConfigKind, Token};
 use sg_list::Seq;
 use std::alloc::Global;
 
 /// A size with those of the tokens, as far as these are within the limit.
-fn with_sizes(size: u64, tokens: &Part) -> u64
+fn with_sizes(size: u64, tokens: &TokenSpan) -> u64
     requires { size ≤ 1048576 + 2 ^ 63 }
     ensures value { IsSize (size + size_of tokens.now) result }
     ensures bound { result ≤ 1048576 + 2 ^ 63 }
@@ -48,19 +48,24 @@ fn is_in_reach(limit: Option<u64>, block: &Block) -> bool
 struct Asked {
     size: u64,
     serial: u64,
-    body: Part,
+    body: TokenSpan,
     left: Arguments,
 }
 
-fn ask(alloc: Global, tokens: &Part, block: &Block, given: Arguments) -> Result<Asked, Stop>
+fn ask(
+    alloc: Global,
+    tokens: &TokenSpan,
+    block: &Block,
+    given: Arguments,
+) -> Result<Asked, ExpandStop>
     requires { 0 < length tokens.now }
     ensures { IsAsked tokens.now block.now given result }
 {
     if block.parameters.is_missing(alloc, &given)? {
-        return Err(Stop::Fault(fault_at(ConfigKind::MissingArgument, tokens.line(0))));
+        return Err(ExpandStop::Fault(fault_at(ConfigKind::MissingArgument, tokens.line(0))));
     }
     if block.parameters.is_unknown(alloc, &given)? {
-        return Err(Stop::Fault(fault_at(ConfigKind::UnknownArgument, tokens.line(0))));
+        return Err(ExpandStop::Fault(fault_at(ConfigKind::UnknownArgument, tokens.line(0))));
     }
     Ok(Asked {
         size: with_sizes(
@@ -75,7 +80,7 @@ fn ask(alloc: Global, tokens: &Part, block: &Block, given: Arguments) -> Result<
 
 impl Expander {
     /// What the use at the front asks for, and the tokens behind it: none where none stands there.
-    fn find_use(&self, rest: &Rest) -> Result<Option<(Asked, Part)>, Stop>
+    fn find_use(&self, rest: &Rest) -> Result<Option<(Asked, TokenSpan)>, ExpandStop>
         requires { 0 < length rest.now.tokens }
         ensures { FindsUse rest.now.context rest.now.fresh rest.now.tokens (state_of self.now)
             result }
@@ -99,7 +104,7 @@ impl Expander {
     }
 
     /// Begins the use at the front, or puts out the token.
-    pub fn use_or_emit(&mut self, rest: Rest) -> Result<(), Stop>
+    pub fn use_or_emit(&mut self, rest: Rest) -> Result<(), ExpandStop>
         requires { 0 < length rest.tokens }
         ensures { Does (word_or_use rest.context rest.fresh rest.tokens (state_of self.old))
             rest.context self.old self.new result }
@@ -110,7 +115,7 @@ impl Expander {
         }
     }
 
-    fn begin_use(&mut self, rest: Rest, asked: Asked, behind: Part) -> Result<(), Stop>
+    fn begin_use(&mut self, rest: Rest, asked: Asked, behind: TokenSpan) -> Result<(), ExpandStop>
         requires { 0 < length rest.tokens }
         ensures { BeginsUse rest.context (line_at rest.tokens 0) asked behind self.old self.new
             result }
@@ -129,7 +134,7 @@ impl Expander {
     }
 
     /// Expands the next argument of a use, or its body where none is left.
-    fn bind_next(&mut self, mut call: Call) -> Result<(), Stop>
+    fn bind_next(&mut self, mut call: Call) -> Result<(), ExpandStop>
         ensures { Calls call self.old self.new result }
     {
         match call.left.pop() {
@@ -141,7 +146,7 @@ impl Expander {
                     name: argument.name,
                     out,
                 };
-                push_frame(&mut self.frames, Frame::Binds(wait))?;
+                push_frame(&mut self.frames, ExpandFrame::Binds(wait))?;
                 self.go_on(context, false, argument.tokens)
             }
             None => self.expand_body(call),
@@ -156,7 +161,7 @@ impl Expander {
         std::mem::replace(&mut self.out, Seq::empty(self.alloc))
     }
 
-    fn expand_body(&mut self, call: Call) -> Result<(), Stop>
+    fn expand_body(&mut self, call: Call) -> Result<(), ExpandStop>
         ensures { Pushes (tokens_frame (body_context call.context call.bound call.serial) true
             (trimmed call.body) ∷ [])
             self.old self.new result }
@@ -170,7 +175,7 @@ impl Expander {
     }
 
     /// Binds the value that is whole now.
-    pub fn bind(&mut self, wait: Wait) -> Result<(), Stop>
+    pub fn bind(&mut self, wait: Wait) -> Result<(), ExpandStop>
         ensures { DoesBind wait self.old self.new result }
     {
         let value = std::mem::replace(&mut self.out, wait.out);

@@ -1,5 +1,5 @@
 -- A real file that is appended to.
-use Rattle.std.specs.Prelude.{◌≡◌, ◌+◌, ◌-◌, ◌^◌, ◌<◌, ℕ, List, min, Result, Ok, Err}
+use Rattle.std.specs.Prelude.{◌≡◌, ◌<◌, ℕ, List, Result, Ok, Err}
 use Rattle.std.specs.String.{string_bytes}
 use Rattle.sg_device.specs.declared.outlet.Reopened.{Reopened}
 use Rattle.sg_device.specs.declared.outlet.Reopened.TheVariants.{Ready, Later}
@@ -20,9 +20,5 @@ KeepsTarget old new = (new.path ≡ old.path) × (new.how ≡ old.how)
 -- it may be too early where there is a time between two tries, and the file stays open then
 abbrev pub WaitsOnly : Target → Target → Result Reopened OutletFault → Type 0
 WaitsOnly old new (Ok Ready) = Unit {0}
-WaitsOnly old new (Ok Later) = (0 < old.retry.every) × (new.file ≡ old.file) × (new.end ≡ old.end)
-WaitsOnly old new (Err e) = new.end ≡ old.end
-
--- a length with so many bytes more, which stands still at 2 ^ 64 - 1
-abbrev pub grown : ℕ → ℕ → ℕ
-grown end bytes = min (end + bytes) (2 ^ 64 - 1)
+WaitsOnly old new (Ok Later) = (0 < old.retry.every) × (new.file ≡ old.file)
+WaitsOnly old new (Err e) = new.file ≡ old.file

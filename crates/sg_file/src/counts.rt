@@ -159,7 +159,7 @@ impl InletCounts {
 }
 
 /// What an outlet counts: the frames taken, the sends and reopenings that failed, those of them
-/// since a frame was taken last, and the reopenings for which it was too early.
+/// since a frame was taken last, and the sends and reopenings for which it was too early.
 #[derive(Clone, Copy, Debug, Drop)]
 pub struct OutletCounts {
     pub taken: u64,
@@ -188,10 +188,17 @@ impl OutletCounts {
         count as u64 <= u64::MAX - self.taken
     }
 
-    /// Counts a send of `all` frames, of which the first `whole` were taken, and answers it: it is
-    /// refused where those are fewer than all, or too many to be counted.
-    pub fn sent(&mut self, whole: usize, all: usize) -> Result<(), SendRefusal>
+    /// Counts a send of `all` frames, of which the first `whole` were taken, and answers it: where
+    /// those are fewer than all, by this refusal. Where they are too many to be counted, or the sends
+    /// for which it was too early are, it is a fault.
+    pub fn sent(
+        &mut self,
+        whole: usize,
+        all: usize,
+        refusal: SendRefusal,
+    ) -> Result<(), SendRefusal>
         ensures done { all ≤ whole → self.old.taken + all < 2 ^ 64 → IsOk result }
+        ensures refused { whole < all → IsErr result }
         ensures taken { whole < all → self.old.taken + all < 2 ^ 64
             → self.new.taken ≡ self.old.taken + whole }
         ensures counted { (frames : List (List ℕ)) → length frames ≡ all
@@ -206,12 +213,21 @@ impl OutletCounts {
             self.taken += taken as u64;
             self.failing = 0;
         }
-        if taken < all {
-            self.fail();
-            return Err(SendRefusal::Fault);
+        if taken == all {
+            self.failing = 0;
+            return Ok(());
         }
-        self.failing = 0;
-        Ok(())
+        match refusal {
+            SendRefusal::NoMemory => Err(SendRefusal::NoMemory),
+            SendRefusal::Later if self.laters < u64::MAX => {
+                self.laters = self.laters.saturating_add(1);
+                Err(SendRefusal::Later)
+            }
+            _ => {
+                self.fail();
+                Err(SendRefusal::Fault)
+            }
+        }
     }
 
     /// Counts what a reopening came to, and answers it.

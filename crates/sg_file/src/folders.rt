@@ -5,7 +5,8 @@ use std::io;
 use std::os::unix::fs::{DirBuilderExt, PermissionsExt};
 
 /// Makes the folders of a path that are missing, each with this mode whatever the umask. With `fsync`
-/// the folder that one is made in is made stable. Those that are there stay as they are.
+/// the folder that one is made in is made stable, and one for which that fails is taken away again. Those
+/// that are there stay as they are.
 pub(crate) fn make_folders(rt: &HostRuntime, path: &str, mode: u16, fsync: bool) -> io::Result<()> {
     for end in 1..path.len() {
         if let Some((folder, rest)) = path.split_at_checked(end) {
@@ -28,6 +29,14 @@ fn make_folder(rt: &HostRuntime, path: &str, mode: u32, fsync: bool) -> io::Resu
     let mut how = DirBuilder::new();
     how.mode(mode);
     how.create(rt, path)?;
+    let made = finish_folder(rt, path, mode, fsync);
+    if made.is_err() {
+        let _left = fs::remove_dir(rt, path);
+    }
+    made
+}
+
+fn finish_folder(rt: &HostRuntime, path: &str, mode: u32, fsync: bool) -> io::Result<()> {
     fs::set_permissions(rt, path, Permissions::from_mode(mode))?;
     if fsync {
         sync_folder(rt, path)?;

@@ -5,15 +5,18 @@ ghost use Rattle.sg_file.specs.Counts.{inlet_state, new_inlet};
 ghost use Rattle.sg_file.specs.Inlet.{inlet_of, EndsBy, EndsAsOpened, IsNoBytes};
 ghost use Rattle.sg_file.specs.Seeking.{StartsAt};
 
+use crate::beside::open_beside;
 use crate::clock::moment;
-use crate::open::{is_same, open_to_read, path_text};
+use crate::open::{is_same, path_text};
 use crate::place::seek_to;
 use crate::read::read_some;
-use crate::{Health, InletCounts, Rest};
+use crate::tail::Tail;
+use crate::{Health, InletCounts, Reservation, Rest};
 use sg_device::{Inlet, InletFault, OpenRefusal, Pull};
 use std::alloc::Global;
 use std::fs::{self, File};
 use std::io::{self, ErrorKind};
+use std::thread::Threads;
 
 /// A file that is read from a place on. Its peer is `localhost`.
 #[derive(Drop)]
@@ -21,9 +24,12 @@ pub struct FileInlet {
     rt: HostRuntime,
     path: String,
     file: File,
+    reservation: Reservation,
     /// It ends at the file's end.
     pub once: bool,
     counts: InletCounts,
+    // The bytes in front of the place.
+    tail: Tail,
     // The peer of a second part, of which a file has none.
     nobody: Vec<u8>,
     health: Health,
@@ -37,8 +43,24 @@ const SHORTER: &str =
 const REPLACED: &str =
     "another file has its name, and this one has no more bytes: start the program anew, which reads the other one from its beginning";
 
+const CHANGED: &str =
+    "it was truncated and has grown again past what was read of it: remove its position store and start the program anew, which reads it from its beginning";
+
+// What has become of a file of which all bytes that there were have been read.
+#[derive(Drop)]
+enum Found {
+    /// They are all at present.
+    All,
+    /// There are more by now.
+    More,
+    /// There will be no more, for this reason.
+    Over(&'static str),
+}
+
 // A regular file, opened at the place where reading begins, with its name as text.
-fn open_at<'a>(
+fn open_at<'a, T: Threads>(
+    threads: &T,
+    alloc: Global,
     rt: &HostRuntime,
     path: &'a [u8],
     limit: u32,
@@ -47,7 +69,7 @@ fn open_at<'a>(
     ensures { IfOk result (λ opened. StartsAt from opened.2) }
 {
     let text = path_text(path)?;
-    let mut file = open_to_read(rt, text)?;
+    let mut file = open_beside(threads, alloc, rt, text)?;
     let place = seek_to(&mut file, limit, from)?;
     Ok((text, file, place))
 }
@@ -56,8 +78,10 @@ impl FileInlet {
     /// Opens a regular file for reading from a place on: a byte's number from 0. It is 0 where the
     /// file has fewer bytes, where the number is 2^63 or more, or where no record of lines that are
     /// cut at `limit` bytes can have ended there. With `once` the inlet ends at the file's end, else
-    /// it is idle there. A failure is told on standard error.
-    pub fn open(
+    /// it is idle there. `threads` is the runtime again, as what opens a file beside the run. A failure is
+    /// told on standard error.
+    pub fn open<T: Threads>(
+        threads: &T,
         alloc: Global,
         rt: HostRuntime,
         path: &[u8],
@@ -72,7 +96,7 @@ impl FileInlet {
         ensures once { IfOk result (λ inlet. inlet.once ≡ once) }
     {
         let mut health = Health::new(alloc, rt, "source", path)?;
-        let (text, file, place) = match open_at(&rt, path, limit, from) {
+        let (text, file, place) = match open_at(threads, alloc, &rt, path, limit, from) {
             Ok(opened) => opened,
             Err(error) => {
                 health.fails("open", &error);
@@ -80,17 +104,26 @@ impl FileInlet {
             }
         };
         let peer = b"localhost".to_vec(alloc)?;
+        let tail = Tail::read(alloc, &file, place)?;
+        let reservation = rest.reserve(&file)?;
         let path = String::from_str(alloc, text)?;
         Ok(FileInlet {
             rt,
             path,
             file,
+            reservation,
             once,
             counts: InletCounts::new(peer, place, true),
+            tail,
             nobody: Vec::new(alloc),
             health,
             rest,
         })
+    }
+
+    /// The open file.
+    pub(crate) fn file(&self) -> &File {
+        &self.file
     }
 
     /// What was counted so far.
@@ -120,15 +153,17 @@ impl FileInlet {
         if self.counts.ended || self.counts.hung {
             return Ok(Pull::End);
         }
-        let Some(at) = moment(&self.rt) else {
-            return self.fails("read", "the clock tells no moment");
-        };
+        let at = moment(&self.rt);
         if !self.counts.has_room(into.len()) {
             return self.fails("read", "no place beyond 2^63 can be told");
         }
         match read_some(&mut self.file, into) {
             Ok(0) => self.at_end(),
             Ok(len) => {
+                if !self.tail.stands(&self.file, self.counts.place) {
+                    return self.fails("follow", CHANGED);
+                }
+                self.tail.add(into.get(..len).unwrap_or(&[]));
                 self.health.works();
                 self.rest.happened();
                 Ok(Pull::Bytes { len, at })
@@ -151,12 +186,16 @@ impl FileInlet {
             return Ok(Pull::End);
         }
         match self.look() {
-            Ok(None) => {
+            Ok(Found::All) => {
                 self.health.works();
                 self.rest.wait();
                 Ok(Pull::Idle)
             }
-            Ok(Some(words)) => self.fails("follow", words),
+            Ok(Found::More) => {
+                self.rest.happened();
+                Ok(Pull::Idle)
+            }
+            Ok(Found::Over(words)) => self.fails("follow", words),
             Err(error) => {
                 self.health.fails("follow", &error);
                 Err(InletFault)
@@ -164,16 +203,31 @@ impl FileInlet {
         }
     }
 
-    // Why there will be no more bytes, where that is so.
-    fn look(&self) -> io::Result<Option<&'static str>> {
-        let about = self.file.metadata()?;
-        if about.len() < self.counts.place {
-            return Ok(Some(SHORTER));
+    // What has become of the file. Its name is looked at first: what was written before another file got
+    // the name is there when the open one is looked at then.
+    fn look(&self) -> io::Result<Found> {
+        let replaced = self.is_replaced()?;
+        let length = self.file.metadata()?.len();
+        if length > self.counts.place {
+            return Ok(Found::More);
         }
+        if length < self.counts.place {
+            return Ok(Found::Over(SHORTER));
+        }
+        if !self.tail.stands(&self.file, self.counts.place) {
+            return Ok(Found::Over(CHANGED));
+        }
+        if replaced {
+            return Ok(Found::Over(REPLACED));
+        }
+        Ok(Found::All)
+    }
+
+    // Whether another file has the name.
+    fn is_replaced(&self) -> io::Result<bool> {
         match fs::metadata(&self.rt, self.path.as_str()) {
-            Ok(named) if !is_same(&about, &named) => Ok(Some(REPLACED)),
-            Ok(_) => Ok(None),
-            Err(error) if error.kind() == ErrorKind::NotFound => Ok(None),
+            Ok(named) => Ok(!is_same(&self.file.metadata()?, &named)),
+            Err(error) if error.kind() == ErrorKind::NotFound => Ok(false),
             Err(error) => Err(error),
         }
     }

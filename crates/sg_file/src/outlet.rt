@@ -3,13 +3,14 @@ ghost use Rattle.std.specs.Prelude.{◌≡◌, IfOk};
 ghost use Rattle.sg_file.specs.Counts.{outlet_state, new_outlet};
 ghost use Rattle.sg_file.specs.Outlet.{outlet_of};
 
+use crate::piece::Piece;
 use crate::{Appending, OutletCounts, Rest, Target};
 use sg_device::{Frames, OpenRefusal, Outlet, OutletFault, Reopened, SendRefusal};
 use std::alloc::Global;
 
 /// A file that is appended to, by one write for all frames of a send. A frame that was taken is with
 /// the kernel, or on the disk where that is asked. What a full disk left of a frame that wasn't taken
-/// is cut off again, where nobody else changed the file's length.
+/// is cut off again, where it is one piece at the file's end.
 pub struct FileOutlet {
     target: Target,
     counts: OutletCounts,
@@ -53,30 +54,27 @@ impl FileOutlet {
 // Appends the frames to a file, and tells how many of them count.
 fn put(target: &mut Target, frames: &Frames) -> usize {
     let bytes = frames.bytes();
-    let appended = target.append(bytes);
-    if appended < bytes.len() {
-        return keep_whole(target, frames, appended);
+    let mut piece = target.append(bytes);
+    if piece.count < bytes.len() {
+        return keep_whole(target, frames, &mut piece);
     }
     if target.settle() {
-        target.keep(appended);
+        target.works();
         return frames.len();
     }
-    target.cut(appended, 0);
-    target.keep_what_is_there();
+    target.cut(&mut piece, 0);
     0
 }
 
-// Of so many bytes that were appended, keeps the whole frames, and tells how many of them count.
-fn keep_whole(target: &mut Target, frames: &Frames, appended: usize) -> usize {
-    let mut whole = frames.whole_within(appended);
-    let keep = bytes_of(frames, whole);
-    target.cut(appended, keep);
-    if whole > 0 && !target.settle() {
-        target.cut(keep, 0);
-        whole = 0;
+// Of what was appended, keeps the whole frames, and tells how many of them count.
+fn keep_whole(target: &mut Target, frames: &Frames, piece: &mut Piece) -> usize {
+    let whole = frames.whole_within(piece.count);
+    target.cut(piece, bytes_of(frames, whole));
+    if whole == 0 || target.settle() {
+        return whole;
     }
-    target.keep_what_is_there();
-    whole
+    target.cut(piece, 0);
+    0
 }
 
 // The number of bytes of the first `whole` frames.
@@ -98,7 +96,7 @@ impl Outlet for FileOutlet {
         } else {
             0
         };
-        self.counts.sent(whole, all)
+        self.counts.sent(whole, all, SendRefusal::Fault)
     }
 
     fn taken(&self) -> u64 {

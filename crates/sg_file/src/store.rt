@@ -1,12 +1,13 @@
 // A real file that holds a store.
-ghost use Rattle.std.specs.Prelude.{◌≡◌, ◌≤◌, ◌<◌, ◌^◌, length, IfOk};
+ghost use Rattle.std.specs.Prelude.{◌≡◌, ◌≤◌, ◌<◌, ◌+◌, ◌^◌, length, IfOk, IsErr};
+ghost use Rattle.sg_device.specs.Disk.{Measures, Reads, Writes, Syncs, HasCause};
 ghost use Rattle.sg_device.specs.Faults.{Rose};
-ghost use Rattle.sg_file.specs.Store.{disk_of, new_disk};
+ghost use Rattle.sg_file.specs.Store.{disk_of, new_disk, ReadsWhole, Lengthens};
 
-use crate::Health;
-use crate::fresh::open_store;
+use crate::fresh::{Opened, open_store, take_away};
+use crate::{Health, Reservation, Rest};
 use sg_device::{Disk, DiskFault, OpenRefusal};
-use std::alloc::Global;
+use std::alloc::{AllocError, Global};
 use std::fs::File;
 use std::io::{self, ErrorKind};
 use std::os::unix::fs::FileExt;
@@ -20,6 +21,8 @@ const END: u64 = 1 << 63;
 #[derive(Drop)]
 pub struct FileDisk {
     file: File,
+    // The name under which this opening made it, until a write.
+    made: Option<String>,
     // The number of bytes at the opening, or at the end of a later write where that is more: the file
     // has no fewer, but where it was truncated.
     length: u64,
@@ -28,21 +31,22 @@ pub struct FileDisk {
 }
 
 impl FileDisk {
-    /// Opens the regular file of this path, and locks it. Where it is missing and is to be made, it
-    /// comes to be with 128 zero bytes or not at all, and its folder is made stable. A failure is
-    /// told on standard error.
+    /// Opens the regular file of this path, and locks it. Where it is missing and `create` has a number,
+    /// it comes to be with so many zero bytes, or not at all, and its folder is made stable. A
+    /// failure is told on standard error.
     pub fn open(
         alloc: Global,
         rt: HostRuntime,
         path: &[u8],
-        create: bool,
+        create: Option<u64>,
     ) -> Result<FileDisk, OpenRefusal>
         ensures { IfOk result (λ disk. disk_of disk ≡ new_disk) }
     {
         let mut health = Health::new(alloc, rt, "store", path)?;
         match open_measured(alloc, &rt, path, create) {
-            Ok((file, length)) => Ok(FileDisk {
+            Ok((Opened { file, made }, length)) => Ok(FileDisk {
                 file,
+                made,
                 length,
                 faults: 0,
                 health,
@@ -55,6 +59,20 @@ impl FileDisk {
         }
     }
 
+    /// No destination of the same machine appends to it until the answer is dropped.
+    pub fn reserve(&self, rest: &Rest) -> Result<Reservation, AllocError> {
+        rest.reserve(&self.file)
+    }
+
+    /// Closes it. A position store that this opening made, and that nothing was written into, is taken away
+    /// again, and its mark with it: without them the position is 0 as well.
+    pub fn close(self, rt: &HostRuntime) {
+        let FileDisk { file, made, .. } = self;
+        if let Some(path) = made {
+            let _left = take_away(rt, &file, path.as_str());
+        }
+    }
+
     /// The number of calls that failed so far.
     pub fn faults(&self) -> u64
         ensures { result ≡ (disk_of self.now).faults }
@@ -64,7 +82,7 @@ impl FileDisk {
 
     // Counts a call that failed.
     fn fails(&mut self, what: &str, reason: &io::Error) -> DiskFault
-        ensures told { (disk_of self.new).told ≡ (disk_of self.old).told }
+        ensures length { self.new.length ≡ self.old.length }
         ensures faults { Rose (disk_of self.old).faults (disk_of self.new).faults }
         ensures later { (disk_of self.old).faults ≤ (disk_of self.new).faults }
     {
@@ -75,7 +93,7 @@ impl FileDisk {
 
     // Counts a call that found the file shorter than it was.
     fn truncated(&mut self) -> DiskFault
-        ensures told { (disk_of self.new).told ≡ (disk_of self.old).told }
+        ensures length { self.new.length ≡ self.old.length }
         ensures faults { Rose (disk_of self.old).faults (disk_of self.new).faults }
         ensures later { (disk_of self.old).faults ≤ (disk_of self.new).faults }
     {
@@ -90,7 +108,14 @@ impl Disk for FileDisk {
 
     ghost short = { λ disk bytes told. absurd (nothing_told bytes told) };
 
-    fn len(&mut self) -> Result<u64, DiskFault> {
+    fn len(&mut self) -> Result<u64, DiskFault>
+        ensures told { (disk_of self.new).told ≡ (disk_of self.old).told }
+        ensures length { Measures (disk_of self.old) result }
+        ensures bound { IfOk result (λ count. count < 2 ^ 63) }
+        ensures cause { HasCause (disk_of self.old).faults (disk_of self.new).faults result }
+        ensures whole { IfOk result (λ count. self.old.length ≤ count) }
+        ensures known { self.new.length ≡ self.old.length }
+    {
         match length_of(&self.file) {
             Ok(len) if len >= self.length => Ok(len),
             Ok(_) => Err(self.truncated()),
@@ -98,14 +123,21 @@ impl Disk for FileDisk {
         }
     }
 
-    fn read_at(&mut self, at: u64, into: &mut [u8]) -> Result<usize, DiskFault> {
-        if at >= END {
+    /// It gives as many bytes as were asked for, or as the store was known to have from there on.
+    fn read_at(&mut self, at: u64, into: &mut [u8]) -> Result<usize, DiskFault>
+        ensures told { (disk_of self.new).told ≡ (disk_of self.old).told }
+        ensures bytes { Reads (disk_of self.old) at into.old into.new result }
+        ensures bound { IfOk result (λ count. count ≤ length into.old) }
+        ensures cause { HasCause (disk_of self.old).faults (disk_of self.new).faults result }
+        ensures whole { ReadsWhole self.old.length at (length into.old) result }
+        ensures known { self.new.length ≡ self.old.length }
+    {
+        if at >= END && at >= self.length {
             return Ok(0);
         }
+        let least = self.length.saturating_sub(at).min(into.len() as u64);
         match read_from(&self.file, at, into) {
-            Ok(count) if count < into.len() && at.saturating_add(count as u64) < self.length => {
-                Err(self.truncated())
-            }
+            Ok(count) if (count as u64) < least => Err(self.truncated()),
             Ok(count) => {
                 self.health.works();
                 Ok(count)
@@ -114,10 +146,16 @@ impl Disk for FileDisk {
         }
     }
 
-    fn write_at(&mut self, at: u64, from: &[u8]) -> Result<(), DiskFault> {
+    fn write_at(&mut self, at: u64, from: &[u8]) -> Result<(), DiskFault>
+        ensures past_end { 2 ^ 63 ≤ at + length from.now → IsErr result }
+        ensures told { Writes (disk_of self.old) (disk_of self.new) at from.now result }
+        ensures cause { HasCause (disk_of self.old).faults (disk_of self.new).faults result }
+        ensures known { Lengthens self.old.length (at + length from.now) self.new.length result }
+    {
         if at >= END || from.len() as u64 >= END - at {
             return Err(self.fails("write", &io::Error::from(ErrorKind::FileTooLarge)));
         }
+        self.made = None;
         match self.file.write_all_at(from, at) {
             Ok(()) => {
                 self.health.works();
@@ -128,7 +166,11 @@ impl Disk for FileDisk {
         }
     }
 
-    fn sync(&mut self) -> Result<(), DiskFault> {
+    fn sync(&mut self) -> Result<(), DiskFault>
+        ensures told { Syncs (disk_of self.old) (disk_of self.new) result }
+        ensures cause { HasCause (disk_of self.old).faults (disk_of self.new).faults result }
+        ensures known { self.new.length ≡ self.old.length }
+    {
         match self.file.sync_all() {
             Ok(()) => Ok(()),
             Err(error) => Err(self.fails("sync", &error)),
@@ -141,11 +183,11 @@ fn open_measured(
     alloc: Global,
     rt: &HostRuntime,
     path: &[u8],
-    create: bool,
-) -> io::Result<(File, u64)> {
-    let file = open_store(alloc, rt, path, create)?;
-    let length = length_of(&file)?;
-    Ok((file, length))
+    create: Option<u64>,
+) -> io::Result<(Opened, u64)> {
+    let opened = open_store(alloc, rt, path, create)?;
+    let length = length_of(&opened.file)?;
+    Ok((opened, length))
 }
 
 // The number of bytes, which is below 2^63.

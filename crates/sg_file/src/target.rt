@@ -1,14 +1,16 @@
 // A real file that is appended to, and can be opened anew.
-ghost use Rattle.std.specs.Prelude.{◌≡◌, ◌≤◌, length, true, false, IsTrue, IfOk};
-ghost use Rattle.sg_file.specs.Target.{IsFor, KeepsTarget, WaitsOnly, grown};
+ghost use Rattle.std.specs.Prelude.{◌≡◌, ◌≤◌, length, true, false, IfOk};
+ghost use Rattle.sg_file.specs.Target.{IsFor, KeepsTarget, WaitsOnly};
 
 use crate::folders::make_folders;
+use crate::locks::number_of;
 use crate::open::{is_free, open_known, path_text, sync_folder};
+use crate::piece::Piece;
 use crate::{Health, Rest, Retry};
 use sg_device::{OpenRefusal, OutletFault, Reopened};
 use std::alloc::Global;
 use std::fs::{File, OpenOptions, Permissions};
-use std::io::{self, ErrorKind, Write};
+use std::io::{self, ErrorKind, Seek, Write};
 use std::os::unix::fs::{OpenOptionsExt, PermissionsExt};
 
 /// How a file is appended to.
@@ -31,8 +33,8 @@ pub struct Target {
     path: String,
     how: Appending,
     file: File,
-    // The file's length as this program left it.
-    end: u64,
+    // The number of the file's lock.
+    lock: u64,
     retry: Retry,
     health: Health,
     rest: Rest,
@@ -53,7 +55,7 @@ impl Target {
         let mut health = Health::new(alloc, rt, "destination", path)?;
         let mut retry = Retry::new(rt, how.reopen);
         retry.begin();
-        let (path, file, end) = match open_by_name(&rt, path, how) {
+        let (path, file) = match open_by_name(&rt, path, how, &rest) {
             Ok(opened) => opened,
             Err(error) => {
                 health.fails("open", &error);
@@ -61,12 +63,13 @@ impl Target {
             }
         };
         let path = String::from_str(alloc, path)?;
+        let lock = number_of(&file);
         Ok(Target {
             rt,
             path,
             how,
             file,
-            end,
+            lock,
             retry,
             health,
             rest,
@@ -83,10 +86,10 @@ impl Target {
             return Ok(Reopened::Later);
         }
         self.retry.begin();
-        match open_to_append(&self.rt, self.path.as_str(), self.how) {
-            Ok((file, end)) => {
+        match open_to_append(&self.rt, self.path.as_str(), self.how, &self.rest) {
+            Ok(file) => {
+                self.lock = number_of(&file);
                 self.file = file;
-                self.end = end;
                 Ok(Reopened::Ready)
             }
             Err(error) => {
@@ -96,48 +99,56 @@ impl Target {
         }
     }
 
-    /// Appends the bytes, by one write where the system takes them so, and tells how many it took. A
-    /// failure is told on standard error.
-    pub(crate) fn append(&mut self, bytes: &[u8]) -> usize
-        ensures count { result ≤ length bytes.now }
+    /// Appends the bytes, by one write where the system takes them so, and tells what of them is in the
+    /// file. A failure is told on standard error.
+    pub(crate) fn append(&mut self, bytes: &[u8]) -> Piece
+        ensures count { result.count ≤ length bytes.now }
         ensures keeps { KeepsTarget self.old self.new }
-        ensures end { self.new.end ≡ self.old.end }
     {
-        let mut done = 0;
+        let mut piece = Piece::new();
         for _ in 0..u64::MAX {
-            if done >= bytes.len() {
-                return done;
+            if piece.count >= bytes.len() {
+                return piece;
             }
-            match self.file.write(&bytes[done..]) {
+            match self.write_some(&bytes[piece.count..]) {
                 Ok(0) => {
                     self.health
                         .fails("write", &io::Error::from(ErrorKind::WriteZero));
-                    return done;
+                    return piece;
                 }
-                Ok(count) => done += count,
+                Ok(count) => piece.add(count, self.file.stream_position().ok()),
                 Err(error) if error.kind() == ErrorKind::Interrupted => {}
                 Err(error) => {
                     self.health.fails("write", &error);
-                    return done;
+                    return piece;
                 }
             }
         }
-        done
+        piece
+    }
+
+    // One write, while no other driver cuts the file.
+    fn write_some(&mut self, bytes: &[u8]) -> io::Result<usize>
+        ensures bound { IfOk result (λ count. count ≤ length bytes.now) }
+        ensures keeps { KeepsTarget self.old self.new }
+    {
+        self.rest.locks().begin_write(&self.rt, self.lock);
+        let written = self.file.write(bytes);
+        self.rest.locks().end_write(self.lock);
+        written
     }
 
     /// Appends a text whole, and tells whether it counts. What was appended of one that doesn't is
-    /// cut off again, where nobody else changed the file's length.
+    /// cut off again, where nothing stands behind it.
     pub fn put(&mut self, text: &[u8]) -> bool
-        ensures keeps { KeepsTarget self.old self.new }
-        ensures end { IsTrue result → self.new.end ≡ grown self.old.end (length text.now) }
+        ensures { KeepsTarget self.old self.new }
     {
-        let appended = self.append(text);
-        if appended == text.len() && self.settle() {
-            self.keep(appended);
+        let mut piece = self.append(text);
+        if piece.count == text.len() && self.settle() {
+            self.works();
             return true;
         }
-        self.cut(appended, 0);
-        self.keep_what_is_there();
+        self.cut(&mut piece, 0);
         false
     }
 
@@ -145,7 +156,6 @@ impl Target {
     /// is told on standard error.
     pub(crate) fn settle(&mut self) -> bool
         ensures keeps { KeepsTarget self.old self.new }
-        ensures end { self.new.end ≡ self.old.end }
         ensures kernel { self.old.how.fsync ≡ false → result ≡ true }
     {
         if !self.how.fsync {
@@ -160,37 +170,39 @@ impl Target {
         }
     }
 
-    /// Cuts what was appended last, of which so many bytes are in the file, to its first `keep`
-    /// bytes. It is left as it is where the file's length isn't what this program left and those
-    /// bytes, as when another one appends to it too.
-    pub(crate) fn cut(&mut self, appended: usize, keep: usize)
+    /// Cuts what was appended last to its first `keep` bytes. It is left as it is where it isn't one
+    /// piece at the file's end, or where another driver writes to the file just then.
+    pub(crate) fn cut(&mut self, piece: &mut Piece, keep: usize)
         ensures { KeepsTarget self.old self.new }
     {
-        let Ok(about) = self.file.metadata() else {
+        let Some(end) = piece.end_of(keep) else {
             return;
         };
-        if about.len() == self.end.saturating_add(appended as u64) {
-            let _cut = self.file.set_len(self.end.saturating_add(keep as u64));
+        if !self.rest.locks().try_begin_cut(self.lock) {
+            return;
+        }
+        let cut = cut_at_end(&self.file, piece.end, end);
+        self.rest.locks().end_cut(self.lock);
+        if cut {
+            piece.end = end;
+            piece.count = keep;
         }
     }
 
-    /// All of so many bytes that were appended count.
-    pub(crate) fn keep(&mut self, appended: usize)
-        ensures keeps { KeepsTarget self.old self.new }
-        ensures end { self.new.end ≡ grown self.old.end appended }
+    /// All that was appended counts.
+    pub(crate) fn works(&mut self)
+        ensures { KeepsTarget self.old self.new }
     {
-        self.end = self.end.saturating_add(appended as u64);
         self.health.works();
         self.rest.happened();
     }
+}
 
-    /// Not all that was appended counts. The file's length is what it is now.
-    pub(crate) fn keep_what_is_there(&mut self)
-        ensures { KeepsTarget self.old self.new }
-    {
-        if let Ok(about) = self.file.metadata() {
-            self.end = about.len();
-        }
+// Cuts a file to this length where it has that one, and tells whether it did.
+fn cut_at_end(file: &File, from: u64, to: u64) -> bool {
+    match file.metadata() {
+        Ok(about) => about.len() == from && to < from && file.set_len(to).is_ok(),
+        Err(_) => false,
     }
 }
 
@@ -198,16 +210,18 @@ fn open_by_name<'a>(
     rt: &HostRuntime,
     path: &'a [u8],
     how: Appending,
-) -> io::Result<(&'a str, File, u64)>
+    rest: &Rest,
+) -> io::Result<(&'a str, File)>
     ensures { IfOk result (λ opened. opened.0.now ≡ path.now) }
 {
     let path = path_text(path)?;
-    let (file, end) = open_to_append(rt, path, how)?;
-    Ok((path, file, end))
+    let file = open_to_append(rt, path, how, rest)?;
+    Ok((path, file))
 }
 
-// Opens a file for appending, made where it is missing, and tells its length.
-fn open_to_append(rt: &HostRuntime, path: &str, how: Appending) -> io::Result<(File, u64)> {
+// Opens a file for appending, made where it is missing, where it is no source and no store. With `fsync` its
+// folder is made stable each time, since that may have failed when the file was made.
+fn open_to_append(rt: &HostRuntime, path: &str, how: Appending, rest: &Rest) -> io::Result<File> {
     let mut options = OpenOptions::new();
     options.append(true);
     let file = match open_known(rt, path, &options, true) {
@@ -215,8 +229,13 @@ fn open_to_append(rt: &HostRuntime, path: &str, how: Appending) -> io::Result<(F
         Err(error) if error.kind() == ErrorKind::NotFound => make(rt, path, how)?,
         Err(error) => return Err(error),
     };
-    let about = file.metadata()?;
-    Ok((file, about.len()))
+    if rest.reserved().has(&file)? {
+        return Err(io::Error::other("it is a source or a store of this run"));
+    }
+    if how.fsync && file.metadata()?.is_file() {
+        sync_folder(rt, path)?;
+    }
+    Ok(file)
 }
 
 // Makes a file that is missing. A link isn't followed.
@@ -232,8 +251,5 @@ fn make(rt: &HostRuntime, path: &str, how: Appending) -> io::Result<File> {
     options.append(true).create_new(true).mode(mode);
     let file = options.open(rt, path)?;
     file.set_permissions(Permissions::from_mode(mode))?;
-    if how.fsync {
-        sync_folder(rt, path)?;
-    }
     Ok(file)
 }

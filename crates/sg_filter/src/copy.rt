@@ -1,8 +1,8 @@
 // The checks of an expression's calls and comparisons.
-ghost use Rattle.std.specs.Prelude.{◌≡◌, IfOk, IfErr};
+ghost use Rattle.std.specs.Prelude.{◌≡◌, IfOk, IfErr, OnOk};
 ghost use Rattle.sg_outside.specs.World.{OnlyBuilds};
 ghost use Rattle.sg_pattern.specs.Pattern.{IsValid, pattern_of};
-ghost use Rattle.sg_pattern.specs.Builds.{RefusesText};
+ghost use Rattle.sg_pattern.specs.Builds.{RefusesNone, RefusesText};
 ghost use Rattle.sg_filter.specs.declared.check.Check.TheVariants as check;
 
 use crate::check::{Check, Search};
@@ -41,6 +41,7 @@ pub(crate) fn field<B: Builder>(
     ensures ok { IfOk result (λ made. made
         ≡ check.Field (record { name = name.now; matcher = pattern_of pattern.now })) }
     ensures valid { IfOk result (λ _. IsValid (pattern_of pattern.now)) }
+    ensures stays { OnOk result (RefusesNone (B.state builder.old) (B.state builder.new)) }
     ensures refused { IfErr result
         (RefusesText (B.state builder.old) (B.state builder.new) pattern.now) }
     ensures only { OnlyBuilds (B.state builder.old) (B.state builder.new) }

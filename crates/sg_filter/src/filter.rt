@@ -1,6 +1,7 @@
 // Filters.
-ghost use Rattle.std.specs.Prelude.{◌≡◌, IfOk, IfErr};
+ghost use Rattle.std.specs.Prelude.{◌≡◌, IfOk, IfErr, OnOk};
 ghost use Rattle.sg_outside.specs.World.{OnlyBuilds};
+ghost use Rattle.sg_pattern.specs.Builds.{RefusesNone};
 ghost use Rattle.sg_filter.specs.Decisions.{decides, decision_of};
 ghost use Rattle.sg_filter.specs.Patterns.{AreValid, RefusesExpr, patterns_of};
 
@@ -58,6 +59,7 @@ impl Filter {
     ) -> Result<Filter, BuildRefusal>
         ensures ok { IfOk result (λ filter. filter ≡ decision_of named.now expr.now) }
         ensures valid { IfOk result (λ _. AreValid (patterns_of named.now expr.now)) }
+        ensures stays { OnOk result (RefusesNone (B.state builder.old) (B.state builder.new)) }
         ensures refused { IfErr result
             (RefusesExpr (B.state builder.old) (B.state builder.new) named.now expr.now) }
         ensures only { OnlyBuilds (B.state builder.old) (B.state builder.new) }

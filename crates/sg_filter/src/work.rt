@@ -1,6 +1,7 @@
 // The table of an expression, made by a work list from its last check to its first.
 ghost use Rattle.std.specs.Prelude.{◌≡◌, ◌+◌, ◌<◌, [], ◌∷◌, ◌++◌, length, IfOk, IfErr, OnOk, MatchOption};
 ghost use Rattle.sg_outside.specs.World.{OnlyBuilds};
+ghost use Rattle.sg_pattern.specs.Builds.{RefusesNone};
 ghost use Rattle.sg_filter.specs.declared.work.Frame.TheVariants as frame;
 ghost use Rattle.sg_filter.specs.declared.node.Node.{Node as ANode};
 ghost use Rattle.sg_filter.specs.Patterns.{RefusesAny, RefusesExpr};
@@ -89,6 +90,7 @@ impl<'e> Work<'e> {
         frame: Frame<'e>,
     ) -> Result<(), BuildRefusal>
         ensures turns { OnOk result (Turns named.now frame.entry self.old self.new) }
+        ensures stays { OnOk result (RefusesNone (B.state builder.old) (B.state builder.new)) }
         ensures refused { IfErr result (RefusesAny (B.state builder.old) (B.state builder.new)
             (frame_patterns named.now frame.entry)) }
         ensures only { OnlyBuilds (B.state builder.old) (B.state builder.new) }
@@ -228,6 +230,7 @@ pub(crate) fn made<'e, B: Builder>(
     named: &'e [Expr],
 ) -> Result<Work<'e>, BuildRefusal>
     ensures leads { IfOk result (λ work. Leads named.now expr.now work × (work.frames.items ≡ [])) }
+    ensures stays { OnOk result (RefusesNone (B.state builder.old) (B.state builder.new)) }
     ensures refused { IfErr result
         (RefusesExpr (B.state builder.old) (B.state builder.new) named.now expr.now) }
     ensures only { OnlyBuilds (B.state builder.old) (B.state builder.new) }

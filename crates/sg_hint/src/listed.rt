@@ -87,7 +87,7 @@ fn refused_fault(refusal: PathRefusal) -> Result<ConfigFault, NoMemory>
 fn path_refusal(alloc: Global, config: &Config) -> Option<PathRefusal>
     ensures { IsCompiled config.now result }
 {
-    let mut patterns = Patterns { too_large: 0 };
+    let mut patterns = Patterns::new(alloc);
     compile(alloc, &config.forest, &mut patterns).err()
 }
 

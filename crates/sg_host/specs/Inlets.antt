@@ -5,10 +5,10 @@ use Rattle.sg_outside.specs.World.{Ledger, Opened, StandsIn}
 use Rattle.sg_device.specs.declared.fault.OpenRefusal.{OpenRefusal}
 use Rattle.sg_outside.specs.declared.request.InletSpec.{InletSpec}
 use Rattle.sg_file.specs.Counts.{inlet_state}
-use Rattle.sg_file.specs.Inlet.{inlet_of}
 use Rattle.sg_net.specs.Slot.{slot_of}
 use Rattle.sg_host.specs.Ledgers.{LedgerOpens, LedgerRefuses}
 use Rattle.sg_host.specs.Cells.{inlet_states}
+use Rattle.sg_host.specs.Marked.{marked_of}
 use Rattle.sg_host.specs.declared.inlets.HostFeed.{HostFeed}
 use Rattle.sg_host.specs.declared.inlets.HostInlets.{HostInlets}
 use Rattle.sg_host.specs.declared.inlets.OpenedInlet.{OpenedInlet}
@@ -16,7 +16,7 @@ use Rattle.sg_host.specs.declared.inlets.Source.{Source}
 use Rattle.sg_host.specs.declared.inlets.Source.TheVariants.{File, Slot}
 
 abbrev pub source_of : Source → InletState
-source_of (File file) = inlet_of file
+source_of (File marked) = marked_of marked
 source_of (Slot slot) = slot_of slot
 
 abbrev pub feed_of : HostFeed → InletState

@@ -1,6 +1,7 @@
 pub mod Counts
 pub mod Cells
 pub mod Ledgers
+pub mod Marked
 pub mod Inlets
 pub mod Outlets
 pub mod Stores

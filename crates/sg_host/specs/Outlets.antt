@@ -14,26 +14,27 @@ use Rattle.sg_host.specs.declared.outlets.HostOutlets.{HostOutlets}
 use Rattle.sg_host.specs.declared.outlets.RealOutlet.{RealOutlet}
 use Rattle.sg_host.specs.declared.outlets.RealOutlet.TheVariants.{File, Tcp}
 
-abbrev pub real_of : RealOutlet → OutletState
-real_of (File file) = outlet_of file
-real_of (Tcp tcp) = tcp_of tcp
-
-abbrev pub drain_of : HostDrain → OutletState
-drain_of drain = real_of drain.real
-
 -- an outlet at its opening
 abbrev pub opened_outlet : OutletSpec → Opened OutletSpec OutletState
 opened_outlet spec = record { spec = spec; state = new_outlet }
 
--- those opened and those closed
-abbrev pub outlets_of : HostOutlets → Ledger OutletSpec OutletState
-outlets_of outlets = record { opened = map opened_outlet outlets.opened.items; closed = outlet_states outlets.closed }
+module _ {T : Type 0} where
+  abbrev pub real_of : RealOutlet T → OutletState
+  real_of (File file) = outlet_of file
+  real_of (Tcp tcp) = tcp_of tcp
 
--- the outlet took nothing yet
-abbrev pub OutletsOpen : HostOutlets → HostOutlets → OutletSpec → OutletState → Type 0
-OutletsOpen old new spec drain =
-    LedgerOpens (outlets_of old) (outlets_of new) old.faults new.faults spec drain × IsNew drain
+  abbrev pub drain_of : HostDrain T → OutletState
+  drain_of drain = real_of drain.real
 
-abbrev pub OutletsRefuse : HostOutlets → HostOutlets → OpenRefusal → Type 0
-OutletsRefuse old new refusal = LedgerRefuses (outlets_of old) (outlets_of new) old.faults
-    new.faults refusal
+  -- those opened and those closed
+  abbrev pub outlets_of : HostOutlets T → Ledger OutletSpec OutletState
+  outlets_of outlets = record { opened = map opened_outlet outlets.opened.items; closed = outlet_states outlets.closed }
+
+  -- the outlet took nothing yet
+  abbrev pub OutletsOpen : HostOutlets T → HostOutlets T → OutletSpec → OutletState → Type 0
+  OutletsOpen old new spec drain =
+      LedgerOpens (outlets_of old) (outlets_of new) old.faults new.faults spec drain × IsNew drain
+
+  abbrev pub OutletsRefuse : HostOutlets T → HostOutlets T → OpenRefusal → Type 0
+  OutletsRefuse old new refusal = LedgerRefuses (outlets_of old) (outlets_of new) old.faults
+      new.faults refusal

@@ -11,7 +11,7 @@ use Rattle.sg_host.specs.declared.paths.HostOpener.{HostOpener}
 use Rattle.sg_host.specs.declared.paths.HostPaths.{HostPaths}
 
 abbrev pub opener_of : HostOpener → PathsState
-opener_of opener = paths_state opener.counts
+opener_of opener = paths_state opener.opened.counts
 
 -- an opener at its opening
 abbrev pub opened_paths : OutletSpec → Opened OutletSpec PathsState

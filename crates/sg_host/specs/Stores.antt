@@ -11,7 +11,7 @@ use Rattle.sg_host.specs.declared.stores.HostStore.{HostStore}
 use Rattle.sg_host.specs.declared.stores.HostStores.{HostStores}
 
 abbrev pub store_of : HostStore → DiskState
-store_of store = disk_of store.disk
+store_of store = disk_of store.opened.disk
 
 -- a store at its opening
 abbrev pub opened_store : StoreSpec → Opened StoreSpec DiskState

@@ -5,19 +5,20 @@ ghost use Rattle.sg_file.specs.Counts.{inlet_state};
 ghost use Rattle.sg_host.specs.Inlets.{source_of, feed_of, inlets_of, InletsOpen, InletsRefuse, IsOpenedFor};
 
 use crate::cells::{InletCell, add_inlet, inlet_cell};
+use crate::marked::MarkedFile;
 use sg_device::{Inlet, InletFault, Name, NoMemory, OpenRefusal, Pull};
-use sg_file::{FileInlet, Health, InletCounts, Rest};
-use sg_net::{Listener, SlotInlet};
+use sg_file::{Health, InletCounts, Rest};
+use sg_net::{Acceptor, Listener, SlotInlet};
 use sg_outside::InletSpec;
 use std::alloc::Global;
 use std::io::{self, ErrorKind};
-use std::net::TcpListener;
 use std::sync::Arc;
+use std::thread::Threads;
 
 /// A file, or a slot of a listener.
 #[derive(Drop)]
 pub enum Source {
-    File(FileInlet),
+    File(MarkedFile),
     Slot(SlotInlet),
 }
 
@@ -133,19 +134,23 @@ impl HostInlets {
 
     /// Opens an inlet, and tells the place at which reading begins: a byte's number from 0. It is 0
     /// for a slot, and where the file has fewer bytes than `from`, `from` is 2^63 or more, or no
-    /// record can have ended there.
-    pub fn open(
+    /// record can have ended there. Where the position of a file is stored, as `marked` says, it is 0 too
+    /// where the file is another one than that in which it was. `threads` is the runtime again, as what opens
+    /// a file.
+    pub fn open<T: Threads>(
         &mut self,
+        threads: &T,
         alloc: Global,
         spec: &InletSpec,
         from: u64,
+        marked: bool,
     ) -> Result<(HostFeed, u64), OpenRefusal>
         ensures { MatchResult result
             (λ opened. InletsOpen self.old self.new spec.now from (feed_of opened.0) opened.1)
             (λ refusal. InletsRefuse self.old self.new refusal) }
     {
         let cell = inlet_cell(alloc)?;
-        let source = match self.open_source(alloc, spec, from) {
+        let source = match self.open_source(threads, alloc, spec, from, marked) {
             Ok(source) => source,
             Err(OpenRefusal::NoMemory) => return Err(OpenRefusal::NoMemory),
             Err(OpenRefusal::Failed) => {
@@ -162,11 +167,13 @@ impl HostInlets {
     }
 
     // Opens what is asked for, and leaves the lists as they are.
-    fn open_source(
+    fn open_source<T: Threads>(
         &mut self,
+        threads: &T,
         alloc: Global,
         spec: &InletSpec,
         from: u64,
+        marked: bool,
     ) -> Result<Source, OpenRefusal>
         ensures lists { inlets_of self.new ≡ inlets_of self.old }
         ensures faults { self.new.faults ≡ self.old.faults }
@@ -177,43 +184,45 @@ impl HostInlets {
         match spec {
             InletSpec::File { path, once, limit } => {
                 let path = path.bytes();
-                let file = FileInlet::open(alloc, self.rt, path, *once, *limit, from, rest)?;
+                let file = MarkedFile::open(
+                    threads, alloc, self.rt, path, *once, *limit, from, marked, &rest,
+                )?;
                 Ok(Source::File(file))
             }
             InletSpec::Slot { ip, port, once, .. } => {
                 let ip = ip.bytes();
                 let name = address(alloc, ip, *port)?;
-                let listener = self.listener(alloc, ip, *port, &name)?;
-                let slot = SlotInlet::open(alloc, self.rt, listener, &name, *once, rest)?;
+                let acceptor = self.acceptor(alloc, ip, *port, &name)?;
+                let slot = SlotInlet::open(alloc, self.rt, acceptor, &name, *once, rest)?;
                 Ok(Source::Slot(slot))
             }
         }
     }
 
-    // The listener on this address, bound where it isn't yet.
-    fn listener(
+    // What accepts the connections to this address, bound where it isn't yet.
+    fn acceptor(
         &mut self,
         alloc: Global,
         ip: &[u8],
         port: u16,
         name: &[u8],
-    ) -> Result<Arc<TcpListener>, OpenRefusal>
+    ) -> Result<Arc<Acceptor>, OpenRefusal>
         ensures lists { inlets_of self.new ≡ inlets_of self.old }
         ensures faults { self.new.faults ≡ self.old.faults }
     {
         for listener in &self.listeners {
             if listener.is_on(ip, port) {
-                return Ok(listener.socket()?);
+                return Ok(listener.acceptor()?);
             }
         }
         let mut health = Health::new(alloc, self.rt, "source", name)?;
         match Listener::bind(alloc, self.rt, ip, port) {
             Ok(listener) => {
-                let socket = listener.socket()?;
+                let acceptor = listener.acceptor()?;
                 if self.listeners.push(listener).is_err() {
                     return Err(OpenRefusal::NoMemory);
                 }
-                Ok(socket)
+                Ok(acceptor)
             }
             Err(error) if error.kind() == ErrorKind::OutOfMemory => Err(OpenRefusal::NoMemory),
             Err(error) => {

@@ -4,6 +4,7 @@
 
 mod cells;
 mod inlets;
+mod marked;
 mod outlets;
 mod paths;
 mod stores;
@@ -13,9 +14,10 @@ mod timer;
 
 pub use cells::{InletCell, OutletCell, PathsCell, StoreCell};
 pub use inlets::{HostFeed, HostInlets, OpenedInlet, Source};
+pub use marked::MarkedFile;
 pub use outlets::{HostDrain, HostOutlets, RealOutlet};
 pub use paths::{HostOpener, HostPaths, PathCounts};
 pub use sg_file::{FileDisk, Rest, read_file};
 pub use stores::{HostStore, HostStores};
-pub use streams::{say, tell};
+pub use streams::{Streams, say, tell};
 pub use timer::Timer;

@@ -10,22 +10,23 @@ use sg_file::{Appending, FileOutlet, OutletCounts, Rest};
 use sg_net::TcpOutlet;
 use sg_outside::OutletSpec;
 use std::alloc::Global;
+use std::thread::Threads;
 
 /// A file, or a connection.
 #[derive(Drop)]
-pub enum RealOutlet {
+pub enum RealOutlet<T: Threads + Copy> {
     File(FileOutlet),
-    Tcp(TcpOutlet),
+    Tcp(TcpOutlet<T>),
 }
 
 /// An open outlet, with the memory for its closing.
 #[derive(Drop)]
-pub struct HostDrain {
-    real: RealOutlet,
+pub struct HostDrain<T: Threads + Copy> {
+    real: RealOutlet<T>,
     cell: Box<OutletCell>,
 }
 
-impl HostDrain {
+impl<T: Threads + Copy> HostDrain<T> {
     /// What was counted so far.
     pub fn counts(&self) -> OutletCounts
         ensures { outlet_state result ≡ drain_of self.now }
@@ -37,7 +38,7 @@ impl HostDrain {
     }
 }
 
-impl Outlet for HostDrain {
+impl<T: Threads + Copy> Outlet for HostDrain<T> {
     ghost state = { drain_of };
 
     fn send(&mut self, frames: &Frames) -> Result<(), SendRefusal> {
@@ -61,7 +62,8 @@ impl Outlet for HostDrain {
 }
 
 /// The outlets opened, those closed, and the number of openings that failed.
-pub struct HostOutlets {
+pub struct HostOutlets<T: Threads + Copy> {
+    threads: T,
     rt: HostRuntime,
     rest: Rest,
     opened: Vec<OutletSpec>,
@@ -69,9 +71,10 @@ pub struct HostOutlets {
     pub faults: u64,
 }
 
-impl Drop for HostOutlets {
+impl<T: Threads + Copy> Drop for HostOutlets<T> {
     fn drop(self) {
         let HostOutlets {
+            threads: _threads,
             rt: _rt,
             rest: _rest,
             opened: _opened,
@@ -81,13 +84,14 @@ impl Drop for HostOutlets {
     }
 }
 
-impl HostOutlets {
-    /// None was opened yet.
-    pub fn new(alloc: Global, rt: HostRuntime, rest: Rest) -> HostOutlets
+impl<T: Threads + Copy> HostOutlets<T> {
+    /// None was opened yet. `threads` is the runtime again, as what starts look-ups of names.
+    pub fn new(threads: T, alloc: Global, rt: HostRuntime, rest: Rest) -> HostOutlets<T>
         ensures none { outlets_of result ≡ record { opened = []; closed = [] } }
         ensures faults { result.faults ≡ 0 }
     {
         HostOutlets {
+            threads,
             rt,
             rest,
             opened: Vec::new(alloc),
@@ -97,7 +101,7 @@ impl HostOutlets {
     }
 
     /// Opens an outlet for one file or one connection.
-    pub fn open(&mut self, alloc: Global, spec: &OutletSpec) -> Result<HostDrain, OpenRefusal>
+    pub fn open(&mut self, alloc: Global, spec: &OutletSpec) -> Result<HostDrain<T>, OpenRefusal>
         ensures { MatchResult result
             (λ drain. OutletsOpen self.old self.new spec.now (drain_of drain))
             (λ refusal. OutletsRefuse self.old self.new refusal) }
@@ -117,7 +121,7 @@ impl HostOutlets {
         Ok(HostDrain { real, cell })
     }
 
-    fn open_real(&self, alloc: Global, spec: &OutletSpec) -> Result<RealOutlet, OpenRefusal>
+    fn open_real(&self, alloc: Global, spec: &OutletSpec) -> Result<RealOutlet<T>, OpenRefusal>
         ensures { IfOk result (λ real. real_of real ≡ new_outlet) }
     {
         let rest = self.rest.share()?;
@@ -139,7 +143,16 @@ impl HostOutlets {
                 Ok(RealOutlet::File(file))
             }
             OutletSpec::Tcp { host, port, reopen } => {
-                let tcp = TcpOutlet::open(alloc, self.rt, host.bytes(), *port, *reopen, rest)?;
+                let host = host.bytes();
+                let tcp = TcpOutlet::open(
+                    self.threads,
+                    alloc,
+                    self.rt,
+                    host,
+                    *port,
+                    *reopen,
+                    rest,
+                )?;
                 Ok(RealOutlet::Tcp(tcp))
             }
             OutletSpec::ByPath { .. } => Err(OpenRefusal::Failed),
@@ -147,7 +160,7 @@ impl HostOutlets {
     }
 
     /// Closes an outlet. It takes no memory.
-    pub fn close(&mut self, drain: HostDrain)
+    pub fn close(&mut self, drain: HostDrain<T>)
         ensures closed { outlets_of self.new ≡ with_closed (outlets_of self.old) (drain_of drain) }
         ensures faults { self.new.faults ≡ self.old.faults }
     {

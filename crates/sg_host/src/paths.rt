@@ -42,10 +42,9 @@ impl PathCounts {
     }
 }
 
-/// An opener of files, with the memory for its closing. Each file is appended to by one write for a
-/// text.
+/// The files that an opener has open. Each file is appended to by one write for a text.
 #[derive(Drop)]
-pub struct HostOpener {
+pub struct OpenedFiles {
     alloc: Global,
     rt: HostRuntime,
     rest: Rest,
@@ -53,6 +52,12 @@ pub struct HostOpener {
     counts: PathCounts,
     // The files, in the order of their paths.
     files: Vec<Target>,
+}
+
+/// An opener of files, with the memory for its closing.
+#[derive(Drop)]
+pub struct HostOpener {
+    opened: OpenedFiles,
     cell: Box<PathsCell>,
 }
 
@@ -85,9 +90,11 @@ impl HostOpener {
     pub fn counts(&self) -> &PathCounts
         ensures { paths_state result.now ≡ opener_of self.now }
     {
-        &self.counts
+        &self.opened.counts
     }
+}
 
+impl OpenedFiles {
     // Whether a text was taken whole for the file of a path.
     fn put(&mut self, path: &[u8], text: &[u8]) -> bool
         ensures { self.new.counts ≡ self.old.counts }
@@ -118,53 +125,59 @@ impl Opener for HostOpener {
     ghost state = { opener_of };
 
     fn open(&mut self, path: &[u8]) -> Result<(), OpenRefusal> {
-        let name = Name::new(self.alloc, path)?;
-        let rest = self.rest.share()?;
-        match Target::open(self.alloc, self.rt, path, self.how, rest) {
+        let name = Name::new(self.opened.alloc, path)?;
+        let rest = self.opened.rest.share()?;
+        match Target::open(
+            self.opened.alloc,
+            self.opened.rt,
+            path,
+            self.opened.how,
+            rest,
+        ) {
             Ok(file) => {
-                if self.files.push(file).is_err() {
+                if self.opened.files.push(file).is_err() {
                     return Err(OpenRefusal::NoMemory);
                 }
-                if self.counts.opened.push(name).is_err() {
-                    drop(self.files.pop());
+                if self.opened.counts.opened.push(name).is_err() {
+                    drop(self.opened.files.pop());
                     return Err(OpenRefusal::NoMemory);
                 }
                 Ok(())
             }
             Err(OpenRefusal::NoMemory) => Err(OpenRefusal::NoMemory),
             Err(OpenRefusal::Failed) => {
-                self.counts.fail();
+                self.opened.counts.fail();
                 Err(OpenRefusal::Failed)
             }
         }
     }
 
     fn send(&mut self, path: &[u8], text: &[u8]) -> Result<(), SendRefusal> {
-        if self.put(path, text) {
+        if self.opened.put(path, text) {
             return Ok(());
         }
-        self.counts.fail();
+        self.opened.counts.fail();
         Err(SendRefusal::Fault)
     }
 
     fn reopen(&mut self, path: &[u8]) -> Result<Reopened, OutletFault> {
-        match self.open_anew(path) {
+        match self.opened.open_anew(path) {
             Ok(Reopened::Ready) => Ok(Reopened::Ready),
-            Ok(Reopened::Later) if self.counts.laters < u64::MAX => {
-                self.counts.laters += 1;
+            Ok(Reopened::Later) if self.opened.counts.laters < u64::MAX => {
+                self.opened.counts.laters += 1;
                 Ok(Reopened::Later)
             }
             _ => {
-                self.counts.fail();
+                self.opened.counts.fail();
                 Err(OutletFault)
             }
         }
     }
 
     fn close(&mut self, path: &[u8]) {
-        if let Some(i) = take_out(&mut self.counts.opened, path) {
-            if i < self.files.len() {
-                self.files.remove(i);
+        if let Some(i) = take_out(&mut self.opened.counts.opened, path) {
+            if i < self.opened.files.len() {
+                self.opened.files.remove(i);
             }
         }
     }
@@ -222,7 +235,7 @@ impl HostPaths {
             self.faults = self.faults.saturating_add(1);
             return Err(OpenRefusal::Failed);
         };
-        let opener = HostOpener {
+        let opened = OpenedFiles {
             alloc,
             rt: self.rt,
             rest: self.rest.share()?,
@@ -234,6 +247,9 @@ impl HostPaths {
             },
             counts: PathCounts::new(alloc),
             files: Vec::new(alloc),
+        };
+        let opener = HostOpener {
+            opened,
             cell: paths_cell(alloc)?,
         };
         if self.opened.push(spec.copy()?).is_err() {
@@ -247,7 +263,8 @@ impl HostPaths {
         ensures closed { paths_of self.new ≡ with_closed (paths_of self.old) (opener_of opener) }
         ensures faults { self.new.faults ≡ self.old.faults }
     {
-        let HostOpener { counts, cell, .. } = opener;
+        let HostOpener { opened, cell } = opener;
+        let OpenedFiles { counts, .. } = opened;
         add_paths(&mut self.closed, cell, counts);
     }
 }

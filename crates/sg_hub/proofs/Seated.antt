@@ -1,8 +1,7 @@
 -- Calls at a seat, one after another.
-use Rattle.std.proofs.Common.{◌≡◌, ℕ, ◌+◌, ◌-◌, ◌++◌, List, [], ◌∷◌, length, map, refl, sym, ap, ◌∙◌, subst, arith}
+use Rattle.std.proofs.Common.{◌≡◌, ◌+◌, ◌-◌, ◌++◌, List, [], ◌∷◌, refl, sym, ap, ◌∙◌, subst, arith}
 use Rattle.std.proofs.lemmas.List.{append-nil, append_assoc, map-append}
-use Rattle.sg_booth.specs.Desks.{IsDeskOf, turned}
-use Rattle.sg_booth.specs.Lists.{StartsWith, entries_at}
+use Rattle.sg_booth.specs.Lists.{entries_at}
 use Rattle.sg_counter.specs.Exchanges.{Exchange, Makes}
 use Rattle.sg_counter.specs.declared.calls.CoreCall.{CoreCall}
 use Rattle.sg_counter.specs.declared.calls.CoreReply.{CoreReply}

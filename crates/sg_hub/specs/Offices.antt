@@ -1,5 +1,5 @@
 -- The flow core as what lies in a booth. Which calls it may be asked for is said of its setup, which no call changes.
-use Rattle.std.specs.Prelude.{◌≡◌, ◌-◌, ◌^◌, ◌<◌, ◌≤◌, ℕ, IsSome, length}
+use Rattle.std.specs.Prelude.{◌-◌, ◌^◌, ◌<◌, ◌≤◌, ℕ, IsSome, length}
 use Rattle.sg_machine.specs.declared.setup.Setup.{Setup}
 use Rattle.sg_counter.specs.Bringing.{IsBatch, store_in}
 use Rattle.sg_counter.specs.declared.calls.CoreCall.{CoreCall}

@@ -1,6 +1,6 @@
 // The hub.
-ghost use Rattle.std.specs.Prelude.{◌≡◌, ◌≤◌, ◌<◌, ◌-◌, ◌^◌, IfOk, IfErr};
-ghost use Rattle.sg_booth.specs.Desks.{IsDeskOf, first_desk, HasTurned, fresh_desk, HasJoined, HasClosed};
+ghost use Rattle.std.specs.Prelude.{◌≡◌, ◌<◌, ◌-◌, ◌^◌, IfOk, IfErr};
+ghost use Rattle.sg_booth.specs.Desks.{IsDeskOf, AreOrdered, first_desk, HasTurned, fresh_desk, receipt_of, without_calls, HasJoined, HasClosed};
 ghost use Rattle.sg_core.specs.Calls.{Serves};
 ghost use Rattle.sg_hub.specs.Offices.{MayServe};
 
@@ -55,6 +55,18 @@ impl<D: Disk> Hub<D> {
         ensures new { result ≡ fresh_desk seat.old turns }
     {
         self.booth.split(seat, turns)
+    }
+
+    /// A receipt of the seat's calls so far: a seat without turns, which has them and has seen what the seat
+    /// has. Where it is joined into another seat, the history of the hub's close has these calls, whatever
+    /// becomes of the seat itself, by the law `receipts_stand`. Takes no memory.
+    pub fn receipt(&self, seat: &mut Seat<D>) -> Seat<D>
+        requires seat { IsDeskOf self.now seat.old }
+        ensures old { seat.new ≡ without_calls seat.old }
+        ensures new { result ≡ receipt_of seat.old }
+        ensures ordered { AreOrdered result }
+    {
+        self.booth.receipt(seat)
     }
 
     /// The seat takes over the other one's turns and calls, and has seen what both had.

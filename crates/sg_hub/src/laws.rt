@@ -1,4 +1,6 @@
 // Laws, by functions that do nothing.
+ghost use Rattle.sg_booth.specs.Desks.{ReceiptsStand};
+ghost use Rattle.sg_core.specs.Calls.{Serves};
 ghost use Rattle.sg_hub.specs.Laws.{HistoriesStand, HistoriesKeepSetup, LiesStanding, SeatsGoOn};
 
 use crate::office::CoreOffice;
@@ -33,3 +35,12 @@ pub fn lies_standing<D: Disk>()
 pub fn seats_go_on()
     ensures { SeatsGoOn }
 {}
+
+/// A law: the calls of a seat of which a receipt was joined into the closing one, on any way, stand in the
+/// history, each at its place, once, and at none of the closing seat's own, also where the seat itself was
+/// dropped. The function does nothing.
+pub fn receipts_stand<D: Disk>()
+    ensures { ReceiptsStand Serves }
+{
+    sg_booth::receipts_stand::<CoreOffice<D>>();
+}

@@ -9,6 +9,6 @@ mod seat;
 mod threads;
 
 pub use hub::{Hub, Seat};
-pub use laws::{histories_keep_setup, histories_stand, lies_standing, seats_go_on};
+pub use laws::{histories_keep_setup, histories_stand, lies_standing, receipts_stand, seats_go_on};
 pub use office::CoreOffice;
 pub use seat::HubSeat;

@@ -15,6 +15,7 @@ use Rattle.sg_tree.specs.declared.refusal.PathRefusal.TheVariants.{BadPattern, P
 use Rattle.sg_tree.specs.declared.tree.Path.{Path}
 use Rattle.sg_table.specs.Patterns.{patterns_in}
 use Rattle.sg_table.specs.Refused.{IsBounded, Exceeds, IsFirstBeyond}
+use Rattle.sg_table.proofs.Whole.{large-rose}
 use Rattle.sg_config.specs.Alike.{AreAlike}
 use Rattle.sg_config.specs.declared.config.Config.{Config}
 use Rattle.sg_loaded.specs.Compiling.{CanBeCompiled, IsUncompiled}
@@ -54,7 +55,7 @@ not-many named paths line bounded beyond =
 pub not-refused : (read new : WorldState) (config other : Config) (fault : ConfigFault) → CanBeCompiled config → AreAlike config other → ¬ Rose read.build_faults new.build_faults
     → IsUncompiled read new other fault → ⊥
 not-refused read new config other fault can alike calm (BadPattern line, bad, is) = not-bad (patterns_in other.forest) line (subst AreValid alike.patterns can.patterns) bad.bad
-not-refused read new config other fault can alike calm (PatternTooLarge line, large, is) = calm large.large.rose
-not-refused read new config other fault can alike calm (TooManyOffers line, (valid, beyond), is) =
+not-refused read new config other fault can alike calm (PatternTooLarge line, large, is) = calm (large-rose (patterns_in other.forest) line read new large)
+not-refused read new config other fault can alike calm (TooManyOffers line, (valid, none, beyond), is) =
     not-many other.forest.filters.items other.forest.paths.items line (subst (λ w. IsBounded w.tops) alike.woods can.bounded) beyond
 not-refused read new config other fault can alike calm (LacksMemory, free, is) = is

@@ -34,7 +34,7 @@ use Rattle.sg_one_run.specs.Ending.{CleanRunsEnd}
 use Rattle.sg_many_runs.specs.Resuming.{IsBegun}
 use Rattle.sg_many_runs.specs.Pieces.{Piece, pieces}
 use Rattle.sg_many_runs.proofs.ItemRestLemmas.{pieces-grow}
-use Rattle.sg_many_runs.specs.Covered.{Pass, Taken, IsFile, Covered}
+use Rattle.sg_many_runs.specs.Covered.{Pass, Delivery, IsFile, Covered}
 use Rattle.sg_many_runs.specs.Passes.{AreAdmitted, Stopped, IsStopped, taken_in}
 use Rattle.sg_many_runs.specs.Adding.{offers_in, Grow, Follow, all_taken, all_passes, EndsClean, position_in}
 use Rattle.sg_many_runs.specs.Once.{EndsWhole, AllEndWhole, ExactlyOnce}
@@ -116,7 +116,7 @@ module _ {R I O : Type 0} (feed : I → InletState) (drain : O → OutletState) 
   -- One run.
 
   -- whatever lists stand in these images, they are covered
-  abbrev IsCoveredAt : (ℕ → List Piece) → List Taken → List Pass → List (List ℕ) → Type 0
+  abbrev IsCoveredAt : (ℕ → List Piece) → List Delivery → List Pass → List (List ℕ) → Type 0
   IsCoveredAt items taken passes before = (lists : List (List Kept)) → AreListsBy plan.setup.dests before lists → Covered plan.setup (offers_in offers by) items taken passes old (held_by plan.setup before lists)
 
   -- the run as one that was stopped, where these records had come in and these lists stand in what it left
@@ -124,7 +124,7 @@ module _ {R I O : Type 0} (feed : I → InletState) (drain : O → OutletState) 
   stop_with run came lists = stopped_with (asked plan run.once) run.bytes ((run.happened).opens).opening run.events run.event came (held_by plan.setup run.images lists)
 
   -- It began with these lists, and what it left is covered, whatever lists stand there.
-  record Step (items : ℕ → List Piece) (taken : List Taken) (passes : List Pass) (before : List (List ℕ)) (run : PlanRun offers plan by) : Type 0 where
+  record Step (items : ℕ → List Piece) (taken : List Delivery) (passes : List Pass) (before : List (List ℕ)) (run : PlanRun offers plan by) : Type 0 where
     lists : List (List Kept)
     lists_are : AreListsBy plan.setup.dests before lists
     came : List Pass
@@ -138,7 +138,7 @@ module _ {R I O : Type 0} (feed : I → InletState) (drain : O → OutletState) 
     begun : (i : ℕ) (inlet : InletPlan) → IsFile plan.setup i → slice_get plan.inlets.items i ≡ Some inlet → IsBegun inlet.kind inlet.limit (run.bytes i) (position_at (run.run).first i)
     ends : (counts : Counts) → run.ending ≡ RanSo Quiet (Some counts) → first_fault counts.sinks counts.stores counts.inlets ≡ None → Cleaned (asked plan run.once) run.reached run.bytes
 
-  step : (bytes : ℕ → List ℕ) (taken : List Taken) (passes : List Pass) (before : List (List ℕ)) (run : PlanRun offers plan by) → IsCoveredAt (files_of plan.inlets.items bytes) taken passes before → Lengthen bytes run.bytes
+  step : (bytes : ℕ → List ℕ) (taken : List Delivery) (passes : List Pass) (before : List (List ℕ)) (run : PlanRun offers plan by) → IsCoveredAt (files_of plan.inlets.items bytes) taken passes before → Lengthen bytes run.bytes
       → IsPlanRun feed drain offers inlets dests plan by before run → Step (files_of plan.inlets.items bytes) taken passes before run
   step bytes taken passes before run covered longer is =
       let asks = asked plan run.once in
@@ -199,7 +199,7 @@ module _ {R I O : Type 0} (feed : I → InletState) (drain : O → OutletState) 
     follow : Follow plan.setup (offers_in offers by) items (held_by plan.setup before lists) (stopped ++ stopped_last ∷ [])
     ends : EndsClean plan.setup stopped_last.files stopped_last.images
 
-  chain : (bytes : ℕ → List ℕ) (taken : List Taken) (passes : List Pass) (before : List (List ℕ)) (runs : List (RunOf offers plan by)) (last : PlanRun offers plan by) → IsCoveredAt (files_of plan.inlets.items bytes) taken passes before
+  chain : (bytes : ℕ → List ℕ) (taken : List Delivery) (passes : List Pass) (before : List (List ℕ)) (runs : List (RunOf offers plan by)) (last : PlanRun offers plan by) → IsCoveredAt (files_of plan.inlets.items bytes) taken passes before
       → PlanRunsFollow feed drain offers inlets dests plan by bytes before (runs ++ Opened last ∷ []) → EndsWell last → Chain (files_of plan.inlets.items bytes) before runs last
   chain bytes taken passes before [] last covered follow well =
       let s = step bytes taken passes before last covered follow.0 follow.1 in
@@ -248,19 +248,19 @@ module _ {R I O : Type 0} (feed : I → InletState) (drain : O → OutletState) 
   -- What is left.
 
   -- these lists stand in the images at the start, and what the runs left is covered, where the given ones stand there
-  record Left (bytes : ℕ → List ℕ) (taken : List Taken) (passes : List Pass) (before : List (List ℕ)) (runs : List (RunOf offers plan by)) (ends_with : List (List Kept)) : Type 0 where
+  record Left (bytes : ℕ → List ℕ) (taken : List Delivery) (passes : List Pass) (before : List (List ℕ)) (runs : List (RunOf offers plan by)) (ends_with : List (List Kept)) : Type 0 where
     lists : List (List Kept)
     lists_are : AreListsBy plan.setup.dests before lists
     stopped : List Stopped
     stops : AreStopsOf (opened_among runs) stopped
     covered : Covered plan.setup (offers_in offers by) (files_of plan.inlets.items (bytes_left bytes runs)) (taken ++ all_taken plan.setup stopped) (passes ++ all_passes stopped) old (held_by plan.setup (images_left before runs) ends_with)
 
-  left-of : (bytes : ℕ → List ℕ) (taken : List Taken) (passes : List Pass) (before : List (List ℕ)) (runs : List (RunOf offers plan by)) (ends_with : List (List Kept)) → IsCoveredAt (files_of plan.inlets.items bytes) taken passes before
+  left-of : (bytes : ℕ → List ℕ) (taken : List Delivery) (passes : List Pass) (before : List (List ℕ)) (runs : List (RunOf offers plan by)) (ends_with : List (List Kept)) → IsCoveredAt (files_of plan.inlets.items bytes) taken passes before
       → PlanRunsFollow feed drain offers inlets dests plan by bytes before runs → AreListsBy plan.setup.dests (images_left before runs) ends_with → Left bytes taken passes before runs ends_with
   left-of bytes taken passes before [] ends_with covered follow are =
       let items = files_of plan.inlets.items bytes in
       let held = held_by plan.setup before ends_with in
-      let P : List Taken → Type 0 = λ ts. Covered plan.setup (offers_in offers by) items ts passes old held in
+      let P : List Delivery → Type 0 = λ ts. Covered plan.setup (offers_in offers by) items ts passes old held in
       let Q : List Pass → Type 0 = λ ps. Covered plan.setup (offers_in offers by) items (taken ++ []) ps old held in
       record {
         lists = ends_with;
@@ -275,7 +275,7 @@ module _ {R I O : Type 0} (feed : I → InletState) (drain : O → OutletState) 
       let r = left-of run.bytes (taken ++ now) (passes ++ s.came) run.images runs ends_with s.covered follow.2 are in
       let items = files_of plan.inlets.items (bytes_left run.bytes runs) in
       let held = held_by plan.setup (images_left run.images runs) ends_with in
-      let P : List Taken → Type 0 = λ ts. Covered plan.setup (offers_in offers by) items ts ((passes ++ s.came) ++ all_passes r.stopped) old held in
+      let P : List Delivery → Type 0 = λ ts. Covered plan.setup (offers_in offers by) items ts ((passes ++ s.came) ++ all_passes r.stopped) old held in
       let Q : List Pass → Type 0 = λ ps. Covered plan.setup (offers_in offers by) items (taken ++ (now ++ all_taken plan.setup r.stopped)) ps old held in
       record {
         lists = s.lists;
@@ -294,7 +294,7 @@ module _ {R I O : Type 0} (feed : I → InletState) (drain : O → OutletState) 
   -- Runs that each ended clean.
 
   -- where the places before are in range
-  ends-whole : HaveLimits plan → (items : ℕ → List Piece) (taken : List Taken) (passes : List Pass) (before : List (List ℕ)) (run : PlanRun offers plan by) (s : Step items taken passes before run) (lists : List (List Kept))
+  ends-whole : HaveLimits plan → (items : ℕ → List Piece) (taken : List Delivery) (passes : List Pass) (before : List (List ℕ)) (run : PlanRun offers plan by) (s : Step items taken passes before run) (lists : List (List Kept))
       → IsPlanRun feed drain offers inlets dests plan by before run → EndsWell run → Cleaned (asked plan run.once) run.reached run.bytes → AreInRange plan.setup (held_by plan.setup before []) → AreListsBy plan.setup.dests run.images lists
       → EndsWhole plan.setup (stop_with run s.came lists)
   ends-whole limits items taken passes before run s lists is well cleaned low are =
@@ -332,7 +332,7 @@ module _ {R I O : Type 0} (feed : I → InletState) (drain : O → OutletState) 
     follow : Follow plan.setup (offers_in offers by) items (held_by plan.setup before lists) (stopped ++ stopped_last ∷ [])
     whole : AllEndWhole plan.setup (stopped ++ stopped_last ∷ [])
 
-  all-whole : HaveLimits plan → (bytes : ℕ → List ℕ) (taken : List Taken) (passes : List Pass) (before : List (List ℕ)) (runs : List (PlanRun offers plan by)) (last : PlanRun offers plan by) → IsCoveredAt (files_of plan.inlets.items bytes) taken passes before
+  all-whole : HaveLimits plan → (bytes : ℕ → List ℕ) (taken : List Delivery) (passes : List Pass) (before : List (List ℕ)) (runs : List (PlanRun offers plan by)) (last : PlanRun offers plan by) → IsCoveredAt (files_of plan.inlets.items bytes) taken passes before
       → AreInRange plan.setup (held_by plan.setup before []) → PlanRunsFollow feed drain offers inlets dests plan by bytes before (map Opened (runs ++ last ∷ [])) → AllEndWell (runs ++ last ∷ []) → Whole (files_of plan.inlets.items bytes) before runs last
   all-whole limits bytes taken passes before [] last covered low follow all =
       let s = step bytes taken passes before last covered follow.0 follow.1 in

@@ -23,12 +23,13 @@ use Rattle.sg_machine.proofs.CountLemmas.{counts-dest}
 use Rattle.sg_machine.proofs.InletLemmas.{counts-inlet}
 use Rattle.sg_machine.proofs.PositionLemmas.{Keeps, keeps-all, keeps-opened, position-reached}
 use Rattle.sg_many_runs.specs.Pieces.{Piece, behind}
-use Rattle.sg_many_runs.specs.Covered.{Pass, Taken, Offers, IsFile, as_stored, entry_of, taking_of, list_at, IsHeld, IsKeptSafe, IsPassed, IsOffered, Covered}
+use Rattle.sg_many_runs.specs.Covered.{Pass, Delivery, Offers, IsFile, as_stored, entry_of, taking_of, list_at, IsHeld, IsKeptSafe, IsPassed, IsOffered, Covered}
 use Rattle.sg_many_runs.specs.Passes.{AreAdmitted, pieces_of, Stopped, state_at, taken_in, IsStopped}
 use Rattle.sg_many_runs.specs.Adding.{Grow}
 use Rattle.sg_many_runs.proofs.HasLemmas.{has-nil, has-map, has-mapped}
 use Rattle.sg_many_runs.proofs.PieceLemmas.{last_of, ends, ends-append, behind-has, behind-in, behind-rises, rising, rises-first, above-zero, among-first, among-old}
-use Rattle.sg_many_runs.proofs.PassLemmas.{admitted-split, pieces-append, admitted-ends, piece-pass, length-dests, admitted-kept}
+use Rattle.sg_one_run.proofs.BoundEventLemmas.{dests-all}
+use Rattle.sg_many_runs.proofs.PassLemmas.{admitted-split, pieces-append, admitted-ends, piece-pass, admitted-kept}
 use Rattle.sg_many_runs.proofs.EntryLemmas.{EventsHold, state-holds, failed-hold, safe-holds}
 use Rattle.sg_many_runs.proofs.PassPlaceLemmas.{InletHolds, places-hold, running-holds, position-holds, opening-or-zero}
 use Rattle.sg_many_runs.proofs.LeftLemmas.{earlier-all, was-settled, split-by, kept-safe}
@@ -115,7 +116,7 @@ dest-at setup offers before run d s h q =
     let first = opened_dest s o.list in
     let c = counts-dest (start_of setup run) run.events d first (legal-events setup offers before run h) o.at in
     let many = h.safe.images_at.every_list in
-    let long = length-dests (start_of setup run) run.events in
+    let long = dests-all run.events (start_of setup run) in
     let wide = length-opened setup.dests run.opening.entries in
     let below = slice_get-below setup.dests d s q in
     let l = slice_get-some run.images.lists d (omega (arith, many, long, wide, below)) in
@@ -185,7 +186,7 @@ held setup offers before run i position d s k h file hp hd at c inlet flow end =
     elim safe [ inl t ↦ inl t | inr m ↦ inr (subst P at.held m) ]
 
 -- as an offer of a pass
-offer-held : (setup : Setup) (offers : Offers) (before : Images) (run : Stopped) (taken : List Taken) (i position : ℕ) (s : DestSetup) (p : Pass) (o : Offer) → IsStopped setup offers before run → IsFile setup i → slice_get run.images.positions i ≡ Some position
+offer-held : (setup : Setup) (offers : Offers) (before : Images) (run : Stopped) (taken : List Delivery) (i position : ℕ) (s : DestSetup) (p : Pass) (o : Offer) → IsStopped setup offers before run → IsFile setup i → slice_get run.images.positions i ≡ Some position
     → slice_get setup.dests o.dest ≡ Some s → (at : DestAt setup before run o.dest s) → Contains (kept_of at.dest) (entry_of p o) → p.inlet ≡ i → o.flow ≡ true → p.end ≤ position → IsHeld setup (taken ++ taken_in setup run) run.images p o
 offer-held setup offers before run taken i position s p o h file hp hd at c inlet flow end =
     elim (held setup offers before run i position o.dest s (entry_of p o) h file hp hd at c inlet flow end) [
@@ -194,7 +195,7 @@ offer-held setup offers before run taken i position s p o h file hp hd at c inle
     ]
 
 -- what was held before the run is held behind it
-was-held : (setup : Setup) (offers : Offers) (before : Images) (run : Stopped) (taken : List Taken) (i position : ℕ) (p : Pass) (o : Offer) → IsStopped setup offers before run → IsFile setup i → slice_get run.images.positions i ≡ Some position
+was-held : (setup : Setup) (offers : Offers) (before : Images) (run : Stopped) (taken : List Delivery) (i position : ℕ) (p : Pass) (o : Offer) → IsStopped setup offers before run → IsFile setup i → slice_get run.images.positions i ≡ Some position
     → p.inlet ≡ i → o.flow ≡ true → p.end ≤ position → IsHeld setup taken before p o → IsHeld setup (taken ++ taken_in setup run) run.images p o
 was-held setup offers before run taken i position p o h file hp inlet flow end (inl t) = inl (Contains-append_left taken (taken_in setup run) (taking_of o) t)
 was-held setup offers before run taken i position p o h file hp inlet flow end (inr m) =
@@ -204,7 +205,7 @@ was-held setup offers before run taken i position p o h file hp inlet flow end (
     let c = subst P (sym at.kept) (Contains-append_left (kept_of at.first) (kept_entries o.dest run.events) (entry_of p o) (at.was (entry_of p o) m)) in
     offer-held setup offers before run taken i position x.s p o h file hp x.is at c inlet flow end
 
-was-safe : (setup : Setup) (offers : Offers) (before : Images) (run : Stopped) (taken : List Taken) (i position old : ℕ) (p : Pass) (o : Offer) → IsStopped setup offers before run → IsFile setup i → slice_get run.images.positions i ≡ Some position
+was-safe : (setup : Setup) (offers : Offers) (before : Images) (run : Stopped) (taken : List Delivery) (i position old : ℕ) (p : Pass) (o : Offer) → IsStopped setup offers before run → IsFile setup i → slice_get run.images.positions i ≡ Some position
     → p.inlet ≡ i → o.flow ≡ true → p.end ≤ position → IsKeptSafe setup taken before old p o → IsKeptSafe setup (taken ++ taken_in setup run) run.images old p o
 was-safe setup offers before run taken i position old p o h file hp inlet flow end (inl a) = inl (was-held setup offers before run taken i position p o h file hp inlet flow end a)
 was-safe setup offers before run taken i position old p o h file hp inlet flow end (inr b) = inr (b.0, was-held setup offers before run taken i position p (as_stored o) h file hp inlet flow end b.1)
@@ -212,7 +213,7 @@ was-safe setup offers before run taken i position old p o h file hp inlet flow e
 -- The items that a position has passed.
 
 -- those that the position before had passed
-old-items : (setup : Setup) (offers : Offers) (files : ℕ → List Piece) (taken : List Taken) (passes : List Pass) (old : ℕ → ℕ) (before : Images) (run : Stopped) (i position place : ℕ) (x : Piece) → Covered setup offers files taken passes old before → Grow files run.files
+old-items : (setup : Setup) (offers : Offers) (files : ℕ → List Piece) (taken : List Delivery) (passes : List Pass) (old : ℕ → ℕ) (before : Images) (run : Stopped) (i position place : ℕ) (x : Piece) → Covered setup offers files taken passes old before → Grow files run.files
     → IsStopped setup offers before run → IsFile setup i → slice_get before.positions i ≡ Some place → slice_get run.images.positions i ≡ Some position → Contains (run.files i) x → x.end ≤ place → x.end ≤ position
     → IsPassed offers (IsKeptSafe setup (taken ++ taken_in setup run) run.images (old i)) (passes ++ run.passes) i x
 old-items setup offers files taken passes old before run i position place x covered grow h file was now c low high =
@@ -239,7 +240,7 @@ old-items setup offers files taken passes old before run i position place x cove
     }
 
 -- those behind it
-new-items : (setup : Setup) (offers : Offers) (taken : List Taken) (passes : List Pass) (old : ℕ → ℕ) (before : Images) (run : Stopped) (i position place : ℕ) (x : Piece) → IsStopped setup offers before run → IsFile setup i → slice_get before.positions i ≡ Some place
+new-items : (setup : Setup) (offers : Offers) (taken : List Delivery) (passes : List Pass) (old : ℕ → ℕ) (before : Images) (run : Stopped) (i position place : ℕ) (x : Piece) → IsStopped setup offers before run → IsFile setup i → slice_get before.positions i ≡ Some place
     → slice_get run.images.positions i ≡ Some position → Contains (run.files i) x → place < x.end → x.end ≤ position → IsPassed offers (IsKeptSafe setup (taken ++ taken_in setup run) run.images (old i)) (passes ++ run.passes) i x
 new-items setup offers taken passes old before run i position place x h file was now c low high =
     let start = start_of setup run in
@@ -295,7 +296,7 @@ le-true a b h = grind (arith, h)
 le-false : (a b : ℕ) → nat_le a b ≡ false → b < a
 le-false a b h = grind (arith, h)
 
-items-if : (setup : Setup) (offers : Offers) (files : ℕ → List Piece) (taken : List Taken) (passes : List Pass) (old : ℕ → ℕ) (before : Images) (run : Stopped) (i position place : ℕ) (x : Piece) (b : Bool) → nat_le x.end place ≡ b → Covered setup offers files taken passes old before
+items-if : (setup : Setup) (offers : Offers) (files : ℕ → List Piece) (taken : List Delivery) (passes : List Pass) (old : ℕ → ℕ) (before : Images) (run : Stopped) (i position place : ℕ) (x : Piece) (b : Bool) → nat_le x.end place ≡ b → Covered setup offers files taken passes old before
     → Grow files run.files → IsStopped setup offers before run → IsFile setup i → slice_get before.positions i ≡ Some place → slice_get run.images.positions i ≡ Some position → Contains (run.files i) x → x.end ≤ position
     → IsPassed offers (IsKeptSafe setup (taken ++ taken_in setup run) run.images (old i)) (passes ++ run.passes) i x
 items-if setup offers files taken passes old before run i position place x true q covered grow h file was now c high = old-items setup offers files taken passes old before run i position place x covered grow h file was now c (le-true x.end place q) high
@@ -361,7 +362,7 @@ place-new setup offers files before run i position covered grow h file now =
 -- what holds of the entries in the stores at first and of each offer that came in holds of the entries left, and of what was taken
 pub record RunHolds (P : ℕ → Kept → Type 0) (setup : Setup) (run : Stopped) : Type 0 where
   pub lists : (d : ℕ) (k : Kept) → Contains (list_at setup run.images d) k → P d k
-  pub taken : (t : Taken) → Contains (taken_in setup run) t → (k : Kept) × (P t.dest k × (t ≡ record { dest = t.dest; message = k.message }))
+  pub taken : (t : Delivery) → Contains (taken_in setup run) t → (k : Kept) × (P t.dest k × (t ≡ record { dest = t.dest; message = k.message }))
 
 pub run-holds : (P : ℕ → Kept → Type 0) (setup : Setup) (offers : Offers) (before : Images) (run : Stopped) → IsStopped setup offers before run → ((d : ℕ) (k : Kept) → Contains (list_at setup before d) k → P d k)
     → EventsHold P (run.events ++ run.event ∷ []) → RunHolds P setup run
@@ -385,14 +386,14 @@ run-holds P setup offers before run h first events =
           let among : Contains (map as_kept (settled_by run.event.act (0 + w.k) w.dest ++ left_by run.event.act (0 + w.k) w.dest)) e =
           has-map as_kept (settled_by run.event.act (0 + w.k) w.dest ++ left_by run.event.act (0 + w.k) w.dest) w.e (Contains-append_left (settled_by run.event.act (0 + w.k) w.dest) (left_by run.event.act (0 + w.k) w.dest) w.e w.settled) in
           let holds : P w.k e = kept e (subst A (split-by run.event.act (0 + w.k) w.dest) among) in
-          let place : w.k ≡ t.dest = (let z : w.k ≡ 0 + w.k = omega arith in z ∙ sym (ap (λ (y : Taken). y.dest) w.is)) in
+          let place : w.k ≡ t.dest = (let z : w.k ≡ 0 + w.k = omega arith in z ∙ sym (ap (λ (y : Delivery). y.dest) w.is)) in
           let M : ℕ → Type 0 = λ n. P n e in
-          (e, (subst M place holds, w.is ∙ ap (λ (n : ℕ). let y : Taken = record { dest = n; message = w.e.message } in y) (sym (ap (λ (y : Taken). y.dest) w.is)))));
+          (e, (subst M place holds, w.is ∙ ap (λ (n : ℕ). let y : Delivery = record { dest = n; message = w.e.message } in y) (sym (ap (λ (y : Delivery). y.dest) w.is)))));
     }
 
 -- The whole.
 
-pub covers-run : (setup : Setup) (offers : Offers) (files : ℕ → List Piece) (taken : List Taken) (passes : List Pass) (old : ℕ → ℕ) (before : Images) (run : Stopped) → Covered setup offers files taken passes old before → Grow files run.files → IsStopped setup offers before run
+pub covers-run : (setup : Setup) (offers : Offers) (files : ℕ → List Piece) (taken : List Delivery) (passes : List Pass) (old : ℕ → ℕ) (before : Images) (run : Stopped) → Covered setup offers files taken passes old before → Grow files run.files → IsStopped setup offers before run
     → Covered setup offers run.files (taken ++ taken_in setup run) (passes ++ run.passes) old run.images
 covers-run setup offers files taken passes old before run covered grow h =
     let P : ℕ → Kept → Type 0 = λ d k. IsOffered offers (passes ++ run.passes) d k in

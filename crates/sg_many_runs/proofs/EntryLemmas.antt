@@ -23,7 +23,7 @@ use Rattle.sg_machine.specs.Safe.{first_of, has_failed, spooled_of, kept_from, s
 use Rattle.sg_machine.proofs.RunLemmas.{both-true}
 use Rattle.sg_machine.proofs.CountLemmas.{counts-dest}
 use Rattle.sg_many_runs.proofs.HasLemmas.{has-nil, has-here, has-there, has-cons, has-map, has-mapped, has-filtered, has-take, has-drop}
-use Rattle.sg_many_runs.proofs.PassLemmas.{length-dests}
+use Rattle.sg_one_run.proofs.BoundEventLemmas.{dests-all}
 
 -- of each offer that came in
 abbrev pub ClaimsHold : (ℕ → Kept → Type 0) → ℕ → List Claim → Type 0
@@ -115,7 +115,7 @@ StateHolds P s = (d : ℕ) (dest : Dest) → slice_get s.dests d ≡ Some dest �
 -- what a destination keeps after events
 pub state-holds : (P : ℕ → Kept → Type 0) (s : State) (es : List Event) → are_legal s es ≡ true → EventsHold P es → StateHolds P s → StateHolds P (after_all s es)
 state-holds P s es l h begins d dest at =
-    let long = length-dests s es in
+    let long = dests-all es s in
     let below = slice_get-below (after_all s es).dests d dest at in
     let first = slice_get-some s.dests d (omega (arith, long, below)) in
     let c = counts-dest s es d first.0 l first.1 in

@@ -1,7 +1,7 @@
 -- What of a destination's entries a stop leaves: those that are left and that a position has passed, or that an earlier run left, stand in its image.
-use Rattle.std.proofs.Common.{◌≡◌, ℕ, suc, zero, ◌+◌, ◌≤◌, List, [], ◌∷◌, ◌++◌, length, map, take, drop, Some, None, Option, Bool, true, false, ◌&&◌, refl, sym, ap, ◌∙◌, subst, arith, inl, inr, ◌⊎◌, if◌then◌else◌, slice_get, append_assoc}
+use Rattle.std.proofs.Common.{◌≡◌, ℕ, suc, zero, ◌+◌, ◌≤◌, List, [], ◌∷◌, ◌++◌, map, take, drop, Some, None, Option, Bool, true, false, ◌&&◌, refl, sym, ap, ◌∙◌, subst, arith, inl, inr, ◌⊎◌, if◌then◌else◌, slice_get, append_assoc}
 use Rattle.std.specs.Prelude.{Contains, ◌==◌, nat_le, filter, is_some}
-use Rattle.std.proofs.lemmas.List.{map-append}
+use Rattle.std.proofs.lemmas.List.{map-append, drop-append-le}
 use Rattle.std.proofs.lemmas.List.Elements.{filter-append, Contains-append_left, Contains-append_right, Contains-append_cases}
 use Rattle.sg_list.specs.Lists.{change}
 use Rattle.sg_list.proofs.ListLemmas.{some-same}
@@ -23,7 +23,7 @@ use Rattle.sg_machine.specs.Runs.{Kept, after_all}
 use Rattle.sg_machine.specs.Counts.{as_kept, is_spooled, kept_of}
 use Rattle.sg_machine.specs.Safe.{has_failed, spooled_of, appends, settled_by, left_by, IsSafeList, is_below, AreHeld, held_in}
 use Rattle.sg_machine.proofs.CountLemmas.{take-drop}
-use Rattle.sg_many_runs.specs.Covered.{Taken}
+use Rattle.sg_many_runs.specs.Covered.{Delivery}
 use Rattle.sg_many_runs.specs.Passes.{taken_at}
 use Rattle.sg_many_runs.proofs.HasLemmas.{has-nil, has-cons, has-map, has-mapped, has-filter, has-drop}
 
@@ -123,18 +123,13 @@ split-by Look d dest = refl
 spooled-append : (es fs : List Entry) → spooled_of (es ++ fs) ≡ spooled_of es ++ spooled_of fs
 spooled-append es fs = ap (map as_kept) (filter-append is_spooled es fs) ∙ map-append as_kept (filter is_spooled es) (filter is_spooled fs)
 
-drop-append : (n : ℕ) (xs ys : List Kept) → n ≤ length xs → drop n (xs ++ ys) ≡ drop n xs ++ ys
-drop-append zero xs ys h = refl
-drop-append (suc n) [] ys h = absurd (omega (arith, h))
-drop-append (suc n) (x ∷ xs) ys h = drop-append n xs ys (omega (arith, h))
-
 safe-has : (dest : Dest) (d : ℕ) (act : Act) (failed : List ℕ) (tried list : List Kept) → IsSafeList dest d act failed tried list → (k : Kept) → Contains (spooled_of (left_by act d dest)) k → Contains list k
 safe-has dest d act failed tried list safe k c =
     let gone = spooled_of (settled_by act d dest) in
     let left = spooled_of (left_by act d dest) in
     let tail = take safe.added (if has_failed failed (store_of dest) then tried else appends act d dest) in
     let split : spooled_of (dest.settled ++ dest.left) ≡ gone ++ left = ap spooled_of (sym (split-by act d dest)) ∙ spooled-append (settled_by act d dest) (left_by act d dest) in
-    let whole : list ≡ (drop safe.gone gone ++ left) ++ tail = safe.parts ∙ ap (λ (xs : List Kept). drop safe.gone xs ++ tail) split ∙ ap (λ (xs : List Kept). xs ++ tail) (drop-append safe.gone gone left safe.settled) in
+    let whole : list ≡ (drop safe.gone gone ++ left) ++ tail = safe.parts ∙ ap (λ (xs : List Kept). drop safe.gone xs ++ tail) split ∙ ap (λ (xs : List Kept). xs ++ tail) (drop-append-le safe.gone gone left safe.settled) in
     let P : List Kept → Type 0 = λ xs. Contains xs k in
     subst P (sym whole) (Contains-append_left (drop safe.gone gone ++ left) tail k (Contains-append_right (drop safe.gone gone) left k c))
 
@@ -182,7 +177,7 @@ left-held-if i position d act dest failed tried list e (Some n) q early c held s
 
 taken-first : (act : Act) (d : ℕ) (dest : Dest) (ds : List Dest) (e : Entry) → Contains (settled_by act d dest) e → Contains (taken_at act d (dest ∷ ds)) (record { dest = d; message = e.message })
 taken-first act d dest ds e c =
-    let f : Entry → Taken = λ x. record { dest = d; message = x.message } in
+    let f : Entry → Delivery = λ x. record { dest = d; message = x.message } in
     Contains-append_left (map f (settled_by act d dest)) (taken_at act (d + 1) ds) (f e) (has-map f (settled_by act d dest) e c)
 
 taken-from : (act : Act) (from : ℕ) (ds : List Dest) (k : ℕ) (dest : Dest) (e : Entry) → slice_get ds k ≡ Some dest → Contains (settled_by act (from + k) dest) e → Contains (taken_at act from ds) (record { dest = from + k; message = e.message })
@@ -200,8 +195,8 @@ taken-from act from (x ∷ ds) (suc k) dest e h c =
     let at : from + suc k ≡ from + 1 + k = omega arith in
     let S : ℕ → Type 0 = λ n. Contains (settled_by act n dest) e in
     let R : ℕ → Type 0 = λ n. Contains (taken_at act from (x ∷ ds)) (record { dest = n; message = e.message }) in
-    let f : Entry → Taken = λ y. record { dest = from; message = y.message } in
-    let t : Taken = record { dest = from + 1 + k; message = e.message } in
+    let f : Entry → Delivery = λ y. record { dest = from; message = y.message } in
+    let t : Delivery = record { dest = from + 1 + k; message = e.message } in
     subst R (sym at) (Contains-append_right (map f (settled_by act from x)) (taken_at act (from + 1) ds) t (taken-from act (from + 1) ds k dest e h (subst S at c)))
 
 pub taken-has : (act : Act) (ds : List Dest) (d : ℕ) (dest : Dest) (e : Entry) → slice_get ds d ≡ Some dest → Contains (settled_by act d dest) e → Contains (taken_at act 0 ds) (record { dest = d; message = e.message })
@@ -212,7 +207,7 @@ taken-has act ds d dest e h c =
     subst R at (taken-from act 0 ds d dest e h (subst S (sym at) c))
 
 -- and each is that of a settled entry
-pub record WasSettled (act : Act) (from : ℕ) (ds : List Dest) (t : Taken) : Type 0 where
+pub record WasSettled (act : Act) (from : ℕ) (ds : List Dest) (t : Delivery) : Type 0 where
   pub k : ℕ
   pub dest : Dest
   pub at : slice_get ds k ≡ Some dest
@@ -220,10 +215,10 @@ pub record WasSettled (act : Act) (from : ℕ) (ds : List Dest) (t : Taken) : Ty
   pub settled : Contains (settled_by act (from + k) dest) e
   pub is : t ≡ record { dest = from + k; message = e.message }
 
-pub was-settled : (act : Act) (from : ℕ) (ds : List Dest) (t : Taken) → Contains (taken_at act from ds) t → WasSettled act from ds t
+pub was-settled : (act : Act) (from : ℕ) (ds : List Dest) (t : Delivery) → Contains (taken_at act from ds) t → WasSettled act from ds t
 was-settled act from [] t c = absurd (has-nil t c)
 was-settled act from (x ∷ ds) t c =
-    let f : Entry → Taken = λ y. record { dest = from; message = y.message } in
+    let f : Entry → Delivery = λ y. record { dest = from; message = y.message } in
     elim (Contains-append_cases (map f (settled_by act from x)) (taken_at act (from + 1) ds) t c) [
       | inl a ↦ (
           let m = has-mapped f (settled_by act from x) t a in
@@ -235,7 +230,7 @@ was-settled act from (x ∷ ds) t c =
             at = refl;
             e = m.0;
             settled = subst S at m.1.0;
-            is = sym m.1.1 ∙ ap (λ (n : ℕ). let y : Taken = record { dest = n; message = m.0.message } in y) at;
+            is = sym m.1.1 ∙ ap (λ (n : ℕ). let y : Delivery = record { dest = n; message = m.0.message } in y) at;
           })
       | inr b ↦ (
           let r = was-settled act (from + 1) ds t b in
@@ -247,7 +242,7 @@ was-settled act from (x ∷ ds) t c =
             at = r.at;
             e = r.e;
             settled = subst S at r.settled;
-            is = r.is ∙ ap (λ (n : ℕ). let y : Taken = record { dest = n; message = r.e.message } in y) at;
+            is = r.is ∙ ap (λ (n : ℕ). let y : Delivery = record { dest = n; message = r.e.message } in y) at;
           })
     ]
 

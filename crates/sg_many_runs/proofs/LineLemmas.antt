@@ -12,7 +12,9 @@ use Rattle.sg_frame.specs.Scans.{plain}
 use Rattle.sg_machine.proofs.RunLemmas.{both-true}
 use Rattle.sg_many_runs.specs.Pieces.{Piece, piece_of}
 use Rattle.sg_many_runs.specs.Resuming.{IsBegun}
+use Rattle.sg_one_run.proofs.OwedLemmas.{both-join}
 use Rattle.sg_many_runs.proofs.HasLemmas.{has-nil, has-cons}
+use Rattle.sg_many_runs.proofs.PieceLemmas.{true-lt}
 
 -- a record of the file may end at this place
 abbrev IsEnd : ℕ → List ℕ → ℕ → Type 0
@@ -23,12 +25,6 @@ is_text byte = not (byte == 10)
 
 le-true : (a b : ℕ) → a ≤ b → nat_le a b ≡ true
 le-true a b h = grind (arith, h)
-
-lt-true : (a b : ℕ) → a < b → nat_lt a b ≡ true
-lt-true a b h = grind (arith, h)
-
-both-are : (a b : Bool) → a ≡ true → b ≡ true → (a && b) ≡ true
-both-are a b h k = rw (h, k) refl
 
 -- Behind an LF.
 
@@ -86,7 +82,7 @@ clear-push : (line : List ℕ) (b : ℕ) → list_all is_text line ≡ true → 
 clear-push [] b h q = rw q refl
 clear-push (x ∷ line) b h q =
     let p = both-true (is_text x) (list_all is_text line) h in
-    both-are (is_text x) (list_all is_text (line ++ b ∷ [])) p.0 (clear-push line b p.1 q)
+    both-join (is_text x) (list_all is_text (line ++ b ∷ [])) p.0 (clear-push line b p.1 q)
 
 -- so it is of an item behind the next byte, whatever stands open of a line then
 abbrev EndsLater : ℕ → List ℕ → ℕ → List Stamped → Piece → Type 0
@@ -155,4 +151,4 @@ place-if a b c n h k l = rw (h, k, l) refl
 pub read-on-from : (limit : ℕ) (bytes : List ℕ) (place : ℕ) → IsBegun Lines limit bytes place → place < 2 ^ 63 → place_in limit bytes place ≡ place
 read-on-from limit bytes place begun low =
     let e = begun-end limit bytes place begun in
-    place-if (nat_le place (length bytes)) (nat_lt place (2 ^ 63)) (is_record_end limit bytes place) place (le-true place (length bytes) e.1) (lt-true place (2 ^ 63) low) e.0
+    place-if (nat_le place (length bytes)) (nat_lt place (2 ^ 63)) (is_record_end limit bytes place) place (le-true place (length bytes) e.1) (true-lt place (2 ^ 63) low) e.0

@@ -17,13 +17,14 @@ use Rattle.sg_machine.specs.Safe.{Images, rises, settled_by, nothing}
 use Rattle.sg_machine.proofs.RunLemmas.{are_legal-parts, length-inlets, length-opened_inlets}
 use Rattle.sg_machine.proofs.CountLemmas.{keeps-order}
 use Rattle.sg_many_runs.specs.Pieces.{Piece, Rise, behind}
-use Rattle.sg_many_runs.specs.Covered.{Pass, Taken, Offers, IsFile, list_at, Covered}
+use Rattle.sg_many_runs.specs.Covered.{Pass, Delivery, Offers, IsFile, list_at, Covered}
 use Rattle.sg_many_runs.specs.Passes.{AreAdmitted, pieces_of, Stopped, state_at, taken_in, IsStopped}
 use Rattle.sg_many_runs.specs.Adding.{Follow, all_taken, all_passes, AreFresh}
 use Rattle.sg_many_runs.specs.Once.{EndsWhole, AllEndWhole, settled_in, all_settled, Given, AreGiven, owed_to, dropped_in, all_dropped, less, AreUnflowed, TakesOnce, TakesEach, ExactlyOnce}
 use Rattle.sg_many_runs.proofs.HasLemmas.{has-nil, has-here, has-there, has-mapped}
 use Rattle.sg_many_runs.proofs.PieceLemmas.{ends, behind-in, behind-rises, rises-above, rises-apart, behind-rest, above-zero, rising}
-use Rattle.sg_many_runs.proofs.PassLemmas.{admitted-split, admitted-ends, pieces-append, length-dests}
+use Rattle.sg_one_run.proofs.BoundEventLemmas.{dests-all}
+use Rattle.sg_many_runs.proofs.PassLemmas.{admitted-split, admitted-ends, pieces-append}
 use Rattle.sg_many_runs.proofs.BeginLemmas.{opens-dest, length-opened, list-here}
 use Rattle.sg_many_runs.proofs.CoverLemmas.{start_of, file-at, place-by, covers-run}
 use Rattle.sg_many_runs.proofs.StopLemmas.{files_behind, files-last, images-last, covers-all, fresh-covered}
@@ -80,7 +81,7 @@ came-all setup offers before run place h w i file was =
     are ∙ ap (λ (xs : List Piece). came ++ xs) none ∙ append-nil came
 
 -- of a file of which these items were read before, they are the others
-came-in : (setup : Setup) (offers : Offers) (read : ℕ → List Piece) (taken : List Taken) (passes : List Pass) (old : ℕ → ℕ) (before : Images) (run : Stopped) (more : List Piece) → Covered setup offers read taken passes old before → ReadSo setup before read
+came-in : (setup : Setup) (offers : Offers) (read : ℕ → List Piece) (taken : List Delivery) (passes : List Pass) (old : ℕ → ℕ) (before : Images) (run : Stopped) (more : List Piece) → Covered setup offers read taken passes old before → ReadSo setup before read
     → IsStopped setup offers before run → EndsWhole setup run → (i : ℕ) → IsFile setup i → run.files i ≡ read i ++ more → pieces_of i run.passes ≡ more
 came-in setup offers read taken passes old before run more covered so h w i file grow =
     let many = h.begins.every_position in
@@ -96,7 +97,7 @@ came-in setup offers read taken passes old before run more covered so h w i file
     ] in
     sym whole ∙ ap (behind p.0) grow ∙ behind-rest p.0 (read i) more (λ x c. so i p.0 x file p.1 c) high
 
-all-read : (setup : Setup) (offers : Offers) (read : ℕ → List Piece) (taken : List Taken) (passes : List Pass) (old : ℕ → ℕ) (before : Images) (runs : List Stopped) → Covered setup offers read taken passes old before → ReadSo setup before read
+all-read : (setup : Setup) (offers : Offers) (read : ℕ → List Piece) (taken : List Delivery) (passes : List Pass) (old : ℕ → ℕ) (before : Images) (runs : List Stopped) → Covered setup offers read taken passes old before → ReadSo setup before read
     → Follow setup offers read before runs → AllEndWhole setup runs → (i : ℕ) → IsFile setup i → read i ++ pieces_of i (all_passes runs) ≡ files_behind read runs i
 all-read setup offers read taken passes old before [] covered so f w i file = append-nil (read i)
 all-read setup offers read taken passes old before (run ∷ runs) covered so f w i file =
@@ -147,7 +148,7 @@ settled-some setup offers before run h w none legal i d s here =
 settled-nowhere : (setup : Setup) (run : Stopped) → are_legal (start_of setup run) run.events ≡ true → (i d : ℕ) → length setup.dests ≤ d → kept_of_inlet i d run.events ≡ settled_in setup i d run
 settled-nowhere setup run legal i d low =
     let long = length-opened setup.dests run.opening.entries in
-    let same = length-dests (start_of setup run) run.events in
+    let same = dests-all run.events (start_of setup run) in
     let gone : slice_get (state_at setup run).dests d ≡ None = slice_get-none (state_at setup run).dests d (omega (arith, long, same, low)) in
     let shown : settled_in setup i d run ≡ [] = ap (λ (x : Option Dest). option_map_or (λ (y : Dest). filter (λ (k : Kept). k.inlet == i) (map as_kept (settled_by run.event.act d y))) x []) gone in
     events-nowhere (start_of setup run) run.events i d legal (omega (arith, long, low)) ∙ sym shown
@@ -269,7 +270,7 @@ pub fresh-runs : (setup : Setup) (offers : Offers) (files : ℕ → List Piece) 
     → Covered setup offers last.files (all_taken setup (runs ++ last ∷ [])) (all_passes (runs ++ last ∷ [])) (λ i. 0) last.images
 fresh-runs setup offers files before runs last fresh follow =
     let all = runs ++ last ∷ [] in
-    let none : List Taken = [] in
+    let none : List Delivery = [] in
     let end = covers-all setup offers no_files none [] (λ i. 0) before all (unread-covered setup offers before fresh) (follow-unread setup offers files before all follow) in
     let P : Images → Type 0 = λ images. Covered setup offers (files_behind no_files all) (all_taken setup all) (all_passes all) (λ i. 0) images in
     let Q : (ℕ → List Piece) → Type 0 = λ held. Covered setup offers held (all_taken setup all) (all_passes all) (λ i. 0) last.images in

@@ -14,10 +14,10 @@ use Rattle.sg_machine.specs.declared.event.Event.{Event}
 use Rattle.sg_machine.specs.declared.event.Verdict.{Verdict}
 use Rattle.sg_machine.specs.declared.state.Dest.{Dest}
 use Rattle.sg_machine.specs.declared.state.State.{State}
-use Rattle.sg_machine.specs.Verdicts.{Claim, claims_in, claims_from, claims_of, origin_of, judged_at, judged, take_claim, take_claims, take_offer}
+use Rattle.sg_machine.specs.Verdicts.{Claim, claims_in, claims_from, claims_of, origin_of, judged_at, judged, take_claim, take_offer}
 use Rattle.sg_machine.specs.Legal.{is_same_list, may_admit, is_legal, is_legal_act}
-use Rattle.sg_machine.specs.Effects.{next_of, ends_of, after, after_act, settled_some, refilled_some}
-use Rattle.sg_machine.specs.Runs.{Kept, after_all, are_legal}
+use Rattle.sg_machine.specs.Effects.{next_of, ends_of, after}
+use Rattle.sg_machine.specs.Runs.{Kept, are_legal}
 use Rattle.sg_machine.specs.Counts.{is_dropped, is_kept_at, kept_offers, keeps, kept_entries, ends_by, ends_admitted, flow_drops_of, flow_drops_by}
 use Rattle.sg_machine.specs.Safe.{kept_from}
 use Rattle.sg_machine.proofs.RunLemmas.{both-true}
@@ -25,6 +25,7 @@ use Rattle.sg_machine.proofs.FlowLemmas.{flow_drops-none, mapped-some, then-some
 use Rattle.sg_many_runs.specs.Pieces.{Piece}
 use Rattle.sg_many_runs.specs.Covered.{Pass, Offers, entry_of}
 use Rattle.sg_many_runs.specs.Passes.{AreRead, ReadsBy, AreAdmitted, pass_piece, pieces_of}
+use Rattle.sg_standing.proofs.Frozen.{length-dests}
 use Rattle.sg_many_runs.proofs.HasLemmas.{has-nil, has-here, has-there, has-cons, has-mapped, has-filtered}
 use Rattle.sg_many_runs.proofs.PieceLemmas.{ends, ends-append}
 
@@ -193,23 +194,6 @@ record-pass offers j (x ∷ rs) (p ∷ ps) r h c =
 
 -- Offers with flow-control are kept.
 
-pub length-claims : (i next : ℕ) (ds : List Dest) (cs : List Claim) (vs : List Verdict) → length (take_claims i next ds cs vs) ≡ length ds
-length-claims i next ds [] vs = refl
-length-claims i next ds (c ∷ cs) [] = refl
-length-claims i next ds (c ∷ cs) (v ∷ vs) = length-claims i next (take_claim i next ds c v) cs vs ∙ length-change ds c.offer.dest (take_offer (origin_of i next c) c.offer v)
-
-pub length-act : (s : State) (act : Act) (failed : List ℕ) → length (after_act s act failed).dests ≡ length s.dests
-length-act s (Admit i records vs) failed = length-claims i (next_of s i) s.dests (claims_of records) vs
-length-act s (Settle d n) failed = length-change s.dests d (settled_some n)
-length-act s (Refill d n) failed = length-change s.dests d (refilled_some n)
-length-act s (Store i w) failed = refl
-length-act s (Rewind i) failed = refl
-length-act s Look failed = refl
-
-pub length-dests : (s : State) (es : List Event) → length (after_all s es).dests ≡ length s.dests
-length-dests s [] = refl
-length-dests s (e ∷ es) = length-dests (after s e) es ∙ length-act s e.act e.failed
-
 pub judged-there : (o : Option Dest) (failing failed : List ℕ) (offer : Offer) (v : Verdict) (z : List ℕ) → judged_at o failing failed offer v ≡ Some z → (dest : Dest) × (o ≡ Some dest)
 judged-there None failing failed offer v z h = let wrong : None ≡ Some z = h in cc
 judged-there (Some dest) failing failed offer v z h = (dest, refl)
@@ -307,7 +291,7 @@ admitted-kept offers s (e ∷ es) ps p l h c =
       | inl a ↦ reads-kept offers s e.act e.failed es h.0 p q.0 none h.1.1.1 a
       | inr b ↦ (
           let r = admitted-kept offers (after s e) es h.1.0 p q.1 h.1.1.2 b in
-          let long = length-act s e.act e.failed in
+          let long = length-dests s e.act e.failed in
           record {
             given = r.given;
             gives = r.gives;

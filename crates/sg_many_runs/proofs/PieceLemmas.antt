@@ -16,10 +16,10 @@ abbrev pub last_of : ℕ → List ℕ → ℕ
 last_of from [] = from
 last_of from (x ∷ ends) = last_of x ends
 
-lt-true : (a b : ℕ) → nat_lt a b ≡ true → a < b
+pub lt-true : (a b : ℕ) → nat_lt a b ≡ true → a < b
 lt-true a b h = grind (arith, h)
 
-true-lt : (a b : ℕ) → a < b → nat_lt a b ≡ true
+pub true-lt : (a b : ℕ) → a < b → nat_lt a b ≡ true
 true-lt a b h = grind (arith, h)
 
 le-true : (a b : ℕ) → nat_le a b ≡ true → a ≤ b

@@ -20,14 +20,12 @@ use Rattle.sg_machine.proofs.RunLemmas.{both-true}
 use Rattle.sg_many_runs.specs.Covered.{Offers, IsFile}
 use Rattle.sg_many_runs.specs.Passes.{Stopped, IsStopped}
 use Rattle.sg_many_runs.proofs.HasLemmas.{has-nil, has-cons}
+use Rattle.sg_many_runs.proofs.PieceLemmas.{lt-true}
 use Rattle.sg_many_runs.proofs.CoverLemmas.{start_of, file-at, place-by}
 
 -- the positions of files in these images are below 2 ^ 63
 abbrev pub AreInRange : Setup → Images → Type 0
 AreInRange setup images = (i position : ℕ) → IsFile setup i → slice_get images.positions i ≡ Some position → position < 2 ^ 63
-
-lt-true : (a b : ℕ) → nat_lt a b ≡ true → a < b
-lt-true a b h = grind (arith, h)
 
 records-low : (rs : List Admission) (x : ℕ) → list_all is_admissible rs ≡ true → Contains (ends_of rs) x → x < 2 ^ 63
 records-low [] x h c = absurd (has-nil x c)

@@ -48,7 +48,7 @@ use Rattle.sg_serve.proofs.ActorLemmas.{store-by-setup}
 use Rattle.sg_many_runs.specs.Pieces.{Piece, pieces, Rise, behind}
 use Rattle.sg_many_runs.specs.Resuming.{IsBegun}
 use Rattle.sg_many_runs.proofs.ItemRestLemmas.{ends-rise}
-use Rattle.sg_many_runs.specs.Covered.{Pass, Taken, Offers, IsFile, Covered}
+use Rattle.sg_many_runs.specs.Covered.{Pass, Delivery, Offers, IsFile, Covered}
 use Rattle.sg_many_runs.specs.Passes.{AreAdmitted, pieces_of, BeginsWith, IsStopped}
 use Rattle.sg_many_runs.specs.Adding.{offers_in, Grow}
 use Rattle.sg_many_runs.proofs.CoverLemmas.{covers-run}
@@ -239,7 +239,7 @@ begun-first plan reached run o bytes lists runnable numbers tells are i inlet fr
 
 -- what is known of the run: it found covered what the contents of its stores hold, over files with fewer items or as many, and each file's
 -- records are its first items behind the place at which its inlet began
-record Known (offers : Offers) (files : Option Files) (plan : RunPlan) (reached : Reached) (run : CoreRun) (items : ℕ → List Piece) (bytes : ℕ → List ℕ) (taken : List Taken) (passes : List Pass) (places : ℕ → ℕ) (h : Happened offers files plan reached run) : Type 0 where
+record Known (offers : Offers) (files : Option Files) (plan : RunPlan) (reached : Reached) (run : CoreRun) (items : ℕ → List Piece) (bytes : ℕ → List ℕ) (taken : List Delivery) (passes : List Pass) (places : ℕ → ℕ) (h : Happened offers files plan reached run) : Type 0 where
   runnable : IsRunnable plan
   held : Held files plan reached run
   begins : BeginsWith plan.setup (held_by plan.setup (contents reached.stores) ((h.opens).opening).entries) (h.opens).opening
@@ -248,7 +248,7 @@ record Known (offers : Offers) (files : Option Files) (plan : RunPlan) (reached 
   reads : (i : ℕ) (inlet : Inlet) → IsFile plan.setup i → slice_get (after_all (opened plan.setup (h.opens).opening) (run.prelude ++ h.later)).inlets i ≡ Some inlet
       → (later : List Piece) × (behind inlet.opening (files_of plan.inlets.items bytes i) ≡ pieces_of i h.came ++ later)
 
-known-of : (offers : Offers) (files : Option Files) (plan : RunPlan) (reached : Reached) (run : CoreRun) (items : ℕ → List Piece) (bytes : ℕ → List ℕ) (taken : List Taken) (passes : List Pass) (places : ℕ → ℕ) (h : Happened offers files plan reached run) → IsRunnable plan
+known-of : (offers : Offers) (files : Option Files) (plan : RunPlan) (reached : Reached) (run : CoreRun) (items : ℕ → List Piece) (bytes : ℕ → List ℕ) (taken : List Delivery) (passes : List Pass) (places : ℕ → ℕ) (h : Happened offers files plan reached run) → IsRunnable plan
     → Held files plan reached run → AllTell reached.stores → TellFiles files plan reached.inlets bytes → Grow items (files_of plan.inlets.items bytes)
     → Covered plan.setup offers items taken passes places (held_by plan.setup (contents reached.stores) ((h.opens).opening).entries) → Known offers files plan reached run items bytes taken passes places h
 known-of offers files plan reached run items bytes taken passes places h runnable held tells tell grow first =
@@ -283,7 +283,7 @@ known-of offers files plan reached run items bytes taken passes places h runnabl
 -- Stops.
 
 -- a stop behind these events with this one on is covered
-covers-stop : (offers : Offers) (files : Option Files) (plan : RunPlan) (reached : Reached) (run : CoreRun) (items : ℕ → List Piece) (bytes : ℕ → List ℕ) (taken : List Taken) (passes : List Pass) (places : ℕ → ℕ) (h : Happened offers files plan reached run)
+covers-stop : (offers : Offers) (files : Option Files) (plan : RunPlan) (reached : Reached) (run : CoreRun) (items : ℕ → List Piece) (bytes : ℕ → List ℕ) (taken : List Delivery) (passes : List Pass) (places : ℕ → ℕ) (h : Happened offers files plan reached run)
     → Known offers files plan reached run items bytes taken passes places h → (es : List Event) (e : Event) (came : List Pass) (images : Images) → are_legal (opened plan.setup (h.opens).opening) (es ++ e ∷ []) ≡ true → Safe (opened plan.setup (h.opens).opening) es e images
     → AreAdmitted offers (es ++ e ∷ []) came
     → ((i : ℕ) (inlet : Inlet) → IsFile plan.setup i → slice_get (after_all (opened plan.setup (h.opens).opening) es).inlets i ≡ Some inlet → (later : List Piece) × (behind inlet.opening (files_of plan.inlets.items bytes i) ≡ pieces_of i came ++ later))
@@ -305,7 +305,7 @@ covers-stop offers files plan reached run items bytes taken passes places h know
     }
 
 -- at the return
-covers-return : (offers : Offers) (files : Option Files) (plan : RunPlan) (reached : Reached) (run : CoreRun) (items : ℕ → List Piece) (bytes : ℕ → List ℕ) (taken : List Taken) (passes : List Pass) (places : ℕ → ℕ) (h : Happened offers files plan reached run)
+covers-return : (offers : Offers) (files : Option Files) (plan : RunPlan) (reached : Reached) (run : CoreRun) (items : ℕ → List Piece) (bytes : ℕ → List ℕ) (taken : List Delivery) (passes : List Pass) (places : ℕ → ℕ) (h : Happened offers files plan reached run)
     → Laws → Known offers files plan reached run items bytes taken passes places h
     → EachChoice plan.setup reached.stores_closed
     (λ images. CoversStop plan.setup offers (held_by plan.setup (contents reached.stores) ((h.opens).opening).entries) taken passes places (stopped_with plan bytes (h.opens).opening (run.prelude ++ h.later) nothing h.came images))
@@ -326,7 +326,7 @@ covers-return offers files plan reached run items bytes taken passes places h la
     (are_legal-join start events (nothing ∷ []) ((h.ran).stands).legal refl) safe (admitted-nothing offers events h.came [] h.admits) known.reads
 
 -- a stop of the run, whatever lists its images stand for
-pub record Stop (offers : Offers) (files : Option Files) (plan : RunPlan) (reached : Reached) (run : CoreRun) (bytes : ℕ → List ℕ) (taken : List Taken) (passes : List Pass) (places : ℕ → ℕ) (h : Happened offers files plan reached run) (events : List Event) (event : Event)
+pub record Stop (offers : Offers) (files : Option Files) (plan : RunPlan) (reached : Reached) (run : CoreRun) (bytes : ℕ → List ℕ) (taken : List Delivery) (passes : List Pass) (places : ℕ → ℕ) (h : Happened offers files plan reached run) (events : List Event) (event : Event)
     (images : List (List ℕ)) : Type 0 where
   pub came : List Pass
   pub rest : List Pass
@@ -336,7 +336,7 @@ pub record Stop (offers : Offers) (files : Option Files) (plan : RunPlan) (reach
       → CoversStop plan.setup offers (held_by plan.setup (contents reached.stores) ((h.opens).opening).entries) taken passes places (stopped_with plan bytes (h.opens).opening events event came (held_by plan.setup images lists))
 
 -- within an event
-covers-within : (offers : Offers) (files : Option Files) (plan : RunPlan) (reached : Reached) (run : CoreRun) (items : ℕ → List Piece) (bytes : ℕ → List ℕ) (taken : List Taken) (passes : List Pass) (places : ℕ → ℕ) (h : Happened offers files plan reached run)
+covers-within : (offers : Offers) (files : Option Files) (plan : RunPlan) (reached : Reached) (run : CoreRun) (items : ℕ → List Piece) (bytes : ℕ → List ℕ) (taken : List Delivery) (passes : List Pass) (places : ℕ → ℕ) (h : Happened offers files plan reached run)
     → Laws → (known : Known offers files plan reached run items bytes taken passes places h) → (k : ℕ) (event : Event) (images : List (List ℕ)) → slice_get (run.prelude ++ h.later) k ≡ Some event
     → AreImagesBetween run.last.stores (((h.ran).stands).moments.rows k) (((h.ran).stands).moments.rows (k + 1)) images → Stop offers files plan reached run bytes taken passes places h (take k (run.prelude ++ h.later)) event images
 covers-within offers files plan reached run items bytes taken passes places h laws known k event images at between =
@@ -393,7 +393,7 @@ covers-within offers files plan reached run items bytes taken passes places h la
 
 -- The whole.
 
-leaves : (offers : Offers) (files : Option Files) (plan : RunPlan) (reached : Reached) (run : CoreRun) (items : ℕ → List Piece) (bytes : ℕ → List ℕ) (taken : List Taken) (passes : List Pass) (places : ℕ → ℕ) (h : Happened offers files plan reached run)
+leaves : (offers : Offers) (files : Option Files) (plan : RunPlan) (reached : Reached) (run : CoreRun) (items : ℕ → List Piece) (bytes : ℕ → List ℕ) (taken : List Delivery) (passes : List Pass) (places : ℕ → ℕ) (h : Happened offers files plan reached run)
     → Laws → AllTell reached.stores → Known offers files plan reached run items bytes taken passes places h → LeavesCovered h bytes taken passes places
 leaves offers files plan reached run items bytes taken passes places h laws tells known = record {
   first = contents reached.stores;
@@ -414,7 +414,7 @@ covers feed drain offers inlets dests laws old new plan routers by rounds ending
     (known-of (offers_in offers by) old.files plan reached run items bytes taken passes places h runnable held tells tell (λ i. ([], sym (append-nil (items i)))) first)
 
 -- each stop of a run that found covered what the contents of its stores hold, over files that have grown since
-pub stop-of : (offers : Offers) (files : Option Files) (plan : RunPlan) (reached : Reached) (run : CoreRun) (items : ℕ → List Piece) (bytes : ℕ → List ℕ) (taken : List Taken) (passes : List Pass) (places : ℕ → ℕ) (h : Happened offers files plan reached run)
+pub stop-of : (offers : Offers) (files : Option Files) (plan : RunPlan) (reached : Reached) (run : CoreRun) (items : ℕ → List Piece) (bytes : ℕ → List ℕ) (taken : List Delivery) (passes : List Pass) (places : ℕ → ℕ) (h : Happened offers files plan reached run)
     → Laws → IsRunnable plan → Held files plan reached run → AllTell reached.stores → TellFiles files plan reached.inlets bytes → Grow items (files_of plan.inlets.items bytes)
     → Covered plan.setup offers items taken passes places (held_by plan.setup (contents reached.stores) ((h.opens).opening).entries)
     → (events : List Event) (event : Event) (images : List (List ℕ)) → StopsWithin h events event images ⊎ StopsThen h events event images → Stop offers files plan reached run bytes taken passes places h events event images

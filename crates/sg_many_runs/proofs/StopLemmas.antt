@@ -10,7 +10,7 @@ use Rattle.sg_machine.specs.Runs.{Kept}
 use Rattle.sg_machine.specs.Safe.{Images}
 use Rattle.sg_machine.proofs.RunLemmas.{length-inlets, length-opened_inlets}
 use Rattle.sg_many_runs.specs.Pieces.{Piece, Rise}
-use Rattle.sg_many_runs.specs.Covered.{Pass, Taken, Offers, IsFile, as_given, as_stored, entry_of, taking_of, list_at, IsHeld, IsKeptSafe, IsPassed, IsOfferOf, Covered}
+use Rattle.sg_many_runs.specs.Covered.{Pass, Delivery, Offers, IsFile, as_given, as_stored, entry_of, taking_of, list_at, IsHeld, IsKeptSafe, IsPassed, IsOfferOf, Covered}
 use Rattle.sg_many_runs.specs.Passes.{Stopped, taken_in, IsStopped}
 use Rattle.sg_many_runs.specs.Adding.{Follow, all_taken, all_passes, position_in, EndsClean, IsTaken, IsTakingOf, IsEntryIn, TakeOffers, AddUp, AreFresh}
 use Rattle.sg_many_runs.proofs.HasLemmas.{has-nil}
@@ -34,16 +34,16 @@ pub files-last : (files : ℕ → List Piece) (runs : List Stopped) (last : Stop
 files-last files [] last = refl
 files-last files (run ∷ runs) last = files-last run.files runs last
 
-pub covers-all : (setup : Setup) (offers : Offers) (files : ℕ → List Piece) (taken : List Taken) (passes : List Pass) (old : ℕ → ℕ) (before : Images) (runs : List Stopped) → Covered setup offers files taken passes old before → Follow setup offers files before runs
+pub covers-all : (setup : Setup) (offers : Offers) (files : ℕ → List Piece) (taken : List Delivery) (passes : List Pass) (old : ℕ → ℕ) (before : Images) (runs : List Stopped) → Covered setup offers files taken passes old before → Follow setup offers files before runs
     → Covered setup offers (files_behind files runs) (taken ++ all_taken setup runs) (passes ++ all_passes runs) old (images_behind before runs)
 covers-all setup offers files taken passes old before [] c f =
-    let P : List Taken → Type 0 = λ ts. Covered setup offers files ts passes old before in
+    let P : List Delivery → Type 0 = λ ts. Covered setup offers files ts passes old before in
     let Q : List Pass → Type 0 = λ ps. Covered setup offers files (taken ++ []) ps old before in
     subst Q (sym (append-nil passes)) (subst P (sym (append-nil taken)) c)
 covers-all setup offers files taken passes old before (run ∷ runs) c f =
     let one = covers-run setup offers files taken passes old before run c f.0 f.1 in
     let all = covers-all setup offers run.files (taken ++ taken_in setup run) (passes ++ run.passes) old run.images runs one f.2 in
-    let P : List Taken → Type 0 = λ ts. Covered setup offers (files_behind run.files runs) ts ((passes ++ run.passes) ++ all_passes runs) old (images_behind run.images runs) in
+    let P : List Delivery → Type 0 = λ ts. Covered setup offers (files_behind run.files runs) ts ((passes ++ run.passes) ++ all_passes runs) old (images_behind run.images runs) in
     let Q : List Pass → Type 0 = λ ps. Covered setup offers (files_behind run.files runs) (taken ++ (taken_in setup run ++ all_taken setup runs)) ps old (images_behind run.images runs) in
     subst Q (append_assoc passes run.passes (all_passes runs)) (subst P (append_assoc taken (taken_in setup run) (all_taken setup runs)) all)
 
@@ -52,15 +52,15 @@ follow-last : (setup : Setup) (offers : Offers) (files : ℕ → List Piece) (be
 follow-last setup offers files before [] last f = (before, f.1)
 follow-last setup offers files before (run ∷ runs) last f = follow-last setup offers run.files run.images runs last f.2
 
-none-held : (setup : Setup) (taken : List Taken) (images : Images) (p : Pass) (o : Offer) → list_at setup images o.dest ≡ [] → IsHeld setup taken images p o → Contains taken (taking_of o)
+none-held : (setup : Setup) (taken : List Delivery) (images : Images) (p : Pass) (o : Offer) → list_at setup images o.dest ≡ [] → IsHeld setup taken images p o → Contains taken (taking_of o)
 none-held setup taken images p o none (inl t) = t
 none-held setup taken images p o none (inr m) = let P : List Kept → Type 0 = λ ks. Contains ks (entry_of p o) in absurd (has-nil (entry_of p o) (subst P none m))
 
-is-taken : (setup : Setup) (taken : List Taken) (images : Images) (old : ℕ) (p : Pass) (o : Offer) → list_at setup images o.dest ≡ [] → IsKeptSafe setup taken images old p o → IsTaken taken old p o
+is-taken : (setup : Setup) (taken : List Delivery) (images : Images) (old : ℕ) (p : Pass) (o : Offer) → list_at setup images o.dest ≡ [] → IsKeptSafe setup taken images old p o → IsTaken taken old p o
 is-taken setup taken images old p o none (inl a) = inl (none-held setup taken images p o none a)
 is-taken setup taken images old p o none (inr b) = inr (b.0, none-held setup taken images p (as_stored o) none b.1)
 
-every-record : (setup : Setup) (offers : Offers) (taken : List Taken) (passes : List Pass) (old : ℕ → ℕ) (images : Images) (last : Stopped) → Covered setup offers last.files taken passes old last.images → EndsClean setup last.files last.images → IsStopped setup offers images last
+every-record : (setup : Setup) (offers : Offers) (taken : List Delivery) (passes : List Pass) (old : ℕ → ℕ) (images : Images) (last : Stopped) → Covered setup offers last.files taken passes old last.images → EndsClean setup last.files last.images → IsStopped setup offers images last
     → (i : ℕ) (x : Piece) → IsFile setup i → Contains (last.files i) x → IsPassed offers (IsTaken taken (old i)) passes i x
 every-record setup offers taken passes old images last covered clean h i x file c =
     let many = h.safe.images_at.every_position in
@@ -81,7 +81,7 @@ due-more : (setup : Setup) (offers : Offers) (started : Images) (first a b : Lis
 due-more setup offers started first a b d k more (inl o) = inl (offer-more as_given offers a b d k more o)
 due-more setup offers started first a b d k more (inr o) = inr o
 
-taking-is : (form : Offer → Offer) (offers : Offers) (passes : List Pass) (t : Taken) (k : Kept) → ((o : Offer) → (form o).dest ≡ o.dest) → t ≡ record { dest = t.dest; message = k.message } → IsOfferOf form offers passes t.dest k → IsTakingOf form offers passes t
+taking-is : (form : Offer → Offer) (offers : Offers) (passes : List Pass) (t : Delivery) (k : Kept) → ((o : Offer) → (form o).dest ≡ o.dest) → t ≡ record { dest = t.dest; message = k.message } → IsOfferOf form offers passes t.dest k → IsTakingOf form offers passes t
 taking-is form offers passes t k same is o =
     record {
       pass = o.pass;
@@ -91,11 +91,11 @@ taking-is form offers passes t k same is o =
       offer = o.offer;
       among = o.among;
       taking = is
-          ∙ ap (λ (x : Kept). let y : Taken = record { dest = t.dest; message = x.message } in y) o.entry
-          ∙ ap (λ (n : ℕ). let y : Taken = record { dest = n; message = (form o.offer).message } in y) (sym o.dest ∙ sym (same o.offer));
+          ∙ ap (λ (x : Kept). let y : Delivery = record { dest = t.dest; message = x.message } in y) o.entry
+          ∙ ap (λ (n : ℕ). let y : Delivery = record { dest = n; message = (form o.offer).message } in y) (sym o.dest ∙ sym (same o.offer));
     }
 
-taking-due : (setup : Setup) (offers : Offers) (started : Images) (first passes : List Pass) (t : Taken) (k : Kept) → t ≡ record { dest = t.dest; message = k.message } → IsDue setup offers started first passes t.dest k
+taking-due : (setup : Setup) (offers : Offers) (started : Images) (first passes : List Pass) (t : Delivery) (k : Kept) → t ≡ record { dest = t.dest; message = k.message } → IsDue setup offers started first passes t.dest k
     → IsTakingOf as_given offers passes t ⊎ (IsTakingOf as_stored offers first t × IsEntryIn setup started t)
 taking-due setup offers started first passes t k is (inl o) = inl (taking-is as_given offers passes t k (λ x. refl) is o)
 taking-due setup offers started first passes t k is (inr o) = inr (taking-is as_stored offers first t k (λ x. refl) is o.0, (k, (o.1, is)))
@@ -113,13 +113,13 @@ no-other setup offers files started first passes before (run ∷ runs) due f =
       no-other setup offers run.files started first all run.images runs r.lists f.2,
     )
 
-started-due : (setup : Setup) (offers : Offers) (files : ℕ → List Piece) (taken : List Taken) (passes : List Pass) (old : ℕ → ℕ) (before : Images) → Covered setup offers files taken passes old before → (d : ℕ) (k : Kept) → Contains (list_at setup before d) k
+started-due : (setup : Setup) (offers : Offers) (files : ℕ → List Piece) (taken : List Delivery) (passes : List Pass) (old : ℕ → ℕ) (before : Images) → Covered setup offers files taken passes old before → (d : ℕ) (k : Kept) → Contains (list_at setup before d) k
     → IsDue setup offers before passes passes d k
 started-due setup offers files taken passes old before c d k m = elim (c.entries d k m) [ inl o ↦ inl o | inr o ↦ inr (o, m) ]
 
 -- The whole.
 
-pub add-up : (setup : Setup) (offers : Offers) (files : ℕ → List Piece) (taken : List Taken) (passes : List Pass) (before : Images) (runs : List Stopped) (last : Stopped) → Covered setup offers files taken passes (position_in before) before
+pub add-up : (setup : Setup) (offers : Offers) (files : ℕ → List Piece) (taken : List Delivery) (passes : List Pass) (before : Images) (runs : List Stopped) (last : Stopped) → Covered setup offers files taken passes (position_in before) before
     → Follow setup offers files before (runs ++ last ∷ []) → EndsClean setup last.files last.images → AddUp setup offers taken passes before runs last
 add-up setup offers files taken passes before runs last covered follow clean =
     let all = runs ++ last ∷ [] in

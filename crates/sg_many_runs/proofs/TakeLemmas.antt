@@ -1,5 +1,5 @@
 -- What is kept of the offers of passes is what they owe, less what was dropped.
-use Rattle.std.proofs.Common.{◌≡◌, ℕ, suc, ◌+◌, ◌≤◌, List, [], ◌∷◌, ◌++◌, length, length-append, map, Some, None, Bool, true, false, not, ◌&&◌, refl, sym, ap, ◌∙◌, subst, arith, if◌then◌else◌, append_assoc, slice_get}
+use Rattle.std.proofs.Common.{◌≡◌, ℕ, suc, ◌+◌, ◌≤◌, List, [], ◌∷◌, ◌++◌, length, length-append, map, Some, Bool, true, false, not, ◌&&◌, refl, sym, ap, ◌∙◌, subst, arith, if◌then◌else◌, append_assoc, slice_get}
 use Rattle.std.specs.Prelude.{◌==◌, filter}
 use Rattle.std.specs.Option.{option_map_or}
 use Rattle.sg_list.specs.Lists.{passes_at}
@@ -23,15 +23,14 @@ use Rattle.sg_machine.proofs.FlowLemmas.{flow_drops-none, mapped-some, then-some
 use Rattle.sg_many_runs.specs.Covered.{Pass, Offers, entry_of}
 use Rattle.sg_many_runs.specs.Passes.{AreRead, ReadsBy, AreAdmitted}
 use Rattle.sg_many_runs.specs.Once.{Given, AreGiven, owed_by, owed_to, dropped_of, dropped_by, dropped_in, less, AreUnflowed, TakesOnce}
-use Rattle.sg_many_runs.proofs.PassLemmas.{judged-there, length-act}
+use Rattle.sg_standing.proofs.Frozen.{length-dests}
+use Rattle.sg_one_run.proofs.TextLemmas.{suc-same, judged-lengths}
+use Rattle.sg_many_runs.proofs.PassLemmas.{judged-there}
 
 -- Joined.
 
 pub takes-none : TakesOnce [] [] []
 takes-none = record { each = refl; unflowed = tt; all = refl }
-
-suc-same : (a b : ℕ) → suc a ≡ suc b → a ≡ b
-suc-same a b h = omega (arith, h)
 
 less-one : (m : Bool) (k : Kept) (xs ys zs : List Kept) → xs ≡ ys ++ zs → (if m then xs else k ∷ xs) ≡ (if m then ys else k ∷ ys) ++ zs
 less-one true k xs ys zs h = h
@@ -68,14 +67,6 @@ takes-same ms ks ls xs ys e f t =
 abbrev claims_owe : (d i : ℕ) → List Claim → List Kept
 claims_owe d i [] = []
 claims_owe d i (c ∷ cs) = if c.offer.dest == d then kept_from i c ∷ claims_owe d i cs else claims_owe d i cs
-
-judged-lengths : (i next : ℕ) (failing : List ℕ) (ds : List Dest) (failed : List ℕ) (cs : List Claim) (vs : List Verdict) (x : List ℕ) → judged i next failing ds failed cs vs ≡ Some x → length cs ≡ length vs
-judged-lengths i next failing ds failed [] [] x h = refl
-judged-lengths i next failing ds failed [] (v ∷ vs) x h = let wrong : None ≡ Some x = h in cc
-judged-lengths i next failing ds failed (c ∷ cs) [] x h = let wrong : None ≡ Some x = h in cc
-judged-lengths i next failing ds failed (c ∷ cs) (v ∷ vs) x h =
-    let parts = then-some (judged_at (slice_get ds c.offer.dest) failing failed c.offer v) (λ f. judged i next failing (take_claim i next ds c v) f cs vs) x h in
-    ap suc (judged-lengths i next failing (take_claim i next ds c v) parts.0 cs vs x parts.2)
 
 -- one claim more, by whether it is one to d, and whether it is dropped
 takes-one : (b dropped : Bool) (k : Kept) (ms : List Bool) (ks xs : List Kept) → (dropped ≡ true → k.flow ≡ false) → TakesOnce ms ks xs
@@ -260,5 +251,5 @@ pub events-nowhere : (s : State) (es : List Event) (i d : ℕ) → are_legal s e
 events-nowhere s [] i d l low = refl
 events-nowhere s (e ∷ es) i d l low =
     let q = both-true (is_legal s e) (are_legal (after s e) es) l in
-    let long = length-act s e.act e.failed in
+    let long = length-dests s e.act e.failed in
     ap (λ (ks : List Kept). ks ++ kept_of_inlet i d es) (act-nowhere s e.act e.failed i d q.0 low) ∙ events-nowhere (after s e) es i d q.1 (omega (arith, long, low))

@@ -7,7 +7,7 @@ use Rattle.sg_machine.specs.Safe.{Images}
 use Rattle.sg_frame.specs.Records.{Record}
 use Rattle.sg_route.specs.Offers.{record_at}
 use Rattle.sg_many_runs.specs.Pieces.{Piece, Rise}
-use Rattle.sg_many_runs.specs.Covered.{Pass, Taken, Offers, IsFile, IsPassed, taking_of, as_given, as_stored, list_at, Covered}
+use Rattle.sg_many_runs.specs.Covered.{Pass, Delivery, Offers, IsFile, IsPassed, taking_of, as_given, as_stored, list_at, Covered}
 use Rattle.sg_many_runs.specs.Passes.{Stopped, taken_in, IsStopped}
 
 -- what the log statements may give for a pass: the offers of the router of its inlet
@@ -25,9 +25,9 @@ Grow old new = (i : ℕ) → (more : List Piece) × (new i ≡ old i ++ more)
 -- Where what stood in the stores was covered, what is left in them is, with what the run took and the passes of what came in.
 abbrev pub OneRunCovers : Offers → Type 0
 OneRunCovers offers =
-    (setup : Setup) (files : ℕ → List Piece) (taken : List Taken) (passes : List Pass) (old : ℕ → ℕ)
-    (before : Images) (run : Stopped) → Covered setup offers files taken passes old before
-    → Grow files run.files
+    (setup : Setup) (files : ℕ → List Piece) (taken : List Delivery) (passes : List Pass)
+    (old : ℕ → ℕ) (before : Images) (run : Stopped)
+    → Covered setup offers files taken passes old before → Grow files run.files
     → IsStopped setup offers before run → Covered setup offers run.files
     (taken ++ taken_in setup run) (passes ++ run.passes) old run.images
 
@@ -39,7 +39,7 @@ Follow setup offers files images [] = Unit {0}
 Follow setup offers files images (run ∷ runs) = Grow files run.files
     × IsStopped setup offers images run × Follow setup offers run.files run.images runs
 
-abbrev pub all_taken : Setup → List Stopped → List Taken
+abbrev pub all_taken : Setup → List Stopped → List Delivery
 all_taken setup [] = []
 all_taken setup (run ∷ runs) = taken_in setup run ++ all_taken setup runs
 
@@ -59,12 +59,12 @@ pub record EndsClean (setup : Setup) (files : ℕ → List Piece) (images : Imag
       → piece.end ≤ position
 
 -- the offer was taken, or, of a record that ends at or below this place, its stored form
-abbrev pub IsTaken : List Taken → (old : ℕ) → Pass → Offer → Type 0
+abbrev pub IsTaken : List Delivery → (old : ℕ) → Pass → Offer → Type 0
 IsTaken taken old pass offer = Contains taken (taking_of offer)
     ⊎ ((pass.end ≤ old) × Contains taken (taking_of (as_stored offer)))
 
 -- what was taken is an offer of a pass, in this form
-pub record IsTakingOf (form : Offer → Offer) (offers : Offers) (passes : List Pass) (taken : Taken) : Type 0 where
+pub record IsTakingOf (form : Offer → Offer) (offers : Offers) (passes : List Pass) (taken : Delivery) : Type 0 where
   pub pass : Pass
   pub had : Contains passes pass
   pub given : List Offer
@@ -74,7 +74,7 @@ pub record IsTakingOf (form : Offer → Offer) (offers : Offers) (passes : List 
   pub taking : taken ≡ taking_of (form offer)
 
 -- it is the message of an entry in these images
-abbrev pub IsEntryIn : Setup → Images → Taken → Type 0
+abbrev pub IsEntryIn : Setup → Images → Delivery → Type 0
 IsEntryIn setup images taken = (kept : Kept) × (Contains (list_at setup images taken.dest) kept
     × (taken ≡ record { dest = taken.dest; message = kept.message }))
 
@@ -84,14 +84,14 @@ abbrev pub TakeOffers : Setup → Offers → (started : Images) → (first passe
     → List Stopped → Type 0
 TakeOffers setup offers started first passes [] = Unit {0}
 TakeOffers setup offers started first passes (run ∷ runs) =
-    ((taken : Taken) → Contains (taken_in setup run) taken
+    ((taken : Delivery) → Contains (taken_in setup run) taken
     → IsTakingOf as_given offers (passes ++ run.passes) taken
     ⊎ (IsTakingOf as_stored offers first taken × IsEntryIn setup started taken))
     × TakeOffers setup offers started first (passes ++ run.passes) runs
 
 -- What the stores held was covered, and the last run ends clean: each record of each file has a pass of which each offer with flow-control was
 -- taken at least once, and nothing else was taken than offers.
-pub record AddUp (setup : Setup) (offers : Offers) (taken : List Taken) (passes : List Pass) (before : Images) (runs : List Stopped) (last : Stopped) : Type 0 where
+pub record AddUp (setup : Setup) (offers : Offers) (taken : List Delivery) (passes : List Pass) (before : Images) (runs : List Stopped) (last : Stopped) : Type 0 where
   pub every : (i : ℕ) (piece : Piece) → IsFile setup i → Contains (last.files i) piece
       → IsPassed offers
       (IsTaken (taken ++ all_taken setup (runs ++ last ∷ [])) (position_in before i))
@@ -100,7 +100,7 @@ pub record AddUp (setup : Setup) (offers : Offers) (taken : List Taken) (passes 
 
 abbrev pub AllRunsAddUp : Offers → Type 0
 AllRunsAddUp offers =
-    (setup : Setup) (files : ℕ → List Piece) (taken : List Taken) (passes : List Pass)
+    (setup : Setup) (files : ℕ → List Piece) (taken : List Delivery) (passes : List Pass)
     (before : Images) (runs : List Stopped) (last : Stopped)
     → Covered setup offers files taken passes (position_in before) before
     → Follow setup offers files before (runs ++ last ∷ []) → EndsClean setup last.files last.images

@@ -14,7 +14,7 @@ use Rattle.sg_serve.specs.Run.{CoreRun, Reached, RunsWith}
 use Rattle.sg_serve.specs.declared.counts.Counts.{Counts}
 use Rattle.sg_serve.specs.declared.ending.PlanEnded.TheVariants.{Ran}
 use Rattle.sg_run_plan.specs.declared.plan.RunPlan.{RunPlan}
-use Rattle.sg_many_runs.specs.Covered.{Pass, Taken, IsFile, Covered}
+use Rattle.sg_many_runs.specs.Covered.{Pass, Delivery, IsFile, Covered}
 use Rattle.sg_many_runs.specs.Adding.{offers_in, EndsClean}
 use Rattle.sg_many_runs.specs.Happened.{EachChoice, AllTell, AreOfFiles, TellFiles, files_of}
 
@@ -28,7 +28,7 @@ abbrev pub PlanRunsEndClean : {R I O : Type 0} → (I → InletState) → (O →
     → (R → ℕ → Record → List Offer → Type 0) → (R → ℕ) → (R → ℕ) → Type 0
 PlanRunsEndClean {R} {I} {O} feed drain offers inlets dests =
     (old new : WorldState) (plan : RunPlan) (routers by : List R) (rounds : ℕ) (counts : Counts)
-    (reached : Reached) (run : CoreRun) (bytes : ℕ → List ℕ) (taken : List Taken)
+    (reached : Reached) (run : CoreRun) (bytes : ℕ → List ℕ) (taken : List Delivery)
     (passes : List Pass) (places : ℕ → ℕ)
     → IsRunnable plan → AreOfFiles plan → AreLines plan
     → RunsWith feed drain offers inlets dests old new plan routers rounds

@@ -40,7 +40,7 @@ pub record IsPassOf (i : ℕ) (piece : Piece) (pass : Pass) : Type 0 where
 -- Messages and entries.
 
 -- a message that a destination took
-pub record Taken : Type 0 where
+pub record Delivery : Type 0 where
   pub dest : ℕ
   pub message : Content
 
@@ -59,7 +59,7 @@ as_stored offer = record offer { message = stored_form offer.message }
 abbrev pub entry_of : Pass → Offer → Kept
 entry_of pass offer = record { inlet = pass.inlet; end = pass.end; flow = offer.flow; message = offer.message }
 
-abbrev pub taking_of : Offer → Taken
+abbrev pub taking_of : Offer → Delivery
 taking_of offer = record { dest = offer.dest; message = offer.message }
 
 -- the list in the image of a destination's disk-buffer; none where it has none
@@ -74,12 +74,12 @@ list_at setup images d = listed (slice_get setup.dests d) (slice_get images.list
 -- What is owed.
 
 -- the offer was taken, or stands in its destination's image
-abbrev pub IsHeld : Setup → List Taken → Images → Pass → Offer → Type 0
+abbrev pub IsHeld : Setup → List Delivery → Images → Pass → Offer → Type 0
 IsHeld setup taken images pass offer = Contains taken (taking_of offer)
     ⊎ Contains (list_at setup images offer.dest) (entry_of pass offer)
 
 -- the same, or, of a record that ends at or below this place, of its stored form
-abbrev pub IsKeptSafe : Setup → List Taken → Images → (old : ℕ) → Pass → Offer → Type 0
+abbrev pub IsKeptSafe : Setup → List Delivery → Images → (old : ℕ) → Pass → Offer → Type 0
 IsKeptSafe setup taken images old pass offer = IsHeld setup taken images pass offer
     ⊎ ((pass.end ≤ old) × IsHeld setup taken images pass (as_stored offer))
 
@@ -110,7 +110,7 @@ IsOffered offers passes d kept = IsOfferOf as_given offers passes d kept
 
 -- What was taken, the passes that there were and what the stores hold cover the files, whose items these are: `old` are places up to
 -- which stored forms count.
-pub record Covered (setup : Setup) (offers : Offers) (files : ℕ → List Piece) (taken : List Taken) (passes : List Pass) (old : ℕ → ℕ) (images : Images) : Type 0 where
+pub record Covered (setup : Setup) (offers : Offers) (files : ℕ → List Piece) (taken : List Delivery) (passes : List Pass) (old : ℕ → ℕ) (images : Images) : Type 0 where
   -- the position of a file is 0, or the end of an item of it
   pub positions : (i position : ℕ) → IsFile setup i → slice_get images.positions i ≡ Some position
       → (position ≡ 0) ⊎ ((piece : Piece) × (Contains (files i) piece × (piece.end ≡ position)))

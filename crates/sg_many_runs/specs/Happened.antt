@@ -30,7 +30,7 @@ use Rattle.sg_serve.specs.Run.{CoreRun, Reached, RunsWith}
 use Rattle.sg_one_run.specs.Headline.{TakesThese}
 use Rattle.sg_many_runs.specs.Resuming.{IsBegun}
 use Rattle.sg_many_runs.specs.Pieces.{Piece, pieces, behind}
-use Rattle.sg_many_runs.specs.Covered.{Pass, Taken, Offers, IsFile, Covered}
+use Rattle.sg_many_runs.specs.Covered.{Pass, Delivery, Offers, IsFile, Covered}
 use Rattle.sg_many_runs.specs.Passes.{AreAdmitted, pieces_of, Stopped, taken_in, IsStopped}
 use Rattle.sg_many_runs.specs.Adding.{offers_in}
 
@@ -148,13 +148,13 @@ stopped_with plan bytes opening events event came images = record {
 
 -- So stopped it is a run that began with what those images before it hold, and what it leaves is covered, with the entries settled and the
 -- passes of the records that had come in.
-pub record CoversStop (setup : Setup) (offers : Offers) (before : Images) (taken : List Taken) (passes : List Pass) (old : ℕ → ℕ) (run : Stopped) : Type 0 where
+pub record CoversStop (setup : Setup) (offers : Offers) (before : Images) (taken : List Delivery) (passes : List Pass) (old : ℕ → ℕ) (run : Stopped) : Type 0 where
   pub stopped : IsStopped setup offers before run
   pub covered : Covered setup offers run.files (taken ++ taken_in setup run) (passes ++ run.passes)
       old run.images
 
 -- what the run leaves, over the contents of the stores, which are `first`
-pub record LeavesCovered {offers : Offers} {files : Option Files} {plan : RunPlan} {reached : Reached} {run : CoreRun} (happened : Happened offers files plan reached run) (bytes : ℕ → List ℕ) (taken : List Taken) (passes : List Pass) (old : ℕ → ℕ) : Type 0 where
+pub record LeavesCovered {offers : Offers} {files : Option Files} {plan : RunPlan} {reached : Reached} {run : CoreRun} (happened : Happened offers files plan reached run) (bytes : ℕ → List ℕ) (taken : List Delivery) (passes : List Pass) (old : ℕ → ℕ) : Type 0 where
   pub first : List (List ℕ)
   pub first_are : AreImagesOf reached.stores first
   pub first_lists : AreListsBy plan.setup.dests first ((happened.opens).opening).entries
@@ -184,7 +184,7 @@ PlanRunsCover {R} {I} {O} feed drain offers inlets dests =
     (old new : WorldState) (plan : RunPlan) (routers by : List R) (rounds : ℕ) (ending : PlanEnded)
     (reached : Reached) (run : CoreRun)
     (happened : Happened (offers_in offers by) old.files plan reached run) (bytes : ℕ → List ℕ)
-    (taken : List Taken) (passes : List Pass) (places : ℕ → ℕ)
+    (taken : List Delivery) (passes : List Pass) (places : ℕ → ℕ)
     → IsRunnable plan
     → RunsWith feed drain offers inlets dests old new plan routers rounds ending reached
     → reached.core ≡ Some run → AllTell reached.stores

@@ -12,7 +12,7 @@ use Rattle.sg_machine.specs.declared.state.State.{State}
 use Rattle.sg_machine.specs.Runs.{Kept, Opening, opened, after_all, are_legal}
 use Rattle.sg_machine.specs.Safe.{Images, Safe, settled_by}
 use Rattle.sg_many_runs.specs.Pieces.{Piece, Rise, behind}
-use Rattle.sg_many_runs.specs.Covered.{Pass, Taken, Offers, IsFile}
+use Rattle.sg_many_runs.specs.Covered.{Pass, Delivery, Offers, IsFile}
 
 -- What came in.
 
@@ -42,7 +42,7 @@ abbrev pub pieces_of : ℕ → List Pass → List Piece
 pieces_of i passes = map pass_piece (filter (λ (p : Pass). p.inlet == i) passes)
 
 -- What was taken: the entries that are settled, those of the act that is on included.
-abbrev pub taken_at : Act → ℕ → List Dest → List Taken
+abbrev pub taken_at : Act → ℕ → List Dest → List Delivery
 taken_at act d [] = []
 taken_at act d (dest ∷ dests) =
     map (λ e. record { dest = d; message = e.message }) (settled_by act d dest)
@@ -64,7 +64,7 @@ pub record Stopped : Type 0 where
 abbrev pub state_at : Setup → Stopped → State
 state_at setup run = after_all (opened setup run.opening) run.events
 
-abbrev pub taken_in : Setup → Stopped → List Taken
+abbrev pub taken_in : Setup → Stopped → List Delivery
 taken_in setup run = taken_at run.event.act 0 (state_at setup run).dests
 
 -- The opening is that of these images: each file begins at its position, each disk-buffer with its list, and nothing else has entries.

@@ -20,7 +20,7 @@ use Rattle.sg_serve.specs.declared.counts.Counts.{Counts}
 use Rattle.sg_serve.specs.declared.ending.PlanEnded.{PlanEnded}
 use Rattle.sg_serve.specs.declared.ending.PlanEnded.TheVariants.{Ran}
 use Rattle.sg_run_plan.specs.declared.plan.RunPlan.{RunPlan}
-use Rattle.sg_many_runs.specs.Covered.{Pass, Taken, Offers, Covered}
+use Rattle.sg_many_runs.specs.Covered.{Pass, Delivery, Offers, Covered}
 use Rattle.sg_many_runs.specs.Adding.{offers_in, position_in, AddUp}
 use Rattle.sg_many_runs.specs.Passes.{Stopped, AreAdmitted}
 use Rattle.sg_many_runs.specs.Happened.{AreImagesOf, AreListsBy, held_by, AreOfFiles, TellFiles, files_of, Happened, stopped_with}
@@ -188,7 +188,7 @@ AreStopsOf (run ∷ runs) (s ∷ ss) = IsStopOf run s × AreStopsOf runs ss
 
 -- These lists stand in the images at the start, and this is what the runs add up to; those that
 -- were stopped before their core was open add nothing.
-pub record PlanRunsSum {R : Type 0} {offers : R → ℕ → Record → List Offer → Type 0} {plan : RunPlan} {by : List R} (taken : List Taken) (passes : List Pass) (before : List (List ℕ)) (runs : List (RunOf offers plan by)) (last : PlanRun offers plan by) : Type 0 where
+pub record PlanRunsSum {R : Type 0} {offers : R → ℕ → Record → List Offer → Type 0} {plan : RunPlan} {by : List R} (taken : List Delivery) (passes : List Pass) (before : List (List ℕ)) (runs : List (RunOf offers plan by)) (last : PlanRun offers plan by) : Type 0 where
   pub lists : List (List Kept)
   pub lists_are : AreListsBy plan.setup.dests before lists
   pub stopped : List Stopped
@@ -203,7 +203,7 @@ pub record PlanRunsSum {R : Type 0} {offers : R → ℕ → Record → List Offe
 abbrev pub PlanRunsAddUp : {R I O : Type 0} → (I → InletState) → (O → OutletState)
     → (R → ℕ → Record → List Offer → Type 0) → (R → ℕ) → (R → ℕ) → Type 0
 PlanRunsAddUp {R} {I} {O} feed drain offers inlets dests =
-    (plan : RunPlan) (by : List R) (bytes : ℕ → List ℕ) (taken : List Taken) (passes : List Pass)
+    (plan : RunPlan) (by : List R) (bytes : ℕ → List ℕ) (taken : List Delivery) (passes : List Pass)
     (before : List (List ℕ)) (runs : List (RunOf offers plan by)) (last : PlanRun offers plan by)
     → IsRunnable plan → AreOfFiles plan → AreLines plan
     → ((lists : List (List Kept)) → AreListsBy plan.setup.dests before lists

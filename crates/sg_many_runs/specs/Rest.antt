@@ -9,7 +9,7 @@ use Rattle.sg_serve.specs.Plan.{IsRunnable}
 use Rattle.sg_serve.specs.Run.{Reached, RunsWith}
 use Rattle.sg_serve.specs.declared.ending.PlanEnded.{PlanEnded}
 use Rattle.sg_run_plan.specs.declared.plan.RunPlan.{RunPlan}
-use Rattle.sg_many_runs.specs.Covered.{Pass, Taken, Covered}
+use Rattle.sg_many_runs.specs.Covered.{Pass, Delivery, Covered}
 use Rattle.sg_many_runs.specs.Adding.{offers_in}
 use Rattle.sg_many_runs.specs.Happened.{EachChoice, files_of}
 
@@ -18,7 +18,7 @@ abbrev pub PlanRunsRest : {R I O : Type 0} → (I → InletState) → (O → Out
     → (R → ℕ → Record → List Offer → Type 0) → (R → ℕ) → (R → ℕ) → Type 0
 PlanRunsRest {R} {I} {O} feed drain offers inlets dests =
     (old new : WorldState) (plan : RunPlan) (routers by : List R) (rounds : ℕ) (ending : PlanEnded)
-    (reached : Reached) (bytes : ℕ → List ℕ) (taken : List Taken) (passes : List Pass)
+    (reached : Reached) (bytes : ℕ → List ℕ) (taken : List Delivery) (passes : List Pass)
     (places : ℕ → ℕ) → IsRunnable plan
     → RunsWith feed drain offers inlets dests old new plan routers rounds ending reached
     → reached.core ≡ None

@@ -1,6 +1,5 @@
 pub mod Entering
 pub mod Equations
-pub mod PathEquations
-pub mod Leasts
+pub mod Collecting
 pub mod Placing
 pub mod Ones

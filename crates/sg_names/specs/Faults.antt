@@ -9,7 +9,7 @@ use Rattle.sg_fault.specs.Faults.{earlier, least}
 use Rattle.sg_graph.specs.Graph.{IsFirstOnCycle}
 use Rattle.sg_graph.specs.Sizes.{size_of}
 use Rattle.sg_names.specs.declared.names.Names.{Names}
-use Rattle.sg_names.specs.declared.part.Part.{Part}
+use Rattle.sg_names.specs.declared.part.NameUse.{NameUse}
 use Rattle.sg_names.specs.declared.filters.Filters.{Filters}
 use Rattle.sg_names.specs.Registers.{names_of, repeated}
 use Rattle.sg_names.specs.Paths.{parts_of}
@@ -28,19 +28,19 @@ cycle_at None = None
 cycle_at (Some line) = Some (record { kind = FilterCycle; line = line })
 
 -- an expression that is too large, or with which all become so
-abbrev pub limits : Names → List ℕ → List Statement → List Part → Option Placed
+abbrev pub limits : Names → List ℕ → List Statement → List NameUse → Option Placed
 limits names sizes statements parts = earlier (least (flat_map (part_limits sizes) parts))
     (least (total_faults sizes (rewrite_sizes names sizes statements) 0 parts))
 
 -- Sizes are looked at where no filter refers to itself.
-abbrev pub HasRest : Names → Filters → List Statement → List Part → Option ℕ → Option Placed
+abbrev pub HasRest : Names → Filters → List Statement → List NameUse → Option ℕ → Option Placed
     → Type 0
 HasRest names filters statements parts (Some i) fault = fault ≡ cycle_at (slice_get filters.lines i)
 HasRest names filters statements parts None fault = (sizes : List ℕ) × AreSizes filters sizes
     × (fault ≡ limits names sizes statements parts)
 
 -- the first filter statement that refers to itself, if any, and what else is wrong then
-abbrev pub IsRest : Names → Filters → List Statement → List Part → Option Placed → Type 0
+abbrev pub IsRest : Names → Filters → List Statement → List NameUse → Option Placed → Type 0
 IsRest names filters statements parts fault = (cycle : Option ℕ)
     × IsFirstOnCycle filters.links cycle × HasRest names filters statements parts cycle fault
 

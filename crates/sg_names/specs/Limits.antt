@@ -5,8 +5,8 @@ use Rattle.sg_lex.specs.declared.fault.ConfigKind.TheVariants.{Limit}
 use Rattle.sg_lex.specs.declared.place.Line.{Line}
 use Rattle.sg_fault.specs.declared.placed.Placed.{Placed}
 use Rattle.sg_names.specs.declared.reference.Term.{Term}
-use Rattle.sg_names.specs.declared.part.Part.{Part}
-use Rattle.sg_names.specs.declared.part.Part.TheVariants as part
+use Rattle.sg_names.specs.declared.part.NameUse.{NameUse}
+use Rattle.sg_names.specs.declared.part.NameUse.TheVariants as part
 use Rattle.sg_names.specs.Sizes.{terms_size, part_size}
 
 abbrev pub limit_at : Option Line → List Placed
@@ -22,14 +22,14 @@ first_line (term ∷ terms) = Some term.line
 abbrev pub large_faults : List ℕ → List Term → List Placed
 large_faults sizes terms = if nat_lt 4096 (terms_size sizes terms) then limit_at (first_line terms) else []
 
-abbrev pub part_limits : List ℕ → Part → List Placed
+abbrev pub part_limits : List ℕ → NameUse → List Placed
 part_limits sizes (part.Expression terms) = large_faults sizes terms
 part_limits sizes (part.Rewrite word conditions) = flat_map (large_faults sizes) conditions
 part_limits sizes (part.Filter reference) = []
 part_limits sizes (part.Rewrites reference) = []
 part_limits sizes (part.End reference) = []
 
-abbrev pub part_line : Part → Option Line
+abbrev pub part_line : NameUse → Option Line
 part_line (part.Expression terms) = first_line terms
 part_line (part.Rewrite word conditions) = Some word
 part_line (part.Filter reference) = Some reference.line
@@ -37,7 +37,7 @@ part_line (part.Rewrites reference) = Some reference.line
 part_line (part.End reference) = Some reference.line
 
 -- all together have at most 65,536, in the order of the text
-abbrev pub total_faults : List ℕ → List ℕ → ℕ → List Part → List Placed
+abbrev pub total_faults : List ℕ → List ℕ → ℕ → List NameUse → List Placed
 total_faults sizes rewrites sum [] = []
 total_faults sizes rewrites sum (p ∷ ps) =
     if nat_lt 65536 (sum + part_size sizes rewrites p) then limit_at (part_line p) else total_faults sizes rewrites (sum + part_size sizes rewrites p) ps

@@ -15,8 +15,8 @@ use Rattle.sg_names.specs.declared.kind.NameKind.{NameKind}
 use Rattle.sg_names.specs.declared.kind.NameKind.TheVariants as kind
 use Rattle.sg_names.specs.declared.names.Names.{Names}
 use Rattle.sg_names.specs.declared.reference.Term.{Term}
-use Rattle.sg_names.specs.declared.part.Part.{Part}
-use Rattle.sg_names.specs.declared.part.Part.TheVariants as part
+use Rattle.sg_names.specs.declared.part.NameUse.{NameUse}
+use Rattle.sg_names.specs.declared.part.NameUse.TheVariants as part
 use Rattle.sg_names.specs.Terms.{reference_of, terms_of}
 
 abbrev pub tests_at : Names → Arg-F Arg RawExpr Call → List (List Term)
@@ -35,16 +35,16 @@ options_at names _ = []
 unfoldable pub conditions_in : Names → Arg → List (List Term)
 conditions_in names arg = options_at names (out-Arg arg)
 
-unfoldable pub rewrite_part : Names → Call → Part
+unfoldable pub rewrite_part : Names → Call → NameUse
 rewrite_part names call = part.Rewrite (spot_line (out-Call call).word)
     (flat_map (conditions_in names) (out-Call call).args)
 
-abbrev pub object_parts : Names → Object → List Part
+abbrev pub object_parts : Names → Object → List NameUse
 object_parts names (object.Filter name expr) = part.Expression (terms_of names expr) ∷ []
 object_parts names (object.Rewrite name calls) = map (rewrite_part names) calls
 object_parts names _ = []
 
-abbrev pub named_part : Names → NameKind → Spot → Part
+abbrev pub named_part : Names → NameKind → Spot → NameUse
 named_part names kind.Filter spot = part.Filter (reference_of names kind.Filter spot)
 named_part names kind.Rewrite spot = part.Rewrites (reference_of names kind.Rewrite spot)
 named_part names kind.Source spot = part.End (reference_of names kind.Source spot)
@@ -52,6 +52,6 @@ named_part names kind.Destination spot = part.End (reference_of names kind.Desti
 named_part names kind.Template spot = part.End (reference_of names kind.Template spot)
 
 -- a name, or what stands in its place
-abbrev pub reference_parts : Names → NameKind → RawRef → List Part
+abbrev pub reference_parts : Names → NameKind → RawRef → List NameUse
 reference_parts names kind (ref.Named spot) = named_part names kind spot ∷ []
 reference_parts names kind (ref.Inline object) = object_parts names object

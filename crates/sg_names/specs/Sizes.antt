@@ -7,8 +7,8 @@ use Rattle.sg_parse_text.specs.declared.statement.Statement.{Statement}
 use Rattle.sg_parse_text.specs.declared.statement.Statement.TheVariants as statement
 use Rattle.sg_names.specs.declared.names.Names.{Names}
 use Rattle.sg_names.specs.declared.reference.Term.{Term}
-use Rattle.sg_names.specs.declared.part.Part.{Part}
-use Rattle.sg_names.specs.declared.part.Part.TheVariants as part
+use Rattle.sg_names.specs.declared.part.NameUse.{NameUse}
+use Rattle.sg_names.specs.declared.part.NameUse.TheVariants as part
 use Rattle.sg_names.specs.Filters.{filter_place}
 use Rattle.sg_names.specs.Parts.{rewrite_part}
 
@@ -32,7 +32,7 @@ abbrev pub terms_size : List ℕ → List Term → ℕ
 terms_size sizes terms = sum_by (term_size sizes) terms
 
 -- A rewrite counts 1 and its conditions, and an element that names a filter or a rewrite as much as what it names.
-abbrev pub part_size : List ℕ → List ℕ → Part → ℕ
+abbrev pub part_size : List ℕ → List ℕ → NameUse → ℕ
 part_size sizes rewrites (part.Expression terms) = terms_size sizes terms
 part_size sizes rewrites (part.Rewrite word conditions) = 1 + sum_by (terms_size sizes) conditions
 part_size sizes rewrites (part.Filter reference) = size_at sizes reference.place

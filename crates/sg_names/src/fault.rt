@@ -6,7 +6,7 @@ ghost use Rattle.sg_names.specs.Faults.{IsRest, IsNamesFault, cycle_at, limits};
 use crate::filters::{Filters, filters_of};
 use crate::limit::{large_expression, large_total};
 use crate::names::{Names, names_of};
-use crate::part::Part;
+use crate::part::NameUse;
 use crate::paths::parts_of;
 use crate::size::{MOST, rewrite_sizes};
 use crate::unknown::unknown_fault;
@@ -34,7 +34,7 @@ fn limits_fault(
     names: &Names,
     sizes: &[u64],
     statements: &[Statement],
-    parts: &[Part],
+    parts: &[NameUse],
 ) -> Result<Option<Placed>, AllocError>
     ensures { IfOk result (λ fault. fault ≡ limits names.now sizes.now statements.now parts.now) }
 {
@@ -50,7 +50,7 @@ fn rest_fault(
     names: &Names,
     filters: &Filters,
     statements: &[Statement],
-    parts: &[Part],
+    parts: &[NameUse],
 ) -> Result<Option<Placed>, AllocError>
     requires count { length filters.now.links < 2 ^ 32 }
     requires own { length filters.now.own ≡ length filters.now.links }

@@ -20,7 +20,7 @@ pub use fault::check_names;
 pub use kind::{NameKind, name_of};
 pub use laws::names_have_one_fault;
 pub use names::{Names, names_of};
-pub use part::Part;
+pub use part::NameUse;
 pub use paths::parts_of;
 pub use reference::{Reference, Term};
 pub use register::Register;

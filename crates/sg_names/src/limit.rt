@@ -4,7 +4,7 @@ ghost use Rattle.std.specs.List.{flat_map};
 ghost use Rattle.sg_fault.specs.Faults.{least};
 ghost use Rattle.sg_names.specs.Limits.{limit_at, first_line, large_faults, part_limits, part_line, total_faults};
 
-use crate::part::Part;
+use crate::part::NameUse;
 use crate::reference::Term;
 use crate::size::{part_size, terms_size};
 use sg_fault::{Placed, earlier};
@@ -57,20 +57,20 @@ fn conditions_limit(sizes: &[u64], conditions: &[Items<Term>]) -> Option<Placed>
     first
 }
 
-fn part_limit(sizes: &[u64], part: &Part) -> Option<Placed>
+fn part_limit(sizes: &[u64], part: &NameUse) -> Option<Placed>
     ensures { result ≡ least (part_limits sizes.now part.now) }
 {
     match part {
-        Part::Expression(terms) => large_fault(sizes, terms.as_slice()),
-        Part::Rewrite { conditions, .. } => conditions_limit(sizes, conditions.as_slice()),
-        Part::Filter(_) => None,
-        Part::Rewrites(_) => None,
-        Part::End(_) => None,
+        NameUse::Expression(terms) => large_fault(sizes, terms.as_slice()),
+        NameUse::Rewrite { conditions, .. } => conditions_limit(sizes, conditions.as_slice()),
+        NameUse::Filter(_) => None,
+        NameUse::Rewrites(_) => None,
+        NameUse::End(_) => None,
     }
 }
 
 /// The first expression that is too large.
-pub fn large_expression(sizes: &[u64], parts: &[Part]) -> Option<Placed>
+pub fn large_expression(sizes: &[u64], parts: &[NameUse]) -> Option<Placed>
     ensures { result ≡ least (flat_map (part_limits sizes.now) parts.now) }
 {
     let mut first = None;
@@ -80,20 +80,20 @@ pub fn large_expression(sizes: &[u64], parts: &[Part]) -> Option<Placed>
     first
 }
 
-fn part_line(part: &Part) -> Option<Line>
+fn part_line(part: &NameUse) -> Option<Line>
     ensures { result ≡ part_line part.now }
 {
     match part {
-        Part::Expression(terms) => first_line(terms.as_slice()),
-        Part::Rewrite { word, .. } => Some(*word),
-        Part::Filter(reference) => Some(reference.line),
-        Part::Rewrites(reference) => Some(reference.line),
-        Part::End(reference) => Some(reference.line),
+        NameUse::Expression(terms) => first_line(terms.as_slice()),
+        NameUse::Rewrite { word, .. } => Some(*word),
+        NameUse::Filter(reference) => Some(reference.line),
+        NameUse::Rewrites(reference) => Some(reference.line),
+        NameUse::End(reference) => Some(reference.line),
     }
 }
 
 /// Where all expressions together become too large.
-pub fn large_total(sizes: &[u64], rewrites: &[u64], parts: &[Part]) -> Option<Placed>
+pub fn large_total(sizes: &[u64], rewrites: &[u64], parts: &[NameUse]) -> Option<Placed>
     ensures { result ≡ least (total_faults sizes.now rewrites.now 0 parts.now) }
 {
     let mut sum = 0u64;

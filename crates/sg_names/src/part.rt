@@ -16,7 +16,7 @@ use std::alloc::{AllocError, Global};
 
 /// What stands in a text that refers to names or has a size.
 #[derive(Drop)]
-pub enum Part {
+pub enum NameUse {
     /// An expression, but that of a condition.
     Expression(Items<Term>),
     /// A rewrite, and the expressions of its conditions.
@@ -101,10 +101,10 @@ fn conditions_in(
 }
 
 #[tactic(auto, unfolding(crate::specs::Parts::rewrite_part))]
-fn rewrite_part(alloc: Global, names: &Names, call: &Call) -> Result<Part, AllocError>
+fn rewrite_part(alloc: Global, names: &Names, call: &Call) -> Result<NameUse, AllocError>
     ensures { IfOk result (λ part. part ≡ rewrite_part names.now call.now) }
 {
-    Ok(Part::Rewrite {
+    Ok(NameUse::Rewrite {
         word: line_of(&call.word.token, call.word.at),
         conditions: conditions_in(alloc, names, call.args.as_slice())?,
     })
@@ -114,7 +114,7 @@ fn push_rewrites(
     alloc: Global,
     names: &Names,
     calls: &[Call],
-    found: &mut Items<Part>,
+    found: &mut Items<NameUse>,
 ) -> Result<(), AllocError>
     ensures { OnOk result (found.new ≡ found.old ++ map (rewrite_part names.now) calls.now) }
 {
@@ -125,7 +125,11 @@ fn push_rewrites(
 }
 
 /// The parts of rewrites.
-pub fn rewrites_of(alloc: Global, names: &Names, calls: &[Call]) -> Result<Items<Part>, AllocError>
+pub fn rewrites_of(
+    alloc: Global,
+    names: &Names,
+    calls: &[Call],
+) -> Result<Items<NameUse>, AllocError>
     ensures { IfOk result (λ parts. parts ≡ map (rewrite_part names.now) calls.now) }
 {
     let mut found = Items::new(alloc);
@@ -138,13 +142,13 @@ pub fn push_object(
     alloc: Global,
     names: &Names,
     object: &Object,
-    found: &mut Items<Part>,
+    found: &mut Items<NameUse>,
 ) -> Result<(), AllocError>
     ensures { OnOk result (found.new ≡ found.old ++ object_parts names.now object.now) }
 {
     match object {
         Object::Filter { expr, .. } => {
-            found.push(Part::Expression(terms_of(alloc, names, expr)?))?;
+            found.push(NameUse::Expression(terms_of(alloc, names, expr)?))?;
             Ok(())
         }
         Object::Rewrite { calls, .. } => {
@@ -156,13 +160,13 @@ pub fn push_object(
 }
 
 /// An element that names a statement of this kind.
-pub fn named_part(names: &Names, kind: NameKind, spot: &Spot) -> Part
+pub fn named_part(names: &Names, kind: NameKind, spot: &Spot) -> NameUse
     ensures { result ≡ named_part names.now kind spot.now }
 {
     let reference = reference_of(names, kind, spot);
     match kind {
-        NameKind::Filter => Part::Filter(reference),
-        NameKind::Rewrite => Part::Rewrites(reference),
-        _ => Part::End(reference),
+        NameKind::Filter => NameUse::Filter(reference),
+        NameKind::Rewrite => NameUse::Rewrites(reference),
+        _ => NameUse::End(reference),
     }
 }

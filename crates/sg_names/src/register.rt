@@ -5,7 +5,7 @@ ghost use Rattle.sg_fault.specs.Faults.{least};
 ghost use Rattle.sg_names.specs.Registers.{empty_register, entered, entered_if, registered, repeat_of, repeat_if, repeats};
 
 use crate::kind::{NameKind, name_of};
-use sg_block::Table;
+use sg_block::NameMap;
 use sg_fault::{Placed, earlier};
 use sg_lex::ConfigKind;
 use sg_parse_base::{Spot, line_of};
@@ -16,7 +16,7 @@ use std::alloc::{AllocError, Global};
 /// those of its kind.
 #[derive(Drop)]
 pub struct Register {
-    pub places: Table<u32>,
+    pub places: NameMap<u32>,
     pub count: u32,
 }
 
@@ -24,7 +24,7 @@ fn empty_register(alloc: Global) -> Register
     ensures { result ≡ empty_register }
 {
     Register {
-        places: Table::new(alloc),
+        places: NameMap::new(alloc),
         count: 0,
     }
 }

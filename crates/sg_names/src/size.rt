@@ -6,7 +6,7 @@ ghost use Rattle.sg_names.specs.Sizes.{capped, size_at, term_size, terms_size, p
 
 use crate::filters::filter_place;
 use crate::names::Names;
-use crate::part::{Part, rewrites_of};
+use crate::part::{NameUse, rewrites_of};
 use crate::reference::Term;
 use sg_parse_expr::Call;
 use sg_parse_obj::Object;
@@ -66,23 +66,23 @@ fn conditions_size(sizes: &[u64], conditions: &[Items<Term>]) -> u64
 }
 
 /// What a part counts.
-pub fn part_size(sizes: &[u64], rewrites: &[u64], part: &Part) -> u64
+pub fn part_size(sizes: &[u64], rewrites: &[u64], part: &NameUse) -> u64
     ensures { result ≡ capped (part_size sizes.now rewrites.now part.now) }
 {
     match part {
-        Part::Expression(terms) => terms_size(sizes, terms.as_slice()),
-        Part::Rewrite { conditions, .. } => {
+        NameUse::Expression(terms) => terms_size(sizes, terms.as_slice()),
+        NameUse::Rewrite { conditions, .. } => {
             conditions_size(sizes, conditions.as_slice())
                 .saturating_add(1)
                 .min(MOST)
         }
-        Part::Filter(reference) => capped_at(sizes, reference.place),
-        Part::Rewrites(reference) => capped_at(rewrites, reference.place),
-        Part::End(_) => 0,
+        NameUse::Filter(reference) => capped_at(sizes, reference.place),
+        NameUse::Rewrites(reference) => capped_at(rewrites, reference.place),
+        NameUse::End(_) => 0,
     }
 }
 
-fn parts_size(sizes: &[u64], parts: &[Part]) -> u64
+fn parts_size(sizes: &[u64], parts: &[NameUse]) -> u64
     ensures { result ≡ capped (sum_by (part_size sizes.now []) parts.now) }
 {
     let mut sum = 0u64;

@@ -4,7 +4,7 @@ ghost use Rattle.std.specs.List.{flat_map};
 ghost use Rattle.sg_fault.specs.Faults.{least};
 ghost use Rattle.sg_names.specs.Unknown.{reference_faults, term_faults, terms_faults, part_faults, unknown};
 
-use crate::part::Part;
+use crate::part::NameUse;
 use crate::reference::{Reference, Term};
 use sg_fault::{Placed, earlier};
 use sg_lex::ConfigKind;
@@ -51,20 +51,20 @@ fn conditions_fault(conditions: &[Items<Term>]) -> Option<Placed>
     first
 }
 
-fn part_fault(part: &Part) -> Option<Placed>
+fn part_fault(part: &NameUse) -> Option<Placed>
     ensures { result ≡ least (part_faults part.now) }
 {
     match part {
-        Part::Expression(terms) => terms_fault(terms.as_slice()),
-        Part::Rewrite { conditions, .. } => conditions_fault(conditions.as_slice()),
-        Part::Filter(reference) => reference_fault(reference),
-        Part::Rewrites(reference) => reference_fault(reference),
-        Part::End(reference) => reference_fault(reference),
+        NameUse::Expression(terms) => terms_fault(terms.as_slice()),
+        NameUse::Rewrite { conditions, .. } => conditions_fault(conditions.as_slice()),
+        NameUse::Filter(reference) => reference_fault(reference),
+        NameUse::Rewrites(reference) => reference_fault(reference),
+        NameUse::End(reference) => reference_fault(reference),
     }
 }
 
 /// The first reference to a name that no statement of its kind has.
-pub fn unknown_fault(parts: &[Part]) -> Option<Placed>
+pub fn unknown_fault(parts: &[NameUse]) -> Option<Placed>
     ensures { result ≡ least (unknown parts.now) }
 {
     let mut first = None;

@@ -3,6 +3,7 @@ ghost use Rattle.std.specs.Prelude.{◌≡◌, ◌↔◌, IsTrue, IfOk};
 ghost use Rattle.std.specs.Arc.{arc_value};
 ghost use Rattle.sg_net.specs.Listener.{IsBoundTo};
 
+use crate::acceptor::Acceptor;
 use sg_device::Name;
 use sg_file::path_text;
 use std::alloc::{AllocError, Global};
@@ -15,7 +16,7 @@ use std::sync::Arc;
 pub struct Listener {
     ip: Name,
     port: u16,
-    socket: Arc<TcpListener>,
+    acceptor: Arc<Acceptor>,
 }
 
 impl Listener {
@@ -26,10 +27,11 @@ impl Listener {
         let text = path_text(ip)?;
         let socket = TcpListener::bind(&rt, (text, port))?;
         socket.set_nonblocking(true)?;
+        let acceptor = Acceptor::new(alloc, rt, socket, ip, port)?;
         Ok(Listener {
             ip: Name::new(alloc, ip)?,
             port,
-            socket: Arc::new(alloc, socket)?,
+            acceptor: Arc::new(alloc, acceptor)?,
         })
     }
 
@@ -40,10 +42,15 @@ impl Listener {
         self.port == port && self.ip.bytes() == ip
     }
 
-    /// The socket, for a slot.
-    pub fn socket(&self) -> Result<Arc<TcpListener>, AllocError>
-        ensures { IfOk result (λ socket. arc_value socket ≡ arc_value self.now.socket) }
+    /// The port that the system gave it, which is that of the address where it isn't 0.
+    pub fn bound_port(&self) -> io::Result<u16> {
+        self.acceptor.port()
+    }
+
+    /// What accepts the connections, for a slot.
+    pub fn acceptor(&self) -> Result<Arc<Acceptor>, AllocError>
+        ensures { IfOk result (λ acceptor. arc_value acceptor ≡ arc_value self.now.acceptor) }
     {
-        Arc::try_clone(&self.socket)
+        Arc::try_clone(&self.acceptor)
     }
 }

@@ -5,20 +5,30 @@ ghost use Rattle.sg_file.specs.Counts.{inlet_state, new_inlet};
 ghost use Rattle.sg_file.specs.Inlet.{IsNoBytes};
 ghost use Rattle.sg_net.specs.Slot.{slot_of, IsGiven};
 
+use crate::acceptor::Acceptor;
 use sg_device::{Inlet, InletFault, NoMemory, Pull};
 use sg_file::{Health, InletCounts, Rest, moment, read_some};
 use std::alloc::Global;
 use std::io::{self, ErrorKind};
-use std::net::{SocketAddr, TcpListener, TcpStream};
+use std::net::{IpAddr, TcpStream};
 use std::sync::Arc;
+use std::time::Instant;
 
-/// A slot of a listener. It serves one connection at a time, each as a part; the others wait in the
-/// system's queue. With `once` it ends after its first one.
+// A connection that has given nothing for so many seconds is closed where another one was.
+const IDLE: u64 = 600;
+
+/// A slot of a listener. It serves one connection at a time, each as a part; one for which no slot is
+/// free is closed. With `once` it ends after its first one.
 #[derive(Drop)]
 pub struct SlotInlet {
     rt: HostRuntime,
-    listener: Arc<TcpListener>,
+    acceptor: Arc<Acceptor>,
     stream: Option<TcpStream>,
+    // When the connection was accepted or gave bytes last.
+    active: Option<Instant>,
+    // The looks for others and the connections that were closed, as this slot saw them last.
+    looks: u64,
+    closed: u64,
     once: bool,
     // A connection was accepted.
     served: bool,
@@ -41,22 +51,27 @@ impl SlotInlet {
     pub fn open(
         alloc: Global,
         rt: HostRuntime,
-        listener: Arc<TcpListener>,
+        acceptor: Arc<Acceptor>,
         name: &[u8],
         once: bool,
         rest: Rest,
     ) -> Result<SlotInlet, NoMemory>
         ensures { IfOk result (λ slot. slot_of slot ≡ new_inlet [] 0 false) }
     {
+        let health = Health::new(alloc, rt, "source", name)?;
+        acceptor.add(&rest);
         Ok(SlotInlet {
             rt,
-            listener,
+            acceptor,
             stream: None,
+            active: None,
+            looks: 0,
+            closed: 0,
             once,
             served: false,
             counts: InletCounts::new(Vec::new(alloc), 0, false),
             next: Vec::new(alloc),
-            health: Health::new(alloc, rt, "source", name)?,
+            health,
             rest,
         })
     }
@@ -69,11 +84,33 @@ impl SlotInlet {
     }
 
     /// Closes the connection, and hands out what was counted.
-    pub fn into_counts(self) -> InletCounts
+    pub fn into_counts(mut self) -> InletCounts
         ensures { inlet_state result ≡ slot_of self }
     {
+        self.close();
+        if !self.is_done() {
+            self.acceptor.remove();
+        }
         let SlotInlet { counts, .. } = self;
         counts
+    }
+
+    // Whether it takes no connection any more.
+    fn is_done(&self) -> bool {
+        self.once && self.served && self.stream.is_none()
+    }
+
+    // Closes the connection, where there is one.
+    fn close(&mut self)
+        ensures { self.new.counts ≡ self.old.counts }
+    {
+        if self.stream.is_some() {
+            self.stream = None;
+            self.acceptor.free();
+            if self.is_done() {
+                self.acceptor.remove();
+            }
+        }
     }
 
     // What a pull brings, before it is counted.
@@ -86,22 +123,50 @@ impl SlotInlet {
         if self.counts.ended {
             return Ok(Pull::End);
         }
-        let Some(at) = moment(&self.rt) else {
-            return self.fails("the clock tells no moment");
-        };
+        let at = moment(&self.rt);
         if !self.counts.has_room(into.len()) {
             return self.fails("no place beyond 2^63 can be told");
         }
         match self.read_stream(into) {
             Given::Bytes(len) => {
+                self.active = Instant::now(&self.rt).ok();
+                self.look_at_others();
                 self.rest.happened();
                 Ok(Pull::Bytes { len, at })
             }
             Given::Nothing => {
+                self.look_at_others();
                 self.rest.wait();
                 Ok(Pull::Idle)
             }
             Given::Over => self.accept(),
+        }
+    }
+
+    // Closes the connections that no slot is free for. Where one was closed since the last look, and
+    // this slot's own connection has given nothing for ten minutes, that one is closed too.
+    fn look_at_others(&mut self)
+        ensures { self.new.counts ≡ self.old.counts }
+    {
+        let closed = self.acceptor.close_others(&mut self.looks);
+        if closed == self.closed {
+            return;
+        }
+        self.closed = closed;
+        if self.is_idle() {
+            self.acceptor
+                .tell_given_up(&self.counts.peer, b"it has given nothing for 10 minutes");
+            self.close();
+        }
+    }
+
+    fn is_idle(&self) -> bool {
+        let Some(active) = self.active else {
+            return false;
+        };
+        match active.elapsed(&self.rt) {
+            Ok(since) => since.as_secs() >= IDLE,
+            Err(_) => false,
         }
     }
 
@@ -118,7 +183,7 @@ impl SlotInlet {
             Ok(len) if len > 0 => Given::Bytes(len),
             Err(error) if error.kind() == ErrorKind::WouldBlock => Given::Nothing,
             _ => {
-                self.stream = None;
+                self.close();
                 Given::Over
             }
         }
@@ -132,19 +197,10 @@ impl SlotInlet {
         if self.once && self.served {
             return Ok(Pull::End);
         }
-        match accept_from(&self.listener) {
+        match self.acceptor.accept(&self.rest) {
             Ok((stream, peer)) => {
-                let alloc = self.rt.alloc();
-                let ip = peer.ip();
-                self.next.clear();
-                if let Ok(text) = format!(in alloc; "{ip}") {
-                    self.next = text.into_bytes();
-                }
                 self.stream = Some(stream);
-                self.served = true;
-                self.health.works();
-                self.rest.happened();
-                Ok(Pull::Next)
+                self.begin(peer.ip())
             }
             Err(error) => {
                 if !is_passing(&error) {
@@ -156,6 +212,26 @@ impl SlotInlet {
         }
     }
 
+    // A connection of this peer begins. Where there is no memory for its name it is closed.
+    fn begin(&mut self, peer: IpAddr) -> Result<Pull, InletFault>
+        ensures no_bytes { IsNoBytes result }
+        ensures counts { self.new.counts ≡ self.old.counts }
+    {
+        let Ok(text) = format!(in self.rt.alloc(); "{peer}") else {
+            self.close();
+            self.health
+                .fails("accept", &io::Error::from(ErrorKind::OutOfMemory));
+            self.rest.wait();
+            return Ok(Pull::Idle);
+        };
+        self.next = text.into_bytes();
+        self.served = true;
+        self.active = Instant::now(&self.rt).ok();
+        self.health.works();
+        self.rest.happened();
+        Ok(Pull::Next)
+    }
+
     fn fails(&mut self, words: &str) -> Result<Pull, InletFault>
         ensures err { IsErr result }
         ensures counts { self.new.counts ≡ self.old.counts }
@@ -163,13 +239,6 @@ impl SlotInlet {
         self.health.fails("read", &io::Error::other(words));
         Err(InletFault)
     }
-}
-
-// A connection that doesn't block.
-fn accept_from(listener: &TcpListener) -> io::Result<(TcpStream, SocketAddr)> {
-    let (stream, peer) = listener.accept()?;
-    stream.set_nonblocking(true)?;
-    Ok((stream, peer))
 }
 
 // Nobody came, or who came went away again.
@@ -193,7 +262,13 @@ impl Inlet for SlotInlet {
     }
 
     fn hangup(&mut self) {
-        self.stream = None;
+        if self.stream.is_some() {
+            self.acceptor.tell_given_up(
+                &self.counts.peer,
+                b"no count stands where a message begins",
+            );
+        }
+        self.close();
         self.counts.hung = true;
     }
 }

@@ -1,5 +1,5 @@
 -- What an act changes of what is counted of an inlet.
-use Rattle.std.proofs.Common.{◌≡◌, ◌≢◌, ℕ, ◌+◌, ◌-◌, ◌≤◌, ◌<◌, List, [], ◌∷◌, ◌++◌, length, Bool, true, false, not, ◌&&◌, refl, sym, ap, ◌∙◌, arith, ◌⊎◌, inl, inr, subst, Option, Some, None}
+use Rattle.std.proofs.Common.{◌≡◌, ◌≢◌, ℕ, ◌+◌, ◌-◌, ◌≤◌, ◌<◌, List, [], ◌∷◌, ◌++◌, length, length-append, Bool, true, false, not, ◌&&◌, refl, sym, ap, ◌∙◌, arith, ◌⊎◌, inl, inr, subst, Option, Some, None}
 use Rattle.std.proofs.lemmas.List.{append-nil}
 use Rattle.std.specs.Prelude.{◌==◌, nat_lt, nat_le, slice_get}
 use Rattle.std.specs.List.{list_all}
@@ -120,10 +120,6 @@ length-ends : (records : List Admission) → length (ends_of records) ≡ length
 length-ends [] = refl
 length-ends (r ∷ rs) = let h = length-ends rs in omega (arith, h)
 
-length-both : (xs ys : List ℕ) → length (xs ++ ys) ≡ length xs + length ys
-length-both [] ys = omega arith
-length-both (x ∷ xs) ys = let h = length-both xs ys in omega (arith, h)
-
 other-number : (a b : Bool) → b ≡ false → (a && b) ≡ false
 other-number true b h = h
 other-number false b h = refl
@@ -162,7 +158,7 @@ goes-admit i records vs s failed l =
     let kept = kept-claims i next s.dests cs vs in
     let number : next ≡ length x.ends = ap (λ (o : Option Inlet). option_map_or (λ inlet. length inlet.ends) o 0) may.there in
     let now : slice_get t.inlets i ≡ Some (admitted records x) = get-change-same s.inlets i (admitted records) x may.there in
-    let long = length-both x.ends (ends_of records) in
+    let long = length-append x.ends (ends_of records) in
     let ends = length-ends records in
     let acked = acked-more s.dests fs i 0 x.ends (ends_of records) (λ k z b a.
     acked-claims i next s.dests cs vs i k (λ place. other-number (i == i) (next + place == k) (below-next next place k (omega (arith, number, b)))) a) in

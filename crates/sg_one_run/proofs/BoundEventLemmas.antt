@@ -1,24 +1,22 @@
 -- The entries that destinations kept in a run, and what stands where its rounds begin.
-use Rattle.std.proofs.Common.{◌≡◌, ℕ, ◌+◌, ◌≤◌, List, [], ◌∷◌, length, Bool, true, false, not, ◌&&◌, refl, ap, ◌∙◌, arith, suc, zero, map}
+use Rattle.std.proofs.Common.{◌≡◌, ℕ, ◌+◌, ◌≤◌, List, [], ◌∷◌, length, false, ◌&&◌, refl, ap, ◌∙◌, arith, suc, zero, map}
 use Rattle.std.specs.Prelude.{◌==◌, slice_get}
 use Rattle.std.specs.Option.{option_map_or}
 use Rattle.sg_list.specs.Lists.{change}
-use Rattle.sg_list.proofs.ListLemmas.{length-change}
 use Rattle.sg_machine.specs.declared.event.Act.{Act}
 use Rattle.sg_machine.specs.declared.event.Act.TheVariants.{Admit, Settle, Refill, Store, Rewind, Look}
 use Rattle.sg_machine.specs.declared.event.Event.{Event}
-use Rattle.sg_machine.specs.declared.event.Verdict.{Verdict}
 use Rattle.sg_machine.specs.declared.setup.DestSetup.{DestSetup}
 use Rattle.sg_machine.specs.declared.setup.SourceSetup.{SourceSetup}
-use Rattle.sg_machine.specs.declared.state.Dest.{Dest}
 use Rattle.sg_machine.specs.declared.state.Inlet.{Inlet}
 use Rattle.sg_machine.specs.declared.state.State.{State}
-use Rattle.sg_machine.specs.Effects.{next_of, settled_some, refilled_some, rewound, after, after_act}
+use Rattle.sg_machine.specs.Effects.{next_of, rewound, after, after_act}
 use Rattle.sg_machine.specs.Runs.{Kept, recovered, opened_inlets, opened_dests, after_all}
-use Rattle.sg_machine.specs.Verdicts.{Claim, claims_of, origin_of, take_offer, take_claim, take_claims}
+use Rattle.sg_machine.specs.Verdicts.{claims_of}
 use Rattle.sg_actor.specs.Reading.{one_if}
 use Rattle.sg_one_run.specs.Counts.{offers_of, left_in}
-use Rattle.sg_one_run.proofs.OwedLemmas.{owes, owed, owed_in, kept_in, kept-settle, kept-refill, kept-claims, claims-length}
+use Rattle.sg_standing.proofs.Frozen.{length-dests}
+use Rattle.sg_one_run.proofs.OwedLemmas.{and-not-true, owes, owed, owed_in, kept_in, kept-settle, kept-refill, kept-claims, claims-length}
 
 -- Entries that were kept.
 
@@ -47,29 +45,11 @@ pub kept-all : (es : List Event) (s : State) → kept_in (after_all s es).dests 
 kept-all [] s = omega arith
 kept-all (e ∷ es) s = let one = kept-act s e.act e.failed in let rest = kept-all es (after s e) in omega (arith, one, rest)
 
-claims-dests : (i next : ℕ) (ds : List Dest) (cs : List Claim) (vs : List Verdict) → length (take_claims i next ds cs vs) ≡ length ds
-claims-dests i next ds [] vs = refl
-claims-dests i next ds (c ∷ cs) [] = refl
-claims-dests i next ds (c ∷ cs) (v ∷ vs) =
-    claims-dests i next (take_claim i next ds c v) cs vs ∙ length-change ds c.offer.dest (take_offer (origin_of i next c) c.offer v)
-
-dests-act : (s : State) (act : Act) (failed : List ℕ) → length (after_act s act failed).dests ≡ length s.dests
-dests-act s (Admit i records vs) failed = claims-dests i (next_of s i) s.dests (claims_of records) vs
-dests-act s (Settle d n) failed = length-change s.dests d (settled_some n)
-dests-act s (Refill d n) failed = length-change s.dests d (refilled_some n)
-dests-act s (Store i w) failed = refl
-dests-act s (Rewind i) failed = refl
-dests-act s Look failed = refl
-
 pub dests-all : (es : List Event) (s : State) → length (after_all s es).dests ≡ length s.dests
 dests-all [] s = refl
-dests-all (e ∷ es) s = dests-all es (after s e) ∙ dests-act s e.act e.failed
+dests-all (e ∷ es) s = dests-all es (after s e) ∙ length-dests s e.act e.failed
 
 -- The opening.
-
-and-not-true : (b : Bool) → (b && not true) ≡ false
-and-not-true true = refl
-and-not-true false = refl
 
 recovered-owe : (i : ℕ) (es : List Kept) → owed i (map recovered es) ≡ 0
 recovered-owe i [] = refl

@@ -1,26 +1,32 @@
 -- Each drop is due.
-use Rattle.std.proofs.Common.{◌≡◌, ◌≤◌, ℕ, List, [], ◌∷◌, ◌++◌, Some, None, Option, Bool, true, false, not, ◌||◌, refl, sym, arith, subst, if◌then◌else◌, ◌⊎◌, inl, inr}
+use Rattle.std.proofs.Common.{◌≡◌, ◌≤◌, ℕ, zero, suc, List, [], ◌∷◌, ◌++◌, Some, None, Option, Bool, true, false, not, ◌||◌, refl, sym, ap, ◌∙◌, arith, subst, if◌then◌else◌, ◌⊎◌, inl, inr}
 use Rattle.std.specs.Prelude.{◌==◌, nat_lt, slice_get}
 use Rattle.std.specs.Option.{option_map_or}
 use Rattle.sg_list.specs.Lists.{passes_at}
 use Rattle.sg_list.proofs.ListLemmas.{some-same}
 use Rattle.sg_msg.specs.declared.offer.Offer.{Offer}
 use Rattle.sg_machine.specs.declared.event.Act.TheVariants.{Admit}
+use Rattle.sg_machine.specs.declared.event.Admission.{Admission}
 use Rattle.sg_machine.specs.declared.event.Event.{Event}
 use Rattle.sg_machine.specs.declared.event.Verdict.{Verdict}
 use Rattle.sg_machine.specs.declared.event.Verdict.TheVariants.{Queued, Spooled, Waits, DroppedFull, DroppedDisk}
 use Rattle.sg_machine.specs.declared.setup.BufferSetup.{BufferSetup}
+use Rattle.sg_machine.specs.declared.setup.DestSetup.{DestSetup}
 use Rattle.sg_machine.specs.declared.state.Dest.{Dest}
 use Rattle.sg_machine.specs.declared.state.Entry.{Entry}
+use Rattle.sg_machine.specs.declared.state.Origin.{Origin}
+use Rattle.sg_machine.specs.declared.state.State.{State}
 use Rattle.sg_machine.specs.Effects.{next_of, after}
 use Rattle.sg_machine.specs.Entries.{fits, any_waits, unflowed}
-use Rattle.sg_machine.specs.Legal.{is_same_list, may_admit, is_legal}
+use Rattle.sg_machine.specs.Legal.{is_same_list, may_admit, is_legal, is_legal_act}
 use Rattle.sg_machine.specs.Runs.{after_all, are_legal}
-use Rattle.sg_machine.specs.Verdicts.{Claim, claims_of, is_listed, same_verdict, queue_verdict, disk_verdict, fails_at, judged_by, judged_at, judged, take_claim}
+use Rattle.sg_machine.specs.Verdicts.{Claim, claims_of, is_listed, same_verdict, queue_verdict, disk_verdict, fails_at, judged_by, judged_at, judged, origin_of, take_offer, take_claim}
+use Rattle.sg_standing.proofs.ListSteps.{get-change}
 use Rattle.sg_machine.proofs.FlowLemmas.{mapped-some, then-some}
 use Rattle.sg_machine.proofs.OfferLemmas.{is_same_list-true}
 use Rattle.sg_machine.proofs.RunLemmas.{both-true, are_legal-parts}
-use Rattle.sg_one_run.specs.Drops.{IsDue, IsDueAt, AreDue, DropsAreDue}
+use Rattle.sg_one_run.proofs.TurnLemmas.{either-false}
+use Rattle.sg_one_run.specs.Drops.{HasFailed, IsDue, IsDueAt, AreDue, DropsAreDue}
 
 -- Stores that have failed.
 
@@ -88,10 +94,6 @@ judged-more i next failing ds failed (c ∷ cs) (v ∷ vs) x h =
 
 -- One verdict.
 
-or-false : (p q : Bool) → (p || q) ≡ false → (p ≡ false) × (q ≡ false)
-or-false true q h = let wrong : true ≡ false = h in cc
-or-false false q h = (refl, h)
-
 full-queue : (b : Bool) (a y : List ℕ) → (if same_verdict DroppedFull (if b then Queued else DroppedFull) then Some a else None) ≡ Some y → b ≡ false
 full-queue true a y h = absurd (none-some y h)
 full-queue false a y h = refl
@@ -136,7 +138,7 @@ no-room n fifo h = grind arith
 due-by : (buffer : Option BufferSetup) (fifo : ℕ) (left : List Entry) (failing failed : List ℕ) (o : Offer) (v : Verdict) (y finals : List ℕ) → judged_by buffer fifo left failing failed o v ≡ Some y → Within y finals
     → IsDue buffer fifo left finals o v
 due-by None fifo left failing failed o DroppedFull y finals h w =
-    let both = or-false o.flow (nat_lt (unflowed left) fifo) (full-queue (o.flow || nat_lt (unflowed left) fifo) failed y h) in
+    let both = either-false o.flow (nat_lt (unflowed left) fifo) (full-queue (o.flow || nat_lt (unflowed left) fifo) failed y h) in
     (both.0, no-room (unflowed left) fifo both.1)
 due-by None fifo left failing failed o DroppedDisk y finals h w = absurd (disk-queue (o.flow || nat_lt (unflowed left) fifo) failed y h)
 due-by (Some buffer) fifo left failing failed o DroppedFull y finals h w =
@@ -172,14 +174,47 @@ are-due i next failing ds failed (c ∷ cs) (v ∷ vs) x finals h w =
       are-due i next failing (take_claim i next ds c v) parts.0 cs vs x finals parts.2 w,
     )
 
-pub drops-due : DropsAreDue
-drops-due start before later i records vs failed l =
-    let s = after_all start before in
-    let e : Event = record { act = Admit i records vs; failed = failed } in
-    let legal = (both-true (is_legal s e) (are_legal (after s e) later) (are_legal-parts start before (e ∷ later) l).1).0 in
+pub act-due : (s : State) (i : ℕ) (records : List Admission) (vs : List Verdict) (failed : List ℕ) → is_legal_act s (Admit i records vs) failed ≡ true → AreDue i (next_of s i) s.dests (s.failed ++ failed) (claims_of records) vs
+act-due s i records vs failed legal =
     let cs = claims_of records in
     let answer = judged i (next_of s i) failed s.dests s.failed cs vs in
     let right = (both-true (passes_at s.inlets i (may_admit s i records)) (option_map_or (is_same_list (s.failed ++ failed)) answer false) legal).1 in
     let x = mapped-some answer (is_same_list (s.failed ++ failed)) right in
     let same = is_same_list-true (s.failed ++ failed) x.0 x.2 in
     are-due i (next_of s i) failed s.dests s.failed cs vs x.0 (s.failed ++ failed) x.1 (λ b h. subst (λ ns. is_listed b ns ≡ true) (sym same) h)
+
+pub drops-due : DropsAreDue
+drops-due start before later i records vs failed l =
+    let s = after_all start before in
+    let e : Event = record { act = Admit i records vs; failed = failed } in
+    act-due s i records vs failed (both-true (is_legal s e) (are_legal (after s e) later) (are_legal-parts start before (e ∷ later) l).1).0
+
+-- One drop.
+
+some-due : (o : Option Dest) (failed : List ℕ) (offer : Offer) → IsDueAt o failed offer DroppedDisk → (x : Dest) × ((o ≡ Some x) × HasFailed x.setup.buffer failed)
+some-due None failed offer h = absurd h
+some-due (Some x) failed offer h = (x, (refl, h.1))
+
+taken-setup : (origin : Origin) (offer : Offer) (v : Verdict) (x : Dest) → (take_offer origin offer v x).setup ≡ x.setup
+taken-setup origin offer Queued x = refl
+taken-setup origin offer Spooled x = refl
+taken-setup origin offer Waits x = refl
+taken-setup origin offer DroppedFull x = refl
+taken-setup origin offer DroppedDisk x = refl
+
+-- the store of the destination has failed where an offer is dropped for that
+pub drop-due : (i next : ℕ) (ds : List Dest) (failed : List ℕ) (cs : List Claim) (vs : List Verdict) (k : ℕ) (c : Claim) → AreDue i next ds failed cs vs → slice_get cs k ≡ Some c → slice_get vs k ≡ Some DroppedDisk
+    → (x : Dest) × ((slice_get ds c.offer.dest ≡ Some x) × HasFailed x.setup.buffer failed)
+drop-due i next ds failed [] vs k c due at_claim at_verdict = absurd (none-some c at_claim)
+drop-due i next ds failed (d ∷ cs) [] k c due at_claim at_verdict = absurd (none-some DroppedDisk at_verdict)
+drop-due i next ds failed (d ∷ cs) (v ∷ vs) zero c due at_claim at_verdict =
+    some-due (slice_get ds c.offer.dest) failed c.offer (subst (λ (e : Claim). IsDueAt (slice_get ds e.offer.dest) failed e.offer DroppedDisk) (some-same d c at_claim)
+    (subst (λ w. IsDueAt (slice_get ds d.offer.dest) failed d.offer w) (some-same v DroppedDisk at_verdict) due.0))
+drop-due i next ds failed (d ∷ cs) (v ∷ vs) (suc k) c due at_claim at_verdict =
+    let r = drop-due i next (take_claim i next ds d v) failed cs vs k c due.1 at_claim at_verdict in
+    let was = get-change ds d.offer.dest c.offer.dest (take_offer (origin_of i next d) d.offer v) r.0 r.1.0 in
+    let same : (r.0).setup ≡ (was.0).setup = elim was.2 [
+      | inl p ↦ ap (λ (x : Dest). x.setup) p.1 ∙ taken-setup (origin_of i next d) d.offer v was.0
+      | inr p ↦ ap (λ (x : Dest). x.setup) p.1
+    ] in
+    (was.0, (was.1, subst (λ (x : DestSetup). HasFailed x.buffer failed) same r.1.1))

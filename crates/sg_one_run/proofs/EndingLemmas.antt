@@ -23,7 +23,6 @@ use Rattle.sg_machine.specs.Effects.{ends_of}
 use Rattle.sg_machine.specs.Marks.{outstanding_of, mark_of}
 use Rattle.sg_machine.specs.Safe.{spooled_of}
 use Rattle.sg_machine.specs.Verdicts.{is_listed}
-use Rattle.sg_counter.specs.Exchanges.{Exchange}
 use Rattle.sg_sinks.specs.Laws.{is_listed_in}
 use Rattle.sg_sinks.specs.States.{SinkState}
 use Rattle.sg_stores.specs.Stores.{StoreState, HoldsEntries}

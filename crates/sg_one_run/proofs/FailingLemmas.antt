@@ -1,6 +1,5 @@
 -- The stores that are told to have failed failed in the run.
 use Rattle.std.proofs.Common.{◌≡◌, ◌<◌, ◌≤◌, ℕ, ◌+◌, zero, suc, Bool, true, false, List, [], ◌∷◌, length, map, Some, None, Option, inl, inr, refl, sym, ap, ◌∙◌, arith, slice_get, subst}
-use Rattle.std.specs.Option.{option_map_or}
 use Rattle.std.proofs.lemmas.List.{append-nil}
 use Rattle.sg_list.specs.Lists.{change}
 use Rattle.sg_list.proofs.ListLemmas.{some-same, slice_get-map, slice_get-some, slice_get-below}
@@ -11,8 +10,6 @@ use Rattle.sg_outside.specs.World.{Files}
 use Rattle.sg_msg.specs.declared.offer.Offer.{Offer}
 use Rattle.sg_frame.specs.Records.{Record}
 use Rattle.sg_machine.specs.declared.event.Event.{Event}
-use Rattle.sg_machine.specs.declared.setup.BufferSetup.{BufferSetup}
-use Rattle.sg_machine.specs.declared.setup.DestSetup.{DestSetup}
 use Rattle.sg_machine.specs.declared.setup.Setup.{Setup}
 use Rattle.sg_machine.specs.declared.setup.SourceSetup.{SourceSetup}
 use Rattle.sg_machine.specs.declared.state.Inlet.{Inlet}
@@ -22,7 +19,6 @@ use Rattle.sg_machine.specs.Runs.{opened, opened_inlets, after_all}
 use Rattle.sg_machine.specs.Verdicts.{is_listed}
 use Rattle.sg_machine.proofs.RunLemmas.{after_all-append}
 use Rattle.sg_counter.specs.Bringing.{store_in}
-use Rattle.sg_sinks.specs.States.{SinkState}
 use Rattle.sg_stores.specs.Opening.{IsOpenedAs}
 use Rattle.sg_stores.specs.Stores.{StoreState, AllGo}
 use Rattle.sg_stores.specs.declared.kind.StoreKind.{StoreKind}
@@ -30,14 +26,9 @@ use Rattle.sg_stores.specs.declared.kind.StoreKind.TheVariants.{Position, Buffer
 use Rattle.sg_stores.proofs.GetLemmas.{get-map}
 use Rattle.sg_buffer.specs.declared.found.Found.{Found}
 use Rattle.sg_standing.specs.States.{CoreState, setup_of}
-use Rattle.sg_standing.specs.Sources.{store_at}
 use Rattle.sg_standing.specs.Standing.{IsAt}
-use Rattle.sg_standing.specs.declared.source.Source.{Source}
-use Rattle.sg_standing.proofs.More.{placed, backed}
 use Rattle.sg_core.specs.Opening.{buffer_store_in}
-use Rattle.sg_core.proofs.CallLemmas.{store_in-setups}
-use Rattle.sg_core.proofs.DestSteps.{dest-of}
-use Rattle.sg_core.proofs.PositionSteps.{behind}
+use Rattle.sg_core.proofs.Faults.{listed-position, listed-buffer}
 use Rattle.sg_turns.specs.declared.ended.Ended.{Ended}
 use Rattle.sg_serve.specs.Counts.{numbers_from}
 use Rattle.sg_serve.specs.Rewinds.{position_at, rewinds_at, rewinds_from, places_of}
@@ -56,42 +47,6 @@ marked k n d [] h = absurd (let wrong : None ≡ Some d = h in cc)
 marked k zero d (true ∷ marks) h = let same = some-same k d h in (0, (refl, omega (arith, same)))
 marked k (suc n) d (true ∷ marks) h = let r = marked (k + 1) n d marks h in let at = r.1.1 in (suc r.0, (r.1.0, omega (arith, at)))
 marked k n d (false ∷ marks) h = let r = marked (k + 1) n d marks h in let at = r.1.1 in (suc r.0, (r.1.0, omega (arith, at)))
-
--- The store of a source, and of a disk-buffer.
-
-source-with : (xs : List Source) (i u : ℕ) → store_at xs i ≡ Some u → (x : Source) × ((slice_get xs i ≡ Some x) × (x.setup.store ≡ Some u))
-source-with [] i u h = absurd (let wrong : None ≡ Some u = h in cc)
-source-with (x ∷ xs) zero u h = (x, (refl, h))
-source-with (x ∷ xs) (suc i) u h = source-with xs i u h
-
-store-as : (o : Option BufferSetup) (u : ℕ) → option_map_or (λ (b : BufferSetup). Some b.store) o None ≡ Some u → (b : BufferSetup) × ((o ≡ Some b) × (b.store ≡ u))
-store-as None u h = absurd (let wrong : None ≡ Some u = h in cc)
-store-as (Some b) u h = (b, (refl, some-same b.store u h))
-
-buffer-with : (xs : List DestSetup) (d u : ℕ) → buffer_store_in xs d ≡ Some u → (x : DestSetup) × ((slice_get xs d ≡ Some x) × ((b : BufferSetup) × ((x.buffer ≡ Some b) × (b.store ≡ u))))
-buffer-with [] d u h = absurd (let wrong : None ≡ Some u = h in cc)
-buffer-with (x ∷ xs) zero u h = (x, (refl, store-as x.buffer u h))
-buffer-with (x ∷ xs) (suc d) u h = buffer-with xs d u h
-
-listed-position : (core : CoreState) (t : State) (i u : ℕ) (store : StoreState) → IsAt core t → store_in (setup_of core).sources i ≡ Some u → slice_get core.stores u ≡ Some store → store.failed ≡ is_listed u t.failed
-listed-position core t i u store at has get =
-    let s = source-with core.sources i u (sym (store_in-setups core.sources i) ∙ has) in
-    let b = behind core t i s.0 at s.1.0 in
-    let has' : (b.inlet).setup.store ≡ Some u = ap (λ (x : Source). x.setup.store) (sym b.shown) ∙ s.1.1 in
-    (placed core t i u b.inlet store at b.there has' get).failed_is
-
-listed-buffer : (core : CoreState) (t : State) (d u : ℕ) (store : StoreState) → IsAt core t → buffer_store_in (setup_of core).dests d ≡ Some u → slice_get core.stores u ≡ Some store → store.failed ≡ is_listed u t.failed
-listed-buffer core t d u store at has get =
-    let x = buffer-with (setup_of core).dests d u has in
-    let k = get-map (λ (sink : SinkState). sink.setup) core.sinks d x.0 x.1.0 in
-    let b = x.1.1.0 in
-    let shown = dest-of core t d k.0 at k.1 in
-    let setup : (shown.dest).setup ≡ x.0 = ap (λ (sink : SinkState). sink.setup) (sym shown.shown) ∙ sym k.2 in
-    let has' : (shown.dest).setup.buffer ≡ Some b = ap (λ (s : DestSetup). s.buffer) setup ∙ x.1.1.1.0 in
-    let get' : slice_get core.stores b.store ≡ Some store = ap (λ n. slice_get core.stores n) x.1.1.1.1 ∙ get in
-    let back = at.buffers d shown.dest b shown.there has' in
-    let same = backed core t d shown.dest b store at shown.there has' get' in
-    ap (λ (s : StoreState). s.failed) (sym same) ∙ (back.is).failed_is ∙ ap (λ n. is_listed n t.failed) x.1.1.1.1
 
 -- whether a store that is used has failed is told by each state
 pub listed-used : (core : CoreState) (t : State) (setup : Setup) (u : ℕ) (store : StoreState) → IsAt core t → setup_of core ≡ setup → IsUsed setup u → slice_get core.stores u ≡ Some store → store.failed ≡ is_listed u t.failed

@@ -1,5 +1,5 @@
 -- The run of a plan comes to the headline.
-use Rattle.std.proofs.Common.{◌≡◌, ℕ, ◌+◌, true, List, [], ◌∷◌, ◌++◌, length, Some, None, Option, refl, sym, ap, ◌∙◌, arith, take, subst}
+use Rattle.std.proofs.Common.{◌≡◌, ℕ, ◌+◌, true, List, [], ◌∷◌, ◌++◌, length, Some, None, Option, sym, ap, ◌∙◌, arith, take, subst}
 use Rattle.std.proofs.lemmas.List.{length-map}
 use Rattle.std.specs.Prelude.{slice_get, is_some}
 use Rattle.sg_list.proofs.ListLemmas.{some-same, slice_get-some, slice_get-below, slice_get-map}
@@ -29,7 +29,7 @@ use Rattle.sg_standing.specs.Images.{positions_in, AreListsIn, AreImages, AreIma
 use Rattle.sg_standing.specs.Standing.{StandsFor}
 use Rattle.sg_standing.specs.States.{CoreState}
 use Rattle.sg_turns.specs.Actors.{source_seen, dest_seen, SourceTook, DestTook}
-use Rattle.sg_turns.specs.Turns.{Turn, calls_of}
+use Rattle.sg_turns.specs.Turns.{calls_of}
 use Rattle.sg_turns.specs.declared.ended.Ended.{Ended}
 use Rattle.sg_turns.proofs.LawLemmas.{read-on}
 use Rattle.sg_run_plan.specs.declared.inlet.InletPlan.{InletPlan}
@@ -56,6 +56,7 @@ use Rattle.sg_run_plan.specs.declared.plan.RunPlan.{RunPlan}
 use Rattle.sg_one_run.specs.Headline.{frame_planned, frame_at, records_of, TakesPrefixes, TakesThese, ShowsAccepted, Headline, Delivers, RunsDeliver}
 use Rattle.sg_one_run.proofs.PreludeLemmas.{get-back, AreStill, still-rewinds, still-either, admitted-later, dest-behind, opened-many}
 use Rattle.sg_one_run.proofs.SourceLemmas.{nothing-read, planned-of, source-texts, no-texts}
+use Rattle.sg_one_run.proofs.FaultLemmas.{shows-faults}
 use Rattle.sg_one_run.proofs.DestLemmas.{sendings-of}
 
 -- What a destination's outlet took, by its sendings.
@@ -219,6 +220,7 @@ headline-of offers files plan routers reached run laws holds makes accepted text
       later = h.0;
       ran = ran;
       accepted = accepted h.0 ran;
+      faults = shows-faults plan reached run holds.core makes;
       holds = record {
         texts = texts start h.0 stands.legal h.1.1;
         taken = taken start h.0 ran;

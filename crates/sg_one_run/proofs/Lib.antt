@@ -8,6 +8,7 @@ pub mod SeenLemmas
 pub mod TakenLemmas
 pub mod HeadLemmas
 pub mod DueLemmas
+pub mod FaultLemmas
 pub mod AskedLemmas
 pub mod PreludeLemmas
 pub mod SourceLemmas

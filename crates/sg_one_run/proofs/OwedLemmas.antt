@@ -14,6 +14,7 @@ use Rattle.sg_machine.specs.Effects.{settled_some, spool_first, spool_some, refi
 use Rattle.sg_machine.specs.Marks.{is_owed_to, is_acked}
 use Rattle.sg_machine.specs.Verdicts.{Claim, claims_in, claims_from, claims_of, origin_of, entry_from, take_offer, take_claim, take_claims}
 use Rattle.sg_machine.proofs.RunLemmas.{both-true}
+use Rattle.sg_machine.proofs.RecordLemmas.{length-claims}
 use Rattle.sg_machine.proofs.WindowLaws.{is_clear, clear-head, clear-tail, clear-join}
 use Rattle.sg_actor.specs.Reading.{one_if}
 use Rattle.sg_one_run.specs.Counts.{offers_of}
@@ -89,13 +90,13 @@ falls-drop i zero es = falls-same i es
 falls-drop i (suc n) [] = falls-same i []
 falls-drop i (suc n) (e ∷ es) = falls-gone i e es (drop n es) (owes i e) refl (falls-drop i n es)
 
-spooled-owes : (b : Bool) → (b && not true) ≡ false
-spooled-owes true = refl
-spooled-owes false = refl
+pub and-not-true : (b : Bool) → (b && not true) ≡ false
+and-not-true true = refl
+and-not-true false = refl
 
 falls-spooled : (i : ℕ) (e : Entry) (es : List Entry) (b : Bool) → owes i e ≡ b → Falls i (e ∷ es) (record e { spooled = true } ∷ es)
 falls-spooled i e es b is =
-    let none : owes i (record e { spooled = true }) ≡ false = spooled-owes (e.inlet == i) in
+    let none : owes i (record e { spooled = true }) ≡ false = and-not-true (e.inlet == i) in
     let gone = falls-gone i e es es b is (falls-same i es) in
     let zero-is : one_if (owes i (record e { spooled = true })) ≡ 0 = ap one_if none in
     record {
@@ -229,15 +230,11 @@ claims-more i j next ds (c ∷ cs) (v ∷ vs) =
     omega (arith, one, rest)
 
 -- as many claims as offers
-claims-in-length : (place end : ℕ) (os : List Offer) → length (claims_in place end os) ≡ length os
-claims-in-length place end [] = refl
-claims-in-length place end (o ∷ os) = ap suc (claims-in-length place end os)
-
 claims-from-length : (place : ℕ) (rs : List Admission) → length (claims_from place rs) ≡ offers_of rs
 claims-from-length place [] = refl
 claims-from-length place (r ∷ rs) =
     let both = length-append (claims_in place r.end r.offers) (claims_from (place + 1) rs) in
-    let one = claims-in-length place r.end r.offers in
+    let one = length-claims place r.end r.offers in
     let rest = claims-from-length (place + 1) rs in
     omega (arith, both, one, rest)
 

@@ -16,7 +16,7 @@ use Rattle.sg_counter.specs.declared.calls.CoreCall.TheVariants.{Credit, Admit, 
 use Rattle.sg_counter.specs.declared.calls.CoreReply.{CoreReply}
 use Rattle.sg_counter.specs.declared.calls.CoreReply.TheVariants.{Credit as CreditReply, Admitted, Front as FrontReply, Settled, Refilled, Stored}
 use Rattle.sg_stores.specs.Stores.{StoreState, AllGo}
-use Rattle.sg_stores.proofs.StoreLemmas.{goes_trans}
+use Rattle.sg_stores.proofs.StoreLemmas.{all_go_trans}
 use Rattle.sg_standing.specs.States.{CoreState, setup_of}
 use Rattle.sg_standing.specs.Standing.{IsAt, Does}
 use Rattle.sg_standing.proofs.Calls.{all-go-same}
@@ -49,15 +49,6 @@ RoseOf olds news u = (old new : StoreState) → slice_get olds u ≡ Some old �
 
 pub rose-wide : (a b c d : ℕ) → a ≤ b → Rose b c → c ≤ d → Rose a d
 rose-wide a b c d h r k = grind (arith, h, r, k)
-
-pub all-go-then : (olds mids news : List StoreState) → AllGo olds mids → AllGo mids news → AllGo olds news
-all-go-then olds mids news p q = record {
-  count = q.count ∙ p.count;
-  each = λ u old new h k.
-      let low = slice_get-below olds u old h in
-      let mid = slice_get-some mids u (let n = p.count in omega (arith, low, n)) in
-      goes_trans old mid.0 new (p.each u old mid.0 h mid.1) (q.each u mid.0 new mid.1 k);
-}
 
 rose-first : (olds mids news : List StoreState) (u : ℕ) → AllGo olds mids → AllGo mids news → RoseOf olds mids u → RoseOf olds news u
 rose-first olds mids news u p q rose old new h k =
@@ -120,7 +111,7 @@ went-does old new act s does at = record {
 pub went-then : (a b c : CoreState) (s t u : State) → Went a b s t → Went b c t u → Went a c s u
 went-then a b c s t u p q = record {
   at = q.at;
-  goes = all-go-then a.stores b.stores c.stores p.goes q.goes;
+  goes = all_go_trans a.stores b.stores c.stores p.goes q.goes;
   setup = q.setup ∙ p.setup;
   kept = λ v h. q.kept v (p.kept v h);
   rose = λ v h.

@@ -1,7 +1,8 @@
 -- What is kept of offers is their texts, less the dropped ones.
-use Rattle.std.proofs.Common.{◌≡◌, ℕ, ◌+◌, List, [], ◌∷◌, ◌++◌, length, length-append, Some, None, Bool, true, false, not, ◌&&◌, refl, sym, ap, ◌∙◌, arith, map, append_assoc, if◌then◌else◌, suc}
+use Rattle.std.proofs.Common.{◌≡◌, ℕ, ◌+◌, List, [], ◌∷◌, ◌++◌, length, length-append, Some, Bool, true, false, not, ◌&&◌, refl, sym, ap, ◌∙◌, arith, map, append_assoc, if◌then◌else◌, suc}
 use Rattle.std.specs.Prelude.{◌==◌, slice_get}
 use Rattle.std.proofs.lemmas.List.{map-append}
+use Rattle.std.proofs.lemmas.Option.{none-some}
 use Rattle.sg_msg.specs.Message.{Content}
 use Rattle.sg_msg.specs.declared.offer.Offer.{Offer}
 use Rattle.sg_frame.specs.Records.{Record}
@@ -46,19 +47,16 @@ texts-claims frame d place (r ∷ rs) = claim-texts-in frame d place r.end r.off
 
 -- Verdicts.
 
-none-is-not : (x : List ℕ) → None ≡ Some x → ⊥
-none-is-not x h = cc
-
 -- each claim has its verdict
 pub judged-lengths : (i next : ℕ) (failing : List ℕ) (ds : List Dest) (failed : List ℕ) (cs : List Claim) (vs : List Verdict) (x : List ℕ) → judged i next failing ds failed cs vs ≡ Some x → length cs ≡ length vs
 judged-lengths i next failing ds failed [] [] x h = refl
-judged-lengths i next failing ds failed [] (v ∷ vs) x h = absurd (none-is-not x h)
-judged-lengths i next failing ds failed (c ∷ cs) [] x h = absurd (none-is-not x h)
+judged-lengths i next failing ds failed [] (v ∷ vs) x h = absurd (none-some x h)
+judged-lengths i next failing ds failed (c ∷ cs) [] x h = absurd (none-some x h)
 judged-lengths i next failing ds failed (c ∷ cs) (v ∷ vs) x h =
     let parts = then-some (judged_at (slice_get ds c.offer.dest) failing failed c.offer v) (λ f. judged i next failing (take_claim i next ds c v) f cs vs) x h in
     ap suc (judged-lengths i next failing (take_claim i next ds c v) parts.0 cs vs x parts.2)
 
-suc-same : (a b : ℕ) → suc a ≡ suc b → a ≡ b
+pub suc-same : (a b : ℕ) → suc a ≡ suc b → a ≡ b
 suc-same a b h = omega (arith, h)
 
 -- what is kept of the offers to d, which of them are dropped, and their texts

@@ -31,7 +31,7 @@ use Rattle.sg_one_run.proofs.CalmLemmas.{IsCalm, AllCalm}
 abbrev pub nothing_done : Turned
 nothing_done = record { did = false; idle = false }
 
-either-false : (a b : Bool) → (a || b) ≡ false → (a ≡ false) × (b ≡ false)
+pub either-false : (a b : Bool) → (a || b) ≡ false → (a ≡ false) × (b ≡ false)
 either-false true b h = absurd (let wrong : true ≡ false = h in cc)
 either-false false b h = (refl, h)
 

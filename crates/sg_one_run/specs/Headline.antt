@@ -30,6 +30,7 @@ use Rattle.sg_run_plan.specs.declared.inlet.InletPlan.{InletPlan}
 use Rattle.sg_run_plan.specs.declared.outlet.OutletPlan.{OutletPlan}
 use Rattle.sg_one_run.specs.Calls.{Ran}
 use Rattle.sg_one_run.specs.Drops.{AreDue}
+use Rattle.sg_one_run.specs.Failing.{ShowsFaults}
 use Rattle.sg_one_run.specs.Fronts.{IsDest, TakesSettled, ShowsTaken}
 use Rattle.sg_one_run.specs.Texts.{taken_from, TakesFirst}
 use Rattle.sg_one_run.specs.Laws.{StayWithin}
@@ -117,6 +118,8 @@ pub record Headline {R : Type 0} (offers : R → ℕ → Record → List Offer �
   pub ran : Ran run.begun run.last run.made (opened plan.setup opens.opening) run.prelude later
   -- accepted: what is settled at any moment had been taken before
   pub accepted : ShowsAccepted reached run
+  -- a store has failed, and a reply or a drop tells it, exactly where a call on its disk has answered a fault
+  pub faults : ShowsFaults reached run
   pub holds : HeadlineOf offers plan routers reached run (opened plan.setup opens.opening)
       (run.prelude ++ later)
 

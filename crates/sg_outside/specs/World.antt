@@ -74,19 +74,24 @@ IsBeyond None name limit = Unit {0}
 IsBeyond (Some files) name limit = (bytes : List ℕ)
     × ((files name ≡ Some bytes) × (limit < length bytes))
 
--- the state but for the count of failed readings, which doesn't fall, and the name at the last of them
+-- readings: the state but for the count of those that failed, which doesn't fall, and the name at the last of them
 abbrev pub OnlyReads : WorldState → WorldState → Type 0
 OnlyReads old new = (new ≡ record old { read_faults = new.read_faults; unread = new.unread })
     × (old.read_faults ≤ new.read_faults)
 
+-- in a reading that didn't fail no name is noted: the last one that failed stays
+abbrev pub KeepsUnread : WorldState → WorldState → Type 0
+KeepsUnread old new = new.unread ≡ old.unread
+
 -- a reading gives the whole file
 abbrev pub Reads : WorldState → WorldState → List ℕ → ℕ → Result (Vec ℕ Global) FileRefusal → Type 0
 Reads old new name limit (Ok bytes) = OnlyReads old new × IsContent old.files name bytes.items
-    × (length bytes.items ≤ limit)
+    × (length bytes.items ≤ limit) × KeepsUnread old new
 Reads old new name limit (Err Failed) = OnlyReads old new × Rose old.read_faults new.read_faults
     × (new.unread ≡ Some name)
 Reads old new name limit (Err TooLong) = OnlyReads old new × IsBeyond old.files name limit
-Reads old new name limit (Err NoMemory) = OnlyReads old new
+    × KeepsUnread old new
+Reads old new name limit (Err NoMemory) = OnlyReads old new × KeepsUnread old new
 
 -- the state but for the count of patterns refused as too large, which doesn't fall
 abbrev pub OnlyBuilds : WorldState → WorldState → Type 0

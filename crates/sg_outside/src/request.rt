@@ -8,6 +8,9 @@ use sg_device::{Name, NoMemory};
 pub struct StoreSpec {
     pub name: Name,
     pub create: bool,
+    /// The bytes with which a file is made, at least 128, so that no disk is too full for them later. In
+    /// memory a store begins with 128.
+    pub size: u64,
 }
 
 impl StoreSpec {
@@ -18,6 +21,7 @@ impl StoreSpec {
         Ok(StoreSpec {
             name: self.name.copy()?,
             create: self.create,
+            size: self.size,
         })
     }
 }

@@ -23,7 +23,10 @@ unfoldable pub words_of : Choice → List (List ℕ)
 words_of choice.PatternKind = codes "pcre" ∷ codes "string" ∷ codes "glob" ∷ []
 words_of choice.PatternFlag = codes "ignore-case" ∷ codes "prefix" ∷ codes "substring" ∷ []
 words_of choice.SubstFlag = codes "ignore-case" ∷ codes "prefix" ∷ codes "substring" ∷ codes "global" ∷ []
-words_of choice.SourceFlag = codes "no-parse" ∷ codes "syslog-protocol" ∷ codes "empty-lines" ∷ codes "kernel" ∷ codes "assume-utf8" ∷ codes "dont-store-legacy-msghdr" ∷ codes "expect-hostname" ∷ []
+words_of choice.SourceFlag =
+    codes "no-parse" ∷ codes "syslog-protocol" ∷ codes "empty-lines" ∷ codes "kernel"
+    ∷ codes "assume-utf8" ∷ codes "dont-store-legacy-msghdr" ∷ codes "expect-hostname"
+    ∷ codes "no-multi-line" ∷ []
 words_of choice.Transport = codes "tcp" ∷ []
 words_of choice.StampForm = codes "bsd" ∷ codes "rfc3164" ∷ codes "iso" ∷ codes "rfc3339" ∷ []
 

@@ -88,6 +88,7 @@ fn is_choice(choice: Choice, text: &[u8]) -> bool
                 b"assume-utf8",
                 b"dont-store-legacy-msghdr",
                 b"expect-hostname",
+                b"no-multi-line",
             ],
         ),
         Choice::Transport => is_one_of(text, &[b"tcp"]),

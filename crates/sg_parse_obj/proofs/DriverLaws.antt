@@ -22,7 +22,7 @@ use Rattle.sg_parse_obj.specs.declared.table.OptionForm.{OptionForm}
 use Rattle.sg_parse_obj.specs.declared.table.OptionForm.TheVariants as option
 use Rattle.sg_parse_obj.specs.declared.table.DriverForm.{DriverForm}
 use Rattle.sg_parse_obj.specs.declared.table.DriverForm.TheVariants as driver
-use Rattle.sg_parse_obj.specs.declared.table.Table.{Table}
+use Rattle.sg_parse_obj.specs.declared.table.OptionTable.{OptionTable}
 use Rattle.sg_parse_obj.specs.declared.driver.Side.{Side}
 use Rattle.sg_parse_obj.specs.declared.templates.TemplateItem.{TemplateItem}
 use Rattle.sg_parse_obj.specs.declared.templates.TemplateItem.TheVariants as item
@@ -41,7 +41,7 @@ unfolding d.option_args
 option_args-law (option.Flat form) = flat_args-law form
 option_args-law option.Disk = many-law d.disk_option DiskOption disk_option-law
 
-driver_option-law : (table : Table) → Agrees (d.driver_option table) (DriverOption table)
+driver_option-law : (table : OptionTable) → Agrees (d.driver_option table) (DriverOption table)
 unfolding d.driver_option
 driver_option-law table = nested-law (option_form table) d.option_args OptionArgs option_args-law
 

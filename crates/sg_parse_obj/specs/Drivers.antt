@@ -10,7 +10,7 @@ use Rattle.sg_parse_obj.specs.declared.table.OptionForm.{OptionForm}
 use Rattle.sg_parse_obj.specs.declared.table.OptionForm.TheVariants as option
 use Rattle.sg_parse_obj.specs.declared.table.DriverForm.{DriverForm}
 use Rattle.sg_parse_obj.specs.declared.table.DriverForm.TheVariants as form
-use Rattle.sg_parse_obj.specs.declared.table.Table.{Table}
+use Rattle.sg_parse_obj.specs.declared.table.OptionTable.{OptionTable}
 use Rattle.sg_parse_obj.specs.declared.driver.Side.{Side}
 use Rattle.sg_parse_obj.specs.declared.driver.Side.TheVariants as side
 use Rattle.sg_parse_obj.specs.Tables.{source_drivers, destination_drivers, disk, global_form, option_form}
@@ -22,7 +22,7 @@ unfoldable pub option_args : OptionForm → Parser (List Arg)
 option_args (option.Flat form) = flat_args form
 option_args option.Disk = many disk_option
 
-unfoldable pub driver_option : Table → Parser Arg
+unfoldable pub driver_option : OptionTable → Parser Arg
 driver_option table = nested (called (option_form table) option_args)
 
 unfoldable pub driver_args : DriverForm → Parser (List Arg)

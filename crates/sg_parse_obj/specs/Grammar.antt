@@ -17,7 +17,7 @@ use Rattle.sg_parse_obj.specs.declared.table.OptionForm.{OptionForm}
 use Rattle.sg_parse_obj.specs.declared.table.OptionForm.TheVariants as option
 use Rattle.sg_parse_obj.specs.declared.table.DriverForm.{DriverForm}
 use Rattle.sg_parse_obj.specs.declared.table.DriverForm.TheVariants as driver
-use Rattle.sg_parse_obj.specs.declared.table.Table.{Table}
+use Rattle.sg_parse_obj.specs.declared.table.OptionTable.{OptionTable}
 use Rattle.sg_parse_obj.specs.declared.driver.Side.{Side}
 use Rattle.sg_parse_obj.specs.declared.driver.Side.TheVariants as side
 use Rattle.sg_parse_obj.specs.declared.templates.TemplateItem.{TemplateItem}
@@ -35,7 +35,7 @@ abbrev pub OptionArgs : OptionForm → Stands (List Arg)
 OptionArgs (option.Flat form) = FlatArgs form
 OptionArgs option.Disk = Many DiskOption
 
-abbrev pub DriverOption : Table → Stands Arg
+abbrev pub DriverOption : OptionTable → Stands Arg
 DriverOption table = Option_of (option_form table) OptionArgs
 
 abbrev pub DriverArgs : DriverForm → Stands (List Arg)

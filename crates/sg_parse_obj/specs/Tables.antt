@@ -10,8 +10,8 @@ use Rattle.sg_parse_obj.specs.declared.table.OptionForm.{OptionForm}
 use Rattle.sg_parse_obj.specs.declared.table.OptionForm.TheVariants as option
 use Rattle.sg_parse_obj.specs.declared.table.DriverForm.{DriverForm}
 use Rattle.sg_parse_obj.specs.declared.table.DriverForm.TheVariants as driver
-use Rattle.sg_parse_obj.specs.declared.table.Table.{Table}
-use Rattle.sg_parse_obj.specs.declared.table.Table.TheVariants as table
+use Rattle.sg_parse_obj.specs.declared.table.OptionTable.{OptionTable}
+use Rattle.sg_parse_obj.specs.declared.table.OptionTable.TheVariants as table
 
 -- drivers of sources
 unfoldable pub source_drivers : List (List ℕ × DriverForm)
@@ -102,7 +102,7 @@ disk =
     ∷ (codes "flow-control-window-bytes", flat.Skipped)
     ∷ (codes "flow-control-window-size", flat.Skipped)
     ∷ (codes "truncate-size-ratio", flat.Skipped)
-    ∷ (codes "prealloc", flat.Skipped)
+    ∷ (codes "prealloc", flat.One class.Truth)
     ∷ (codes "compaction", flat.Skipped)
     ∷ []
 
@@ -184,7 +184,7 @@ either (Some form) other = Some form
 either None other = other
 
 -- the form of an option that has an effect at these drivers
-unfoldable pub own_form : Table → List ℕ → Option OptionForm
+unfoldable pub own_form : OptionTable → List ℕ → Option OptionForm
 own_form table.FileSource text = row_of source text
 own_form table.NetworkSource text = either (row_of listener text) (row_of source text)
 own_form table.FileDestination text = either (row_of writer text) (row_of destination text)
@@ -197,5 +197,5 @@ as_flat (Some form) = Some (option.Flat form)
 as_flat None = None
 
 -- the form of an option of these drivers
-unfoldable pub option_form : Table → List ℕ → Option OptionForm
+unfoldable pub option_form : OptionTable → List ℕ → Option OptionForm
 option_form table text = either (own_form table text) (as_flat (row_of without_effect text))

@@ -4,7 +4,7 @@ ghost use Rattle.sg_parse_base.specs.Input.{Reads};
 ghost use Rattle.sg_parse_obj.specs.Drivers as spec;
 
 use crate::table::{
-    DriverForm, OptionForm, Table, destination_driver, disk_form, global_form, option_form,
+    DriverForm, OptionForm, OptionTable, destination_driver, disk_form, global_form, option_form,
     source_driver,
 };
 use sg_parse_base::{Cursor, Rule, Stop, body, many, unsupported, word};
@@ -55,7 +55,7 @@ fn option_args(alloc: Global, cursor: &mut Cursor<'_>, form: OptionForm) -> Resu
 }
 
 #[tactic(auto, unfolding(crate::specs::Drivers::driver_option, sg_parse_expr::specs::Args::nested, sg_parse_expr::specs::Args::called))]
-fn driver_option(alloc: Global, cursor: &mut Cursor<'_>, table: Table) -> Result<Arg, Stop>
+fn driver_option(alloc: Global, cursor: &mut Cursor<'_>, table: OptionTable) -> Result<Arg, Stop>
     ensures { Reads (spec.driver_option table cursor.old) result cursor.new }
 {
     let spot = word(cursor)?;
@@ -68,7 +68,7 @@ fn driver_option(alloc: Global, cursor: &mut Cursor<'_>, table: Table) -> Result
 
 #[derive(Drop)]
 struct DriverOption {
-    table: Table,
+    table: OptionTable,
 }
 
 impl Rule for DriverOption {

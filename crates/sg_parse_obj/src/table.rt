@@ -15,7 +15,7 @@ pub enum OptionForm {
 
 /// The options of a driver.
 #[derive(Clone, Copy, Drop)]
-pub enum Table {
+pub enum OptionTable {
     FileSource,
     NetworkSource,
     FileDestination,
@@ -26,29 +26,32 @@ pub enum Table {
 /// The form of a driver's arguments.
 #[derive(Clone, Copy, Drop)]
 pub enum DriverForm {
-    Options(Table),
+    Options(OptionTable),
     /// A value and options.
-    Named(Class, Table),
+    Named(Class, OptionTable),
 }
 
 const SOURCE_DRIVERS: [(&[u8], DriverForm); 3] = [
-    (b"file", DriverForm::Named(Class::Name, Table::FileSource)),
-    (b"network", DriverForm::Options(Table::NetworkSource)),
-    (b"syslog", DriverForm::Options(Table::NetworkSource)),
+    (
+        b"file",
+        DriverForm::Named(Class::Name, OptionTable::FileSource),
+    ),
+    (b"network", DriverForm::Options(OptionTable::NetworkSource)),
+    (b"syslog", DriverForm::Options(OptionTable::NetworkSource)),
 ];
 
 const DESTINATION_DRIVERS: [(&[u8], DriverForm); 3] = [
     (
         b"file",
-        DriverForm::Named(Class::FileName, Table::FileDestination),
+        DriverForm::Named(Class::FileName, OptionTable::FileDestination),
     ),
     (
         b"network",
-        DriverForm::Named(Class::Name, Table::NetworkDestination),
+        DriverForm::Named(Class::Name, OptionTable::NetworkDestination),
     ),
     (
         b"syslog",
-        DriverForm::Named(Class::Name, Table::SyslogDestination),
+        DriverForm::Named(Class::Name, OptionTable::SyslogDestination),
     ),
 ];
 
@@ -133,7 +136,7 @@ const DISK: [(&[u8], Flat); 13] = [
     (b"flow-control-window-bytes", Flat::Skipped),
     (b"flow-control-window-size", Flat::Skipped),
     (b"truncate-size-ratio", Flat::Skipped),
-    (b"prealloc", Flat::Skipped),
+    (b"prealloc", Flat::One(Class::Truth)),
     (b"compaction", Flat::Skipped),
 ];
 
@@ -290,15 +293,18 @@ pub fn global_form(text: &[u8]) -> Option<Flat>
 
 /// The form of an option of the drivers' that has an effect.
 #[tactic(auto, unfolding(crate::specs::Tables::own_form))]
-fn own_form(table: Table, text: &[u8]) -> Option<OptionForm>
+fn own_form(table: OptionTable, text: &[u8]) -> Option<OptionForm>
     ensures { result ≡ spec.own_form table text.now }
 {
     match table {
-        Table::FileSource => source(text),
-        Table::NetworkSource => either(listener(text), source(text)),
-        Table::FileDestination => either(writer(text), destination(text)),
-        Table::NetworkDestination => either(framed(text), either(sender(text), destination(text))),
-        Table::SyslogDestination => either(sender(text), destination(text)),
+        OptionTable::FileSource => source(text),
+        OptionTable::NetworkSource => either(listener(text), source(text)),
+        OptionTable::FileDestination => either(writer(text), destination(text)),
+        OptionTable::NetworkDestination => either(
+            framed(text),
+            either(sender(text), destination(text)),
+        ),
+        OptionTable::SyslogDestination => either(sender(text), destination(text)),
     }
 }
 
@@ -313,7 +319,7 @@ fn either(form: Option<OptionForm>, other: Option<OptionForm>) -> Option<OptionF
 
 /// The form of an option of a driver.
 #[tactic(auto, unfolding(crate::specs::Tables::option_form))]
-pub fn option_form(table: Table, text: &[u8]) -> Option<OptionForm>
+pub fn option_form(table: OptionTable, text: &[u8]) -> Option<OptionForm>
     ensures { result ≡ spec.option_form table text.now }
 {
     match own_form(table, text) {

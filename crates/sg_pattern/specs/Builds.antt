@@ -1,12 +1,14 @@
 -- What building a pattern answers.
 use Rattle.std.specs.Prelude.{◌≡◌, ℕ, Bool, List, [], None, Result, Ok, Err, IsSome, IsSomeAnd}
+use Rattle.std.specs.Borrow.{Bor}
 use Rattle.sg_device.specs.Faults.{Rose}
 use Rattle.sg_outside.specs.World.{WorldState, OnlyBuilds}
 use Rattle.regex.specs.Patterns.{Re, SameCaptures}
 use Rattle.regex.specs.Bytes.{regex_pattern}
 use Rattle.regex.specs.declared.bytes.regex.Regex as kit
 use Rattle.sg_pattern.specs.Pattern.{Pattern, regex_of, pattern_of, IsValid, IsNoPattern}
-use Rattle.sg_pattern.specs.declared.pattern.Kind.TheVariants.{Regex}
+use Rattle.sg_pattern.specs.declared.pattern.Kind.{Kind}
+use Rattle.sg_pattern.specs.declared.pattern.Kind.TheVariants.{Regex, Text, Glob}
 use Rattle.sg_pattern.specs.declared.fault.BuildFault.{BuildFault}
 use Rattle.sg_pattern.specs.declared.fault.BuildFault.TheVariants.{Syntax, TooLarge, NoMemory}
 use Rattle.sg_pattern.specs.declared.fault.PatternRefusal.{PatternRefusal}
@@ -39,6 +41,11 @@ refusing_machine count = record {
 abbrev pub MatchesAs : Bool → List ℕ → Re → Type 0
 MatchesAs ignore_case text re = IsSomeAnd (regex_of ignore_case text) (SameCaptures re)
 
+-- the answer of a builder, which lends what it made
+abbrev pub answer_of : Result (Bor kit.Regex) BuildFault → Result kit.Regex BuildFault
+answer_of (Ok regex) = Ok regex.now
+answer_of (Err fault) = Err fault
+
 abbrev pub Builds : WorldState → WorldState → List ℕ → Bool → Result kit.Regex BuildFault → Type 0
 Builds old new text ignore_case (Ok regex) = OnlyBuilds old new
     × MatchesAs ignore_case text (regex_pattern regex) × (new.build_faults ≡ old.build_faults)
@@ -47,6 +54,39 @@ Builds old new text ignore_case (Err Syntax) = OnlyBuilds old new
 Builds old new text ignore_case (Err TooLarge) = OnlyBuilds old new
     × Rose old.build_faults new.build_faults × IsSome (regex_of ignore_case text)
 Builds old new text ignore_case (Err NoMemory) = OnlyBuilds old new
+
+-- no pattern was refused for its size
+abbrev pub RefusesNone : WorldState → WorldState → Type 0
+RefusesNone old new = new.build_faults ≡ old.build_faults
+
+-- the calls of a builder: the builder before, the text, whether case doesn't count, the answer, and the builder behind
+abbrev pub Calls : Type 0 → Type 1
+Calls S = S → List ℕ → Bool → Result kit.Regex BuildFault → S → Type 0
+
+-- as the machine shows them
+abbrev pub machine_calls : Calls WorldState
+machine_calls = λ old text ignore_case result new. Builds old new text ignore_case result
+
+-- a builder's own, with what the machine shows of them
+abbrev pub calls_by : {S : Type 0} → (S → WorldState) → Calls S → Calls S
+calls_by state step = λ old text ignore_case result new.
+    step old text ignore_case result new × Builds (state old) (state new) text ignore_case result
+
+-- A regular expression is made by one call of a builder, any other pattern without one.
+abbrev pub makes_kind : {S : Type 0} → Calls S → Kind → S → List ℕ → Bool → S → Type 0
+makes_kind step Regex old text ignore_case new = (regex : kit.Regex)
+    × step old text ignore_case (Ok regex) new
+makes_kind step Text old text ignore_case new = new ≡ old
+makes_kind step Glob old text ignore_case new = new ≡ old
+
+-- the pattern was made
+abbrev pub MakesOne : {S : Type 0} → Calls S → S → PatternText → S → Type 0
+MakesOne step old p new = makes_kind step p.kind old p.text p.flags.ignore_case new
+
+-- its builder refused it for its size
+abbrev pub RefusesLarge : {S : Type 0} → Calls S → S → PatternText → S → Type 0
+RefusesLarge step old p new = (p.kind ≡ Regex)
+    × step old p.text p.flags.ignore_case (Err TooLarge) new
 
 -- a regular expression of the pattern, as the builder makes it
 pub record IsBuilt (p : Pattern) : Type 0 where
@@ -70,3 +110,13 @@ RefusesText old new p (build.BadPattern line) = (line ≡ p.line) × IsNoPattern
 RefusesText old new p (build.TooLarge line) = (line ≡ p.line) × (p.kind ≡ Regex)
     × Rose old.build_faults new.build_faults × IsValid (pattern_of p)
 RefusesText old new p build.NoMemory = Unit {0}
+
+-- what making a pattern comes to, by the calls of its builder
+abbrev pub TriesText : {S : Type 0} → Calls S → S → S → PatternText → Result Unit BuildRefusal
+    → Type 0
+TriesText step old new p (Ok done) = MakesOne step old p new
+TriesText step old new p (Err (build.BadPattern line)) = (line ≡ p.line)
+    × IsNoPattern (pattern_of p)
+TriesText step old new p (Err (build.TooLarge line)) = (line ≡ p.line)
+    × RefusesLarge step old p new
+TriesText step old new p (Err build.NoMemory) = Unit {0}

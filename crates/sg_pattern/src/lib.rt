@@ -3,17 +3,25 @@
 
 mod builder;
 mod engine;
+mod expressions;
 mod fault;
 mod glob;
+mod kept;
 mod literal;
+mod making;
 mod matcher;
 mod pattern;
+mod patterns;
 mod search;
+mod searcher;
 mod text;
+mod trying;
 
-pub use builder::{Builder, Patterns};
+pub use builder::Builder;
 pub use fault::{BuildFault, PatternRefusal};
 pub use glob::glob_matches;
 pub use matcher::Matcher;
 pub use pattern::{Flags, Kind};
+pub use patterns::Patterns;
 pub use text::{BuildRefusal, PatternText};
+pub use trying::try_text;

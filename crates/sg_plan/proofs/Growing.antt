@@ -1,7 +1,6 @@
 -- How many sources and stores a plan has, one driver after another.
 use Rattle.std.proofs.Common.{◌≡◌, ℕ, ◌+◌, ◌≤◌, List, ◌∷◌, ◌++◌, length, Option, Some, None, ◌∙◌, ap, sym, arith}
 use Rattle.std.specs.List.{fold}
-use Rattle.std.specs.Option.{option_map}
 use Rattle.std.proofs.lemmas.List.{length-append, length_push}
 use Rattle.sg_outside.specs.declared.request.StoreSpec.{StoreSpec}
 use Rattle.sg_source.specs.Inlets.{store_at}
@@ -10,7 +9,14 @@ use Rattle.sg_plan.specs.declared.owner.Owner.{Owner}
 use Rattle.sg_plan.specs.declared.driver.Driver.{Driver}
 use Rattle.sg_plan.specs.declared.driver.Driver.TheVariants as driver
 use Rattle.sg_plan.specs.declared.driver.OwnedDriver.{OwnedDriver}
-use Rattle.sg_plan.specs.Parts.{Parts, stores_by, with_one, with_driver}
+use Rattle.sg_plan.specs.Parts.{Parts, stores_by, buffer_stores, with_one, with_driver}
+
+one-buffer : (buffer : Option DiskBuffer) → length (buffer_stores buffer) ≤ 1
+one-buffer None = omega arith
+one-buffer (Some buffer) = omega arith
+
+buffer-grows : (stores : List StoreSpec) (buffer : Option DiskBuffer) → length (stores ++ buffer_stores buffer) ≤ length stores + 1
+buffer-grows stores buffer = (let p = length-append stores (buffer_stores buffer) in let q = one-buffer buffer in omega arith)
 
 one-store : (store : Option (List ℕ)) → length (stores_by store) ≤ 1
 one-store None = omega arith
@@ -25,7 +31,7 @@ one-source parts owner (driver.Destination dest) = omega arith
 
 one-store-more : (parts : Parts) (owner : Owner) (one : Driver) → length (with_one parts owner one).stores ≤ length parts.stores + 1
 one-store-more parts owner (driver.Source source) = stores-grow parts.stores (store_at source.place)
-one-store-more parts owner (driver.Destination dest) = stores-grow parts.stores (option_map (λ (b : DiskBuffer). b.store) dest.buffer)
+one-store-more parts owner (driver.Destination dest) = buffer-grows parts.stores dest.buffer
 
 -- a turn over the drivers that are left
 pub turn-parts : (old new end : Parts) (owned : OwnedDriver) (all rest : List OwnedDriver) → all ≡ owned ∷ rest → new ≡ with_driver old owned → fold with_driver old all ≡ end → fold with_driver new rest ≡ end

@@ -1,14 +1,17 @@
 -- Drivers read one after another.
-use Rattle.std.proofs.Common.{◌≡◌, ◌∙◌, ℕ, ◌+◌, ◌<◌, ◌≤◌, List, [], ◌∷◌, ◌++◌, length, get_or, take, map, sym, ap, subst}
+use Rattle.std.specs.declared.alloc.Global.{Global}
+use Rattle.std.proofs.Common.{◌≡◌, ◌∙◌, ℕ, ◌+◌, ◌<◌, ◌≤◌, List, [], ◌∷◌, ◌++◌, length, get_or, take, map, Vec, refl, sym, ap, subst}
 use Rattle.std.specs.List.{flat_map}
 use Rattle.std.proofs.lemmas.List.{take_more, take_all, append-nil, append_assoc, map-append}
 use Rattle.sg_parse_expr.specs.declared.tree.Call.{Call}
 use Rattle.sg_parse_obj.specs.declared.driver.Side.{Side}
 use Rattle.sg_plan.specs.declared.owner.Owner.{Owner}
-use Rattle.sg_resolve.proofs.Leasts.{flat-push}
+use Rattle.sg_visit.specs.Leaves.{Leaves}
+use Rattle.sg_visit.specs.Visits.{Visits}
+use Rattle.sg_visit.proofs.Visiting.{visits-joined}
 use Rattle.sg_plan.specs.declared.globals.Globals.{Globals}
 use Rattle.sg_plan.specs.declared.driver.OwnedDriver.{OwnedDriver}
-use Rattle.sg_plan.specs.Owned.{Owned}
+use Rattle.sg_plan.specs.Owned.{Owned, leaf_owned}
 use Rattle.sg_plan.specs.Reading.{AreRead, Reads}
 
 pub are-read-append : (globals : Globals) (ws vs : Owned) (ds es : List OwnedDriver) → AreRead globals ws ds → AreRead globals vs es → AreRead globals (ws ++ vs) (ds ++ es)
@@ -28,20 +31,7 @@ reads-join globals a b c ws vs zs p q whole = record {
   read = subst (λ os. AreRead globals os (p.more ++ q.more)) whole (are-read-append globals ws vs p.more q.more p.read q.read);
 }
 
-pub reads-same : (globals : Globals) (a b : List OwnedDriver) (ws zs : Owned) → Reads globals ws a b → ws ≡ zs → Reads globals zs a b
-reads-same globals a b ws zs p whole = subst (λ os. Reads globals os a b) whole p
-
--- one more of several things that each have some
-pub reads-more : {X : Type 0} (globals : Globals) (parts : X → Owned) (a b c : List OwnedDriver) (xs : List X) (i : ℕ) (x : X) → i < length xs → x ≡ get_or xs i x
-    → Reads globals (flat_map parts (take i xs)) a b → Reads globals (parts x) b c → Reads globals (flat_map parts (take (i + 1) xs)) a c
-reads-more globals parts a b c xs i x within item before here =
-    reads-join globals a b c (flat_map parts (take i xs)) (parts x) (flat_map parts (take (i + 1) xs)) before here
-    (ap (λ y. flat_map parts (take i xs) ++ parts y) item ∙ sym (flat-push parts (take i xs) (get_or xs i x)) ∙ ap (flat_map parts) (sym (take_more xs i x within)))
-
-pub reads-all : {X : Type 0} (globals : Globals) (parts : X → Owned) (a b : List OwnedDriver) (xs : List X) (i : ℕ) → length xs ≤ i → Reads globals (flat_map parts (take i xs)) a b → Reads globals (flat_map parts xs) a b
-reads-all globals parts a b xs i past before = subst (λ ys. Reads globals (flat_map parts ys) a b) (take_all i xs past) before
-
--- the same for things that each are one
+-- one more of several things that each are one
 pub reads-one : {X : Type 0} (globals : Globals) (one : X → Owner × (Side × Call)) (a b c : List OwnedDriver) (xs : List X) (i : ℕ) (x : X) → i < length xs → x ≡ get_or xs i x
     → Reads globals (map one (take i xs)) a b → Reads globals (one x ∷ []) b c → Reads globals (map one (take (i + 1) xs)) a c
 reads-one globals one a b c xs i x within item before here =
@@ -50,3 +40,9 @@ reads-one globals one a b c xs i x within item before here =
 
 pub reads-ones : {X : Type 0} (globals : Globals) (one : X → Owner × (Side × Call)) (a b : List OwnedDriver) (xs : List X) (i : ℕ) → length xs ≤ i → Reads globals (map one (take i xs)) a b → Reads globals (map one xs) a b
 reads-ones globals one a b xs i past before = subst (λ ys. Reads globals (map one ys) a b) (take_all i xs past) before
+
+-- leaves that each have some
+pub reads-visited : (globals : Globals) (leaves : Leaves) (a b : Vec OwnedDriver Global) → Visits (λ old leaf new. Reads globals (leaf_owned leaf) old.items new.items) leaves a b → Reads globals (flat_map leaf_owned leaves) a.items b.items
+reads-visited globals leaves a b visits =
+    visits-joined leaf_owned (λ (ws : Owned) (old new : Vec OwnedDriver Global). Reads globals ws old.items new.items) (λ x. reads-none globals x.items)
+    (λ ws vs x y z first second. reads-join globals x.items y.items z.items ws vs (ws ++ vs) first second refl) leaves a b visits

@@ -1,6 +1,5 @@
 pub mod Numbers
 pub mod Joining
-pub mod OwnedEquations
 pub mod Slots
 pub mod Alike
 pub mod Apart

@@ -1,7 +1,6 @@
 -- What a driver more leaves of a plan.
 use Rattle.std.proofs.Common.{◌≡◌, ℕ, ◌+◌, ◌≤◌, ◌^◌, List, [], ◌∷◌, ◌++◌, length, replicate, Option, Some, None, refl, ◌∙◌, ap, sym, subst, arith}
 use Rattle.std.specs.List.{range_with_len}
-use Rattle.std.specs.Option.{option_map}
 use Rattle.std.proofs.lemmas.Option.{none-some}
 use Rattle.std.proofs.lemmas.List.{length-append, length-replicate, length_push, append-nil}
 use Rattle.std.proofs.lemmas.List.FromFn.{length-map-range_with_len}
@@ -17,7 +16,7 @@ use Rattle.sg_source.specs.Inlets.{plan_of, slots_at, store_at}
 use Rattle.sg_destination.specs.declared.outlet.DestinationDriver.{DestinationDriver}
 use Rattle.sg_destination.specs.declared.buffers.DiskBuffer.{DiskBuffer}
 use Rattle.sg_plan.specs.declared.owner.Owner.{Owner}
-use Rattle.sg_plan.specs.Parts.{Parts, no_parts, name_in, stores_by, number_by, buffer_by, setup_of, inlets_of, with_source, dest_setup_of, with_destination}
+use Rattle.sg_plan.specs.Parts.{Parts, no_parts, name_in, stores_by, number_by, buffer_by, buffer_stores, setup_of, inlets_of, with_source, dest_setup_of, with_destination}
 use Rattle.sg_plan.specs.Limits.{NumbersStores, HasWindow, HasRoom, IsInlet}
 use Rattle.sg_plan.proofs.Elements.{some-same, Each, each-none, each-push, each-append, each-replicate, each-map}
 use Rattle.sg_plan.proofs.StoreNumbers.{no-numbers, listeners-more, file-more, queue-more, buffer-more}
@@ -113,7 +112,7 @@ source-sound parts owner source fair sound =
 -- ---- a destination
 
 destination-numbers : (buffer : Option DiskBuffer) (inlets : List SourceSetup) (outlets : List DestSetup) (stores : List StoreSpec) (fifo : ℕ) → NumbersStores inlets outlets (length stores)
-    → NumbersStores inlets (outlets ++ record { fifo = fifo; buffer = buffer_by (length stores) buffer } ∷ []) (length (stores ++ stores_by (option_map (λ (b : DiskBuffer). b.store) buffer)))
+    → NumbersStores inlets (outlets ++ record { fifo = fifo; buffer = buffer_by (length stores) buffer } ∷ []) (length (stores ++ buffer_stores buffer))
 destination-numbers None inlets outlets stores fifo h =
     subst (λ (ss : List StoreSpec). NumbersStores inlets (outlets ++ record { fifo = fifo; buffer = None } ∷ []) (length ss)) (sym (append-nil stores))
     (queue-more inlets outlets (length stores) (record { fifo = fifo; buffer = None }) refl h)
@@ -121,7 +120,7 @@ destination-numbers (Some buffer) inlets outlets stores fifo h =
     subst (λ n. NumbersStores inlets (outlets ++ record { fifo = fifo; buffer = Some (record { store = length stores; capacity = buffer.capacity }) } ∷ []) n) (sym (length_push stores _))
     (buffer-more inlets outlets (length stores) (record { fifo = fifo; buffer = Some (record { store = length stores; capacity = buffer.capacity }) }) refl h)
 
-one-store : (buffer : Option DiskBuffer) → length (stores_by (option_map (λ (b : DiskBuffer). b.store) buffer)) ≤ 1
+one-store : (buffer : Option DiskBuffer) → length (buffer_stores buffer) ≤ 1
 one-store None = omega arith
 one-store (Some buffer) = omega arith
 
@@ -145,7 +144,7 @@ destination-sound parts owner dest fair sound =
     let len = length_push parts.outlets dest.plan in
     let setups = length_push parts.outlet_setups setup in
     let owners = length_push parts.outlet_owners owner in
-    let extra = stores_by (option_map (λ (b : DiskBuffer). b.store) dest.buffer) in
+    let extra = buffer_stores dest.buffer in
     let more : length (parts.stores ++ extra) ≡ length parts.stores + length extra = length-append parts.stores extra in
     let few = one-store dest.buffer in
     let s = sound.stores in

@@ -33,11 +33,6 @@ pub reference-joined : (r : RawRef) → reference_drivers r ≡ written (referen
 reference-joined (ref.Named spot) = refl
 reference-joined (ref.Inline o) = object-joined true o
 
--- of several things of which each is so
-pub many-joined : {X : Type 0} (f : X → Drivers) (g : X → Owned) (ys : List ((x : X) × (f x ≡ written (g x)))) → flat_map f (map (λ y. y.0) ys) ≡ written (flat_map g (map (λ y. y.0) ys))
-many-joined f g [] = refl
-many-joined f g (y ∷ ys) = (λ i. y.1 i ++ many-joined f g ys i) ∙ sym (map-append (λ (o : Owner × (Side × Call)). o.1) (g y.0) (flat_map g (map (λ z. z.0) ys)))
-
 pub all-joined : {X : Type 0} (f : X → Drivers) (g : X → Owned) → ((x : X) → f x ≡ written (g x)) → (xs : List X) → flat_map f xs ≡ written (flat_map g xs)
 all-joined f g h [] = refl
 all-joined f g h (x ∷ xs) = (λ i. h x i ++ all-joined f g h xs i) ∙ sym (map-append (λ (o : Owner × (Side × Call)). o.1) (g x) (flat_map g xs))

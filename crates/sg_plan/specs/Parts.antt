@@ -1,7 +1,6 @@
 -- What a plan holds, one driver after another (syslog-ng's administration guide, "Flow-control" and "Using disk-based and memory buffering").
-use Rattle.std.specs.Prelude.{ℕ, true, List, [], ◌∷◌, ◌++◌, length, map, replicate, Option, Some, None}
+use Rattle.std.specs.Prelude.{ℕ, ◌+◌, ◌-◌, ◌*◌, ◌^◌, min, Bool, true, false, List, [], ◌∷◌, ◌++◌, length, map, replicate, Option, Some, None}
 use Rattle.std.specs.List.{range_with_len}
-use Rattle.std.specs.Option.{option_map}
 use Rattle.sg_outside.specs.declared.request.StoreSpec.{StoreSpec}
 use Rattle.sg_machine.specs.declared.setup.SourceSetup.{SourceSetup}
 use Rattle.sg_machine.specs.declared.setup.BufferSetup.{BufferSetup}
@@ -61,7 +60,16 @@ name_in (Inline at) = None
 -- a store is made where it is missing
 abbrev pub stores_by : Option (List ℕ) → List StoreSpec
 stores_by None = []
-stores_by (Some name) = record { name = name; create = true } ∷ []
+stores_by (Some name) = record { name = name; create = true; size = 128 } ∷ []
+
+-- the most bytes that the file of a disk-buffer of this capacity comes to have, or those of one without entries
+abbrev pub size_by : Bool → ℕ → ℕ
+size_by true capacity = min (2 * capacity + 68) (2 ^ 64 - 1)
+size_by false capacity = 128
+
+abbrev pub buffer_stores : Option DiskBuffer → List StoreSpec
+buffer_stores None = []
+buffer_stores (Some buffer) = record { name = buffer.store; create = true; size = size_by buffer.whole buffer.capacity } ∷ []
 
 -- behind so many stores a further one has that number
 abbrev pub number_by : ℕ → Option (List ℕ) → Option ℕ
@@ -105,7 +113,7 @@ with_destination parts owner dest = record {
   outlet_setups = parts.outlet_setups ++ dest_setup_of (length parts.stores) dest ∷ [];
   inlets = parts.inlets;
   outlets = parts.outlets ++ dest.plan ∷ [];
-  stores = parts.stores ++ stores_by (option_map (λ (buffer : DiskBuffer). buffer.store) dest.buffer);
+  stores = parts.stores ++ buffer_stores dest.buffer;
 }
 
 abbrev pub with_one : Parts → Owner → Driver → Parts

@@ -1,10 +1,9 @@
 // The parts that one driver adds to a plan.
-ghost use Rattle.std.specs.Prelude.{◌≡◌, ◌<◌, ◌^◌, ◌++◌, length, map, replicate, IfOk, OnOk};
+ghost use Rattle.std.specs.Prelude.{◌≡◌, ◌<◌, ◌^◌, ◌++◌, ◌∷◌, [], true, length, map, replicate, IfOk, OnOk};
 ghost use Rattle.std.specs.List.{range_with_len};
-ghost use Rattle.std.specs.Option.{option_copied, option_map};
-ghost use Rattle.sg_destination.specs.declared.buffers.DiskBuffer.{DiskBuffer};
+ghost use Rattle.std.specs.Option.{option_copied};
 ghost use Rattle.sg_source.specs.Inlets.{plan_of, slots_at};
-ghost use Rattle.sg_plan.specs.Parts.{name_in, stores_by, number_by, buffer_by, inlets_of};
+ghost use Rattle.sg_plan.specs.Parts.{name_in, stores_by, number_by, buffer_by, buffer_stores, size_by, inlets_of};
 
 use crate::Owner;
 use sg_destination::DiskBuffer;
@@ -73,14 +72,31 @@ pub fn add_inlets(
     Ok(())
 }
 
-fn push_store(stores: &mut Vec<StoreSpec>, name: Name) -> Result<u32, NoMemory>
+// A store that is made where it is missing, with so many bytes.
+fn push_store(stores: &mut Vec<StoreSpec>, name: Name, size: u64) -> Result<u32, NoMemory>
     requires { length stores.old.items < 2 ^ 32 }
-    ensures stores { OnOk result (stores.new.items ≡ stores.old.items ++ stores_by (Some name)) }
+    ensures stores { OnOk result (stores.new.items
+        ≡ stores.old.items ++ record { name = name; create = true; size = size } ∷ []) }
     ensures number { IfOk result (λ number. number ≡ length stores.old.items) }
 {
     let number = stores.len() as u32;
-    stores.push(StoreSpec { name, create: true })?;
+    stores.push(StoreSpec {
+        name,
+        create: true,
+        size,
+    })?;
     Ok(number)
+}
+
+// The bytes with which the file of a disk-buffer is made.
+fn size_by(capacity: u64, whole: bool) -> u64
+    ensures { result ≡ size_by whole capacity }
+{
+    if whole {
+        capacity.saturating_mul(2).saturating_add(68)
+    } else {
+        128
+    }
 }
 
 /// The store of a position. Answers its number, where there is one.
@@ -93,7 +109,7 @@ pub fn add_position(
     ensures number { IfOk result (λ number. number ≡ number_by (length stores.old.items) store) }
 {
     match store {
-        Some(name) => Ok(Some(push_store(stores, name)?)),
+        Some(name) => Ok(Some(push_store(stores, name, 128)?)),
         None => Ok(None),
     }
 }
@@ -105,12 +121,18 @@ pub fn add_buffer(
 ) -> Result<Option<BufferSetup>, NoMemory>
     requires { length stores.old.items < 2 ^ 32 }
     ensures stores { OnOk result (stores.new.items ≡ stores.old.items
-        ++ stores_by (option_map (λ (buffer : DiskBuffer). buffer.store) buffer)) }
+        ++ buffer_stores buffer) }
     ensures setup { IfOk result (λ setup. setup ≡ buffer_by (length stores.old.items) buffer) }
 {
     match buffer {
-        Some(DiskBuffer { store, capacity }) => Ok(Some(BufferSetup {
-            store: push_store(stores, store)?,
+        Some(
+            DiskBuffer {
+                store,
+                capacity,
+                whole,
+            },
+        ) => Ok(Some(BufferSetup {
+            store: push_store(stores, store, size_by(capacity, whole))?,
             capacity,
         })),
         None => Ok(None),

@@ -1,18 +1,19 @@
 // The drivers of all statements, also of those in log statements, in the order of the text.
 ghost use Rattle.std.specs.Prelude.{◌≡◌, IfOk, OnOk};
-ghost use Rattle.std.specs.List.{flat_map};
+ghost use Rattle.std.proofs.Props.{props};
 ghost use Rattle.sg_driver.specs.Defaults.{AreDefaults};
-ghost use Rattle.sg_plan.specs.Owned.{calls_at, object_owned, reference_owned, element_owned, branch_owned, log_owned, statement_owned, owned_drivers};
+ghost use Rattle.sg_plan.specs.Owned.{calls_at, object_owned, reference_owned, leaf_owned, owned_drivers};
 ghost use Rattle.sg_plan.specs.Reading.{Reads, AreRead};
 
 use crate::driver::{OwnedDriver, read_driver};
 use crate::globals::Globals;
 use sg_device::NoMemory;
 use sg_parse_base::Spot;
-use sg_parse_expr::Call;
+use sg_parse_expr::{Call, RawExpr};
 use sg_parse_obj::{Object, Side};
-use sg_parse_path::{RawBranch, RawElement, RawLog, RawRef};
+use sg_parse_path::{Kind, RawRef};
 use sg_parse_text::Statement;
+use sg_visit::{Visit, visit_statements};
 use std::alloc::Global;
 
 fn read_calls(
@@ -87,145 +88,47 @@ fn read_reference(
     }
 }
 
-#[cycle(drivers)]
-fn read_element(
+/// Reads drivers, with these global options and templates.
+#[derive(Drop)]
+struct Reading<'a> {
     alloc: Global,
-    globals: &Globals,
-    found: &mut Vec<OwnedDriver>,
-    element: &RawElement,
-) -> Result<(), NoMemory>
-    requires { AreDefaults globals.now.defaults }
-    ensures { OnOk result
-        (Reads globals.now (element_owned element.now) found.old.items found.new.items) }
-{
-    match element {
-        RawElement::Source(_, source) => {
-            read_reference(alloc, globals, found, source)?;
-            Ok(())
-        }
-        RawElement::Destination(destination) => {
-            read_reference(alloc, globals, found, destination)?;
-            Ok(())
-        }
-        RawElement::Filter(_) => Ok(()),
-        RawElement::Rewrite(_) => Ok(()),
-        RawElement::Junction(channels) => {
-            read_logs(alloc, globals, found, channels.as_slice())?;
-            Ok(())
-        }
-        RawElement::If { branches, other } => {
-            read_branches(alloc, globals, found, branches.as_slice())?;
-            match other {
-                Some(elements) => {
-                    read_elements(alloc, globals, found, elements.as_slice())?;
-                    Ok(())
-                }
-                None => Ok(()),
-            }
-        }
+    globals: &'a Globals,
+    ghost sound: { AreDefaults globals.now.defaults } by { Prim.hlevel props },
+}
+
+impl<'a> Visit for Reading<'a> {
+    type State = Vec<OwnedDriver>;
+
+    type Error = NoMemory;
+
+    ghost step = { λ reading old leaf new.
+        Reads reading.globals.now (leaf_owned leaf) old.items new.items };
+
+    fn object(&self, found: &mut Vec<OwnedDriver>, object: &Object) -> Result<(), NoMemory> {
+        read_object(self.alloc, self.globals, found, false, object)?;
+        Ok(())
     }
-}
 
-#[cycle(drivers)]
-fn read_elements(
-    alloc: Global,
-    globals: &Globals,
-    found: &mut Vec<OwnedDriver>,
-    elements: &[RawElement],
-) -> Result<(), NoMemory>
-    requires { AreDefaults globals.now.defaults }
-    ensures { OnOk result
-        (Reads globals.now (flat_map element_owned elements.now) found.old.items found.new.items) }
-{
-    for element in elements {
-        read_element(alloc, globals, found, element)?;
+    fn source(&self, _found: &mut Vec<OwnedDriver>, _word: &Spot) -> Result<(), NoMemory> {
+        Ok(())
     }
-    Ok(())
-}
 
-#[cycle(drivers)]
-fn read_branches(
-    alloc: Global,
-    globals: &Globals,
-    found: &mut Vec<OwnedDriver>,
-    branches: &[RawBranch],
-) -> Result<(), NoMemory>
-    requires { AreDefaults globals.now.defaults }
-    ensures { OnOk result
-        (Reads globals.now (flat_map branch_owned branches.now) found.old.items found.new.items) }
-{
-    for branch in branches {
-        read_branch(alloc, globals, found, branch)?;
+    fn reference(
+        &self,
+        found: &mut Vec<OwnedDriver>,
+        _kind: Kind,
+        reference: &RawRef,
+    ) -> Result<(), NoMemory> {
+        read_reference(self.alloc, self.globals, found, reference)?;
+        Ok(())
     }
-    Ok(())
-}
 
-#[cycle(drivers)]
-fn read_branch(
-    alloc: Global,
-    globals: &Globals,
-    found: &mut Vec<OwnedDriver>,
-    branch: &RawBranch,
-) -> Result<(), NoMemory>
-    requires { AreDefaults globals.now.defaults }
-    ensures { OnOk result
-        (Reads globals.now (branch_owned branch.now) found.old.items found.new.items) }
-{
-    read_elements(alloc, globals, found, branch.elements.as_slice())?;
-    Ok(())
-}
-
-#[cycle(drivers)]
-fn read_logs(
-    alloc: Global,
-    globals: &Globals,
-    found: &mut Vec<OwnedDriver>,
-    logs: &[RawLog],
-) -> Result<(), NoMemory>
-    requires { AreDefaults globals.now.defaults }
-    ensures { OnOk result
-        (Reads globals.now (flat_map log_owned logs.now) found.old.items found.new.items) }
-{
-    for log in logs {
-        read_log(alloc, globals, found, log)?;
+    fn test(&self, _found: &mut Vec<OwnedDriver>, _test: &RawExpr) -> Result<(), NoMemory> {
+        Ok(())
     }
-    Ok(())
-}
 
-#[cycle(drivers)]
-fn read_log(
-    alloc: Global,
-    globals: &Globals,
-    found: &mut Vec<OwnedDriver>,
-    log: &RawLog,
-) -> Result<(), NoMemory>
-    requires { AreDefaults globals.now.defaults }
-    ensures { OnOk result (Reads globals.now (log_owned log.now) found.old.items found.new.items) }
-{
-    read_elements(alloc, globals, found, log.elements.as_slice())?;
-    read_logs(alloc, globals, found, log.embedded.as_slice())?;
-    Ok(())
-}
-
-fn read_statement(
-    alloc: Global,
-    globals: &Globals,
-    found: &mut Vec<OwnedDriver>,
-    statement: &Statement,
-) -> Result<(), NoMemory>
-    requires { AreDefaults globals.now.defaults }
-    ensures { OnOk result
-        (Reads globals.now (statement_owned statement.now) found.old.items found.new.items) }
-{
-    match statement {
-        Statement::Object(object) => {
-            read_object(alloc, globals, found, false, object)?;
-            Ok(())
-        }
-        Statement::Log(log) => {
-            read_log(alloc, globals, found, log)?;
-            Ok(())
-        }
+    fn flags(&self, _found: &mut Vec<OwnedDriver>, _flags: &[Spot]) -> Result<(), NoMemory> {
+        Ok(())
     }
 }
 
@@ -240,8 +143,6 @@ pub fn read_drivers(
         (λ found. AreRead globals.now (owned_drivers statements.now) found.items) }
 {
     let mut found = Vec::new(alloc);
-    for statement in statements {
-        read_statement(alloc, globals, &mut found, statement)?;
-    }
+    visit_statements(&Reading { alloc, globals }, &mut found, statements)?;
     Ok(found)
 }

@@ -4,7 +4,7 @@ use Rattle.std.proofs.lemmas.List.{drop_all}
 use Rattle.sg_list.proofs.ListLemmas.{drop-get}
 use Rattle.sg_machine.specs.declared.tally.SourceTally.{SourceTally}
 use Rattle.sg_machine.specs.declared.tally.Tally.{Tally}
-use Rattle.sg_report.specs.declared.line.Line.{Line}
+use Rattle.sg_report.specs.declared.line.SourceLine.{SourceLine}
 use Rattle.sg_report.specs.declared.shown.Shown.{Shown}
 use Rattle.sg_report.specs.Report.{HasAll, line_of, lines_of, lines, line_text, driver_lines, source_lines}
 
@@ -38,19 +38,19 @@ pub length-all : (tally : Tally) (shown : Shown) → HasAll tally shown → leng
 length-all tally shown all = length-lines shown.drivers shown.files shown.bad_frames tally.sources all.drivers all.files all.bad_frames
 
 -- from the line at this place on
-pub drop-line : (all : List Line) (k : ℕ) (line : Line) → Some line ≡ slice_get all k → drop k all ≡ line ∷ drop (k + 1) all
+pub drop-line : (all : List SourceLine) (k : ℕ) (line : SourceLine) → Some line ≡ slice_get all k → drop k all ≡ line ∷ drop (k + 1) all
 drop-line all k line e = drop-get all k line (sym e)
 
-pub lines-first : (all : List Line) (line : Line) → Some line ≡ slice_get all 0 → driver_lines line (drop 1 all) ≡ source_lines all
+pub lines-first : (all : List SourceLine) (line : SourceLine) → Some line ≡ slice_get all 0 → driver_lines line (drop 1 all) ≡ source_lines all
 lines-first [] line e = let wrong : Some line ≡ None = e in cc
 lines-first (x ∷ all) line e = let same : Some line ≡ Some x = e in let goal : driver_lines line all ≡ driver_lines x all = cc in goal
 
-pub lines-next : (text text' front all : List ℕ) (lines : List Line) (k : ℕ) (sum line next : Line) → Some line ≡ slice_get lines k
-    → ((rest : List Line) → text' ++ driver_lines next rest ≡ text ++ driver_lines sum (line ∷ rest))
+pub lines-next : (text text' front all : List ℕ) (lines : List SourceLine) (k : ℕ) (sum line next : SourceLine) → Some line ≡ slice_get lines k
+    → ((rest : List SourceLine) → text' ++ driver_lines next rest ≡ text ++ driver_lines sum (line ∷ rest))
     → text ++ driver_lines sum (drop k lines) ≡ front ++ all
     → text' ++ driver_lines next (drop (k + 1) lines) ≡ front ++ all
 lines-next text text' front all lines k sum line next e step before =
-    step (drop (k + 1) lines) ∙ (ap (λ (rest : List Line). text ++ driver_lines sum rest) (sym (drop-line lines k line e)) ∙ before)
+    step (drop (k + 1) lines) ∙ (ap (λ (rest : List SourceLine). text ++ driver_lines sum rest) (sym (drop-line lines k line e)) ∙ before)
 
-pub lines-end : (lines : List Line) (k : ℕ) (sum : Line) → length lines ≤ k → driver_lines sum (drop k lines) ≡ line_text sum
-lines-end lines k sum h = ap (λ (rest : List Line). driver_lines sum rest) (drop_all k lines h)
+pub lines-end : (lines : List SourceLine) (k : ℕ) (sum : SourceLine) → length lines ≤ k → driver_lines sum (drop k lines) ≡ line_text sum
+lines-end lines k sum h = ap (λ (rest : List SourceLine). driver_lines sum rest) (drop_all k lines h)

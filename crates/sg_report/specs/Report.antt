@@ -4,7 +4,7 @@ use Rattle.std.specs.Fmt.{decimal}
 use Rattle.sg_machine.specs.declared.tally.SourceTally.{SourceTally}
 use Rattle.sg_machine.specs.declared.tally.DestTally.{DestTally}
 use Rattle.sg_machine.specs.declared.tally.Tally.{Tally}
-use Rattle.sg_report.specs.declared.line.Line.{Line}
+use Rattle.sg_report.specs.declared.line.SourceLine.{SourceLine}
 use Rattle.sg_report.specs.declared.shown.Shown.{Shown}
 
 -- there is one of each for each inlet
@@ -18,7 +18,7 @@ abbrev pub position_of : Bool → Option ℕ → Option ℕ
 position_of file stored = if file then Some (unwrap_or stored 0) else None
 
 -- what is said of an inlet
-abbrev pub line_of : ℕ → Bool → ℕ → SourceTally → Line
+abbrev pub line_of : ℕ → Bool → ℕ → SourceTally → SourceLine
 line_of driver file bad_frames source = record {
   driver = driver;
   records = source.records;
@@ -26,35 +26,35 @@ line_of driver file bad_frames source = record {
   position = position_of file source.stored;
 }
 
-abbrev pub lines_of : List ℕ → List Bool → List ℕ → List SourceTally → List Line
+abbrev pub lines_of : List ℕ → List Bool → List ℕ → List SourceTally → List SourceLine
 lines_of (d ∷ ds) (f ∷ fs) (b ∷ bs) (s ∷ ss) = line_of d f b s ∷ lines_of ds fs bs ss
 lines_of _ _ _ _ = []
 
-abbrev pub lines : Tally → Shown → List Line
+abbrev pub lines : Tally → Shown → List SourceLine
 lines tally shown = lines_of shown.drivers shown.files shown.bad_frames tally.sources
 
 -- sums stand still at 2 ^ 64 - 1
 abbrev pub sum_of : ℕ → ℕ → ℕ
 sum_of a b = min (a + b) (2 ^ 64 - 1)
 
-abbrev pub joined : Line → Line → Line
+abbrev pub joined : SourceLine → SourceLine → SourceLine
 joined sum inlet = record sum { records = sum_of sum.records inlet.records; bad_frames = sum_of sum.bad_frames inlet.bad_frames }
 
 abbrev pub position_text : Option ℕ → List ℕ
 position_text None = []
 position_text (Some position) = codes " position " ++ decimal position
 
-abbrev pub line_text : Line → List ℕ
+abbrev pub line_text : SourceLine → List ℕ
 line_text line =
     codes "source " ++ (decimal line.driver ++ (codes " records " ++ (decimal line.records ++ (codes " bad-frames " ++ (decimal line.bad_frames ++ (position_text line.position ++ codes "\n"))))))
 
 -- a line for each driver: the inlets of one stand together, and `sum` is what came of its inlets so far
-abbrev pub driver_lines : Line → List Line → List ℕ
+abbrev pub driver_lines : SourceLine → List SourceLine → List ℕ
 driver_lines sum [] = line_text sum
 driver_lines sum (inlet ∷ inlets) =
     if inlet.driver == sum.driver then driver_lines (joined sum inlet) inlets else line_text sum ++ driver_lines inlet inlets
 
-abbrev pub source_lines : List Line → List ℕ
+abbrev pub source_lines : List SourceLine → List ℕ
 source_lines [] = []
 source_lines (inlet ∷ inlets) = driver_lines inlet inlets
 

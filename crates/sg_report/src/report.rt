@@ -1,10 +1,10 @@
 // The report of a run.
 ghost use Rattle.std.specs.Prelude.{◌≡◌, ◌<◌, List, ◌∷◌, ◌++◌, length, OnOk, OnErr, IfOk, Some, slice_get};
-ghost use Rattle.sg_report.specs.declared.line.Line.{Line};
+ghost use Rattle.sg_report.specs.declared.line.SourceLine.{SourceLine};
 ghost use Rattle.sg_report.specs.Report.{HasAll, position_of, position_text, line_text, driver_lines, source_lines, lines, dest_text, dest_lines, held_line, held_lines, fault_line, fault_lines, status_line, report_text};
 
 use crate::Shown;
-use crate::line::Line;
+use crate::line::SourceLine;
 use sg_machine::{DestTally, Tally};
 use std::alloc::{AllocError, Global};
 
@@ -18,13 +18,13 @@ fn position_of(file: bool, stored: Option<u64>) -> Option<u64>
     }
 }
 
-fn inlet_line(tally: &Tally, shown: &Shown, i: usize) -> Line
+fn inlet_line(tally: &Tally, shown: &Shown, i: usize) -> SourceLine
     requires all { HasAll tally.now shown.now }
     requires inlet { i < length tally.now.sources }
     ensures { Some result ≡ slice_get (lines tally.now shown.now) i }
 {
     let source = tally.sources.at(i);
-    Line {
+    SourceLine {
         driver: *shown.drivers.at(i),
         records: source.records,
         bad_frames: *shown.bad_frames.at(i),
@@ -46,10 +46,10 @@ fn append_position(
     Ok(())
 }
 
-fn append_line(alloc: Global, line: Line, text: &mut Vec<u8>) -> Result<(), AllocError>
+fn append_line(alloc: Global, line: SourceLine, text: &mut Vec<u8>) -> Result<(), AllocError>
     ensures { OnOk result (text.new.items ≡ text.old.items ++ line_text line) }
 {
-    let Line {
+    let SourceLine {
         driver,
         records,
         bad_frames,
@@ -65,11 +65,12 @@ fn append_line(alloc: Global, line: Line, text: &mut Vec<u8>) -> Result<(), Allo
 // Goes on to the next inlet. What is said of the driver before is whole where another begins.
 fn append_next(
     alloc: Global,
-    sum: Line,
-    inlet: Line,
+    sum: SourceLine,
+    inlet: SourceLine,
     text: &mut Vec<u8>,
-) -> Result<Line, AllocError>
-    ensures { IfOk result (λ next. (rest : List Line) → text.new.items ++ driver_lines next rest
+) -> Result<SourceLine, AllocError>
+    ensures { IfOk result (λ next. (rest : List SourceLine)
+        → text.new.items ++ driver_lines next rest
         ≡ text.old.items ++ driver_lines sum (inlet ∷ rest)) }
 {
     if inlet.driver == sum.driver {

@@ -1,6 +1,3 @@
-pub mod Leasts
 pub mod Counting
 pub mod OneDriver
-pub mod PlaceEquations
-pub mod EndEquations
 pub mod Looked

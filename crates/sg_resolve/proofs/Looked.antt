@@ -18,7 +18,7 @@ use Rattle.sg_source.specs.Inlets.{place_by, listener_of, frames_by, window_by, 
 use Rattle.sg_source.specs.Sources.{source_checks, listener_checks, port_words, connection_words}
 use Rattle.sg_source.specs.declared.inlet.Place.TheVariants as place
 use Rattle.sg_source.specs.declared.inlet.SourceDriver.{SourceDriver}
-use Rattle.sg_destination.specs.Buffers.{buffer_checks, buffer_words, directory_of, destination_text, capacity_of, buffer_of}
+use Rattle.sg_destination.specs.Buffers.{buffer_checks, buffer_words, directory_of, destination_text, capacity_of, whole_of, buffer_of}
 use Rattle.sg_destination.specs.Destinations.{destination_checks, file_checks, host_checks}
 use Rattle.sg_destination.specs.Outlets.{file_of, host_of, spec_by, IsDestination}
 use Rattle.sg_destination.specs.Templates.{Texts, template_words, HasShape}
@@ -121,6 +121,7 @@ module _ (a b : Call) (h : AreAlike (listener_words ++ source_words) a b) where
         };
         rfc5424 = s.rfc5424 ∙ (λ i. (is_syslog (h.kind i) || has_flag (codes "syslog-protocol") (flags i)) && not (has_flag (codes "no-parse") (flags i)));
         empty_lines = s.empty_lines ∙ ap (has_flag (codes "empty-lines")) flags;
+        one_line = s.one_line ∙ ap (has_flag (codes "no-multi-line")) flags;
         tags = s.tags ∙ ap texts_behind (h.same (codes "tags" ∷ []) refl);
       }
 
@@ -147,7 +148,7 @@ module _ (a b : Call) (h : AreAlike (writer_words ++ (sender_words ++ destinatio
   buffer-alike =
       let last = h.same buffer_words refl in
       let to = h.same (codes "port" ∷ []) refl in
-      λ i. option_map (λ buffer. record { store = buffer_name (directory_of buffer) (destination_text (h.kind i) (h.name i) (number_or (value_behind (to i)) ports 0)); capacity = capacity_of buffer }) (last i)
+      λ i. option_map (λ buffer. record { store = buffer_name (directory_of buffer) (destination_text (h.kind i) (h.name i) (number_or (value_behind (to i)) ports 0)); capacity = capacity_of buffer; whole = whole_of buffer }) (last i)
 
   pub destinations-alike : (texts : Texts) (driver : DestinationDriver) → IsDestination defaults texts a driver → IsDestination defaults texts b driver
   destinations-alike texts driver d =

@@ -45,7 +45,9 @@ framed_words = codes "template" ∷ []
 
 -- what is read of a disk-buffer, and of the global options
 abbrev pub disk_words : Words
-disk_words = codes "reliable" ∷ codes "disk-buf-size" ∷ codes "capacity-bytes" ∷ codes "dir" ∷ []
+disk_words =
+    codes "reliable" ∷ codes "disk-buf-size" ∷ codes "capacity-bytes" ∷ codes "dir"
+    ∷ codes "prealloc" ∷ []
 
 abbrev pub global_words : Words
 global_words =

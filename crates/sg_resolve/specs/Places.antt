@@ -1,17 +1,18 @@
 -- What may stand in a top-level log statement alone.
-use Rattle.std.specs.Prelude.{if◌then◌else◌, List, [], ◌∷◌, ◌++◌, Option, Some, None, codes}
+use Rattle.std.specs.Prelude.{if◌then◌else◌, List, [], ◌∷◌, ◌++◌, codes}
 use Rattle.std.specs.List.{flat_map}
 use Rattle.sg_lex.specs.declared.fault.ConfigKind.{ConfigKind}
 use Rattle.sg_lex.specs.declared.fault.ConfigKind.TheVariants.{BadValue, SourcePlace}
 use Rattle.sg_parse_base.specs.declared.spot.Spot.{Spot}
 use Rattle.sg_parse_base.specs.Input.{spot_line}
 use Rattle.sg_parse_base.specs.Tokens.{same_keyword}
-use Rattle.sg_parse_path.specs.declared.tree.RawElement.{RawElement, out-RawElement, fold-RawElement}
-use Rattle.sg_parse_path.specs.declared.tree.RawElement.TheOpen.{RawElement-F, RawLog-F, RawBranch-F}
-use Rattle.sg_parse_path.specs.declared.tree.RawLog.{RawLog, out-RawLog, fold-RawLog}
-use Rattle.sg_parse_path.specs.declared.tree.RawBranch.{RawBranch, fold-RawBranch}
+use Rattle.sg_parse_path.specs.declared.tree.RawElement.{RawElement, out-RawElement}
+use Rattle.sg_parse_path.specs.declared.tree.RawElement.TheOpen.{RawElement-F}
+use Rattle.sg_parse_path.specs.declared.tree.RawLog.{RawLog, out-RawLog}
+use Rattle.sg_parse_path.specs.declared.tree.RawBranch.{RawBranch}
 use Rattle.sg_parse_text.specs.declared.statement.Statement.{Statement}
 use Rattle.sg_parse_text.specs.declared.statement.Statement.TheVariants as statement
+use Rattle.sg_visit.specs.Leaves.{Leaf, element_leaves, log_leaves}
 use Rattle.sg_fault.specs.declared.placed.Placed.{Placed}
 
 abbrev pub placed : ConfigKind → Spot → Placed
@@ -23,41 +24,14 @@ flag_faults flag = if same_keyword flag.token.text (codes "catchall") then place
 abbrev pub Faults : Type 0
 Faults = List Placed
 
-abbrev pub all_faults : List Faults → Faults
-all_faults faults = flat_map (λ f. f) faults
+-- in a channel, a branch or an embedded statement
+abbrev pub leaf_faults : Leaf → Faults
+leaf_faults (Leaf.source word) = placed SourcePlace word ∷ []
+leaf_faults (Leaf.flags words) = flat_map flag_faults words
+leaf_faults _ = []
 
-abbrev pub faults_if : Option (List Faults) → Faults
-faults_if None = []
-faults_if (Some faults) = all_faults faults
-
--- in a channel, a branch or an embedded statement: one layer, with the faults of what it holds in its place
-abbrev pub element_step : RawElement-F Faults Faults Faults → Faults
-element_step (RawElement-F.Source word source) = placed SourcePlace word ∷ []
-element_step (RawElement-F.Destination destination) = []
-element_step (RawElement-F.Filter filter) = []
-element_step (RawElement-F.Rewrite rewrite) = []
-element_step (RawElement-F.Junction channels) = all_faults channels
-element_step (RawElement-F.If branches other) = all_faults branches ++ faults_if other
-
-abbrev pub log_step : RawLog-F Faults Faults Faults → Faults
-log_step log = (all_faults log.elements ++ all_faults log.embedded)
-    ++ flat_map flag_faults log.flags
-
-abbrev pub branch_step : RawBranch-F Faults Faults Faults → Faults
-branch_step branch = all_faults branch.elements
-
-unfoldable pub element_faults : RawElement → Faults
-element_faults = fold-RawElement Faults Faults Faults element_step branch_step log_step
-
-unfoldable pub log_faults : RawLog → Faults
-log_faults = fold-RawLog Faults Faults Faults element_step branch_step log_step
-
-unfoldable pub branch_faults : RawBranch → Faults
-branch_faults = fold-RawBranch Faults Faults Faults element_step branch_step log_step
-
-abbrev pub other_faults : Option (List RawElement) → Faults
-other_faults None = []
-other_faults (Some elements) = flat_map element_faults elements
+abbrev pub element_faults : RawElement → Faults
+element_faults element = flat_map leaf_faults (element_leaves element)
 
 abbrev pub top_at : Faults → RawElement-F RawElement RawBranch RawLog → Faults
 top_at nested (RawElement-F.Source word source) = []
@@ -69,7 +43,7 @@ top_element_faults element = top_at (element_faults element) (out-RawElement ele
 
 unfoldable pub top_faults : RawLog → Faults
 top_faults log = flat_map top_element_faults (out-RawLog log).elements
-    ++ flat_map log_faults (out-RawLog log).embedded
+    ++ flat_map leaf_faults (flat_map log_leaves (out-RawLog log).embedded)
 
 abbrev pub statement_faults : Statement → Faults
 statement_faults (statement.Object object) = []

@@ -4,7 +4,7 @@ ghost use Rattle.sg_fault.specs.Faults.{least};
 ghost use Rattle.sg_resolve.specs.Drivers.{no_drivers, own_faults, store_of, more_inlets, more_destinations, at_word, limit_faults, repeats, with_store, with_driver};
 
 use crate::templates::TemplateTexts;
-use sg_block::Table;
+use sg_block::NameMap;
 use sg_destination::{destination_fault, store_of_destination};
 use sg_device::{Name, NoMemory};
 use sg_fault::{Placed, earlier};
@@ -29,7 +29,7 @@ pub struct Count {
     pub inlets: u32,
     pub destinations: u32,
     /// The stores that drivers have, by their names.
-    pub stores: Table<u32>,
+    pub stores: NameMap<u32>,
 }
 
 pub fn no_drivers(alloc: Global) -> Count
@@ -39,7 +39,7 @@ pub fn no_drivers(alloc: Global) -> Count
         first: None,
         inlets: 0,
         destinations: 0,
-        stores: Table::new(alloc),
+        stores: NameMap::new(alloc),
     }
 }
 
@@ -115,7 +115,7 @@ fn limit_fault(inlets: u32, destinations: u32, side: Side, call: &Call) -> Optio
     }
 }
 
-fn repeat_fault(stores: &Table<u32>, store: &Option<Name>, call: &Call) -> Option<Placed>
+fn repeat_fault(stores: &NameMap<u32>, store: &Option<Name>, call: &Call) -> Option<Placed>
     ensures { result ≡ least (repeats stores.now store.now call.now) }
 {
     match store {
@@ -129,7 +129,7 @@ fn repeat_fault(stores: &Table<u32>, store: &Option<Name>, call: &Call) -> Optio
     }
 }
 
-fn enter_store(stores: &mut Table<u32>, store: Option<Name>) -> Result<(), NoMemory>
+fn enter_store(stores: &mut NameMap<u32>, store: Option<Name>) -> Result<(), NoMemory>
     ensures { OnOk result (stores.new ≡ with_store stores.old store) }
 {
     match store {

@@ -1,16 +1,18 @@
 // The drivers of all statements, also of those in log statements, in the order of the text.
 ghost use Rattle.std.specs.Prelude.{◌≡◌, map, IfOk, OnOk};
-ghost use Rattle.std.specs.List.{fold, flat_map};
+ghost use Rattle.std.specs.List.{fold};
 ghost use Rattle.sg_resolve.specs.Drivers.{with_driver};
-ghost use Rattle.sg_resolve.specs.Ends.{object_drivers, reference_drivers, element_drivers, branch_drivers, log_drivers, statement_drivers, drivers_of, counted};
+ghost use Rattle.sg_resolve.specs.Ends.{object_drivers, reference_drivers, leaf_drivers, counted};
 
 use crate::driver::{Count, count_driver, no_drivers};
 use crate::templates::TemplateTexts;
 use sg_device::NoMemory;
-use sg_parse_expr::Call;
+use sg_parse_base::Spot;
+use sg_parse_expr::{Call, RawExpr};
 use sg_parse_obj::{Object, Side};
-use sg_parse_path::{RawBranch, RawElement, RawLog, RawRef};
+use sg_parse_path::{Kind, RawRef};
 use sg_parse_text::Statement;
+use sg_visit::{Visit, visit_statements};
 use std::alloc::Global;
 
 fn count_calls(
@@ -69,140 +71,46 @@ fn count_reference(
     }
 }
 
-#[tactic(auto, using(crate::proofs::EndEquations::ends_source, crate::proofs::EndEquations::ends_destination, crate::proofs::EndEquations::ends_filter, crate::proofs::EndEquations::ends_rewrite, crate::proofs::EndEquations::ends_junction, crate::proofs::EndEquations::ends_if))]
-#[cycle(drivers)]
-fn count_element(
+/// Counts drivers, with these templates.
+#[derive(Drop)]
+struct Counting<'a> {
     alloc: Global,
-    texts: &TemplateTexts,
-    count: &mut Count,
-    element: &RawElement,
-) -> Result<(), NoMemory>
-    ensures { OnOk result
-        (count.new ≡ fold (with_driver texts.now) count.old (element_drivers element.now)) }
-{
-    match element {
-        RawElement::Source(_, source) => {
-            count_reference(alloc, texts, count, source)?;
-            Ok(())
-        }
-        RawElement::Destination(destination) => {
-            count_reference(alloc, texts, count, destination)?;
-            Ok(())
-        }
-        RawElement::Filter(_) => Ok(()),
-        RawElement::Rewrite(_) => Ok(()),
-        RawElement::Junction(channels) => {
-            count_logs(alloc, texts, count, channels.as_slice())?;
-            Ok(())
-        }
-        RawElement::If { branches, other } => {
-            count_branches(alloc, texts, count, branches.as_slice())?;
-            match other {
-                Some(elements) => {
-                    count_elements(alloc, texts, count, elements.as_slice())?;
-                    Ok(())
-                }
-                None => Ok(()),
-            }
-        }
+    texts: &'a TemplateTexts,
+}
+
+impl<'a> Visit for Counting<'a> {
+    type State = Count;
+
+    type Error = NoMemory;
+
+    ghost step = { λ counting old leaf new.
+        new ≡ fold (with_driver counting.texts.now) old (leaf_drivers leaf) };
+
+    fn object(&self, count: &mut Count, object: &Object) -> Result<(), NoMemory> {
+        count_object(self.alloc, self.texts, count, object)?;
+        Ok(())
     }
-}
 
-#[cycle(drivers)]
-fn count_elements(
-    alloc: Global,
-    texts: &TemplateTexts,
-    count: &mut Count,
-    elements: &[RawElement],
-) -> Result<(), NoMemory>
-    ensures { OnOk result (count.new
-        ≡ fold (with_driver texts.now) count.old (flat_map element_drivers elements.now)) }
-{
-    for element in elements {
-        count_element(alloc, texts, count, element)?;
+    fn source(&self, _count: &mut Count, _word: &Spot) -> Result<(), NoMemory> {
+        Ok(())
     }
-    Ok(())
-}
 
-#[cycle(drivers)]
-fn count_branches(
-    alloc: Global,
-    texts: &TemplateTexts,
-    count: &mut Count,
-    branches: &[RawBranch],
-) -> Result<(), NoMemory>
-    ensures { OnOk result (count.new
-        ≡ fold (with_driver texts.now) count.old (flat_map branch_drivers branches.now)) }
-{
-    for branch in branches {
-        count_branch(alloc, texts, count, branch)?;
+    fn reference(
+        &self,
+        count: &mut Count,
+        _kind: Kind,
+        reference: &RawRef,
+    ) -> Result<(), NoMemory> {
+        count_reference(self.alloc, self.texts, count, reference)?;
+        Ok(())
     }
-    Ok(())
-}
 
-#[cycle(drivers)]
-fn count_branch(
-    alloc: Global,
-    texts: &TemplateTexts,
-    count: &mut Count,
-    branch: &RawBranch,
-) -> Result<(), NoMemory>
-    ensures { OnOk result
-        (count.new ≡ fold (with_driver texts.now) count.old (branch_drivers branch.now)) }
-{
-    count_elements(alloc, texts, count, branch.elements.as_slice())?;
-    Ok(())
-}
-
-#[cycle(drivers)]
-fn count_logs(
-    alloc: Global,
-    texts: &TemplateTexts,
-    count: &mut Count,
-    logs: &[RawLog],
-) -> Result<(), NoMemory>
-    ensures { OnOk result
-        (count.new ≡ fold (with_driver texts.now) count.old (flat_map log_drivers logs.now)) }
-{
-    for log in logs {
-        count_log(alloc, texts, count, log)?;
+    fn test(&self, _count: &mut Count, _test: &RawExpr) -> Result<(), NoMemory> {
+        Ok(())
     }
-    Ok(())
-}
 
-#[cycle(drivers)]
-fn count_log(
-    alloc: Global,
-    texts: &TemplateTexts,
-    count: &mut Count,
-    log: &RawLog,
-) -> Result<(), NoMemory>
-    ensures { OnOk result
-        (count.new ≡ fold (with_driver texts.now) count.old (log_drivers log.now)) }
-{
-    count_elements(alloc, texts, count, log.elements.as_slice())?;
-    count_logs(alloc, texts, count, log.embedded.as_slice())?;
-    Ok(())
-}
-
-fn count_statement(
-    alloc: Global,
-    texts: &TemplateTexts,
-    count: &mut Count,
-    statement: &Statement,
-) -> Result<(), NoMemory>
-    ensures { OnOk result
-        (count.new ≡ fold (with_driver texts.now) count.old (statement_drivers statement.now)) }
-{
-    match statement {
-        Statement::Object(object) => {
-            count_object(alloc, texts, count, object)?;
-            Ok(())
-        }
-        Statement::Log(log) => {
-            count_log(alloc, texts, count, log)?;
-            Ok(())
-        }
+    fn flags(&self, _count: &mut Count, _flags: &[Spot]) -> Result<(), NoMemory> {
+        Ok(())
     }
 }
 
@@ -217,8 +125,6 @@ pub fn count_drivers(
     ensures { IfOk result (λ count. count ≡ counted texts.now statements.now) }
 {
     let mut count = no_drivers(alloc);
-    for statement in statements {
-        count_statement(alloc, texts, &mut count, statement)?;
-    }
+    visit_statements(&Counting { alloc, texts }, &mut count, statements)?;
     Ok(count)
 }

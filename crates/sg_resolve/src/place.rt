@@ -1,14 +1,19 @@
 // What may stand in a top-level log statement alone: sources, and the flag `catchall`.
 ghost use Rattle.std.specs.Prelude.{◌≡◌, Some};
 ghost use Rattle.std.specs.List.{flat_map};
-ghost use Rattle.sg_fault.specs.Faults.{least};
-ghost use Rattle.sg_resolve.specs.Places.{placed, flag_faults, element_faults, branch_faults, log_faults, top_element_faults, top_faults, statement_faults, places_faults};
+ghost use Rattle.sg_fault.specs.Faults.{earlier, least};
+ghost use Rattle.sg_visit.specs.Leaves.{log_leaves};
+ghost use Rattle.sg_resolve.specs.Places.{placed, flag_faults, leaf_faults, element_faults, top_element_faults, top_faults, statement_faults, places_faults};
 
 use sg_fault::{Placed, earlier};
 use sg_lex::ConfigKind;
 use sg_parse_base::{Spot, line_of, same_keyword};
-use sg_parse_path::{RawBranch, RawElement, RawLog};
+use sg_parse_expr::RawExpr;
+use sg_parse_obj::Object;
+use sg_parse_path::{Kind, RawElement, RawLog, RawRef};
 use sg_parse_text::Statement;
+use sg_visit::{Visit, visit_element, visit_logs};
+use std::convert::Infallible;
 
 fn at(kind: ConfigKind, spot: &Spot) -> Option<Placed>
     ensures { result ≡ Some (placed kind spot.now) }
@@ -38,79 +43,65 @@ fn flags_fault(flags: &[Spot]) -> Option<Placed>
     first
 }
 
-#[tactic(auto, using(sg_fault::proofs::Least::least_append, crate::proofs::PlaceEquations::places_source, crate::proofs::PlaceEquations::places_destination, crate::proofs::PlaceEquations::places_filter, crate::proofs::PlaceEquations::places_rewrite, crate::proofs::PlaceEquations::places_junction, crate::proofs::PlaceEquations::places_if))]
-#[cycle(place)]
+/// Finds the first fault of places in channels, branches and embedded statements.
+#[derive(Drop)]
+struct PlaceVisitor;
+
+#[tactic(auto, using(sg_fault::proofs::Least::earlier_none))]
+impl Visit for PlaceVisitor {
+    type State = Option<Placed>;
+
+    type Error = Infallible;
+
+    ghost step = { λ visitor old leaf new. new ≡ earlier old (least (leaf_faults leaf)) };
+
+    fn object(&self, _first: &mut Option<Placed>, _object: &Object) -> Result<(), Infallible> {
+        Ok(())
+    }
+
+    fn source(&self, first: &mut Option<Placed>, word: &Spot) -> Result<(), Infallible> {
+        *first = earlier(*first, at(ConfigKind::SourcePlace, word));
+        Ok(())
+    }
+
+    fn reference(
+        &self,
+        _first: &mut Option<Placed>,
+        _kind: Kind,
+        _reference: &RawRef,
+    ) -> Result<(), Infallible> {
+        Ok(())
+    }
+
+    fn test(&self, _first: &mut Option<Placed>, _test: &RawExpr) -> Result<(), Infallible> {
+        Ok(())
+    }
+
+    fn flags(&self, first: &mut Option<Placed>, flags: &[Spot]) -> Result<(), Infallible> {
+        *first = earlier(*first, flags_fault(flags));
+        Ok(())
+    }
+}
+
 fn element_fault(element: &RawElement) -> Option<Placed>
     ensures { result ≡ least (element_faults element.now) }
 {
-    match element {
-        RawElement::Source(word, _) => at(ConfigKind::SourcePlace, word),
-        RawElement::Destination(_) => None,
-        RawElement::Filter(_) => None,
-        RawElement::Rewrite(_) => None,
-        RawElement::Junction(channels) => logs_fault(channels.as_slice()),
-        RawElement::If { branches, other } => {
-            let first = branches_fault(branches.as_slice());
-            match other {
-                Some(elements) => earlier(first, elements_fault(elements.as_slice())),
-                None => first,
-            }
-        }
-    }
-}
-
-#[cycle(place)]
-fn elements_fault(elements: &[RawElement]) -> Option<Placed>
-    ensures { result ≡ least (flat_map element_faults elements.now) }
-{
     let mut first = None;
-    for element in elements {
-        first = earlier(first, element_fault(element));
+    match visit_element(&PlaceVisitor, &mut first, element) {
+        Ok(()) => first,
+        Err(never) => match never {},
     }
-    first
 }
 
-#[tactic(auto, using(crate::proofs::PlaceEquations::places_branch))]
-#[cycle(place)]
-fn branch_fault(branch: &RawBranch) -> Option<Placed>
-    ensures { result ≡ least (branch_faults branch.now) }
-{
-    elements_fault(branch.elements.as_slice())
-}
-
-#[cycle(place)]
-fn branches_fault(branches: &[RawBranch]) -> Option<Placed>
-    ensures { result ≡ least (flat_map branch_faults branches.now) }
-{
-    let mut first = None;
-    for branch in branches {
-        first = earlier(first, branch_fault(branch));
-    }
-    first
-}
-
-/// Of a channel or an embedded statement.
-#[tactic(auto, using(sg_fault::proofs::Least::least_append, crate::proofs::PlaceEquations::places_log))]
-#[cycle(place)]
-fn log_fault(log: &RawLog) -> Option<Placed>
-    ensures { result ≡ least (log_faults log.now) }
-{
-    let inner = earlier(
-        elements_fault(log.elements.as_slice()),
-        logs_fault(log.embedded.as_slice()),
-    );
-    earlier(inner, flags_fault(log.flags.as_slice()))
-}
-
-#[cycle(place)]
+/// Of embedded statements.
 fn logs_fault(logs: &[RawLog]) -> Option<Placed>
-    ensures { result ≡ least (flat_map log_faults logs.now) }
+    ensures { result ≡ least (flat_map leaf_faults (flat_map log_leaves logs.now)) }
 {
     let mut first = None;
-    for log in logs {
-        first = earlier(first, log_fault(log));
+    match visit_logs(&PlaceVisitor, &mut first, logs) {
+        Ok(()) => first,
+        Err(never) => match never {},
     }
-    first
 }
 
 #[tactic(auto, unfolding(crate::specs::Places::top_element_faults))]

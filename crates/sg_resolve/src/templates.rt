@@ -4,7 +4,7 @@ ghost use Rattle.std.specs.Option.{option_copied};
 ghost use Rattle.std.specs.FinMap as map;
 ghost use Rattle.sg_resolve.specs.Templates.{text_of, with_template, with_statement, templates_of};
 
-use sg_block::Table;
+use sg_block::NameMap;
 use sg_destination::Templates;
 use sg_device::{Name, NoMemory};
 use sg_parse_base::Spot;
@@ -15,7 +15,7 @@ use std::alloc::Global;
 /// The texts of templates: for each name that of the first statement.
 #[derive(Drop)]
 pub struct TemplateTexts {
-    pub texts: Table<Name>,
+    pub texts: NameMap<Name>,
 }
 
 impl Templates for TemplateTexts {
@@ -77,7 +77,7 @@ pub fn templates_of(alloc: Global, statements: &[Statement]) -> Result<TemplateT
     ensures { IfOk result (λ texts. texts ≡ templates_of statements.now) }
 {
     let mut texts = TemplateTexts {
-        texts: Table::new(alloc),
+        texts: NameMap::new(alloc),
     };
     for statement in statements {
         enter_statement(alloc, &mut texts, statement)?;

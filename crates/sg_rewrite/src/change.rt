@@ -1,6 +1,7 @@
 // A rewrite with what searches for its pattern.
-ghost use Rattle.std.specs.Prelude.{◌≡◌, IfOk, IfErr};
+ghost use Rattle.std.specs.Prelude.{◌≡◌, IfOk, IfErr, OnOk};
 ghost use Rattle.sg_outside.specs.World.{OnlyBuilds};
+ghost use Rattle.sg_pattern.specs.Builds.{RefusesNone};
 ghost use Rattle.sg_rewrite.specs.Ops.{change_of, RefusesOp, IsOp};
 ghost use Rattle.sg_rewrite.specs.Changes.{IsChange, HasPattern};
 
@@ -68,6 +69,7 @@ pub(crate) fn change_of<B: Builder>(
 ) -> Result<Change, BuildRefusal>
     ensures ok { IfOk result (λ change. change ≡ change_of op.now) }
     ensures valid { IfOk result HasPattern }
+    ensures stays { OnOk result (RefusesNone (B.state builder.old) (B.state builder.new)) }
     ensures refused { IfErr result (RefusesOp (B.state builder.old) (B.state builder.new) op.now) }
     ensures only { OnlyBuilds (B.state builder.old) (B.state builder.new) }
 {

@@ -1,6 +1,7 @@
 // A rewrite of messages.
 ghost use Rattle.std.specs.Prelude.{◌≡◌, IfOk, IfErr, OnOk, OnErr};
 ghost use Rattle.sg_outside.specs.World.{OnlyBuilds};
+ghost use Rattle.sg_pattern.specs.Builds.{RefusesNone};
 ghost use Rattle.sg_rewrite.specs.Changes.{HasPattern};
 ghost use Rattle.sg_rewrite.specs.Ops.{IsOp, change_of, RefusesOp};
 ghost use Rattle.sg_rewrite.specs.Rewritten.{rewritten};
@@ -71,6 +72,7 @@ impl Rewrite {
         requires { IsOp op.now }
         ensures ok { IfOk result (λ rewrite. rewrite ≡ change_of op.now) }
         ensures valid { IfOk result HasPattern }
+        ensures stays { OnOk result (RefusesNone (B.state builder.old) (B.state builder.new)) }
         ensures refused { IfErr result
             (RefusesOp (B.state builder.old) (B.state builder.new) op.now) }
         ensures only { OnlyBuilds (B.state builder.old) (B.state builder.new) }

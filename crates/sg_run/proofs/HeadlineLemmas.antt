@@ -26,6 +26,7 @@ headline-by plan routers reached run h = record {
   later = h.later;
   ran = h.ran;
   accepted = h.accepted;
+  faults = h.faults;
   holds = record {
     texts = texts-by plan routers reached _ (run.prelude ++ h.later) (h.holds).texts;
     taken = (h.holds).taken;

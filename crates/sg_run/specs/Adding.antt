@@ -12,7 +12,7 @@ use Rattle.sg_config.specs.Means.{Means}
 use Rattle.sg_config.specs.declared.config.Config.{Config}
 use Rattle.sg_loaded.specs.declared.loaded.Unloaded.{Unloaded}
 use Rattle.sg_serve.specs.Run.{CoreRun}
-use Rattle.sg_many_runs.specs.Covered.{Pass, Taken, Covered}
+use Rattle.sg_many_runs.specs.Covered.{Pass, Delivery, Covered}
 use Rattle.sg_many_runs.specs.Adding.{offers_in, position_in}
 use Rattle.sg_many_runs.specs.Happened.{AreListsBy, held_by, TellFiles, files_of}
 use Rattle.sg_many_runs.specs.PlanRuns.{StopsWithin, StopsThen, PlanRun, TellThese, UnopenedRun, StopsUnopened, RunOf, Lengthen, PlanRunsSum}
@@ -123,7 +123,7 @@ IsClean (Err unloaded) = ⊥
 abbrev pub ConfigRunsAddUp : {I O : Type 0} → (I → InletState) → (O → OutletState) → Type 0
 ConfigRunsAddUp feed drain =
     (tokens : List Token) (config : Config) (by : List Pipes) (are : AreRouters config by)
-    (bytes : ℕ → List ℕ) (taken : List Taken) (passes : List Pass) (before : List (List ℕ))
+    (bytes : ℕ → List ℕ) (taken : List Delivery) (passes : List Pass) (before : List (List ℕ))
     (runs : List (ConfigRunOf feed drain config)) (last : ConfigRun feed drain config)
     → Means tokens config
     → ((lists : List (List Kept)) → AreListsBy config.setup.dests before lists

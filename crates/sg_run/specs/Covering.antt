@@ -10,7 +10,7 @@ use Rattle.sg_run_plan.specs.declared.plan.RunPlan.{RunPlan}
 use Rattle.sg_turns.specs.declared.ended.Ended.TheVariants.{Quiet, RoundsSpent as Spent, NoMemory}
 use Rattle.sg_msg.specs.declared.offer.Offer.{Offer}
 use Rattle.sg_frame.specs.Records.{Record}
-use Rattle.sg_many_runs.specs.Covered.{Pass, Taken, Offers, Covered}
+use Rattle.sg_many_runs.specs.Covered.{Pass, Delivery, Offers, Covered}
 use Rattle.sg_many_runs.specs.Adding.{offers_in, EndsClean}
 use Rattle.sg_many_runs.specs.Happened.{AllTell, AreOfFiles, TellFiles, EachChoice, files_of, Happened, LeavesCovered}
 use Rattle.sg_many_runs.specs.Clean.{AreLines}
@@ -32,7 +32,7 @@ CleanSo plan reached (Ran Quiet (Some counts)) bytes =
 CleanSo plan reached (Ran Spent counts) bytes = Unit {0}
 CleanSo plan reached (Ran NoMemory counts) bytes = Unit {0}
 
-pub record StaysCovered {offers : Offers} {files : Option Files} {plan : RunPlan} {reached : Reached} {run : CoreRun} (ending : PlanEnded) (happened : Happened offers files plan reached run) (bytes : ℕ → List ℕ) (taken : List Taken) (passes : List Pass) (places : ℕ → ℕ) : Type 0 where
+pub record StaysCovered {offers : Offers} {files : Option Files} {plan : RunPlan} {reached : Reached} {run : CoreRun} (ending : PlanEnded) (happened : Happened offers files plan reached run) (bytes : ℕ → List ℕ) (taken : List Delivery) (passes : List Pass) (places : ℕ → ℕ) : Type 0 where
   pub leaves : LeavesCovered happened bytes taken passes places
   pub clean : CleanSo plan reached ending bytes
 
@@ -40,7 +40,7 @@ pub record StaysCovered {offers : Offers} {files : Option Files} {plan : RunPlan
 -- core was opened, at every moment since then.
 pub record Covers {R : Type 0} (offers : R → ℕ → Record → List Offer → Type 0) (files : Option Files) (plan : RunPlan) (by : List R) (reached : Reached) (ending : PlanEnded) : Type 0 where
   -- without a core nothing was taken, and no record came in
-  pub unopened : (bytes : ℕ → List ℕ) (taken : List Taken) (passes : List Pass) (places : ℕ → ℕ)
+  pub unopened : (bytes : ℕ → List ℕ) (taken : List Delivery) (passes : List Pass) (places : ℕ → ℕ)
       → reached.core ≡ None
       → EachChoice plan.setup reached.stores (Covered plan.setup (offers_in offers by)
       (files_of plan.inlets.items bytes) taken passes places)
@@ -50,7 +50,7 @@ pub record Covers {R : Type 0} (offers : R → ℕ → Record → List Offer →
       → Happened (offers_in offers by) files plan reached run
   pub opened :
       (run : CoreRun) (had : Happened (offers_in offers by) files plan reached run)
-      (bytes : ℕ → List ℕ) (taken : List Taken) (passes : List Pass) (places : ℕ → ℕ)
+      (bytes : ℕ → List ℕ) (taken : List Delivery) (passes : List Pass) (places : ℕ → ℕ)
       → reached.core ≡ Some run → AllTell reached.stores
       → TellFiles files plan reached.inlets bytes
       → EachChoice plan.setup reached.stores (Covered plan.setup (offers_in offers by)

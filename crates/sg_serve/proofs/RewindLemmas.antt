@@ -5,7 +5,7 @@ use Rattle.sg_list.specs.Lists.{change, passes_at}
 use Rattle.sg_list.proofs.ListLemmas.{some-same, slice_get-some, slice_get-below, get-change-other, get-change-same}
 use Rattle.sg_device.specs.Disk.{DiskState}
 use Rattle.sg_device.specs.Faults.{Rose}
-use Rattle.sg_stores.proofs.StoreLemmas.{goes_trans}
+use Rattle.sg_stores.proofs.StoreLemmas.{all_go_trans}
 use Rattle.sg_buffer.specs.declared.found.Found.{Found}
 use Rattle.sg_machine.specs.declared.event.Act.{Act}
 use Rattle.sg_machine.specs.declared.event.Act.TheVariants.{Rewind, Look}
@@ -18,7 +18,7 @@ use Rattle.sg_machine.specs.Legal.{is_nil, may_rewind}
 use Rattle.sg_machine.specs.Runs.{Opening, opened, after_all}
 use Rattle.sg_machine.proofs.RunLemmas.{both-true}
 use Rattle.sg_counter.specs.Bringing.{store_in}
-use Rattle.sg_stores.specs.Stores.{StoreState, AllGo}
+use Rattle.sg_stores.specs.Stores.{StoreState}
 use Rattle.sg_stores.specs.Positions.{position_of, stored_in}
 use Rattle.sg_stores.specs.Opening.{IsOpenedAs}
 use Rattle.sg_stores.specs.declared.kind.StoreKind.{StoreKind}
@@ -36,14 +36,6 @@ use Rattle.sg_serve.specs.Rewinds.{position_at, rewinds_at, rewinds_from, AreApa
 use Rattle.sg_serve.proofs.DeviceLemmas.{rose-wider}
 
 -- Events before the rounds.
-
-pub all-go-then : (a b c : List StoreState) → AllGo a b → AllGo b c → AllGo a c
-all-go-then a b c ab bc = record {
-  count = bc.count ∙ ab.count;
-  each = λ s old new h k.
-      let mid = slice_get-some b s (let low = slice_get-below a s old h in let n = ab.count in omega (arith, low, n)) in
-      goes_trans old mid.0 new (ab.each s old mid.0 h mid.1) (bc.each s mid.0 new mid.1 k);
-}
 
 not-nil : {A : Type 0} (xs : List A) (x : A) → xs ++ x ∷ [] ≡ [] → ⊥
 not-nil [] x h = let wrong : x ∷ [] ≡ [] = h in cc
@@ -64,7 +56,7 @@ pub begun-more : (first mid new : CoreState) (events : List Event) (act : Act) (
 begun-more first mid new events act does begun = record {
   stands = λ setup opening stands. does.stands (opened setup opening) events (begun.stands setup opening stands);
   rows = λ setup opening stood k s low. does.keeps (opened setup opening) events (begun.stands setup opening stood) k s (omega (arith, low)) ∙ begun.rows setup opening stood k s low;
-  goes = all-go-then first.stores mid.stores new.stores begun.goes does.goes;
+  goes = all_go_trans first.stores mid.stores new.stores begun.goes does.goes;
   setup = does.setup ∙ begun.setup;
   calls = (let n = does.calls in let m = begun.calls in let k = length-append events ((record { act = act; failed = does.failed }) ∷ []) in omega (arith, n, m, k));
   still = λ e. absurd (not-nil events (record { act = act; failed = does.failed }) e);

@@ -14,20 +14,12 @@ use Rattle.sg_machine.specs.declared.event.Act.TheVariants.{Look}
 use Rattle.sg_machine.specs.declared.event.Event.{Event}
 use Rattle.sg_machine.specs.declared.setup.Setup.{Setup}
 use Rattle.sg_counter.specs.Bringing.{store_in}
-use Rattle.sg_counter.specs.Exchanges.{Makes, Exchange}
-use Rattle.sg_counter.specs.declared.calls.CoreCall.{CoreCall}
-use Rattle.sg_counter.specs.declared.calls.CoreCall.TheVariants.{Credit, Admit, Front, Settle, Refill, Store as CallStore}
-use Rattle.sg_counter.specs.declared.calls.CoreReply.{CoreReply}
-use Rattle.sg_counter.specs.declared.calls.CoreReply.TheVariants.{Credit as CreditReply, Admitted, Front as FrontReply, Settled, Refilled, Stored}
-use Rattle.sg_core.specs.Calls.{Serves as CoreServes}
-use Rattle.sg_standing.proofs.Calls.{all-go-same}
-use Rattle.sg_serve.proofs.RewindLemmas.{all-go-then}
 use Rattle.sg_actor.specs.SourceTurns.{actor}
 use Rattle.sg_actor.specs.declared.dest.DestActor.{DestActor}
 use Rattle.sg_actor.specs.declared.settings.SourceSpec.{SourceSpec}
 use Rattle.sg_actor.specs.declared.source.SourceActor.{SourceActor}
 use Rattle.sg_buffer.specs.declared.found.Found.{Found}
-use Rattle.sg_stores.specs.Stores.{StoreState, AllGo}
+use Rattle.sg_stores.specs.Stores.{StoreState}
 use Rattle.sg_stores.specs.Opening.{IsOpenedAs}
 use Rattle.sg_stores.specs.declared.answers.CoreRefusal.{CoreRefusal}
 use Rattle.sg_stores.specs.declared.answers.CoreRefusal.TheVariants.{Damage as CoreDamage, DiskFault as CoreFault, NoMemory as CoreNoMemory}
@@ -58,23 +50,6 @@ pub closes-all : (old w1 w2 new : WorldState) (disks : List DiskState) (feeds : 
 closes-all old w1 w2 new disks feeds drains a b c =
     c ∙ ap (λ (m : WorldState). record m { outlets = with_all_closed m.outlets drains }) b
     ∙ ap (λ (m : WorldState). record m { inlets = with_all_closed m.inlets feeds; outlets = with_all_closed m.outlets drains }) a
-
--- Calls.
-
-serves-go : (old new : CoreState) (call : CoreCall) (reply : CoreReply) → CoreServes old call reply new → AllGo old.stores new.stores
-serves-go old new (Credit i) (CreditReply n) s = all-go-same old.stores new.stores (ap (λ (c : CoreState). c.stores) s.same)
-serves-go old new (Admit i records) (Admitted (Ok verdicts)) s = (s.does).goes
-serves-go old new (Admit i records) (Admitted (Err refused)) s = (s.does).goes
-serves-go old new (Front d most) (FrontReply result) s = (s.does).goes
-serves-go old new (Settle d place n count) (Settled result) s = (s.does).goes
-serves-go old new (Refill d) (Refilled result) s = (s.does).goes
-serves-go old new (CallStore i) (Stored result) s = (s.does).goes
-serves-go old new call reply s = absurd s
-
--- time goes on for each store over any calls
-pub calls-go : (old new : CoreState) (made : List Exchange) → Makes CoreServes old made new → AllGo old.stores new.stores
-calls-go old new [] m = all-go-same old.stores new.stores (ap (λ (c : CoreState). c.stores) m)
-calls-go old new (x ∷ rest) m = all-go-then old.stores (m.0).stores new.stores (serves-go old m.0 x.call x.reply m.1) (calls-go m.0 new rest m.2)
 
 -- Actors.
 

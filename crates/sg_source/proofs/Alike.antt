@@ -25,8 +25,8 @@ opts_are_one defaults call a b p q =
     same_opts a b (p.pri ∙ sym q.pri) (p.zone ∙ sym q.zone) (p.keep_hostname ∙ sym q.keep_hostname) (p.keep_timestamp ∙ sym q.keep_timestamp) (p.parse ∙ sym q.parse)
 
 same_source : (a b : SourceDriver) → a.place ≡ b.place → a.kind ≡ b.kind → a.limit ≡ b.limit → a.fetch ≡ b.fetch → a.window ≡ b.window → a.opts ≡ b.opts
-    → a.rfc5424 ≡ b.rfc5424 → a.empty_lines ≡ b.empty_lines → a.tags ≡ b.tags → a ≡ b
-same_source a b place kind limit fetch window opts rfc5424 empty_lines tags = λ i. record {
+    → a.rfc5424 ≡ b.rfc5424 → a.empty_lines ≡ b.empty_lines → a.one_line ≡ b.one_line → a.tags ≡ b.tags → a ≡ b
+same_source a b place kind limit fetch window opts rfc5424 empty_lines one_line tags = λ i. record {
   place = place i;
   kind = kind i;
   limit = limit i;
@@ -35,10 +35,11 @@ same_source a b place kind limit fetch window opts rfc5424 empty_lines tags = λ
   opts = opts i;
   rfc5424 = rfc5424 i;
   empty_lines = empty_lines i;
+  one_line = one_line i;
   tags = tags i;
 }
 
 pub sources_are_one : (defaults : Defaults) (call : Call) (a b : SourceDriver) → IsSource defaults call a → IsSource defaults call b → a ≡ b
 sources_are_one defaults call a b p q =
     same_source a b (p.place ∙ sym q.place) (p.kind ∙ sym q.kind) (p.limit ∙ sym q.limit) (p.fetch ∙ sym q.fetch) (p.window ∙ sym q.window)
-    (opts_are_one defaults call a.opts b.opts p.opts q.opts) (p.rfc5424 ∙ sym q.rfc5424) (p.empty_lines ∙ sym q.empty_lines) (p.tags ∙ sym q.tags)
+    (opts_are_one defaults call a.opts b.opts p.opts q.opts) (p.rfc5424 ∙ sym q.rfc5424) (p.empty_lines ∙ sym q.empty_lines) (p.one_line ∙ sym q.one_line) (p.tags ∙ sym q.tags)

@@ -126,6 +126,7 @@ pub record IsSource (defaults : Defaults) (call : Call) (source : SourceDriver) 
   pub opts : HasOpts defaults call source.opts
   pub rfc5424 : source.rfc5424 ≡ reads_5424 call
   pub empty_lines : source.empty_lines ≡ is_flagged (codes "empty-lines") call
+  pub one_line : source.one_line ≡ is_flagged (codes "no-multi-line") call
   pub tags : source.tags ≡ tags_of call
 
 -- ---- its inlets

@@ -48,6 +48,8 @@ pub struct SourceDriver {
     pub rfc5424: bool,
     /// An empty record becomes a message too.
     pub empty_lines: bool,
+    /// LF, CR and NUL in MESSAGE become spaces.
+    pub one_line: bool,
     /// Set on each message, in this order.
     pub tags: Seq<Name>,
 }
@@ -256,6 +258,7 @@ pub fn read_source(
         opts: opts_of(call, defaults),
         rfc5424: reads_5424(call),
         empty_lines: is_flagged(b"empty-lines", call),
+        one_line: is_flagged(b"no-multi-line", call),
         tags: tags_of(alloc, call)?,
     })
 }

@@ -1,5 +1,5 @@
 -- The whole of a listing.
-use Rattle.std.proofs.Common.{◌≡◌, ◌⊎◌, inl, inr, ℕ, ◌≤◌, false, true, List, [], ◌∷◌, ◌++◌, Option, Some, None, Result, Ok, Err, refl, sym, ◌∙◌, ap, subst, arith, append_assoc}
+use Rattle.std.proofs.Common.{◌≡◌, ◌⊎◌, inl, inr, ℕ, ◌≤◌, false, true, List, [], ◌∷◌, ◌++◌, Option, Some, None, Result, Ok, Err, refl, sym, ◌∙◌, ap, subst, arith}
 use Rattle.std.specs.Option.{option_map}
 use Rattle.sg_device.specs.Disk.{DiskState, Preserves, Rests}
 use Rattle.sg_device.specs.Faults.{Rose}
@@ -17,12 +17,13 @@ use Rattle.sg_spool.proofs.Unique.{list_unique}
 use Rattle.sg_stable.specs.declared.fault.StoreRefusal.{StoreRefusal}
 use Rattle.sg_stable.specs.declared.fault.StoreRefusal.TheVariants.{Damage as StoreDamage, DiskFault as StoreFault, NoMemory as StoreNoMemory}
 use Rattle.sg_spooled.specs.Entries.{Row, AreStored, payloads_of, row_lines, IsBegun}
-use Rattle.sg_spooled.specs.Walking.{OnlySays, SaidText, SaidSome, UnlessUnsaid, WalkEnds, WalksBy, Walks, end_text, answer_of, Ends}
+use Rattle.sg_output.specs.Saying.{OnlySays, SaidText, SaidSome}
+use Rattle.sg_spooled.specs.Walking.{UnlessUnsaid, WalkEnds, WalksBy, Walks, end_text, answer_of, Ends}
 use Rattle.sg_spooled.specs.Listing.{StoreUse, spec_of, IfOpened, IsThere, IsKept, IsDamaged, HasCause, SaysList, IsSpelled, IsUntroubled, IsComplete, unlisted_for, ListsBy, Lists, Spools}
 use Rattle.sg_spooled.specs.declared.unlisted.Unlisted.{Unlisted}
 use Rattle.sg_spooled.specs.declared.unlisted.Unlisted.TheVariants.{NotOpened, Damage, DiskFault, SayFault, NoMemory}
 use Rattle.sg_spooled.proofs.EntryLemmas.{stored-among}
-use Rattle.sg_spooled.proofs.WalkLemmas.{rose-later, rose-on, says-text, only-says-then}
+use Rattle.sg_output.proofs.Sayings.{rose-later, rose-on, only-says-then, all-said}
 
 -- over an open store
 
@@ -44,10 +45,6 @@ caused state old new a b c opened rows (Err DiskFault) same later says ends =
     (rose-later opened.faults (state old.disk).faults (state new.disk).faults later ends.0, told_before opened (state old.disk) (IsBegun rows) same ends.1)
 caused state old new a b c opened rows (Err SayFault) same later says ends = rose-on a.say_faults b.say_faults c.say_faults ends says.later
 caused state old new a b c opened rows (Err NoMemory) same later says ends = tt
-
-all-said : (a b c : WorldState) (lines text end : List ℕ) → SaidSome a b lines text → SaidText b c (text ++ end) → SaidText a c (lines ++ end)
-all-said a b c lines text end (s, (e, is)) f =
-    subst (λ (t : List ℕ). SaidText a c t) (sym (append_assoc s text end) ∙ ap (λ (xs : List ℕ). xs ++ end) is) (says-text a b c s (text ++ end) e f)
 
 said-list : {D : Type 0} (state : D → DiskState) (old new : View D) (a b c : WorldState) (text : List ℕ) (rows : List Row) (walked : Result ℕ Unlisted)
     → WalkEnds state old new a b rows walked → UnlessUnsaid walked (SaidSome a b (row_lines 0 rows) text) → UnlessUnsaid walked (SaidText b c (text ++ end_text walked)) → SaysList a c rows (answer_of walked)
@@ -260,6 +257,6 @@ spools-empty old new file is later =
     unopened-by old new file (Err NoMemory) (state-says old new new is refl) later (omega (arith, faults)) tt tt
 
 -- the same of a store whose name is that of FILE
-pub spools-named : (old a b new : WorldState) (file name : List ℕ) (opened closed : DiskState) (result : Result Unit Unlisted) → name ≡ file → StoreOpens old a (record { name = name; create = false }) opened → Lists a b opened closed result → ClosesStore b new closed → Spools old new file result
+pub spools-named : (old a b new : WorldState) (file name : List ℕ) (opened closed : DiskState) (result : Result Unit Unlisted) → name ≡ file → StoreOpens old a (record { name = name; create = false; size = 0 }) opened → Lists a b opened closed result → ClosesStore b new closed → Spools old new file result
 spools-named old a b new file name opened closed result same opens lists closes =
-    spools-opened old a b new file opened closed result (subst (λ (n : List ℕ). StoreOpens old a (record { name = n; create = false }) opened) same opens) lists closes
+    spools-opened old a b new file opened closed result (subst (λ (n : List ℕ). StoreOpens old a (record { name = n; create = false; size = 0 }) opened) same opens) lists closes

@@ -1,10 +1,8 @@
 -- The walk over a store's entries.
-use Rattle.std.proofs.Common.{◌≡◌, ◌⊎◌, inl, inr, ℕ, ◌+◌, ◌-◌, ◌^◌, min, ◌≤◌, ◌<◌, false, List, [], ◌∷◌, ◌++◌, length, Option, Some, None, Result, Ok, Err, Vec, IsErrAnd, Bool, true, refl, sym, ◌∙◌, ap, subst, arith, append_assoc, length-append}
+use Rattle.std.proofs.Common.{◌≡◌, ◌⊎◌, inl, inr, ℕ, ◌+◌, ◌-◌, ◌^◌, ◌≤◌, ◌<◌, false, List, [], ◌∷◌, ◌++◌, length, Option, Result, Ok, Err, Vec, IsErrAnd, Bool, true, refl, sym, ◌∙◌, ap, subst, arith, length-append}
 use Rattle.std.proofs.lemmas.List.{append-nil}
-use Rattle.std.specs.Option.{option_map}
 use Rattle.std.specs.declared.alloc.Global.{Global}
 use Rattle.sg_device.specs.Disk.{DiskState, content, WhereTold, EachNow}
-use Rattle.sg_device.specs.Faults.{Rose}
 use Rattle.sg_device.proofs.DiskCalls.{content_same, reads_as_image}
 use Rattle.sg_outside.specs.World.{WorldState}
 use Rattle.sg_codec.specs.declared.kept.Kept.{Kept}
@@ -19,61 +17,16 @@ use Rattle.sg_spool.specs.declared.places.Places.{Places}
 use Rattle.sg_spool.specs.declared.rows.Rows.{Rows}
 use Rattle.sg_spool.proofs.Remaining.{remains_of}
 use Rattle.sg_spooled.specs.Entries.{Row, IsStored, IsNoEntry, AreStored, payloads_of, row_line, row_lines, IsBegun, IsFirstBad}
-use Rattle.sg_spooled.specs.Walking.{Appends, IsHere, IsNoneHere, ListsEntry, OnlySays, SaidText, SaidSome, SaysSome, UnlessUnsaid, WalkEnds, WalksBy, Walks}
+use Rattle.sg_output.specs.Saying.{OnlySays, SaidSome}
+use Rattle.sg_spooled.specs.Walking.{Appends, IsHere, IsNoneHere, ListsEntry, SaysSome, UnlessUnsaid, WalkEnds, WalksBy, Walks}
 use Rattle.sg_spooled.specs.declared.unlisted.Unlisted.{Unlisted}
 use Rattle.sg_spooled.specs.declared.unlisted.Unlisted.TheVariants.{NotOpened, Damage, DiskFault, SayFault, NoMemory}
+use Rattle.sg_output.proofs.Sayings.{rose-later, says-none, only-says-none, only-says-then, some-then, some-more}
 use Rattle.sg_spooled.proofs.EntryLemmas.{stored-more, payloads-before, payloads-more, count-payloads, lines-more}
 
 pub err-is : {T E : Type 0} → (r : Result T E) (e : E) → IsErrAnd r (λ s. s ≡ e) → r ≡ Err e
 err-is (Ok x) e h = absurd h
 err-is (Err x) e h = ap Err h
-
--- counts of faults
-
-min-grows : (a b c : ℕ) → a ≤ b → min (b + 1) (2 ^ 64 - 1) ≤ c → min (a + 1) (2 ^ 64 - 1) ≤ c
-min-grows a b c h k = grind arith
-
-pub rose-later : (a b c : ℕ) → a ≤ b → Rose b c → Rose a c
-rose-later a b c h k = min-grows a b c h k
-
-pub rose-on : (a b c : ℕ) → Rose a b → b ≤ c → Rose a c
-rose-on a b c h k = omega arith
-
--- what was said
-
-said-then : (a b c : Option (List ℕ)) (s t : List ℕ) → b ≡ option_map (λ said. said ++ s) a → c ≡ option_map (λ said. said ++ t) b → c ≡ option_map (λ said. said ++ (s ++ t)) a
-said-then None b c s t e f = f ∙ ap (option_map (λ said. said ++ t)) e
-said-then (Some x) b c s t e f = f ∙ (ap (option_map (λ said. said ++ t)) e ∙ ap (λ (y : List ℕ). Some y) (append_assoc x s t))
-
-pub says-text : (a b c : WorldState) (s t : List ℕ) → SaidText a b s → SaidText b c t → SaidText a c (s ++ t)
-says-text a b c s t e f = said-then a.said b.said c.said s t e f
-
-said-nothing : (a : Option (List ℕ)) → a ≡ option_map (λ said. said ++ []) a
-said-nothing None = refl
-said-nothing (Some x) = ap (λ (y : List ℕ). Some y) (sym (append-nil x))
-
-pub says-none : (a : WorldState) → SaidText a a []
-says-none a = said-nothing a.said
-
-pub only-says-none : (a : WorldState) → OnlySays a a
-only-says-none a = record { same = refl; later = omega arith }
-
-same-says : (a b c : WorldState) → b ≡ record a { say_faults = b.say_faults; said = b.said } → c ≡ record b { say_faults = c.say_faults; said = c.said } → c ≡ record a { say_faults = c.say_faults; said = c.said }
-same-says a b c e f = f ∙ ap (λ (w : WorldState). record w { say_faults = c.say_faults; said = c.said }) e
-
-pub only-says-then : (a b c : WorldState) → OnlySays a b → OnlySays b c → OnlySays a c
-only-says-then a b c e f = record {
-  same = same-says a b c e.same f.same;
-  later = (let l = e.later in let k = f.later in omega (arith, l, k));
-}
-
--- some of the text was said before, and some of the rest is said now
-pub some-then : (a b c : WorldState) (all text text' : List ℕ) → SaidSome a b all text → SaidSome b c text text' → SaidSome a c all text'
-some-then a b c all text text' (s, (e, f)) (t, (g, h)) =
-    (s ++ t, (says-text a b c s t e g, append_assoc s t text' ∙ (ap (λ (xs : List ℕ). s ++ xs) h ∙ f)))
-
-pub some-more : (a b : WorldState) (all text more : List ℕ) → SaidSome a b all text → SaidSome a b (all ++ more) (text ++ more)
-some-more a b all text more (s, (e, f)) = (s, (e, sym (append_assoc s text more) ∙ ap (λ (xs : List ℕ). xs ++ more) f))
 
 -- where a walk stands
 

@@ -12,7 +12,7 @@ use Rattle.sg_spool.specs.Ring.{IsList}
 use Rattle.sg_stable.specs.declared.fault.StoreRefusal.{StoreRefusal}
 use Rattle.sg_stable.specs.declared.fault.StoreRefusal.TheVariants.{Damage as StoreDamage, DiskFault as StoreFault, NoMemory as StoreNoMemory}
 use Rattle.sg_spooled.specs.Entries.{Row, AreStored, payloads_of, row_lines, IsBegun, IsFirstBad}
-use Rattle.sg_spooled.specs.Walking.{OnlySays, SaidText}
+use Rattle.sg_output.specs.Saying.{OnlySays, SaidText}
 use Rattle.sg_spooled.specs.declared.unlisted.Unlisted.{Unlisted}
 use Rattle.sg_spooled.specs.declared.unlisted.Unlisted.TheVariants.{NotOpened, Damage, DiskFault, SayFault, NoMemory}
 
@@ -23,7 +23,7 @@ pub record StoreUse : Type 0 where
 
 -- the store of FILE, which isn't made where it is missing
 abbrev pub spec_of : List ℕ → StoreSpec
-spec_of file = record { name = file; create = false }
+spec_of file = record { name = file; create = false; size = 0 }
 
 -- the ledger with that store opened and closed, where it was
 abbrev pub with_use : Ledger StoreSpec DiskState → List ℕ → Option StoreUse → Ledger StoreSpec DiskState

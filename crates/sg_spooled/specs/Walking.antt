@@ -1,10 +1,10 @@
 -- The walk over a store's entries, and what is said on the way.
 use Rattle.std.specs.Prelude.{◌≡◌, ◌⊎◌, ◌≤◌, ℕ, ◌+◌, Bool, true, false, List, [], ◌∷◌, ◌++◌, length, codes, Result, Ok, Err}
-use Rattle.std.specs.Option.{option_map}
 use Rattle.sg_codec.specs.declared.kept.Kept.{Kept}
 use Rattle.sg_device.specs.Disk.{DiskState, content, WhereTold}
 use Rattle.sg_device.specs.Faults.{Rose}
 use Rattle.sg_outside.specs.World.{WorldState}
+use Rattle.sg_output.specs.Saying.{OnlySays, SaidText, SaidSome}
 use Rattle.sg_report.specs.Entry.{entries_line}
 use Rattle.sg_report.specs.Store.{unopened_line, damaged_line, failed_line}
 use Rattle.sg_spool.specs.Places.{Remains, gate_past}
@@ -51,19 +51,6 @@ ListsEntry state old new gate number text text' (Err DiskFault) = (text' ≡ tex
 ListsEntry state old new gate number text text' (Err NoMemory) = Unit {0}
 ListsEntry state old new gate number text text' (Err NotOpened) = ⊥
 ListsEntry state old new gate number text text' (Err SayFault) = ⊥
-
--- the machine, but that something may have been said
-pub record OnlySays (old new : WorldState) : Type 0 where
-  pub same : new ≡ record old { say_faults = new.say_faults; said = new.said }
-  pub later : old.say_faults ≤ new.say_faults
-
--- this was said, and nothing else
-abbrev pub SaidText : WorldState → WorldState → List ℕ → Type 0
-SaidText old new text = new.said ≡ option_map (λ said. said ++ text) old.said
-
--- the text was said, or is still to be said
-abbrev pub SaidSome : WorldState → WorldState → (text text' : List ℕ) → Type 0
-SaidSome old new text text' = (said : List ℕ) × (SaidText old new said × (said ++ text' ≡ text))
 
 -- it is so, but where saying failed or memory ran out
 abbrev pub UnlessUnsaid : {T : Type 0} → Result T Unlisted → Type 0 → Type 0

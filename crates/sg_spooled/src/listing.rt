@@ -57,6 +57,7 @@ pub fn list_store<W: World>(alloc: Global, file: &[u8], world: &mut W) -> Result
     let spec = StoreSpec {
         name: Name::new(alloc, file)?,
         create: false,
+        size: 0,
     };
     match world.open_store(alloc, &spec) {
         Ok(store) => {

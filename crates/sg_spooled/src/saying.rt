@@ -1,6 +1,7 @@
 // What is said on the way, and at the end.
 ghost use Rattle.std.specs.Prelude.{◌≡◌, ◌++◌, OnOk};
-ghost use Rattle.sg_spooled.specs.Walking.{OnlySays, SaysAll, SaysSome, end_text, Ends};
+ghost use Rattle.sg_output.specs.Saying.{OnlySays};
+ghost use Rattle.sg_spooled.specs.Walking.{SaysAll, SaysSome, end_text, Ends};
 
 use crate::Unlisted;
 use sg_device::{NoMemory, SayRefusal};

@@ -10,8 +10,8 @@ use Rattle.sg_device.proofs.DiskCalls.{tells_same, unchanged}
 use Rattle.sg_stable.specs.declared.fault.StoreRefusal.{StoreRefusal}
 use Rattle.sg_stable.specs.declared.fault.StoreRefusal.TheVariants.{Damage, DiskFault, NoMemory}
 use Rattle.sg_buffer.specs.declared.found.Found.{Found}
-use Rattle.sg_stores.specs.Stores.{StoreState, Goes}
-use Rattle.sg_stores.specs.Opening.{IsStore, IsOpenedAs, AreOpened, Keeps, RestsInList, AreStoresBefore, HasReason, IsRefused, FailsByFaults, refusal_of}
+use Rattle.sg_stores.specs.Stores.{StoreState, Goes, AllGo}
+use Rattle.sg_stores.specs.Opening.{IsStore, IsOpenedAs, AreOpened, Keeps, RestsInList, AreStoresBefore, HasReason, IsRefused, FailsByFaults, AllFailByFaults, refusal_of}
 use Rattle.sg_stores.specs.Looking.{IsLookedAs, IsUnlooked, OpenReason, RenewReason, IsUnrenewed, IsUnstaged, CanRenew, CanRenewAll, RenewsAt, AreOpening}
 use Rattle.sg_stores.specs.declared.kind.StoreKind.{StoreKind}
 use Rattle.sg_stores.specs.declared.kind.StoreKind.TheVariants.{Position, Buffer}
@@ -63,16 +63,24 @@ opened-later : (kind : StoreKind) (disk : DiskState) (found : Found) (store : St
 opened-later Position disk found store is = let well = (is.0).well in omega (arith, well)
 opened-later (Buffer capacity) disk found store is = let well = is.well in omega (arith, well)
 
-by-faults : (disk : DiskState) (first now : StoreState) → first.failed ≡ false → first.disk.faults ≡ disk.faults → Goes first now → FailsByFaults disk now
+by-faults : (disk : DiskState) (first now : StoreState) → first.failed ≡ false → first.disk.faults ≡ disk.faults → Goes first now → FailsByFaults now.failed disk now.disk
 by-faults disk first now works well goes = record {
   works = λ works. goes.works works ∙ well;
   fails = λ fails. subst (λ (n : ℕ). Rose n now.disk.faults) well (goes.broke works fails);
 }
 
 -- from an opening on
-pub opened-by-faults : (kind : StoreKind) (disk : DiskState) (found : Found) (first now : StoreState) → IsOpenedAs kind disk found first → Goes first now → FailsByFaults disk now
+pub opened-by-faults : (kind : StoreKind) (disk : DiskState) (found : Found) (first now : StoreState) → IsOpenedAs kind disk found first → Goes first now → FailsByFaults now.failed disk now.disk
 opened-by-faults Position disk found first now is goes = by-faults disk first now (is.0).works (is.0).well goes
 opened-by-faults (Buffer capacity) disk found first now is goes = by-faults disk first now is.works is.well goes
+
+pub all-by-faults : (kinds : List StoreKind) (disks : List DiskState) (founds : List Found) (first now : List StoreState) → length kinds ≡ length disks → AreOpened kinds disks founds first → AllGo first now → AllFailByFaults disks now
+all-by-faults kinds disks founds first now many are goes s disk store at_disk at_store =
+    let low = slice_get-below disks s disk at_disk in
+    let kind = slice_get-some kinds s (omega (arith, low, many)) in
+    let found = slice_get-some founds s (let n = are.looked in omega (arith, low, n)) in
+    let was = slice_get-some first s (let n = are.count in omega (arith, low, n)) in
+    opened-by-faults kind.0 disk found.0 was.0 store (are.each s kind.0 disk found.0 was.0 kind.1 at_disk found.1 was.1) (goes.each s was.0 store was.1 at_store)
 
 opened-store : (kind : StoreKind) (disk : DiskState) (found : Found) (store : StoreState) → IsOpenedAs kind disk found store → WhereTold (content disk) (IsStore kind)
 opened-store Position disk found store is = λ b told. (store.position, (is.0).position b told)

@@ -6,13 +6,12 @@ use Rattle.sg_device.specs.Disk.{DiskState, content, WhereTold}
 use Rattle.sg_device.proofs.DiskCalls.{reads_as_image}
 use Rattle.sg_codec.specs.declared.kept.Kept.{Kept as Coded}
 use Rattle.sg_spool.specs.Calls.{Reads as SpoolReads}
-use Rattle.sg_spool.specs.Ring.{IsList}
 use Rattle.sg_spool.specs.View.{View}
 use Rattle.sg_spool.specs.declared.answers.RewriteRefusal.{RewriteRefusal}
 use Rattle.sg_spool.specs.declared.answers.RewriteRefusal.TheVariants.{DiskFault, NoMemory}
 use Rattle.sg_spool.specs.declared.rows.Rows.{Rows}
-use Rattle.sg_buffer.specs.Entries.{AreKept, spelled}
-use Rattle.sg_buffer.specs.First.{ReadReason}
+use Rattle.sg_buffer.specs.Entries.{AreKept}
+use Rattle.sg_buffer.specs.First.{AreFirst, AreFirstKept, ReadReason}
 use Rattle.sg_machine.specs.Runs.{Kept}
 use Rattle.sg_stores.specs.Reading.{Stays}
 use Rattle.sg_stores.specs.Stores.{BufferState, HoldsEntries, coded, buffer_state}
@@ -23,12 +22,15 @@ messages-coded zero list = refl
 messages-coded (suc n) [] = refl
 messages-coded (suc n) (k ∷ list) = ap (λ (l : List Content). k.message ∷ l) (messages-coded n list)
 
+abbrev pub FirstMessagesAreKept : Type 0
+FirstMessagesAreKept = (disk : DiskState) (n : ℕ) (messages : List Content) → AreFirst disk n messages → AreFirstKept disk n messages
+
 -- they are those of the list
-pub messages-first : {D : Type 0} (state : D → DiskState) (f : Bool) (view : View D) (n : ℕ) (messages : List Content)
-    → WhereTold (content (state view.disk)) (λ bytes. (entries : List Coded) → AreKept entries → IsList (spelled entries) bytes → messages ≡ map (λ (k : Coded). k.message) (take n entries))
+pub messages-first : FirstMessagesAreKept → {D : Type 0} (state : D → DiskState) (f : Bool) (view : View D) (n : ℕ) (messages : List Content)
+    → AreFirst (state view.disk) n messages
     → WhereTold (content (state view.disk)) (λ bytes. (list : List Kept) → HoldsEntries (buffer_state state f view) list [] → messages ≡ map (λ (k : Kept). k.message) (take n list))
-messages-first state f view n messages reads bytes told list held =
-    reads bytes told (map coded list) (subst (λ (l : List Kept). AreKept (map coded l)) (append-nil list) held.kept) (held.holds.images bytes (reads_as_image (state view.disk) bytes told)) ∙ messages-coded n list
+messages-first kept state f view n messages reads bytes told list held =
+    kept (state view.disk) n messages reads bytes told (map coded list) (subst (λ (l : List Kept). AreKept (map coded l)) (append-nil list) held.kept) (held.holds.images bytes (reads_as_image (state view.disk) bytes told)) ∙ messages-coded n list
 
 abbrev buffer_of : ℕ → Rows → Option BufferState
 buffer_of capacity rows = Some (record { capacity = capacity; rows = rows })

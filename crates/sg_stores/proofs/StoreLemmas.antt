@@ -2,6 +2,7 @@
 use Rattle.std.proofs.Common.{◌≡◌, inl, inr, ℕ, zero, suc, Option, ◌+◌, ◌*◌, ◌≤◌, ◌<◌, List, [], ◌∷◌, ◌++◌, length, map, take, drop, slice_get, Some, None, refl, sym, ap, ◌∙◌, arith, subst, Bool, true, false}
 use Rattle.std.proofs.lemmas.Bool.{cases_lt}
 use Rattle.std.proofs.lemmas.List.{map-append}
+use Rattle.sg_list.proofs.ListLemmas.{slice_get-some, slice_get-below}
 use Rattle.sg_device.specs.Disk.{DiskState, clock, Within, EachNow}
 use Rattle.sg_device.specs.Faults.{Rose}
 use Rattle.sg_device.proofs.Disks.{moves_refl}
@@ -15,7 +16,7 @@ use Rattle.sg_buffer.specs.Entries.{AreKept, IsListOf, spelled}
 use Rattle.sg_buffer.proofs.Stored.{news_stored}
 use Rattle.sg_machine.specs.Runs.{Kept}
 use Rattle.sg_sinks.specs.Fitting.{space}
-use Rattle.sg_stores.specs.Stores.{StoreState, BufferState, Goes, HoldsIn, HoldsEntries, coded, length_of, buffer_state}
+use Rattle.sg_stores.specs.Stores.{StoreState, BufferState, Goes, AllGo, HoldsIn, HoldsEntries, coded, length_of, buffer_state}
 
 -- one call behind another
 pub within_then : (first mid last : DiskState) (P Q R : List ℕ → Type 0) → Within first mid P → Within mid last Q → ((c : List ℕ) → P c → R c) → ((c : List ℕ) → Q c → R c) → Within first last R
@@ -55,6 +56,15 @@ goes_trans old mid new one two = record {
   stays = λ failed. two.stays (one.stays failed);
   works = λ works. two.works works ∙ one.works (worked mid new two works mid.failed refl);
   broke = λ works fails. broke_in old mid new one two works fails mid.failed refl;
+}
+
+pub all_go_trans : (olds mids news : List StoreState) → AllGo olds mids → AllGo mids news → AllGo olds news
+all_go_trans olds mids news one two = record {
+  count = two.count ∙ one.count;
+  each = λ s old new h k.
+      let low = slice_get-below olds s old h in
+      let mid = slice_get-some mids s (let n = one.count in omega (arith, low, n)) in
+      goes_trans old mid.0 new (one.each s old mid.0 h mid.1) (two.each s mid.0 new mid.1 k);
 }
 
 -- a call on a spool that leaves it open

@@ -1,5 +1,5 @@
 -- The opening of the stores.
-use Rattle.std.specs.Prelude.{◌≡◌, ◌⊎◌, ◌≤◌, ◌<◌, ◌^◌, ℕ, Some, None, is_some, true, false, List, [], length, map, slice_get}
+use Rattle.std.specs.Prelude.{◌≡◌, ◌⊎◌, ◌≤◌, ◌<◌, ◌^◌, ℕ, Bool, Some, None, is_some, true, false, List, [], length, map, slice_get}
 use Rattle.sg_device.specs.Disk.{DiskState, content, WhereTold, Durable, Preserves, Rests, Elapses, Within}
 use Rattle.sg_device.specs.Faults.{Rose}
 use Rattle.sg_codec.specs.declared.kept.Kept.{Kept as Coded}
@@ -70,11 +70,17 @@ abbrev pub IsOpenedAs : StoreKind → DiskState → Found → StoreState → Typ
 IsOpenedAs Position disk found store = IsOpened disk store × (found.heads.items ≡ [])
 IsOpenedAs (Buffer capacity) disk found store = IsRecovered disk capacity found store
 
--- since the disk was as it is here, while the store works no fault was counted, and one that has failed has its cause, which is
--- that the count rose
-pub record FailsByFaults (disk : DiskState) (store : StoreState) : Type 0 where
-  pub works : store.failed ≡ false → store.disk.faults ≡ disk.faults
-  pub fails : store.failed ≡ true → Rose disk.faults store.disk.faults
+-- A flag that is set exactly where a call on the disk has answered a fault: while it isn't, the count of faults stands as it did, and
+-- where it is, that rose.
+pub record FailsByFaults (failed : Bool) (old new : DiskState) : Type 0 where
+  pub works : failed ≡ false → new.faults ≡ old.faults
+  pub fails : failed ≡ true → Rose old.faults new.faults
+
+-- so it is with each of these stores since its disk was as it is here
+abbrev pub AllFailByFaults : List DiskState → List StoreState → Type 0
+AllFailByFaults disks stores =
+    (s : ℕ) (disk : DiskState) (store : StoreState) → slice_get disks s ≡ Some disk
+    → slice_get stores s ≡ Some store → FailsByFaults store.failed disk store.disk
 
 -- the stores of these kinds were opened on these disks
 pub record AreOpened (kinds : List StoreKind) (disks : List DiskState) (founds : List Found) (stores : List StoreState) : Type 0 where

@@ -7,7 +7,7 @@ ghost use Rattle.sg_stores.specs.Reading.{CanRead, Reads, Stays};
 ghost use Rattle.sg_stores.specs.Stores.{IsBuffer};
 ghost use Rattle.sg_stores.specs.declared.kind.StoreKind.TheVariants.{Buffer};
 
-use sg_buffer::{Found, first_messages, look, renew};
+use sg_buffer::{Found, first_messages, first_messages_are_kept, look, renew};
 use sg_device::Disk;
 use sg_list::Seq;
 use sg_msg::Message;
@@ -146,6 +146,7 @@ impl<D: Disk> BufferStore<D> {
         ensures stays { Stays self.old self.new }
         ensures reads { Reads self.old self.new n result }
     {
+        first_messages_are_kept();
         match first_messages(alloc, &mut self.spool, n) {
             Ok(messages) => Ok(Seq::new(messages)),
             Err(RewriteRefusal::DiskFault) => {

@@ -8,3 +8,4 @@ pub mod Bounded
 pub mod Whole
 pub mod Listed
 pub mod Tries
+pub mod Ordered

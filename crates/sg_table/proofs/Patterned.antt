@@ -3,6 +3,7 @@ use Rattle.std.proofs.Common.{◌≡◌, ℕ, zero, suc, ◌<◌, List, [], ◌�
 use Rattle.std.proofs.lemmas.List.{append_assoc, append-nil}
 use Rattle.std.specs.declared.alloc.Global.{Global}
 use Rattle.sg_outside.specs.World.{WorldState, OnlyBuilds}
+use Rattle.sg_pattern.specs.Builds.{RefusesNone}
 use Rattle.sg_pattern.specs.declared.text.PatternText.{PatternText}
 use Rattle.sg_pattern.specs.declared.text.BuildRefusal.{BuildRefusal}
 use Rattle.sg_pattern.specs.declared.text.BuildRefusal.TheVariants as build
@@ -66,6 +67,10 @@ joined-last (y ∷ xs) x = ap (λ (r : Patterns). y ++ r) (joined-last xs x) ∙
 pub valid-last : (ps : List Patterns) (p : Patterns) (qs : List Patterns) → AreValid (joined ps) → AreValid p → qs ≡ ps ++ p ∷ [] → AreValid (joined qs)
 valid-last ps p qs hs h e = subst (λ (x : Patterns). AreValid x) (sym (ap joined e ∙ joined-last ps p)) (valid-append (joined ps) p hs h)
 
+-- these were made behind others
+pub valid-behind : (old mid new : WorldState) (ps qs : Patterns) → AreValid ps × RefusesNone old mid → AreValid qs × RefusesNone mid new → AreValid (ps ++ qs) × RefusesNone old new
+valid-behind old mid new ps qs a b = (valid-append ps qs a.0 b.0, b.1 ∙ a.1)
+
 -- one among more
 pub before : (ps qs : Patterns) (p : PatternText) → IsAmong ps p → IsAmong (ps ++ qs) p
 before ps qs p a = record { before = a.before; after = a.after ++ qs; is = ap (λ (x : Patterns). x ++ qs) a.is ∙ append_assoc a.before (p ∷ a.after) qs }
@@ -90,8 +95,9 @@ pub refused-at : (old new : WorldState) (ps qs : Patterns) (why : PathRefusal) �
 refused-at old new ps qs why e r = refused-within old old new ps qs why (λ p a. subst (λ (x : Patterns). IsAmong x p) e a) (refl, omega arith) r
 
 -- what was made after others
-pub makes-front : {A : Type 0} (old mid new : WorldState) (ps qs all : Patterns) (r : Result A PathRefusal) → all ≡ ps ++ qs → AreValid qs → OnlyBuilds old mid → Makes mid new ps r → Makes old new all r
-makes-front old mid new ps qs all (Ok made) e v o h = subst (λ (x : Patterns). AreValid x) (sym e) (valid-append ps qs h v)
+pub makes-front : {A : Type 0} (old mid new : WorldState) (ps qs all : Patterns) (r : Result A PathRefusal) → all ≡ ps ++ qs → AreValid qs × RefusesNone old mid → OnlyBuilds old mid → Makes mid new ps r
+    → Makes old new all r
+makes-front old mid new ps qs all (Ok made) e v o h = (subst (λ (x : Patterns). AreValid x) (sym e) (valid-append ps qs h.0 v.0), h.1 ∙ v.1)
 makes-front old mid new ps qs all (Err why) e v o h = refused-within old mid new ps all why (λ p a. subst (λ (x : Patterns). IsAmong x p) (sym e) (before ps qs p a)) o h
 
 pub refused-behind : (old mid new : WorldState) (ps qs all : Patterns) (why : PathRefusal) → all ≡ ps ++ qs → OnlyBuilds old mid → Refuses mid new qs why → Refuses old new all why

@@ -1,166 +1,240 @@
 -- Patterns that are tried one after another.
-use Rattle.std.proofs.Common.{◌≡◌, ◌<◌, ◌≤◌, [], ◌∷◌, ◌++◌, Option, Some, None, IsSome, refl, sym, ap, ◌∙◌, subst, arith, inl, inr}
+use Rattle.std.proofs.Common.{◌≡◌, ◌≤◌, ◌+◌, ◌<◌, ℕ, zero, suc, Bool, List, [], ◌∷◌, ◌++◌, map, take, drop, Bor, length, get_or, Option, Some, None, IsSome, Err, refl, sym, ap, ◌∙◌, subst, arith, inl, inr}
+use Rattle.std.proofs.lemmas.List.{append_assoc, drop_more, map-append, take-append-drop}
+use Rattle.std.proofs.lemmas.List.Elements.{All-from_recursion, recursion_from_All}
+use Rattle.std.proofs.lemmas.List.Sorted.{All-permutation, IsPermutation-sym}
+use Rattle.std.specs.List.{AllByRecursion}
+use Rattle.std.specs.List.Sorted.{IsPermutation, IsNonDecreasingBy}
 use Rattle.sg_device.specs.Faults.{Rose}
 use Rattle.sg_lex.specs.declared.place.Line.{Line}
 use Rattle.sg_outside.specs.World.{WorldState, OnlyBuilds}
-use Rattle.sg_pattern.specs.Builds.{WasMade}
-use Rattle.sg_pattern.specs.Pattern.{Pattern, pattern_of, IsValid, IsNoPattern}
-use Rattle.sg_pattern.specs.declared.pattern.Kind.TheVariants.{Regex}
+use Rattle.sg_pattern.specs.Builds.{Calls, MakesOne, RefusesLarge, RefusesNone, calls_by, machine_calls, makes_kind}
+use Rattle.sg_pattern.specs.Pattern.{Pattern, pattern_of, regex_of, IsValid, IsNoPattern}
+use Rattle.sg_pattern.specs.declared.pattern.Kind.{Kind}
+use Rattle.sg_pattern.specs.declared.pattern.Kind.TheVariants.{Regex, Text, Glob}
 use Rattle.sg_pattern.specs.declared.text.PatternText.{PatternText}
+use Rattle.sg_pattern.proofs.Built.{valid}
 use Rattle.sg_filter.specs.Patterns.{AreValid, IsAmong, IsBadAt, IsLargeAt}
+use Rattle.sg_filter.proofs.Turning.{only-more, only-none}
+use Rattle.sg_tree.specs.declared.refusal.PathRefusal.{PathRefusal}
+use Rattle.sg_tree.specs.declared.refusal.PathRefusal.TheVariants.{BadPattern, PatternTooLarge, TooManyOffers, NoMemory}
 use Rattle.sg_table.specs.Patterns.{Patterns}
-use Rattle.sg_table.specs.Refused.{NoneIsBefore, AreMadeBefore}
-use Rattle.sg_table.specs.Tried.{IsEarlierLine, IsFirstLine, HasBad, HasLarge, IsInFront, HasMade, HasTried, Tries}
-use Rattle.sg_table.specs.declared.tried.Tried.{Tried}
-use Rattle.sg_table.proofs.Patterned.{before, behind, valid-append}
+use Rattle.sg_table.specs.Refused.{NoneIsBefore, IsFirstBad}
+use Rattle.sg_table.specs.Tried.{HasLarge, HasTried, IsBadIn, IsBadOne, IsRefusedIn, IsTextOrder, MakesEach, Rises, Tries, TriesList, first_of}
+use Rattle.sg_table.proofs.Patterned.{valid-append}
 
--- a pattern, and one that is none
+-- ---- lists in other orders
+
+all-pick : (P : PatternText → Type 0) (ps : Patterns) (p : PatternText) (qs : Patterns) → AllByRecursion P (ps ++ p ∷ qs) → P p
+all-pick P [] p qs h = h.0
+all-pick P (x ∷ ps) p qs h = all-pick P ps p qs h.1
+
+all-front : (P : PatternText → Type 0) (ps qs : Patterns) → AllByRecursion P (ps ++ qs) → AllByRecursion P ps
+all-front P [] qs h = tt
+all-front P (x ∷ ps) qs h = (h.0, all-front P ps qs h.1)
+
+all-append : (P : PatternText → Type 0) (ps qs : Patterns) → AllByRecursion P ps → AllByRecursion P qs → AllByRecursion P (ps ++ qs)
+all-append P [] qs hp hq = hq
+all-append P (x ∷ ps) qs hp hq = (hp.0, all-append P ps qs hp.1 hq)
+
+-- what holds of all in one order holds of all in the other
+pub all-order : (P : PatternText → Type 0) (patterns order : Patterns) → IsPermutation patterns order → AllByRecursion P order → AllByRecursion P patterns
+all-order P patterns order same h = recursion_from_All P patterns (All-permutation P order patterns (IsPermutation-sym patterns order same) (All-from_recursion P order h))
+
+all-among : (front behind : Patterns) → AllByRecursion (IsAmong (front ++ behind)) behind
+all-among front [] = tt
+all-among front (p ∷ more) =
+    (record { before = front; after = more; is = refl }, subst (λ (xs : Patterns). AllByRecursion (IsAmong xs) more) (append_assoc front (p ∷ []) more) (all-among (front ++ p ∷ []) more))
+
+pub among-order : (patterns order : Patterns) (one : PatternText) → IsPermutation patterns order → IsAmong patterns one → IsAmong order one
+among-order patterns order one same a =
+    all-pick (IsAmong order) a.before one a.after (subst (AllByRecursion (IsAmong order)) a.is (all-order (IsAmong order) patterns order same (all-among [] order)))
+
+pub among-back : (patterns order : Patterns) (one : PatternText) → IsPermutation patterns order → IsAmong order one → IsAmong patterns one
+among-back patterns order one same a = among-order order patterns one (IsPermutation-sym patterns order same) a
+
+pub map-split : {A B : Type 0} (f : A → B) (xs : List A) (i : ℕ) (x : A) → i < length xs → x ≡ get_or xs i x → map f xs ≡ map f (take i xs) ++ f x ∷ map f (drop (i + 1) xs)
+map-split f xs i x less is =
+    ap (map f) (sym (take-append-drop i xs) ∙ ap (λ ys. take i xs ++ ys) (drop_more xs i x less ∙ ap (λ y. y ∷ drop (i + 1) xs) (sym is)))
+    ∙ map-append f (take i xs) (x ∷ drop (i + 1) xs)
+
+-- what a sort gives
+
+later-all : (x : Bor PatternText) (xs : List (Bor PatternText)) → ((k : ℕ) (d : Bor PatternText) → k < length xs → x.now.line.at ≤ (get_or xs k d).now.line.at)
+    → AllByRecursion (λ (next : PatternText). x.now.line.at ≤ next.line.at) (map (λ (b : Bor PatternText). b.now) xs)
+later-all x [] h = tt
+later-all x (y ∷ xs) h = (h zero y (omega arith), later-all x xs (λ k d less. h (suc k) d (omega arith)))
+
+pub rises-sorted : (xs : List (Bor PatternText)) → IsNonDecreasingBy (λ (b : Bor PatternText). b.now.line.at) xs → Rises (map (λ (b : Bor PatternText). b.now) xs)
+rises-sorted [] h = tt
+rises-sorted (x ∷ xs) h =
+    (later-all x xs (λ k d less. h zero (suc k) d (omega arith) (omega arith)), rises-sorted xs (λ i j d le less. h (suc i) (suc j) d (omega arith) (omega arith)))
+
+rises-behind : (front : Patterns) (one : PatternText) (behind : Patterns) → Rises (front ++ one ∷ behind) → AllByRecursion (λ (next : PatternText). one.line.at ≤ next.line.at) behind
+rises-behind [] one behind h = h.0
+rises-behind (p ∷ front) one behind h = rises-behind front one behind h.1
+
+-- ---- a pattern, and one that is none
+
 not-none : (p : Pattern) → IsValid p → IsNoPattern p → ⊥
 not-none p valid bad = let wrong = subst (λ r. IsSome r) bad.1 (valid bad.0) in cc
-
-valid-at : (ps qs : Patterns) (p : PatternText) → AreValid (ps ++ p ∷ qs) → IsValid (pattern_of p)
-valid-at [] qs p valid = valid.0
-valid-at (x ∷ ps) qs p valid = valid-at ps qs p valid.1
 
 pub not-valid : (ps : Patterns) (line : Line) → IsBadAt ps line → AreValid ps → ⊥
 not-valid ps line bad valid =
     let whole : AreValid (bad.among.before ++ bad.one ∷ bad.among.after) = subst AreValid bad.among.is valid in
-    not-none (pattern_of bad.one) (valid-at bad.among.before bad.among.after bad.one whole) bad.bad
+    not-none (pattern_of bad.one) (all-pick (λ p. IsValid (pattern_of p)) bad.among.before bad.one bad.among.after whole) bad.bad
 
--- where none is none, none stands in front of a line
+pub valid-among : (ps : Patterns) (one : PatternText) → AreValid ps → IsAmong ps one → IsValid (pattern_of one)
+valid-among ps one valid a = all-pick (λ p. IsValid (pattern_of p)) a.before one a.after (subst AreValid a.is valid)
+
 none-valid : (line : Line) (ps : Patterns) → AreValid ps → NoneIsBefore line ps
 none-valid line [] valid = tt
 none-valid line (p ∷ ps) valid = ((λ bad. absurd (not-none (pattern_of p) valid.0 bad)), none-valid line ps valid.1)
 
-none-append : (line : Line) (ps qs : Patterns) → NoneIsBefore line ps → NoneIsBefore line qs → NoneIsBefore line (ps ++ qs)
-none-append line [] qs hp hq = hq
-none-append line (p ∷ ps) qs hp hq = (hp.0, none-append line ps qs hp.1 hq)
+none-later : (line : Line) (one : PatternText) (ps : Patterns) → one.line ≡ line → AllByRecursion (λ (next : PatternText). one.line.at ≤ next.line.at) ps → NoneIsBefore line ps
+none-later line one [] is h = tt
+none-later line one (p ∷ ps) is h = let low = h.0 in ((λ bad. omega (arith, low, ap (λ (l : Line). l.at) is)), none-later line one ps is h.1)
 
-none-earlier : (found first : Line) (ps : Patterns) → first.at ≤ found.at → NoneIsBefore found ps → NoneIsBefore first ps
-none-earlier found first [] less h = tt
-none-earlier found first (p ∷ ps) less h = ((λ bad. let low = h.0 bad in omega (arith, low, less)), none-earlier found first ps less h.1)
-
--- the last of a list
-last-one : (ps : Patterns) (p : PatternText) → IsAmong (ps ++ p ∷ []) p
-last-one ps p = behind ps (p ∷ []) p (record { before = []; after = []; is = refl })
-
-bad-more : (ps qs : Patterns) (line : Line) → IsBadAt ps line → IsBadAt (ps ++ qs) line
-bad-more ps qs line b = record { one = b.one; among = before ps qs b.one b.among; at = b.at; bad = b.bad }
-
-bad-last : (ps : Patterns) (p : PatternText) (line : Line) → line ≡ p.line → IsNoPattern (pattern_of p) → IsBadAt (ps ++ p ∷ []) line
-bad-last ps p line is none = record { one = p; among = last-one ps p; at = sym is; bad = none }
-
--- one more that is a pattern
-bad-kept : (ps : Patterns) (p : PatternText) (found : Option Line) → IsValid (pattern_of p) → HasBad ps found → HasBad (ps ++ p ∷ []) found
-bad-kept ps p None valid h = valid-append ps (p ∷ []) h (valid, tt)
-bad-kept ps p (Some line) valid h = record {
-  bad = bad-more ps (p ∷ []) line h.bad;
-  first = none-append line ps (p ∷ []) h.first ((λ bad. absurd (not-none (pattern_of p) valid bad)), tt);
-}
-
--- one more that is none
-bad-next : (ps : Patterns) (p : PatternText) (found : Option Line) (line first : Line) → line ≡ p.line → IsNoPattern (pattern_of p) → IsFirstLine found line first
-    → HasBad ps found → HasBad (ps ++ p ∷ []) (Some first)
-bad-next ps p None line first is none one h =
-    let place : first.at ≤ p.line.at = omega (arith, ap (λ (l : Line). l.at) (one ∙ is)) in
+-- the first that is none in the order of the text
+pub bad-first : (patterns order : Patterns) (line : Line) → IsTextOrder patterns order → IsBadIn order line → IsFirstBad patterns line
+bad-first patterns order line sorted b =
+    let rises : Rises (b.front ++ b.one ∷ b.behind) = subst Rises b.is sorted.rises in
+    let here : line.at ≤ b.one.line.at = omega (arith, ap (λ (l : Line). l.at) b.at) in
+    let none : NoneIsBefore line (b.front ++ b.one ∷ b.behind) =
+    all-append (λ (p : PatternText). IsNoPattern (pattern_of p) → line.at ≤ p.line.at) b.front (b.one ∷ b.behind) (none-valid line b.front b.valid)
+    ((λ bad. here), none-later line b.one b.behind b.at (rises-behind b.front b.one b.behind rises)) in
     record {
-      bad = bad-last ps p first (one ∙ is) none;
-      first = none-append first ps (p ∷ []) (none-valid first ps h) ((λ bad. place), tt);
-    }
-bad-next ps p (Some found) line first is none one h =
-    let place : first.at ≤ p.line.at = omega (arith, one.2, ap (λ (l : Line). l.at) is) in
-    record {
-      bad = elim one.0 [
-        | inl same ↦ subst (IsBadAt (ps ++ p ∷ [])) (sym same) (bad-more ps (p ∷ []) found h.bad)
-        | inr same ↦ bad-last ps p first (same ∙ is) none
-      ];
-      first = none-append first ps (p ∷ []) (none-earlier found first ps one.1 h.first) ((λ bad. place), tt);
+      bad = record { one = b.one; among = among-back patterns order b.one sorted.same (record { before = b.front; after = b.behind; is = b.is }); at = b.at; bad = b.bad };
+      first = all-order (λ (p : PatternText). IsNoPattern (pattern_of p) → line.at ≤ p.line.at) patterns order sorted.same (subst (NoneIsBefore line) (sym b.is) none);
     }
 
--- the count stays as high
-large-more : (begun old new : WorldState) (ps qs : Patterns) (line : Line) → OnlyBuilds old new → IsLargeAt ps line begun old → IsLargeAt (ps ++ qs) line begun new
-large-more begun old new ps qs line o l = record { one = l.one; among = before ps qs l.one l.among; at = l.at; is_regex = l.is_regex; rose = omega (arith, o.1, l.rose) }
+pub valid-order : (patterns order : Patterns) → IsTextOrder patterns order → AreValid order → AreValid patterns
+valid-order patterns order sorted h = all-order (λ p. IsValid (pattern_of p)) patterns order sorted.same h
 
-large-kept : (begun old new : WorldState) (ps qs : Patterns) (found : Option Line) → OnlyBuilds old new → HasLarge begun old ps found → HasLarge begun new (ps ++ qs) found
-large-kept begun old new ps qs None o h = tt
-large-kept begun old new ps qs (Some line) o h = large-more begun old new ps qs line o h
+-- ---- one that is made
 
-large-last : (begun old new : WorldState) (ps : Patterns) (p : PatternText) (line : Line) → OnlyBuilds begun old → line ≡ p.line → p.kind ≡ Regex
-    → Rose old.build_faults new.build_faults → IsLargeAt (ps ++ p ∷ []) line begun new
-large-last begun old new ps p line o is kind rose = record { one = p; among = last-one ps p; at = sym is; is_regex = kind; rose = omega (arith, o.1, rose) }
+machine-stay : (kind : Kind) (old new : WorldState) (text : List ℕ) (ignore_case : Bool) → makes_kind machine_calls kind old text ignore_case new → RefusesNone old new
+machine-stay Regex old new text ignore_case h = h.1.2
+machine-stay Text old new text ignore_case h = ap (λ (w : WorldState). w.build_faults) h
+machine-stay Glob old new text ignore_case h = ap (λ (w : WorldState). w.build_faults) h
 
-large-next : (begun old new : WorldState) (ps : Patterns) (p : PatternText) (found : Option Line) (line first : Line) → OnlyBuilds begun old → OnlyBuilds old new
-    → line ≡ p.line → p.kind ≡ Regex → Rose old.build_faults new.build_faults → IsFirstLine found line first
-    → HasLarge begun old ps found → IsLargeAt (ps ++ p ∷ []) first begun new
-large-next begun old new ps p None line first o n is kind rose one h = large-last begun old new ps p first o (one ∙ is) kind rose
-large-next begun old new ps p (Some found) line first o n is kind rose one h =
-    elim one.0 [
-      | inl same ↦ subst (λ l. IsLargeAt (ps ++ p ∷ []) l begun new) (sym same) (large-more begun old new ps (p ∷ []) found n h)
-      | inr same ↦ large-last begun old new ps p first o (same ∙ is) kind rose
-    ]
+pub machine-stays : (old : WorldState) (ps : Patterns) (new : WorldState) → MakesEach machine_calls old ps new → RefusesNone old new
+machine-stays old [] new h = ap (λ (w : WorldState). w.build_faults) h
+machine-stays old (p ∷ ps) new h = machine-stays h.0 ps new h.2 ∙ machine-stay p.kind old h.0 p.text p.flags.ignore_case h.1
 
-pub large-first : (begun old new : WorldState) (ps : Patterns) (found : Option Line) (line first : Line) → OnlyBuilds begun old → OnlyBuilds old new
-    → IsFirstLine found line first → HasLarge old new ps found → IsLargeAt ps line begun old → IsLargeAt ps first begun new
-large-first begun old new ps None line first o n one h l = record { one = l.one; among = l.among; at = l.at ∙ sym one; is_regex = l.is_regex; rose = omega (arith, n.1, l.rose) }
-large-first begun old new ps (Some found) line first o n one h l =
-    elim one.0 [
-      | inl same ↦ record { one = h.one; among = h.among; at = h.at ∙ sym same; is_regex = h.is_regex; rose = omega (arith, o.1, h.rose) }
-      | inr same ↦ record { one = l.one; among = l.among; at = l.at ∙ sym same; is_regex = l.is_regex; rose = omega (arith, n.1, l.rose) }
-    ]
+module _ {S : Type 0} (state : S → WorldState) (step : Calls S) where
+  abbrev calls : Calls S
+  calls = calls_by state step
 
--- those that were made
-made-append : (large : Option Line) (ps qs : Patterns) → HasMade large ps → HasMade large qs → HasMade large (ps ++ qs)
-made-append large [] qs hp hq = hq
-made-append large (p ∷ ps) qs hp hq = (hp.0, made-append large ps qs hp.1 hq)
+  kind-only : (kind : Kind) (old new : S) (text : List ℕ) (ignore_case : Bool) → makes_kind calls kind old text ignore_case new → OnlyBuilds (state old) (state new)
+  kind-only Regex old new text ignore_case h = h.1.1.0
+  kind-only Text old new text ignore_case h = subst (λ (s : S). OnlyBuilds (state old) (state s)) (sym h) (only-none (state old))
+  kind-only Glob old new text ignore_case h = subst (λ (s : S). OnlyBuilds (state old) (state s)) (sym h) (only-none (state old))
 
-front-less : (place found line first : Line) → IsEarlierLine found line first → place.at < first.at → place.at < found.at
-front-less place found line first one less = omega (arith, one.1, less)
+  kind-stays : (kind : Kind) (old new : S) (text : List ℕ) (ignore_case : Bool) → makes_kind calls kind old text ignore_case new → RefusesNone (state old) (state new)
+  kind-stays Regex old new text ignore_case h = h.1.1.2
+  kind-stays Text old new text ignore_case h = ap (λ (s : S). (state s).build_faults) h
+  kind-stays Glob old new text ignore_case h = ap (λ (s : S). (state s).build_faults) h
 
-in-front : (place : Line) (found : Option Line) (line first : Line) → IsFirstLine found line first → place.at < first.at → IsInFront place found
-in-front place None line first one less = tt
-in-front place (Some found) line first one less = front-less place found line first one less
+  kind-valid : (kind : Kind) (old new : S) (text : List ℕ) (ignore_case : Bool) → makes_kind calls kind old text ignore_case new → kind ≡ Regex → IsSome (regex_of ignore_case text)
+  kind-valid Regex old new text ignore_case h is = valid ignore_case text _ h.1.1.1
+  kind-valid Text old new text ignore_case h is = absurd cc
+  kind-valid Glob old new text ignore_case h is = absurd cc
 
-made-fewer : (found : Option Line) (line first : Line) (ps : Patterns) → IsFirstLine found line first → HasMade found ps → HasMade (Some first) ps
-made-fewer found line first [] one h = tt
-made-fewer found line first (p ∷ ps) one h = ((λ valid less. h.0 valid (in-front p.line found line first one less)), made-fewer found line first ps one h.1)
+  kind-machine : (kind : Kind) (old new : S) (text : List ℕ) (ignore_case : Bool) → makes_kind calls kind old text ignore_case new → makes_kind machine_calls kind (state old) text ignore_case (state new)
+  kind-machine Regex old new text ignore_case h = (h.0, h.1.1)
+  kind-machine Text old new text ignore_case h = ap state h
+  kind-machine Glob old new text ignore_case h = ap state h
 
--- the line of the pattern is no earlier than the first
-not-earlier : (p : PatternText) (found : Option Line) (line first : Line) → line ≡ p.line → IsFirstLine found line first → p.line.at < first.at → ⊥
-not-earlier p None line first is one less = absurd (omega (arith, ap (λ (l : Line). l.at) (one ∙ is), less))
-not-earlier p (Some found) line first is one less = absurd (omega (arith, one.2, ap (λ (l : Line). l.at) is, less))
+  -- ---- several that are made
 
-pub made-before : (found : Option Line) (line first : Line) (ps : Patterns) → IsFirstLine found line first → AreValid ps → HasMade found ps → AreMadeBefore first ps
-made-before found line first [] one valid h = tt
-made-before found line first (p ∷ ps) one valid h =
-    ((λ less. h.0 valid.0 (in-front p.line found line first one less)), made-before found line first ps one valid.1 h.1)
+  pub each-only : (old : S) (ps : Patterns) (new : S) → MakesEach calls old ps new → OnlyBuilds (state old) (state new)
+  each-only old [] new h = subst (λ (s : S). OnlyBuilds (state old) (state s)) (sym h) (only-none (state old))
+  each-only old (p ∷ ps) new h = only-more _ _ _ (kind-only p.kind old h.0 p.text p.flags.ignore_case h.1) (each-only h.0 ps new h.2)
 
--- the same patterns
-pub tried-as : (old new : WorldState) (ps qs : Patterns) (tried : Tried) → ps ≡ qs → HasTried old new ps tried → HasTried old new qs tried
-tried-as old new ps qs tried is h = subst (λ (xs : Patterns). HasTried old new xs tried) is h
+  pub each-stays : (old : S) (ps : Patterns) (new : S) → MakesEach calls old ps new → RefusesNone (state old) (state new)
+  each-stays old [] new h = ap (λ (s : S). (state s).build_faults) h
+  each-stays old (p ∷ ps) new h = each-stays h.0 ps new h.2 ∙ kind-stays p.kind old h.0 p.text p.flags.ignore_case h.1
 
--- one that was tried
-module _ (old new : WorldState) (p : PatternText) (only : (begun : WorldState) → OnlyBuilds begun old → OnlyBuilds begun new) (step : OnlyBuilds old new) (tried : Tried) where
-  pub tries-made : IsValid (pattern_of p) → WasMade (pattern_of p) → Tries old new (p ∷ []) tried tried
-  tries-made valid made = λ begun ps h. record {
-    only = only begun h.only;
-    bad = bad-kept ps p tried.bad valid h.bad;
-    large = large-kept begun old new ps (p ∷ []) tried.large step h.large;
-    made = made-append tried.large ps (p ∷ []) h.made ((λ is front. made), tt);
+  pub each-valid : (old : S) (ps : Patterns) (new : S) → MakesEach calls old ps new → AreValid ps
+  each-valid old [] new h = tt
+  each-valid old (p ∷ ps) new h = ((λ is. kind-valid p.kind old h.0 p.text p.flags.ignore_case h.1 is), each-valid h.0 ps new h.2)
+
+  pub each-machine : (old : S) (ps : Patterns) (new : S) → MakesEach calls old ps new → MakesEach machine_calls (state old) ps (state new)
+  each-machine old [] new h = ap state h
+  each-machine old (p ∷ ps) new h = (state h.0, kind-machine p.kind old h.0 p.text p.flags.ignore_case h.1, each-machine h.0 ps new h.2)
+
+  each-last : (old : S) (ps : Patterns) (mid new : S) (p : PatternText) → MakesEach calls old ps mid → MakesOne calls mid p new → MakesEach calls old (ps ++ p ∷ []) new
+  each-last old [] mid new p h one = (new, subst (λ (s : S). MakesOne calls s p new) h one, refl)
+  each-last old (q ∷ ps) mid new p h one = (h.0, h.1, each-last h.0 ps mid new p h.2 one)
+
+  -- those in front of one
+  pub record Split (old : S) (ps qs : Patterns) (new : S) : Type 0 where
+    pub mid : S
+    pub front : MakesEach calls old ps mid
+    pub behind : MakesEach calls mid qs new
+
+  pub each-split : (old : S) (ps qs : Patterns) (new : S) → MakesEach calls old (ps ++ qs) new → Split old ps qs new
+  each-split old [] qs new h = record { mid = old; front = refl; behind = h }
+  each-split old (p ∷ ps) qs new h = let rest = each-split h.0 ps qs new h.2 in record { mid = rest.mid; front = (h.0, h.1, rest.front); behind = rest.behind }
+
+  -- ---- one more that is tried
+
+  large-more : (begun old new : S) (ps : Patterns) (p : PatternText) (line : Line) → OnlyBuilds (state old) (state new) → IsRefusedIn state calls ps line begun old → IsRefusedIn state calls (ps ++ p ∷ []) line begun new
+  large-more begun old new ps p line o h = record {
+    front = h.front;
+    one = h.one;
+    behind = h.behind ++ p ∷ [];
+    is = ap (λ (xs : Patterns). xs ++ p ∷ []) h.is ∙ append_assoc h.front (h.one ∷ h.behind) (p ∷ []);
+    at = h.at;
+    between = h.between;
+    made = h.made;
+    after = h.after;
+    refused = h.refused;
+    rest = only-more _ _ _ h.rest o;
   }
 
-  pub tries-bad : (line first : Line) → line ≡ p.line → IsNoPattern (pattern_of p) → IsFirstLine tried.bad line first → Tries old new (p ∷ []) tried (record tried { bad = Some first })
-  tries-bad line first is none one = λ begun ps h. record {
-    only = only begun h.only;
-    bad = bad-next ps p tried.bad line first is none one h.bad;
-    large = large-kept begun old new ps (p ∷ []) tried.large step h.large;
-    made = made-append tried.large ps (p ∷ []) h.made ((λ valid front. absurd (not-none (pattern_of p) valid none)), tt);
+  large-made : (begun old new : S) (ps : Patterns) (p : PatternText) (large : Option Line) → MakesOne calls old p new → HasLarge state calls begun old ps large → HasLarge state calls begun new (ps ++ p ∷ []) large
+  large-made begun old new ps p None one h = each-last begun ps old new p h one
+  large-made begun old new ps p (Some line) one h = large-more begun old new ps p line (kind-only p.kind old new p.text p.flags.ignore_case one) h
+
+  large-refused : (begun old new : S) (ps : Patterns) (p : PatternText) (large : Option Line) (line : Line) → line ≡ p.line → RefusesLarge calls old p new → HasLarge state calls begun old ps large
+      → HasLarge state calls begun new (ps ++ p ∷ []) (first_of large line)
+  large-refused begun old new ps p None line is r h = record {
+    front = ps;
+    one = p;
+    behind = [];
+    is = refl;
+    at = sym is;
+    between = old;
+    made = h;
+    after = new;
+    refused = r;
+    rest = only-none (state new);
+  }
+  large-refused begun old new ps p (Some first) line is r h = large-more begun old new ps p first r.1.1.0 h
+
+  pub tries-made : (old new : S) (p : PatternText) (large : Option Line) → MakesOne calls old p new → Tries state calls old new (p ∷ []) large large
+  tries-made old new p large one = λ begun ps h. record {
+    only = only-more _ _ _ h.only (kind-only p.kind old new p.text p.flags.ignore_case one);
+    valid = valid-append ps (p ∷ []) h.valid ((λ is. kind-valid p.kind old new p.text p.flags.ignore_case one is), tt);
+    large = large-made begun old new ps p large one h.large;
   }
 
-  pub tries-large : (line first : Line) → line ≡ p.line → p.kind ≡ Regex → Rose old.build_faults new.build_faults → IsValid (pattern_of p) → IsFirstLine tried.large line first
-      → Tries old new (p ∷ []) tried (record tried { large = Some first })
-  tries-large line first is kind rose valid one = λ begun ps h. record {
-    only = only begun h.only;
-    bad = bad-kept ps p tried.bad valid h.bad;
-    large = large-next begun old new ps p tried.large line first h.only step is kind rose one h.large;
-    made = made-append (Some first) ps (p ∷ []) (made-fewer tried.large line first ps one h.made) ((λ valid less. absurd (not-earlier p tried.large line first is one less)), tt);
+  pub tries-large : (old new : S) (p : PatternText) (large after : Option Line) (line : Line) → line ≡ p.line → RefusesLarge calls old p new → after ≡ first_of large line
+      → Tries state calls old new (p ∷ []) large after
+  tries-large old new p large after line is r first = λ begun ps h. record {
+    only = only-more _ _ _ h.only r.1.1.0;
+    valid = valid-append ps (p ∷ []) h.valid ((λ kind. r.1.1.2), tt);
+    large = subst (HasLarge state calls begun new (ps ++ p ∷ [])) (sym first) (large-refused begun old new ps p large line is r h.large);
   }
+
+  pub tried-as : (old new : S) (ps qs : Patterns) (large : Option Line) → ps ≡ qs → HasTried state calls old new ps large → HasTried state calls old new qs large
+  tried-as old new ps qs large is h = subst (λ (xs : Patterns). HasTried state calls old new xs large) is h
+
+  pub list-bad : (old new : S) (front : Patterns) (p : PatternText) (behind ps : Patterns) (why : PathRefusal) → ps ≡ front ++ p ∷ behind → AreValid front → IsBadOne p why
+      → TriesList state calls old new ps (Err why)
+  list-bad old new front p behind ps (BadPattern line) is v b = record { front = front; one = p; behind = behind; is = is; at = sym b.0; valid = v; bad = b.1 }
+  list-bad old new front p behind ps (PatternTooLarge line) is v b = absurd b
+  list-bad old new front p behind ps (TooManyOffers line) is v b = absurd b
+  list-bad old new front p behind ps NoMemory is v b = tt

@@ -2,6 +2,7 @@
 use Rattle.std.specs.Prelude.{List, [], ◌∷◌, ◌++◌, map, Option, Some, None, option_map, Result, Ok, Err, Vec}
 use Rattle.std.specs.declared.alloc.Global.{Global}
 use Rattle.sg_outside.specs.World.{WorldState}
+use Rattle.sg_pattern.specs.Builds.{RefusesNone}
 use Rattle.sg_pattern.specs.declared.text.PatternText.{PatternText}
 use Rattle.sg_filter.specs.declared.expr.Expr.{Expr}
 use Rattle.sg_filter.specs.Patterns.{joined, patterns_of, AreValid, IsBadAt, IsLargeAt}
@@ -99,7 +100,7 @@ Refuses old new patterns (PatternTooLarge line) = IsLargeAt patterns line old ne
 Refuses old new patterns (TooManyOffers line) = ⊥
 Refuses old new patterns NoMemory = Unit {0}
 
--- each of these was made, or one was refused
+-- each of these was made and none was refused for its size, or one was refused
 abbrev pub Makes : {A : Type 0} → WorldState → WorldState → Patterns → Result A PathRefusal → Type 0
-Makes old new patterns (Ok made) = AreValid patterns
+Makes old new patterns (Ok made) = AreValid patterns × RefusesNone old new
 Makes old new patterns (Err why) = Refuses old new patterns why

@@ -1,9 +1,9 @@
 -- Why no table was made.
-use Rattle.std.specs.Prelude.{◌≡◌, ◌⊎◌, ◌<◌, ◌≤◌, ℕ, ◌+◌, List, ◌∷◌, ◌++◌, map}
+use Rattle.std.specs.Prelude.{◌≡◌, ◌⊎◌, ◌<◌, ◌≤◌, ℕ, ◌+◌, List, ◌∷◌, ◌++◌, map, Result, Ok, Err}
 use Rattle.std.specs.List.{AllByRecursion}
 use Rattle.sg_lex.specs.declared.place.Line.{Line}
 use Rattle.sg_outside.specs.World.{WorldState}
-use Rattle.sg_pattern.specs.Builds.{WasMade}
+use Rattle.sg_pattern.specs.Builds.{Calls, RefusesNone, machine_calls}
 use Rattle.sg_pattern.specs.Pattern.{pattern_of, IsNoPattern}
 use Rattle.sg_pattern.specs.declared.text.PatternText.{PatternText}
 use Rattle.sg_filter.specs.declared.expr.Expr.{Expr}
@@ -15,6 +15,7 @@ use Rattle.sg_tree.specs.declared.refusal.PathRefusal.{PathRefusal}
 use Rattle.sg_tree.specs.declared.refusal.PathRefusal.TheVariants.{BadPattern, PatternTooLarge, TooManyOffers, NoMemory}
 use Rattle.sg_tree.specs.declared.tree.Path.{Path, out-Path}
 use Rattle.sg_table.specs.Patterns.{Patterns, patterns_in}
+use Rattle.sg_table.specs.Tried.{AreTried, IsRefusedFirst, IsRefusedIn, IsTextOrder}
 
 -- a record has at most 1,024 offers, and no more messages reach a place
 abbrev pub IsBounded : List Top → Type 0
@@ -44,30 +45,38 @@ pub record IsFirstBad (patterns : Patterns) (line : Line) : Type 0 where
   pub bad : IsBadAt patterns line
   pub first : NoneIsBefore line patterns
 
--- each pattern in front of that line was made
-abbrev pub AreMadeBefore : Line → Patterns → Type 0
-AreMadeBefore line = AllByRecursion
-    (λ (one : PatternText). one.line.at < line.at → WasMade (pattern_of one))
-
--- each is a pattern, those in front of the line were made, and the builder's count rose
+-- Each is a pattern. In the order of the text those in front of that line were made one after another, from the state before the call
+-- on, and no count rose; then the builder refused the pattern of that line, and its count rose.
 pub record IsFirstLarge (patterns : Patterns) (line : Line) (old new : WorldState) : Type 0 where
   pub valid : AreValid patterns
-  pub large : IsLargeAt patterns line old new
-  pub before : AreMadeBefore line patterns
+  pub order : Patterns
+  pub sorted : IsTextOrder patterns order
+  pub refused : IsRefusedIn (λ (state : WorldState). state) machine_calls order line old new
 
--- The pattern of that line is the first that is none; each is one, those in front of that line were made, a regular expression stands
--- there, and the builder's count rose; or all were made, and the statement of that line is the first beyond the bounds.
+-- The pattern of that line is the first that is none; each is one, and that of the line is the first that was refused for its size; or
+-- none was refused, and the statement of that line is the first beyond the bounds.
 abbrev pub RefusesForest : WorldState → WorldState → Forest → PathRefusal → Type 0
 RefusesForest old new forest (BadPattern line) = IsFirstBad (patterns_in forest) line
 RefusesForest old new forest (PatternTooLarge line) = IsFirstLarge (patterns_in forest) line old new
 RefusesForest old new forest (TooManyOffers line) = AreValid (patterns_in forest)
-    × IsFirstBeyond forest.filters.items forest.paths.items line
+    × RefusesNone old new × IsFirstBeyond forest.filters.items forest.paths.items line
 RefusesForest old new forest NoMemory = Unit {0}
 
--- why no table was made, where the first pattern that was refused is still to be found
+-- why no table was made of log paths whose patterns were all made before
 abbrev pub RefusesSome : WorldState → WorldState → Forest → PathRefusal → Type 0
 RefusesSome old new forest (BadPattern line) = IsBadAt (patterns_in forest) line
 RefusesSome old new forest (PatternTooLarge line) = IsLargeAt (patterns_in forest) line old new
-RefusesSome old new forest (TooManyOffers line) = AreValid (patterns_in forest)
+RefusesSome old new forest (TooManyOffers line) = RefusesNone old new
     × IsFirstBeyond forest.filters.items forest.paths.items line
 RefusesSome old new forest NoMemory = Unit {0}
+
+-- what trying all of them comes to
+abbrev pub TriesForest : {S : Type 0} → (S → WorldState) → Calls S → S → S → Patterns
+    → Result Unit PathRefusal → Type 0
+TriesForest state step old new patterns (Ok done) = AreTried state step old new patterns
+    × RefusesNone (state old) (state new)
+TriesForest state step old new patterns (Err (BadPattern line)) = IsFirstBad patterns line
+TriesForest state step old new patterns (Err (PatternTooLarge line)) = AreValid patterns
+    × IsRefusedFirst state step old new patterns line
+TriesForest state step old new patterns (Err (TooManyOffers line)) = ⊥
+TriesForest state step old new patterns (Err NoMemory) = Unit {0}

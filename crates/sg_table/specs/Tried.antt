@@ -1,52 +1,125 @@
--- What was refused first of patterns that were tried one after another.
-use Rattle.std.specs.Prelude.{◌≡◌, ◌⊎◌, ◌<◌, ◌≤◌, ◌++◌, Option, Some, None}
+-- What was refused first of patterns that were tried one after another, in the order of the text.
+use Rattle.std.specs.Prelude.{◌≡◌, ◌⊎◌, ◌≤◌, [], ◌∷◌, ◌++◌, Option, Some, None, Result, Ok, Err}
 use Rattle.std.specs.List.{AllByRecursion}
+use Rattle.std.specs.List.Sorted.{IsPermutation}
 use Rattle.sg_lex.specs.declared.place.Line.{Line}
 use Rattle.sg_outside.specs.World.{WorldState, OnlyBuilds}
-use Rattle.sg_pattern.specs.Builds.{WasMade}
-use Rattle.sg_pattern.specs.Pattern.{pattern_of, IsValid}
+use Rattle.sg_pattern.specs.Builds.{Calls, MakesOne, RefusesLarge, RefusesNone}
+use Rattle.sg_pattern.specs.Pattern.{pattern_of, IsNoPattern}
+use Rattle.sg_pattern.specs.declared.text.PatternText.{PatternText}
 use Rattle.sg_filter.specs.Patterns.{AreValid, IsLargeAt}
+use Rattle.sg_tree.specs.declared.refusal.PathRefusal.{PathRefusal}
+use Rattle.sg_tree.specs.declared.refusal.PathRefusal.TheVariants.{BadPattern, PatternTooLarge, TooManyOffers, NoMemory}
 use Rattle.sg_table.specs.Patterns.{Patterns}
-use Rattle.sg_table.specs.Refused.{IsFirstBad}
-use Rattle.sg_table.specs.declared.tried.Tried.{Tried}
 
--- the earlier of two lines
-abbrev pub IsEarlierLine : Line → Line → Line → Type 0
-IsEarlierLine found line first = ((first ≡ found) ⊎ (first ≡ line))
-    × (first.at ≤ found.at) × (first.at ≤ line.at)
+-- none stands in the text before one that is in front of it
+abbrev pub Rises : Patterns → Type 0
+Rises [] = Unit {0}
+Rises (one ∷ more) = AllByRecursion (λ (next : PatternText). one.line.at ≤ next.line.at) more
+    × Rises more
 
--- the same, where the first may be missing
-abbrev pub IsFirstLine : Option Line → Line → Line → Type 0
-IsFirstLine None line first = first ≡ line
-IsFirstLine (Some found) line first = IsEarlierLine found line first
+-- the same patterns, in the order in which they stand in the text
+pub record IsTextOrder (patterns order : Patterns) : Type 0 where
+  pub same : IsPermutation patterns order
+  pub rises : Rises order
 
--- the first that is none, if any is
-abbrev pub HasBad : Patterns → Option Line → Type 0
-HasBad patterns None = AreValid patterns
-HasBad patterns (Some line) = IsFirstBad patterns line
+-- these were made one after another, from the first state to the second
+abbrev pub MakesEach : {S : Type 0} → Calls S → S → Patterns → S → Type 0
+MakesEach {S} step old [] new = new ≡ old
+MakesEach {S} step old (one ∷ more) new = (mid : S) × (MakesOne step old one mid)
+    × (MakesEach step mid more new)
 
--- one at which the builder's count rose
-abbrev pub HasLarge : WorldState → WorldState → Patterns → Option Line → Type 0
-HasLarge old new patterns None = Unit {0}
-HasLarge old new patterns (Some line) = IsLargeAt patterns line old new
+-- Of these, tried one after another, those in front were made; then the builder refused that of the line for its size.
+pub record IsRefusedIn {S : Type 0} (state : S → WorldState) (step : Calls S) (order : Patterns) (line : Line) (old new : S) : Type 0 where
+  pub front : Patterns
+  pub one : PatternText
+  pub behind : Patterns
+  pub is : order ≡ front ++ one ∷ behind
+  pub at : one.line ≡ line
+  pub between : S
+  pub made : MakesEach step old front between
+  pub after : S
+  pub refused : RefusesLarge step between one after
+  pub rest : OnlyBuilds (state after) (state new)
 
--- the line stands in front of that one, if there is one
-abbrev pub IsInFront : Line → Option Line → Type 0
-IsInFront line None = Unit {0}
-IsInFront line (Some first) = line.at < first.at
+-- Of these the one of that line is the first that is no pattern.
+pub record IsBadIn (order : Patterns) (line : Line) : Type 0 where
+  pub front : Patterns
+  pub one : PatternText
+  pub behind : Patterns
+  pub is : order ≡ front ++ one ∷ behind
+  pub at : one.line ≡ line
+  pub valid : AreValid front
+  pub bad : IsNoPattern (pattern_of one)
 
--- each that is a pattern was made, but for those from that line on
-abbrev pub HasMade : Option Line → Patterns → Type 0
-HasMade large = AllByRecursion (λ one. IsValid (pattern_of one) → IsInFront one.line large
-    → WasMade (pattern_of one))
+-- the first of two
+abbrev pub first_of : Option Line → Line → Option Line
+first_of None line = Some line
+first_of (Some first) line = Some first
 
-pub record HasTried (old new : WorldState) (patterns : Patterns) (tried : Tried) : Type 0 where
-  pub only : OnlyBuilds old new
-  pub bad : HasBad patterns tried.bad
-  pub large : HasLarge old new patterns tried.large
-  pub made : HasMade tried.large patterns
+module _ {S : Type 0} (state : S → WorldState) (step : Calls S) where
+  -- ---- a list of patterns
 
--- more were tried
-abbrev pub Tries : WorldState → WorldState → Patterns → Tried → Tried → Type 0
-Tries old new more before after = (begun : WorldState) (patterns : Patterns)
-    → HasTried begun old patterns before → HasTried begun new (patterns ++ more) after
+  -- each was made, or that of the line is the first that was refused for its size
+  abbrev pub HasLarge : S → S → Patterns → Option Line → Type 0
+  HasLarge old new order None = MakesEach step old order new
+  HasLarge old new order (Some line) = IsRefusedIn state step order line old new
+
+  pub record HasTried (old new : S) (order : Patterns) (found : Option Line) : Type 0 where
+    pub only : OnlyBuilds (state old) (state new)
+    pub valid : AreValid order
+    pub large : HasLarge old new order found
+
+  -- more were tried
+  abbrev pub Tries : S → S → Patterns → Option Line → Option Line → Type 0
+  Tries old new more before after = (begun : S) (order : Patterns)
+      → HasTried begun old order before → HasTried begun new (order ++ more) after
+
+  -- all were tried, up to the first that is no pattern
+  abbrev pub TriesList : S → S → Patterns → Result Unit PathRefusal → Type 0
+  TriesList old new order (Ok done) = HasTried old new order None
+  TriesList old new order (Err (BadPattern line)) = IsBadIn order line
+  TriesList old new order (Err (PatternTooLarge line)) = HasTried old new order (Some line)
+  TriesList old new order (Err (TooManyOffers line)) = ⊥
+  TriesList old new order (Err NoMemory) = Unit {0}
+
+  -- ---- the patterns of log paths
+
+  -- each was made, in the order of the text, before anything else
+  pub record AreTried (old new : S) (patterns : Patterns) : Type 0 where
+    pub order : Patterns
+    pub sorted : IsTextOrder patterns order
+    pub reached : S
+    pub made : MakesEach step old order reached
+    pub rest : OnlyBuilds (state reached) (state new)
+
+  -- that of the line is the first in the text that the builder refused for its size
+  pub record IsRefusedFirst (old new : S) (patterns : Patterns) (line : Line) : Type 0 where
+    pub order : Patterns
+    pub sorted : IsTextOrder patterns order
+    pub refused : IsRefusedIn state step order line old new
+
+  -- each was made, and that of the line was refused when it was made once more
+  pub record IsRefusedAgain (old new : S) (patterns : Patterns) (line : Line) : Type 0 where
+    pub order : Patterns
+    pub sorted : IsTextOrder patterns order
+    pub reached : S
+    pub made : MakesEach step old order reached
+    pub large : IsLargeAt patterns line (state reached) (state new)
+
+  -- by the calls of its builder: each was made, or the one of that line was refused
+  abbrev pub TriesPatterns : {A : Type 0} → S → S → Patterns → Result A PathRefusal → Type 0
+  TriesPatterns old new patterns (Ok made) = AreTried old new patterns
+      × RefusesNone (state old) (state new)
+  TriesPatterns old new patterns (Err (BadPattern line)) = Unit {0}
+  TriesPatterns old new patterns (Err (PatternTooLarge line)) =
+      IsRefusedFirst old new patterns line ⊎ IsRefusedAgain old new patterns line
+  TriesPatterns old new patterns (Err (TooManyOffers line)) = AreTried old new patterns
+  TriesPatterns old new patterns (Err NoMemory) = Unit {0}
+
+-- this one is no pattern
+abbrev pub IsBadOne : PatternText → PathRefusal → Type 0
+IsBadOne p (BadPattern line) = (line ≡ p.line) × IsNoPattern (pattern_of p)
+IsBadOne p (PatternTooLarge line) = ⊥
+IsBadOne p (TooManyOffers line) = ⊥
+IsBadOne p NoMemory = Unit {0}

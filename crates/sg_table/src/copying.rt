@@ -29,6 +29,7 @@ fn copied_inlet(alloc: Global, rule: &InletRule) -> Result<InletRule, AllocError
         opts: rule.opts,
         rfc5424: rule.rfc5424,
         empty_lines: rule.empty_lines,
+        one_line: rule.one_line,
         tags: copied_names(alloc, &rule.tags)?,
     })
 }

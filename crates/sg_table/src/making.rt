@@ -6,7 +6,7 @@ ghost use Rattle.sg_filter.specs.Patterns.{patterns_of};
 ghost use Rattle.sg_rewrite.specs.Ops.{change_of};
 ghost use Rattle.sg_tree.specs.Rules.{condition_of, rule_of};
 ghost use Rattle.sg_tree.specs.Sound.{op_sound};
-ghost use Rattle.sg_table.specs.Patterns.{Makes, condition_patterns, filters_patterns, op_patterns, rule_patterns, rules_patterns};
+ghost use Rattle.sg_table.specs.Patterns.{Makes, condition_patterns, op_patterns, rule_patterns};
 
 use sg_filter::{Expr, Filter};
 use sg_pattern::Builder;
@@ -84,43 +84,4 @@ pub(crate) fn make_rule<B: Builder>(
         Ok(rewrite) => Ok((condition, rewrite)),
         Err(refusal) => Err(refusal),
     }
-}
-
-/// Makes the filters that have names, used or not, so that each pattern is one.
-pub(crate) fn make_filters<B: Builder>(
-    alloc: Global,
-    builder: &mut B,
-    named: &[Expr],
-) -> Result<(), PathRefusal>
-    ensures makes { Makes (B.state builder.old) (B.state builder.new)
-        (filters_patterns named.now named.now) result }
-    ensures only { OnlyBuilds (B.state builder.old) (B.state builder.new) }
-{
-    for expr in named {
-        match make_filter(alloc, builder, named, expr) {
-            Ok(_filter) => {}
-            Err(refusal) => return Err(refusal),
-        }
-    }
-    Ok(())
-}
-
-/// Makes the rewrites that have names, used or not.
-pub(crate) fn make_rules<B: Builder>(
-    alloc: Global,
-    builder: &mut B,
-    named: &[Expr],
-    rules: &[RewriteRule],
-) -> Result<(), PathRefusal>
-    ensures makes { Makes (B.state builder.old) (B.state builder.new)
-        (rules_patterns named.now rules.now) result }
-    ensures only { OnlyBuilds (B.state builder.old) (B.state builder.new) }
-{
-    for rule in rules {
-        match make_rule(alloc, builder, named, rule) {
-            Ok(_made) => {}
-            Err(refusal) => return Err(refusal),
-        }
-    }
-    Ok(())
 }

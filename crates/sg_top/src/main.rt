@@ -3,7 +3,7 @@
 
 use sg_daemon::{Status, daemon};
 use sg_device::Name;
-use sg_world::HostMachine;
+use sg_world::{HostMachine, Streams};
 use std::alloc::{AllocError, Global};
 use std::io::ErrorKind;
 use std::process::ExitCode;
@@ -45,17 +45,21 @@ fn read_bytes(alloc: Global, rt: &HostRuntime) -> Result<Vec<Name>, AllocError> 
 
 /// Does what the words of the command line ask for, on the machine's files and sockets. `waits` is the
 /// runtime again, as what may wait.
-fn run_words<T: Threads + Wait + Sync>(
+fn run_words<T: Threads + Wait + Copy + Send + Sync>(
     waits: &T,
     alloc: Global,
     rt: HostRuntime,
 ) -> Result<Status, AllocError> {
     let words = read_words(alloc, &rt)?;
-    let mut machine = HostMachine::new(rt)?;
+    let mut machine = HostMachine::new(*waits, rt)?;
     Ok(daemon(waits, alloc, &words, &mut machine))
 }
 
 fn main(rt: HostRuntime) -> ExitCode {
+    // Before anything else is opened.
+    let Ok(_streams) = Streams::open(&rt) else {
+        return ExitCode::from(Status::NoMemory.code());
+    };
     let status = match run_words(&rt, rt.alloc(), rt) {
         Ok(status) => status,
         Err(_) => Status::NoMemory,

@@ -1,6 +1,5 @@
 pub mod Times
 pub mod Readings
-pub mod Sayings
 pub mod Takings
 pub mod Tracings
 pub mod Wholes

@@ -13,12 +13,13 @@ use Rattle.sg_trace.specs.declared.untraced.Untraced.TheVariants.{NotOpened, Inl
 use Rattle.sg_trace.specs.Pulling.{Pulls}
 use Rattle.sg_trace.specs.Reading.{ReadsSo, Reads}
 use Rattle.sg_trace.specs.Rows.{Offering, AreOffered, items_in, rows_text}
-use Rattle.sg_trace.specs.Saying.{OnlySays, SaidSome, SaysSome}
+use Rattle.sg_output.specs.Saying.{OnlySays, SaidSome}
+use Rattle.sg_trace.specs.Saying.{SaysSome}
 use Rattle.sg_trace.specs.Taking.{IsBad, TakesAll}
 use Rattle.sg_trace.specs.Traces.{AreAll, AreWhole, TracesOpen, TracesTo}
 use Rattle.sg_trace.specs.Opened.{IsBegun, TracedSo, IsTracing}
 use Rattle.sg_trace.proofs.Readings.{reads-begun, whole-items, open-form}
-use Rattle.sg_trace.proofs.Sayings.{rose-later, says-none, only-says-none, only-says-then, some-then, some-more}
+use Rattle.sg_output.proofs.Sayings.{rose-later, says-none, only-says-none, only-says-then, some-then, some-more}
 use Rattle.sg_trace.proofs.Takings.{items-append, offered-append, rows-append}
 
 pub err-is : {T E : Type 0} → (r : Result T E) (e : E) → IsErrAnd r (λ s. s ≡ e) → r ≡ Err e

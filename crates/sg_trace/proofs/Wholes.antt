@@ -1,5 +1,5 @@
 -- The whole of a trace.
-use Rattle.std.proofs.Common.{◌≡◌, inl, inr, ◌≤◌, ℕ, Bool, true, false, List, [], ◌++◌, Option, Some, None, Result, Ok, Err, refl, sym, ap, ◌∙◌, subst, arith, append_assoc}
+use Rattle.std.proofs.Common.{◌≡◌, inl, inr, ◌≤◌, ℕ, Bool, true, false, List, [], ◌++◌, Option, Some, None, Result, Ok, Err, refl, sym, ap, ◌∙◌, subst, arith}
 use Rattle.std.specs.Prelude.{cond}
 use Rattle.std.specs.Option.{option_map}
 use Rattle.sg_device.specs.Faults.{Rose}
@@ -13,10 +13,10 @@ use Rattle.sg_trace.specs.declared.tracer.Tracer.{Tracer}
 use Rattle.sg_trace.specs.declared.untraced.Untraced.{Untraced}
 use Rattle.sg_trace.specs.declared.untraced.Untraced.TheVariants.{NotOpened, InletFault, RoundsSpent, SayFault, NoMemory}
 use Rattle.sg_trace.specs.Rows.{Row, Offering, AreOffered, rows_text}
-use Rattle.sg_trace.specs.Saying.{OnlySays, SaidText, SaidSome}
+use Rattle.sg_output.specs.Saying.{OnlySays, SaidText, SaidSome}
 use Rattle.sg_trace.specs.Traces.{TraceEnds, UnlessUnsaid, TracesOpen, TracesTo, Ends, Feed, spec_of, end_text, HasCause, IsUntroubled, IsComplete, TracesBy, Traces}
 use Rattle.sg_trace.specs.Opened.{IsBegun}
-use Rattle.sg_trace.proofs.Sayings.{rose-later, says-text, only-says-then}
+use Rattle.sg_output.proofs.Sayings.{rose-later, rose-on, only-says-then, all-said}
 
 -- a file is read from its beginning
 either-same : (b : Bool) (n : ℕ) → cond b n n ≡ n
@@ -38,14 +38,6 @@ begins kind files input limit feed tracer new stands framer number text = record
   number = number;
   text = text;
 }
-
-rose-on : (a b c : ℕ) → Rose a b → b ≤ c → Rose a c
-rose-on a b c h k = omega arith
-
--- what was said and what is said at the end
-all-said : (a b c : WorldState) (lines text end : List ℕ) → SaidSome a b lines text → SaidText b c (text ++ end) → SaidText a c (lines ++ end)
-all-said a b c lines text end (s, (e, is)) f =
-    subst (λ (t : List ℕ). SaidText a c t) (sym (append_assoc s text end) ∙ ap (λ (xs : List ℕ). xs ++ end) is) (says-text a b c s (text ++ end) e f)
 
 unless-said : (a b c : WorldState) (lines text : List ℕ) (traced : Result Unit Untraced) → UnlessUnsaid traced (SaidSome a b lines text) → UnlessUnsaid traced (SaidText b c (text ++ end_text traced))
     → UnlessUnsaid traced (SaidText a c (lines ++ end_text traced))

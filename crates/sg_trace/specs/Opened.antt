@@ -8,7 +8,7 @@ use Rattle.sg_trace.specs.declared.target.Target.{Target}
 use Rattle.sg_trace.specs.declared.tracer.Tracer.{Tracer}
 use Rattle.sg_trace.specs.Reading.{Reads}
 use Rattle.sg_trace.specs.Rows.{Row, Offering, AreOffered, items_in, rows_text}
-use Rattle.sg_trace.specs.Saying.{OnlySays, SaidSome}
+use Rattle.sg_output.specs.Saying.{OnlySays, SaidSome}
 
 -- a file from its beginning, of which nothing was read
 pub record IsBegun (kind : FrameKind) (limit : ℕ) (feed : InletState) (tracer : Tracer) : Type 0 where

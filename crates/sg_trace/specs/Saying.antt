@@ -1,23 +1,10 @@
 -- What is said on the way.
-use Rattle.std.specs.Prelude.{◌≡◌, ◌≤◌, ℕ, List, [], ◌++◌, Result, Ok, Err}
-use Rattle.std.specs.Option.{option_map}
+use Rattle.std.specs.Prelude.{◌≡◌, ℕ, List, [], Result, Ok, Err}
 use Rattle.sg_device.specs.Faults.{Rose}
 use Rattle.sg_outside.specs.World.{WorldState}
+use Rattle.sg_output.specs.Saying.{SaidText, SaidSome}
 use Rattle.sg_trace.specs.declared.untraced.Untraced.{Untraced}
 use Rattle.sg_trace.specs.declared.untraced.Untraced.TheVariants.{NotOpened, InletFault, RoundsSpent, SayFault, NoMemory}
-
--- the machine, but that something may have been said
-pub record OnlySays (old new : WorldState) : Type 0 where
-  pub same : new ≡ record old { say_faults = new.say_faults; said = new.said }
-  pub later : old.say_faults ≤ new.say_faults
-
--- this was said, and nothing else
-abbrev pub SaidText : WorldState → WorldState → List ℕ → Type 0
-SaidText old new text = new.said ≡ option_map (λ said. said ++ text) old.said
-
--- the text was said, or is still to be said
-abbrev pub SaidSome : WorldState → WorldState → (text text' : List ℕ) → Type 0
-SaidSome old new text text' = (said : List ℕ) × (SaidText old new said × (said ++ text' ≡ text))
 
 -- the text was said, and none is left; or saying failed, or memory ran out
 abbrev pub SaysAll : WorldState → WorldState → (text text' : List ℕ) → Result Unit Untraced → Type 0

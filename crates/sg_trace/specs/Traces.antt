@@ -13,7 +13,7 @@ use Rattle.sg_trace.specs.declared.untraced.Untraced.{Untraced}
 use Rattle.sg_trace.specs.declared.untraced.Untraced.TheVariants.{NotOpened, InletFault, RoundsSpent, SayFault, NoMemory}
 use Rattle.sg_trace.specs.Reading.{HasGiven}
 use Rattle.sg_trace.specs.Rows.{Row, Offering, AreOffered, items_in, rows_text}
-use Rattle.sg_trace.specs.Saying.{OnlySays, SaidText, SaidSome}
+use Rattle.sg_output.specs.Saying.{OnlySays, SaidText, SaidSome}
 use Rattle.sg_trace.specs.Taking.{IsBad}
 
 -- These are all whole items of what the file gave; and where it must, a bad count follows them, or the file has ended.

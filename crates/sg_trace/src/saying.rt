@@ -1,5 +1,6 @@
 // What is said on the way.
-ghost use Rattle.sg_trace.specs.Saying.{OnlySays, SaysAll, SaysSome};
+ghost use Rattle.sg_output.specs.Saying.{OnlySays};
+ghost use Rattle.sg_trace.specs.Saying.{SaysAll, SaysSome};
 
 use crate::Untraced;
 use sg_device::SayRefusal;

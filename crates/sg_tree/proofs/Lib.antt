@@ -3,3 +3,4 @@ pub mod Views
 pub mod Turning
 pub mod Keeping
 pub mod Bounding
+pub mod Lines

@@ -13,6 +13,8 @@ pub struct InletRule {
     pub rfc5424: bool,
     /// An empty record becomes a message too.
     pub empty_lines: bool,
+    /// LF, CR and NUL in MESSAGE become spaces.
+    pub one_line: bool,
     /// Set on each message, in this order.
     pub tags: Vec<Name>,
 }

@@ -4,6 +4,7 @@
 mod delivery;
 mod forest;
 mod laws;
+mod one_line;
 mod reading;
 mod refusal;
 mod sound;

@@ -1,10 +1,12 @@
 // The message of a record, as its inlet reads it.
-ghost use Rattle.std.specs.Prelude.{◌≡◌, ◌≤ℤ◌, pos, IfOk, OnOk};
+ghost use Rattle.std.specs.Prelude.{◌≡◌, ◌≤ℤ◌, pos, codes, IfOk, OnOk};
+ghost use Rattle.sg_msg.specs.Message.{value_of};
 ghost use Rattle.sg_r3164.specs.declared.opts.ReadOpts.{ReadOpts as AReadOpts};
 ghost use Rattle.sg_tree.specs.Offers.{is_skipped};
-ghost use Rattle.sg_tree.specs.Readings.{inlet_of, IsReading, Reads5424, ReadsBy, with_tags};
+ghost use Rattle.sg_tree.specs.Readings.{inlet_of, in_lines, IsLine, IsReading, Reads5424, ReadsBy, with_tags};
 
 use crate::InletRule;
+use crate::one_line::put_in_line;
 use bytes::Bytes;
 use sg_device::Name;
 use sg_msg::Message;
@@ -47,6 +49,17 @@ fn read_plain(
     }
 }
 
+// MESSAGE as the flag says.
+fn put_message(alloc: Global, one_line: bool, message: &mut Message) -> Result<(), AllocError>
+    ensures whole { OnOk result (message.new ≡ in_lines one_line message.old) }
+    ensures line { OnOk result (IsLine one_line (value_of (codes "MESSAGE") message.new.pairs)) }
+{
+    if one_line {
+        put_in_line(alloc, message)?;
+    }
+    Ok(())
+}
+
 fn set_tags(message: &mut Message, tags: &[Name]) -> Result<(), AllocError>
     ensures { OnOk result (message.new ≡ with_tags tags.now message.old) }
 {
@@ -63,7 +76,8 @@ pub fn is_skipped(rule: &InletRule, item: &[u8]) -> bool
     item.is_empty() & !rule.empty_lines
 }
 
-/// The message of a record of an inlet, with the inlet's tags. One that isn't of RFC 5424's form, where
+/// The message of a record of an inlet, with its MESSAGE in one line where the inlet has that flag, and
+/// with the inlet's tags. One that isn't of RFC 5424's form, where
 /// the inlet reads by that, becomes the message of `sg_r5424::refused`.
 ///
 /// `at` is the moment of the pull, in microseconds since 1970-01-01T00:00:00Z, 0 to
@@ -76,9 +90,12 @@ pub fn read_item(
     peer: &Bytes,
 ) -> Result<Message, AllocError>
     requires { (pos 0 ≤ℤ at) × (at ≤ℤ pos 250_000_000_000_000_000) }
-    ensures { IfOk result (IsReading (inlet_of rule.now) item at peer.now) }
+    ensures reading { IfOk result (IsReading (inlet_of rule.now) item at peer.now) }
+    ensures line { IfOk result
+        (λ message. IsLine rule.now.one_line (value_of (codes "MESSAGE") message.pairs)) }
 {
     let mut message = read_plain(alloc, rule, item, at, peer)?;
+    put_message(alloc, rule.one_line, &mut message)?;
     set_tags(&mut message, &rule.tags)?;
     Ok(message)
 }

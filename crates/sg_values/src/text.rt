@@ -1,17 +1,20 @@
 // All statements of a configuration.
 ghost use Rattle.std.specs.Prelude.{◌≡◌};
 ghost use Rattle.std.specs.List.{flat_map};
-ghost use Rattle.sg_fault.specs.Faults.{least};
+ghost use Rattle.sg_fault.specs.Faults.{earlier, least};
 ghost use Rattle.sg_values.specs.Conditions.{rewrite_faults};
-ghost use Rattle.sg_values.specs.Texts.{object_faults, reference_faults, element_faults, branch_faults, log_faults, statement_faults, values_faults};
+ghost use Rattle.sg_values.specs.Texts.{object_faults, reference_faults, leaf_faults, values_faults};
 
 use crate::expression::expression_fault;
 use crate::rewrite::rewrite_fault;
 use sg_fault::{Placed, earlier};
-use sg_parse_expr::Call;
+use sg_parse_base::Spot;
+use sg_parse_expr::{Call, RawExpr};
 use sg_parse_obj::Object;
-use sg_parse_path::{RawBranch, RawElement, RawLog, RawRef};
+use sg_parse_path::{Kind, RawRef};
 use sg_parse_text::Statement;
+use sg_visit::{Visit, visit_statements};
+use std::convert::Infallible;
 
 fn rewrites_fault(calls: &[Call]) -> Option<Placed>
     ensures { result ≡ least (flat_map rewrite_faults calls.now) }
@@ -42,99 +45,54 @@ fn reference_fault(reference: &RawRef) -> Option<Placed>
     }
 }
 
-#[tactic(auto, using(sg_fault::proofs::Least::least_append, sg_fault::proofs::Least::earlier_none, crate::proofs::PathEquations::faults_source, crate::proofs::PathEquations::faults_destination, crate::proofs::PathEquations::faults_filter, crate::proofs::PathEquations::faults_rewrite, crate::proofs::PathEquations::faults_junction, crate::proofs::PathEquations::faults_if))]
-#[cycle(text)]
-fn element_fault(element: &RawElement) -> Option<Placed>
-    ensures { result ≡ least (element_faults element.now) }
-{
-    match element {
-        RawElement::Source(_, source) => reference_fault(source),
-        RawElement::Destination(destination) => reference_fault(destination),
-        RawElement::Filter(filter) => reference_fault(filter),
-        RawElement::Rewrite(rewrite) => reference_fault(rewrite),
-        RawElement::Junction(channels) => logs_fault(channels.as_slice()),
-        RawElement::If { branches, other } => {
-            let first = branches_fault(branches.as_slice());
-            match other {
-                Some(elements) => earlier(first, elements_fault(elements.as_slice())),
-                None => first,
-            }
-        }
+/// Finds the first fault of values.
+#[derive(Drop)]
+struct ValueVisitor;
+
+#[tactic(auto, using(sg_fault::proofs::Least::earlier_none))]
+impl Visit for ValueVisitor {
+    type State = Option<Placed>;
+
+    type Error = Infallible;
+
+    ghost step = { λ visitor old leaf new. new ≡ earlier old (least (leaf_faults leaf)) };
+
+    fn object(&self, first: &mut Option<Placed>, object: &Object) -> Result<(), Infallible> {
+        *first = earlier(*first, object_fault(object));
+        Ok(())
     }
-}
 
-#[cycle(text)]
-fn elements_fault(elements: &[RawElement]) -> Option<Placed>
-    ensures { result ≡ least (flat_map element_faults elements.now) }
-{
-    let mut first = None;
-    for element in elements {
-        first = earlier(first, element_fault(element));
+    fn source(&self, _first: &mut Option<Placed>, _word: &Spot) -> Result<(), Infallible> {
+        Ok(())
     }
-    first
-}
 
-#[tactic(auto, using(sg_fault::proofs::Least::least_append, crate::proofs::PathEquations::faults_branch))]
-#[cycle(text)]
-fn branch_fault(branch: &RawBranch) -> Option<Placed>
-    ensures { result ≡ least (branch_faults branch.now) }
-{
-    earlier(
-        expression_fault(&branch.test),
-        elements_fault(branch.elements.as_slice()),
-    )
-}
-
-#[cycle(text)]
-fn branches_fault(branches: &[RawBranch]) -> Option<Placed>
-    ensures { result ≡ least (flat_map branch_faults branches.now) }
-{
-    let mut first = None;
-    for branch in branches {
-        first = earlier(first, branch_fault(branch));
+    fn reference(
+        &self,
+        first: &mut Option<Placed>,
+        _kind: Kind,
+        reference: &RawRef,
+    ) -> Result<(), Infallible> {
+        *first = earlier(*first, reference_fault(reference));
+        Ok(())
     }
-    first
-}
 
-#[tactic(auto, using(sg_fault::proofs::Least::least_append, crate::proofs::PathEquations::faults_log))]
-#[cycle(text)]
-fn log_fault(log: &RawLog) -> Option<Placed>
-    ensures { result ≡ least (log_faults log.now) }
-{
-    earlier(
-        elements_fault(log.elements.as_slice()),
-        logs_fault(log.embedded.as_slice()),
-    )
-}
-
-#[cycle(text)]
-fn logs_fault(logs: &[RawLog]) -> Option<Placed>
-    ensures { result ≡ least (flat_map log_faults logs.now) }
-{
-    let mut first = None;
-    for log in logs {
-        first = earlier(first, log_fault(log));
+    fn test(&self, first: &mut Option<Placed>, test: &RawExpr) -> Result<(), Infallible> {
+        *first = earlier(*first, expression_fault(test));
+        Ok(())
     }
-    first
-}
 
-fn statement_fault(statement: &Statement) -> Option<Placed>
-    ensures { result ≡ least (statement_faults statement.now) }
-{
-    match statement {
-        Statement::Object(object) => object_fault(object),
-        Statement::Log(log) => log_fault(log),
+    fn flags(&self, _first: &mut Option<Placed>, _flags: &[Spot]) -> Result<(), Infallible> {
+        Ok(())
     }
 }
 
 /// The first fault of the values of all filters and rewrites, also of those in log statements.
-#[tactic(auto, unfolding(crate::specs::Texts::values_faults))]
 pub fn values_fault(statements: &[Statement]) -> Option<Placed>
     ensures { result ≡ least (values_faults statements.now) }
 {
     let mut first = None;
-    for statement in statements {
-        first = earlier(first, statement_fault(statement));
+    match visit_statements(&ValueVisitor, &mut first, statements) {
+        Ok(()) => first,
+        Err(never) => match never {},
     }
-    first
 }

@@ -7,26 +7,6 @@ use Rattle.sg_host.specs.Paths.{paths_of}
 use Rattle.sg_host.specs.Stores.{stores_of}
 use Rattle.sg_world.specs.declared.host.HostMachine.{HostMachine}
 
--- nothing of the content of files and devices
-abbrev pub host_state : HostMachine → WorldState
-host_state m = record {
-  files = None;
-  unread = m.unread;
-  inlets = inlets_of m.inlets;
-  outlets = outlets_of m.outlets;
-  stores = stores_of m.stores;
-  paths = paths_of m.paths;
-  store_names = None;
-  said = None;
-  read_faults = m.read_faults;
-  inlet_faults = m.inlets.faults;
-  outlet_faults = m.outlets.faults;
-  store_faults = m.stores.faults;
-  paths_faults = m.paths.faults;
-  say_faults = m.say_faults;
-  build_faults = m.build_faults;
-}
-
 -- no device
 abbrev pub none_opened : {P S : Type 0} → Ledger P S
 none_opened = record { opened = []; closed = [] }
@@ -50,3 +30,24 @@ unused = record {
   say_faults = 0;
   build_faults = 0;
 }
+
+module _ {T : Type 0} where
+  -- nothing of the content of files and devices
+  abbrev pub host_state : HostMachine T → WorldState
+  host_state m = record {
+    files = None;
+    unread = m.unread;
+    inlets = inlets_of m.inlets;
+    outlets = outlets_of m.outlets;
+    stores = stores_of m.stores;
+    paths = paths_of m.paths;
+    store_names = None;
+    said = None;
+    read_faults = m.read_faults;
+    inlet_faults = m.inlets.faults;
+    outlet_faults = m.outlets.faults;
+    store_faults = m.stores.faults;
+    paths_faults = m.paths.faults;
+    say_faults = m.say_faults;
+    build_faults = m.patterns.too_large;
+  }

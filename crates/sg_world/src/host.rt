@@ -1,5 +1,6 @@
 // The machine that the program runs on: real files, sockets and standard output.
 ghost use Rattle.std.specs.Prelude.{◌≡◌, IfOk};
+ghost use Rattle.sg_pattern.specs.Builds.{Builds};
 ghost use Rattle.sg_world.specs.Host.{host_state, unused};
 
 use crate::World;
@@ -13,26 +14,32 @@ use sg_host::{
 use sg_outside::{Files, InletSpec, Machine, OutletSpec, StoreSpec};
 use sg_pattern::{BuildFault, Builder, Patterns};
 use std::alloc::Global;
+use std::thread::Threads;
 
 /// The machine. It tells nothing of the content of files and devices. When a device begins to fail,
 /// and when it works again, it says so on standard error.
-pub struct HostMachine {
+pub struct HostMachine<T: Threads + Copy> {
+    threads: T,
     rt: HostRuntime,
     inlets: HostInlets,
-    outlets: HostOutlets,
+    outlets: HostOutlets<T>,
     paths: HostPaths,
     stores: HostStores,
     // The name of the file whose reading failed last.
     unread: Option<Name>,
     read_faults: u64,
     say_faults: u64,
-    build_faults: u64,
+    // What it made of patterns, and how many were refused for their size.
+    patterns: Patterns,
+    // The texts for standard error that were dropped since one was written.
+    untold: u64,
     timer: Timer,
 }
 
-impl Drop for HostMachine {
+impl<T: Threads + Copy> Drop for HostMachine<T> {
     fn drop(self) {
         let HostMachine {
+            threads: _threads,
             rt: _rt,
             inlets: _inlets,
             outlets: _outlets,
@@ -41,39 +48,43 @@ impl Drop for HostMachine {
             unread: _unread,
             read_faults: _read_faults,
             say_faults: _say_faults,
-            build_faults: _build_faults,
+            patterns: _patterns,
+            untold: _untold,
             timer: _timer,
         } = self;
     }
 }
 
-impl HostMachine {
-    /// The machine, of which nothing was asked yet.
-    pub fn new(rt: HostRuntime) -> Result<HostMachine, NoMemory>
+impl<T: Threads + Copy> HostMachine<T> {
+    /// The machine, of which nothing was asked yet. `threads` is the runtime again, as what opens
+    /// sources and looks names up.
+    pub fn new(threads: T, rt: HostRuntime) -> Result<HostMachine<T>, NoMemory>
         ensures { IfOk result (λ machine. host_state machine ≡ unused) }
     {
         let alloc = rt.alloc();
         let rest = Rest::new(alloc, rt)?;
         Ok(HostMachine {
+            threads,
             rt,
             inlets: HostInlets::new(alloc, rt, rest.share()?),
-            outlets: HostOutlets::new(alloc, rt, rest.share()?),
-            paths: HostPaths::new(alloc, rt, rest),
-            stores: HostStores::new(alloc, rt),
+            outlets: HostOutlets::new(threads, alloc, rt, rest.share()?),
+            paths: HostPaths::new(alloc, rt, rest.share()?),
+            stores: HostStores::new(alloc, rt, rest),
             unread: None,
             read_faults: 0,
             say_faults: 0,
-            build_faults: 0,
+            patterns: Patterns::new(alloc),
+            untold: 0,
             timer: Timer::new(rt),
         })
     }
 }
 
-impl Machine for HostMachine {
+impl<T: Threads + Copy> Machine for HostMachine<T> {
     ghost state = { host_state };
 }
 
-impl Files for HostMachine {
+impl<T: Threads + Copy> Files for HostMachine<T> {
     fn read(&mut self, alloc: Global, name: &[u8]) -> Result<Vec<u8>, FileRefusal> {
         let unread = Name::new(alloc, name)?;
         let result = read_file(alloc, self.rt, &mut self.read_faults, name, LONGEST);
@@ -84,14 +95,17 @@ impl Files for HostMachine {
     }
 }
 
-impl Builder for HostMachine {
-    fn build(&mut self, alloc: Global, text: &str, ignore_case: bool) -> Result<Regex, BuildFault> {
-        let mut patterns = Patterns {
-            too_large: self.build_faults,
-        };
-        let result = patterns.build(alloc, text, ignore_case);
-        self.build_faults = patterns.too_large;
-        match result {
+impl<T: Threads + Copy> Builder for HostMachine<T> {
+    ghost build_step = { λ old text ignore_case result new.
+        Builds (host_state old) (host_state new) text ignore_case result };
+
+    fn build(
+        &mut self,
+        alloc: Global,
+        text: &str,
+        ignore_case: bool,
+    ) -> Result<&'static Regex, BuildFault> {
+        match self.patterns.build(alloc, text, ignore_case) {
             Ok(regex) => Ok(regex),
             Err(BuildFault::Syntax) => Err(BuildFault::Syntax),
             Err(BuildFault::TooLarge) => Err(BuildFault::TooLarge),
@@ -100,10 +114,10 @@ impl Builder for HostMachine {
     }
 }
 
-impl World for HostMachine {
+impl<T: Threads + Copy + Send> World for HostMachine<T> {
     type Feed = HostFeed;
 
-    type Drain = HostDrain;
+    type Drain = HostDrain<T>;
 
     type Store = HostStore;
 
@@ -119,10 +133,16 @@ impl World for HostMachine {
         spec: &InletSpec,
         from: u64,
     ) -> Result<(HostFeed, u64), OpenRefusal> {
-        self.inlets.open(alloc, spec, from)
+        // The store of a file's position was opened before the file.
+        let marked = self.stores.is_used();
+        self.inlets.open(&self.threads, alloc, spec, from, marked)
     }
 
-    fn open_outlet(&mut self, alloc: Global, spec: &OutletSpec) -> Result<HostDrain, OpenRefusal> {
+    fn open_outlet(
+        &mut self,
+        alloc: Global,
+        spec: &OutletSpec,
+    ) -> Result<HostDrain<T>, OpenRefusal> {
         self.outlets.open(alloc, spec)
     }
 
@@ -138,7 +158,7 @@ impl World for HostMachine {
         self.inlets.close(feed);
     }
 
-    fn close_outlet(&mut self, drain: HostDrain) {
+    fn close_outlet(&mut self, drain: HostDrain<T>) {
         self.outlets.close(drain);
     }
 
@@ -151,7 +171,7 @@ impl World for HostMachine {
     }
 
     fn tell(&mut self, bytes: &[u8]) {
-        tell(self.rt, bytes);
+        tell(self.rt, &mut self.untold, bytes);
     }
 
     fn is_due(&mut self, seconds: u32) -> bool {

@@ -8,4 +8,5 @@ mod world;
 
 pub use host::HostMachine;
 pub use memory::MemoryMachine;
+pub use sg_host::Streams;
 pub use world::{LONGEST, World};

@@ -1,5 +1,6 @@
 // The machine in memory: each call is passed on.
 ghost use Rattle.sg_memory.specs.World.{world_of};
+ghost use Rattle.sg_pattern.specs.Builds.{Builds};
 
 use crate::World;
 use crate::world::LONGEST;
@@ -28,8 +29,17 @@ impl Files for MemoryMachine {
 }
 
 impl Builder for MemoryMachine {
-    fn build(&mut self, alloc: Global, text: &str, ignore_case: bool) -> Result<Regex, BuildFault> {
-        match (Patterns { too_large: 0 }).build(alloc, text, ignore_case) {
+    ghost build_step = { λ old text ignore_case result new.
+        Builds (world_of old.world) (world_of new.world) text ignore_case result };
+
+    fn build(
+        &mut self,
+        alloc: Global,
+        text: &str,
+        ignore_case: bool,
+    ) -> Result<&'static Regex, BuildFault> {
+        let mut patterns = Patterns::new(alloc);
+        match patterns.build(alloc, text, ignore_case) {
             Ok(regex) => {
                 if self.world.fails_build() {
                     return Err(BuildFault::TooLarge);

@@ -79,6 +79,34 @@ fn fill_both<R: Threads + Wait + Sync>(
     one
 }
 
+// A desk takes three turns, leaves a receipt of them, and is dropped.
+fn leave<R: Wait>(rt: &R, alloc: Global, booth: &Booth<Till>, desk: &mut Desk<Till>)
+    requires desk { IsDeskOf booth.now desk.old }
+    requires left { 4 < desk.old.left }
+    ensures desk { IsDeskOf booth.entry.now desk.new }
+    ensures left { desk.new.left + 4 ≡ desk.old.left }
+{
+    let other = booth.split(desk, 4);
+    let mut other = fill(rt, alloc, booth, other, 3);
+    let receipt = booth.receipt(&mut other);
+    booth.join(desk, receipt);
+}
+
+#[test]
+fn a_dropped_desk_leaves_its_calls(rt: HostRuntime) -> Result<(), Fail> {
+    let till = Till { sum: 0, calls: 0 };
+    match Booth::new(rt.alloc(), till, 9) {
+        Ok((booth, mut desk)) => {
+            leave(&rt, rt.alloc(), &booth, &mut desk);
+            let left = desk.left();
+            let Till { sum, calls } = booth.close(&rt, desk);
+            assert!(rt; left == 5 && sum == 9 && calls == 3);
+            Ok(())
+        }
+        Err((Till { sum: _, calls: _ }, failed)) => Err(failed.into()),
+    }
+}
+
 #[test]
 fn two_threads_fill_a_till(rt: HostRuntime) -> Result<(), Fail> {
     let till = Till { sum: 0, calls: 0 };

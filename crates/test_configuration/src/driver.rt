@@ -67,6 +67,7 @@ fn put_reading(alloc: Global, out: &mut Vec<u8>, source: &SourceDriver) -> Resul
     put_flag(out, source.opts.parse, b" parsed")?;
     put_flag(out, source.rfc5424, b" 5424")?;
     put_flag(out, source.empty_lines, b" empty")?;
+    put_flag(out, source.one_line, b" one line")?;
     put_tags(out, source.tags.as_slice())
 }
 

@@ -119,10 +119,15 @@ fn put_outlets(alloc: Global, out: &mut Vec<u8>, plan: &Plan) -> Result<(), NoMe
     Ok(())
 }
 
-fn put_stores(out: &mut Vec<u8>, plan: &Plan) -> Result<(), NoMemory> {
+// The stores, each with the size that it is made with where that is another one than a fresh store's.
+fn put_stores(alloc: Global, out: &mut Vec<u8>, plan: &Plan) -> Result<(), NoMemory> {
     for store in &plan.stores {
         out.extend_from_slice(store.name.bytes())?;
         out.push(if store.create { b'+' } else { b'-' })?;
+        let size = store.size;
+        if size != 128 {
+            out.extend_from_slice(format!(in alloc; "{size}")?.as_bytes())?;
+        }
         out.push(b' ')?;
     }
     Ok(())
@@ -133,7 +138,7 @@ fn put_whole(alloc: Global, out: &mut Vec<u8>, plan: &Plan) -> Result<(), NoMemo
     out.extend_from_slice(b"| ")?;
     put_outlets(alloc, out, plan)?;
     out.extend_from_slice(b"| ")?;
-    put_stores(out, plan)
+    put_stores(alloc, out, plan)
 }
 
 fn put_planned(alloc: Global, out: &mut Vec<u8>, statements: &[Statement]) -> Result<(), NoMemory>

@@ -11,7 +11,7 @@ use crate::openings::{Found, events_of, forget_place};
 use sg_core::Core;
 use sg_counter::{CoreFront, Refill, Refused, Settled, Stored};
 use sg_list::Seq;
-use sg_machine::{Act, Event, Verdict};
+use sg_machine::{Act, Admission, Event, Verdict};
 use sg_memory_disk::MemoryDisk;
 use std::alloc::{AllocError, Global};
 
@@ -191,6 +191,28 @@ impl Run {
         }
         Ok(())
     }
+
+    // An event in which a source's records, whose offers are those from that number on, get these verdicts.
+    fn admitted(
+        &mut self,
+        alloc: Global,
+        core: &Core<MemoryDisk>,
+        i: u32,
+        records: Vec<Admission>,
+        verdicts: Vec<Verdict>,
+        first: usize,
+    ) -> Result<(), AllocError>
+        requires { IsTried core.now }
+    {
+        let answered = Vec::from_slice(alloc, &verdicts)?;
+        let act = Act::Admit {
+            inlet: i,
+            records: Seq::new(records),
+            verdicts: Seq::new(verdicts),
+        };
+        self.admit(alloc, core, act, first)?;
+        self.take(first, &answered)
+    }
 }
 
 #[tactic(auto, using(crate::proofs::TestLemmas::goes_somewhere))]
@@ -219,14 +241,7 @@ fn feed(
     match core.admit(alloc, i, given) {
         Ok(verdicts) => {
             run.right = run.right & (credit >= count);
-            let answered = Vec::from_slice(alloc, &verdicts)?;
-            let act = Act::Admit {
-                inlet: i,
-                records: Seq::new(told),
-                verdicts: Seq::new(verdicts),
-            };
-            run.admit(alloc, core, act, first)?;
-            run.take(first, &answered)
+            run.admitted(alloc, core, i, told, verdicts, first)
         }
         Err(refused) => {
             run.right = run.right & is_back(&refused, credit, count);

@@ -1,10 +1,8 @@
-use Rattle.std.proofs.Common.{arith, ◌≡◌, List, [], ◌∷◌, ◌++◌, length, slice_get, ◌<◌, ◌≤◌, ◌^◌, ℕ, refl, ap, zero, suc, sym, ◌∙◌, subst, Some, None}
+use Rattle.std.proofs.Common.{arith, ◌≡◌, List, [], ◌∷◌, length, slice_get, ◌≤◌, ◌^◌, ℕ, refl, ap, zero, suc, sym, ◌∙◌, subst, Some, None}
 use Rattle.sg_device.specs.Inlet.{InletState}
-use Rattle.sg_device.specs.Outlet.{OutletState}
 use Rattle.sg_counter.specs.Bringing.{store_in}
-use Rattle.sg_actor.specs.declared.dest.DestActor.{DestActor}
 use Rattle.sg_actor.specs.declared.source.SourceActor.{SourceActor}
-use Rattle.sg_turns.specs.Actors.{IsSource, AreSources, IsDest, AreDests}
+use Rattle.sg_turns.specs.Actors.{IsSource, AreSources}
 use Rattle.sg_machine.specs.declared.setup.Setup.{Setup}
 use Rattle.sg_list.proofs.ListLemmas.{some-same}
 use Rattle.sg_machine.specs.declared.setup.BufferSetup.{BufferSetup}

@@ -90,6 +90,7 @@ fn store_spec(alloc: Global) -> Result<StoreSpec, AllocError> {
     Ok(StoreSpec {
         name: Name::new(alloc, b"pos-in")?,
         create: true,
+        size: 128,
     })
 }
 

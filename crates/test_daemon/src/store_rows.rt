@@ -201,6 +201,7 @@ fn is_there(alloc: Global, name: &[u8], world: &mut MemoryWorld) -> Result<bool,
     let spec = StoreSpec {
         name: Name::new(alloc, name)?,
         create: false,
+        size: 128,
     };
     Ok(world.open_store(alloc, &spec).is_ok())
 }

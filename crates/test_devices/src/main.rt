@@ -2,19 +2,28 @@
 //! stores and FIFOs. It says what its devices come to.
 #![tactic(auto)]
 
+mod both;
 mod work;
 
 use std::process::ExitCode;
+use std::thread::Threads;
 use std::{env, io};
 
 const USAGE: &str =
-    "usage: test_devices send PATH [fsync] | lines PATH | pull PATH | read PATH | store PATH | look PATH";
+    "usage: test_devices send PATH [fsync] | lines PATH | both PATH | pull PATH | read PATH | store PATH | look PATH";
 
-fn run(rt: HostRuntime, what: &str, path: &str, fsync: bool) -> io::Result<bool> {
+fn run<T: Threads>(
+    threads: &T,
+    rt: HostRuntime,
+    what: &str,
+    path: &str,
+    fsync: bool,
+) -> io::Result<bool> {
     match what {
         "send" => work::send(rt, path, fsync),
         "lines" => work::lines(rt, path),
-        "pull" => work::pull(rt, path),
+        "both" => both::both(threads, rt, path),
+        "pull" => work::pull(threads, rt, path),
         "read" => work::read(rt, path),
         "store" => work::store(rt, path),
         "look" => work::look(rt, path),
@@ -29,6 +38,6 @@ fn main(rt: HostRuntime) -> io::Result<ExitCode> {
         return Ok(ExitCode::from(1));
     };
     let fsync = words.next().is_some();
-    let done = run(rt, what.as_str(), path.as_str(), fsync)?;
+    let done = run(&rt, rt, what.as_str(), path.as_str(), fsync)?;
     Ok(ExitCode::from(if done { 0 } else { 4 }))
 }

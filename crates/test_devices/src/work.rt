@@ -2,16 +2,21 @@
 use sg_device::{Disk, Frames, Inlet, Outlet, Pull};
 use sg_file::{Appending, FileDisk, FileInlet, FileOutlet, Rest, read_file};
 use std::io;
+use std::thread::Threads;
 
 // An outlet that can be opened anew at once.
-fn open(rt: HostRuntime, path: &str, fsync: bool) -> io::Result<Option<FileOutlet>> {
+pub(crate) fn open(
+    rt: HostRuntime,
+    path: &str,
+    fsync: bool,
+    rest: Rest,
+) -> io::Result<Option<FileOutlet>> {
     let how = Appending {
         fsync,
         mode: 0o600,
         folders: None,
         reopen: 0,
     };
-    let rest = Rest::new(rt.alloc(), rt)?;
     match FileOutlet::open(rt.alloc(), rt, path.as_bytes(), how, rest) {
         Ok(outlet) => Ok(Some(outlet)),
         Err(_) => Ok(None),
@@ -27,45 +32,76 @@ fn push(rt: HostRuntime, frames: &mut Frames, line: &str) -> io::Result<()> {
 
 /// Sends all lines of standard input at once, and says how many of them were taken.
 pub(crate) fn send(rt: HostRuntime, path: &str, fsync: bool) -> io::Result<bool> {
-    let Some(mut outlet) = open(rt, path, fsync)? else {
+    let rest = Rest::new(rt.alloc(), rt)?;
+    let Some(mut outlet) = open(rt, path, fsync, rest)? else {
         return Ok(false);
     };
+    send_some(&mut outlet, &input(rt)?);
+    say_taken(rt, &outlet)
+}
+
+// All lines of standard input.
+fn input(rt: HostRuntime) -> io::Result<Frames> {
     let mut frames = Frames::new(rt.alloc());
     for line in rt.lines(rt.alloc()) {
         push(rt, &mut frames, line?.as_str())?;
     }
-    send_some(&mut outlet, &frames);
+    Ok(frames)
+}
+
+// How many frames were taken.
+fn say_taken(rt: HostRuntime, outlet: &FileOutlet) -> io::Result<bool> {
     let taken = outlet.taken();
     println!(rt; "taken {taken}")?;
     Ok(true)
 }
 
-fn send_some(outlet: &mut FileOutlet, frames: &Frames) -> bool {
+/// Sends the frames, of which there must be one, and tells whether all were taken.
+pub(crate) fn send_some(outlet: &mut FileOutlet, frames: &Frames) -> bool {
     !frames.is_empty() && outlet.send(frames).is_ok()
 }
 
 /// Sends each line of standard input for itself. After a refusal the outlet is opened anew before the
 /// next line, and the line is lost.
 pub(crate) fn lines(rt: HostRuntime, path: &str) -> io::Result<bool> {
-    let Some(mut outlet) = open(rt, path, false)? else {
+    let rest = Rest::new(rt.alloc(), rt)?;
+    let Some(mut outlet) = open(rt, path, false, rest)? else {
         return Ok(false);
     };
+    send_lines(rt, &mut outlet)?;
+    say_taken(rt, &outlet)
+}
+
+fn send_lines(rt: HostRuntime, outlet: &mut FileOutlet) -> io::Result<()> {
     for line in rt.lines(rt.alloc()) {
-        let mut frames = Frames::new(rt.alloc());
-        push(rt, &mut frames, line?.as_str())?;
-        if !send_some(&mut outlet, &frames) {
-            let _ready = outlet.reopen();
-        }
+        send_line(rt, outlet, line?.as_str())?;
     }
-    let taken = outlet.taken();
-    println!(rt; "taken {taken}")?;
-    Ok(true)
+    Ok(())
+}
+
+// Sends a line, and opens the outlet anew after a refusal.
+fn send_line(rt: HostRuntime, outlet: &mut FileOutlet, line: &str) -> io::Result<()> {
+    let mut frames = Frames::new(rt.alloc());
+    push(rt, &mut frames, line)?;
+    if !send_some(outlet, &frames) {
+        let _ready = outlet.reopen();
+    }
+    Ok(())
 }
 
 /// Pulls up to the end, and says how many bytes came.
-pub(crate) fn pull(rt: HostRuntime, path: &str) -> io::Result<bool> {
+pub(crate) fn pull<T: Threads>(threads: &T, rt: HostRuntime, path: &str) -> io::Result<bool> {
     let rest = Rest::new(rt.alloc(), rt)?;
-    let opened = FileInlet::open(rt.alloc(), rt, path.as_bytes(), true, 65_536, 0, rest);
+    let opened = FileInlet::open(
+        threads,
+        rt.alloc(),
+        rt,
+        path.as_bytes(),
+        true,
+        65_536,
+        0,
+        rest,
+    );
     let Ok(mut inlet) = opened else {
         return Ok(false);
     };
@@ -96,7 +132,7 @@ pub(crate) fn read(rt: HostRuntime, path: &str) -> io::Result<bool> {
 
 /// Opens a store, made where it is missing, says so, and keeps it until standard input ends.
 pub(crate) fn store(rt: HostRuntime, path: &str) -> io::Result<bool> {
-    let Ok(mut disk) = FileDisk::open(rt.alloc(), rt, path.as_bytes(), true) else {
+    let Ok(mut disk) = FileDisk::open(rt.alloc(), rt, path.as_bytes(), Some(128)) else {
         return Ok(false);
     };
     println!(rt; "opened")?;
@@ -110,7 +146,7 @@ pub(crate) fn store(rt: HostRuntime, path: &str) -> io::Result<bool> {
 
 /// Opens a store that is there, and says how many of its first 4,096 bytes were read.
 pub(crate) fn look(rt: HostRuntime, path: &str) -> io::Result<bool> {
-    let Ok(mut disk) = FileDisk::open(rt.alloc(), rt, path.as_bytes(), false) else {
+    let Ok(mut disk) = FileDisk::open(rt.alloc(), rt, path.as_bytes(), None) else {
         return Ok(false);
     };
     let mut buffer = [0u8; 4096];

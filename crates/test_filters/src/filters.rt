@@ -515,7 +515,7 @@ fn answers(
     named: &[Expr],
     messages: &[Message],
 ) -> Result<String, AllocError> {
-    let mut patterns = Patterns { too_large: 0 };
+    let mut patterns = Patterns::new(alloc);
     let mut made = Filter::new(alloc, &mut patterns, expr, named);
     match &mut made {
         Ok(filter) => digits(alloc, filter, messages),

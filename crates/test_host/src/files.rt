@@ -2,6 +2,7 @@
 use crate::folder::Folder;
 use crate::{destinations, ledgers, sources, stores};
 use std::test::Fail;
+use std::thread::Threads;
 
 // A step, and what it comes to.
 const STEPS: &str = "\
@@ -17,10 +18,13 @@ store name = refused
 store short = 3 0
 store truncated = 4 refused 2 refused faults 2 again 4
 source places = 0 4 0 0 8 0 11 0 0
+source moments = 0 1500000 250000000000000000
 source once = abc:de:.:.:
 source idle = abc:-:-:
 source grown = abc:-:de:
 source shorter = abc:-:fault:fault:
+source regrown = abc:-:fault:
+source rewritten = abc:-:fault:
 source replaced = abc:-:fault:
 source unlinked = abc:-:-:
 source hung = abc:.:.:
@@ -49,8 +53,10 @@ file socket = failed 1
 file name = failed 1
 machine file inlet = at 4 bytes 2 failed 1
 machine slot inlets = at 0 parts 1 at 0 parts 1 failed 1
-machine slot limit = next next 1 2 - - next - 3 -
+machine slot limit = next next 1 2 - - next - 4 -
 machine file outlet = taken 2 failed 1
+machine own source = refused refused fault opened
+machine own store = refused opened
 machine tcp outlet = taken 1 failed 1
 machine store = 128 0 failed 1
 machine paths = abcd failed 1 other false
@@ -66,7 +72,7 @@ fn files(rt: HostRuntime) -> Result<(), Fail> {
     for line in STEPS.lines() {
         let (step, want) = line.split_once(" = ").ok_or("no answer")?;
         let folder = Folder::new(rt)?;
-        let got = take(&folder, step)?;
+        let got = take(rt, &folder, step)?;
         folder.remove()?;
         assert_eq!(rt; (step, got.as_str()), (step, want));
     }
@@ -74,13 +80,13 @@ fn files(rt: HostRuntime) -> Result<(), Fail> {
 }
 
 // What a step comes to.
-fn take(folder: &Folder, step: &str) -> Result<String, Fail> {
+fn take<T: Threads + Copy + Send>(threads: T, folder: &Folder, step: &str) -> Result<String, Fail> {
     match step.split_once(' ') {
         Some(("store", what)) => stores::take(folder, what),
-        Some(("source", what)) => sources::take(folder, what),
+        Some(("source", what)) => sources::take(&threads, folder, what),
         Some(("destination", what)) => destinations::take(folder, what),
         Some(("file", what)) => stores::read(folder, what),
-        Some(("machine", what)) => ledgers::take(folder, what),
+        Some(("machine", what)) => ledgers::take(threads, folder, what),
         _ => Err("no such step".into()),
     }
 }

@@ -17,17 +17,28 @@ pub struct Folder {
     path: String,
 }
 
+fn random_number(rt: HostRuntime) -> Result<u64, Fail> {
+    let mut bytes = [0u8; 8];
+    rt.fill_bytes(&mut bytes)?;
+    Ok(u64::from_le_bytes(bytes))
+}
+
+// The path of the folder of this number.
+fn path_of(rt: HostRuntime, number: u64) -> Result<String, Fail> {
+    let temporary = env::temp_dir(&rt)?;
+    let above = temporary.as_path().to_str().ok_or("no text")?;
+    Ok(format!(in rt.alloc(); "{above}/test_host_{number:016x}")?)
+}
+
 impl Folder {
     pub(crate) fn new(rt: HostRuntime) -> Result<Folder, Fail> {
-        let alloc = rt.alloc();
-        let temporary = env::temp_dir(&rt)?;
-        let above = temporary.as_path().to_str().ok_or("no text")?;
-        let mut chance = [0u8; 8];
-        rt.fill_bytes(&mut chance)?;
-        let number = u64::from_le_bytes(chance);
-        let path = format!(in alloc; "{above}/test_host_{number:016x}")?;
+        let path = path_of(rt, random_number(rt)?)?;
         fs::create_dir(&rt, path.as_str())?;
-        Ok(Folder { rt, alloc, path })
+        Ok(Folder {
+            rt,
+            alloc: rt.alloc(),
+            path,
+        })
     }
 
     /// The path of a file in it.

@@ -3,26 +3,33 @@ ghost use Rattle.std.specs.Prelude.{◌≡◌, []};
 ghost use Rattle.std.specs.List.{Contains};
 ghost use Rattle.sg_host.specs.Paths.{opener_of};
 
-use crate::folder::{Folder, brought, free_port, listen, sent};
-use sg_device::{Disk, Inlet, InletFault, Name, Opener};
+use crate::folder::{Folder, brought, frames, free_port, listen, send};
+use sg_device::{Disk, Inlet, InletFault, Name, Opener, Outlet, SendRefusal};
 use sg_host::{
     HostFeed, HostInlets, HostOpener, HostOutlets, HostPaths, HostStores, Rest, Timer, say, tell,
 };
 use sg_outside::{InletSpec, OutletSpec, StoreSpec};
+use std::fs;
 use std::io::Write;
 use std::net::TcpStream;
 use std::test::Fail;
-use std::thread;
+use std::thread::{self, Threads};
 use std::time::Duration;
 
 /// What a step over a machine's devices comes to.
-pub(crate) fn take(folder: &Folder, what: &str) -> Result<String, Fail> {
+pub(crate) fn take<T: Threads + Copy + Send>(
+    threads: T,
+    folder: &Folder,
+    what: &str,
+) -> Result<String, Fail> {
     match what {
-        "file inlet" => file_inlet(folder),
-        "slot inlets" => slot_inlets(folder),
-        "slot limit" => slot_limit(folder),
-        "file outlet" => file_outlet(folder),
-        "tcp outlet" => tcp_outlet(folder),
+        "file inlet" => file_inlet(&threads, folder),
+        "slot inlets" => slot_inlets(&threads, folder),
+        "slot limit" => slot_limit(&threads, folder),
+        "file outlet" => file_outlet(threads, folder),
+        "own source" => own_source(threads, folder),
+        "own store" => own_store(threads, folder),
+        "tcp outlet" => tcp_outlet(threads, folder),
         "store" => store(folder),
         "paths" => paths(folder),
         "several paths" => several_paths(folder),
@@ -64,10 +71,14 @@ fn pull_once(feed: &mut HostFeed) -> Result<(), InletFault> {
 }
 
 // Where reading begins in a file, and the bytes of the first pull.
-fn first_bytes(folder: &Folder, inlets: &mut HostInlets) -> Result<(u64, u64), Fail> {
+fn first_bytes<T: Threads>(
+    threads: &T,
+    folder: &Folder,
+    inlets: &mut HostInlets,
+) -> Result<(u64, u64), Fail> {
     let path = folder.file("in", b"abc\nde")?;
     let spec = file_source(folder, path.as_bytes())?;
-    let (mut feed, place) = inlets.open(folder.alloc, &spec, 4)?;
+    let (mut feed, place) = inlets.open(threads, folder.alloc, &spec, 4, false)?;
     is_send(&feed);
     pull_once(&mut feed)?;
     let bytes = feed.counts().bytes;
@@ -76,22 +87,33 @@ fn first_bytes(folder: &Folder, inlets: &mut HostInlets) -> Result<(u64, u64), F
 }
 
 // The faults so far, with that of a source which can't be opened.
-fn refused(folder: &Folder, inlets: &mut HostInlets, spec: &InletSpec) -> Result<u64, Fail> {
-    if inlets.open(folder.alloc, spec, 0).is_ok() {
+fn refused<T: Threads>(
+    threads: &T,
+    folder: &Folder,
+    inlets: &mut HostInlets,
+    spec: &InletSpec,
+) -> Result<u64, Fail> {
+    if inlets.open(threads, folder.alloc, spec, 0, false).is_ok() {
         return Err("it opened".into());
     }
     Ok(inlets.faults)
 }
 
-fn file_inlet(folder: &Folder) -> Result<String, Fail> {
+fn file_inlet<T: Threads>(threads: &T, folder: &Folder) -> Result<String, Fail> {
     let mut inlets = HostInlets::new(folder.alloc, folder.rt, folder.rest()?);
-    let (place, bytes) = first_bytes(folder, &mut inlets)?;
-    let failed = refused(folder, &mut inlets, &file_source(folder, b"/none")?)?;
+    let (place, bytes) = first_bytes(threads, folder, &mut inlets)?;
+    let failed = refused(
+        threads,
+        folder,
+        &mut inlets,
+        &file_source(folder, b"/none")?,
+    )?;
     Ok(format!(in folder.alloc; "at {place} bytes {bytes} failed {failed}")?)
 }
 
 // Two slots of a port.
-fn two_slots(
+fn two_slots<T: Threads>(
+    threads: &T,
     folder: &Folder,
     inlets: &mut HostInlets,
     port: u16,
@@ -99,7 +121,7 @@ fn two_slots(
     let mut feeds = Vec::new(folder.alloc);
     for slot in 0..2u16 {
         let spec = slot_source(folder, b"127.0.0.1", port, slot)?;
-        feeds.push(inlets.open(folder.alloc, &spec, 7)?)?;
+        feeds.push(inlets.open(threads, folder.alloc, &spec, 7, false)?)?;
     }
     Ok(feeds)
 }
@@ -145,7 +167,8 @@ fn close_all(inlets: &mut HostInlets, feeds: Vec<(HostFeed, u64)>) {
     }
 }
 
-// Three connections, of which the first one ends after three rounds of pulls.
+// Three connections, of which two slots take two and close the third one. After three rounds of pulls the
+// first one ends, and a fourth one comes.
 fn three_connections(
     folder: &Folder,
     port: u16,
@@ -154,18 +177,20 @@ fn three_connections(
 ) -> Result<(), Fail> {
     let first = connected(folder, port, b"1")?;
     let _second = connected(folder, port, b"2")?;
-    let _third = connected(folder, port, b"3")?;
+    let third = connected(folder, port, b"3")?;
     pull_rounds(feeds, 3, text)?;
+    drop(third);
     drop(first);
+    let _fourth = connected(folder, port, b"4")?;
     pull_rounds(feeds, 2, text)?;
     Ok(())
 }
 
-// Two slots serve two connections, and a third one waits until one of them has ended.
-fn slot_limit(folder: &Folder) -> Result<String, Fail> {
+// Two slots serve two connections, and a third one is closed.
+fn slot_limit<T: Threads>(threads: &T, folder: &Folder) -> Result<String, Fail> {
     let port = free_port(folder.rt)?;
     let mut inlets = HostInlets::new(folder.alloc, folder.rt, folder.rest()?);
-    let mut feeds = two_slots(folder, &mut inlets, port)?;
+    let mut feeds = two_slots(threads, folder, &mut inlets, port)?;
     let mut text = String::new(folder.alloc);
     three_connections(folder, port, &mut feeds, &mut text)?;
     close_all(&mut inlets, feeds);
@@ -192,31 +217,47 @@ fn all_parts(folder: &Folder, port: u16, feeds: &mut Vec<(HostFeed, u64)>) -> Re
 }
 
 // Two slots of a listener, which are closed then.
-fn listening(folder: &Folder, inlets: &mut HostInlets, port: u16) -> Result<String, Fail> {
-    let mut feeds = two_slots(folder, inlets, port)?;
+fn listening<T: Threads>(
+    threads: &T,
+    folder: &Folder,
+    inlets: &mut HostInlets,
+    port: u16,
+) -> Result<String, Fail> {
+    let mut feeds = two_slots(threads, folder, inlets, port)?;
     let text = all_parts(folder, port, &mut feeds)?;
     close_all(inlets, feeds);
     Ok(text)
 }
 
 // Two slots share a listener, which is free again once both are closed.
-fn slot_inlets(folder: &Folder) -> Result<String, Fail> {
+fn slot_inlets<T: Threads>(threads: &T, folder: &Folder) -> Result<String, Fail> {
     let port = free_port(folder.rt)?;
     let mut inlets = HostInlets::new(folder.alloc, folder.rt, folder.rest()?);
-    let text = listening(folder, &mut inlets, port)?;
+    listening_and_refused(threads, folder, &mut inlets, port)
+}
+
+// Two slots of a listener, and one whose address is none.
+fn listening_and_refused<T: Threads>(
+    threads: &T,
+    folder: &Folder,
+    inlets: &mut HostInlets,
+    port: u16,
+) -> Result<String, Fail> {
+    let text = listening(threads, folder, inlets, port)?;
     let spec = slot_source(folder, b"no address", port, 0)?;
-    let failed = refused(folder, &mut inlets, &spec)?;
+    let failed = refused(threads, folder, inlets, &spec)?;
     Ok(format!(in folder.alloc; "{text}failed {failed}")?)
 }
 
 // An outlet that takes these frames, and one that can't be opened.
-fn outlets(
+fn outlets<T: Threads + Copy + Send>(
+    threads: T,
     folder: &Folder,
     spec: &OutletSpec,
     list: &[&str],
     closed: &OutletSpec,
 ) -> Result<String, Fail> {
-    let mut outlets = HostOutlets::new(folder.alloc, folder.rt, folder.rest()?);
+    let mut outlets = HostOutlets::new(threads, folder.alloc, folder.rt, folder.rest()?);
     let taken = taken(folder, &mut outlets, spec, list)?;
     if outlets.open(folder.alloc, closed).is_ok() {
         return Err("it opened".into());
@@ -226,17 +267,28 @@ fn outlets(
 }
 
 // How many of these frames an outlet takes, which is closed then.
-fn taken(
+fn taken<T: Threads + Copy + Send>(
     folder: &Folder,
-    outlets: &mut HostOutlets,
+    outlets: &mut HostOutlets<T>,
     spec: &OutletSpec,
     list: &[&str],
 ) -> Result<u64, Fail> {
     let mut drain = outlets.open(folder.alloc, spec)?;
     is_send(&drain);
-    let taken = sent(folder.alloc, &mut drain, list)?;
+    let taken = sent_at_last(folder, &mut drain, list)?;
     outlets.close(drain);
     Ok(taken)
+}
+
+// How many of these frames are taken by sends that are made again while they are too early.
+fn sent_at_last<O: Outlet>(folder: &Folder, outlet: &mut O, list: &[&str]) -> Result<u64, Fail> {
+    let frames = frames(folder.alloc, list)?;
+    for _ in 0..1_000 {
+        if send(outlet, &frames) != Err(SendRefusal::Later) {
+            break;
+        }
+    }
+    Ok(outlet.taken())
 }
 
 fn file_target(folder: &Folder, path: &[u8]) -> Result<OutletSpec, Fail> {
@@ -249,11 +301,99 @@ fn file_target(folder: &Folder, path: &[u8]) -> Result<OutletSpec, Fail> {
     })
 }
 
-fn file_outlet(folder: &Folder) -> Result<String, Fail> {
+fn file_outlet<T: Threads + Copy + Send>(threads: T, folder: &Folder) -> Result<String, Fail> {
     let path = folder.at("out")?;
     let spec = file_target(folder, path.as_bytes())?;
     let closed = file_target(folder, b"/none/out")?;
-    outlets(folder, &spec, &["ab", "cd"], &closed)
+    outlets(threads, folder, &spec, &["ab", "cd"], &closed)
+}
+
+// Whether a file can be opened to append.
+fn opened<T: Threads + Copy + Send>(
+    folder: &Folder,
+    outlets: &mut HostOutlets<T>,
+    name: &str,
+) -> Result<&'static str, Fail> {
+    let path = folder.at(name)?;
+    match outlets.open(folder.alloc, &file_target(folder, path.as_bytes())?) {
+        Ok(drain) => {
+            outlets.close(drain);
+            Ok("opened")
+        }
+        Err(_) => Ok("refused"),
+    }
+}
+
+// The name `out` for the file that has the name `other`.
+fn rename_other(folder: &Folder) -> Result<(), Fail> {
+    let other = folder.at("other")?;
+    let out = folder.at("out")?;
+    fs::rename(&folder.rt, other.as_str(), out.as_str())?;
+    Ok(())
+}
+
+// What becomes of a destination that is opened anew once a source has its name.
+fn opened_anew<T: Threads + Copy + Send>(
+    folder: &Folder,
+    outlets: &mut HostOutlets<T>,
+) -> Result<&'static str, Fail> {
+    let out = folder.at("out")?;
+    let spec = file_target(folder, out.as_bytes())?;
+    let mut drain = outlets.open(folder.alloc, &spec)?;
+    rename_other(folder)?;
+    let word = match drain.reopen() {
+        Ok(_) => "ready",
+        Err(_) => "fault",
+    };
+    outlets.close(drain);
+    Ok(word)
+}
+
+// What becomes of destinations with the names of a source that is open.
+fn beside_source<T: Threads + Copy + Send>(
+    folder: &Folder,
+    outlets: &mut HostOutlets<T>,
+) -> Result<String, Fail> {
+    let first = opened(folder, outlets, "in")?;
+    let second = opened(folder, outlets, "other")?;
+    let third = opened_anew(folder, outlets)?;
+    Ok(format!(in folder.alloc; "{first} {second} {third}")?)
+}
+
+// A source of two names.
+fn linked_source(folder: &Folder) -> Result<InletSpec, Fail> {
+    let path = folder.file("in", b"abc\n")?;
+    let other = folder.at("other")?;
+    fs::hard_link(&folder.rt, path.as_str(), other.as_str())?;
+    file_source(folder, path.as_bytes())
+}
+
+// A source that is open isn't opened to append, under none of its names; once it is closed it is.
+fn own_source<T: Threads + Copy + Send>(threads: T, folder: &Folder) -> Result<String, Fail> {
+    let spec = linked_source(folder)?;
+    let rest = folder.rest()?;
+    let mut inlets = HostInlets::new(folder.alloc, folder.rt, rest.share()?);
+    let mut outlets = HostOutlets::new(threads, folder.alloc, folder.rt, rest);
+    let (feed, _place) = inlets.open(&threads, folder.alloc, &spec, 0, false)?;
+    let beside = beside_source(folder, &mut outlets);
+    inlets.close(feed);
+    let beside = beside?;
+    let last = opened(folder, &mut outlets, "in")?;
+    Ok(format!(in folder.alloc; "{beside} {last}")?)
+}
+
+// The same of a store.
+fn own_store<T: Threads + Copy + Send>(threads: T, folder: &Folder) -> Result<String, Fail> {
+    let spec = store_spec(folder)?;
+    let rest = folder.rest()?;
+    let mut stores = HostStores::new(folder.alloc, folder.rt, rest.share()?);
+    let mut outlets = HostOutlets::new(threads, folder.alloc, folder.rt, rest);
+    let store = stores.open(folder.alloc, &spec)?;
+    let first = opened(folder, &mut outlets, "q");
+    stores.close(store);
+    let first = first?;
+    let last = opened(folder, &mut outlets, "q")?;
+    Ok(format!(in folder.alloc; "{first} {last}")?)
 }
 
 fn tcp_target(folder: &Folder, host: &[u8], port: u16) -> Result<OutletSpec, Fail> {
@@ -264,11 +404,11 @@ fn tcp_target(folder: &Folder, host: &[u8], port: u16) -> Result<OutletSpec, Fai
     })
 }
 
-fn tcp_outlet(folder: &Folder) -> Result<String, Fail> {
+fn tcp_outlet<T: Threads + Copy + Send>(threads: T, folder: &Folder) -> Result<String, Fail> {
     let (_listener, port) = listen(folder.rt)?;
     let spec = tcp_target(folder, b"127.0.0.1", port)?;
     let closed = tcp_target(folder, b"\xff", port)?;
-    outlets(folder, &spec, &["ab"], &closed)
+    outlets(threads, folder, &spec, &["ab"], &closed)
 }
 
 // The length and the faults of a store that can't be opened twice.
@@ -288,13 +428,18 @@ fn open_store(
     Ok((len, faults))
 }
 
-fn store(folder: &Folder) -> Result<String, Fail> {
-    let mut stores = HostStores::new(folder.alloc, folder.rt);
+fn store_spec(folder: &Folder) -> Result<StoreSpec, Fail> {
     let path = folder.at("q")?;
-    let spec = StoreSpec {
+    Ok(StoreSpec {
         name: name(folder, path.as_bytes())?,
         create: true,
-    };
+        size: 128,
+    })
+}
+
+fn store(folder: &Folder) -> Result<String, Fail> {
+    let mut stores = HostStores::new(folder.alloc, folder.rt, folder.rest()?);
+    let spec = store_spec(folder)?;
     let (len, faults) = open_store(folder, &mut stores, &spec)?;
     let failed = stores.faults;
     Ok(format!(in folder.alloc; "{len} {faults} failed {failed}")?)
@@ -408,7 +553,8 @@ fn unsynced_path(folder: &Folder) -> Result<String, Fail> {
 fn said(folder: &Folder) -> Result<String, Fail> {
     let mut faults = 0;
     say(folder.rt, &mut faults, b"said\n")?;
-    tell(folder.rt, b"told\n");
+    let mut dropped = 0;
+    tell(folder.rt, &mut dropped, b"told\n");
     let word = if faults == 0 { "said" } else { "failed" };
     Ok(String::from_str(folder.alloc, word)?)
 }

@@ -20,14 +20,14 @@ pub(crate) fn take(rt: HostRuntime, what: &str) -> Result<String, Fail> {
 // A listener on a port that is free, and the port.
 fn listen(rt: HostRuntime) -> Result<(Listener, u16), Fail> {
     let listener = Listener::bind(rt.alloc(), rt, b"127.0.0.1", 0)?;
-    let port = listener.socket()?.local_addr()?.port();
+    let port = listener.bound_port()?;
     Ok((listener, port))
 }
 
 fn slot(rt: HostRuntime, listener: &Listener, once: bool) -> Result<SlotInlet, Fail> {
     let rest = Rest::new(rt.alloc(), rt)?;
-    let socket = listener.socket()?;
-    Ok(SlotInlet::open(rt.alloc(), rt, socket, b"test", once, rest)?)
+    let acceptor = listener.acceptor()?;
+    Ok(SlotInlet::open(rt.alloc(), rt, acceptor, b"test", once, rest)?)
 }
 
 fn client(rt: HostRuntime, port: u16) -> Result<TcpStream, Fail> {
@@ -186,6 +186,34 @@ fn pull_in_turns(
     Ok(())
 }
 
+// A third client beside those of both slots.
+fn third(
+    rt: HostRuntime,
+    port: u16,
+    one: &mut SlotInlet,
+    other: &mut SlotInlet,
+    text: &mut String,
+) -> Result<TcpStream, Fail> {
+    let mut third = client(rt, port)?;
+    pull_in_turns(one, other, text)?;
+    if is_at_end(&mut third)? {
+        text.push_str("eof:")?;
+    }
+    Ok(third)
+}
+
+// A second client and a third one, of which the second one ends.
+fn second_and_third(
+    rt: HostRuntime,
+    port: u16,
+    one: &mut SlotInlet,
+    other: &mut SlotInlet,
+    text: &mut String,
+) -> Result<TcpStream, Fail> {
+    let _second = taken(rt, port, other, b"2", text)?;
+    third(rt, port, one, other, text)
+}
+
 fn three_clients(
     rt: HostRuntime,
     port: u16,
@@ -194,15 +222,14 @@ fn three_clients(
     text: &mut String,
 ) -> Result<(), Fail> {
     let _first = taken(rt, port, one, b"1", text)?;
-    let second = taken(rt, port, other, b"2", text)?;
-    let _third = sender(rt, port, b"3")?;
-    pull_in_turns(one, other, text)?;
-    drop(second);
+    let _third = second_and_third(rt, port, one, other, text)?;
+    let _fourth = sender(rt, port, b"3")?;
     pull_times(other, 2, text)?;
     Ok(())
 }
 
-// Two slots serve a connection each, and a third connection waits for one of them.
+// Two slots serve a connection each. A third connection is closed, and one that comes when one of the
+// two has ended is served.
 fn shared(rt: HostRuntime) -> Result<String, Fail> {
     let (listener, port) = listen(rt)?;
     let mut one = slot(rt, &listener, false)?;
@@ -218,8 +245,8 @@ fn thirty(rt: HostRuntime) -> Result<Vec<SlotInlet>, Fail> {
     let rest = Rest::new(rt.alloc(), rt)?;
     let mut slots = Vec::new(rt.alloc());
     for _ in 0..30 {
-        let socket = listener.socket()?;
-        slots.push(SlotInlet::open(rt.alloc(), rt, socket, b"test", false, rest.share()?)?)?;
+        let acceptor = listener.acceptor()?;
+        slots.push(SlotInlet::open(rt.alloc(), rt, acceptor, b"test", false, rest.share()?)?)?;
     }
     Ok(slots)
 }

@@ -1,31 +1,66 @@
 // Steps over files that are read.
 use crate::folder::{Folder, brought};
 use sg_device::Inlet;
-use sg_file::FileInlet;
+use sg_file::{FileInlet, moment};
 use std::fs;
-use std::io::Write;
+use std::io::{self, ErrorKind, Write};
 use std::test::Fail;
+use std::thread::Threads;
+use std::time::{Clock, Duration};
 
 // The limit of a line in these steps.
 const LIMIT: u32 = 4;
 
 /// What a step over a source comes to.
-pub(crate) fn take(folder: &Folder, what: &str) -> Result<String, Fail> {
+pub(crate) fn take<T: Threads>(threads: &T, folder: &Folder, what: &str) -> Result<String, Fail> {
     match what {
-        "places" => places(folder),
-        "folder" => folder.word(opened(folder, b"/")?),
-        "socket" => folder.word(opened(folder, folder.socket()?.as_bytes())?),
-        "device" => folder.word(opened(folder, b"/dev/null")?),
-        "name" => folder.word(opened(folder, b"/tmp/\xff")?),
-        "missing" => folder.word(opened(folder, folder.at("none")?.as_bytes())?),
-        _ => pulls(folder, what),
+        "places" => places(threads, folder),
+        "moments" => moments(folder),
+        "folder" => folder.word(opened(threads, folder, b"/")?),
+        "socket" => folder.word(opened(threads, folder, folder.socket()?.as_bytes())?),
+        "device" => folder.word(opened(threads, folder, b"/dev/null")?),
+        "name" => folder.word(opened(threads, folder, b"/tmp/\xff")?),
+        "missing" => folder.word(opened(threads, folder, folder.at("none")?.as_bytes())?),
+        _ => pulls(threads, folder, what),
     }
 }
 
-fn opened(folder: &Folder, path: &[u8]) -> Result<&'static str, Fail> {
+// A clock that stands still, or tells nothing.
+#[derive(Clone, Copy, Debug, Drop)]
+struct Still {
+    since: Option<Duration>,
+}
+
+impl Clock for Still {
+    fn monotonic(&self) -> io::Result<Duration> {
+        self.since_1970()
+    }
+
+    fn since_1970(&self) -> io::Result<Duration> {
+        match self.since {
+            Some(since) => Ok(since),
+            None => Err(io::Error::from(ErrorKind::InvalidData)),
+        }
+    }
+}
+
+// The moments by a clock that tells nothing, as one before 1970, by one at a second and a half, and by one that
+// stands behind the last moment.
+fn moments(folder: &Folder) -> Result<String, Fail> {
+    let none = moment(&Still { since: None });
+    let some = moment(&Still {
+        since: Some(Duration::from_millis(1500)),
+    });
+    let late = moment(&Still {
+        since: Some(Duration::from_secs(1 << 62)),
+    });
+    Ok(format!(in folder.alloc; "{none} {some} {late}")?)
+}
+
+fn opened<T: Threads>(threads: &T, folder: &Folder, path: &[u8]) -> Result<&'static str, Fail> {
     let rest = folder.rest()?;
     Ok(
-        match FileInlet::open(folder.alloc, folder.rt, path, true, LIMIT, 0, rest) {
+        match FileInlet::open(threads, folder.alloc, folder.rt, path, true, LIMIT, 0, rest) {
             Ok(_) => "opened",
             Err(_) => "refused",
         },
@@ -33,34 +68,48 @@ fn opened(folder: &Folder, path: &[u8]) -> Result<&'static str, Fail> {
 }
 
 // The file of a step, from this place on.
-fn inlet(folder: &Folder, once: bool, from: u64) -> Result<FileInlet, Fail> {
+fn inlet<T: Threads>(
+    threads: &T,
+    folder: &Folder,
+    once: bool,
+    from: u64,
+) -> Result<FileInlet, Fail> {
     let path = folder.at("in")?;
     let rest = folder.rest()?;
     let path = path.as_bytes();
-    Ok(FileInlet::open(folder.alloc, folder.rt, path, once, LIMIT, from, rest)?)
+    Ok(FileInlet::open(
+        threads,
+        folder.alloc,
+        folder.rt,
+        path,
+        once,
+        LIMIT,
+        from,
+        rest,
+    )?)
 }
 
 // The place at which reading begins for the one asked for.
-fn place(folder: &Folder, from: u64) -> Result<String, Fail> {
-    let place = inlet(folder, true, from)?.counts().from;
+fn place<T: Threads>(threads: &T, folder: &Folder, from: u64) -> Result<String, Fail> {
+    let place = inlet(threads, folder, true, from)?.counts().from;
     Ok(format!(in folder.alloc; " {place}")?)
 }
 
 // The places at which reading begins, for those asked for: behind a line feed, and behind a piece of
 // a line that was cut at the limit.
-fn places(folder: &Folder) -> Result<String, Fail> {
+fn places<T: Threads>(threads: &T, folder: &Folder) -> Result<String, Fail> {
     folder.file("in", b"abc\nefghijk\n")?;
     let mut text = String::new(folder.alloc);
     for from in [0u64, 4, 3, 7, 8, 13, 11, 1 << 63, u64::MAX] {
-        text.push_str(place(folder, from)?.as_str())?;
+        text.push_str(place(threads, folder, from)?.as_str())?;
     }
     folder.word(text.as_str().trim())
 }
 
 // What pulls bring: bytes, `.` for the end, `-` for a pause, each with a colon behind it.
-fn pulls(folder: &Folder, what: &str) -> Result<String, Fail> {
+fn pulls<T: Threads>(threads: &T, folder: &Folder, what: &str) -> Result<String, Fail> {
     folder.file("in", b"abc")?;
-    let mut inlet = inlet(folder, what == "once", 0)?;
+    let mut inlet = inlet(threads, folder, what == "once", 0)?;
     all_pulls(folder, &mut inlet, what)
 }
 
@@ -87,7 +136,7 @@ fn first_pulls(
             pull(inlet, text)?;
         }
         "hung" => inlet.hangup(),
-        "idle" | "grown" | "shorter" | "replaced" | "unlinked" => {}
+        "idle" | "grown" | "shorter" | "regrown" | "rewritten" | "replaced" | "unlinked" => {}
         _ => return Err("no such step".into()),
     }
     Ok(())
@@ -125,6 +174,8 @@ fn change(folder: &Folder, what: &str) -> Result<(), Fail> {
     match what {
         "grown" => append(folder, b"de")?,
         "shorter" => fs::write(&folder.rt, path.as_str(), b"x".as_slice())?,
+        "regrown" => fs::write(&folder.rt, path.as_str(), b"xyzuv".as_slice())?,
+        "rewritten" => fs::write(&folder.rt, path.as_str(), b"xyz".as_slice())?,
         "replaced" => {
             let other = folder.file("new", b"abcdef")?;
             fs::rename(&folder.rt, other.as_str(), path.as_str())?;

@@ -26,7 +26,7 @@ pub(crate) fn take(folder: &Folder, what: &str) -> Result<String, Fail> {
 
 // Whether a store opens that would be made.
 fn opened(folder: &Folder, path: &[u8]) -> &'static str {
-    match FileDisk::open(folder.alloc, folder.rt, path, true) {
+    match FileDisk::open(folder.alloc, folder.rt, path, Some(128)) {
         Ok(_) => "opened",
         Err(_) => "refused",
     }
@@ -110,7 +110,7 @@ fn dangling(folder: &Folder) -> Result<String, Fail> {
 // A store that isn't to be made is refused where it is missing.
 fn missing(folder: &Folder) -> Result<String, Fail> {
     let path = folder.at("q")?;
-    let word = match FileDisk::open(folder.alloc, folder.rt, path.as_bytes(), false) {
+    let word = match FileDisk::open(folder.alloc, folder.rt, path.as_bytes(), None) {
         Ok(_) => "opened",
         Err(OpenRefusal::Failed) => "refused",
         Err(OpenRefusal::NoMemory) => "starved",
@@ -136,7 +136,7 @@ fn read_twice(folder: &Folder, disk: &mut FileDisk) -> Result<String, Fail> {
 // The store of a step.
 fn store(folder: &Folder) -> Result<FileDisk, Fail> {
     let path = folder.at("q")?;
-    Ok(FileDisk::open(folder.alloc, folder.rt, path.as_bytes(), true)?)
+    Ok(FileDisk::open(folder.alloc, folder.rt, path.as_bytes(), Some(128))?)
 }
 
 fn word<T: Drop>(answer: Result<T, DiskFault>) -> &'static str {

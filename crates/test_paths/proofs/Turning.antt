@@ -72,11 +72,15 @@ then-gives a b c first gone w rest g h =
       processed = h.processed ∙ ap (λ p. p && later.processed) g.processed ∙ ap (λ (x : Walked). w.processed && x.processed) same;
     }
 
-pub rest-gives : {E : Type 0} (r : Result Gone E) (old a b c : List Offer) (first : Gone) (whole before w : Walked) (rest : Content → Walked)
-    → Behind old a whole before → before ≡ then_each w rest → Gives a b first w
-    → IfOk r (λ gone. Gives b c gone (then_each (left [] first) rest)) → IfOk r (λ gone. Gives old c gone whole)
-rest-gives r old a b c first whole before w rest behind is g =
-    IfOk-weaker r _ _ (λ gone h. behind-gives old a c gone whole (then_each w rest) (behind-at old a whole before (then_each w rest) is behind) (then-gives a b c first gone w rest g h))
+pub then-ok : {E : Type 0} (r : Result Gone E) (a b c : List Offer) (first : Gone) (w : Walked) (rest : Content → Walked)
+    → Gives a b first w → IfOk r (λ gone. Gives b c gone (then_each (left [] first) rest)) → IfOk r (λ gone. Gives a c gone (then_each w rest))
+then-ok r a b c first w rest g = IfOk-weaker r _ _ (λ gone h. then-gives a b c first gone w rest g h)
+
+-- what comes later is given, by the same walk
+pub behind-ok : {E : Type 0} (r : Result Gone E) (old a c : List Offer) (whole before w : Walked)
+    → Behind old a whole before → before ≡ w → IfOk r (λ gone. Gives a c gone w) → IfOk r (λ gone. Gives old c gone whole)
+behind-ok r old a c whole before w behind is =
+    IfOk-weaker r _ _ (λ gone h. behind-gives old a c gone whole w (behind-at old a whole before w is behind) h)
 
 pub ok-at : {E : Type 0} (r : Result Gone E) (old old' new : List Offer) (w w' : Walked) → old ≡ old' → w ≡ w'
     → IfOk r (λ gone. Gives old new gone w) → IfOk r (λ gone. Gives old' new gone w')

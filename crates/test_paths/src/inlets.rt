@@ -13,11 +13,12 @@ const OPTS: ReadOpts = ReadOpts {
     parse: false,
 };
 
-fn inlet(alloc: Global, empty_lines: bool) -> InletRule {
+fn inlet(alloc: Global, empty_lines: bool, one_line: bool) -> InletRule {
     InletRule {
         opts: OPTS,
         rfc5424: false,
         empty_lines,
+        one_line,
         tags: Vec::new(alloc),
     }
 }
@@ -29,6 +30,7 @@ fn tagged(alloc: Global, tag: &str) -> Result<InletRule, AllocError> {
         opts: OPTS,
         rfc5424: true,
         empty_lines: false,
+        one_line: false,
         tags,
     })
 }
@@ -40,9 +42,10 @@ fn push(all: &mut Vec<InletRule>, rule: InletRule) -> Result<(), AllocError> {
 
 pub(crate) fn inlets(alloc: Global) -> Result<Vec<InletRule>, AllocError> {
     let mut all = Vec::new(alloc);
-    push(&mut all, inlet(alloc, false))?;
-    push(&mut all, inlet(alloc, false))?;
-    push(&mut all, inlet(alloc, true))?;
+    push(&mut all, inlet(alloc, false, false))?;
+    push(&mut all, inlet(alloc, false, false))?;
+    push(&mut all, inlet(alloc, true, false))?;
     push(&mut all, tagged(alloc, "t")?)?;
+    push(&mut all, inlet(alloc, false, true))?;
     Ok(all)
 }

@@ -17,7 +17,8 @@
 //!   message contains the text
 //!
 //! Flags are f for final, b for fallback, c for catchall, w for flow-control, d for drop-unmatched, and - for
-//! none. There are three destinations. Inlet 2 takes empty lines, and inlet 3 reads RFC 5424 and tags with t.
+//! none. There are three destinations. Inlet 2 takes empty lines, inlet 3 reads RFC 5424 and tags with t, and inlet 4
+//! makes one line of MESSAGE. In records `\n`, `\r` and `\0` stand for LF, CR and NUL.
 #![tactic(auto)]
 
 mod applied;

@@ -33,12 +33,20 @@ fn written(alloc: Global, offers: &[Offer]) -> Result<Vec<u8>, AllocError> {
     Ok(text)
 }
 
+// A record, in which `\n`, `\r` and `\0` stand for LF, CR and NUL.
+fn item_of(alloc: Global, record: &str) -> Result<Bytes, AllocError> {
+    let text = record.replace(alloc, "\\n", "\n")?;
+    let text = text.as_str().replace(alloc, "\\r", "\r")?;
+    let text = text.as_str().replace(alloc, "\\0", "\0")?;
+    Bytes::copy_from_slice(alloc, text.as_bytes())
+}
+
 // What the tree offers for a record.
 fn by_tree(alloc: Global, forest: &Forest, inlet: u32, record: &str) -> Result<Vec<u8>, AllocError>
     requires { inlet < length forest.now.inlets.items }
 {
-    let mut patterns = Patterns { too_large: 0 };
-    let item = Bytes::copy_from_slice(alloc, record.as_bytes())?;
+    let mut patterns = Patterns::new(alloc);
+    let item = item_of(alloc, record)?;
     match offers_plain(alloc, forest, &mut patterns, inlet, item, 0, b"peer") {
         Ok(offers) => written(alloc, &offers),
         Err(PathRefusal::NoMemory) => Err(AllocError),
@@ -56,7 +64,7 @@ fn by_table<R: Router>(
     requires { inlet < R.inlets router.old }
     ensures { R.inlets router.new ≡ R.inlets router.old }
 {
-    let item = Bytes::copy_from_slice(alloc, record.as_bytes())?;
+    let item = item_of(alloc, record)?;
     let offers = router.route(alloc, inlet, item, 0, b"peer")?;
     written(alloc, &offers)
 }

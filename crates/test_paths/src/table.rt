@@ -12,7 +12,7 @@ use std::alloc::Global;
 fn compiled(alloc: Global, forest: &Forest) -> Result<Table, PathRefusal>
     ensures { IfOk result (λ table. all_offers (forest_of table).tops ≤ 1024) }
 {
-    let mut patterns = Patterns { too_large: 0 };
+    let mut patterns = Patterns::new(alloc);
     match compile(alloc, forest, &mut patterns) {
         Ok(table) => Ok(table),
         Err(refusal) => Err(refusal),

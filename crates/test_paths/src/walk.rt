@@ -56,14 +56,14 @@ fn walk<B: Builder>(
             Element::Rewrite(rule) => rewrite(alloc, builder, rule, named, &mut message)?,
             Element::Deliver(drivers) => deliver(drivers, &message, flow, offers)?,
             Element::Junction(channels) => {
-                let first = branches(alloc, builder, named, channels, &message, flow, offers)?;
-                return rest(
+                return walk_junction(
                     alloc,
                     builder,
                     named,
-                    first,
+                    channels,
                     elements_from(elements, at + 1),
                     embedded,
+                    &message,
                     flow,
                     offers,
                 );
@@ -72,14 +72,15 @@ fn walk<B: Builder>(
                 branches: tests,
                 other,
             } => {
-                let first = choose(alloc, builder, named, tests, other, message, flow, offers)?;
-                return rest(
+                return walk_if(
                     alloc,
                     builder,
                     named,
-                    first,
+                    tests,
+                    other,
                     elements_from(elements, at + 1),
                     embedded,
+                    message,
                     flow,
                     offers,
                 );
@@ -93,6 +94,53 @@ fn walk<B: Builder>(
         out,
         processed: true,
     })
+}
+
+/// Walks a junction, and the rest behind it.
+#[cycle(walk)]
+fn walk_junction<B: Builder>(
+    alloc: Global,
+    builder: &mut B,
+    named: &[Expr],
+    channels: &[Path],
+    elements: &[Element],
+    embedded: &[Path],
+    message: &Message,
+    flow: bool,
+    offers: &mut Vec<Offer>,
+) -> Result<Gone, PathRefusal>
+    ensures { IfOk result (λ gone. Gives offers.old.items offers.new.items gone
+        (then_each (branches (siblings_view named.now channels.now) message.now flow)
+        (λ n. walk (steps_view named.now elements.now embedded.now) n flow))) }
+{
+    let first = branches(alloc, builder, named, channels, message, flow, offers)?;
+    rest(
+        alloc, builder, named, first, elements, embedded, flow, offers,
+    )
+}
+
+/// Walks a choice, and the rest behind it.
+#[cycle(walk)]
+fn walk_if<B: Builder>(
+    alloc: Global,
+    builder: &mut B,
+    named: &[Expr],
+    tests: &[(Expr, Vec<Element>)],
+    other: &Option<Vec<Element>>,
+    elements: &[Element],
+    embedded: &[Path],
+    message: Message,
+    flow: bool,
+    offers: &mut Vec<Offer>,
+) -> Result<Gone, PathRefusal>
+    ensures { IfOk result (λ gone. Gives offers.old.items offers.new.items gone
+        (then_each (chosen (choice_view named.now tests.now other.now) message flow)
+        (λ n. walk (steps_view named.now elements.now embedded.now) n flow))) }
+{
+    let first = choose(alloc, builder, named, tests, other, message, flow, offers)?;
+    rest(
+        alloc, builder, named, first, elements, embedded, flow, offers,
+    )
 }
 
 /// Walks the rest over each message that came out.

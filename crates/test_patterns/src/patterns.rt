@@ -135,7 +135,7 @@ fn all_give(alloc: Global, matcher: &mut Matcher, row: &Row<'_>) -> Result<bool,
 }
 
 fn row_holds(alloc: Global, row: &Row<'_>) -> Result<bool, AllocError> {
-    let mut patterns = Patterns { too_large: 0 };
+    let mut patterns = Patterns::new(alloc);
     let (pattern, flags) = (row.pattern.as_bytes(), flags_of(row.letters));
     let mut made = Matcher::new(alloc, &mut patterns, row.kind, pattern, flags);
     match &mut made {
@@ -167,7 +167,7 @@ fn refusal(alloc: Global, patterns: &mut Patterns, text: &[u8]) -> Option<Patter
 
 // Whether each of these is no regular expression, and the count of those that were too large stays.
 fn are_refused(alloc: Global, texts: &[&[u8]]) -> bool {
-    let mut patterns = Patterns { too_large: 0 };
+    let mut patterns = Patterns::new(alloc);
     for text in texts {
         if refusal(alloc, &mut patterns, *text) != Some(PatternRefusal::Syntax) {
             return false;
@@ -178,9 +178,28 @@ fn are_refused(alloc: Global, texts: &[&[u8]]) -> bool {
 
 // Whether this one is too large, and the count rises.
 fn is_too_large(alloc: Global, text: &[u8]) -> bool {
-    let mut patterns = Patterns { too_large: 0 };
+    let mut patterns = Patterns::new(alloc);
     let refusal = refusal(alloc, &mut patterns, text);
     refusal == Some(PatternRefusal::TooLarge) && patterns.too_large == 1
+}
+
+// The bytes that are counted for these texts, where each is made.
+fn counted(alloc: Global, texts: &[&[u8]]) -> Option<usize> {
+    let mut patterns = Patterns::new(alloc);
+    for text in texts {
+        if refusal(alloc, &mut patterns, *text).is_some() {
+            return None;
+        }
+    }
+    Some(patterns.bytes())
+}
+
+// Whether a text that is made again takes nothing more.
+fn is_made_once(alloc: Global, one: &[u8], other: &[u8]) -> bool {
+    let both = counted(alloc, &[one, other]);
+    both.is_some()
+        && counted(alloc, &[one, other, one, other]) == both
+        && counted(alloc, &[one]) != both
 }
 
 #[test]
@@ -188,5 +207,6 @@ fn refusals(rt: HostRuntime) {
     let alloc = rt.alloc();
     assert!(rt; are_refused(alloc, &[b"a(", b"\xFF", b"(?=a)"]));
     assert!(rt; is_too_large(alloc, b"(\\w{1000}){100}"));
+    assert!(rt; is_made_once(alloc, b"user=(\\w+)", b"user"));
     assert!(rt; glob_matches(b"\xFF?", b"\xFF\x00") && !glob_matches(b"a", b""));
 }

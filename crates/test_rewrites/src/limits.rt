@@ -147,7 +147,7 @@ fn refusal_by(alloc: Global, op: &Op) -> (Option<BuildRefusal>, u64) {
     let Some(()) = checked_op(op) else {
         return (None, 0);
     };
-    let mut patterns = Patterns { too_large: 0 };
+    let mut patterns = Patterns::new(alloc);
     let refusal = Rewrite::new(alloc, &mut patterns, op).err();
     (refusal, patterns.too_large)
 }

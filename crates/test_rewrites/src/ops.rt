@@ -201,7 +201,7 @@ fn made(alloc: Global, op: &Op) -> Option<Rewrite> {
     let Some(()) = checked_op(op) else {
         return None;
     };
-    let mut patterns = Patterns { too_large: 0 };
+    let mut patterns = Patterns::new(alloc);
     Rewrite::new(alloc, &mut patterns, op).ok()
 }
 

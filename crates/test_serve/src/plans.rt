@@ -82,6 +82,7 @@ fn store(alloc: Global, name: &[u8]) -> Result<StoreSpec, NoMemory> {
     Ok(StoreSpec {
         name: Name::new(alloc, name)?,
         create: true,
+        size: 128,
     })
 }
 

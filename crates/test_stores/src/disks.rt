@@ -155,6 +155,7 @@ fn spec(alloc: Global, name: &[u8], create: bool) -> Result<StoreSpec, Fail> {
     Ok(StoreSpec {
         name: Name::new(alloc, name)?,
         create,
+        size: 128,
     })
 }
 
@@ -193,14 +194,43 @@ fn put(alloc: Global, world: &mut MemoryWorld, name: &[u8], bytes: Vec<u8>) -> R
     Ok(())
 }
 
+// Whether this is the first byte of the store that was stopped.
+fn stopped_begins(alloc: Global, world: &mut MemoryWorld, byte: u8) -> Result<bool, Fail> {
+    Ok(first(alloc, world, &spec(alloc, b"a", true)?)? == Some(byte))
+}
+
+// Whether this is the first byte of a store with these bytes.
+fn put_begins(
+    alloc: Global,
+    world: &mut MemoryWorld,
+    bytes: Vec<u8>,
+    byte: u8,
+) -> Result<bool, Fail> {
+    put(alloc, world, b"b", bytes)?;
+    Ok(first(alloc, world, &spec(alloc, b"b", false)?)? == Some(byte))
+}
+
+// Whether a store is refused that isn't there.
+fn is_refused(alloc: Global, world: &mut MemoryWorld) -> Result<bool, Fail> {
+    let spec = spec(alloc, b"c", false)?;
+    Ok(world.open_store(alloc, &spec).is_err())
+}
+
+// Whether the store that was stopped keeps its byte, its image has none, and a store is refused that isn't
+// there.
+fn shown(alloc: Global, world: &mut MemoryWorld) -> Result<(bool, bool, bool), Fail> {
+    let image = stopped(alloc, world)?.ok_or("not stopped")?;
+    let kept = stopped_begins(alloc, world, b'x')?;
+    let lost = put_begins(alloc, world, image, 0)?;
+    Ok((kept, lost, is_refused(alloc, world)?))
+}
+
 #[test]
 fn stores_in_memory(rt: HostRuntime) -> Result<(), Fail> {
-    let alloc = rt.alloc();
-    let mut world = stopping(alloc)?;
-    let image = stopped(alloc, &mut world)?.ok_or("not stopped")?;
-    assert!(rt; first(alloc, &mut world, &spec(alloc, b"a", true)?)? == Some(b'x'));
-    put(alloc, &mut world, b"b", image)?;
-    assert!(rt; first(alloc, &mut world, &spec(alloc, b"b", false)?)? == Some(0));
-    assert!(rt; world.open_store(alloc, &spec(alloc, b"c", false)?).is_err());
+    let mut world = stopping(rt.alloc())?;
+    let (kept, lost, refused) = shown(rt.alloc(), &mut world)?;
+    assert!(rt; kept);
+    assert!(rt; lost);
+    assert!(rt; refused);
     Ok(())
 }

@@ -27,7 +27,7 @@ commit eeeeeeeeeeeeeeeeeeee: 2 dddddddddddddddddddd
 advance 2: 0 -";
 
 fn open(alloc: Global, rt: HostRuntime, path: &str) -> Result<Spool<FileDisk>, Fail> {
-    let disk = FileDisk::open(alloc, rt, path.as_bytes(), true)?;
+    let disk = FileDisk::open(alloc, rt, path.as_bytes(), Some(128))?;
     match Spool::open(disk, CAPACITY) {
         Ok(spool) => Ok(spool),
         Err((_, refusal)) => Err(Fail::from(refusal)),

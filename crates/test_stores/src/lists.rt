@@ -285,25 +285,56 @@ fn stops(
     Ok(true)
 }
 
+// Takes the step, and notes how many entries it changes. The disk behind it.
+fn take_and_count(
+    alloc: Global,
+    disk: MemoryDisk,
+    capacity: u64,
+    step: &mut Step,
+) -> Result<MemoryDisk, Fail> {
+    let (disk, whole) = stepped(alloc, open(disk, capacity)?, step.number)?;
+    step.whole = whole;
+    Ok(disk)
+}
+
+// Takes the step over the plain list.
+fn follow_step(step: &mut Step) -> Result<(), Fail> {
+    let (number, whole) = (step.number, step.whole);
+    follow(&mut step.numbers, number, whole)
+}
+
+// Takes a step, and tries it stopped at each of its calls. The disk behind it, or None where an image has
+// other entries.
+fn try_step(
+    alloc: Global,
+    disk: MemoryDisk,
+    capacity: u64,
+    step: &mut Step,
+    greater: bool,
+) -> Result<Option<MemoryDisk>, Fail> {
+    let bytes = disk.bytes().to_vec(alloc)?;
+    let disk = take_and_count(alloc, disk, capacity, step)?;
+    let whole = stops(alloc, &bytes, capacity, step, greater)?;
+    follow_step(step)?;
+    Ok(if whole { Some(disk) } else { None })
+}
+
 // A stretch of steps over the end of the ring, each stopped at each of its calls.
 fn stretch(alloc: Global, before: u64, capacity: u64) -> Result<bool, Fail> {
-    let (mut disk, mut numbers) = begun(alloc, before, 40)?;
+    let (mut disk, numbers) = begun(alloc, before, 40)?;
+    let mut step = Step {
+        numbers,
+        number: 40,
+        whole: 0,
+    };
     for number in 40..70 {
-        let bytes = disk.bytes().to_vec(alloc)?;
-        let (next, whole) = stepped(alloc, open(disk, capacity)?, number)?;
-        let step = Step {
-            numbers,
-            number,
-            whole,
-        };
-        if !stops(alloc, &bytes, capacity, &step, before < capacity)? {
+        step.number = number;
+        let Some(next) = try_step(alloc, disk, capacity, &mut step, before < capacity)? else {
             return Ok(false);
-        }
+        };
         disk = next;
-        numbers = step.numbers;
-        follow(&mut numbers, number, whole)?;
     }
-    holds(alloc, disk.bytes().to_vec(alloc)?, &numbers)
+    holds(alloc, disk.bytes().to_vec(alloc)?, &step.numbers)
 }
 
 #[test]

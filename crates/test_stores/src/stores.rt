@@ -1,7 +1,7 @@
 // A position store over disks in memory, stopped at each call, and over a real file.
 use crate::files::temporary;
 use sg_device::{Disk, DiskFault, Name, OpenRefusal};
-use sg_host::{FileDisk, HostStores};
+use sg_host::{FileDisk, HostStores, Rest};
 use sg_memory::{MemoryWorld, Pace};
 use sg_memory_disk::{DiskChange, DiskPlan, MemoryDisk, Pick, Plan};
 use sg_outside::StoreSpec;
@@ -19,6 +19,7 @@ fn spec(alloc: Global, name: &[u8], create: bool) -> Result<StoreSpec, Fail> {
     Ok(StoreSpec {
         name: Name::new(alloc, name)?,
         create,
+        size: 128,
     })
 }
 
@@ -227,12 +228,13 @@ fn in_a_machine(rt: HostRuntime) -> Result<(), Fail> {
 }
 
 fn open(alloc: Global, rt: HostRuntime, path: &str, create: bool) -> Result<FileDisk, OpenRefusal> {
-    FileDisk::open(alloc, rt, path.as_bytes(), create)
+    let size = if create { Some(128) } else { None };
+    FileDisk::open(alloc, rt, path.as_bytes(), size)
 }
 
 // Makes a store in a file, and closes it.
 fn make(alloc: Global, rt: HostRuntime, path: &str) -> Result<(), Fail> {
-    let mut stores = HostStores::new(alloc, rt);
+    let mut stores = HostStores::new(alloc, rt, Rest::new(alloc, rt)?);
     let store = stores.open(alloc, &spec(alloc, path.as_bytes(), true)?)?;
     is_send(&store);
     stores.close(store);
@@ -262,19 +264,25 @@ fn fails_far_behind(alloc: Global, rt: HostRuntime, path: &str) -> Result<bool, 
     Ok(before == 0 && failed && disk.faults() == 1 && is_damaged(disk, 128))
 }
 
-#[test]
-fn in_a_file(rt: HostRuntime) -> Result<(), Fail> {
-    let alloc = rt.alloc();
-    let path = temporary(alloc, rt, "store")?;
-    let path = path.as_str();
-    assert!(rt; open(alloc, rt, path, false).is_err());
+// Makes a store in a file and puts positions there. The first one that doesn't stand then.
+fn first_lost(alloc: Global, rt: HostRuntime, path: &str) -> Result<Option<u64>, Fail> {
     make(alloc, rt, path)?;
     for value in [8, 9, 1 << 63, 0, 7] {
-        assert!(rt; puts_in_file(alloc, rt, path, value)?, "{value}");
+        if !puts_in_file(alloc, rt, path, value)? {
+            return Ok(Some(value));
+        }
     }
+    Ok(None)
+}
+
+#[test]
+fn in_a_file(rt: HostRuntime) -> Result<(), Fail> {
+    let path = temporary(rt.alloc(), rt, "store")?;
+    assert!(rt; open(rt.alloc(), rt, path.as_str(), false).is_err());
+    assert_eq!(rt; first_lost(rt.alloc(), rt, path.as_str())?, None);
     // Five puts leave an odd selector.
-    assert!(rt; stands_killed(alloc, rt, path, 7)?);
-    assert!(rt; fails_far_behind(alloc, rt, path)?);
-    fs::remove_file(&rt, path)?;
+    assert!(rt; stands_killed(rt.alloc(), rt, path.as_str(), 7)?);
+    assert!(rt; fails_far_behind(rt.alloc(), rt, path.as_str())?);
+    fs::remove_file(&rt, path.as_str())?;
     Ok(())
 }

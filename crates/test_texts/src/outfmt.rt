@@ -73,14 +73,34 @@ fn by_path(alloc: Global) -> Result<Shape, TemplateFault> {
     })
 }
 
+// Whether the frame by a template is this text, which is appended.
+fn has_text(
+    alloc: Global,
+    message: &Message,
+    out: &mut Vec<u8>,
+    text: &[u8],
+) -> Result<bool, Fail> {
+    let shape = by_text(alloc)?;
+    Ok(has_frame(&shape, message, out, text)?)
+}
+
+// Whether the frame by a path and a template is this text, which is appended.
+fn has_path(
+    alloc: Global,
+    message: &Message,
+    out: &mut Vec<u8>,
+    text: &[u8],
+) -> Result<bool, Fail> {
+    let shape = by_path(alloc)?;
+    Ok(has_frame(&shape, message, out, text)?)
+}
+
 #[test]
 fn frames_of_templates(rt: HostRuntime) -> Result<(), Fail> {
     let message = event(rt.alloc(), EPOCH, VALUES)?;
     let mut out = Vec::new(rt.alloc());
-    let shape = by_text(rt.alloc())?;
-    assert!(rt; has_frame(&shape, &message, &mut out, b"An event\n")?);
-    let shape = by_path(rt.alloc())?;
-    assert!(rt; has_frame(&shape, &message, &mut out, b"\0\x09/out/ID47An event\n")?);
+    assert!(rt; has_text(rt.alloc(), &message, &mut out, b"An event\n")?);
+    assert!(rt; has_path(rt.alloc(), &message, &mut out, b"\0\x09/out/ID47An event\n")?);
     Ok(())
 }
 

@@ -1,16 +1,13 @@
-use Rattle.std.proofs.Common.{◌≡◌, ◌∙◌, ◌+◌, ◌<◌, ◌∷◌, ◌++◌, [], ℕ, suc, List, length, map, take, drop, ap, subst, sym, refl, arith}
+use Rattle.std.proofs.Common.{◌≡◌, ◌∙◌, ◌+◌, ◌<◌, ◌∷◌, ◌++◌, [], ℕ, suc, List, length, take, drop, ap, subst, sym, refl, arith, Some}
 use Rattle.std.proofs.lemmas.List.{length-append}
-use Rattle.sg_msg.specs.Message.{Content}
-use Rattle.sg_codec.specs.Spelling.{Spells}
+use Rattle.sg_device.specs.Disk.{content}
 use Rattle.sg_device.proofs.DiskCalls.{content_same, reads_as_image}
 use Rattle.sg_spool.proofs.Calls.{lasts_same, lasts_trans}
 use Rattle.sg_spool.specs.Places.{Remains}
-use Rattle.sg_spool.specs.Ring.{Entries}
+use Rattle.sg_spool.specs.Ring.{Entries, IsList}
 use Rattle.sg_spool.specs.declared.rows.Rows.{Rows}
-use Rattle.sg_buffer.specs.Entries.{spelled}
-use Rattle.sg_buffer.specs.First.{content_in}
-use Rattle.sg_buffer.proofs.Stored.{message_next}
-use Rattle.sg_buffer.proofs.Firsts.{texts_more, none_left, ended}
+use Rattle.sg_buffer.specs.First.{AreFirst, content_in}
+use Rattle.sg_buffer.proofs.Firsts.{texts_more, take_next, none_left, ended}
 use Rattle.sg_buffer.proofs.Walked.{goes_before}
 use Rattle.sg_buffer.proofs.first.first_messages.Goals as goal
 
@@ -19,9 +16,9 @@ loop-turn-init g c = record {
   reads = record { told = refl; rows = refl; lasts = lasts_same g.D.Disk.state c.args.spool.now };
   open_ = c.requires.open;
   number = ap length c.new-messages.ensures.items;
-  texts = ([], c.new-messages.ensures.items);
+  first = record { payloads = []; each = c.new-messages.ensures.items; first = λ b told entries list. refl };
   there = λ b told. let here = c.head-gate.ensures.here c.requires.open b told in (here.0, here.2);
-  read = λ b told entries fits list. (c.new-messages.ensures.items, c.head-gate.ensures.remains c.requires.open b (reads_as_image (g.D.Disk.state c.args.spool.now.disk) b told) (spelled entries) list);
+  left = λ b told entries list. c.head-gate.ensures.remains c.requires.open b (reads_as_image (g.D.Disk.state c.args.spool.now.disk) b told) entries list;
 }
 
 pub item-requires-clause-unstaged : goal.item-requires-clause-unstaged
@@ -43,6 +40,7 @@ loop-turn-preserved g c =
     let next = rw c.in-Item.is at c.in_ok-payload.ensures.next in
     let goes = goes_before (g.D.Disk.state c.args.spool.now.disk) (g.D.Disk.state l.spool.disk) c.args.spool.now.rows l.spool.rows l.gate payload c.in-Item.next inv.reads.told inv.reads.rows (λ b is left remains. (next b is left remains).next) in
     let more : suc l._turn ≡ l._turn + 1 = omega arith in
+    let first = inv.first in
     record {
       reads = record {
         told = c.item.ensures.reads.told ∙ inv.reads.told;
@@ -51,15 +49,18 @@ loop-turn-preserved g c =
       };
       open_ = answer.2;
       number = let n = inv.number in let m : length c.push.new.messages.items ≡ length (l.messages.items ++ message ∷ []) = ap length c.in_ok-push-in-Item.ensures in omega (arith, n, m, length-append l.messages.items (message ∷ []));
-      texts = (inv.texts.0 ++ payload ∷ [], c.in_ok-push-in-Item.ensures ∙ texts_more l.messages.items inv.texts.0 message payload inv.texts.1 (c.in_ok-message-in-Item.ensures.exact ∙ ap content_in c.deref.ensures.value));
+      first = record {
+        payloads = first.payloads ++ payload ∷ [];
+        each = c.in_ok-push-in-Item.ensures ∙ texts_more l.messages.items first.payloads message payload first.each (c.in_ok-message-in-Item.ensures ∙ ap content_in c.deref.ensures.value);
+        first = λ b told entries list.
+            let on = goes b told (drop l._turn entries) (inv.left b told entries list) in
+            ap (λ (ps : Entries). ps ++ payload ∷ []) (first.first b told entries list) ∙ (take_next l._turn entries payload on.0 on.1).0 ∙ ap (λ (n : ℕ). take n entries) more;
+      };
       there = λ b told. let there = inv.there b told in let on = goes b told there.0 there.1 in (on.0, on.2);
-      read = λ b told entries fits list.
-          let at = inv.read b told entries fits list in
-          let on = goes b told (drop l._turn (spelled entries)) at.1 in
-          let both = message_next l._turn entries payload on.0 message fits on.1 (λ kept spells. c.in_ok-message-in-Item.ensures.spelled kept (subst (λ (p : List ℕ). Spells kept p) (sym c.deref.ensures.value) spells)) in (
-            c.in_ok-push-in-Item.ensures ∙ ap (λ (l : List Content). l ++ message ∷ []) at.0 ∙ both.0 ∙ ap (λ (n : ℕ). map (λ kept. kept.message) (take n entries)) more,
-            subst (λ (n : ℕ). Remains b c.args.spool.now.rows.list.jump c.in-Item.next (drop n (spelled entries)) c.args.spool.now.rows.list.end) more (subst (λ (r : Entries). Remains b c.args.spool.now.rows.list.jump c.in-Item.next r c.args.spool.now.rows.list.end) (sym both.1) on.2),
-          );
+      left = λ b told entries list.
+          let on = goes b told (drop l._turn entries) (inv.left b told entries list) in
+          subst (λ (n : ℕ). Remains b c.args.spool.now.rows.list.jump c.in-Item.next (drop n entries) c.args.spool.now.rows.list.end) more
+          (subst (λ (r : Entries). Remains b c.args.spool.now.rows.list.jump c.in-Item.next r c.args.spool.now.rows.list.end) (sym (take_next l._turn entries payload on.0 on.1).1) on.2);
     }
 
 pub loop-turn-preserved-in-Empty : goal.loop-turn-preserved-in-Empty
@@ -70,6 +71,10 @@ loop-turn-preserved-in-Empty g c =
     let answer = rw c.in-Empty.is at c.in_ok-payload.ensures.answer in
     let next = rw c.in-Empty.is at c.in_ok-payload.ensures.next in
     let low : l._turn < c.args.n = omega (arith, c.loop-turn-test.true, l.auto._turn-end) in
+    let none = λ (b : List ℕ) (told : content (g.D.Disk.state c.args.spool.now.disk) ≡ Some b) (entries : Entries) (list : IsList entries b).
+    none_left l._turn c.args.n c.args.spool.now.rows.count entries low c.requires.enough (sym c.count-count.ensures.count ∙ c.count-count.ensures.list c.requires.open b (reads_as_image (g.D.Disk.state c.args.spool.now.disk) b told) entries list)
+    (ended (g.D.Disk.state c.args.spool.now.disk) (g.D.Disk.state l.spool.disk) c.args.spool.now.rows l.spool.rows l.gate b (drop l._turn entries) inv.reads.told inv.reads.rows told (inv.left b told entries list) (λ b is left remains. (next b is left remains).next)) in
+    let first = inv.first in
     record {
       reads = record {
         told = c.item.ensures.reads.told ∙ inv.reads.told;
@@ -78,15 +83,16 @@ loop-turn-preserved-in-Empty g c =
       };
       open_ = answer.2;
       number = let n = inv.number in let m = ap length c.in_ok-push-in-Empty.ensures ∙ length-append l.messages.items (message ∷ []) in omega (arith, n, m);
-      texts = (inv.texts.0 ++ [] ∷ [], c.in_ok-push-in-Empty.ensures ∙ texts_more l.messages.items inv.texts.0 message [] inv.texts.1 c.in_ok-message-in-Empty.ensures.exact);
+      first = record {
+        payloads = first.payloads ++ [] ∷ [];
+        each = c.in_ok-push-in-Empty.ensures ∙ texts_more l.messages.items first.payloads message [] first.each c.in_ok-message-in-Empty.ensures;
+        first = λ b told entries list. absurd (none b told entries list);
+      };
       there = inv.there;
-      read = λ b told entries fits list.
-          let at = inv.read b told entries fits list in
-          absurd (none_left l._turn c.args.n c.args.spool.now.rows.count entries low c.requires.enough (sym c.count-count.ensures.count ∙ c.count-count.ensures.list c.requires.open b (reads_as_image (g.D.Disk.state c.args.spool.now.disk) b told) (spelled entries) list)
-          (ended (g.D.Disk.state c.args.spool.now.disk) (g.D.Disk.state l.spool.disk) c.args.spool.now.rows l.spool.rows l.gate b (drop l._turn (spelled entries)) inv.reads.told inv.reads.rows told at.1 (λ b is left remains. (next b is left remains).next)));
+      left = λ b told entries list. absurd (none b told entries list);
     }
 
 pub returns-clause-messages : goal.returns-clause-messages
-returns-clause-messages g c = λ b told entries fits list.
+returns-clause-messages g c =
     let all : c.loop-turn._turn ≡ c.args.n = omega (arith, c.loop-turn-test.false, c.loop-turn.auto._turn-end) in
-    (c.loop-turn.invariant.read b told entries fits list).0 ∙ ap (λ (n : ℕ). map (λ kept. kept.message) (take n entries)) all
+    subst (λ (n : ℕ). AreFirst (g.D.Disk.state c.args.spool.now.disk) n c.loop-turn.messages.items) all c.loop-turn.invariant.first

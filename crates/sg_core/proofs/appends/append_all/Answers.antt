@@ -1,4 +1,4 @@
-use Rattle.std.proofs.Common.{◌≡◌, ◌∙◌, ◌||◌, sym, ap}
+use Rattle.std.proofs.Common.{◌∙◌, ◌||◌, ap}
 use Rattle.sg_offers.specs.Payloads.{buffers_of}
 use Rattle.sg_offers.specs.Rooms.{seen_in}
 use Rattle.sg_core.specs.Admits.{is_staged}

@@ -1,10 +1,10 @@
-use Rattle.std.proofs.Common.{◌≡◌, ◌<◌, ◌∙◌, sym, ap, refl, arith, length, true, false, set}
+use Rattle.std.proofs.Common.{◌≡◌, ◌∙◌, ap, refl, arith, length, true, false}
 use Rattle.std.proofs.Math.ListN.{length-set}
 use Rattle.sg_offers.specs.Answering.{fails_at}
 use Rattle.sg_offers.specs.Payloads.{buffers_of, buffer_at}
 use Rattle.sg_offers.specs.Rooms.{seen_in}
 use Rattle.sg_core.proofs.AppendSteps.{length-buffers}
-use Rattle.sg_core.proofs.CommitSteps.{Committing, committing-start, committing-skip, committing-by, committed-all, fails-item}
+use Rattle.sg_core.proofs.CommitSteps.{committing-skip, committing-by, committed-all, fails-item}
 use Rattle.sg_core.proofs.appends.commit_all.Goals as goal
 use Rattle.sg_core.proofs.appends.commit_all.Goals.{then-staged-d, else-staged-d}
 

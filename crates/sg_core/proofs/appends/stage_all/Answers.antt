@@ -1,8 +1,8 @@
-use Rattle.std.proofs.Common.{◌≡◌, ◌≤◌, ◌∙◌, ◌+◌, ◌∷◌, ◌++◌, [], sym, ap, arith, length, take, drop}
-use Rattle.std.proofs.lemmas.List.{drop_more, take_more, take_all}
+use Rattle.std.proofs.Common.{◌≡◌, ◌∙◌, ◌+◌, ◌∷◌, ◌++◌, [], sym, ap, arith, length, take, drop}
+use Rattle.std.proofs.lemmas.List.{drop_more, take_more}
 use Rattle.sg_offers.specs.Payloads.{buffers_of}
 use Rattle.sg_offers.specs.Rooms.{seen_in}
-use Rattle.sg_core.proofs.AppendSteps.{staged-all-start, marks-start, more-taken, more-skip, to-first}
+use Rattle.sg_core.proofs.AppendSteps.{staged-all-start, marks-start, more-taken, more-skip}
 use Rattle.sg_core.proofs.appends.stage_all.Goals as goal
 use Rattle.sg_core.proofs.appends.stage_all.Goals.{then-payload, else-payload}
 

@@ -1,4 +1,4 @@
-use Rattle.std.proofs.Common.{◌≡◌, ℕ, length, take, drop}
+use Rattle.std.proofs.Common.{length, take, drop}
 use Rattle.sg_offers.specs.Payloads.{buffers_of}
 use Rattle.sg_offers.specs.Rooms.{seen_in}
 use Rattle.sg_core.proofs.AppendSteps.{StagedMore}

@@ -1,4 +1,4 @@
-use Rattle.std.proofs.Common.{◌≡◌, ◌∙◌, sym, ap, None, Some}
+use Rattle.std.proofs.Common.{◌∙◌, sym, ap}
 use Rattle.sg_machine.specs.declared.setup.DestSetup.{DestSetup}
 use Rattle.sg_offers.specs.Payloads.{buffers_of}
 use Rattle.sg_offers.specs.Rooms.{seen_in}

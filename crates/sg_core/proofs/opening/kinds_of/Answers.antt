@@ -1,4 +1,4 @@
-use Rattle.std.proofs.Common.{◌≡◌, ◌∙◌, ◌-◌, ◌<◌, ℕ, arith, length, ap, slice_get, Some}
+use Rattle.std.proofs.Common.{◌-◌, ◌<◌, arith, length, ap}
 use Rattle.sg_core.proofs.OpenParts.{store-below, kinds-begin}
 use Rattle.sg_core.proofs.opening.kinds_of.Goals as goal
 

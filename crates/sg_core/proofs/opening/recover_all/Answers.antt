@@ -1,4 +1,4 @@
-use Rattle.std.proofs.Common.{◌≡◌, ◌∙◌, ◌+◌, ap, refl, arith, drop}
+use Rattle.std.proofs.Common.{◌∙◌, ◌+◌, ap, drop}
 use Rattle.sg_sinks.specs.Fitting.{space}
 use Rattle.sg_sinks.specs.States.{SinkState}
 use Rattle.sg_core.specs.Opening.{recovers, lengths_in}

@@ -1,9 +1,9 @@
-use Rattle.std.proofs.Common.{◌≡◌, ◌∙◌, sym, ap, arith, Some, slice_get, subst, refl, true}
+use Rattle.std.proofs.Common.{◌≡◌, ◌∙◌, sym, ap, slice_get, subst, true}
 use Rattle.sg_list.proofs.ListLemmas.{some-same}
 use Rattle.sg_machine.proofs.MoveLemmas.{change-self}
 use Rattle.sg_offers.specs.Rooms.{seen_in}
 use Rattle.sg_sinks.specs.Settling.{settled_waiting}
-use Rattle.sg_standing.specs.Sources.{CanAck, acks, acks_all}
+use Rattle.sg_standing.specs.Sources.{CanAck, acks}
 use Rattle.sg_core.specs.Parts.{settled_waiting_some}
 use Rattle.sg_core.proofs.PartLemmas.{turn, turn-seen, turn-after, first-dropped, waiting-more, waiting-zero, some-is, none-taken, sink-there}
 use Rattle.sg_core.proofs.parts.settle_waiting.Goals as goal

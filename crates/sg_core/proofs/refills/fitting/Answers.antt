@@ -1,4 +1,4 @@
-use Rattle.std.proofs.Common.{◌≡◌, ◌∙◌, ◌+◌, ◌≤◌, Some, None, true, false, slice_get, sym, refl, ap, subst, arith}
+use Rattle.std.proofs.Common.{◌≡◌, ◌∙◌, ◌+◌, Some, true, false, slice_get, sym, refl, subst, arith}
 use Rattle.sg_sinks.specs.Fitting.{space}
 use Rattle.sg_sinks.specs.Trials.{refill_of}
 use Rattle.sg_sinks.specs.declared.trial.Trial.{Trial}

@@ -1,9 +1,7 @@
-use Rattle.std.proofs.Common.{◌≡◌, ◌∙◌, ◌+◌, ◌≤◌, List, Some, None, length, slice_get, sym, refl, ap, subst, arith}
+use Rattle.std.proofs.Common.{◌≡◌, ◌∙◌, Some, None, length, sym, refl, ap, subst, arith}
 use Rattle.std.specs.Option.{option_copied}
 use Rattle.sg_list.proofs.ListLemmas.{slice_get-some, length-change}
 use Rattle.sg_sinks.specs.Moving.{block_at}
-use Rattle.sg_stores.specs.Stores.{StoreState}
-use Rattle.sg_core.specs.Steps.{AppendsAt}
 use Rattle.sg_core.proofs.RefillParts.{IsStaging, staging-begins, staging-some, staging-none, staging-commits}
 use Rattle.sg_core.proofs.refills.spool_waiting.Goals as goal
 use Rattle.sg_core.proofs.refills.spool_waiting.Goals.{in-Some, in_default}

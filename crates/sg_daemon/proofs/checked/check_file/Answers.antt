@@ -3,7 +3,7 @@ use Rattle.sg_daemon.proofs.checked.check_file.Goals as goal
 
 pub returns-in-Ok-clause-checks : goal.returns-in-Ok-clause-checks
 returns-in-Ok-clause-checks g c =
-    ok-checks (g.W.Machine.state c.args.world.now) (g.W.Machine.state c.load_file.new.world) (g.W.Machine.state c.say_ok.new.world) c.args.file.now c.in-Ok._loaded c.say_ok.result
+    ok-checks (g.W.Machine.state c.args.world.now) (g.W.Machine.state c.load_file.new.world) (g.W.Machine.state c.say_ok.new.world) c.args.file.now c.in-Ok.loaded c.say_ok.result
     c.in-Ok.ensures.loads c.in-Ok.ensures.only c.say_ok.ensures.has
 
 pub returns-in-Ok-clause-only : goal.returns-in-Ok-clause-only

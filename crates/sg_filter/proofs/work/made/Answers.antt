@@ -1,4 +1,4 @@
-use Rattle.std.proofs.Common.{refl}
+use Rattle.std.proofs.Common.{refl, ◌∙◌}
 use Rattle.sg_filter.specs.declared.work.Work.{Work}
 use Rattle.sg_filter.proofs.Turning.{leads-start, leads-on, refuses-on, only-none, only-more}
 use Rattle.sg_filter.proofs.work.made.Goals as goal
@@ -9,6 +9,7 @@ turns-init g c =
       leads-start c.args.named.now c.args.expr.now c.args.expr (record { nodes = c.new.result; last = 0; frames = c.new-2.result }) c.push.new.self
           refl c.new.ensures.items c.new-2.ensures.items refl done.1 done.2 done.0,
       only-none (g.B.Machine.state c.args.builder.now),
+      refl,
     )
 
 pub turns-preserved : goal.turns-preserved
@@ -17,6 +18,7 @@ turns-preserved g c =
     let popped : Work = record c.turns.work { frames = c.pop.new.self } in (
       leads-on c.args.named.now c.args.expr.now c.turns.work popped c.turn.new.self c.in-Some.frame inv.0 c.in-Some.ensures.items refl refl c.in-Ok.ensures.turns,
       only-more _ _ _ inv.1 c.turn.ensures.only,
+      c.in-Ok.ensures.stays ∙ inv.2,
     )
 
 pub returns-in-Err-clause-refused : goal.returns-in-Err-clause-refused

@@ -30,4 +30,4 @@ returns-in-Err-TooLong-clause-only g c =
 pub returns-in-Err-NoMemory-clause-only : goal.returns-in-Err-NoMemory-clause-only
 returns-in-Err-NoMemory-clause-only g c =
     let refused = rw c.in-Err-NoMemory.field-0-is at c.in-Err-NoMemory.ensures in
-    loads-reading (g.W.Machine.state c.args.world.now) (g.W.Machine.state c.read.new.self) refused
+    loads-reading (g.W.Machine.state c.args.world.now) (g.W.Machine.state c.read.new.self) refused.0

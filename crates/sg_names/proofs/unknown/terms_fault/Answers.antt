@@ -1,7 +1,7 @@
 use Rattle.std.proofs.Common.{◌∙◌, ap}
 use Rattle.sg_fault.specs.Faults.{least}
 use Rattle.sg_names.specs.Unknown.{term_faults}
-use Rattle.sg_names.proofs.Leasts.{least-more, least-all}
+use Rattle.sg_visit.proofs.Leasts.{least-more, least-all}
 use Rattle.sg_names.proofs.unknown.terms_fault.Goals as goal
 
 pub loop-term-preserved : goal.loop-term-preserved

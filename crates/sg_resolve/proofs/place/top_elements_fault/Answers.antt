@@ -1,7 +1,7 @@
 use Rattle.std.proofs.Common.{◌∙◌, ap}
 use Rattle.sg_fault.specs.Faults.{least}
 use Rattle.sg_resolve.specs.Places.{top_element_faults}
-use Rattle.sg_resolve.proofs.Leasts.{least-more, least-all}
+use Rattle.sg_visit.proofs.Leasts.{least-more, least-all}
 use Rattle.sg_resolve.proofs.place.top_elements_fault.Goals as goal
 
 pub loop-element-preserved : goal.loop-element-preserved

@@ -3,7 +3,8 @@ use Rattle.std.specs.Prelude.{IfOk, IfSome}
 use Rattle.std.proofs.lemmas.List.{append-nil, length-map}
 use Rattle.sg_standing.specs.States.{setup_of}
 use Rattle.sg_serve.specs.Counts.{IsCounted}
-use Rattle.sg_serve.proofs.RunLemmas.{are-dests, calls-go, ok-some}
+use Rattle.sg_core.proofs.Faults.{calls-go}
+use Rattle.sg_serve.proofs.RunLemmas.{are-dests, ok-some}
 use Rattle.sg_serve.proofs.run.run_dests.Goals as goal
 
 pub serve-ended-requires-clause-dests : goal.serve-ended-requires-clause-dests

@@ -17,7 +17,7 @@ use Rattle.sg_table.specs.Patterns.{Patterns, Makes, Refuses, branch_patterns, c
 use Rattle.sg_table.specs.Table.{siblings_of, choice_of, branches_at, tests_at, other_at, steps_at}
 use Rattle.sg_table.proofs.Tables.{tests-same, grows-none, grows-more, grows-kept, grows-length, pushed}
 use Rattle.sg_table.proofs.Parts.{siblings-own, choices-own, behind-none, behind-some, map-last-at, tests-within, one-sibling, one-test, ended, zero-of, not-zero}
-use Rattle.sg_table.proofs.Patterned.{patterns-If, patterns-Path, valid-append, valid-last, refused-behind, refused-item, makes-front}
+use Rattle.sg_table.proofs.Patterned.{patterns-If, patterns-Path, valid-append, valid-behind, valid-last, refused-behind, refused-item, makes-front}
 use Rattle.sg_table.proofs.Sizes.{at-least, list-size, item-size, sibling-size, branch-size, choice-none, choice-other}
 use Rattle.sg_table.proofs.build.+compile.Goals as goal
 
@@ -62,6 +62,11 @@ choice-returns-in-Err-other_start-clause-makes g t c =
     let first = choices_patterns named c.args.branches.now in
     let last = other_patterns named c.args.other.now in
     refused-behind _ _ _ first last (first ++ last) c.in-Err-other_start.refusal refl c.in-Ok.ensures.only c.in-Err-other_start.ensures.makes
+
+pub choice-returns-in-Ok-other_start-clause-makes : goal.choice-returns-in-Ok-other_start-clause-makes
+choice-returns-in-Ok-other_start-clause-makes g t c =
+    let named = c.args.named.now in
+    valid-behind (g.B.Machine.state c.args.builder.now) (g.B.Machine.state c.tests.new.builder) (g.B.Machine.state c.other_start.new.builder) (choices_patterns named c.args.branches.now) (other_patterns named c.args.other.now) c.in-Ok.ensures.makes c.in-Ok-other_start.ensures.makes
 
 pub element-choice-requires : goal.element-choice-requires
 element-choice-requires g t c =
@@ -161,7 +166,8 @@ list-loop-i-preserved g t c =
         within = one.within;
         means = one.means ∙ ap (element_view named e) inv.compiled.means ∙ ap (λ (xs : List Element). in_front (map (element_view named) xs) s) (sym here);
       };
-      valid = subst (λ (xs : List Element). AreValid (list_patterns named xs)) (sym here) (valid-append (element_patterns named e) (list_patterns named (drop i els)) c.in-Ok.ensures.makes inv.valid);
+      valid = subst (λ (xs : List Element). AreValid (list_patterns named xs)) (sym here) (valid-append (element_patterns named e) (list_patterns named (drop i els)) c.in-Ok.ensures.makes.0 inv.valid);
+      stays = c.in-Ok.ensures.makes.1 ∙ inv.stays;
       only = only-more _ _ _ inv.only c.in-Ok.ensures.only;
     }
 
@@ -202,7 +208,7 @@ path-returns-clause-makes g t c =
     let mid = g.B.Machine.state c.end.new.builder in
     let new = g.B.Machine.state c.list.new.builder in
     makes-front old mid new (list_patterns named (out-Path p).elements.items) (siblings_patterns named (out-Path p).embedded.items) (path_patterns named p) c.list.result (patterns-Path named p)
-    (subst (λ (x : List Path). AreValid (siblings_patterns named x)) c.deref.ensures.value c.in-Ok.ensures.makes) c.in-Ok.ensures.only
+    (subst (λ (x : List Path). AreValid (siblings_patterns named x)) c.deref.ensures.value c.in-Ok.ensures.makes.0, c.in-Ok.ensures.makes.1) c.in-Ok.ensures.only
     (subst (λ (x : List Element). Makes mid new (list_patterns named x) c.list.result) c.deref-2.ensures.value c.list.ensures.makes)
 
 pub siblings-path-requires : goal.siblings-path-requires
@@ -231,7 +237,8 @@ siblings-loop-one-preserved g t c =
       compiled = one-sibling named c.args.pipes.now.items c.loop-one.pipes.items c.path.new.pipes.items c.loop-one.branches.items c.append.new.items.items c.branch_of.result c.in-Ok.start p
           (map (own named) (take i ps)) (map (own named) (take (i + 1) ps)) inv.compiled c.in-Ok.ensures.compiled c.branch_of.ensures.0 c.branch_of.ensures.1 c.in_ok-append-in-Ok.ensures
           (map-last-at (own named) (take i ps) (take (i + 1) ps) p next);
-      valid = valid-last (map (path_patterns named) (take i ps)) (path_patterns named p) (map (path_patterns named) (take (i + 1) ps)) inv.valid c.in-Ok.ensures.makes (map-last-at (path_patterns named) (take i ps) (take (i + 1) ps) p next);
+      valid = valid-last (map (path_patterns named) (take i ps)) (path_patterns named p) (map (path_patterns named) (take (i + 1) ps)) inv.valid c.in-Ok.ensures.makes.0 (map-last-at (path_patterns named) (take i ps) (take (i + 1) ps) p next);
+      stays = c.in-Ok.ensures.makes.1 ∙ inv.stays;
       only = only-more _ _ _ inv.only c.in-Ok.ensures.only;
     }
 
@@ -276,7 +283,8 @@ tests-loop-branch-preserved g t c =
           (choices named (take i bs)) (choices named (take (i + 1) bs)) inv.compiled one c.in-Ok.ensures.filter c.in_ok-append-in-Ok.ensures
           (map-last-at (λ (x : Expr × Vec Element Global). (decision_of named x.0, steps_view named x.1.items [])) (take i bs) (take (i + 1) bs) b next);
       valid = valid-last (map (branch_patterns named) (take i bs)) (branch_patterns named b) (map (branch_patterns named) (take (i + 1) bs)) inv.valid
-          (subst (λ (x : List Element). AreValid (patterns_of named b.0 ++ list_patterns named x)) c.deref.ensures.value c.in-Ok.ensures.makes)
+          (subst (λ (x : List Element). AreValid (patterns_of named b.0 ++ list_patterns named x)) c.deref.ensures.value c.in-Ok.ensures.makes.0)
           (map-last-at (branch_patterns named) (take i bs) (take (i + 1) bs) b next);
+      stays = c.in-Ok.ensures.makes.1 ∙ inv.stays;
       only = only-more _ _ _ inv.only c.in-Ok.ensures.only;
     }

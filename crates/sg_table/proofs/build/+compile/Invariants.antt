@@ -1,5 +1,6 @@
 use Rattle.std.proofs.Common.{◌+◌, ◌*◌, [], None, map, drop, take}
 use Rattle.sg_outside.specs.World.{OnlyBuilds}
+use Rattle.sg_pattern.specs.Builds.{RefusesNone}
 use Rattle.sg_filter.specs.Patterns.{AreValid}
 use Rattle.sg_tree.specs.Plain.{in_front, element_view, steps_view, siblings_view, choice_view, own_steps}
 use Rattle.sg_tree.specs.Walk.{none_left, size, siblings_size, choice_size}
@@ -12,6 +13,7 @@ abbrev pub invariant-list-loop-i : goal.invariant-list-loop-i
 invariant-list-loop-i g l = record {
   compiled : Compiled l.initial.pipes.items l.pipes.items l.first (in_front (map (element_view l.named) (drop l.i l.elements)) (steps_at l.initial.pipes.items l.initial.first));
   valid : AreValid (list_patterns l.named (drop l.i l.elements));
+  stays : RefusesNone (g.B.Machine.state l.initial.builder) (g.B.Machine.state l.builder);
   only : OnlyBuilds (g.B.Machine.state l.initial.builder) (g.B.Machine.state l.builder);
 }
 
@@ -19,6 +21,7 @@ abbrev pub invariant-siblings-loop-one : goal.invariant-siblings-loop-one
 invariant-siblings-loop-one g l = record {
   compiled : CompiledBranches l.initial.pipes.items l.pipes.items l.branches.items (map (own l.named) (take l.one-index l.paths));
   valid : AreValid (siblings_patterns l.named (take l.one-index l.paths));
+  stays : RefusesNone (g.B.Machine.state l.initial.builder) (g.B.Machine.state l.builder);
   only : OnlyBuilds (g.B.Machine.state l.initial.builder) (g.B.Machine.state l.builder);
 }
 
@@ -26,6 +29,7 @@ abbrev pub invariant-tests-loop-branch : goal.invariant-tests-loop-branch
 invariant-tests-loop-branch g l = record {
   compiled : CompiledTests l.initial.pipes.items l.pipes.items l.tests.items (choices l.named (take l.branch-index l.branches));
   valid : AreValid (choices_patterns l.named (take l.branch-index l.branches));
+  stays : RefusesNone (g.B.Machine.state l.initial.builder) (g.B.Machine.state l.builder);
   only : OnlyBuilds (g.B.Machine.state l.initial.builder) (g.B.Machine.state l.builder);
 }
 

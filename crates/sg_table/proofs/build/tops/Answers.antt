@@ -24,6 +24,7 @@ loop-one-preserved g c =
       compiled = one-top named c.args.pipes.now.items c.loop-one.pipes.items c.top.new.pipes.items c.loop-one.tops.items c.append.new.items.items c.in-Ok.top p
           (map (top_view named) (take i ps)) (map (top_view named) (take (i + 1) ps)) inv.compiled c.in-Ok.ensures.compiled c.in-Ok.ensures.top c.in_ok-append-in-Ok.ensures
           (map-last-at (top_view named) (take i ps) (take (i + 1) ps) p next);
-      valid = valid-last (map (path_patterns named) (take i ps)) (path_patterns named p) (map (path_patterns named) (take (i + 1) ps)) inv.valid c.in-Ok.ensures.makes (map-last-at (path_patterns named) (take i ps) (take (i + 1) ps) p next);
+      valid = valid-last (map (path_patterns named) (take i ps)) (path_patterns named p) (map (path_patterns named) (take (i + 1) ps)) inv.valid c.in-Ok.ensures.makes.0 (map-last-at (path_patterns named) (take i ps) (take (i + 1) ps) p next);
+      stays = c.in-Ok.ensures.makes.1 ∙ inv.stays;
       only = only-more _ _ _ inv.only c.in-Ok.ensures.only;
     }

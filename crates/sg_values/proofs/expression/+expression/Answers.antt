@@ -1,7 +1,7 @@
 use Rattle.std.proofs.Common.{◌∙◌, ap}
 use Rattle.sg_fault.specs.Faults.{least}
 use Rattle.sg_values.specs.Expressions.{expression_faults}
-use Rattle.sg_values.proofs.Leasts.{least-more, least-all}
+use Rattle.sg_visit.proofs.Leasts.{least-more, least-all}
 use Rattle.sg_values.proofs.expression.+expression.Goals as goal
 
 pub terms_fault-loop-term-preserved : goal.terms_fault-loop-term-preserved

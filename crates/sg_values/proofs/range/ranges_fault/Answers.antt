@@ -1,7 +1,7 @@
 use Rattle.std.proofs.Common.{◌∙◌, ap}
 use Rattle.sg_fault.specs.Faults.{least}
 use Rattle.sg_values.specs.Ranges.{range_faults}
-use Rattle.sg_values.proofs.Leasts.{least-more, least-all}
+use Rattle.sg_visit.proofs.Leasts.{least-more, least-all}
 use Rattle.sg_values.proofs.range.ranges_fault.Goals as goal
 
 pub loop-arg-preserved : goal.loop-arg-preserved

@@ -1,13 +1,8 @@
-use Rattle.std.proofs.Common.{◌∙◌, ap}
-use Rattle.sg_fault.specs.Faults.{least}
-use Rattle.sg_values.specs.Texts.{statement_faults, values_faults}
-use Rattle.sg_values.proofs.Leasts.{least-more, least-all}
+use Rattle.sg_values.specs.Texts.{leaf_faults, values_faults}
+use Rattle.sg_visit.specs.Leaves.{leaves_of}
+use Rattle.sg_visit.proofs.Leasts.{least-visited}
 use Rattle.sg_values.proofs.text.values_fault.Goals as goal
-
-pub loop-statement-preserved : goal.loop-statement-preserved
-loop-statement-preserved c =
-    least-more statement_faults c.args.statements.now _ _ c.loop-statement.first _ _ c.loop-statement-test.true c.loop-statement.invariant (c.statement_fault.ensures ∙ ap (λ y. least (statement_faults y)) c.statement-item.is) c.earlier-first.ensures
 
 pub returns : goal.returns
 unfolding values_faults
-returns c = least-all statement_faults _ _ _ c.loop-statement-test.false c.loop-statement.invariant
+returns c = least-visited leaf_faults (leaves_of c.args.statements.now) _ c.in-Ok.ensures

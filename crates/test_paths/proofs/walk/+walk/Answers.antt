@@ -12,7 +12,7 @@ use Rattle.sg_tree.specs.Plain.{steps_view, siblings_view, choice_view, marks}
 use Rattle.test_paths.specs.Gives.{Gives}
 use Rattle.sg_tree.proofs.Turning.{in-round}
 use Rattle.test_paths.proofs.Going.{goes-on, sofar-at}
-use Rattle.test_paths.proofs.Turning.{ok-at, at-Filter, at-Rewrite, at-Deliver, at-Junction, at-If, at-Path, mine, later, round-skips, round-goes-on, filter-on, rewrite-on, deliver-on, moved, rest-gives, behind-size}
+use Rattle.test_paths.proofs.Turning.{ok-at, at-Filter, at-Rewrite, at-Deliver, at-Junction, at-If, at-Path, mine, later, round-skips, round-goes-on, filter-on, rewrite-on, deliver-on, moved, then-ok, behind-ok, behind-size}
 use Rattle.test_paths.proofs.walk.+walk.Goals as goal
 use Rattle.test_paths.proofs.walk.+walk.Goals.{walk-in-Filter+in_ok-holds-in-Filter+else-not-branch, walk-in-Rewrite+in_ok-rewrite-in-Rewrite, walk-in-Deliver+in_ok-deliver-in-Deliver, round-then-path-late+in_ok-mine+in_ok-join+else-ends, round-else-path-late}
 
@@ -88,8 +88,8 @@ choose-returns-in-None g t c =
     c.loop-branch.invariant.0 ∙ ap (λ ys. chosen (choice_view named ys c.args.other.now) m f) none ∙ ap (λ o. chosen (choice_view named [] o) m f) c.in-None.is in
     ok-at c.walk-in-None.result _ _ _ _ _ c.loop-branch.invariant.2 (sym taken) c.walk-in-None.ensures
 
-pub walk-branches-requires : goal.walk-branches-requires
-walk-branches-requires g t c =
+pub walk-walk_junction-requires : goal.walk-walk_junction-requires
+walk-walk_junction-requires g t c =
     let named = c.args.named.now in
     let xs = c.args.elements.now in
     let i = c.loop-at.at in
@@ -97,18 +97,8 @@ walk-branches-requires g t c =
     let here : drop i xs ≡ e ∷ drop (i + 1) xs = drop_more xs i e (omega arith) ∙ ap (λ y. y ∷ drop (i + 1) xs) (sym c.index-elements-at.is) in
     let sized = ap size (at-Junction named (drop i xs) (drop (i + 1) xs) c.args.embedded.now e here c.in-Junction.channels c.in-Junction.is) in
     let same : siblings_size (siblings_view named c.deref-in-Junction.result.now) ≡ siblings_size (siblings_view named c.in-Junction.channels.items) = ap (λ (ps : List Path). siblings_size (siblings_view named ps)) c.deref-in-Junction.ensures.value in
-    λ κs out. (omega (arith, sized, same, c.loop-at.invariant.1), out)
-
-pub walk-rest-requires : goal.walk-rest-requires
-walk-rest-requires g t c =
-    let named = c.args.named.now in
-    let xs = c.args.elements.now in
-    let i = c.loop-at.at in
-    let e = c.index-elements-at.result in
-    let here : drop i xs ≡ e ∷ drop (i + 1) xs = drop_more xs i e (omega arith) ∙ ap (λ y. y ∷ drop (i + 1) xs) (sym c.index-elements-at.is) in
-    let sized = ap size (at-Junction named (drop i xs) (drop (i + 1) xs) c.args.embedded.now e here c.in-Junction.channels c.in-Junction.is) in
-    let same : size (steps_view named c.elements_from.result.now c.args.embedded.now) ≡ size (steps_view named (drop (i + 1) xs) c.args.embedded.now) = ap (λ (ys : List Element). size (steps_view named ys c.args.embedded.now)) c.elements_from.ensures in
-    λ κs out. (omega (arith, sized, same, c.loop-at.invariant.1), out)
+    let behind : size (steps_view named c.elements_from.result.now c.args.embedded.now) ≡ size (steps_view named (drop (i + 1) xs) c.args.embedded.now) = ap (λ (ys : List Element). size (steps_view named ys c.args.embedded.now)) c.elements_from.ensures in
+    λ κs out. (omega (arith, sized, same, behind, c.loop-at.invariant.1), out)
 
 pub walk-returns-in-Junction : goal.walk-returns-in-Junction
 walk-returns-in-Junction g t c =
@@ -124,11 +114,11 @@ walk-returns-in-Junction g t c =
     let w = branches (siblings_view named c.deref-in-Junction.result.now) m f in
     let same = ap (λ (ps : List Path). then_each (branches (siblings_view named ps) m f) (λ n. walk (steps_view named (drop (i + 1) xs) logs) n f)) c.deref-in-Junction.ensures.value in
     let behind = ap (λ (ys : List Element). then_each w (λ n. walk (steps_view named ys logs) n f)) c.elements_from.ensures in
-    rest-gives c.rest.result _ _ _ _ _ _ _ w (λ n. walk (steps_view named c.elements_from.result.now logs) n f) c.loop-at.invariant.0
-    (ap (λ (s : Steps). walk s m f) is ∙ sym same ∙ sym behind) c.in_ok-first-in-Junction.ensures c.rest.ensures
+    behind-ok c.walk_junction.result _ _ _ _ _ (then_each w (λ n. walk (steps_view named c.elements_from.result.now logs) n f)) c.loop-at.invariant.0
+    (ap (λ (s : Steps). walk s m f) is ∙ sym same ∙ sym behind) c.walk_junction.ensures
 
-pub walk-choose-requires : goal.walk-choose-requires
-walk-choose-requires g t c =
+pub walk-walk_if-requires : goal.walk-walk_if-requires
+walk-walk_if-requires g t c =
     let named = c.args.named.now in
     let xs = c.args.elements.now in
     let i = c.loop-at.at in
@@ -136,18 +126,8 @@ walk-choose-requires g t c =
     let here : drop i xs ≡ e ∷ drop (i + 1) xs = drop_more xs i e (omega arith) ∙ ap (λ y. y ∷ drop (i + 1) xs) (sym c.index-elements-at.is) in
     let sized = ap size (at-If named (drop i xs) (drop (i + 1) xs) c.args.embedded.now e here c.in-If.tests c.in-If.other c.in-If.is) in
     let same = ap (λ ps. choice_size (choice_view named ps c.in-If.other)) c.deref-in-If.ensures.value in
-    λ κs out. (omega (arith, sized, same, c.loop-at.invariant.1), out)
-
-pub walk-rest-requires-in-If : goal.walk-rest-requires-in-If
-walk-rest-requires-in-If g t c =
-    let named = c.args.named.now in
-    let xs = c.args.elements.now in
-    let i = c.loop-at.at in
-    let e = c.index-elements-at.result in
-    let here : drop i xs ≡ e ∷ drop (i + 1) xs = drop_more xs i e (omega arith) ∙ ap (λ y. y ∷ drop (i + 1) xs) (sym c.index-elements-at.is) in
-    let sized = ap size (at-If named (drop i xs) (drop (i + 1) xs) c.args.embedded.now e here c.in-If.tests c.in-If.other c.in-If.is) in
-    let same : size (steps_view named c.elements_from-in-If.result.now c.args.embedded.now) ≡ size (steps_view named (drop (i + 1) xs) c.args.embedded.now) = ap (λ (ys : List Element). size (steps_view named ys c.args.embedded.now)) c.elements_from-in-If.ensures in
-    λ κs out. (omega (arith, sized, same, c.loop-at.invariant.1), out)
+    let behind : size (steps_view named c.elements_from-in-If.result.now c.args.embedded.now) ≡ size (steps_view named (drop (i + 1) xs) c.args.embedded.now) = ap (λ (ys : List Element). size (steps_view named ys c.args.embedded.now)) c.elements_from-in-If.ensures in
+    λ κs out. (omega (arith, sized, same, behind, c.loop-at.invariant.1), out)
 
 pub walk-returns-in-If : goal.walk-returns-in-If
 walk-returns-in-If g t c =
@@ -163,8 +143,18 @@ walk-returns-in-If g t c =
     let w = chosen (choice_view named c.deref-in-If.result.now c.in-If.other) m f in
     let same = ap (λ ps. then_each (chosen (choice_view named ps c.in-If.other) m f) (λ n. walk (steps_view named (drop (i + 1) xs) logs) n f)) c.deref-in-If.ensures.value in
     let behind = ap (λ (ys : List Element). then_each w (λ n. walk (steps_view named ys logs) n f)) c.elements_from-in-If.ensures in
-    rest-gives c.rest-in-If.result _ _ _ _ _ _ _ w (λ n. walk (steps_view named c.elements_from-in-If.result.now logs) n f) c.loop-at.invariant.0
-    (ap (λ (s : Steps). walk s m f) is ∙ sym same ∙ sym behind) c.in_ok-first-in-If.ensures c.rest-in-If.ensures
+    behind-ok c.walk_if.result _ _ _ _ _ (then_each w (λ n. walk (steps_view named c.elements_from-in-If.result.now logs) n f)) c.loop-at.invariant.0
+    (ap (λ (s : Steps). walk s m f) is ∙ sym same ∙ sym behind) c.walk_if.ensures
+
+pub walk_junction-returns : goal.walk_junction-returns
+walk_junction-returns g t c =
+    then-ok c.rest.result _ _ _ _ (branches (siblings_view c.args.named.now c.args.channels.now) c.args.message.now c.args.flow)
+    (λ n. walk (steps_view c.args.named.now c.args.elements.now c.args.embedded.now) n c.args.flow) c.in_ok-first.ensures c.rest.ensures
+
+pub walk_if-returns : goal.walk_if-returns
+walk_if-returns g t c =
+    then-ok c.rest.result _ _ _ _ (chosen (choice_view c.args.named.now c.args.tests.now c.args.other.now) c.args.message c.args.flow)
+    (λ n. walk (steps_view c.args.named.now c.args.elements.now c.args.embedded.now) n c.args.flow) c.in_ok-first.ensures c.rest.ensures
 
 pub walk-loop-at-preserved : goal.walk-loop-at-preserved
 walk-loop-at-preserved g t c =
@@ -208,8 +198,8 @@ walk-loop-at-preserved g t c =
           )
     ]
 
-pub walk-branches-requires-2 : goal.walk-branches-requires-2
-walk-branches-requires-2 g t c =
+pub walk-branches-requires : goal.walk-branches-requires
+walk-branches-requires g t c =
     let named = c.args.named.now in
     let xs = c.args.elements.now in
     let i = c.loop-at.at in

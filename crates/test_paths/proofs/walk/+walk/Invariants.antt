@@ -5,22 +5,28 @@ use Rattle.test_paths.proofs.Going.{Sofar, Behind}
 use Rattle.test_paths.proofs.walk.+walk.Given as goal
 
 abbrev pub decreases-walk : goal.decreases-walk
-decreases-walk g l = 2 * size (steps_view l.named.now l.elements.now l.embedded.now)
+decreases-walk g l = 4 * size (steps_view l.named.now l.elements.now l.embedded.now)
 
 abbrev pub decreases-rest : goal.decreases-rest
-decreases-rest g l = 2 * size (steps_view l.named.now l.elements.now l.embedded.now) + 1
+decreases-rest g l = 4 * size (steps_view l.named.now l.elements.now l.embedded.now) + 1
+
+abbrev pub decreases-walk_junction : goal.decreases-walk_junction
+decreases-walk_junction g l = 4 * siblings_size (siblings_view l.named.now l.channels.now) + 4 * size (steps_view l.named.now l.elements.now l.embedded.now) + 2
+
+abbrev pub decreases-walk_if : goal.decreases-walk_if
+decreases-walk_if g l = 4 * choice_size (choice_view l.named.now l.tests.now l.other.now) + 4 * size (steps_view l.named.now l.elements.now l.embedded.now) + 2
 
 abbrev pub decreases-branches : goal.decreases-branches
-decreases-branches g l = 2 * siblings_size (siblings_view l.named.now l.siblings.now) + 1
+decreases-branches g l = 4 * siblings_size (siblings_view l.named.now l.siblings.now) + 1
 
 abbrev pub decreases-round : goal.decreases-round
-decreases-round g l = 2 * siblings_size (siblings_view l.named.now l.siblings.now)
+decreases-round g l = 4 * siblings_size (siblings_view l.named.now l.siblings.now)
 
 abbrev pub decreases-one : goal.decreases-one
-decreases-one g l = 2 * size (own_steps l.named.now l.path.now) + 1
+decreases-one g l = 4 * size (own_steps l.named.now l.path.now) + 1
 
 abbrev pub decreases-choose : goal.decreases-choose
-decreases-choose g l = 2 * choice_size (choice_view l.named.now l.tests.now l.other.now)
+decreases-choose g l = 4 * choice_size (choice_view l.named.now l.tests.now l.other.now)
 
 abbrev pub invariant-walk-loop-at : goal.invariant-walk-loop-at
 invariant-walk-loop-at g l =

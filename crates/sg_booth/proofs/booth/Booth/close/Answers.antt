@@ -1,4 +1,4 @@
-use Rattle.std.proofs.Common.{◌≡◌, ℕ, ◌+◌, ◌≤◌, ◌<◌, length, subst, sym, refl}
+use Rattle.std.proofs.Common.{◌≡◌, ◌+◌, ◌≤◌, ◌<◌, length, subst, sym, refl}
 use Rattle.sg_booth.specs.Lists.{times, CountsOnce, CountsSome}
 use Rattle.sg_booth.specs.Rule.{IsGiven, places_of}
 use Rattle.sg_booth.specs.Desks.{BoothState, HasClosed, AreOrdered}

@@ -1,4 +1,4 @@
-use Rattle.std.proofs.Common.{◌≡◌, ◌∙◌, ◌++◌, refl, sym, ap, arith, length, map, take, drop, false}
+use Rattle.std.proofs.Common.{◌≡◌, ◌∙◌, ◌++◌, refl, sym, ap, arith, length, take, drop}
 use Rattle.sg_machine.specs.Verdicts.{claims_of}
 use Rattle.sg_offers.specs.Payloads.{payloads_of}
 use Rattle.sg_offers.specs.Rooms.{seen_in}
@@ -6,7 +6,7 @@ use Rattle.sg_offers.proofs.ItemLemmas.{take-whole}
 use Rattle.sg_machine.specs.declared.event.Act.TheVariants.{Admit}
 use Rattle.sg_core.proofs.AtSteps.{quiet-look}
 use Rattle.sg_core.proofs.Whole.{whole-still}
-use Rattle.sg_core.proofs.AdmitTurn.{unset-at, all-to, stores-there, stores-apart, credit-for, enter-of, length-seen, length-begun, AdmitTurn, turn-does}
+use Rattle.sg_core.proofs.AdmitTurn.{unset-at, all-to, stores-there, stores-apart, credit-for, enter-of, length-seen, length-begun, turn-does}
 use Rattle.sg_core.proofs.flow.Core.admit.Goals as goal
 
 pub returns-then-credit-len-clause-does : goal.returns-then-credit-len-clause-does

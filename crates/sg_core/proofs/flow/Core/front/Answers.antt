@@ -1,11 +1,10 @@
-use Rattle.std.proofs.Common.{◌≡◌, ◌∙◌, ◌<◌, ◌+◌, ap, refl, sym, false, true, [], length, None, Option, Some, Err}
-use Rattle.sg_list.specs.Lists.{change}
+use Rattle.std.proofs.Common.{◌∙◌, ◌+◌, ap, refl, sym, false, true, length, Err}
 use Rattle.sg_machine.specs.declared.event.Act.TheVariants.{Look}
 use Rattle.sg_machine.specs.declared.setup.DestSetup.{DestSetup}
 use Rattle.sg_offers.specs.Rooms.{seen_in}
 use Rattle.sg_standing.specs.States.{CoreState}
 use Rattle.sg_core.proofs.AtSteps.{quiet-look}
-use Rattle.sg_core.proofs.FrontCalls.{can-read-first, no-lengths}
+use Rattle.sg_core.proofs.FrontCalls.{can-read-first}
 use Rattle.sg_core.proofs.FrontLemmas.{shows-waiting-all, at-both-all, broken-same, at-both, nil-lengths, not-zero, none-broken-at, no-buffer-lengths}
 use Rattle.sg_core.proofs.FrontTurn.{FrontTurn, ok-does, memory-does, fault-does, ok-front, ok-shows, fault-front, no-queue}
 use Rattle.sg_core.proofs.SettleParts.{seen-there}

@@ -2,7 +2,6 @@ use Rattle.std.proofs.Common.{◌≡◌, ◌∙◌, ℕ, List, length, map, sym,
 use Rattle.std.proofs.lemmas.List.{length-map}
 use Rattle.sg_offers.specs.Rooms.{seen_in}
 use Rattle.sg_machine.specs.declared.setup.DestSetup.{DestSetup}
-use Rattle.sg_machine.specs.declared.setup.SourceSetup.{SourceSetup}
 use Rattle.sg_sinks.specs.States.{SinkState}
 use Rattle.sg_stores.specs.Opening.{AreOpened}
 use Rattle.sg_stores.specs.declared.kind.StoreKind.{StoreKind}

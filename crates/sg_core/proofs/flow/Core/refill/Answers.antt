@@ -1,9 +1,8 @@
-use Rattle.std.proofs.Common.{◌≡◌, ◌∙◌, ◌+◌, ap, refl, sym, subst, false, true, take}
-use Rattle.sg_list.specs.Lists.{change}
+use Rattle.std.proofs.Common.{◌∙◌, ◌+◌, ap, refl, sym, subst, false, true}
 use Rattle.sg_machine.specs.declared.event.Act.TheVariants.{Look, Refill}
 use Rattle.sg_machine.specs.declared.setup.DestSetup.{DestSetup}
 use Rattle.sg_offers.specs.Rooms.{seen_in}
-use Rattle.sg_sinks.specs.States.{SinkState, with_broken}
+use Rattle.sg_sinks.specs.States.{with_broken}
 use Rattle.sg_counter.specs.declared.answers.Refill.TheVariants.{Moved, NoneWaits, NoRoom, Broken}
 use Rattle.sg_standing.specs.Sources.{acks_all}
 use Rattle.sg_standing.specs.States.{CoreState}
@@ -12,7 +11,6 @@ use Rattle.sg_core.specs.Steps.{AppendsAt}
 use Rattle.sg_core.proofs.AtSteps.{quiet-look}
 use Rattle.sg_core.proofs.RefillCalls.{RefillParts, refill-does, unfilled-does, refill-acks}
 use Rattle.sg_core.proofs.RefillTurn.{refills-none, refills-some, no-buffer, none-entries, some-entries, fit-few, some-fit, store-there, small-there, can-move, entries-there, acks-there, changed-there}
-use Rattle.sg_core.proofs.SettleCalls.{not-true}
 use Rattle.sg_core.proofs.SettleParts.{seen-there}
 use Rattle.sg_core.proofs.Whole.{whole-still}
 use Rattle.sg_core.proofs.flow.Core.refill.Goals as goal
@@ -49,13 +47,13 @@ pub returns-then-waiting-eq0-clause-answer : goal.returns-then-waiting-eq0-claus
 returns-then-waiting-eq0-clause-answer g c =
     let there = seen-there c.self.inside.sinks c.args.d c.at-sink.result.now c.at-sink.ensures in
     let has = sym (ap (λ (x : DestSetup). x.buffer) c.setup.ensures) ∙ c.in-Some.is in
-    rw (← c.self.view_is) (refills-some (seen_in c.self.inside.sinks) (seen_in c.self.inside.sinks) c.args.d c.at-sink.result.now.seen c.at-sink.result.now.seen c.in-Some.buffer NoneWaits there there has (sym c.is_broken.ensures ∙ c.if-is_broken.false, none-entries c.at-sink.result.now.seen.entries c.waiting.result c.waiting.ensures c.if-waiting-eq0.true))
+    rw (← c.self.view_is) (refills-some (seen_in c.self.inside.sinks) (seen_in c.self.inside.sinks) c.args.d c.at-sink.result.now.seen c.at-sink.result.now.seen c.in-Some.buffer NoneWaits there there has (sym c.is_broken.ensures ∙ c.if-is_broken.false, none-entries c.at-sink.result.now.seen.entries c.waiting.result c.waiting.ensures c.if-waiting-eq0.true, refl))
 
 pub returns-then-n-eq0-clause-answer : goal.returns-then-n-eq0-clause-answer
 returns-then-n-eq0-clause-answer g c =
     let there = seen-there c.self.inside.sinks c.args.d c.at-sink.result.now c.at-sink.ensures in
     let has = sym (ap (λ (x : DestSetup). x.buffer) c.setup.ensures) ∙ c.in-Some.is in
-    rw (← c.self.view_is) (refills-some (seen_in c.self.inside.sinks) (seen_in c.self.inside.sinks) c.args.d c.at-sink.result.now.seen c.at-sink.result.now.seen c.in-Some.buffer NoRoom there there has (sym c.is_broken.ensures ∙ c.if-is_broken.false, some-entries c.at-sink.result.now.seen.entries c.waiting.result c.waiting.ensures c.if-waiting-eq0.false, sym c.fitting-n.ensures.value ∙ c.if-n-eq0.true))
+    rw (← c.self.view_is) (refills-some (seen_in c.self.inside.sinks) (seen_in c.self.inside.sinks) c.args.d c.at-sink.result.now.seen c.at-sink.result.now.seen c.in-Some.buffer NoRoom there there has (sym c.is_broken.ensures ∙ c.if-is_broken.false, some-entries c.at-sink.result.now.seen.entries c.waiting.result c.waiting.ensures c.if-waiting-eq0.false, sym c.fitting-n.ensures.value ∙ c.if-n-eq0.true, refl))
 
 pub returns-then-is_broken-clause-none : goal.returns-then-is_broken-clause-none
 returns-then-is_broken-clause-none g c =

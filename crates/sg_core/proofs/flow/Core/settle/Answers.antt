@@ -1,13 +1,12 @@
-use Rattle.std.proofs.Common.{◌≡◌, ◌∙◌, ◌+◌, ap, refl, sym, min, take, false, true}
-use Rattle.sg_machine.specs.declared.event.Act.TheVariants.{Settle, Look}
+use Rattle.std.proofs.Common.{◌∙◌, ◌+◌, ap, refl, sym, min, take, false, true}
+use Rattle.sg_machine.specs.declared.event.Act.TheVariants.{Settle}
 use Rattle.sg_offers.specs.Rooms.{seen_in}
 use Rattle.sg_sinks.specs.Fitting.{space}
 use Rattle.sg_sinks.specs.States.{with_broken}
 use Rattle.sg_list.specs.Lists.{change}
 use Rattle.sg_standing.specs.States.{CoreState}
 use Rattle.sg_core.proofs.AtSteps.{quiet-look}
-use Rattle.sg_core.proofs.SettleCalls.{settle-does, settled_sinks}
-use Rattle.sg_core.proofs.SettleParts.{seen-there, can-at, can-left, left-at, settling-is, lengths-is, can-ack, can-take, worked, never-fails, broken-first, broken-then, still-there}
+use Rattle.sg_core.proofs.SettleParts.{seen-there, can-at, can-left, left-at, lengths-is, can-ack, can-take, still-there}
 use Rattle.sg_core.proofs.Whole.{whole-still}
 use Rattle.sg_core.proofs.SettleTurn.{SettleTurn, turn-does, turn-can, turn-fails, turn-works, turn-buffer}
 use Rattle.sg_core.proofs.flow.Core.settle.Goals as goal

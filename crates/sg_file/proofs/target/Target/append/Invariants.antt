@@ -3,4 +3,4 @@ use Rattle.sg_file.specs.Target.{KeepsTarget}
 use Rattle.sg_file.proofs.target.Target.append.Given as goal
 
 abbrev pub invariant-loop : goal.invariant-loop
-invariant-loop l = (l.done ≤ length l.bytes) × KeepsTarget l.initial.self l.self × (l.self.end ≡ l.initial.self.end)
+invariant-loop l = (l.piece.count ≤ length l.bytes) × KeepsTarget l.initial.self l.self

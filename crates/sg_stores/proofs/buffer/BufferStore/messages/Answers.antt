@@ -6,7 +6,7 @@ returns-in-Ok-clause-reads g c =
     rw (← c.self.view_is, c.new.ensures) (
       (rw (← c.self.view_is) at c.requires.works),
       c.in-Ok.ensures.number,
-      messages-first g.D.Disk.state c.self.inside.failed c.self.inside.spool c.args.n c.in-Ok.messages.items c.in-Ok.ensures.messages,
+      messages-first c.first_messages_are_kept.ensures g.D.Disk.state c.self.inside.failed c.self.inside.spool c.args.n c.in-Ok.messages.items c.in-Ok.ensures.messages,
     )
 
 pub returns-in-Ok-clause-stays : goal.returns-in-Ok-clause-stays

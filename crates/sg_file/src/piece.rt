@@ -1,0 +1,51 @@
+// What one append has put into a file.
+ghost use Rattle.std.specs.Prelude.{◌≡◌, ◌+◌, ◌≤◌, ◌<◌, ◌^◌};
+
+/// The bytes that the writes of one append have put into a file, and the place behind them. They are one
+/// piece where nobody else has appended between two of the writes.
+#[derive(Clone, Copy, Debug, Drop)]
+pub(crate) struct Piece {
+    pub(crate) count: usize,
+    /// The place behind the last write's bytes.
+    pub(crate) end: u64,
+    // Whether all bytes are one piece that ends there.
+    single: bool,
+}
+
+impl Piece {
+    /// No bytes yet.
+    pub(crate) fn new() -> Piece
+        ensures { result.count ≡ 0 }
+    {
+        Piece {
+            count: 0,
+            end: 0,
+            single: true,
+        }
+    }
+
+    /// A write has put so many bytes more there, and stands behind them at this place, where the system
+    /// tells one.
+    pub(crate) fn add(&mut self, count: usize, place: Option<u64>)
+        requires { self.old.count + count < 2 ^ 64 }
+        ensures { self.new.count ≡ self.old.count + count }
+    {
+        match place {
+            Some(place) if count as u64 <= place => {
+                let begin = place - count as u64;
+                self.single = self.single && (self.count == 0 || self.end == begin);
+                self.end = place;
+            }
+            _ => self.single = false,
+        }
+        self.count += count;
+    }
+
+    /// The place behind the first `keep` bytes, where all are one piece.
+    pub(crate) fn end_of(&self, keep: usize) -> Option<u64> {
+        if !self.single || keep > self.count || self.count == 0 {
+            return None;
+        }
+        self.end.checked_sub((self.count - keep) as u64)
+    }
+}
