@@ -59,11 +59,19 @@ THREE = "".join(
         *("log { source(s); filter(f_%s); destination(d_%s); flags(flow-control); };\n" % (name, name) for name in ("auth", "error", "late")),
     ]
 )
+COLUMNS = 'parser p { csv-parser(columns("A", "B", "C", "D", "E", "F", "G", "H", "I", "J") delimiters(",") flags(drop-invalid)); };\n'
+PICKED = 'destination d { file("out" template("${J} ${B} ${D}\\n")); };\nlog { source(s); parser(p); destination(d); flags(flow-control); };\n'
 # Records of each of eight facilities to a file of its own.
 APART = "".join(
     'filter f_%d { facility(local%d); };\ndestination d_%d { file("out%d" template("$DATE $HOST $MSGHDR$MSG\\n")); };\n'
     "log { source(s); filter(f_%d); destination(d_%d); flags(flow-control); };\n" % ((k,) * 6)
     for k in range(8)
+)
+
+# A file for each host.
+HOSTS = (
+    'destination d { file("$HOST.log" template("$DATE $HOST $MSGHDR$MSG\\n")); };\n'
+    "log { source(s); destination(d); flags(flow-control); };\n"
 )
 
 
@@ -87,9 +95,19 @@ def mixed(k, length):
     return filled(b"<%d>Oct 11 22:14:15 mymachine %s[%d]: record %d %s " % (pri, program, k % 1000, k, event), length)
 
 
+def columns(k, length):
+    """Ten columns, one of them in quotes."""
+    return filled(b'<34>Oct 11 22:14:15 mymachine web: 10.0.0.%d,-,ann,2003,"GET /a,b",200,%d,-,curl,record %d ' % (k % 256, k, k), length)
+
+
 def local(k, length):
     """Of each eight records one has each of the facilities local0 to local7, so each of eight connections has one of them."""
     return filled(b"<%d>Oct 11 22:14:15 mymachine su[7]: record %d " % ((16 + k % 8) * 8 + 6, k), length)
+
+
+def hosted(k, length):
+    """Of each hundred records one is of each of a hundred hosts."""
+    return filled(b"<34>Oct 11 22:14:15 host%02d su[7]: record %d " % (k % 100, k), length)
 
 
 def counted(k, length):
@@ -115,6 +133,10 @@ def of_local(count):
     return {"out%d" % k: (count + 7 - k) // 8 for k in range(8)}
 
 
+def of_hosts(count):
+    return {"host%02d.log" % k: (count + 99 - k) // 100 for k in range(100)}
+
+
 class Job:
     """`wanted` is how many times syslog-ng's rate the job is to reach."""
 
@@ -127,6 +149,8 @@ JOBS = [
     Job("plain file", 2, plain, PLAIN + COPY % "$MSG"),
     Job("parsed file", 2, bsd, PARSED + COPY % "$DATE $HOST $MSGHDR$MSG"),
     Job("filters", 1, mixed, PARSED + THREE, of_mixed),
+    Job("columns", 2, columns, PARSED + COLUMNS + PICKED),
+    Job("100 hosts", 2, hosted, PARSED + HOSTS, of_hosts),
     Job("tcp 1", 1, bsd, TCP % (1, PULLS) + COPY % "$DATE $HOST $MSGHDR$MSG", connections=1),
     Job("tcp 8", 1, bsd, TCP % (8, PULLS) + COPY % "$DATE $HOST $MSGHDR$MSG", connections=8),
     Job("apart, tcp 1", 1, local, TCP % (1, PULLS) + APART, of_local, connections=1),

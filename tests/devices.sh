@@ -143,6 +143,7 @@ mkdir small
 if mount -t tmpfs -o size=16k none small 2>/dev/null; then
     mounted=yes
     head -c 9000 /dev/zero >small/filler
+    rm -f more
     mkfifo more
     timeout 20 "$program" lines small/out <more >said 2>told &
     exec 3>more

@@ -52,6 +52,13 @@ for name in ["SOURCE", "LISTENER", "DESTINATION", "WRITER", "SENDER", "FRAMED", 
     expect(f"options {name} in MIGRATION.md", [o for o in options if f"`{o}`" not in migration])
     expect(f"options {name} in syslogr.conf.5", [o for o in options if not re.search(rf"(?<![\w-]){o}(?![\w-])", page5)])
 
+parsers = "crates/sg_parse_obj/src/parsers.rt"
+for name in ["PARSERS", "CSV", "KV"]:
+    options = words(table(parsers, name))
+    expect(f"{name} of parsers in CONFIGURATION.md", [o for o in options if f"`{o}(" not in configuration])
+    expect(f"{name} of parsers in MIGRATION.md", [o for o in options if f"`{o}" not in migration])
+    expect(f"{name} of parsers in syslogr.conf.5", [o for o in options if not re.search(rf"(?<![\w-]){o}(?![\w-])", page5)])
+
 # what is said to be without effect is
 ignored = set(words(table(objects, "WITHOUT_EFFECT")))
 skipped = re.findall(r'b"([^"]+)", Flat::Skipped', read(objects))
@@ -87,9 +94,55 @@ for line in re.findall(r'b"(usage: .*?|syslogr .*?)\\n"', say):
 hinted = set(" ".join(words(read("crates/sg_hint/src/words.rt").replace("\\\n", " "))).split())
 for name in ["SOURCE_DRIVERS", "SOURCE", "LISTENER", "DESTINATION", "WRITER", "SENDER", "FRAMED", "DISK", "GLOBAL", "WITHOUT_EFFECT"]:
     expect(f"words {name} in the hints", set(words(table(objects, name))) - hinted)
+for name in ["PARSERS", "CSV", "KV"]:
+    expect(f"words {name} of parsers in the hints", set(words(table(parsers, name))) - hinted)
 for path in ["filters.rt", "rewrites.rt", "form.rt", "class.rt"]:
     expect(f"words of {path} in the hints", {w for w in words(read(f"crates/sg_parse_expr/src/{path}")) if w.islower()} - hinted - {"yes", "on"})
 
+# those that fit a place are those of the parsers
+fitting = read("crates/sg_hint/src/fitting.rt").replace("\\\n", " ")
+ineffective = set(words(table(objects, "WITHOUT_EFFECT")))
+
+
+def fits(name):
+    return set(re.search(rf'const {name}: &\[u8\] =\s*b"(.*?)";', fitting, re.S).group(1).split())
+
+
+for name, tables in {
+    "FILE_SOURCE": ["SOURCE"],
+    "NETWORK_SOURCE": ["SOURCE", "LISTENER"],
+    "FILE_DESTINATION": ["DESTINATION", "WRITER"],
+    "NETWORK_DESTINATION": ["DESTINATION", "SENDER", "FRAMED"],
+    "SYSLOG_DESTINATION": ["DESTINATION", "SENDER"],
+    "DISK_BUFFER": ["DISK"],
+    "GLOBALS": ["GLOBAL"],
+    "DRIVERS": ["SOURCE_DRIVERS", "DESTINATION_DRIVERS"],
+    "PARSERS": ["PARSERS"],
+    "CSV": ["CSV"],
+    "KV": ["KV"],
+}.items():
+    parsers = name in ("PARSERS", "CSV", "KV")
+    taken = {word for each in tables for word in words(table("crates/sg_parse_obj/src/parsers.rt" if parsers else objects, each))}
+    expect(f"words of the hints in the place {name}", (taken ^ fits(name)) - ineffective)
+expect("source flags in the hints", set(flags) ^ fits("SOURCE_FLAGS"))
+expect("the hints name other words", set().union(*map(fits, re.findall(r"^const (\w+): &\[u8\]", fitting, re.M))) - hinted - {"template-escape"})
+
+# what goes in the place of what isn't supported stands in MIGRATION's rows of it, and the ranges in CONFIGURATION's
+remedies = read("crates/sg_notes/src/remedies.rt")
+rows = re.search(r'const REMEDIES: &\[u8\] =\s*b"(.*?)";', remedies, re.S).group(1).replace('\\"', '"').replace("\\\\", "\\")
+cells = [line.strip("| ").split(" | ") for line in migration.replace("\\|", "¦").splitlines() if line.startswith("| ")]
+for row in rows.split("\n"):
+    names, told = row.split("|", 1)
+    held = " ".join(cell[0] for cell in cells if len(cell) == 2 and cell[1] == told)
+    expect(f"remedy {told[:30]} in MIGRATION.md", [name for name in names.split() if not re.search(rf"(?<![\w-]){name}(?![\w-])", held)])
+for name in ["COMPARED", "VERSION", "QUOTED", "INCLUDED"]:
+    told = re.search(rf'const {name}: &\[u8\] =\s*b"(.*?)";', remedies).group(1)
+    expect(f"remedy {name} in MIGRATION.md", [told for _once in [0] if not any(len(cell) == 2 and cell[1] == told for cell in cells)])
+ranges = re.search(r'const RANGES: &\[u8\] =\s*b"(.*?)";', read("crates/sg_notes/src/ranges.rt"), re.S).group(1)
+for row in ranges.split("\n"):
+    names, told = row.split("|", 1)
+    if re.match(r"\d+ to [\d,]+$", told):
+        expect(f"range of {names} in CONFIGURATION.md", [name for name in names.split() if not re.search(rf"^\|[^|]*`{name}`[^|]*\| {re.escape(told)}", configuration, re.M)])
 
 
 def headings_of(path):

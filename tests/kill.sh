@@ -2,8 +2,9 @@
 # Kills runs over a growing file at moments of chance, twenty of them before they ended, and runs once more: then each line stands in
 # the destination file, in order of its first time there, and the stores open. A line may stand there twice, and a kill may leave the
 # beginning of one. It does so with a queue in memory, and with a disk-buffer.
+#   tests/kill.sh [PROGRAM]
 top=$(cd "$(dirname "$0")/.." && pwd)
-program=$top/crates/sg_top/out/sg_top
+program=${1:-$top/crates/sg_top/out/sg_top}
 [ -x "$program" ] || { echo "kill: there is no program $program: \`./syslogr --prove\` makes it, and so does \`.ci/run\`"; exit 2; }
 folder=$(mktemp -d) || exit 2
 trap 'rm -rf "$folder"' EXIT

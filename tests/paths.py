@@ -16,6 +16,7 @@ TOP = os.path.dirname(os.path.dirname(os.path.abspath(__file__)))
 CRATE = os.path.join(TOP, "crates", "test_paths")
 PROGRAM = os.path.join(CRATE, "out", "test_paths")
 LETTERS = "azob"
+COLUMNS = ["MESSAGE", "MESSAGE,B", "B,MESSAGE", "A,B,MESSAGE"]
 FLAGS = [("f", 0.3), ("b", 0.2), ("w", 0.2), ("d", 0.15)]
 
 
@@ -44,9 +45,11 @@ class Making:
     def element(self, depth):
         self.left -= 1
         letter, other = self.chance.choice(LETTERS), self.chance.choice(LETTERS)
-        kind = self.chance.choice(["has", "is", "set", "when"] + ["to"] * 5 + (["junction", "if"] * 2 if depth > 0 else []))
+        kind = self.chance.choice(["has", "is", "set", "when", "columns"] + ["to"] * 5 + (["junction", "if"] * 2 if depth > 0 else []))
         if kind == "is":
             return (kind, self.chance.randint(0, 1))
+        if kind == "columns":
+            return (kind, self.chance.choice(COLUMNS))
         if kind == "when":
             return (kind, letter, other + self.chance.choice(LETTERS))
         if kind == "to":
@@ -103,6 +106,11 @@ def walk(elements, logs, text, flow):
         kind = element[0]
         if kind == "has" and element[1] not in text or kind == "is" and "az"[element[1]] not in text:
             return given, [], False
+        if kind == "columns":
+            names, fields = element[1].split(","), text.split(",")
+            if len(names) != len(fields):
+                return given, [], False
+            text = fields[names.index("MESSAGE")]
         if kind == "set":
             text = element[1]
         if kind == "when" and element[1] in text:
@@ -170,7 +178,7 @@ def row(chance):
     while True:
         tops = Making(chance, chance.randint(1, 30)).tops()
         found = [reach(one["elements"], one["logs"], 1) for one in tops]
-        records = ["".join(chance.choice(LETTERS) for _ in range(chance.choice([0, 1, 2, 3, 3, 4, 4]))) for _ in range(8)]
+        records = ["".join(chance.choice(LETTERS * 2 + ",,") for _ in range(chance.choice([0, 1, 2, 3, 3, 4, 4]))) for _ in range(8)]
         answers = [answer(tops, record) for record in records]
         if any(answers) and sum(one[0] for one in found) <= 1024 and all(one[2] <= 1024 for one in found):
             break

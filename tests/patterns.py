@@ -58,7 +58,7 @@ def nested(size):
     return head + " or ".join(parts) + tail
 
 
-# A row: its name, the configuration, whether it is run as well, the most MB, and what is said of it.
+# A row: its name, the configuration, whether it is run as well, the most MB, and a line of what is said of it.
 ROWS = [
     ("1,000 ordinary patterns", filters(ordinary(1000)), True, 100, "c: ok"),
     ("one pattern 1,000 times", filters([r"message('user=(\w+) id=17 ')"] * 1000), True, 50, "c: ok"),
@@ -67,13 +67,13 @@ ROWS = [
 ]
 
 
-def most(program, folder, words, lines=0):
-    """The most memory of a run in MB, and what it said. With LINES it is a run that is ended when so many were written."""
-    with open(os.path.join(folder, "said"), "w+b") as said:
-        run = subprocess.Popen([program, *words], cwd=folder, stdout=said, stderr=said)
-        _, _, used = os.wait4(run.pid, 0)
-        said.seek(0)
-        return used.ru_maxrss / 1000, said.read().decode(errors="replace").strip()
+def most(program, folder, words):
+    """The most memory of a run in MB, as /usr/bin/time (GNU) tells it, and what it said."""
+    figures = os.path.join(folder, "figures")
+    command = ["/usr/bin/time", "-o", figures, "-f", "%M", program, *words]
+    said = subprocess.run(command, cwd=folder, stdout=subprocess.PIPE, stderr=subprocess.STDOUT).stdout
+    with open(figures) as lines:
+        return int(lines.read().split()[-1]) / 1000, said.decode(errors="replace").strip()
 
 
 def look_at(program, config, runs):
@@ -100,7 +100,7 @@ def main():
         if wanted is None:
             right = "pattern too large" in said
         else:
-            right = said == wanted
+            right = wanted in said.split("\n")
         wrong = [word for word, bad in (("MEMORY", max(checked, ran) > bound), ("ANSWER", not right)) if bad]
         good = good and not wrong
         print("%-28s %8.0f %8.0f %8.1f  %s %s" % (name, checked, ran, time.monotonic() - start, said.split("\n")[0][:60], " ".join(wrong)))

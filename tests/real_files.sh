@@ -92,13 +92,13 @@ config sub/a_b.log out >c0
 expect 'a source in a folder' 0 "$(report 1 4 1 0 '' 0)" 'one\n' run c0 --once
 [ -e pos-sub_2fa_5fb.log ] || { failed=$((failed + 1)); echo 'a source in a folder: its store has another name'; }
 printf '# x\n' >bad
-told='bad:1: version not supported\n   # x\n'
+told='bad:1: version not supported\n   # x\n   instead of `@version: 3.N`: `@version: 4.2`\n'
 expect 'a text without a version' 2 'bad:1: version not supported\n' - run bad --once
 printf '@version: 3.38\n' >bad
-told='bad:1:1: version not supported\n   @version: 3.38\n   ^\n'
+told='bad:1:1: version not supported\n   @version: 3.38\n   ^\n   instead of `@version: 3.N`: `@version: 4.2`\n'
 expect 'an older version' 2 'bad:1: version not supported\n' - run bad --once
 printf '@version: 4.2\n@include "conf.d/*.conf"\n' >bad
-told='bad:2:1: not supported\n   @include "conf.d/*.conf"\n   ^\n'
+told='bad:2:1: not supported\n   @include "conf.d/*.conf"\n   ^\n   instead of `@include`: each file by its name\n'
 expect 'an include of many files' 2 'bad:2: not supported\n' - run bad --once
 printf '@version: 4.2\n' >bad
 expect 'a configuration of no statements' 0 'status 0\n' - run bad --once
@@ -113,7 +113,7 @@ printf '@version: 4.2\n@include "part"\n' >bad
 told='part:3:3: string not closed\n     "\n     ^\n'
 expect 'a fault in an included file' 2 'part:3: string not closed\n' - run bad --once
 printf '@version: 4.2\n@include "none"\n' >bad
-told='file none: cannot open: No such file or directory (os error 2)\n'
+told='file none: cannot open: No such file or directory (os error 2)\nbad:2:1: note: it is included here\n   @include "none"\n   ^\n'
 expect 'an included file that is missing' 3 'cannot read none\n' - run bad --once
 cat >sub/blocks.conf <<'END'
 # what a source and a destination are made of
@@ -167,12 +167,15 @@ waits() {
 }
 told=$(waits t 1257 20100)
 expect 'a configuration is checked' 0 't: ok\n' - check t
+drivers='# destination 0 is d: file("out" template("$MSG\\n"))\n'
+told="$drivers"'# destination 1 is network("h" port(1) template("$PRI\\n"))\n'
 expect 'a file is traced' 0 'record 0 destination 0 flow yes length 4\none\n\nrecord 0 destination 1 flow no length 3\n11\n\nrecord 1 destination 1 flow no length 3\n12\n\n' - trace t s in
 expect 'a source without a driver' 2 't:0: unknown name\n' - trace t d in
-told='source missing: cannot open: No such file or directory (os error 2)\n'
+told="$drivers"'# destination 1 is network("h" port(1) template("$PRI\\n"))\nsource missing: cannot open: No such file or directory (os error 2)\n'
 expect 'no file to trace' 4 'cannot open inlet 0\n' - trace t s missing
 printf '@version: 4.2\nsource s { file("in" flags(no-parse)); };\ndestination d { file("out" template("$MSG\\n")); };\nlog { source(s); junction { channel { rewrite { set("x" value("MESSAGE")); }; }; channel { filter { message("o"); }; }; }; destination(d); };\n' >t
 printf 'one\n' >in
+told=$drivers
 expect 'each channel of a junction has a copy' 0 'record 0 destination 0 flow no length 2\nx\n\nrecord 0 destination 0 flow no length 4\none\n\n' - trace t s in
 printf '@version: 4.2\nsource s { file("in"); };\nlog { source(s); filter(none); };\n' >bad
 told='bad:3:25: unknown name\n   log { source(s); filter(none); };\n                           ^\n'
@@ -190,16 +193,16 @@ hint() {
     printf '\\n'
     [ -z "$3" ] || printf '%*s^\\n' $((3 + $3 - 1)) ''
 }
-# what `check` says of the first configuration, changed by sed, and at which column of its line that is
-while IFS='~' read -r change status text column; do
+# what `check` says of the first configuration, changed by sed, at which column of its line that is, and the note behind it
+while IFS='~' read -r change status text column note; do
     sed "$change" c >changed
-    if [ "$status" = 0 ]; then told=$(waits changed 632 10100); else told=$(hint changed "$text" "$column"); fi
+    if [ "$status" = 0 ]; then told=$(waits changed 632 10100); else told=$(hint changed "$text" "$column"; [ -z "$note" ] || printf '   note: %s\\n' "$note"); fi
     expect "changed by $change" "$status" "changed$text\n" - check changed
 done <<'END'
 4s/source(s)/source(x)/~2~:4: unknown name~14
 4s/flow-control/drop-unmatched/~0~: ok
-2s/no-parse)/no-parse) log-iw-size(0)/~2~:2: value out of range~50
-3s/file(.*));/network("h");/~2~:3: option missing~17
+2s/no-parse)/no-parse) log-iw-size(0)/~2~:2: value out of range~50~log-iw-size takes 1 to 100,000
+3s/file(.*));/network("h");/~2~:3: option missing~17~port(514) goes into its parentheses: it has no default
 4s/;/; filter { match("a(" value("MESSAGE")); };/~2~:4: pattern not valid~33
 4s/;/; rewrite { set("1" value("PRI")); };/~2~:4: macro cannot be set~28
 $a filter f { filter(f); };~2~:5: filter refers to itself~8
@@ -225,22 +228,46 @@ log { source(s_src); filter(f_syslog); destination(d_syslog); };
 log { source(s_src); filter(f_error); destination(d_error); };
 END
 : >scl.conf
-told=$(waits dist 1938 31000)
+# warned FILE LINE COLUMN WORDS TEXT: a warning as a printf format
+warned() {
+    printf '%s:%s:%s: warning: %s\\n   %s\\n   %*s\\n' "$1" "$2" "$3" "$4" "$5" "$3" '^'
+}
+# what is told of its options without effect, under this name
+warned_of_options() {
+    names='  use_fqdn(no); dns_cache(no); owner("root"); group("adm");'
+    warned "$1" 4 32 'owner has no effect here' "$names"
+    warned "$1" 4 47 'group has no effect here' "$names"
+    warned "$1" 5 31 'bad_hostname has no effect here' '  perm(0640); stats(freq(0)); bad_hostname("^gconfd$"); };'
+}
+told=$(waits dist 1938 31000; warned_of_options dist)
 expect 'a usual distribution file' 0 'dist: ok\n' - check dist
 cp "$top/examples/debian/syslogr.conf" "$top/examples/debian/in.log" .
-told=$(waits syslogr.conf 8257 132100)
+# unused FILE KIND: the warnings of the statements of this kind, each at the front of a line, that no other line names
+unused() {
+    grep -n "^$2 " "$1" | while IFS=: read -r number text; do
+        statement=$(printf '%s' "$text" | cut -d' ' -f2)
+        grep -v '^ *#' "$1" | grep -q "$2($statement)" || warned "$1" "$number" $((${#2} + 2)) "no statement uses $2 \`$statement\`" "$text"
+    done
+}
+told=$(waits syslogr.conf 8257 132100
+    warned syslogr.conf 19 26 'owner has no effect here' '          dns_cache(no); owner("root"); group("adm"); perm(0640);'
+    warned syslogr.conf 19 41 'group has no effect here' '          dns_cache(no); owner("root"); group("adm"); perm(0640);'
+    warned syslogr.conf 20 27 'bad_hostname has no effect here' '          stats(freq(0)); bad_hostname("^gconfd$");'
+    unused syslogr.conf filter)
 expect 'the configuration of Debian, converted' 0 'syslogr.conf: ok\n' - check syslogr.conf
 accepted='Nov 28 06:00:00 web sshd[42]: Accepted publickey for root\n'
 cron='Nov 28 06:00:01 web CRON[7]: (root) CMD (true)\n'
 error='Nov 28 06:00:02 web app: failed 3 times\n'
 debug='Nov 28 06:00:03 web app: 7 rows\n'
+told=$(sed -n 's/^destination \([a-z_]*\) { \(file(.*)\); };$/\1: \2/p' syslogr.conf | awk '{ gsub(/[\\%]/, "&&"); printf "# destination %d is %s\\n", NR - 1, $0 }')
 expect 'what becomes of records there' 0 "record 0 destination 0 flow yes length 58\n$accepted\nrecord 1 destination 1 flow no length 47\n$cron\nrecord 1 destination 6 flow no length 47\n$cron\nrecord 2 destination 2 flow no length 40\n$error\nrecord 2 destination 6 flow no length 40\n$error\nrecord 2 destination 10 flow no length 40\n$error\nrecord 3 destination 9 flow no length 32\n$debug\n" - trace syslogr.conf s_src in.log
 # a configuration whose log statement stands there as often as its first word says
 repeated() {
     config in out | awk -v times="$1" '{ for (k = 0; k < (/^log/ ? times : 1); k++) print }'
 }
 repeated 1024 >many
-told=$(waits many 632 10100)
+twice='an earlier log statement of the same source delivers the same records here, without `final`'
+told=$(waits many 632 10100; for k in $(seq 5 54); do warned many $k 30 "$twice" 'log { source(s); destination(d); flags(flow-control); };'; done; printf 'there are more warnings\\n')
 expect '1,024 deliveries' 0 'many: ok\n' - check many
 repeated 1025 >many
 told='many:1028:1: too many offers\n   log { source(s); destination(d); flags(flow-control); };\n   ^\n'
@@ -358,6 +385,7 @@ again 'and more of them' 0 "$(report 1 8 1 0 '' 0)" "$(seq -f '%04g' 1 1300)\non
 [ "$(stat -c %a id-in)" = 600 ] && passed=$((passed + 1)) || { failed=$((failed + 1)); echo 'the mode of a mark'; }
 # A mark that isn't there, or isn't one: the stored position stands. A trace makes none.
 rm id-in
+told=$drivers
 expect 'a trace beside a store' 0 'record 0 destination 0 flow yes length 4\none\n\nrecord 1 destination 0 flow yes length 4\ntwo\n\n' - trace c s in
 [ ! -e id-in ] && passed=$((passed + 1)) || { failed=$((failed + 1)); echo 'a trace made a mark'; }
 printf 'one\ntwo\n' >in
@@ -433,8 +461,14 @@ list() {
 }
 
 list 'an empty disk-buffer' '' 0 'entries 0\n'
+about0='# entry 0 1970-01-01T00:00:00+00:00  : one\n'
+told="$about0"'# entry 1 1970-01-01T00:00:00+00:00  : \n'
 list 'a disk-buffer' "$entry1$entry2" 0 "${listed}entry 1 source 2 end 9223372036854775807 flow no length 43\nentries 2\n"
+told=$about0
 list 'a payload that is no entry' "$entry1\1\0\0\0\2ab" 5 "${listed}store 0 damaged at 116\n"
+told=$about0'# found at 123 1970-01-01T00:00:00+00:00  : \n'
+list 'an entry behind a damage' "$entry1\1\0\0\0\2ab$entry2" 5 "${listed}store 0 damaged at 116\n"
+told='# found at 64 1970-01-01T00:00:00+00:00  : one\n'
 list 'a gate that leads nowhere' "$entry1\1\0\1\0\0" 5 'store 0 damaged at 116\n'
 ulimit -S -v 400000
 list 'an entry of 1 GiB that is not there' '\1\100\0\0\0\2ab' 5 'store 0 damaged at 64\n'
@@ -544,6 +578,7 @@ cp "$top/examples/blocks/copy.conf" "$top/examples/blocks/blocks.conf" "$top/exa
 full='2026-02-05T17:32:18+01:00 app: disk is full\n'
 told=$(waits examples/first/errors.conf 632 10100)
 expect 'the first example is checked' 0 'examples/first/errors.conf: ok\n' - check examples/first/errors.conf
+told='# destination 0 is d: file("examples/first/out.log" template("$ISODATE $PROGRAM: $MSG\\n"))\n'
 expect 'the first example is traced' 0 "record 0 destination 0 flow yes length 44\n$full\n" - trace examples/first/errors.conf s examples/first/in.log
 expect 'the first example is run' 0 'source 0 records 2 bad-frames 0 position 98\ndestination 0 taken 1 dropped-full 0 dropped-disk 0 left 0\nstatus 0\n' - run examples/first/errors.conf --once
 same 'what the first example writes' "$full" examples/first/out.log
@@ -554,7 +589,54 @@ first="$(date -u +%Y)-02-05T18:32:18+01:00 web sshd: failed N times\n"
 second='<11>Feb  5 18:32:18 localhost sshd[42]: failed 3 times\n'
 third='<14>Feb  5 18:32:19 localhost app: started\n'
 fourth='Feb  5 18:32:20 localhost app: 7 rows\n'
+told='# destination 0 is d_errors: file("errors.log" template(t_plain))\n# destination 1 is d_all: network("10.0.0.1" port(514) disk-buffer(reliable(yes) disk-buf-size(2097152)))\n# destination 2 is file("debug.log")\n'
 expect 'the example with log paths' 0 "record 0 destination 0 flow yes length 51\n$first\nrecord 0 destination 1 flow no length 55\n$second\nrecord 1 destination 1 flow no length 43\n$third\nrecord 2 destination 2 flow no length 38\n$fourth\n" - trace "$top/examples/trace/paths.conf" s_local "$top/examples/trace/in.log"
+told='# destination 0 is d_users: file("users.log" template("${access.USER} ${access.URL}\\n"))\n# destination 1 is d_jobs: file("jobs.log" template("${job.name} took ${job.seconds}\\n"))\n'
+expect 'the example with parsers' 0 'record 0 destination 0 flow no length 12\nann /a page\n\nrecord 3 destination 1 flow no length 21\nnightly copy took 12\n\n' - trace "$top/examples/parsers/access.conf" s_local "$top/examples/parsers/in.log"
+
+# Files that messages name: where one can't be written the messages before it are taken, and it waits with those behind it.
+named() {
+    printf '@version: 4.2\noptions { keep-hostname(yes); };\nsource s { file("in"); };\ndestination d { file("%s" template("$MSG\\n")); };\nlog { source(s); destination(d); flags(flow-control); };\n' "$1"
+}
+of_hosts() {
+    for host in "$@"; do
+        printf '<13>Oct 11 22:14:15 %s app: of %s\n' $host $host
+    done
+}
+rm -rf named out pos-* id-*
+mkdir -p named/one
+named 'named/$HOST/log' >c4
+of_hosts one none one >in
+lacks='destination named/none/log: cannot open: No such file or directory (os error 2)\n'
+told="$lacks$lacks$lacks"
+expect 'a folder that a message lacks' 6 "$(report 3 36 1 2 'fault sink 0\n' 6)" - run c4 --once
+same 'the file before it' 'of one\n' named/one/log
+mkdir named/none
+again 'once the folder is there' 0 "$(report 2 110 2 0 '' 0)" - run c4 --once
+same 'the file that lacked it' 'of none\n' named/none/log
+same 'the file before and behind it' 'of one\nof one\n' named/one/log
+if [ -w /dev/full ]; then
+    named '/dev/$HOST' >c4
+    of_hosts null full null >in
+    told='destination /dev/full: cannot write: No space left on device (os error 28)\n'
+    expect 'a full disk that a message names' 6 "$(report 3 38 1 2 'fault sink 0\n' 6)" - run c4 --once
+fi
+rm -rf named pos-* id-*
+
+# A file for each host and day, and one for each program: folders are made with their mode, and no host leaves its folder.
+mkdir -p examples/hosts
+cp "$top/examples/hosts/hosts.conf" "$top/examples/hosts/in.log" examples/hosts
+expect 'the example with hosts' 0 'source 0 records 5 bad-frames 0 position 281\ndestination 0 taken 5 dropped-full 0 dropped-disk 0 left 0\ndestination 1 taken 2 dropped-full 0 dropped-disk 0 left 0\nstatus 0\n' - run examples/hosts/hosts.conf --once
+hosts=examples/hosts/out
+same 'a host on a day' '2026-02-05T17:32:18+00:00 app: 7 rows\n2026-02-05T17:32:20+00:00 app: disk is full\n' $hosts/web/2026-02-05.log
+same 'a host on the next day' '2026-02-06T00:00:01+00:00 app: 8 rows\n' $hosts/web/2026-02-06.log
+same 'another host' '2026-02-05T17:32:19+00:00 postfix: queue is empty\n' $hosts/mail/2026-02-05.log
+same 'a host that would leave its folder' '2026-02-06T00:00:02+00:00 cron: a host that would like to leave\n' $hosts/_._.._etc/2026-02-06.log
+same 'a program' '2026-02-05T17:32:20+00:00 app: disk is full\n' $hosts/errors-app.log
+[ "$(stat -c %a $hosts/web)" = 750 ] && passed=$((passed + 1)) || { failed=$((failed + 1)); echo 'the mode of a folder'; }
+head -1 examples/hosts/in.log >examples/hosts/one.log
+told='# destination 0 is d_hosts: file("examples/hosts/out/$HOST/$YEAR-$MONTH-$DAY.log" template(t_line) create-dirs(yes) dir-perm(0750))\n# destination 1 is d_errors: file("examples/hosts/out/errors-${PROGRAM:-none}.log" template(t_line) create-dirs(yes))\n'
+expect 'the path of a message' 0 'record 0 destination 0 flow yes path examples/hosts/out/web/2026-02-05.log length 38\n2026-02-05T17:32:18+00:00 app: 7 rows\n\n' - trace examples/hosts/hosts.conf s_all examples/hosts/one.log
 
 # Two sources, three destinations and filters.
 rm -f pos-*
@@ -708,6 +790,7 @@ if command -v python3 >/dev/null; then
     rm -f out pos-*
     timeout 60 python3 peer.py send "$port" records &
     timeout 60 python3 peer.py give "$port" 9 0 &
+    told=$(warned_of_options here)
     again 'a distribution file runs' 0 'source 0 records 3 bad-frames 0\ndestination 0 taken 1 dropped-full 0 dropped-disk 0 left 0\ndestination 1 taken 1 dropped-full 0 dropped-disk 0 left 0\ndestination 2 taken 1 dropped-full 0 dropped-disk 0 left 0\nstatus 0\n' - run here --once
     same 'its auth.log' 'Feb  5 17:32:18 127.0.0.1 sshd[811]: Accepted\n' auth.log
     same 'its syslog' 'Feb  5 17:32:19 127.0.0.1 app: broken\n' syslog

@@ -1,10 +1,10 @@
 #!/bin/sh
 # Counts the system's calls that make things last, by strace: those that a store and a destination promise. It isn't part of the gate.
-#   tests/syncs.sh [PROGRAM]    the program, by default the one that is proved
+#   tests/syncs.sh [PROGRAM [DEVICES]]    the program and test_devices, by default those that are proved
 top=$(cd "$(dirname "$0")/.." && pwd)
 command -v strace >/dev/null || { echo 'strace is not installed'; exit 2; }
 program=${1:-$top/crates/sg_top/out/sg_top}
-devices=$top/crates/test_devices/out/test_devices
+devices=${2:-$top/crates/test_devices/out/test_devices}
 folder=$(mktemp -d) || exit 2
 trap 'rm -rf "$folder"' EXIT
 cd "$folder" || exit 2

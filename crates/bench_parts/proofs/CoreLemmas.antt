@@ -6,12 +6,13 @@ use Rattle.sg_machine.specs.declared.setup.BufferSetup.{BufferSetup}
 use Rattle.sg_machine.specs.declared.setup.DestSetup.{DestSetup}
 use Rattle.sg_machine.specs.declared.setup.Setup.{Setup}
 use Rattle.sg_machine.specs.declared.setup.SourceSetup.{SourceSetup}
-use Rattle.sg_counter.specs.Bringing.{AllWithin, AllMayEnter, IsBatch, store_in}
+use Rattle.sg_counter.specs.Bringing.{AllMayEnter, IsBatch, store_in}
 use Rattle.sg_core.specs.Opening.{NumberStores, HaveCapacities, buffer_store_in}
 use Rattle.sg_sinks.specs.States.{SinkState}
 use Rattle.sg_standing.specs.States.{CoreState}
 use Rattle.sg_standing.specs.declared.source.Source.{Source}
 use Rattle.bench_parts.specs.Cores.{measured, spooled, IsMeasured}
+use Rattle.sg_msg.specs.Offers.{AllWithin}
 
 no-source-store : (b : Option BufferSetup) (i s : ℕ) → store_in (measured b).sources i ≡ Some s → ⊥
 no-source-store b zero s p = let wrong : None ≡ Some s = p in cc

@@ -1,7 +1,8 @@
 // Records that are admitted and settled, turn after turn.
 ghost use Rattle.std.specs.Prelude.{◌≡◌, ◌≤◌, ◌<◌, ◌+◌, ◌^◌, IfOk, OnOk, length};
-ghost use Rattle.sg_counter.specs.Bringing.{AllWithin, AllMayEnter};
+ghost use Rattle.sg_counter.specs.Bringing.{AllMayEnter};
 ghost use Rattle.bench_parts.specs.Cores.{IsMeasured};
+ghost use Rattle.sg_msg.specs.Offers.{AllWithin};
 
 use crate::cores::{buffered, queued};
 use sg_core::Core;

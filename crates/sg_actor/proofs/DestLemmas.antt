@@ -9,11 +9,11 @@ use Rattle.sg_counter.specs.Exchanges.{Exchange}
 use Rattle.sg_counter.specs.declared.calls.CoreCall.{CoreCall}
 use Rattle.sg_counter.specs.declared.calls.CoreReply.{CoreReply}
 use Rattle.sg_actor.specs.Rendering.{frames_by}
-use Rattle.sg_actor.specs.Outages.{HasFailures, Takes, Waits, is_idle, Begins}
-use Rattle.sg_actor.specs.DestTurns.{shown_in, has_shown, Delivers, Tells, SendsWith, SendsBy, SendsTurn}
-use Rattle.sg_actor.specs.Delivering.{FrontGives}
+use Rattle.sg_actor.specs.Outages.{HasFailures, TakesFrames, Waits, is_idle, BeginsTurn}
+use Rattle.sg_actor.specs.DestTurns.{shown_in, has_shown, DeliversFront, TellsDest, SendsWith, SendsByCause, SendsTurn}
+use Rattle.sg_actor.specs.Delivering.{FrontTurnGives}
 use Rattle.sg_actor.specs.declared.outage.Outage.{Outage}
-use Rattle.sg_actor.specs.declared.outage.Begun.TheVariants.{Open, Reopened, Later, Failed}
+use Rattle.sg_actor.specs.declared.outage.BegunTurn.TheVariants.{Open, Reopened, Later, Failed}
 use Rattle.sg_actor.specs.declared.rendering.DestSpec.{DestSpec}
 use Rattle.sg_actor.specs.declared.turned.GivenUp.{GivenUp}
 use Rattle.sg_actor.specs.declared.turned.Turned.{Turned}
@@ -25,7 +25,7 @@ none-of None h = refl
 none-of (Some c) h = absurd (let differ : true ≡ false = h in cc)
 
 by-none : {S : Type 0} (cause : Option GivenUp) (spec : DestSpec) (step : S → CoreCall → CoreReply → S → Type 0) (counter counter' : S) (old new : Outage) (drain drain' : OutletState) (result : Result Turned AllocError) (made : List Exchange) (taken : ℕ) (refused : Bool)
-    → cause ≡ None → SendsWith {E = AllocError} spec step counter counter' old new drain drain' result made taken refused → SendsBy {E = AllocError} cause spec step counter counter' old new drain drain' result
+    → cause ≡ None → SendsWith {E = AllocError} spec step counter counter' old new drain drain' result made taken refused → SendsByCause {E = AllocError} cause spec step counter counter' old new drain drain' result
 by-none None spec step counter counter' old new drain drain' result made taken refused is h = (made, (taken, (refused, h)))
 by-none (Some c) spec step counter counter' old new drain drain' result made taken refused is h = absurd (let differ : Some c ≡ None = is in cc)
 
@@ -59,7 +59,7 @@ unshown-by false idle h i = refl
 
 -- it is too early
 pub send-later : {S : Type 0} (spec : DestSpec) (step : S → CoreCall → CoreReply → S → Type 0) (counter : S) (old new : Outage) (drain drain' : OutletState)
-    → old.given_up ≡ None → HasFailures old drain → Begins spec.gives_up old new drain drain' Later
+    → old.given_up ≡ None → HasFailures old drain → BeginsTurn spec.gives_up old new drain drain' Later
     → SendsTurn {E = AllocError} spec step counter counter old new drain drain' (Ok (record { did = false; idle = true }))
 send-later spec step counter old new drain drain' none failures begins =
     let more : drain'.laters ≡ drain.laters + 1 = ap (λ d. d.laters) begins.2 in
@@ -88,7 +88,7 @@ send-later spec step counter old new drain drain' none failures begins =
 
 -- it fails again
 pub send-failed : {S : Type 0} (spec : DestSpec) (step : S → CoreCall → CoreReply → S → Type 0) (counter : S) (old new : Outage) (drain drain' : OutletState)
-    → old.given_up ≡ None → Begins spec.gives_up old new drain drain' Failed
+    → old.given_up ≡ None → BeginsTurn spec.gives_up old new drain drain' Failed
     → SendsTurn {E = AllocError} spec step counter counter old new drain drain' (Ok (record { did = true; idle = false }))
 send-failed spec step counter old new drain drain' none begins =
     let same : drain'.laters ≡ drain.laters = begins.3 in
@@ -117,7 +117,7 @@ send-failed spec step counter old new drain drain' none begins =
 told-then : (xs : List (List ℕ)) (a b c : Option (List (List ℕ))) → b ≡ option_map (λ before. before ++ []) a → c ≡ option_map (λ before. before ++ xs) b → c ≡ option_map (λ before. before ++ xs) a
 told-then xs a b c first second = second ∙ ap (λ o. option_map (λ before. before ++ xs) o) (first ∙ sym (told-none a))
 
-takes-then : (k : ℕ) (frames : List (List ℕ)) (a b c : OutletState) → Takes 0 [] a b → Takes k frames b c → Takes k frames a c
+takes-then : (k : ℕ) (frames : List (List ℕ)) (a b c : OutletState) → TakesFrames 0 [] a b → TakesFrames k frames b c → TakesFrames k frames a c
 takes-then k frames a b c h m = record {
   told = told-then (take k frames) a.taken b.taken c.taken h.told m.told;
   rose = (let first : b.count ≡ a.count + 0 = h.rose in let second : c.count ≡ b.count + k = m.rose in omega arith);
@@ -128,8 +128,8 @@ rose-then : (a b c : ℕ) → a ≤ b → Rose b c → Rose a c
 rose-then a b c h rose = omega arith
 
 reopened-with : {S : Type 0} (spec : DestSpec) (step : S → CoreCall → CoreReply → S → Type 0) (counter counter' : S) (old mid new : Outage) (drain between drain' : OutletState) (found : Result Turned AllocError) (result : Result Turned AllocError)
-    → Begins spec.gives_up old mid drain between Reopened → (h : FrontGives {E = AllocError} spec step counter counter' new between drain' found) → is_ok found ≡ is_ok result
-    → Tells old new h.made h.taken drain drain' result
+    → BeginsTurn spec.gives_up old mid drain between Reopened → (h : FrontTurnGives {E = AllocError} spec step counter counter' new between drain' found) → is_ok found ≡ is_ok result
+    → TellsDest old new h.made h.taken drain drain' result
     → SendsWith {E = AllocError} spec step counter counter' old new drain drain' result h.made h.taken h.refused
 reopened-with spec step counter counter' old mid new drain between drain' found result begins h ok tells =
     let few = waits-few h.later between drain' h.waits in
@@ -138,7 +138,7 @@ reopened-with spec step counter counter' old mid new drain between drain' found 
       makes = h.makes;
       own = h.own;
       few = omega (arith, h.few);
-      delivers = subst (λ b. Delivers spec.dest h.taken drain'.count b h.made) ok h.delivers;
+      delivers = subst (λ b. DeliversFront spec.dest h.taken drain'.count b h.made) ok h.delivers;
       takes = takes-then h.taken (frames_by spec (shown_in h.made)) drain between drain' begins.2 h.takes;
       within = h.within;
       whole = (λ w r l. h.whole (ok ∙ w) r (sym later ∙ lt-no drain.laters drain'.laters (omega arith)));
@@ -152,7 +152,7 @@ reopened-with spec step counter counter' old mid new drain between drain' found 
     }
 
 pub send-reopened : {S : Type 0} (spec : DestSpec) (step : S → CoreCall → CoreReply → S → Type 0) (counter counter' : S) (old mid new : Outage) (drain between drain' : OutletState) (found : Turned)
-    → old.given_up ≡ None → Begins spec.gives_up old mid drain between Reopened → FrontGives {E = AllocError} spec step counter counter' new between drain' (Ok found)
+    → old.given_up ≡ None → BeginsTurn spec.gives_up old mid drain between Reopened → FrontTurnGives {E = AllocError} spec step counter counter' new between drain' (Ok found)
     → SendsTurn {E = AllocError} spec step counter counter' old new drain drain' (Ok (record { did = not found.idle; idle = found.idle }))
 send-reopened spec step counter counter' old mid new drain between drain' found none begins h =
     let turned : Turned = record { did = not found.idle; idle = found.idle } in
@@ -163,12 +163,12 @@ send-reopened spec step counter counter' old mid new drain between drain' found 
       empty = (λ d i. absurd (let differ : true ≡ false = ap not (sym i) ∙ d in cc));
     }))
 
-tells-err : (old new : Outage) (made : List Exchange) (taken : ℕ) (drain drain' : OutletState) (result : Result Turned AllocError) → IsErr result → Tells old new made taken drain drain' result
+tells-err : (old new : Outage) (made : List Exchange) (taken : ℕ) (drain drain' : OutletState) (result : Result Turned AllocError) → IsErr result → TellsDest old new made taken drain drain' result
 tells-err old new made taken drain drain' (Ok t) is = absurd (let differ : false ≡ true = is in cc)
 tells-err old new made taken drain drain' (Err e) is = tt
 
 pub send-starved : {S : Type 0} (spec : DestSpec) (step : S → CoreCall → CoreReply → S → Type 0) (counter counter' : S) (old mid new : Outage) (drain between drain' : OutletState) (e : AllocError) (result : Result Turned AllocError) → IsErr result
-    → old.given_up ≡ None → Begins spec.gives_up old mid drain between Reopened → FrontGives {E = AllocError} spec step counter counter' new between drain' (Err e)
+    → old.given_up ≡ None → BeginsTurn spec.gives_up old mid drain between Reopened → FrontTurnGives {E = AllocError} spec step counter counter' new between drain' (Err e)
     → SendsTurn {E = AllocError} spec step counter counter' old new drain drain' result
 send-starved spec step counter counter' old mid new drain between drain' e result is none begins h =
     by-none old.given_up spec step counter counter' old new drain drain' result h.made h.taken h.refused none
@@ -176,8 +176,8 @@ send-starved spec step counter counter' old mid new drain between drain' e resul
 
 -- it didn't fail
 open-with : {S : Type 0} (spec : DestSpec) (step : S → CoreCall → CoreReply → S → Type 0) (counter counter' : S) (old new : Outage) (drain between drain' : OutletState) (found : Result Turned AllocError) (result : Result Turned AllocError)
-    → between ≡ drain → (h : FrontGives {E = AllocError} spec step counter counter' new between drain' found) → is_ok found ≡ is_ok result
-    → Tells old new h.made h.taken drain drain' result
+    → between ≡ drain → (h : FrontTurnGives {E = AllocError} spec step counter counter' new between drain' found) → is_ok found ≡ is_ok result
+    → TellsDest old new h.made h.taken drain drain' result
     → SendsWith {E = AllocError} spec step counter counter' old new drain drain' result h.made h.taken h.refused
 open-with spec step counter counter' old new drain between drain' found result is h ok tells =
     let same : between.laters ≡ drain.laters = ap (λ d. d.laters) is in
@@ -187,8 +187,8 @@ open-with spec step counter counter' old new drain between drain' found result i
       makes = h.makes;
       own = h.own;
       few = omega (arith, h.few);
-      delivers = subst (λ b. Delivers spec.dest h.taken drain'.count b h.made) ok h.delivers;
-      takes = subst (λ d. Takes h.taken (frames_by spec (shown_in h.made)) d drain') is h.takes;
+      delivers = subst (λ b. DeliversFront spec.dest h.taken drain'.count b h.made) ok h.delivers;
+      takes = subst (λ d. TakesFrames h.taken (frames_by spec (shown_in h.made)) d drain') is h.takes;
       within = h.within;
       whole = (λ w r l. h.whole (ok ∙ w) r (sym later ∙ lt-no drain.laters drain'.laters (omega arith)));
       laters = (omega (arith, few, same), omega (arith, few, same));
@@ -201,7 +201,7 @@ open-with spec step counter counter' old new drain between drain' found result i
     }
 
 pub send-open : {S : Type 0} (spec : DestSpec) (step : S → CoreCall → CoreReply → S → Type 0) (counter counter' : S) (old mid new : Outage) (drain between drain' : OutletState) (found : Turned)
-    → old.given_up ≡ None → Begins spec.gives_up old mid drain between Open → FrontGives {E = AllocError} spec step counter counter' new between drain' (Ok found)
+    → old.given_up ≡ None → BeginsTurn spec.gives_up old mid drain between Open → FrontTurnGives {E = AllocError} spec step counter counter' new between drain' (Ok found)
     → SendsTurn {E = AllocError} spec step counter counter' old new drain drain' (Ok found)
 send-open spec step counter counter' old mid new drain between drain' found none begins h =
     by-none old.given_up spec step counter counter' old new drain drain' (Ok found) h.made h.taken h.refused none
@@ -212,7 +212,7 @@ send-open spec step counter counter' old mid new drain between drain' found none
     }))
 
 pub send-unopened : {S : Type 0} (spec : DestSpec) (step : S → CoreCall → CoreReply → S → Type 0) (counter counter' : S) (old mid new : Outage) (drain between drain' : OutletState) (e : AllocError) (result : Result Turned AllocError) → IsErr result
-    → old.given_up ≡ None → Begins spec.gives_up old mid drain between Open → FrontGives {E = AllocError} spec step counter counter' new between drain' (Err e)
+    → old.given_up ≡ None → BeginsTurn spec.gives_up old mid drain between Open → FrontTurnGives {E = AllocError} spec step counter counter' new between drain' (Err e)
     → SendsTurn {E = AllocError} spec step counter counter' old new drain drain' result
 send-unopened spec step counter counter' old mid new drain between drain' e result is none begins h =
     by-none old.given_up spec step counter counter' old new drain drain' result h.made h.taken h.refused none

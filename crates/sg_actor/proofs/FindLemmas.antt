@@ -12,7 +12,7 @@ use Rattle.sg_frame.specs.Records.{Record}
 use Rattle.sg_route.specs.Offers.{SameOffers}
 use Rattle.sg_actor.specs.Reading.{one_if}
 use Rattle.sg_actor.specs.Sources.{SourceState, source}
-use Rattle.sg_actor.specs.Steps.{IsFed, IsDealt, IsLooked, IsSpent, IsAsBefore, is_bad_frame, is_bad, is_spent, is_over, has_pulled, was_idle, Keeps, Pulls}
+use Rattle.sg_actor.specs.Steps.{IsFed, IsFrameDealt, IsLookedAhead, IsSpent, IsAsBefore, is_bad_frame, is_bad, is_spent, is_over, has_pulled, was_idle, KeepsRecords, PullsOnto}
 use Rattle.sg_actor.specs.declared.reader.Reader.{Reader}
 use Rattle.sg_actor.specs.declared.settings.SourceSpec.{SourceSpec}
 use Rattle.sg_actor.proofs.PullLemmas.{lt-no}
@@ -30,13 +30,13 @@ pub not-of : (a : Bool) → not a ≡ true → a ≡ false
 not-of true h = absurd (let differ : false ≡ true = h in cc)
 not-of false h = refl
 
-dealt-of : (f : Framing) (up : Bool) (ahead : Framed) → IsLooked f ahead → (is_bad_frame ahead && not up) ≡ false → IsDealt f up ahead
+dealt-of : (f : Framing) (up : Bool) (ahead : Framed) → IsLookedAhead f ahead → (is_bad_frame ahead && not up) ≡ false → IsFrameDealt f up ahead
 dealt-of f up (Given text end at) looked h = absurd looked
 dealt-of f up More looked h = looked
 dealt-of f true (BadFrame place) looked h = refl
 dealt-of f false (BadFrame place) looked h = absurd (let differ : true ≡ false = h in cc)
 
-pub spent-of : (reader : Reader) (most : ℕ) → is_spent reader ≡ true → 0 < most → IsFed reader.pulled → (length reader.held < most → IsLooked reader.framer reader.ahead) → IsSpent reader
+pub spent-of : (reader : Reader) (most : ℕ) → is_spent reader ≡ true → 0 < most → IsFed reader.pulled → (length reader.held < most → IsLookedAhead reader.framer reader.ahead) → IsSpent reader
 spent-of reader most is some fed looked =
     let both = both-of (length reader.held == 0) (not (is_bad reader)) is in
     let none : reader.held ≡ [] = empty-of reader.held both.0 in
@@ -73,12 +73,12 @@ pub ended-not : (old mid new : Reader) → IsAsBefore old mid → is_over mid �
 ended-not old mid new before going was = absurd (let differ : true ≡ false = sym was ∙ (sym before.ended ∙ (going-of mid going).0) in cc)
 
 -- a part of a turn before its pull, and the pull
-pub keeps-pulled : (offers : ℕ → Record → List Offer → Type 0) (dests : ℕ) (spec : SourceSpec) (a b c : SourceState) (idle : Bool) → Keeps offers dests spec a b → Pulls b c idle
-    → Keeps offers dests spec a c
+pub keeps-pulled : (offers : ℕ → Record → List Offer → Type 0) (dests : ℕ) (spec : SourceSpec) (a b c : SourceState) (idle : Bool) → KeepsRecords offers dests spec a b → PullsOnto b c idle
+    → KeepsRecords offers dests spec a c
 keeps-pulled offers dests spec a b c idle h pulls = keeps-then offers dests spec a b c h (keeps-of offers dests spec b c (pulls dests spec h.ready).rests)
 
 -- and what follows, with a router that says the same
-pub keeps-rest : (offers offers' : ℕ → Record → List Offer → Type 0) (dests dests' : ℕ) (spec : SourceSpec) (a b c d : SourceState) (idle : Bool) → Keeps offers dests spec a b → Pulls b c idle
-    → SameOffers offers offers' → dests' ≡ dests → Keeps offers' dests' spec c d → Keeps offers dests spec a d
+pub keeps-rest : (offers offers' : ℕ → Record → List Offer → Type 0) (dests dests' : ℕ) (spec : SourceSpec) (a b c d : SourceState) (idle : Bool) → KeepsRecords offers dests spec a b → PullsOnto b c idle
+    → SameOffers offers offers' → dests' ≡ dests → KeepsRecords offers' dests' spec c d → KeepsRecords offers dests spec a d
 keeps-rest offers offers' dests dests' spec a b c d idle h pulls same count k =
     keeps-then offers dests spec a c d (keeps-pulled offers dests spec a b c idle h pulls) (keeps-router offers offers' dests dests' spec c d same count k)

@@ -70,7 +70,7 @@ few-by : (b : Bool) (f : List ℕ) (rest fs : List (List ℕ)) → length rest �
 few-by true f rest fs h = omega arith
 few-by false f rest fs h = omega arith
 
-until-few : (left : ℕ) (fs : List (List ℕ)) → length (until left fs) ≤ length fs
+pub until-few : (left : ℕ) (fs : List (List ℕ)) → length (until left fs) ≤ length fs
 until-few left [] = omega arith
 until-few left (f ∷ fs) = few-by (nat_le left (length f)) f (until (left - length f) fs) fs (until-few (left - length f) fs)
 

@@ -12,9 +12,9 @@ use Rattle.sg_frame.specs.Items.{Text, Count, Bad, beginning, open_after}
 use Rattle.sg_frame.specs.Framing.{Framing}
 use Rattle.sg_frame.specs.Records.{Record}
 use Rattle.sg_actor.specs.Reading.{one_if}
-use Rattle.sg_actor.specs.Sources.{SourceState, source, Reads, IsAhead, IsBadFrame, IsReady}
+use Rattle.sg_actor.specs.Sources.{SourceState, source, ReadsRecords, IsFramedAhead, IsBadFrame, IsReady}
 use Rattle.sg_actor.specs.Steps.{LooksBy, IsAsBefore, is_bad_frame, is_bad, GivesUp, parts_over}
-use Rattle.sg_actor.specs.Bringing.{Gives, IsUnpulled}
+use Rattle.sg_actor.specs.Bringing.{MayGiveUp, IsUnpulled}
 use Rattle.sg_actor.specs.declared.reader.Reader.{Reader}
 use Rattle.sg_actor.specs.declared.settings.SourceSpec.{SourceSpec}
 use Rattle.sg_actor.proofs.FeedLemmas.{reads-up}
@@ -31,7 +31,7 @@ bad-some : (kind : FrameKind) (limit at place : ℕ) (held : List Stamped) → o
 bad-some kind limit at place [] is = absurd (begins-sound kind place is)
 bad-some kind limit at place (b ∷ held) is = omega arith
 
-bad-is : (f : Framing) (ahead : Framed) → is_bad_frame ahead ≡ true → IsAhead f ahead → 0 < length f.held
+bad-is : (f : Framing) (ahead : Framed) → is_bad_frame ahead ≡ true → IsFramedAhead f ahead → 0 < length f.held
 bad-is f (Given text end at) is h = absurd (let differ : false ≡ true = is in cc)
 bad-is f More is h = absurd (let differ : false ≡ true = is in cc)
 bad-is f (BadFrame place) is h = bad-some f.kind f.limit f.place place f.held h.1
@@ -45,13 +45,13 @@ over-up : (up : Bool) (parts : ℕ) → up ≡ false → 0 < parts → 1 + parts
 over-up true parts is some = absurd (let differ : true ≡ false = is in cc)
 over-up false parts is some = omega arith
 
-reads-none : (s t : SourceState) (done : List Record) (before : ℕ) → Reads t done before → Reads t done (before + 0)
+reads-none : (s t : SourceState) (done : List Record) (before : ℕ) → ReadsRecords t done before → ReadsRecords t done (before + 0)
 reads-none s t done before h = (let same : before + 0 ≡ before = omega arith in rw same h)
 
 unpulled-same : (s : SourceState) → IsUnpulled s s
 unpulled-same s = record { bytes = refl; parts = refl; pulls = refl; idles = refl; ended = refl; failed = refl }
 
-pub gives-none : (dests : ℕ) (spec : SourceSpec) (s : SourceState) → IsReady dests spec s → Gives dests spec s s 0
+pub gives-none : (dests : ℕ) (spec : SourceSpec) (s : SourceState) → IsReady dests spec s → MayGiveUp dests spec s s 0
 gives-none dests spec s ready = record {
   ready = ready;
   reads = λ done before h. reads-none s s done before h;
@@ -61,7 +61,7 @@ gives-none dests spec s ready = record {
 }
 
 gives-up : (dests : ℕ) (spec : SourceSpec) (feed : InletState) (buffer : List ℕ) (old : Reader) → is_bad old ≡ true → old.held ≡ []
-    → IsReady dests spec (source feed old buffer) → Gives dests spec (source feed old buffer) (source (record feed { hung = true }) (record old { given_up = true }) buffer) 1
+    → IsReady dests spec (source feed old buffer) → MayGiveUp dests spec (source feed old buffer) (source (record feed { hung = true }) (record old { given_up = true }) buffer) 1
 gives-up dests spec feed buffer old is none ready =
     let both = both-of (is_bad_frame old.ahead) (not old.given_up) is in
     let up : old.given_up ≡ false = not-of old.given_up both.1 in
@@ -76,21 +76,21 @@ gives-up dests spec feed buffer old is none ready =
 
 -- the present part is given up, or not
 pub gives-by : (dests : ℕ) (spec : SourceSpec) (feed feed' : InletState) (buffer : List ℕ) (old new : Reader) (up : Bool) → GivesUp old feed new feed' up → old.held ≡ []
-    → IsReady dests spec (source feed old buffer) → Gives dests spec (source feed old buffer) (source feed' new buffer) (one_if up)
+    → IsReady dests spec (source feed old buffer) → MayGiveUp dests spec (source feed old buffer) (source feed' new buffer) (one_if up)
 gives-by dests spec feed feed' buffer old new true h none ready =
-    subst (λ f. Gives dests spec (source feed old buffer) (source f new buffer) 1) (sym h.2)
-    (subst (λ r. Gives dests spec (source feed old buffer) (source (record feed { hung = true }) r buffer) 1) (sym h.1) (gives-up dests spec feed buffer old h.0 none ready))
+    subst (λ f. MayGiveUp dests spec (source feed old buffer) (source f new buffer) 1) (sym h.2)
+    (subst (λ r. MayGiveUp dests spec (source feed old buffer) (source (record feed { hung = true }) r buffer) 1) (sym h.1) (gives-up dests spec feed buffer old h.0 none ready))
 gives-by dests spec feed feed' buffer old new false h none ready =
-    subst (λ f. Gives dests spec (source feed old buffer) (source f new buffer) 0) (sym h.2)
-    (subst (λ r. Gives dests spec (source feed old buffer) (source feed r buffer) 0) (sym h.1) (gives-none dests spec (source feed old buffer) ready))
+    subst (λ f. MayGiveUp dests spec (source feed old buffer) (source f new buffer) 0) (sym h.2)
+    (subst (λ r. MayGiveUp dests spec (source feed old buffer) (source feed r buffer) 0) (sym h.1) (gives-none dests spec (source feed old buffer) ready))
 
 -- the records that were held are admitted
-reads-held : (feed : InletState) (buffer : List ℕ) (old : Reader) (held : List Admission) (end : ℕ) (done : List Record) (ups : ℕ) → Reads (source feed old buffer) done ups
-    → Reads (source feed (record old { held = held; end = end }) buffer) done ups
+reads-held : (feed : InletState) (buffer : List ℕ) (old : Reader) (held : List Admission) (end : ℕ) (done : List Record) (ups : ℕ) → ReadsRecords (source feed old buffer) done ups
+    → ReadsRecords (source feed (record old { held = held; end = end }) buffer) done ups
 reads-held feed buffer old held end done ups (bytes, (items, h)) = (bytes, (items, record { framed = h.framed; read = h.read; fewer = h.fewer }))
 
 pub gives-admitted : (dests : ℕ) (spec : SourceSpec) (feed : InletState) (buffer : List ℕ) (old : Reader) (end : ℕ) → IsReady dests spec (source feed old buffer)
-    → Gives dests spec (source feed old buffer) (source feed (record old { held = []; end = end }) buffer) 0
+    → MayGiveUp dests spec (source feed old buffer) (source feed (record old { held = []; end = end }) buffer) 0
 gives-admitted dests spec feed buffer old end ready = record {
   ready = ready-admitted dests spec feed buffer old end ready;
   reads = (λ done before h. reads-none (source feed old buffer) (source feed (record old { held = []; end = end }) buffer) done before (reads-held feed buffer old [] end done before h));
@@ -101,7 +101,7 @@ gives-admitted dests spec feed buffer old end ready = record {
 
 -- the framer was asked
 pub gives-looked : (dests : ℕ) (spec : SourceSpec) (feed : InletState) (buffer : List ℕ) (old new : Reader) → LooksBy old.ahead old new → IsAsBefore old new → IsReady dests spec (source feed old buffer)
-    → Gives dests spec (source feed old buffer) (source feed new buffer) 0
+    → MayGiveUp dests spec (source feed old buffer) (source feed new buffer) 0
 gives-looked dests spec feed buffer old new looks before ready =
     let rests = rests-looked dests spec feed buffer old new old.ahead refl looks ready in
     record {
@@ -112,7 +112,7 @@ gives-looked dests spec feed buffer old new looks before ready =
       unpulled = record { bytes = refl; parts = refl; pulls = refl; idles = refl; ended = before.ended; failed = before.failed };
     }
 
-pub gives-then : (dests : ℕ) (spec : SourceSpec) (a b c : SourceState) (n : ℕ) → Gives dests spec a b 0 → Gives dests spec b c n → Gives dests spec a c n
+pub gives-then : (dests : ℕ) (spec : SourceSpec) (a b c : SourceState) (n : ℕ) → MayGiveUp dests spec a b 0 → MayGiveUp dests spec b c n → MayGiveUp dests spec a c n
 gives-then dests spec a b c n h k = record {
   ready = k.ready;
   reads = (λ done before read. (let same : before + 0 + n ≡ before + n = omega arith in rw same at (k.reads done (before + 0) (h.reads done before read))));

@@ -14,7 +14,7 @@ use Rattle.sg_counter.specs.declared.calls.CoreReply.TheVariants.{Credit as Cred
 use Rattle.sg_counter.specs.declared.answers.Refused.TheVariants.{NoCredit, NoMemory as AdmitNoMemory}
 use Rattle.sg_actor.specs.Sources.{SourceState, source, IsReady}
 use Rattle.sg_actor.specs.Steps.{LooksBy, is_bad, is_spent, GivesUp}
-use Rattle.sg_actor.specs.Bringing.{exchange, admitted_in, carried_in, last_end, AdmitsBy, Admits, Gives, HandsIn, HasRefusal}
+use Rattle.sg_actor.specs.Bringing.{exchange, admitted_in, carried_in, last_end, AdmitsBy, Admits, MayGiveUp, HandsIn, HasRefusal}
 use Rattle.sg_actor.specs.declared.reader.Reader.{Reader}
 use Rattle.sg_actor.specs.declared.admitting.Handed.{Handed}
 use Rattle.sg_actor.specs.declared.settings.SourceSpec.{SourceSpec}
@@ -169,7 +169,7 @@ hands-unlooked step counter counter' dests spec feed buffer old mid e (reply, ad
       makes = (counter', made, refl);
       own = (refl, tt);
       unstored = refl;
-      gives = subst (λ r. Gives dests spec (source feed old buffer) (source feed r buffer) 0) (sym is.1.1) (gives-admitted dests spec feed buffer old (last_end old.end old.held) ready);
+      gives = subst (λ r. MayGiveUp dests spec (source feed old buffer) (source feed r buffer) 0) (sym is.1.1) (gives-admitted dests spec feed buffer old (last_end old.end old.held) ready);
       moves = inl (ap (λ r. r.held) is.1.1, all);
       within = all-carried old.held spec.inlet (Admitted (Ok is.0));
       empties = tt;
@@ -186,7 +186,7 @@ hands-admitted step counter counter' dests spec feed feed' buffer old mid looked
     let all = admitted-all old.held spec.inlet is.0 in
     let held = held-given feed feed' looked new up gives in
     let none : looked.held ≡ [] = held-looked mid looked mid.ahead looks ∙ ap (λ r. r.held) is.1.1 in
-    let first = subst (λ r. Gives dests spec (source feed old buffer) (source feed r buffer) 0) (sym is.1.1) (gives-admitted dests spec feed buffer old (last_end old.end old.held) ready) in
+    let first = subst (λ r. MayGiveUp dests spec (source feed old buffer) (source feed r buffer) 0) (sym is.1.1) (gives-admitted dests spec feed buffer old (last_end old.end old.held) ready) in
     let second = gives-looked dests spec feed buffer mid looked looks (looked-before mid looked mid.ahead looks) first.ready in
     let third = gives-by dests spec feed feed' buffer looked new up gives none second.ready in
     record {

@@ -13,8 +13,8 @@ use Rattle.sg_frame.specs.Items.{Item, Form, Text, Count, Body, Bad, items, item
 use Rattle.sg_frame.specs.Framing.{Framing, items_left, open_left}
 use Rattle.sg_frame.specs.Records.{Record, record_of, records}
 use Rattle.sg_frame.proofs.ItemLemmas.{items-append}
-use Rattle.sg_actor.specs.Reading.{earlier, last_given, one_if, bad_forms, bad_parts, IsRead, AreRead, items_ahead, bytes_pulled}
-use Rattle.sg_actor.specs.Sources.{SourceState, AreOf, IsAhead, IsBadFrame}
+use Rattle.sg_actor.specs.Reading.{earlier, last_given, one_if, bad_forms, bad_parts, IsPartRead, AreItemsRead, items_ahead, bytes_pulled}
+use Rattle.sg_actor.specs.Sources.{SourceState, AreOf, IsFramedAhead, IsBadFrame}
 use Rattle.sg_actor.specs.Laws.{ReadsFirst, ReadsAll, StaysWhole}
 use Rattle.sg_actor.specs.declared.settings.SourceSpec.{SourceSpec}
 use Rattle.sg_actor.proofs.PartLemmas.{records-last, bad-last}
@@ -24,11 +24,11 @@ use Rattle.sg_actor.proofs.PullLemmas.{dealt-items, dealt-forms}
 -- The records of what was told.
 
 is-read : (kind : FrameKind) (limit from : ℕ) (peer : List ℕ) (told : Option (List Part)) (parts : List Part) (up : Bool) (all : List Record) (ups : ℕ) (bytes : List Stamped) (given : List Item)
-    → told ≡ Some parts → AreRead kind limit from peer told up all ups bytes given → IsRead kind limit from peer parts up all ups bytes given
-is-read kind limit from peer told parts up all ups bytes given is read = subst (λ t. AreRead kind limit from peer t up all ups bytes given) is read
+    → told ≡ Some parts → AreItemsRead kind limit from peer told up all ups bytes given → IsPartRead kind limit from peer parts up all ups bytes given
+is-read kind limit from peer told parts up all ups bytes given is read = subst (λ t. AreItemsRead kind limit from peer t up all ups bytes given) is read
 
 read-first : (kind : FrameKind) (limit from : ℕ) (peer : List ℕ) (parts : List Part) (up : Bool) (all : List Record) (ups : ℕ) (bytes : List Stamped) (given more : List Item)
-    → IsRead kind limit from peer parts up all ups bytes given → items_of kind limit bytes ≡ given ++ more → records kind limit from parts ≡ all ++ map (record_of from peer) more
+    → IsPartRead kind limit from peer parts up all ups bytes given → items_of kind limit bytes ≡ given ++ more → records kind limit from parts ≡ all ++ map (record_of from peer) more
 read-first kind limit from peer parts up all ups bytes given more read are =
     records-last kind limit from peer parts read.has_peer
     ∙ ap (λ b. records kind limit from (earlier parts) ++ map (record_of from peer) (items_of kind limit b)) (sym read.given)
@@ -109,7 +109,7 @@ text-after limit place form (b ∷ bytes) h = text-after limit (place + 1) (open
 text-left : (f : Framing) → f.kind ≡ Lines → IsText (open_left f)
 text-left f is = text-after f.limit f.place (beginning f.kind) f.held (subst (λ k. IsText (beginning k)) (sym is) tt)
 
-never-bad : (f : Framing) (ahead : Framed) → f.kind ≡ Lines → IsAhead f ahead → IsBadFrame ahead → ⊥
+never-bad : (f : Framing) (ahead : Framed) → f.kind ≡ Lines → IsFramedAhead f ahead → IsBadFrame ahead → ⊥
 never-bad f (Given text end at) is h bad = bad
 never-bad f More is h bad = bad
 never-bad f (BadFrame place) is h bad = subst IsText h.1 (text-left f is)

@@ -8,14 +8,15 @@ use Rattle.sg_frame.specs.declared.framer.Framed.{Framed}
 use Rattle.sg_frame.specs.Framing.{HasFramed, fed}
 use Rattle.sg_frame.specs.Records.{Record}
 use Rattle.sg_counter.specs.Bringing.{AllMayEnter}
-use Rattle.sg_actor.specs.Reading.{items_ahead, bytes_pulled, AreTimely, IsUnfed}
-use Rattle.sg_actor.specs.Sources.{source, AreOf, HasRead, IsAhead, IsReady}
-use Rattle.sg_actor.specs.Steps.{IsBegun}
+use Rattle.sg_actor.specs.Reading.{items_ahead, bytes_pulled, IsUnfed}
+use Rattle.sg_actor.specs.Sources.{source, AreOf, HasRead, IsFramedAhead, IsReady}
+use Rattle.sg_actor.specs.Steps.{IsReaderBegun}
 use Rattle.sg_actor.specs.declared.reader.Reader.{Reader}
 use Rattle.sg_actor.specs.declared.settings.SourceSpec.{SourceSpec}
 use Rattle.sg_actor.proofs.ReadLemmas.{read-fresh}
+use Rattle.sg_frame.specs.Timely.{AreTimely}
 
-pub ready-new : (dests : ℕ) (spec : SourceSpec) (feed : InletState) (reader : Reader) (buffer : List ℕ) → IsBegun spec.kind spec.limit spec.from reader → IsFresh feed → spec.from ≡ feed.from
+pub ready-new : (dests : ℕ) (spec : SourceSpec) (feed : InletState) (reader : Reader) (buffer : List ℕ) → IsReaderBegun spec.kind spec.limit spec.from reader → IsFresh feed → spec.from ≡ feed.from
     → 0 < length buffer → IsReady dests spec (source feed reader buffer)
 ready-new dests spec feed reader buffer begun fresh from room =
     let none : fed reader.framer ≡ 0 = ap fed begun.framer in
@@ -23,7 +24,7 @@ ready-new dests spec feed reader buffer begun fresh from room =
     let unfed : length (bytes_pulled reader.pulled buffer) ≡ 0 = ap (λ p. length (bytes_pulled p buffer)) begun.pulled in
     let B : List Stamped → Type 0 = λ bytes. AreTimely bytes in
     let P : Pull → Type 0 = λ p. IsUnfed (length buffer) p in
-    let F : Framed → Type 0 = λ a. IsAhead reader.framer a in
+    let F : Framed → Type 0 = λ a. IsFramedAhead reader.framer a in
     let H : List Admission → Type 0 = λ as'. AllMayEnter dests as' in
     record {
       room = room;
@@ -43,7 +44,7 @@ ready-new dests spec feed reader buffer begun fresh from room =
       over = (λ e. absurd (let differ : true ≡ false = sym e ∙ begun.ended in cc));
     }
 
-pub reads-new : (offers : ℕ → Record → List Offer → Type 0) (spec : SourceSpec) (feed : InletState) (reader : Reader) (buffer : List ℕ) → IsBegun spec.kind spec.limit spec.from reader → IsFresh feed
+pub reads-new : (offers : ℕ → Record → List Offer → Type 0) (spec : SourceSpec) (feed : InletState) (reader : Reader) (buffer : List ℕ) → IsReaderBegun spec.kind spec.limit spec.from reader → IsFresh feed
     → HasRead offers spec (source feed reader buffer) [] 0
 reads-new offers spec feed reader buffer begun fresh =
     let H : List Admission → Type 0 = λ as'. AreOf offers spec [] as' in

@@ -9,12 +9,12 @@ use Rattle.sg_machine.specs.declared.event.Admission.{Admission}
 use Rattle.sg_frame.specs.Records.{Record}
 use Rattle.sg_counter.specs.declared.calls.CoreCall.{CoreCall}
 use Rattle.sg_counter.specs.declared.calls.CoreReply.{CoreReply}
-use Rattle.sg_actor.specs.Sources.{SourceState, AreOf, Reads, HasRead}
-use Rattle.sg_actor.specs.Steps.{Keeps, Finds, has_pulled, was_idle}
-use Rattle.sg_actor.specs.Bringing.{admitted_in, last_end, Brings, Moves, HandsIn, IsUnpulled, ups_of, ReadsOn}
+use Rattle.sg_actor.specs.Sources.{SourceState, AreOf, ReadsRecords, HasRead}
+use Rattle.sg_actor.specs.Steps.{KeepsRecords, FindsWork, has_pulled, was_idle}
+use Rattle.sg_actor.specs.Bringing.{admitted_in, last_end, Brings, MovesHeld, HandsIn, IsUnpulled, ups_of, ReadsOnTurn}
 use Rattle.sg_actor.specs.declared.admitting.Handed.{Handed}
 use Rattle.sg_actor.specs.declared.reading.Doings.{Doings}
-use Rattle.sg_actor.specs.declared.reading.Found.TheVariants.{Work, Idle, Over}
+use Rattle.sg_actor.specs.declared.reading.SourceWork.TheVariants.{Work, Idle, Over}
 use Rattle.sg_actor.specs.declared.settings.SourceSpec.{SourceSpec}
 
 read-nothing : (offers : ℕ → Record → List Offer → Type 0) (spec : SourceSpec) (s : SourceState) (done : List Record) (before : ℕ) → HasRead offers spec s done before → HasRead offers spec s (done ++ []) (before + 0)
@@ -22,7 +22,7 @@ read-nothing offers spec s done before h =
     subst (λ d. HasRead offers spec s d (before + 0)) (sym (append-nil done)) (subst (λ n. HasRead offers spec s done n) (let same : before ≡ before + 0 = omega arith in same) h)
 
 brings-kept : {S : Type 0} (offers : ℕ → Record → List Offer → Type 0) (dests : ℕ) (spec : SourceSpec) (step : S → CoreCall → CoreReply → S → Type 0) (counter : S) (a b : SourceState)
-    → Keeps offers dests spec a b → Brings offers dests spec step counter counter a b 0 []
+    → KeepsRecords offers dests spec a b → Brings offers dests spec step counter counter a b 0 []
 brings-kept offers dests spec step counter a b h = record {
   makes = refl;
   own = tt;
@@ -35,29 +35,29 @@ brings-kept offers dests spec step counter a b h = record {
   parts = omega (arith, h.parts);
 }
 
-moved-read : (offers : ℕ → Record → List Offer → Type 0) (spec : SourceSpec) (b c : SourceState) (admitted : List Admission) (done behind : List Record) (n : ℕ) → Moves b.reader.held c.reader.held admitted
-    → AreOf offers spec behind b.reader.held → Reads c (done ++ behind) n → (taken : List Record) × (AreOf offers spec taken admitted × HasRead offers spec c (done ++ taken) n)
+moved-read : (offers : ℕ → Record → List Offer → Type 0) (spec : SourceSpec) (b c : SourceState) (admitted : List Admission) (done behind : List Record) (n : ℕ) → MovesHeld b.reader.held c.reader.held admitted
+    → AreOf offers spec behind b.reader.held → ReadsRecords c (done ++ behind) n → (taken : List Record) × (AreOf offers spec taken admitted × HasRead offers spec c (done ++ taken) n)
 moved-read offers spec b c admitted done behind n (inl went) are reads = (
   behind,
   (
     subst (λ as'. AreOf offers spec behind as') (sym went.1) are,
-    ([], (subst (λ as'. AreOf offers spec [] as') (sym went.0) tt, subst (λ d. Reads c d n) (sym (append-nil (done ++ behind))) reads)),
+    ([], (subst (λ as'. AreOf offers spec [] as') (sym went.0) tt, subst (λ d. ReadsRecords c d n) (sym (append-nil (done ++ behind))) reads)),
   ),
 )
 moved-read offers spec b c admitted done behind n (inr stays) are reads = (
   [],
   (
     subst (λ as'. AreOf offers spec [] as') (sym stays.1) tt,
-    (behind, (subst (λ as'. AreOf offers spec behind as') (sym stays.0) are, subst (λ d. Reads c (d ++ behind) n) (sym (append-nil done)) reads)),
+    (behind, (subst (λ as'. AreOf offers spec behind as') (sym stays.0) are, subst (λ d. ReadsRecords c (d ++ behind) n) (sym (append-nil done)) reads)),
   ),
 )
 
-moved-few : (held held' admitted : List Admission) (n : ℕ) → Moves held held' admitted → length held ≤ n → length admitted ≤ n
+moved-few : (held held' admitted : List Admission) (n : ℕ) → MovesHeld held held' admitted → length held ≤ n → length admitted ≤ n
 moved-few held held' admitted n (inl went) few = (let same : length admitted ≡ length held = ap length went.1 in omega arith)
 moved-few held held' admitted n (inr stays) few = (let none : length admitted ≡ 0 = ap length stays.1 in omega arith)
 
 brings-handed : {S : Type 0} (offers : ℕ → Record → List Offer → Type 0) (dests : ℕ) (spec : SourceSpec) (step : S → CoreCall → CoreReply → S → Type 0) (counter counter' : S) (a b c : SourceState) (result : Result Handed AllocError)
-    → Keeps offers dests spec a b → (h : HandsIn {E = AllocError} dests spec step counter counter' b c result) → Brings offers dests spec step counter counter' a c (ups_of result) h.made
+    → KeepsRecords offers dests spec a b → (h : HandsIn {E = AllocError} dests spec step counter counter' b c result) → Brings offers dests spec step counter counter' a c (ups_of result) h.made
 brings-handed offers dests spec step counter counter' a b c result k h = record {
   makes = h.makes;
   own = h.own;
@@ -80,8 +80,8 @@ unpulled-idle a b c h = rw (h.idles) refl
 
 -- the source had no credit
 pub on-poor : {S : Type 0} (offers : ℕ → Record → List Offer → Type 0) (dests : ℕ) (spec : SourceSpec) (step : S → CoreCall → CoreReply → S → Type 0) (counter : S) (credit : ℕ) (a : SourceState)
-    → credit ≡ 0 → Keeps offers dests spec a a → has_pulled a a ≡ false → was_idle a a ≡ false
-    → ReadsOn {E = AllocError} offers dests spec step counter counter credit a a (Ok (record { pulled = false; admitted = false; gave_up = false; idle = false }))
+    → credit ≡ 0 → KeepsRecords offers dests spec a a → has_pulled a a ≡ false → was_idle a a ≡ false
+    → ReadsOnTurn {E = AllocError} offers dests spec step counter counter credit a a (Ok (record { pulled = false; admitted = false; gave_up = false; idle = false }))
 on-poor offers dests spec step counter credit a poor k pulled idle = record {
   made = [];
   few = omega arith;
@@ -93,8 +93,8 @@ on-poor offers dests spec step counter credit a poor k pulled idle = record {
 }
 
 pub on-over : {S : Type 0} (offers : ℕ → Record → List Offer → Type 0) (dests : ℕ) (spec : SourceSpec) (step : S → CoreCall → CoreReply → S → Type 0) (counter : S) (credit : ℕ) (a b : SourceState)
-    → Keeps offers dests spec a b → Finds {E = AllocError} a b (Ok Over) → b.feed.pulls ≤ a.feed.pulls + 1
-    → ReadsOn {E = AllocError} offers dests spec step counter counter credit a b (Ok (record { pulled = false; admitted = false; gave_up = false; idle = false }))
+    → KeepsRecords offers dests spec a b → FindsWork {E = AllocError} a b (Ok Over) → b.feed.pulls ≤ a.feed.pulls + 1
+    → ReadsOnTurn {E = AllocError} offers dests spec step counter counter credit a b (Ok (record { pulled = false; admitted = false; gave_up = false; idle = false }))
 on-over offers dests spec step counter credit a b k finds pulls = record {
   made = [];
   few = omega arith;
@@ -106,8 +106,8 @@ on-over offers dests spec step counter credit a b k finds pulls = record {
 }
 
 pub on-idle : {S : Type 0} (offers : ℕ → Record → List Offer → Type 0) (dests : ℕ) (spec : SourceSpec) (step : S → CoreCall → CoreReply → S → Type 0) (counter : S) (credit : ℕ) (a b : SourceState)
-    → Keeps offers dests spec a b → Finds {E = AllocError} a b (Ok Idle) → b.feed.pulls ≤ a.feed.pulls + 1
-    → ReadsOn {E = AllocError} offers dests spec step counter counter credit a b (Ok (record { pulled = false; admitted = false; gave_up = false; idle = true }))
+    → KeepsRecords offers dests spec a b → FindsWork {E = AllocError} a b (Ok Idle) → b.feed.pulls ≤ a.feed.pulls + 1
+    → ReadsOnTurn {E = AllocError} offers dests spec step counter counter credit a b (Ok (record { pulled = false; admitted = false; gave_up = false; idle = true }))
 on-idle offers dests spec step counter credit a b k finds pulls = record {
   made = [];
   few = omega arith;
@@ -119,7 +119,7 @@ on-idle offers dests spec step counter credit a b k finds pulls = record {
 }
 
 pub on-unfound : {S : Type 0} (offers : ℕ → Record → List Offer → Type 0) (dests : ℕ) (spec : SourceSpec) (step : S → CoreCall → CoreReply → S → Type 0) (counter : S) (credit : ℕ) (a b : SourceState) (r : Result Doings AllocError)
-    → IsErr r → Keeps offers dests spec a b → b.feed.pulls ≤ a.feed.pulls + 1 → ReadsOn {E = AllocError} offers dests spec step counter counter credit a b r
+    → IsErr r → KeepsRecords offers dests spec a b → b.feed.pulls ≤ a.feed.pulls + 1 → ReadsOnTurn {E = AllocError} offers dests spec step counter counter credit a b r
 on-unfound offers dests spec step counter credit a b (Ok doings) is k pulls = absurd (let differ : false ≡ true = is in cc)
 on-unfound offers dests spec step counter credit a b (Err e) is k pulls = record {
   made = [];
@@ -132,8 +132,8 @@ on-unfound offers dests spec step counter credit a b (Err e) is k pulls = record
 }
 
 pub on-starved : {S : Type 0} (offers : ℕ → Record → List Offer → Type 0) (dests : ℕ) (spec : SourceSpec) (step : S → CoreCall → CoreReply → S → Type 0) (counter counter' : S) (credit : ℕ) (a b c : SourceState) (e : AllocError) (r : Result Doings AllocError)
-    → IsErr r → Keeps offers dests spec a b → HandsIn {E = AllocError} dests spec step counter counter' b c (Err e) → b.feed.pulls ≤ a.feed.pulls + 1 → length b.reader.held ≤ max (length a.reader.held) credit
-    → ReadsOn {E = AllocError} offers dests spec step counter counter' credit a c r
+    → IsErr r → KeepsRecords offers dests spec a b → HandsIn {E = AllocError} dests spec step counter counter' b c (Err e) → b.feed.pulls ≤ a.feed.pulls + 1 → length b.reader.held ≤ max (length a.reader.held) credit
+    → ReadsOnTurn {E = AllocError} offers dests spec step counter counter' credit a c r
 on-starved offers dests spec step counter counter' credit a b c e (Ok doings) is k h pulls few = absurd (let differ : false ≡ true = is in cc)
 on-starved offers dests spec step counter counter' credit a b c e (Err e') is k h pulls few = record {
   made = h.made;
@@ -146,9 +146,9 @@ on-starved offers dests spec step counter counter' credit a b c e (Err e') is k 
 }
 
 pub on-handed : {S : Type 0} (offers : ℕ → Record → List Offer → Type 0) (dests : ℕ) (spec : SourceSpec) (step : S → CoreCall → CoreReply → S → Type 0) (counter counter' : S) (credit : ℕ) (a b c : SourceState) (pulled : Bool) (handed : Handed)
-    → Keeps offers dests spec a b → Finds {E = AllocError} a b (Ok (Work pulled)) → HandsIn {E = AllocError} dests spec step counter counter' b c (Ok handed) → b.feed.pulls ≤ a.feed.pulls + 1
+    → KeepsRecords offers dests spec a b → FindsWork {E = AllocError} a b (Ok (Work pulled)) → HandsIn {E = AllocError} dests spec step counter counter' b c (Ok handed) → b.feed.pulls ≤ a.feed.pulls + 1
     → length b.reader.held ≤ max (length a.reader.held) credit
-    → ReadsOn {E = AllocError} offers dests spec step counter counter' credit a c (Ok (record { pulled = pulled; admitted = handed.admitted; gave_up = handed.gave_up; idle = false }))
+    → ReadsOnTurn {E = AllocError} offers dests spec step counter counter' credit a c (Ok (record { pulled = pulled; admitted = handed.admitted; gave_up = handed.gave_up; idle = false }))
 on-handed offers dests spec step counter counter' credit a b c pulled handed k finds h pulls few = record {
   made = h.made;
   few = h.few;

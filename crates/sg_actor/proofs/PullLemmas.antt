@@ -9,11 +9,11 @@ use Rattle.sg_device.specs.declared.fault.InletFault.{InletFault}
 use Rattle.sg_device.proofs.Inlets.{advances_pull}
 use Rattle.sg_frame.specs.declared.framer.Framed.{Framed}
 use Rattle.sg_frame.specs.declared.framer.Framed.TheVariants.{Item as Given, More, BadFrame}
-use Rattle.sg_frame.specs.Items.{Form, Text, Count, Body, Bad, IsSound}
+use Rattle.sg_frame.specs.Items.{Form, Text, Count, Body, Bad, IsSoundForm}
 use Rattle.sg_frame.specs.Framing.{Framing, items_left, open_left, fresh}
 use Rattle.sg_actor.specs.Reading.{one_if, bad_forms, items_ahead}
-use Rattle.sg_actor.specs.Sources.{source, IsAhead, IsBadFrame, IsReady}
-use Rattle.sg_actor.specs.Steps.{IsDealt, IsSpent, parts_over, PullsOnce}
+use Rattle.sg_actor.specs.Sources.{source, IsFramedAhead, IsBadFrame, IsReady}
+use Rattle.sg_actor.specs.Steps.{IsFrameDealt, IsSpent, parts_over, PullsOnce}
 use Rattle.sg_actor.specs.declared.reader.Reader.{Reader}
 use Rattle.sg_actor.specs.declared.settings.SourceSpec.{SourceSpec}
 use Rattle.sg_actor.proofs.FailLemmas.{fails-same, fails-now}
@@ -26,23 +26,23 @@ lt-yes a b h = grind (arith, nat_tests)
 pub lt-no : (a b : ℕ) → b ≤ a → nat_lt a b ≡ false
 lt-no a b h = grind (arith, nat_tests)
 
-sound-forms : (form : Form) → IsSound form → bad_forms form ≡ 0
+sound-forms : (form : Form) → IsSoundForm form → bad_forms form ≡ 0
 sound-forms (Text line) h = refl
 sound-forms (Count value) h = refl
 sound-forms (Body missing text) h = refl
 sound-forms (Bad place) h = absurd h
 
 -- what is dealt with holds no item, and is bad where the part is given up
-pub dealt-items : (f : Framing) (up : Bool) (ahead : Framed) → IsDealt f up ahead → IsAhead f ahead → (items_ahead ahead ≡ []) × (items_left f ≡ [])
+pub dealt-items : (f : Framing) (up : Bool) (ahead : Framed) → IsFrameDealt f up ahead → IsFramedAhead f ahead → (items_ahead ahead ≡ []) × (items_left f ≡ [])
 dealt-items f up (Given text end at) dealt is = absurd dealt
 dealt-items f up More dealt is = (refl, dealt.0)
 dealt-items f up (BadFrame place) dealt is = (refl, is.0)
 
-dealt-more : (f : Framing) (up : Bool) → (up ≡ true → ⊥) → IsSound (open_left f) → bad_forms (open_left f) ≡ one_if up
+dealt-more : (f : Framing) (up : Bool) → (up ≡ true → ⊥) → IsSoundForm (open_left f) → bad_forms (open_left f) ≡ one_if up
 dealt-more f true going sound = absurd (going refl)
 dealt-more f false going sound = sound-forms (open_left f) sound
 
-pub dealt-forms : (f : Framing) (up : Bool) (ahead : Framed) (A : Type 0) → IsDealt f up ahead → IsAhead f ahead → (up ≡ true → IsBadFrame ahead × A) → bad_forms (open_left f) ≡ one_if up
+pub dealt-forms : (f : Framing) (up : Bool) (ahead : Framed) (A : Type 0) → IsFrameDealt f up ahead → IsFramedAhead f ahead → (up ≡ true → IsBadFrame ahead × A) → bad_forms (open_left f) ≡ one_if up
 dealt-forms f up (Given text end at) A dealt is bad = absurd dealt
 dealt-forms f up More A dealt is bad = dealt-more f up (λ e. (bad e).0) dealt.1
 dealt-forms f up (BadFrame place) A dealt is bad = ap bad_forms is.1 ∙ ap one_if (sym dealt)

@@ -7,12 +7,12 @@ use Rattle.sg_device.specs.Inlet.{Stamped, Part, with_bytes, with_part, empty_pa
 use Rattle.sg_frame.specs.declared.kind.FrameKind.{FrameKind}
 use Rattle.sg_frame.specs.Items.{Item, items_of, open_of}
 use Rattle.sg_frame.specs.Records.{Record, record_of, records}
-use Rattle.sg_actor.specs.Reading.{earlier, last_given, HasPeer, one_if, bad_forms, bad_parts, AreRead}
+use Rattle.sg_actor.specs.Reading.{earlier, last_given, HasPeer, one_if, bad_forms, bad_parts, AreItemsRead}
 use Rattle.sg_actor.proofs.PartLemmas.{records-last, bad-last, earlier-with_bytes, last-with_bytes, peer-with_bytes, earlier-with_part, last-with_part, peer-with_part, empty-last, empty-earlier, empty-peer}
 
 -- an item was taken
 pub read-taken : (kind : FrameKind) (limit from : ℕ) (peer : List ℕ) (told : Option (List Part)) (up : Bool) (done : List Record) (ups : ℕ) (bytes : List Stamped) (given : List Item) (item : Item)
-    → AreRead kind limit from peer told up done ups bytes given → AreRead kind limit from peer told up (done ++ record_of from peer item ∷ []) ups bytes (given ++ item ∷ [])
+    → AreItemsRead kind limit from peer told up done ups bytes given → AreItemsRead kind limit from peer told up (done ++ record_of from peer item ∷ []) ups bytes (given ++ item ∷ [])
 read-taken kind limit from peer None up done ups bytes given item read = tt
 read-taken kind limit from peer (Some parts) up done ups bytes given item read = record {
   given = read.given;
@@ -25,8 +25,8 @@ read-taken kind limit from peer (Some parts) up done ups bytes given item read =
 
 -- bytes were pulled
 pub read-pulled : (kind : FrameKind) (limit from : ℕ) (peer : List ℕ) (told told' : Option (List Part)) (up : Bool) (done : List Record) (ups : ℕ) (bytes xs : List Stamped) (given : List Item)
-    → AreRead kind limit from peer told up done ups bytes given → told' ≡ option_map (λ parts. with_bytes parts peer xs) told
-    → AreRead kind limit from peer told' up done ups (bytes ++ xs) given
+    → AreItemsRead kind limit from peer told up done ups bytes given → told' ≡ option_map (λ parts. with_bytes parts peer xs) told
+    → AreItemsRead kind limit from peer told' up done ups (bytes ++ xs) given
 read-pulled kind limit from peer None told' up done ups bytes xs given read told-is = rw told-is tt
 read-pulled kind limit from peer (Some parts) told' up done ups bytes xs given read told-is =
     rw told-is (record {
@@ -38,8 +38,8 @@ read-pulled kind limit from peer (Some parts) told' up done ups bytes xs given r
 
 -- a part began: all items of those before it were taken, and where a bad count follows them the last one was given up
 pub read-part : (kind : FrameKind) (limit from : ℕ) (peer peer' : List ℕ) (told told' : Option (List Part)) (up : Bool) (done : List Record) (ups : ℕ) (bytes : List Stamped) (given : List Item)
-    → AreRead kind limit from peer told up done ups bytes given → items_of kind limit bytes ≡ given → bad_forms (open_of kind limit bytes) ≡ one_if up
-    → told' ≡ option_map (λ parts. with_part parts peer') told → AreRead kind limit from peer' told' false done ups [] []
+    → AreItemsRead kind limit from peer told up done ups bytes given → items_of kind limit bytes ≡ given → bad_forms (open_of kind limit bytes) ≡ one_if up
+    → told' ≡ option_map (λ parts. with_part parts peer') told → AreItemsRead kind limit from peer' told' false done ups [] []
 read-part kind limit from peer peer' None told' up done ups bytes given read are bad told-is = rw told-is tt
 read-part kind limit from peer peer' (Some parts) told' up done ups bytes given read are bad told-is =
     let all : done ≡ records kind limit from parts =
@@ -59,7 +59,7 @@ read-part kind limit from peer peer' (Some parts) told' up done ups bytes given 
 
 -- the present part is given up
 pub read-up : (kind : FrameKind) (limit from : ℕ) (peer : List ℕ) (told : Option (List Part)) (done : List Record) (ups : ℕ) (bytes : List Stamped) (given : List Item)
-    → AreRead kind limit from peer told false done ups bytes given → AreRead kind limit from peer told true done (ups + 1) bytes given
+    → AreItemsRead kind limit from peer told false done ups bytes given → AreItemsRead kind limit from peer told true done (ups + 1) bytes given
 read-up kind limit from peer None done ups bytes given read = tt
 read-up kind limit from peer (Some parts) done ups bytes given read =
     let before : ups ≡ bad_parts kind limit (earlier parts) + 0 = read.given_up in record {
@@ -70,7 +70,7 @@ read-up kind limit from peer (Some parts) done ups bytes given read =
     }
 
 pub read-fresh : (kind : FrameKind) (limit from count : ℕ) (peer : List ℕ) (told : Option (List Part)) → count ≤ 1 → IfSome told (λ parts. parts ≡ empty_parts count peer)
-    → AreRead kind limit from peer told false [] 0 [] []
+    → AreItemsRead kind limit from peer told false [] 0 [] []
 read-fresh kind limit from count peer None few empty = tt
 read-fresh kind limit from count peer (Some parts) few empty =
     let P : List Part → Type 0 = λ p. HasPeer peer p in

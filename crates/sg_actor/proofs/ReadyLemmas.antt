@@ -7,23 +7,25 @@ use Rattle.sg_machine.specs.declared.event.Admission.{Admission}
 use Rattle.sg_frame.specs.declared.framer.Framed.{Framed}
 use Rattle.sg_frame.specs.declared.framer.Framed.TheVariants.{Item as Given, More, BadFrame}
 use Rattle.sg_frame.specs.Items.{Item, Bad, items, open_after, beginning}
-use Rattle.sg_frame.specs.Framing.{Framing, Gives, NextTells, fresh, fed, with_bytes as with_fed}
+use Rattle.sg_frame.specs.Framing.{Framing, GivesItem, NextTells, fresh, fed, with_bytes as with_fed}
 use Rattle.sg_frame.proofs.ItemLemmas.{items-append, open_after-append, items-bad, open_after-bad}
 use Rattle.sg_counter.specs.Bringing.{MayEnter, AllMayEnter}
-use Rattle.sg_actor.specs.Reading.{bytes_pulled, AreTimely, IsUnfed}
-use Rattle.sg_actor.specs.Sources.{SourceState, source, IsAhead, IsBadFrame, HasNothingLeft, IsReady}
+use Rattle.sg_actor.specs.Reading.{bytes_pulled, IsUnfed}
+use Rattle.sg_actor.specs.Sources.{SourceState, source, IsFramedAhead, IsBadFrame, HasNothingLeft, IsReady}
 use Rattle.sg_actor.specs.Steps.{IsFed, HasFed, HasAsked}
 use Rattle.sg_actor.specs.declared.reader.Reader.{Reader}
 use Rattle.sg_actor.specs.declared.settings.SourceSpec.{SourceSpec}
 use Rattle.sg_actor.proofs.FeedLemmas.{fed-none, stamped-len}
-use Rattle.sg_actor.proofs.TimeLemmas.{timely-append, timely-pulled, timely-drop, gives-timely}
+use Rattle.sg_actor.proofs.TimeLemmas.{timely-pulled}
+use Rattle.sg_frame.specs.Timely.{AreTimely}
+use Rattle.sg_frame.proofs.TimelyLemmas.{timely-append, timely-drop, gives-timely}
 
 not-so : {A : Type 0} {b : Bool} → b ≡ false → b ≡ true → A
 not-so is so = absurd (let wrong : true ≡ false = sym so ∙ is in cc)
 
 -- Of what was fed nothing changes: what is ahead, what is held, and whether the present part is given up.
 ready-with : (dests : ℕ) (spec : SourceSpec) (feed : InletState) (buffer : List ℕ) (reader : Reader) (ahead : Framed) (held : List Admission) (end : ℕ) (up hung : Bool)
-    → IsAhead reader.framer ahead → AllMayEnter dests held → length held ≤ spec.fetch → (up ≡ true → IsBadFrame ahead × (held ≡ [])) → hung ≡ up
+    → IsFramedAhead reader.framer ahead → AllMayEnter dests held → length held ≤ spec.fetch → (up ≡ true → IsBadFrame ahead × (held ≡ [])) → hung ≡ up
     → (reader.ended ≡ true → (feed.ended ≡ true) × (up ≡ false → HasNothingLeft feed)) → IsReady dests spec (source feed reader buffer)
     → IsReady dests spec (source (record feed { hung = hung }) (record reader { ahead = ahead; held = held; end = end; given_up = up }) buffer)
 ready-with dests spec feed buffer reader ahead held end up hung is may few bad same over h = record {
@@ -55,7 +57,7 @@ bad-items limit place bad form xs ys none is = (
   open_after-append limit place form xs ys ∙ ap (λ f. open_after limit (place + length xs) f ys) is ∙ open_after-bad limit (place + length xs) bad ys,
 )
 
-ahead-fed : (f : Framing) (xs : List Stamped) (ahead : Framed) → IsAhead f ahead → IsAhead (with_fed f xs) ahead
+ahead-fed : (f : Framing) (xs : List Stamped) (ahead : Framed) → IsFramedAhead f ahead → IsFramedAhead (with_fed f xs) ahead
 ahead-fed f xs (Given text end at) h = (h.0, (let more : length (f.held ++ xs) ≡ length f.held + length xs = length-append f.held xs in let old : end ≤ f.place + length f.held = h.1 in omega arith))
 ahead-fed f xs More h = tt
 ahead-fed f xs (BadFrame place) h = bad-items f.limit f.place place (beginning f.kind) f.held xs h.0 h.1
@@ -90,14 +92,14 @@ ready-fed dests spec feed buffer old new has h =
     (ready-explicit dests spec feed buffer old h)
 
 -- the framer was asked
-ahead-given : (f f' : Framing) (item : Item) → AreTimely f.held → Gives f f' item → IsAhead f' (Given item.text item.end item.at)
+ahead-given : (f f' : Framing) (item : Item) → AreTimely f.held → GivesItem f f' item → IsFramedAhead f' (Given item.text item.end item.at)
 ahead-given f f' item timely gives = (
   gives-timely f f' item timely gives,
   (let place : f'.place ≡ item.end = ap (λ x. x.place) gives.rest in omega arith),
 )
 
 asked-item : (dests : ℕ) (spec : SourceSpec) (feed : InletState) (buffer : List ℕ) (old : Reader) (f : Framing) (item : Item) → old.given_up ≡ false
-    → Gives old.framer f item → IsReady dests spec (source feed old buffer)
+    → GivesItem old.framer f item → IsReady dests spec (source feed old buffer)
     → IsReady dests spec (source feed (record old { framer = f; ahead = Given item.text item.end item.at }) buffer)
 asked-item dests spec feed buffer old f item going gives h = record {
   room = h.room;
@@ -127,7 +129,7 @@ pub ready-going : (dests : ℕ) (spec : SourceSpec) (s : SourceState) → s.read
 ready-going dests spec s none h = not-bad s.reader.given_up s.reader.ahead (s.reader.held ≡ []) none h.bad
 
 asked-none : (dests : ℕ) (spec : SourceSpec) (feed : InletState) (buffer : List ℕ) (old : Reader) (ahead : Framed) → old.given_up ≡ false
-    → IsAhead old.framer ahead → IsReady dests spec (source feed old buffer)
+    → IsFramedAhead old.framer ahead → IsReady dests spec (source feed old buffer)
     → IsReady dests spec (source feed (record old { ahead = ahead }) buffer)
 asked-none dests spec feed buffer old ahead going is h =
     ready-with dests spec feed buffer old ahead old.held old.end old.given_up feed.hung is h.held h.few (not-so going) h.hung h.over h

@@ -15,14 +15,15 @@ use Rattle.sg_counter.specs.declared.answers.Settled.{Settled}
 use Rattle.sg_counter.specs.declared.answers.Refill.{Refill as Refilled}
 use Rattle.sg_actor.specs.Bringing.{exchange, AllBy}
 use Rattle.sg_actor.specs.Rendering.{sent_of}
-use Rattle.sg_actor.specs.Outages.{HasFailures, failed, with_taken, broken_cause, is_idle, Sends}
-use Rattle.sg_actor.specs.DestTurns.{shown_in, is_breakage, has_broken, is_done, Refills as RefillsCalls, SettlesFirst, HasCause, after_reply, after_made, HasDelivered}
+use Rattle.sg_actor.specs.Outages.{HasFailures, failed, with_taken, broken_cause, is_idle, SendComesTo}
+use Rattle.sg_actor.specs.DestTurns.{shown_in, is_breakage, has_broken, is_done, Refills as RefillsCalls, SettlesFirst, HasGivenUpCause, after_reply, after_made, HasDelivered}
 use Rattle.sg_actor.specs.Delivering.{Settles, Refills}
 use Rattle.sg_actor.specs.declared.outage.Outage.{Outage}
 use Rattle.sg_actor.specs.declared.outage.Sent.{Sent}
 use Rattle.sg_actor.specs.declared.rendering.DestSpec.{DestSpec}
 use Rattle.sg_actor.specs.declared.turned.GivenUp.{GivenUp}
 use Rattle.sg_actor.specs.declared.turned.GivenUp.TheVariants.{Outlet, Store}
+use Rattle.sg_machine.proofs.FailLemmas.{or-assoc}
 
 -- Why a destination is given up.
 
@@ -32,25 +33,25 @@ third n f is h = (let e : n ≡ 3 = grind (arith, nat_tests) in omega arith)
 not-third : (n f : ℕ) → n ≡ min f 3 → (n == 3) ≡ false → f < 3
 not-third n f is h = (let e : n ≡ 3 → ⊥ = (λ (t : n ≡ 3). absurd (grind (arith, nat_tests))) in omega arith)
 
-cause-by : (n : ℕ) (drain : OutletState) (third' : Bool) → n ≡ min drain.failing 3 → (n == 3) ≡ third' → HasCause true true drain [] (if third' then Some Outlet else None)
+cause-by : (n : ℕ) (drain : OutletState) (third' : Bool) → n ≡ min drain.failing 3 → (n == 3) ≡ third' → HasGivenUpCause true true drain [] (if third' then Some Outlet else None)
 cause-by n drain true is t = (refl, refl, third n drain.failing is t)
 cause-by n drain false is t = (refl, (λ g r. not-third n drain.failing is t))
 
-failed-cause : (gives_up : Bool) (o : Outage) (drain : OutletState) → o.given_up ≡ None → (failed gives_up o).failures ≡ min drain.failing 3 → HasCause gives_up true drain [] (failed gives_up o).given_up
+failed-cause : (gives_up : Bool) (o : Outage) (drain : OutletState) → o.given_up ≡ None → (failed gives_up o).failures ≡ min drain.failing 3 → HasGivenUpCause gives_up true drain [] (failed gives_up o).given_up
 failed-cause false o drain none is = rw none (refl, (λ g r. absurd (let differ : false ≡ true = g in cc)))
 failed-cause true o drain none is =
     rw none (cause-by (min (o.failures + 1) 3) drain (min (o.failures + 1) 3 == 3) is refl)
 
-pub kept-cause : (gives_up : Bool) (drain : OutletState) (cause : Option GivenUp) → cause ≡ None → HasCause gives_up false drain [] cause
+pub kept-cause : (gives_up : Bool) (drain : OutletState) (cause : Option GivenUp) → cause ≡ None → HasGivenUpCause gives_up false drain [] cause
 kept-cause gives_up drain None is = (refl, (λ g r. absurd (let differ : false ≡ true = r in cc)))
 kept-cause gives_up drain (Some c) is = absurd (let differ : Some c ≡ None = is in cc)
 
-pub refused-cause : (gives_up : Bool) (old new : Outage) (drain : OutletState) → old.given_up ≡ None → new ≡ failed gives_up old → HasFailures new drain → HasCause gives_up true drain [] new.given_up
+pub refused-cause : (gives_up : Bool) (old new : Outage) (drain : OutletState) → old.given_up ≡ None → new ≡ failed gives_up old → HasFailures new drain → HasGivenUpCause gives_up true drain [] new.given_up
 refused-cause gives_up old new drain none is f =
-    subst (λ c. HasCause gives_up true drain [] c) (sym (ap (λ o. o.given_up) is)) (failed-cause gives_up old drain none (sym (ap (λ o. o.failures) is) ∙ f))
+    subst (λ c. HasGivenUpCause gives_up true drain [] c) (sym (ap (λ o. o.given_up) is)) (failed-cause gives_up old drain none (sym (ap (λ o. o.failures) is) ∙ f))
 
 sent-cause : (gives_up refused : Bool) (k : ℕ) (old new : Outage) (drain : OutletState) → old.given_up ≡ None → new ≡ (if refused then failed gives_up (with_taken k old) else with_taken k old) → HasFailures new drain
-    → HasCause gives_up refused drain [] new.given_up
+    → HasGivenUpCause gives_up refused drain [] new.given_up
 sent-cause gives_up true k old new drain none is f = refused-cause gives_up (with_taken k old) new drain none is f
 sent-cause gives_up false k old new drain none is f = kept-cause gives_up drain new.given_up (ap (λ o. o.given_up) is ∙ none)
 
@@ -63,10 +64,6 @@ sent-reopens gives_up false k old new open' is = ap (λ o. o.reopens) is ∙ ope
 or-nil : (b : Bool) → (b || false) ≡ b
 or-nil true = refl
 or-nil false = refl
-
-or-assoc : (a b c : Bool) → (a || (b || c)) ≡ ((a || b) || c)
-or-assoc true b c = refl
-or-assoc false b c = refl
 
 broken-append : (made : List Exchange) (e : Exchange) → has_broken (made ++ e ∷ []) ≡ (has_broken made || is_breakage e.reply)
 broken-append [] e = or-nil (is_breakage e.reply)
@@ -84,8 +81,8 @@ or-no : (a : Bool) → a ≡ false → (a || false) ≡ false
 or-no true h = h
 or-no false h = refl
 
-add-by : (gives_up refused b : Bool) (drain : OutletState) (made more : List Exchange) (c : Option GivenUp) → has_broken more ≡ (has_broken made || b) → HasCause gives_up refused drain made c
-    → HasCause gives_up refused drain more (if b then broken_cause c else c)
+add-by : (gives_up refused b : Bool) (drain : OutletState) (made more : List Exchange) (c : Option GivenUp) → has_broken more ≡ (has_broken made || b) → HasGivenUpCause gives_up refused drain made c
+    → HasGivenUpCause gives_up refused drain more (if b then broken_cause c else c)
 add-by gives_up refused true drain made more None is h = is ∙ or-last (has_broken made)
 add-by gives_up refused false drain made more None is h = (is ∙ or-no (has_broken made) h.0, h.1)
 add-by gives_up refused true drain made more (Some Outlet) is h = h
@@ -97,17 +94,17 @@ after-cause : (b : Bool) (o : Outage) → (after_reply b o).given_up ≡ (if b t
 after-cause true o = refl
 after-cause false o = refl
 
-pub add-cause : (gives_up refused : Bool) (drain : OutletState) (made : List Exchange) (e : Exchange) (o : Outage) → HasCause gives_up refused drain made o.given_up
-    → HasCause gives_up refused drain (made ++ e ∷ []) (after_reply (is_breakage e.reply) o).given_up
+pub add-cause : (gives_up refused : Bool) (drain : OutletState) (made : List Exchange) (e : Exchange) (o : Outage) → HasGivenUpCause gives_up refused drain made o.given_up
+    → HasGivenUpCause gives_up refused drain (made ++ e ∷ []) (after_reply (is_breakage e.reply) o).given_up
 add-cause gives_up refused drain made e o h =
-    subst (λ c. HasCause gives_up refused drain (made ++ e ∷ []) c) (sym (after-cause (is_breakage e.reply) o))
+    subst (λ c. HasGivenUpCause gives_up refused drain (made ++ e ∷ []) c) (sym (after-cause (is_breakage e.reply) o))
     (add-by gives_up refused (is_breakage e.reply) drain made (made ++ e ∷ []) o.given_up (broken-append made e) h)
 
-made-cause : (gives_up refused : Bool) (drain : OutletState) (before made : List Exchange) (o : Outage) → HasCause gives_up refused drain before o.given_up
-    → HasCause gives_up refused drain (before ++ made) (after_made made o).given_up
-made-cause gives_up refused drain before [] o h = subst (λ es. HasCause gives_up refused drain es o.given_up) (sym (append-nil before)) h
+made-cause : (gives_up refused : Bool) (drain : OutletState) (before made : List Exchange) (o : Outage) → HasGivenUpCause gives_up refused drain before o.given_up
+    → HasGivenUpCause gives_up refused drain (before ++ made) (after_made made o).given_up
+made-cause gives_up refused drain before [] o h = subst (λ es. HasGivenUpCause gives_up refused drain es o.given_up) (sym (append-nil before)) h
 made-cause gives_up refused drain before (e ∷ es) o h =
-    subst (λ all. HasCause gives_up refused drain all (after_made es (after_reply (is_breakage e.reply) o)).given_up) (append_assoc before (e ∷ []) es)
+    subst (λ all. HasGivenUpCause gives_up refused drain all (after_made es (after_reply (is_breakage e.reply) o)).given_up) (append_assoc before (e ∷ []) es)
     (made-cause gives_up refused drain (before ++ e ∷ []) es (after_reply (is_breakage e.reply) o) (add-cause gives_up refused drain before e o h))
 
 after-same : (b : Bool) (o : Outage) → ((after_reply b o).reopens ≡ o.reopens) × ((after_reply b o).failures ≡ o.failures)
@@ -124,7 +121,7 @@ made-same (e ∷ es) o =
 -- A send, and the calls after it.
 
 delivered : {S : Type 0} (spec : DestSpec) (step : S → CoreCall → CoreReply → S → Type 0) (counter counter' : S) (place : ℕ) (messages : List Content) (old mid new : Outage) (drain drain' : OutletState) (sent : Sent) (well idle : Bool) (made : List Exchange)
-    → Sends spec.gives_up (sent_of spec messages) old mid drain drain' sent → old.reopens ≡ false → old.given_up ≡ None
+    → SendComesTo spec.gives_up (sent_of spec messages) old mid drain drain' sent → old.reopens ≡ false → old.given_up ≡ None
     → Makes step counter made counter' → AllBy (OfDest spec.dest) made → length made ≤ 2 → shown_in made ≡ [] → SettlesFirst spec.dest place sent.taken drain'.count well made → new ≡ after_made made mid
     → (well ≡ true → sent.starved ≡ false) → (well ≡ true → idle ≡ is_idle sent.later sent.taken)
     → HasDelivered spec step counter counter' place messages new drain drain' well idle
@@ -148,7 +145,7 @@ delivered spec step counter counter' place messages old mid new drain drain' sen
       rose = s.rose;
       failures = ap (λ o. o.failures) is ∙ same.1 ∙ s.failures;
       reopens = ap (λ o. o.reopens) is ∙ same.0 ∙ sent-reopens spec.gives_up s.refused sent.taken old mid open' s.outage;
-      cause = subst (λ c. HasCause spec.gives_up s.refused drain' made c) (sym (ap (λ o. o.given_up) is))
+      cause = subst (λ c. HasGivenUpCause spec.gives_up s.refused drain' made c) (sym (ap (λ o. o.given_up) is))
           (made-cause spec.gives_up s.refused drain' [] made mid (sent-cause spec.gives_up s.refused sent.taken old mid drain' none s.outage s.failures));
     }
 
@@ -168,7 +165,7 @@ and-false b = refl
 
 -- memory ran out in the send
 pub delivered-starved : {S : Type 0} (spec : DestSpec) (step : S → CoreCall → CoreReply → S → Type 0) (counter counter' : S) (place : ℕ) (messages : List Content) (old mid new : Outage) (drain drain' : OutletState) (sent : Sent) (goes : Bool)
-    → Sends spec.gives_up (sent_of spec messages) old mid drain drain' sent → old.reopens ≡ false → old.given_up ≡ None
+    → SendComesTo spec.gives_up (sent_of spec messages) old mid drain drain' sent → old.reopens ≡ false → old.given_up ≡ None
     → Settles step counter counter' spec.dest place sent.taken drain'.count mid new goes → HasDelivered spec step counter counter' place messages new drain drain' false false
 delivered-starved spec step counter counter' place messages old mid new drain drain' sent goes s open' none (inl h) =
     delivered spec step counter counter' place messages old mid new drain drain' sent false false [] s open' none h.counter_stays tt (omega arith) refl
@@ -179,7 +176,7 @@ delivered-starved spec step counter counter' place messages old mid new drain dr
 
 -- the entries weren't the first ones, or the store has failed
 pub delivered-stopped : {S : Type 0} (spec : DestSpec) (step : S → CoreCall → CoreReply → S → Type 0) (counter counter' : S) (place : ℕ) (messages : List Content) (old mid new : Outage) (drain drain' : OutletState) (sent : Sent) (goes : Bool)
-    → Sends spec.gives_up (sent_of spec messages) old mid drain drain' sent → old.reopens ≡ false → old.given_up ≡ None
+    → SendComesTo spec.gives_up (sent_of spec messages) old mid drain drain' sent → old.reopens ≡ false → old.given_up ≡ None
     → Settles step counter counter' spec.dest place sent.taken drain'.count mid new goes → goes ≡ false → sent.starved ≡ false → HasDelivered spec step counter counter' place messages new drain drain' true (is_idle sent.later sent.taken)
 delivered-stopped spec step counter counter' place messages old mid new drain drain' sent goes s open' none (inl h) stops fed = absurd (let differ : true ≡ false = sym h.goes_on ∙ stops in cc)
 delivered-stopped spec step counter counter' place messages old mid new drain drain' sent goes s open' none (inr h) stops fed =
@@ -188,7 +185,7 @@ delivered-stopped spec step counter counter' place messages old mid new drain dr
 
 -- all went well
 pub delivered-well : {S : Type 0} (spec : DestSpec) (step : S → CoreCall → CoreReply → S → Type 0) (counter between counter' : S) (place : ℕ) (messages : List Content) (old mid third' new : Outage) (drain drain' : OutletState) (sent : Sent) (goes : Bool)
-    → Sends spec.gives_up (sent_of spec messages) old mid drain drain' sent → old.reopens ≡ false → old.given_up ≡ None
+    → SendComesTo spec.gives_up (sent_of spec messages) old mid drain drain' sent → old.reopens ≡ false → old.given_up ≡ None
     → Settles step counter between spec.dest place sent.taken drain'.count mid third' goes → goes ≡ true → Refills step between counter' spec.dest third' new → sent.starved ≡ false
     → HasDelivered spec step counter counter' place messages new drain drain' true (is_idle sent.later sent.taken)
 delivered-well spec step counter between counter' place messages old mid third' new drain drain' sent goes s open' none (inl h) on r fed =

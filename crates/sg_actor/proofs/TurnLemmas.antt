@@ -14,9 +14,9 @@ use Rattle.sg_counter.specs.declared.answers.Stored.{Stored}
 use Rattle.sg_counter.specs.declared.answers.Stored.TheVariants.{Wrote, Unchanged, Broken}
 use Rattle.sg_actor.specs.Reading.{one_if}
 use Rattle.sg_actor.specs.Sources.{SourceState, AreOf}
-use Rattle.sg_actor.specs.Steps.{IsOver, Fails}
-use Rattle.sg_actor.specs.Bringing.{exchange, AllBy, admitted_by, admitted_in, carried_by, carried_in, stored_by, has_admitted, stores_in, last_end, HasRefusal, HasSentBack, HadNothing, ReadsOn, is_nothing}
-use Rattle.sg_actor.specs.Positions.{is_same_credit, is_due, has_news, after_stores, Stores}
+use Rattle.sg_actor.specs.Steps.{IsInletOver, PullFails}
+use Rattle.sg_actor.specs.Bringing.{exchange, AllBy, admitted_by, admitted_in, carried_by, carried_in, stored_by, has_admitted, stores_in, last_end, HasRefusal, HasSentBack, HadNothing, ReadsOnTurn, is_nothing}
+use Rattle.sg_actor.specs.Positions.{is_same_credit, is_due, has_news, after_stores, StoresPosition}
 use Rattle.sg_actor.specs.SourceTurns.{ActorState, rests, TakesTurn, bad_after}
 use Rattle.sg_actor.specs.declared.position.Position.{Position}
 use Rattle.sg_actor.specs.declared.reader.Reader.{Reader}
@@ -34,7 +34,7 @@ pub own-append : (caller : Caller) (xs ys : List Exchange) → AllBy caller xs �
 own-append caller [] ys h k = k
 own-append caller (x ∷ xs) ys h k = (h.0, own-append caller xs ys h.1 k)
 
-admitted-append : (xs ys : List Exchange) → admitted_in (xs ++ ys) ≡ admitted_in xs ++ admitted_in ys
+pub admitted-append : (xs ys : List Exchange) → admitted_in (xs ++ ys) ≡ admitted_in xs ++ admitted_in ys
 admitted-append [] ys = refl
 admitted-append (x ∷ xs) ys =
     ap (λ as'. admitted_by x.call x.reply ++ as') (admitted-append xs ys) ∙ sym (append_assoc (admitted_by x.call x.reply) (admitted_in xs) (admitted_in ys))
@@ -108,7 +108,7 @@ all-false true false false true h = absurd (let differ : false ≡ true = h in c
 all-false true false false false h = (refl, refl, refl)
 all-false false p a u h = absurd (let differ : false ≡ true = h in cc)
 
-did-false : (r n : Bool) → (not r || n) ≡ false → (r ≡ true) × (n ≡ false)
+pub did-false : (r n : Bool) → (not r || n) ≡ false → (r ≡ true) × (n ≡ false)
 did-false true n h = (refl, h)
 did-false false n h = absurd (let differ : true ≡ false = h in cc)
 
@@ -126,7 +126,7 @@ stored-empty (s ∷ t ∷ ss) end old false more is count quiet = absurd (omega 
 
 pub turn-starved : {S : Type 0} (offers : ℕ → Record → List Offer → Type 0) (dests : ℕ) (spec : SourceSpec) (step : S → CoreCall → CoreReply → S → Type 0) (counter mid counter' : S) (credit : ℕ) (old : ActorState) (b : SourceState)
     (position : Position) (e : AllocError) (r : Result Turned AllocError) → IsErr r → step counter (Credit spec.inlet) (CreditReply credit) mid → position ≡ record old.position { credit = Some credit }
-    → ReadsOn {E = AllocError} offers dests spec step mid counter' credit old.source b (Err e) → Fails old.source.reader.failed b.reader.failed old.source.feed.faults b.feed.faults
+    → ReadsOnTurn {E = AllocError} offers dests spec step mid counter' credit old.source b (Err e) → PullFails old.source.reader.failed b.reader.failed old.source.feed.faults b.feed.faults
     → (old.source.reader.ended ≡ true → b.reader.ended ≡ true)
     → TakesTurn {E = AllocError} offers dests spec step counter counter' old (record { source = b; position = position; bad_frames = old.bad_frames }) r
 turn-starved offers dests spec step counter mid counter' credit old b position e (Ok turned) is asked noted h failing ended = absurd (let differ : false ≡ true = is in cc)
@@ -170,7 +170,7 @@ stored-of spec stores end noted broken more is count quiet stored =
     stored-empty stores end noted broken more is (count ∙ ap (λ s. one_if (s && (not broken && (true || more)))) stored) quiet
 
 had-nothing : (i credit : ℕ) (made more : List Exchange) (b : SourceState) → HadNothing credit made b.reader
-    → HasRefusal (exchange (Credit i) (CreditReply credit) ∷ (made ++ more)) ⊎ IsOver b.reader
+    → HasRefusal (exchange (Credit i) (CreditReply credit) ∷ (made ++ more)) ⊎ IsInletOver b.reader
 had-nothing i credit made more b (inl poor) = inl (inl poor)
 had-nothing i credit made more b (inr (inl refused)) = inl (inr (refusal-append made more refused))
 had-nothing i credit made more b (inr (inr over)) = inr over
@@ -184,9 +184,9 @@ emptied i credit made more old new (inr (inr sent)) = inr (inr (inr (sent-append
 pub turn-done : {S : Type 0} (offers : ℕ → Record → List Offer → Type 0) (dests : ℕ) (spec : SourceSpec) (step : S → CoreCall → CoreReply → S → Type 0) (counter mid third counter' : S) (credit : ℕ) (old : ActorState) (b : SourceState)
     (noted position : Position) (doings : Doings) (same quiet news did : Bool) (bad : ℕ)
     → step counter (Credit spec.inlet) (CreditReply credit) mid → noted ≡ record old.position { credit = Some credit } → same ≡ is_same_credit old.position.credit credit
-    → ReadsOn {E = AllocError} offers dests spec step mid third credit old.source b (Ok doings) → quiet ≡ (same && is_nothing doings)
-    → Stores spec step third counter' quiet b.reader.end noted position news → did ≡ (not quiet || news) → bad ≡ bad_after old.bad_frames (one_if doings.gave_up)
-    → Fails old.source.reader.failed b.reader.failed old.source.feed.faults b.feed.faults
+    → ReadsOnTurn {E = AllocError} offers dests spec step mid third credit old.source b (Ok doings) → quiet ≡ (same && is_nothing doings)
+    → StoresPosition spec step third counter' quiet b.reader.end noted position news → did ≡ (not quiet || news) → bad ≡ bad_after old.bad_frames (one_if doings.gave_up)
+    → PullFails old.source.reader.failed b.reader.failed old.source.feed.faults b.feed.faults
     → (old.source.reader.ended ≡ true → b.reader.ended ≡ true)
     → TakesTurn {E = AllocError} offers dests spec step counter counter' old (record { source = b; position = position; bad_frames = bad }) (Ok (record { did = did; idle = doings.idle }))
 turn-done offers dests spec step counter mid third counter' credit old b noted position doings same quiet news did bad asked noted-is same-is h quiet-is s did-is bad-is failing ended =

@@ -12,8 +12,8 @@ use Rattle.sg_counter.specs.declared.calls.CoreReply.TheVariants.{Credit as Cred
 use Rattle.sg_counter.specs.declared.answers.Stored.{Stored as StoredAnswer}
 use Rattle.sg_counter.specs.declared.answers.Refused.TheVariants.{NoCredit, NoMemory as AdmitNoMemory}
 use Rattle.sg_actor.specs.Reading.{one_if}
-use Rattle.sg_actor.specs.Sources.{SourceState, AreOf, Reads, HasRead, IsReady}
-use Rattle.sg_actor.specs.Steps.{parts_over, is_spent, has_pulled, was_idle, IsOver}
+use Rattle.sg_actor.specs.Sources.{SourceState, AreOf, ReadsRecords, HasRead, IsReady}
+use Rattle.sg_actor.specs.Steps.{parts_over, is_spent, has_pulled, was_idle, IsInletOver}
 use Rattle.sg_actor.specs.declared.reader.Reader.{Reader}
 use Rattle.sg_actor.specs.declared.admitting.Handed.{Handed}
 use Rattle.sg_actor.specs.declared.reading.Doings.{Doings}
@@ -63,14 +63,14 @@ stores_in [] = []
 stores_in (e ∷ es) = stored_by e.reply ++ stores_in es
 
 -- the source has no credit, or not enough
-abbrev pub IsRefusal : CoreReply → Type 0
-IsRefusal (CreditReply credit) = credit ≡ 0
-IsRefusal (Admitted (Err (NoCredit records))) = Unit {0}
-IsRefusal reply = ⊥
+abbrev pub IsCreditRefusal : CoreReply → Type 0
+IsCreditRefusal (CreditReply credit) = credit ≡ 0
+IsCreditRefusal (Admitted (Err (NoCredit records))) = Unit {0}
+IsCreditRefusal reply = ⊥
 
 abbrev pub HasRefusal : List Exchange → Type 0
 HasRefusal [] = ⊥
-HasRefusal (e ∷ es) = IsRefusal e.reply ⊎ HasRefusal es
+HasRefusal (e ∷ es) = IsCreditRefusal e.reply ⊎ HasRefusal es
 
 -- the source had not enough credit for the records that it brought
 abbrev pub IsSentBack : CoreReply → Type 0
@@ -143,18 +143,18 @@ HandsBy old made (Ok handed) =
 HandsBy old made (Err e) = Unit {0}
 
 -- What a step leaves that may give parts up, so many.
-pub record Gives (dests : ℕ) (spec : SourceSpec) (old new : SourceState) (ups : ℕ) : Type 0 where
+pub record MayGiveUp (dests : ℕ) (spec : SourceSpec) (old new : SourceState) (ups : ℕ) : Type 0 where
   pub ready : IsReady dests spec new
-  pub reads : (done : List Record) (before : ℕ) → Reads old done before
-      → Reads new done (before + ups)
+  pub reads : (done : List Record) (before : ℕ) → ReadsRecords old done before
+      → ReadsRecords new done (before + ups)
   pub advances : Advances old.feed new.feed
   pub parts : ups + parts_over old.reader.given_up old.feed.parts
       ≤ parts_over new.reader.given_up new.feed.parts
   pub unpulled : IsUnpulled old new
 
 -- the records that were held are admitted, or they are still held
-abbrev pub Moves : List Admission → List Admission → List Admission → Type 0
-Moves held held' admitted = ((held' ≡ []) × (admitted ≡ held)) ⊎ ((held' ≡ held) × (admitted ≡ []))
+abbrev pub MovesHeld : List Admission → List Admission → List Admission → Type 0
+MovesHeld held held' admitted = ((held' ≡ []) × (admitted ≡ held)) ⊎ ((held' ≡ held) × (admitted ≡ []))
 
 -- what was read is handed in
 pub record HandsIn {S E : Type 0} (dests : ℕ) (spec : SourceSpec) (step : S → CoreCall → CoreReply → S → Type 0) (counter counter' : S)
@@ -164,8 +164,8 @@ pub record HandsIn {S E : Type 0} (dests : ℕ) (spec : SourceSpec) (step : S �
   pub makes : Makes step counter made counter'
   pub own : AllBy (OfSource spec.inlet) made
   pub unstored : stores_in made ≡ []
-  pub gives : Gives dests spec old new (ups_of result)
-  pub moves : Moves old.reader.held new.reader.held (admitted_in made)
+  pub gives : MayGiveUp dests spec old new (ups_of result)
+  pub moves : MovesHeld old.reader.held new.reader.held (admitted_in made)
   pub within : length (carried_in made) ≤ length old.reader.held
   pub empties : Empties new.reader made result
   pub end : new.reader.end ≡ last_end old.reader.end (admitted_in made)
@@ -177,7 +177,7 @@ ups_done (Err e) = 0
 
 -- the source had no credit, or not enough, or its inlet is over
 abbrev pub HadNothing : ℕ → List Exchange → Reader → Type 0
-HadNothing credit made reader = (credit ≡ 0) ⊎ (HasRefusal made ⊎ IsOver reader)
+HadNothing credit made reader = (credit ≡ 0) ⊎ (HasRefusal made ⊎ IsInletOver reader)
 
 -- what was done, as the inlet and the calls tell it
 pub record DoesAs (credit : ℕ) (old new : SourceState) (made : List Exchange) (doings : Doings) : Type 0 where
@@ -187,12 +187,12 @@ pub record DoesAs (credit : ℕ) (old new : SourceState) (made : List Exchange) 
   pub nothing : doings.pulled ≡ false → doings.admitted ≡ false → doings.gave_up ≡ false
       → doings.idle ≡ false → HadNothing credit made new.reader
 
-abbrev pub Does : {E : Type 0} → ℕ → SourceState → SourceState → List Exchange → Result Doings E
+abbrev pub DoesInTurn : {E : Type 0} → ℕ → SourceState → SourceState → List Exchange → Result Doings E
     → Type 0
-Does credit old new made (Ok doings) = DoesAs credit old new made doings
-Does credit old new made (Err e) = Unit {0}
+DoesInTurn credit old new made (Ok doings) = DoesAs credit old new made doings
+DoesInTurn credit old new made (Err e) = Unit {0}
 
-pub record ReadsOn {S E : Type 0} (offers : ℕ → Record → List Offer → Type 0) (dests : ℕ) (spec : SourceSpec) (step : S → CoreCall → CoreReply → S → Type 0) (counter counter' : S)
+pub record ReadsOnTurn {S E : Type 0} (offers : ℕ → Record → List Offer → Type 0) (dests : ℕ) (spec : SourceSpec) (step : S → CoreCall → CoreReply → S → Type 0) (counter counter' : S)
     (credit : ℕ) (old new : SourceState) (result : Result Doings E) : Type 0 where
   pub made : List Exchange
   pub few : length made ≤ 1
@@ -200,7 +200,7 @@ pub record ReadsOn {S E : Type 0} (offers : ℕ → Record → List Offer → Ty
   pub pulls : new.feed.pulls ≤ old.feed.pulls + 1
   pub within : length (carried_in made) ≤ max (length old.reader.held) credit
   pub empties : EmptiesOn credit old.reader new.reader made result
-  pub does : Does credit old new made result
+  pub does : DoesInTurn credit old new made result
 
 abbrev pub is_nothing : Doings → Bool
 is_nothing doings = not doings.pulled && not doings.admitted && not doings.gave_up

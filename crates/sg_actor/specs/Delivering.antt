@@ -11,8 +11,8 @@ use Rattle.sg_counter.specs.declared.answers.Settled.{Settled}
 use Rattle.sg_counter.specs.declared.answers.Refill.{Refill as Refilled}
 use Rattle.sg_actor.specs.Bringing.{AllBy}
 use Rattle.sg_actor.specs.Rendering.{frames_by, sent_of}
-use Rattle.sg_actor.specs.Outages.{HasFailures, Takes, Waits, is_idle}
-use Rattle.sg_actor.specs.DestTurns.{is_breakage, is_done, after_reply, shown_in, has_shown, Delivers, HasCause, IsShownEmpty}
+use Rattle.sg_actor.specs.Outages.{HasFailures, TakesFrames, Waits, is_idle}
+use Rattle.sg_actor.specs.DestTurns.{is_breakage, is_done, after_reply, shown_in, has_shown, DeliversFront, HasGivenUpCause, IsShownEmpty}
 use Rattle.sg_actor.specs.declared.outage.Outage.{Outage}
 use Rattle.sg_actor.specs.declared.rendering.DestSpec.{DestSpec}
 use Rattle.sg_actor.specs.declared.turned.Turned.{Turned}
@@ -51,7 +51,7 @@ ShowsBy made idle new (Ok turned) = (turned.idle ≡ idle) × (turned.did ≡ (h
 ShowsBy made idle new (Err e) = Unit {0}
 
 -- what a turn does once its outlet is open
-pub record FrontGives {S E : Type 0} (spec : DestSpec) (step : S → CoreCall → CoreReply → S → Type 0) (counter counter' : S) (new : Outage) (drain drain' : OutletState) (result : Result Turned E) : Type 0 where
+pub record FrontTurnGives {S E : Type 0} (spec : DestSpec) (step : S → CoreCall → CoreReply → S → Type 0) (counter counter' : S) (new : Outage) (drain drain' : OutletState) (result : Result Turned E) : Type 0 where
   pub made : List Exchange
   pub taken : ℕ
   pub refused : Bool
@@ -59,8 +59,8 @@ pub record FrontGives {S E : Type 0} (spec : DestSpec) (step : S → CoreCall �
   pub makes : Makes step counter made counter'
   pub own : AllBy (OfDest spec.dest) made
   pub few : length made ≤ 3
-  pub delivers : Delivers spec.dest taken drain'.count (is_ok result) made
-  pub takes : Takes taken (frames_by spec (shown_in made)) drain drain'
+  pub delivers : DeliversFront spec.dest taken drain'.count (is_ok result) made
+  pub takes : TakesFrames taken (frames_by spec (shown_in made)) drain drain'
   pub within : taken ≤ length (sent_of spec (shown_in made))
   pub whole : is_ok result ≡ true → refused ≡ false → later ≡ false
       → taken ≡ length (sent_of spec (shown_in made))
@@ -69,5 +69,5 @@ pub record FrontGives {S E : Type 0} (spec : DestSpec) (step : S → CoreCall �
   pub rose : refused ≡ true → Rose drain.faults drain'.faults
   pub failures : HasFailures new drain'
   pub reopens : new.reopens ≡ refused
-  pub cause : HasCause spec.gives_up refused drain' made new.given_up
+  pub cause : HasGivenUpCause spec.gives_up refused drain' made new.given_up
   pub shows : ShowsBy made (is_idle later taken) new result

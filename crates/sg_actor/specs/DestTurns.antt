@@ -15,7 +15,7 @@ use Rattle.sg_counter.specs.declared.answers.Settled.TheVariants.{Done, DiskFail
 use Rattle.sg_counter.specs.declared.answers.Refill.TheVariants.{Broken as RefillBroken}
 use Rattle.sg_actor.specs.Bringing.{AllBy}
 use Rattle.sg_actor.specs.Rendering.{frames_by, sent_of}
-use Rattle.sg_actor.specs.Outages.{HasFailures, Takes, Waits, is_idle, broken}
+use Rattle.sg_actor.specs.Outages.{HasFailures, TakesFrames, Waits, is_idle, broken}
 use Rattle.sg_actor.specs.declared.outage.Outage.{Outage}
 use Rattle.sg_actor.specs.declared.rendering.DestSpec.{DestSpec}
 use Rattle.sg_actor.specs.declared.turned.GivenUp.{GivenUp}
@@ -66,25 +66,25 @@ SettlesFirst d place (suc n) count well [] = ⊥
 SettlesFirst d place (suc n) count well (s ∷ made) = (s.call ≡ Settle d place (suc n) count)
     × Refills d (well && is_done s.reply) made
 
-abbrev pub Follows : (d taken count : ℕ) → Bool → CoreReply → List Exchange → Type 0
-Follows d taken count well (FrontReply (Ok (Entries place []))) made = (made ≡ []) × (taken ≡ 0)
-Follows d taken count well (FrontReply (Ok (Entries place (m ∷ ms)))) made = SettlesFirst d place
+abbrev pub FollowsFront : (d taken count : ℕ) → Bool → CoreReply → List Exchange → Type 0
+FollowsFront d taken count well (FrontReply (Ok (Entries place []))) made = (made ≡ []) × (taken ≡ 0)
+FollowsFront d taken count well (FrontReply (Ok (Entries place (m ∷ ms)))) made = SettlesFirst d place
     taken count well made
-Follows d taken count well reply made = (made ≡ []) × (taken ≡ 0)
+FollowsFront d taken count well reply made = (made ≡ []) × (taken ≡ 0)
 
 -- the first entries are asked for, at most 100, and what was taken of them is settled; or no call is made
-abbrev pub Delivers : (d taken count : ℕ) → Bool → List Exchange → Type 0
-Delivers d taken count well [] = taken ≡ 0
-Delivers d taken count well (f ∷ made) = (f.call ≡ Front d 100)
-    × Follows d taken count well f.reply made
+abbrev pub DeliversFront : (d taken count : ℕ) → Bool → List Exchange → Type 0
+DeliversFront d taken count well [] = taken ≡ 0
+DeliversFront d taken count well (f ∷ made) = (f.call ≡ Front d 100)
+    × FollowsFront d taken count well f.reply made
 
 -- Why a destination is given up: its outlet failed three times in a row, or the store of its disk-buffer failed.
-abbrev pub HasCause : Bool → Bool → OutletState → List Exchange → Option GivenUp → Type 0
-HasCause gives_up refused drain made None = (has_broken made ≡ false)
+abbrev pub HasGivenUpCause : Bool → Bool → OutletState → List Exchange → Option GivenUp → Type 0
+HasGivenUpCause gives_up refused drain made None = (has_broken made ≡ false)
     × (gives_up ≡ true → refused ≡ true → drain.failing < 3)
-HasCause gives_up refused drain made (Some Outlet) = (gives_up ≡ true) × (refused ≡ true)
+HasGivenUpCause gives_up refused drain made (Some Outlet) = (gives_up ≡ true) × (refused ≡ true)
     × (3 ≤ drain.failing)
-HasCause gives_up refused drain made (Some Store) = has_broken made ≡ true
+HasGivenUpCause gives_up refused drain made (Some Store) = has_broken made ≡ true
 
 -- no entry is left
 abbrev pub IsEmptyFront : CoreReply → Type 0
@@ -103,10 +103,10 @@ pub record TellsSent (old new : Outage) (made : List Exchange) (taken : ℕ) (dr
   pub empty : turned.did ≡ false → turned.idle ≡ false
       → (is_some new.given_up ≡ true) ⊎ IsShownEmpty made
 
-abbrev pub Tells : {E : Type 0} → Outage → Outage → List Exchange → ℕ → OutletState → OutletState
+abbrev pub TellsDest : {E : Type 0} → Outage → Outage → List Exchange → ℕ → OutletState → OutletState
     → Result Turned E → Type 0
-Tells old new made taken drain drain' (Ok turned) = TellsSent old new made taken drain drain' turned
-Tells old new made taken drain drain' (Err e) = Unit {0}
+TellsDest old new made taken drain drain' (Ok turned) = TellsSent old new made taken drain drain' turned
+TellsDest old new made taken drain drain' (Err e) = Unit {0}
 
 -- A turn of a destination that isn't given up. So many frames of the first entries were taken, and just so many are settled, with the
 -- outlet's count at the end of the turn; the last send or reopening was refused with a fault, or not.
@@ -115,8 +115,8 @@ pub record SendsWith {S E : Type 0} (spec : DestSpec) (step : S → CoreCall →
   pub makes : Makes step counter made counter'
   pub own : AllBy (OfDest spec.dest) made
   pub few : length made ≤ 4
-  pub delivers : Delivers spec.dest taken drain'.count (is_ok result) made
-  pub takes : Takes taken (frames_by spec (shown_in made)) drain drain'
+  pub delivers : DeliversFront spec.dest taken drain'.count (is_ok result) made
+  pub takes : TakesFrames taken (frames_by spec (shown_in made)) drain drain'
   pub within : taken ≤ length (sent_of spec (shown_in made))
   pub whole : is_ok result ≡ true → refused ≡ false → drain'.laters ≡ drain.laters
       → taken ≡ length (sent_of spec (shown_in made))
@@ -126,28 +126,28 @@ pub record SendsWith {S E : Type 0} (spec : DestSpec) (step : S → CoreCall →
   pub failures : HasFailures new drain'
   pub reopens : new.reopens
       ≡ (refused || (nat_lt drain.laters drain'.laters && not (has_shown made)))
-  pub cause : HasCause spec.gives_up refused drain' made new.given_up
-  pub tells : Tells old new made taken drain drain' result
+  pub cause : HasGivenUpCause spec.gives_up refused drain' made new.given_up
+  pub tells : TellsDest old new made taken drain drain' result
 
 -- a turn of one that is given up
-pub record Stays {S E : Type 0} (counter counter' : S) (old new : Outage) (drain drain' : OutletState) (result : Result Turned E) : Type 0 where
+pub record StaysGivenUp {S E : Type 0} (counter counter' : S) (old new : Outage) (drain drain' : OutletState) (result : Result Turned E) : Type 0 where
   pub counter_stays : counter' ≡ counter
   pub outage_stays : new ≡ old
   pub drain_stays : drain' ≡ drain
   pub nothing : result ≡ Ok (record { did = false; idle = false })
 
-abbrev pub SendsBy : {S E : Type 0} → Option GivenUp → DestSpec
+abbrev pub SendsByCause : {S E : Type 0} → Option GivenUp → DestSpec
     → (S → CoreCall → CoreReply → S → Type 0) → S → S → Outage → Outage → OutletState → OutletState
     → Result Turned E → Type 0
-SendsBy None spec step counter counter' old new drain drain' result =
+SendsByCause None spec step counter counter' old new drain drain' result =
     (made : List Exchange) × ((taken : ℕ) × ((refused : Bool)
     × SendsWith spec step counter counter' old new drain drain' result made taken refused))
-SendsBy (Some cause) spec step counter counter' old new drain drain' result = Stays counter counter'
+SendsByCause (Some cause) spec step counter counter' old new drain drain' result = StaysGivenUp counter counter'
     old new drain drain' result
 
 abbrev pub SendsTurn : {S E : Type 0} → DestSpec → (S → CoreCall → CoreReply → S → Type 0) → S → S
     → Outage → Outage → OutletState → OutletState → Result Turned E → Type 0
-SendsTurn spec step counter counter' old new drain drain' result = SendsBy old.given_up spec step
+SendsTurn spec step counter counter' old new drain drain' result = SendsByCause old.given_up spec step
     counter counter' old new drain drain' result
 
 -- What the calls leave of what is known of failures.
@@ -176,7 +176,7 @@ pub record HasDelivered {S : Type 0} (spec : DestSpec) (step : S → CoreCall �
   pub few : length made ≤ 2
   pub unshown : shown_in made ≡ []
   pub settles : SettlesFirst spec.dest place taken drain'.count well made
-  pub takes : Takes taken (sent_of spec messages) drain drain'
+  pub takes : TakesFrames taken (sent_of spec messages) drain drain'
   pub within : taken ≤ length (sent_of spec messages)
   pub whole : well ≡ true → refused ≡ false → later ≡ false → taken ≡ length (sent_of spec messages)
   pub idles : well ≡ true → idle ≡ is_idle later taken
@@ -184,7 +184,7 @@ pub record HasDelivered {S : Type 0} (spec : DestSpec) (step : S → CoreCall �
   pub rose : refused ≡ true → Rose drain.faults drain'.faults
   pub failures : HasFailures new drain'
   pub reopens : new.reopens ≡ refused
-  pub cause : HasCause spec.gives_up refused drain' made new.given_up
+  pub cause : HasGivenUpCause spec.gives_up refused drain' made new.given_up
 
 -- a destination whose outlet never failed
 pub record IsNewDest (dest : ℕ) (gives_up : Bool) (shape : Shape) (env : Env) (spec : DestSpec) (outage : Outage) (drain : OutletState) : Type 0 where

@@ -6,7 +6,7 @@ use Rattle.sg_frame.specs.declared.kind.FrameKind.TheVariants.{Lines}
 use Rattle.sg_frame.specs.Records.{Record, records}
 use Rattle.sg_actor.specs.Reading.{bad_parts}
 use Rattle.sg_actor.specs.Sources.{SourceState, HasRead, IsReady, HasNothingLeft}
-use Rattle.sg_actor.specs.Steps.{IsOver}
+use Rattle.sg_actor.specs.Steps.{IsInletOver}
 use Rattle.sg_actor.specs.declared.settings.SourceSpec.{SourceSpec}
 
 -- the records admitted are the first ones that the inlet gave
@@ -20,7 +20,7 @@ ReadsFirst offers dests spec s =
 abbrev pub ReadsAll : (ℕ → Record → List Offer → Type 0) → ℕ → SourceSpec → SourceState → Type 0
 ReadsAll offers dests spec s =
     (done : List Record) (ups : ℕ) (parts : List Part) → IsReady dests spec s
-    → HasRead offers spec s done ups → IsOver s.reader → s.feed.told ≡ Some parts
+    → HasRead offers spec s done ups → IsInletOver s.reader → s.feed.told ≡ Some parts
     → (done ≡ records spec.kind spec.limit spec.from parts)
     × (ups ≡ bad_parts spec.kind spec.limit parts)
 

@@ -4,8 +4,8 @@ use Rattle.std.specs.Option.{option_map}
 use Rattle.sg_device.specs.Faults.{Rose}
 use Rattle.sg_device.specs.Outlet.{OutletState}
 use Rattle.sg_actor.specs.declared.outage.Outage.{Outage}
-use Rattle.sg_actor.specs.declared.outage.Begun.{Begun}
-use Rattle.sg_actor.specs.declared.outage.Begun.TheVariants.{Open, Reopened, Later, Failed}
+use Rattle.sg_actor.specs.declared.outage.BegunTurn.{BegunTurn}
+use Rattle.sg_actor.specs.declared.outage.BegunTurn.TheVariants.{Open, Reopened, Later, Failed}
 use Rattle.sg_actor.specs.declared.outage.Sent.{Sent}
 use Rattle.sg_actor.specs.declared.turned.GivenUp.{GivenUp}
 use Rattle.sg_actor.specs.declared.turned.GivenUp.TheVariants.{Outlet, Store}
@@ -39,21 +39,21 @@ abbrev pub broken : Outage → Outage
 broken outage = record outage { given_up = broken_cause outage.given_up }
 
 -- so many of the first of these frames were taken
-pub record Takes (taken : ℕ) (frames : List (List ℕ)) (old new : OutletState) : Type 0 where
+pub record TakesFrames (taken : ℕ) (frames : List (List ℕ)) (old new : OutletState) : Type 0 where
   pub told : new.taken ≡ option_map (λ before. before ++ take taken frames) old.taken
   pub rose : new.count ≡ old.count + taken
   pub faults : old.faults ≤ new.faults
 
 -- an outlet that didn't fail last isn't reopened; another one is, or it is too early, or it fails again
-abbrev pub Begins : Bool → Outage → Outage → OutletState → OutletState → Begun → Type 0
-Begins gives_up old new drain drain' Open = (old.reopens ≡ false) × (new ≡ old) × (drain' ≡ drain)
-Begins gives_up old new drain drain' Reopened = (old.reopens ≡ true)
-    × (new ≡ record old { reopens = false }) × Takes 0 [] drain drain'
+abbrev pub BeginsTurn : Bool → Outage → Outage → OutletState → OutletState → BegunTurn → Type 0
+BeginsTurn gives_up old new drain drain' Open = (old.reopens ≡ false) × (new ≡ old) × (drain' ≡ drain)
+BeginsTurn gives_up old new drain drain' Reopened = (old.reopens ≡ true)
+    × (new ≡ record old { reopens = false }) × TakesFrames 0 [] drain drain'
     × (drain'.laters ≡ drain.laters) × (drain'.failing ≡ drain.failing)
-Begins gives_up old new drain drain' Later = (old.reopens ≡ true) × (new ≡ old)
+BeginsTurn gives_up old new drain drain' Later = (old.reopens ≡ true) × (new ≡ old)
     × (drain' ≡ record drain { laters = drain.laters + 1 })
-Begins gives_up old new drain drain' Failed = (old.reopens ≡ true) × (new ≡ failed gives_up old)
-    × Takes 0 [] drain drain' × (drain'.laters ≡ drain.laters) × Rose drain.faults drain'.faults
+BeginsTurn gives_up old new drain drain' Failed = (old.reopens ≡ true) × (new ≡ failed gives_up old)
+    × TakesFrames 0 [] drain drain' × (drain'.laters ≡ drain.laters) × Rose drain.faults drain'.faults
     × HasFailures new drain'
 
 -- it was too early for one call, or for none
@@ -66,8 +66,8 @@ abbrev pub is_idle : Bool → ℕ → Bool
 is_idle later taken = later && (taken == 0)
 
 -- what became of a send: a failure is counted, and neither is it one that it was too early nor lack of memory
-pub record Sends (gives_up : Bool) (frames : List (List ℕ)) (old new : Outage) (drain drain' : OutletState) (sent : Sent) : Type 0 where
-  pub takes : Takes sent.taken frames drain drain'
+pub record SendComesTo (gives_up : Bool) (frames : List (List ℕ)) (old new : Outage) (drain drain' : OutletState) (sent : Sent) : Type 0 where
+  pub takes : TakesFrames sent.taken frames drain drain'
   pub within : sent.taken ≤ length frames
   pub waits : Waits sent.later drain drain'
   pub failures : HasFailures new drain'

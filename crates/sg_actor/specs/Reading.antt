@@ -1,5 +1,5 @@
 -- What was read of what an inlet gave: the records that were taken, and the bytes behind them.
-use Rattle.std.specs.Prelude.{◌≡◌, ◌≤◌, ℕ, ℤ, pos, ◌≤ℤ◌, ◌+◌, Bool, true, false, List, [], ◌∷◌, ◌++◌, map, take, Option, Some, None}
+use Rattle.std.specs.Prelude.{◌≡◌, ◌≤◌, ℕ, ◌+◌, Bool, true, false, List, [], ◌∷◌, ◌++◌, map, take, Option, Some, None}
 use Rattle.sg_device.specs.Inlet.{Stamped, Part, stamped}
 use Rattle.sg_device.specs.declared.inlet.Pull.{Pull}
 use Rattle.sg_device.specs.declared.inlet.Pull.TheVariants.{Bytes, Next, Idle, End}
@@ -8,6 +8,7 @@ use Rattle.sg_frame.specs.declared.framer.Framed.{Framed}
 use Rattle.sg_frame.specs.declared.framer.Framed.TheVariants.{Item as Given, More, BadFrame}
 use Rattle.sg_frame.specs.Items.{Item, Form, Text, Count, Body, Bad, open_of}
 use Rattle.sg_frame.specs.Records.{Record, record_of, records}
+use Rattle.sg_frame.specs.Timely.{IsTimely}
 
 -- the parts before the last one
 abbrev pub earlier : List Part → List Part
@@ -45,17 +46,17 @@ bad_parts kind limit (part ∷ parts) = bad_forms (open_of kind limit part.given
 
 -- Of the last part these bytes were given, and of them these items taken; so many parts were given up for a bad count, the last one
 -- among them or not.
-pub record IsRead (kind : FrameKind) (limit from : ℕ) (peer : List ℕ) (parts : List Part) (last_too : Bool) (done : List Record) (ups : ℕ) (bytes : List Stamped) (items : List Item) : Type 0 where
+pub record IsPartRead (kind : FrameKind) (limit from : ℕ) (peer : List ℕ) (parts : List Part) (last_too : Bool) (done : List Record) (ups : ℕ) (bytes : List Stamped) (items : List Item) : Type 0 where
   pub given : bytes ≡ last_given parts
   pub has_peer : HasPeer peer parts
   pub taken : done ≡ records kind limit from (earlier parts) ++ map (record_of from peer) items
   pub given_up : ups ≡ bad_parts kind limit (earlier parts) + one_if last_too
 
 -- It claims nothing where the inlet doesn't tell.
-abbrev pub AreRead : FrameKind → ℕ → ℕ → List ℕ → Option (List Part) → Bool → List Record → ℕ
+abbrev pub AreItemsRead : FrameKind → ℕ → ℕ → List ℕ → Option (List Part) → Bool → List Record → ℕ
     → List Stamped → List Item → Type 0
-AreRead kind limit from peer None last_too done ups bytes items = Unit {0}
-AreRead kind limit from peer (Some parts) last_too done ups bytes items = IsRead kind limit from
+AreItemsRead kind limit from peer None last_too done ups bytes items = Unit {0}
+AreItemsRead kind limit from peer (Some parts) last_too done ups bytes items = IsPartRead kind limit from
     peer parts last_too done ups bytes items
 
 -- the item that the framer gave last, where its record isn't held yet
@@ -70,14 +71,6 @@ bytes_pulled (Bytes len at) buffer = stamped (take len buffer) at
 bytes_pulled Next buffer = []
 bytes_pulled Idle buffer = []
 bytes_pulled End buffer = []
-
--- a moment of a pull
-abbrev pub IsTimely : ℤ → Type 0
-IsTimely at = (pos 0 ≤ℤ at) × (at ≤ℤ pos 250000000000000000)
-
-abbrev pub AreTimely : List Stamped → Type 0
-AreTimely [] = Unit {0}
-AreTimely (b ∷ bytes) = IsTimely b.1 × AreTimely bytes
 
 -- they are in the buffer
 abbrev pub IsUnfed : ℕ → Pull → Type 0

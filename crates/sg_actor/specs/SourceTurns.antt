@@ -13,7 +13,7 @@ use Rattle.sg_counter.specs.declared.calls.CoreReply.TheVariants.{Credit as Cred
 use Rattle.sg_counter.specs.declared.answers.Stored.TheVariants.{Unchanged}
 use Rattle.sg_actor.specs.Reading.{one_if}
 use Rattle.sg_actor.specs.Sources.{SourceState, AreOf, HasRead, IsReady}
-use Rattle.sg_actor.specs.Steps.{parts_over, has_pulled, was_idle, IsOver, Fails}
+use Rattle.sg_actor.specs.Steps.{parts_over, has_pulled, was_idle, IsInletOver, PullFails}
 use Rattle.sg_actor.specs.Bringing.{exchange, AllBy, admitted_in, carried_in, has_admitted, stores_in, last_end, HasRefusal, EmptiesOn}
 use Rattle.sg_actor.specs.Positions.{is_same_credit, is_due, has_news, after_stores}
 use Rattle.sg_actor.specs.declared.position.Position.{Position}
@@ -62,14 +62,14 @@ rests old new made ups credit = not (does_some old new made ups)
     && is_same_credit old.position.credit credit
 
 -- the last answer on the position, where there is a store, is that it is the stored one, or that the store has failed
-abbrev pub IsStored : SourceSpec → Position → List Exchange → Type 0
-IsStored spec position made = spec.stored ≡ true
+abbrev pub IsPositionStored : SourceSpec → Position → List Exchange → Type 0
+IsPositionStored spec position made = spec.stored ≡ true
     → (position.broken ≡ true) ⊎ (stores_in made ≡ Unchanged ∷ [])
 
 -- In an empty turn the source was refused credit, or the inlet has ended or failed and all that it gave is dealt with.
 pub record IsEmptyTurn (spec : SourceSpec) (new : ActorState) (made : List Exchange) : Type 0 where
-  pub over : HasRefusal made ⊎ IsOver new.source.reader
-  pub stored : IsStored spec new.position made
+  pub over : HasRefusal made ⊎ IsInletOver new.source.reader
+  pub stored : IsPositionStored spec new.position made
 
 pub record TellsTurn (spec : SourceSpec) (old new : ActorState) (made : List Exchange) (ups credit : ℕ) (turned : Turned) : Type 0 where
   pub did : turned.did ≡ (not (rests old new made ups credit) || has_news (stores_in made))
@@ -78,10 +78,10 @@ pub record TellsTurn (spec : SourceSpec) (old new : ActorState) (made : List Exc
       (spec.stored && is_due old.position (rests old new made ups credit) new.source.reader.end)
   pub empty : turned.did ≡ false → turned.idle ≡ false → IsEmptyTurn spec new made
 
-abbrev pub Tells : {E : Type 0} → SourceSpec → ActorState → ActorState → List Exchange → ℕ → ℕ
+abbrev pub TellsSource : {E : Type 0} → SourceSpec → ActorState → ActorState → List Exchange → ℕ → ℕ
     → Result Turned E → Type 0
-Tells spec old new made ups credit (Ok turned) = TellsTurn spec old new made ups credit turned
-Tells spec old new made ups credit (Err e) = Unit {0}
+TellsSource spec old new made ups credit (Ok turned) = TellsTurn spec old new made ups credit turned
+TellsSource spec old new made ups credit (Err e) = Unit {0}
 
 -- A turn makes these calls, and gives up so many parts. Also where memory ran out the records that it admitted are the next ones that the
 -- inlet gave, in order, and those behind them are still to come.
@@ -93,7 +93,7 @@ pub record TurnsWith {S E : Type 0} (offers : ℕ → Record → List Offer → 
   pub asks : AsksCredit spec.inlet credit made
   pub ready : IsReady dests spec new.source
   pub advances : Advances old.source.feed new.source.feed
-  pub failing : Fails old.source.reader.failed new.source.reader.failed old.source.feed.faults
+  pub failing : PullFails old.source.reader.failed new.source.reader.failed old.source.feed.faults
       new.source.feed.faults
   -- an inlet that has ended isn't begun anew
   pub ended : old.source.reader.ended ≡ true → new.source.reader.ended ≡ true
@@ -115,7 +115,7 @@ pub record TurnsWith {S E : Type 0} (offers : ℕ → Record → List Offer → 
   pub bad : new.bad_frames ≡ bad_after old.bad_frames ups
   pub position : new.position ≡ after_stores new.source.reader.end (stores_in made)
       (record old.position { credit = Some credit })
-  pub tells : Tells spec old new made ups credit result
+  pub tells : TellsSource spec old new made ups credit result
 
 abbrev pub TakesTurn : {S E : Type 0} → (ℕ → Record → List Offer → Type 0) → ℕ → SourceSpec
     → (S → CoreCall → CoreReply → S → Type 0) → S → S → ActorState → ActorState → Result Turned E

@@ -10,9 +10,10 @@ use Rattle.sg_frame.specs.Framing.{Framing, HasFramed, fed, items_left, open_lef
 use Rattle.sg_frame.specs.Records.{Record}
 use Rattle.sg_route.specs.Offers.{record_at}
 use Rattle.sg_counter.specs.Bringing.{AllMayEnter}
-use Rattle.sg_actor.specs.Reading.{AreRead, items_ahead, bytes_pulled, IsTimely, AreTimely, IsUnfed}
+use Rattle.sg_actor.specs.Reading.{AreItemsRead, items_ahead, bytes_pulled, IsUnfed}
 use Rattle.sg_actor.specs.declared.reader.Reader.{Reader}
 use Rattle.sg_actor.specs.declared.settings.SourceSpec.{SourceSpec}
+use Rattle.sg_frame.specs.Timely.{IsTimely, AreTimely}
 
 -- the inlet, what the source keeps of it, and the buffer of its pulls
 pub record SourceState : Type 0 where
@@ -25,15 +26,15 @@ source feed reader buffer = record { feed = feed; reader = reader; buffer = buff
 
 pub record ReadsWith (s : SourceState) (done : List Record) (ups : ℕ) (bytes : List Stamped) (items : List Item) : Type 0 where
   pub framed : HasFramed bytes (items ++ items_ahead s.reader.ahead) s.reader.framer
-  pub read : AreRead s.reader.framer.kind s.reader.framer.limit s.feed.from s.feed.peer s.feed.told
+  pub read : AreItemsRead s.reader.framer.kind s.reader.framer.limit s.feed.from s.feed.peer s.feed.told
       s.reader.given_up done ups (bytes ++ bytes_pulled s.reader.pulled s.buffer) items
   -- each record took a byte with it at least
   pub fewer : length done + length (items_ahead s.reader.ahead) + length s.reader.framer.held
       + length (bytes_pulled s.reader.pulled s.buffer) ≤ s.feed.bytes
 
 -- these records were taken of what the inlet gave, the reader has what is behind them, and so many parts were given up
-abbrev pub Reads : SourceState → List Record → ℕ → Type 0
-Reads s done ups = (bytes : List Stamped) × ((items : List Item) × ReadsWith s done ups bytes items)
+abbrev pub ReadsRecords : SourceState → List Record → ℕ → Type 0
+ReadsRecords s done ups = (bytes : List Stamped) × ((items : List Item) × ReadsWith s done ups bytes items)
 
 -- the end of a record, which counts where the inlet has a position store
 abbrev pub end_of : Bool → Record → ℕ
@@ -58,13 +59,13 @@ AreOf offers spec (r ∷ rs) (a ∷ as') = IsOf offers spec r a × AreOf offers 
 abbrev pub HasRead : (ℕ → Record → List Offer → Type 0) → SourceSpec → SourceState → List Record → ℕ
     → Type 0
 HasRead offers spec s done ups = (behind : List Record)
-    × (AreOf offers spec behind s.reader.held × Reads s (done ++ behind) ups)
+    × (AreOf offers spec behind s.reader.held × ReadsRecords s (done ++ behind) ups)
 
 -- what the framer gave last is what stands at the front of its bytes
-abbrev pub IsAhead : Framing → Framed → Type 0
-IsAhead f (Given bytes end at) = IsTimely at × (end ≤ fed f)
-IsAhead f More = Unit {0}
-IsAhead f (BadFrame place) = (items_left f ≡ []) × (open_left f ≡ Bad place)
+abbrev pub IsFramedAhead : Framing → Framed → Type 0
+IsFramedAhead f (Given bytes end at) = IsTimely at × (end ≤ fed f)
+IsFramedAhead f More = Unit {0}
+IsFramedAhead f (BadFrame place) = (items_left f ≡ []) × (open_left f ≡ Bad place)
 
 abbrev pub IsBadFrame : Framed → Type 0
 IsBadFrame (Given bytes end at) = ⊥
@@ -86,7 +87,7 @@ pub record IsReady (dests : ℕ) (spec : SourceSpec) (s : SourceState) : Type 0 
   pub in_range : s.feed.place < 2 ^ 63
   pub timely : AreTimely s.reader.framer.held
   pub unfed : IsUnfed (length s.buffer) s.reader.pulled
-  pub ahead : IsAhead s.reader.framer s.reader.ahead
+  pub ahead : IsFramedAhead s.reader.framer s.reader.ahead
   pub held : AllMayEnter dests s.reader.held
   pub few : length s.reader.held ≤ spec.fetch
   pub begun : 0 < length s.reader.framer.held + length (bytes_pulled s.reader.pulled s.buffer)

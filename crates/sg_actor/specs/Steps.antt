@@ -8,18 +8,18 @@ use Rattle.sg_device.specs.declared.inlet.Pull.TheVariants.{Bytes, Next, Idle, E
 use Rattle.sg_frame.specs.declared.kind.FrameKind.{FrameKind}
 use Rattle.sg_frame.specs.declared.framer.Framed.{Framed}
 use Rattle.sg_frame.specs.declared.framer.Framed.TheVariants.{Item as Given, More, BadFrame}
-use Rattle.sg_frame.specs.Items.{IsSound}
+use Rattle.sg_frame.specs.Items.{IsSoundForm}
 use Rattle.sg_frame.specs.Records.{Record}
-use Rattle.sg_frame.specs.Framing.{Framing, HasFramed, Goes, NextTells, fresh, items_left, open_left, with_bytes}
+use Rattle.sg_frame.specs.Framing.{Framing, HasFramed, GoesOnFraming, NextTells, fresh, items_left, open_left, with_bytes}
 use Rattle.sg_actor.specs.Reading.{bytes_pulled, one_if}
-use Rattle.sg_actor.specs.Sources.{SourceState, source, Reads, HasRead, IsReady}
+use Rattle.sg_actor.specs.Sources.{SourceState, source, ReadsRecords, HasRead, IsReady}
 use Rattle.sg_actor.specs.declared.reader.Reader.{Reader}
 use Rattle.sg_actor.specs.declared.settings.SourceSpec.{SourceSpec}
-use Rattle.sg_actor.specs.declared.reading.Found.{Found}
-use Rattle.sg_actor.specs.declared.reading.Found.TheVariants.{Work, Idle as FoundIdle, Over}
+use Rattle.sg_actor.specs.declared.reading.SourceWork.{SourceWork}
+use Rattle.sg_actor.specs.declared.reading.SourceWork.TheVariants.{Work, Idle as FoundIdle, Over}
 
 -- nothing was pulled yet
-pub record IsBegun (kind : FrameKind) (limit from : ℕ) (reader : Reader) : Type 0 where
+pub record IsReaderBegun (kind : FrameKind) (limit from : ℕ) (reader : Reader) : Type 0 where
   pub framer : reader.framer ≡ fresh kind limit
   pub framed : HasFramed [] [] reader.framer
   pub pulled : reader.pulled ≡ Idle
@@ -34,7 +34,7 @@ pub record IsBegun (kind : FrameKind) (limit from : ℕ) (reader : Reader) : Typ
 pub record HasFed (buffer : List ℕ) (old new : Reader) : Type 0 where
   pub rest : new ≡ record old { framer = new.framer; pulled = Idle }
   pub framer : new.framer ≡ with_bytes old.framer (bytes_pulled old.pulled buffer)
-  pub goes : Goes old.framer new.framer (bytes_pulled old.pulled buffer) []
+  pub goes : GoesOnFraming old.framer new.framer (bytes_pulled old.pulled buffer) []
 
 abbrev pub FedBy : List ℕ → Pull → Reader → Reader → Type 0
 FedBy buffer (Bytes len at) old new = HasFed buffer old new
@@ -68,16 +68,16 @@ IsFed Idle = Unit {0}
 IsFed End = Unit {0}
 
 -- no whole item is left, nor a bad count for which the part isn't given up
-abbrev pub IsDealt : Framing → Bool → Framed → Type 0
-IsDealt f given_up (Given bytes end at) = ⊥
-IsDealt f given_up More = (items_left f ≡ []) × IsSound (open_left f)
-IsDealt f given_up (BadFrame place) = given_up ≡ true
+abbrev pub IsFrameDealt : Framing → Bool → Framed → Type 0
+IsFrameDealt f given_up (Given bytes end at) = ⊥
+IsFrameDealt f given_up More = (items_left f ≡ []) × IsSoundForm (open_left f)
+IsFrameDealt f given_up (BadFrame place) = given_up ≡ true
 
 -- all that was pulled is dealt with
 pub record IsSpent (reader : Reader) : Type 0 where
   pub held : reader.held ≡ []
   pub fed : IsFed reader.pulled
-  pub ahead : IsDealt reader.framer reader.given_up reader.ahead
+  pub ahead : IsFrameDealt reader.framer reader.given_up reader.ahead
 
 -- bytes, a part, the end, or a failure
 abbrev pub has_pulled : SourceState → SourceState → Bool
@@ -94,9 +94,9 @@ parts_over true parts = parts
 parts_over false parts = parts - 1
 
 -- What a step leaves that neither takes a record nor brings one to the core.
-pub record Rests (dests : ℕ) (spec : SourceSpec) (old new : SourceState) : Type 0 where
+pub record SourceRestsStill (dests : ℕ) (spec : SourceSpec) (old new : SourceState) : Type 0 where
   pub ready : IsReady dests spec new
-  pub reads : (done : List Record) (ups : ℕ) → Reads old done ups → Reads new done ups
+  pub reads : (done : List Record) (ups : ℕ) → ReadsRecords old done ups → ReadsRecords new done ups
   pub held : new.reader.held ≡ old.reader.held
   pub end : new.reader.end ≡ old.reader.end
   pub advances : Advances old.feed new.feed
@@ -104,31 +104,31 @@ pub record Rests (dests : ℕ) (spec : SourceSpec) (old new : SourceState) : Typ
       ≤ parts_over new.reader.given_up new.feed.parts
 
 -- a pull that failed isn't forgotten, and let the count of faults rise
-abbrev pub Fails : (failed failed' : Bool) → (faults faults' : ℕ) → Type 0
-Fails failed failed' faults faults' = (failed ≡ true → failed' ≡ true)
+abbrev pub PullFails : (failed failed' : Bool) → (faults faults' : ℕ) → Type 0
+PullFails failed failed' faults faults' = (failed ≡ true → failed' ≡ true)
     × (failed ≡ false → failed' ≡ true → Rose faults faults')
 
 -- At most one pull was made. The end isn't forgotten, nor is a pull that failed, which let the count of faults rise.
 pub record PullsAtMost (old new : SourceState) : Type 0 where
   pub pulls : new.feed.pulls ≤ old.feed.pulls + 1
   pub ended : old.reader.ended ≡ true → new.reader.ended ≡ true
-  pub failing : Fails old.reader.failed new.reader.failed old.feed.faults new.feed.faults
+  pub failing : PullFails old.reader.failed new.reader.failed old.feed.faults new.feed.faults
 
 -- the inlet was pulled once
 pub record PullsOnce (dests : ℕ) (spec : SourceSpec) (old new : SourceState) (idle : Bool) : Type 0 where
-  pub rests : Rests dests spec old new
+  pub rests : SourceRestsStill dests spec old new
   pub pulls : new.feed.pulls ≤ old.feed.pulls + 1
   pub brought : has_pulled old new ≡ not idle
   pub idles : was_idle old new ≡ idle
-  pub failing : Fails old.reader.failed new.reader.failed old.feed.faults new.feed.faults
+  pub failing : PullFails old.reader.failed new.reader.failed old.feed.faults new.feed.faults
 
-abbrev pub Pulls : SourceState → SourceState → Bool → Type 0
-Pulls old new idle = (dests : ℕ) (spec : SourceSpec) → IsReady dests spec old
+abbrev pub PullsOnto : SourceState → SourceState → Bool → Type 0
+PullsOnto old new idle = (dests : ℕ) (spec : SourceSpec) → IsReady dests spec old
     → PullsOnce dests spec old new idle
 
 -- What a step leaves that brings nothing to the core: whatever was admitted before, it is still followed by what is held and by what the
 -- reader has.
-pub record Keeps (offers : ℕ → Record → List Offer → Type 0) (dests : ℕ) (spec : SourceSpec) (old new : SourceState) : Type 0 where
+pub record KeepsRecords (offers : ℕ → Record → List Offer → Type 0) (dests : ℕ) (spec : SourceSpec) (old new : SourceState) : Type 0 where
   pub ready : IsReady dests spec new
   pub reads : (done : List Record) (ups : ℕ) → HasRead offers spec old done ups
       → HasRead offers spec new done ups
@@ -142,13 +142,13 @@ abbrev pub IsSafe : ℕ → SourceSpec → InletState → Reader → Type 0
 IsSafe dests spec feed reader = (buffer : List ℕ) × IsReady dests spec (source feed reader buffer)
 
 -- no whole item is left; where a bad count is ahead, none is behind it
-abbrev pub IsLooked : Framing → Framed → Type 0
-IsLooked f (Given bytes end at) = ⊥
-IsLooked f More = (items_left f ≡ []) × IsSound (open_left f)
-IsLooked f (BadFrame place) = Unit {0}
+abbrev pub IsLookedAhead : Framing → Framed → Type 0
+IsLookedAhead f (Given bytes end at) = ⊥
+IsLookedAhead f More = (items_left f ≡ []) × IsSoundForm (open_left f)
+IsLookedAhead f (BadFrame place) = Unit {0}
 
 -- what stays where records are taken
-pub record HasTaken (old new : Reader) : Type 0 where
+pub record HasTakenRecords (old new : Reader) : Type 0 where
   pub pulled : new.pulled ≡ old.pulled
   pub ended : new.ended ≡ old.ended
   pub failed : new.failed ≡ old.failed
@@ -157,7 +157,7 @@ pub record HasTaken (old new : Reader) : Type 0 where
 -- one record was taken, or no item is whole
 abbrev pub TakesOne : {E : Type 0} → Reader → Reader → Result Bool E → Type 0
 TakesOne old new (Ok true) = length new.held ≡ length old.held + 1
-TakesOne old new (Ok false) = (new.held ≡ old.held) × IsLooked new.framer new.ahead
+TakesOne old new (Ok false) = (new.held ≡ old.held) × IsLookedAhead new.framer new.ahead
 TakesOne old new (Err e) = new.held ≡ old.held
 
 -- a bad count is ahead for which the present part isn't given up yet
@@ -176,9 +176,9 @@ GivesUp old feed new feed' true = (is_bad old ≡ true) × (new ≡ record old {
 GivesUp old feed new feed' false = (is_bad old ≡ false) × (new ≡ old) × (feed' ≡ feed)
 
 -- so many are held, or no item is whole
-abbrev pub TakesAll : {E : Type 0} → ℕ → Reader → Result Unit E → Type 0
-TakesAll most new (Ok done) = length new.held < most → IsLooked new.framer new.ahead
-TakesAll most new (Err e) = Unit {0}
+abbrev pub TakesHeld : {E : Type 0} → ℕ → Reader → Result Unit E → Type 0
+TakesHeld most new (Ok done) = length new.held < most → IsLookedAhead new.framer new.ahead
+TakesHeld most new (Err e) = Unit {0}
 
 -- the place behind an item, which counts where the inlet has a position store
 abbrev pub end_at : Bool → ℕ → ℕ → ℕ
@@ -190,7 +190,7 @@ abbrev pub KeepsAll : (ℕ → Record → List Offer → Type 0) → ℕ → Sou
     → Reader → Type 0
 KeepsAll offers dests spec feed old new =
     (buffer : List ℕ) → IsReady dests spec (source feed old buffer)
-    → Keeps offers dests spec (source feed old buffer) (source feed new buffer)
+    → KeepsRecords offers dests spec (source feed old buffer) (source feed new buffer)
 
 -- neither a record nor a bad count is left for the core
 abbrev pub is_spent : Reader → Bool
@@ -200,24 +200,24 @@ abbrev pub is_over : Reader → Bool
 is_over reader = reader.ended || reader.failed
 
 -- the inlet has ended or failed, and all that it gave is dealt with
-pub record IsOver (reader : Reader) : Type 0 where
+pub record IsInletOver (reader : Reader) : Type 0 where
   pub spent : IsSpent reader
   pub over : is_over reader ≡ true
 
 -- what a turn finds: where nothing was pulled there is something for the core
-abbrev pub Finds : {E : Type 0} → SourceState → SourceState → Result Found E → Type 0
-Finds old new (Ok (Work pulled)) = (has_pulled old new ≡ pulled) × (was_idle old new ≡ false)
+abbrev pub FindsWork : {E : Type 0} → SourceState → SourceState → Result SourceWork E → Type 0
+FindsWork old new (Ok (Work pulled)) = (has_pulled old new ≡ pulled) × (was_idle old new ≡ false)
     × (pulled ≡ false → is_spent new.reader ≡ false)
-Finds old new (Ok FoundIdle) = (has_pulled old new ≡ false) × (was_idle old new ≡ true)
+FindsWork old new (Ok FoundIdle) = (has_pulled old new ≡ false) × (was_idle old new ≡ true)
     × (new.reader.held ≡ [])
-Finds old new (Ok Over) = (has_pulled old new ≡ false) × (was_idle old new ≡ false)
-    × IsOver new.reader
-Finds old new (Err e) = Unit {0}
+FindsWork old new (Ok Over) = (has_pulled old new ≡ false) × (was_idle old new ≡ false)
+    × IsInletOver new.reader
+FindsWork old new (Err e) = Unit {0}
 
 -- what was pulled is fed, and so many are held or no item is whole
 abbrev pub ReadsAll : {E : Type 0} → ℕ → Reader → Result Unit E → Type 0
 ReadsAll most new (Ok done) = IsFed new.pulled
-    × (length new.held < most → IsLooked new.framer new.ahead)
+    × (length new.held < most → IsLookedAhead new.framer new.ahead)
 ReadsAll most new (Err e) = Unit {0}
 
 -- the inlet is no nearer its end

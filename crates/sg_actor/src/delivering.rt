@@ -3,7 +3,7 @@ ghost use Rattle.std.specs.Prelude.{◌≡◌, ◌≢◌, ◌≤◌, ◌<◌, �
 ghost use Rattle.sg_device.specs.Outlet.{count_of};
 ghost use Rattle.sg_actor.specs.Outages.{HasFailures};
 ghost use Rattle.sg_actor.specs.DestTurns.{HasDelivered, idle_in};
-ghost use Rattle.sg_actor.specs.Delivering.{Settles, Refills, FrontGives};
+ghost use Rattle.sg_actor.specs.Delivering.{Settles, Refills, FrontTurnGives};
 
 use crate::Turned;
 use crate::outage::{Outage, send};
@@ -101,8 +101,21 @@ fn deliver<T: Wait, O: Outlet, C: Settler<O>>(
     Ok(idle)
 }
 
+// No entry is left: what the outlet still holds of those before is sent on.
+fn flush<O: Outlet>(outlet: &mut O) -> Turned
+    ensures outlet { O.state outlet.new ≡ O.state outlet.old }
+    ensures nothing { result ≡ record { did = false; idle = false } }
+{
+    outlet.flush();
+    Turned {
+        did: false,
+        idle: false,
+    }
+}
+
 /// Takes the first entries of the destination to its outlet. It did something where there were any,
-/// unless it was too early for all of them: then it was idle.
+/// unless it was too early for all of them: then it was idle. Where there are none, what the outlet
+/// still holds of those before is sent on.
 pub(crate) fn deliver_front<T: Wait, O: Outlet, C: Settler<O>>(
     rt: &T,
     alloc: Global,
@@ -117,7 +130,7 @@ pub(crate) fn deliver_front<T: Wait, O: Outlet, C: Settler<O>>(
     requires ready { outage.old.reopens ≡ false }
     requires kept { outage.old.given_up ≡ None }
     requires failures { HasFailures outage.old (O.state outlet.old) }
-    ensures gives { FrontGives spec.now C.step counter.old counter.new outage.new
+    ensures gives { FrontTurnGives spec.now C.step counter.old counter.new outage.new
         (O.state outlet.old) (O.state outlet.new) result }
     ensures setup { C.setup counter.new ≡ C.setup counter.old }
     ensures left { C.left counter.old ≤ C.left counter.new + 3 }
@@ -125,10 +138,7 @@ pub(crate) fn deliver_front<T: Wait, O: Outlet, C: Settler<O>>(
     match counter.front(rt, alloc, spec.dest, ENTRIES)? {
         CoreFront::Entries { place, messages } => {
             if messages.is_empty() {
-                return Ok(Turned {
-                    did: false,
-                    idle: false,
-                });
+                return Ok(flush(outlet));
             }
             let idle = deliver(
                 rt,
@@ -143,10 +153,7 @@ pub(crate) fn deliver_front<T: Wait, O: Outlet, C: Settler<O>>(
             )?;
             Ok(Turned { did: !idle, idle })
         }
-        CoreFront::Empty => Ok(Turned {
-            did: false,
-            idle: false,
-        }),
+        CoreFront::Empty => Ok(flush(outlet)),
         CoreFront::Broken => {
             outage.break_store();
             Ok(Turned {

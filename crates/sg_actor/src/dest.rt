@@ -1,11 +1,11 @@
 // A destination and its turns.
 ghost use Rattle.std.specs.Prelude.{◌≡◌, ◌≤◌, ◌<◌, ◌+◌, IfOk, IfErr, length, None, false};
-ghost use Rattle.sg_device.specs.Outlet.{IsNew};
+ghost use Rattle.sg_device.specs.Outlet.{IsUnusedOutlet};
 ghost use Rattle.sg_actor.specs.Outages.{HasFailures};
 ghost use Rattle.sg_actor.specs.DestTurns.{SendsTurn, IsNewDest};
 
 use crate::delivering::deliver_front;
-use crate::outage::{Begun, Outage, reopen};
+use crate::outage::{BegunTurn, Outage, reopen};
 use crate::rendering::DestSpec;
 use crate::{GivenUp, Turned};
 use sg_counter::Settler;
@@ -36,7 +36,7 @@ impl<O: Outlet> DestActor<O> {
         dest: u32,
         gives_up: bool,
     ) -> Result<DestActor<O>, (O, NoMemory)>
-        requires { IsNew (O.state outlet) }
+        requires { IsUnusedOutlet (O.state outlet) }
         ensures new { IfOk result
             (λ made. IsNewDest dest gives_up shape env made.spec made.outage (O.state outlet)) }
         ensures outlet { IfOk result (λ made. made.outlet ≡ outlet) }
@@ -87,15 +87,15 @@ impl<O: Outlet> DestActor<O> {
             });
         }
         match reopen(&mut self.outlet, &mut self.outage, self.spec.gives_up) {
-            Begun::Later => Ok(Turned {
+            BegunTurn::Later => Ok(Turned {
                 did: false,
                 idle: true,
             }),
-            Begun::Failed => Ok(Turned {
+            BegunTurn::Failed => Ok(Turned {
                 did: true,
                 idle: false,
             }),
-            Begun::Reopened => {
+            BegunTurn::Reopened => {
                 let given = deliver_front(
                     rt,
                     alloc,
@@ -110,7 +110,7 @@ impl<O: Outlet> DestActor<O> {
                     idle: given.idle,
                 })
             }
-            Begun::Open => {
+            BegunTurn::Open => {
                 let given = deliver_front(
                     rt,
                     alloc,

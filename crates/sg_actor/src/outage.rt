@@ -1,6 +1,6 @@
 // What a destination knows of its outlet's failures.
 ghost use Rattle.std.specs.Prelude.{◌≡◌, ◌≢◌, ◌≤◌, false, None, [], length};
-ghost use Rattle.sg_actor.specs.Outages.{HasFailures, failed, with_taken, broken, is_idle, Begins, Sends};
+ghost use Rattle.sg_actor.specs.Outages.{HasFailures, failed, with_taken, broken, is_idle, BeginsTurn, SendComesTo};
 
 use crate::GivenUp;
 use sg_device::{Frames, Outlet, Reopened, SendRefusal};
@@ -53,7 +53,7 @@ impl Outage {
 
 /// How a turn begins.
 #[derive(Clone, Copy, Debug, PartialEq, Eq, Drop)]
-pub(crate) enum Begun {
+pub(crate) enum BegunTurn {
     /// The outlet didn't fail last.
     Open,
     Reopened,
@@ -62,23 +62,23 @@ pub(crate) enum Begun {
 }
 
 /// Reopens an outlet that failed last.
-pub(crate) fn reopen<O: Outlet>(outlet: &mut O, outage: &mut Outage, gives_up: bool) -> Begun
+pub(crate) fn reopen<O: Outlet>(outlet: &mut O, outage: &mut Outage, gives_up: bool) -> BegunTurn
     requires { HasFailures outage.old (O.state outlet.old) }
-    ensures { Begins gives_up outage.old outage.new
+    ensures { BeginsTurn gives_up outage.old outage.new
         (O.state outlet.old) (O.state outlet.new) result }
 {
     if !outage.reopens {
-        return Begun::Open;
+        return BegunTurn::Open;
     }
     match outlet.reopen() {
         Ok(Reopened::Ready) => {
             outage.reopens = false;
-            Begun::Reopened
+            BegunTurn::Reopened
         }
-        Ok(Reopened::Later) => Begun::Later,
+        Ok(Reopened::Later) => BegunTurn::Later,
         Err(_) => {
             outage.fail(gives_up);
-            Begun::Failed
+            BegunTurn::Failed
         }
     }
 }
@@ -113,7 +113,7 @@ pub(crate) fn send<O: Outlet>(
     requires some { frames.now ≢ [] }
     requires few { length frames.now ≤ 100 }
     requires failures { HasFailures outage.old (O.state outlet.old) }
-    ensures { Sends gives_up frames.now outage.old outage.new (O.state outlet.old)
+    ensures { SendComesTo gives_up frames.now outage.old outage.new (O.state outlet.old)
         (O.state outlet.new) result }
 {
     let before = outlet.taken();

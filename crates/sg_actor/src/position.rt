@@ -1,7 +1,7 @@
 // When a source stores its position.
 ghost use Rattle.std.specs.Prelude.{◌≡◌, ◌<◌, ◌≤◌, ◌+◌, ◌&&◌, not, length, true, Some, IsSome};
 ghost use Rattle.sg_counter.specs.Bringing.{store_in};
-ghost use Rattle.sg_actor.specs.Positions.{is_same_credit, is_due, Stores};
+ghost use Rattle.sg_actor.specs.Positions.{is_same_credit, is_due, StoresPosition};
 
 use crate::SourceSpec;
 use sg_counter::{Counter, Stored};
@@ -62,7 +62,7 @@ pub(crate) fn store_position<T: Wait, C: Counter>(
     requires inlet { spec.now.inlet < length (C.setup counter.old).sources }
     requires store { spec.now.stored ≡ true
         → IsSome (store_in (C.setup counter.old).sources spec.now.inlet) }
-    ensures stores { Stores spec.now C.step counter.old counter.new rests end
+    ensures stores { StoresPosition spec.now C.step counter.old counter.new rests end
         position.old position.new result }
     ensures setup { C.setup counter.new ≡ C.setup counter.old }
     ensures left { C.left counter.old ≤ C.left counter.new + 1 }

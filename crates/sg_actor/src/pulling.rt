@@ -1,7 +1,7 @@
 // Pulls, and parts that are given up.
 ghost use Rattle.std.specs.Prelude.{◌≡◌, ◌<◌, false, length};
 ghost use Rattle.sg_actor.specs.Sources.{source};
-ghost use Rattle.sg_actor.specs.Steps.{IsSpent, Pulls, is_bad, GivesUp};
+ghost use Rattle.sg_actor.specs.Steps.{IsSpent, PullsOnto, is_bad, GivesUp};
 
 use crate::reader::Reader;
 use sg_device::{Inlet, Pull};
@@ -14,7 +14,7 @@ pub(crate) fn pull_once<I: Inlet>(reader: &mut Reader, buffer: &mut [u8], inlet:
     requires spent { IsSpent reader.old }
     requires going { reader.old.ended ≡ false }
     requires works { reader.old.failed ≡ false }
-    ensures { Pulls (source (I.state inlet.old) reader.old buffer.old)
+    ensures { PullsOnto (source (I.state inlet.old) reader.old buffer.old)
         (source (I.state inlet.new) reader.new buffer.new) result }
 {
     match inlet.pull(buffer) {

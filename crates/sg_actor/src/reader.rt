@@ -4,7 +4,7 @@ ghost use Rattle.sg_device.specs.declared.inlet.Pull.TheVariants.{Idle};
 ghost use Rattle.sg_frame.specs.Framing.{fed};
 ghost use Rattle.sg_frame.specs.declared.kind.FrameKind.{FrameKind as AKind};
 ghost use Rattle.sg_actor.specs.Reading.{bytes_pulled, IsUnfed};
-ghost use Rattle.sg_actor.specs.Steps.{IsBegun, Feeds, Looks};
+ghost use Rattle.sg_actor.specs.Steps.{IsReaderBegun, Feeds, Looks};
 
 use sg_device::{NoMemory, Pull};
 use sg_frame::{FrameKind, Framed, Framer};
@@ -65,7 +65,7 @@ pub(crate) fn make_reader(
     from: u64,
 ) -> Result<Reader, NoMemory>
     requires { 0 < limit }
-    ensures { IfOk result (IsBegun kind limit from) }
+    ensures { IfOk result (IsReaderBegun kind limit from) }
 {
     Ok(Reader {
         framer: Framer::new(alloc, kind, limit)?,

@@ -2,8 +2,8 @@
 ghost use Rattle.std.specs.Prelude.{◌≡◌, ◌≤◌, ◌<◌, ◌+◌, length, max, true};
 ghost use Rattle.sg_route.specs.Offers.{SameRouter};
 ghost use Rattle.sg_actor.specs.Sources.{source, IsReady};
-ghost use Rattle.sg_actor.specs.Bringing.{ReadsOn};
-ghost use Rattle.sg_actor.specs.Steps.{is_spent, is_over, Keeps, Finds, PullsAtMost, ReadsAll, IsAsBefore, Fails};
+ghost use Rattle.sg_actor.specs.Bringing.{ReadsOnTurn};
+ghost use Rattle.sg_actor.specs.Steps.{is_spent, is_over, KeepsRecords, FindsWork, PullsAtMost, ReadsAll, IsAsBefore, PullFails};
 
 use crate::SourceSpec;
 use crate::admitting::hand_in;
@@ -18,7 +18,7 @@ use std::sync::Wait;
 
 /// What there is for the core.
 #[derive(Clone, Copy, Debug, PartialEq, Eq, Drop)]
-pub(crate) enum Found {
+pub(crate) enum SourceWork {
     /// Records that are held, or a bad count; or the inlet was pulled.
     Work { pulled: bool },
     /// The inlet has nothing at present.
@@ -65,7 +65,7 @@ fn read_whole<R: Router, I: Inlet>(
         (source (I.state inlet.now) reader.old buffer.now) }
     requires inlet { spec.now.inlet < R.inlets router.old }
     requires most { most ≤ spec.now.fetch }
-    ensures keeps { Keeps (R.offers router.old) (R.dests router.old) spec.now
+    ensures keeps { KeepsRecords (R.offers router.old) (R.dests router.old) spec.now
         (source (I.state inlet.now) reader.old buffer.now)
         (source (I.state inlet.now) reader.new buffer.now) }
     ensures reads { ReadsAll most reader.new result }
@@ -89,16 +89,16 @@ fn find_work<R: Router, I: Inlet>(
     reader: &mut Reader,
     buffer: &mut [u8],
     most: usize,
-) -> Result<Found, NoMemory>
+) -> Result<SourceWork, NoMemory>
     requires ready { IsReady (R.dests router.old) spec.now
         (source (I.state inlet.old) reader.old buffer.old) }
     requires inlet { spec.now.inlet < R.inlets router.old }
     requires some { 0 < most }
     requires most { most ≤ spec.now.fetch }
-    ensures keeps { Keeps (R.offers router.old) (R.dests router.old) spec.now
+    ensures keeps { KeepsRecords (R.offers router.old) (R.dests router.old) spec.now
         (source (I.state inlet.old) reader.old buffer.old)
         (source (I.state inlet.new) reader.new buffer.new) }
-    ensures finds { Finds (source (I.state inlet.old) reader.old buffer.old)
+    ensures finds { FindsWork (source (I.state inlet.old) reader.old buffer.old)
         (source (I.state inlet.new) reader.new buffer.new) result }
     ensures few { length reader.new.held ≤ max (length reader.old.held) most }
     ensures pulled { PullsAtMost (source (I.state inlet.old) reader.old buffer.old)
@@ -108,16 +108,16 @@ fn find_work<R: Router, I: Inlet>(
 {
     read_whole(alloc, spec, router, inlet, reader, buffer, most)?;
     if !is_spent(reader) {
-        return Ok(Found::Work { pulled: false });
+        return Ok(SourceWork::Work { pulled: false });
     }
     if is_over(reader) {
-        return Ok(Found::Over);
+        return Ok(SourceWork::Over);
     }
     if pull_once(reader, buffer, inlet) {
-        return Ok(Found::Idle);
+        return Ok(SourceWork::Idle);
     }
     read_whole(alloc, spec, router, inlet, reader, buffer, most)?;
-    Ok(Found::Work { pulled: true })
+    Ok(SourceWork::Work { pulled: true })
 }
 
 /// How many records a turn takes at most.
@@ -154,11 +154,11 @@ pub(crate) fn read_on<T: Wait, C: Counter, R: Router, I: Inlet>(
     requires fetch { (0 < spec.now.fetch) × (spec.now.fetch ≤ 1000) }
     requires ready { IsReady (R.dests router.old) spec.now
         (source (I.state inlet.old) reader.old buffer.old) }
-    ensures reads { ReadsOn (R.offers router.old) (R.dests router.old) spec.now C.step counter.old
+    ensures reads { ReadsOnTurn (R.offers router.old) (R.dests router.old) spec.now C.step counter.old
         counter.new credit (source (I.state inlet.old) reader.old buffer.old)
         (source (I.state inlet.new) reader.new buffer.new) result }
     ensures ended { reader.old.ended ≡ true → reader.new.ended ≡ true }
-    ensures failing { Fails reader.old.failed reader.new.failed
+    ensures failing { PullFails reader.old.failed reader.new.failed
         (I.state inlet.old).faults (I.state inlet.new).faults }
     ensures router { SameRouter (R.offers router.old) (R.offers router.new) (R.inlets router.old)
         (R.inlets router.new) (R.dests router.old) (R.dests router.new) }
@@ -176,12 +176,12 @@ pub(crate) fn read_on<T: Wait, C: Counter, R: Router, I: Inlet>(
     }
     let most = least(spec.fetch, credit);
     match find_work(alloc, spec, router, inlet, reader, buffer, most)? {
-        Found::Over => Ok(nothing),
-        Found::Idle => Ok(Doings {
+        SourceWork::Over => Ok(nothing),
+        SourceWork::Idle => Ok(Doings {
             idle: true,
             ..nothing
         }),
-        Found::Work { pulled } => {
+        SourceWork::Work { pulled } => {
             let handed = hand_in(rt, alloc, counter, spec, inlet, reader)?;
             Ok(Doings {
                 pulled,

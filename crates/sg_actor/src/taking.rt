@@ -2,7 +2,7 @@
 ghost use Rattle.std.specs.Prelude.{◌≡◌, ◌≤◌, ◌<◌, ◌+◌, ◌^◌, length, max};
 ghost use Rattle.sg_route.specs.Offers.{SameRouter};
 ghost use Rattle.sg_actor.specs.Sources.{source};
-ghost use Rattle.sg_actor.specs.Steps.{IsSafe, KeepsAll, HasTaken, TakesOne, TakesAll, end_at};
+ghost use Rattle.sg_actor.specs.Steps.{IsSafe, KeepsAll, HasTakenRecords, TakesOne, TakesHeld, end_at};
 
 use crate::SourceSpec;
 use crate::reader::{Reader, look};
@@ -36,7 +36,7 @@ fn take_item<R: Router, I: Inlet>(
     ensures keeps { KeepsAll (R.offers router.old) (R.dests router.old) spec.now
         (I.state inlet.now) reader.old reader.new }
     ensures takes { TakesOne reader.old reader.new result }
-    ensures taken { HasTaken reader.old reader.new }
+    ensures taken { HasTakenRecords reader.old reader.new }
     ensures router { SameRouter (R.offers router.old) (R.offers router.new) (R.inlets router.old)
         (R.inlets router.new) (R.dests router.old) (R.dests router.new) }
 {
@@ -68,9 +68,9 @@ pub(crate) fn take_items<R: Router, I: Inlet>(
     requires most { most ≤ spec.now.fetch }
     ensures keeps { KeepsAll (R.offers router.old) (R.dests router.old) spec.now
         (I.state inlet.now) reader.old reader.new }
-    ensures takes { TakesAll most reader.new result }
+    ensures takes { TakesHeld most reader.new result }
     ensures few { length reader.new.held ≤ max (length reader.old.held) most }
-    ensures taken { HasTaken reader.old reader.new }
+    ensures taken { HasTakenRecords reader.old reader.new }
     ensures router { SameRouter (R.offers router.old) (R.offers router.new) (R.inlets router.old)
         (R.inlets router.new) (R.dests router.old) (R.dests router.new) }
 {

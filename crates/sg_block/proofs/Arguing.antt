@@ -9,6 +9,7 @@ use Rattle.std.proofs.lemmas.List.{length-append}
 use Rattle.sg_block.specs.declared.argument.Argument.{Argument}
 use Rattle.sg_block.specs.Arguments.{HasNames, AddsName, has_name, lacks, is_missing, is_unknown, last_named, defaults}
 use Rattle.sg_block.proofs.Names.{names_cmp}
+use Rattle.sg_list.proofs.ListLemmas.{drop-front}
 
 pub names-none : HasNames empty []
 names-none name = ap is_some (get-empty {X = Bool} names_cmp name)
@@ -66,10 +67,6 @@ defaults-step parameter rest given known left new is same =
 take-front : {A : Type 0} (xs ys : List A) → take (length xs) (xs ++ ys) ≡ xs
 take-front [] ys = refl
 take-front (x ∷ xs) ys = ap (λ zs. x ∷ zs) (take-front xs ys)
-
-drop-front : {A : Type 0} (xs ys : List A) → drop (length xs) (xs ++ ys) ≡ ys
-drop-front [] ys = refl
-drop-front (x ∷ xs) ys = drop-front xs ys
 
 whole : {A : Type 0} (n : ℕ) (xs : List A) → xs ≡ take n xs ++ drop n xs
 whole zero xs = refl

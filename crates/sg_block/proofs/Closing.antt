@@ -37,20 +37,20 @@ one-more t None = refl
 one-more t (Some p) = refl
 
 -- the inner brackets close first, where they do in what stands behind the first token
-abbrev Splits : List Token → Type 0
-Splits ts = (c : ℕ) (cs : List ℕ) (d : ℕ) (ds : List ℕ) → inside (c ∷ cs ++ d ∷ ds) ts ≡ passed d ds ts (inside (c ∷ cs) ts)
+abbrev SplitsTokens : List Token → Type 0
+SplitsTokens ts = (c : ℕ) (cs : List ℕ) (d : ℕ) (ds : List ℕ) → inside (c ∷ cs ++ d ∷ ds) ts ≡ passed d ds ts (inside (c ∷ cs) ts)
 
-split-closes : (same : Bool) (c : ℕ) (cs : List ℕ) (d : ℕ) (ds : List ℕ) (t : Token) (ts : List Token) → Splits ts → parted_behind t ts (cond same (Some (cs ++ d ∷ ds)) None) (λ later. inside later ts) ≡ passed d ds (t ∷ ts) (parted_behind t ts (cond same (Some cs) None) (λ later. inside later ts))
+split-closes : (same : Bool) (c : ℕ) (cs : List ℕ) (d : ℕ) (ds : List ℕ) (t : Token) (ts : List Token) → SplitsTokens ts → parted_behind t ts (cond same (Some (cs ++ d ∷ ds)) None) (λ later. inside later ts) ≡ passed d ds (t ∷ ts) (parted_behind t ts (cond same (Some cs) None) (λ later. inside later ts))
 split-closes true c [] d ds t ts rest = one-more t (inside (d ∷ ds) ts)
 split-closes true c (e ∷ cs) d ds t ts rest = ap (option_map (inner_behind t)) (rest e cs d ds) ∙ passed-more d ds t ts (inside (e ∷ cs) ts)
 split-closes false c cs d ds t ts rest = refl
 
-split-at : (b : Bracket) (c : ℕ) (cs : List ℕ) (d : ℕ) (ds : List ℕ) (t : Token) (ts : List Token) → Splits ts → parted_behind t ts (open_behind b (c ∷ cs ++ d ∷ ds)) (λ later. inside later ts) ≡ passed d ds (t ∷ ts) (parted_behind t ts (open_behind b (c ∷ cs)) (λ later. inside later ts))
+split-at : (b : Bracket) (c : ℕ) (cs : List ℕ) (d : ℕ) (ds : List ℕ) (t : Token) (ts : List Token) → SplitsTokens ts → parted_behind t ts (open_behind b (c ∷ cs ++ d ∷ ds)) (λ later. inside later ts) ≡ passed d ds (t ∷ ts) (parted_behind t ts (open_behind b (c ∷ cs)) (λ later. inside later ts))
 split-at (Opens k) c cs d ds t ts rest = ap (option_map (inner_behind t)) (rest k (c ∷ cs) d ds) ∙ passed-more d ds t ts (inside (k ∷ c ∷ cs) ts)
 split-at (Closes k) c cs d ds t ts rest = split-closes (eqb k c) c cs d ds t ts rest
 split-at Neither c cs d ds t ts rest = ap (option_map (inner_behind t)) (rest c cs d ds) ∙ passed-more d ds t ts (inside (c ∷ cs) ts)
 
-inside-split : (xs : List Token) → Splits xs
+inside-split : (xs : List Token) → SplitsTokens xs
 inside-split [] c cs d ds = refl
 inside-split (t ∷ ts) c cs d ds = split-at (bracket t) c cs d ds t ts (inside-split ts)
 

@@ -50,14 +50,14 @@ replaced-skip scope variables zero bytes = refl
 replaced-skip scope variables (suc skip) [] = refl
 replaced-skip scope variables (suc skip) (b ∷ bytes) = replaced-skip scope variables skip bytes
 
-abbrev pub Front : List ℕ → Option (List ℕ) → Option (List ℕ)
-Front made found = option_map (λ (rest : List ℕ). made ++ rest) found
+abbrev pub FrontTokens : List ℕ → Option (List ℕ) → Option (List ℕ)
+FrontTokens made found = option_map (λ (rest : List ℕ). made ++ rest) found
 
-front-byte : (made : List ℕ) (b : ℕ) (found : Option (List ℕ)) → Front made (option_map (λ (text : List ℕ). b ∷ text) found) ≡ Front (made ++ b ∷ []) found
+front-byte : (made : List ℕ) (b : ℕ) (found : Option (List ℕ)) → FrontTokens made (option_map (λ (text : List ℕ). b ∷ text) found) ≡ FrontTokens (made ++ b ∷ []) found
 front-byte made b None = refl
 front-byte made b (Some rest) = ap Some (sym (append_assoc made (b ∷ []) rest))
 
-front-value : (made value : List ℕ) (found : Option (List ℕ)) → Front made (option_map (λ (bytes : List ℕ). value ++ bytes) found) ≡ Front (made ++ value) found
+front-value : (made value : List ℕ) (found : Option (List ℕ)) → FrontTokens made (option_map (λ (bytes : List ℕ). value ++ bytes) found) ≡ FrontTokens (made ++ value) found
 front-value made value None = refl
 front-value made value (Some rest) = ap Some (sym (append_assoc made value rest))
 
@@ -66,15 +66,15 @@ place-front text place within =
     let next : suc place ≡ place + 1 = omega arith in
     drop-cons text place 0 within ∙ ap (λ n. get_or text place 0 ∷ drop n text) next
 
-byte-step : (scope variables : Values) (made : List ℕ) (b : ℕ) (bytes : List ℕ) → variable_length (b ∷ bytes) ≡ 0 → Front made (replaced scope variables 0 (b ∷ bytes)) ≡ Front (made ++ b ∷ []) (replaced scope variables 0 bytes)
+byte-step : (scope variables : Values) (made : List ℕ) (b : ℕ) (bytes : List ℕ) → variable_length (b ∷ bytes) ≡ 0 → FrontTokens made (replaced scope variables 0 (b ∷ bytes)) ≡ FrontTokens (made ++ b ∷ []) (replaced scope variables 0 bytes)
 byte-step scope variables made b bytes none =
-    ap (λ n. Front made (cond (eqb n 0) (option_map (λ (text : List ℕ). b ∷ text) (replaced scope variables 0 bytes)) (text_behind (reached scope variables (take (variable_length (b ∷ bytes)) bytes)) (replaced scope variables (variable_length (b ∷ bytes) + 1) bytes)))) none
+    ap (λ n. FrontTokens made (cond (eqb n 0) (option_map (λ (text : List ℕ). b ∷ text) (replaced scope variables 0 bytes)) (text_behind (reached scope variables (take (variable_length (b ∷ bytes)) bytes)) (replaced scope variables (variable_length (b ∷ bytes) + 1) bytes)))) none
     ∙ front-byte made b (replaced scope variables 0 bytes)
 
-pub replaced-byte : (scope variables : Values) (made text : List ℕ) (place : ℕ) → place < length text → variable_length (drop place text) ≡ 0 → Front made (replaced scope variables 0 (drop place text)) ≡ Front (made ++ get_or text place 0 ∷ []) (replaced scope variables 0 (drop (place + 1) text))
+pub replaced-byte : (scope variables : Values) (made text : List ℕ) (place : ℕ) → place < length text → variable_length (drop place text) ≡ 0 → FrontTokens made (replaced scope variables 0 (drop place text)) ≡ FrontTokens (made ++ get_or text place 0 ∷ []) (replaced scope variables 0 (drop (place + 1) text))
 replaced-byte scope variables made text place within none =
     let front = place-front text place within in
-    ap (λ (bytes : List ℕ). Front made (replaced scope variables 0 bytes)) front
+    ap (λ (bytes : List ℕ). FrontTokens made (replaced scope variables 0 bytes)) front
     ∙ byte-step scope variables made (get_or text place 0) (drop (place + 1) text) (sym (ap variable_length front) ∙ none)
 
 positive : (n : ℕ) → eqb (suc n) 0 ≡ false
@@ -96,13 +96,13 @@ replaced-variable scope variables text place (suc count) within some is =
     ∙ variable-step scope variables (get_or text place 0) (drop (place + 1) text) count (sym (ap variable_length front) ∙ is)
     ∙ ap (λ (bytes : List ℕ). text_behind (reached scope variables (take (suc count) (drop (place + 1) text))) (replaced scope variables 0 bytes)) (drop-drop (suc count + 1) (place + 1) text ∙ ap (λ n. drop n text) next)
 
-pub behind-some : (made : List ℕ) (value : List Token) (found : Option (List Token)) (rest : Option (List ℕ)) → found ≡ Some value → Front made (text_behind found rest) ≡ Front (made ++ joined value) rest
-behind-some made value found rest is = ap (λ (o : Option (List Token)). Front made (text_behind o rest)) is ∙ front-value made (joined value) rest
+pub behind-some : (made : List ℕ) (value : List Token) (found : Option (List Token)) (rest : Option (List ℕ)) → found ≡ Some value → FrontTokens made (text_behind found rest) ≡ FrontTokens (made ++ joined value) rest
+behind-some made value found rest is = ap (λ (o : Option (List Token)). FrontTokens made (text_behind o rest)) is ∙ front-value made (joined value) rest
 
-pub behind-none : (made : List ℕ) (found : Option (List Token)) (rest : Option (List ℕ)) → found ≡ None → Front made (text_behind found rest) ≡ None
-behind-none made found rest is = ap (λ (o : Option (List Token)). Front made (text_behind o rest)) is
+pub behind-none : (made : List ℕ) (found : Option (List Token)) (rest : Option (List ℕ)) → found ≡ None → FrontTokens made (text_behind found rest) ≡ None
+behind-none made found rest is = ap (λ (o : Option (List Token)). FrontTokens made (text_behind o rest)) is
 
-pub front-none : (found : Option (List ℕ)) → found ≡ Front [] found
+pub front-none : (found : Option (List ℕ)) → found ≡ FrontTokens [] found
 front-none None = refl
 front-none (Some text) = refl
 

@@ -48,9 +48,9 @@ abbrev pub AddsName : map.FinMap (slice_cmp nat_cmp) Bool → map.FinMap (slice_
 AddsName old new argument = new ≡ map.insert old argument.name true
 
 -- the first, or the last, is taken off where there is one
-abbrev pub Takes : List Argument → List Argument → Option Argument → Type 0
-Takes old new None = (old ≡ []) × (new ≡ [])
-Takes old new (Some argument) = old ≡ argument ∷ new
+abbrev pub TakesOneOff : List Argument → List Argument → Option Argument → Type 0
+TakesOneOff old new None = (old ≡ []) × (new ≡ [])
+TakesOneOff old new (Some argument) = old ≡ argument ∷ new
 
 abbrev pub TakesLast : List Argument → List Argument → Option Argument → Type 0
 TakesLast old new None = (old ≡ []) × (new ≡ [])

@@ -1,7 +1,7 @@
 // The arguments of definitions and uses.
 ghost use Rattle.std.specs.Prelude.{◌≡◌, ◌<◌, [], ◌∷◌, ◌++◌, length, Some, IfOk, OnOk, slice_get, List, if◌then◌else◌};
 ghost use Rattle.sg_block.specs.declared.argument.Argument.{Argument as ArgumentValue};
-ghost use Rattle.sg_block.specs.Arguments.{has_name, lacks, is_missing, is_unknown, last_named, defaults, bindings, HasNames, AddsName, Takes, TakesLast};
+ghost use Rattle.sg_block.specs.Arguments.{has_name, lacks, is_missing, is_unknown, last_named, defaults, bindings, HasNames, AddsName, TakesOneOff, TakesLast};
 
 use crate::part::TokenSpan;
 use crate::table::NameMap;
@@ -84,7 +84,7 @@ impl Arguments {
 
     /// Takes the first argument off.
     pub fn pop(&mut self) -> Option<Argument>
-        ensures { Takes self.old self.new result }
+        ensures { TakesOneOff self.old self.new result }
     {
         self.held.pop_front()
     }

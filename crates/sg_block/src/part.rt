@@ -2,7 +2,7 @@
 ghost use Rattle.std.specs.Prelude.{◌≡◌, ◌-◌, ◌<◌, ◌≤◌, ◌||◌, ◌==◌, true, take, drop, length, Some, IfOk, IfSome, IsSome, IsTrue, option_copied, slice_get};
 ghost use Rattle.sg_list.specs.Lists.{passes_at};
 
-use crate::source::Source;
+use crate::source::FileTokens;
 use crate::token::{FileLine, is_name, is_string, is_symbol, is_word, line_of};
 use sg_device::NoMemory;
 use sg_lex::Token;
@@ -13,7 +13,7 @@ use std::sync::Arc;
 /// Some tokens of a file, one after the other, seen as that list. Parts share the file's tokens.
 #[derive(Drop)]
 pub struct TokenSpan {
-    source: Arc<Source>,
+    source: Arc<FileTokens>,
     from: usize,
     to: usize,
 }
@@ -42,7 +42,7 @@ impl TokenSpan {
         ensures { IfOk result (λ part. part ≡ tokens.items) }
     {
         let to = tokens.len();
-        let source = Source::new(alloc, tokens)?;
+        let source = FileTokens::new(alloc, tokens)?;
         Ok(TokenSpan {
             source: Arc::new(alloc, source)?,
             from: 0,

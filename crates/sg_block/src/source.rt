@@ -10,7 +10,7 @@ use std::alloc::Global;
 /// A file's tokens, and for each place the place of the first bracket from there on that closes one
 /// opened before it: the number of tokens where what stands between isn't balanced, or none closes.
 #[derive(Drop)]
-pub struct Source {
+pub struct FileTokens {
     pub tokens: Vec<Token>,
     pub ends: Vec<usize>,
 }
@@ -55,12 +55,12 @@ fn find_ends(alloc: Global, tokens: &[Token]) -> Result<Vec<usize>, NoMemory>
     Ok(ends)
 }
 
-impl Source {
-    pub fn new(alloc: Global, tokens: Vec<Token>) -> Result<Source, NoMemory>
+impl FileTokens {
+    pub fn new(alloc: Global, tokens: Vec<Token>) -> Result<FileTokens, NoMemory>
         ensures tokens { IfOk result (λ source. source.tokens.items ≡ tokens.items) }
         ensures ends { IfOk result (λ source. HasEnds tokens.items source.ends.items) }
     {
         let ends = find_ends(alloc, &tokens)?;
-        Ok(Source { tokens, ends })
+        Ok(FileTokens { tokens, ends })
     }
 }

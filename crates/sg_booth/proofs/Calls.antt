@@ -13,7 +13,7 @@ module _ {E : Type 0} where
   get-last [] x = refl
   get-last (y ∷ xs) x = get-last xs x
 
-rises-le : (low : ℕ) (ps : List ℕ) (high : ℕ) → Rises low ps high → low ≤ high
+pub rises-le : (low : ℕ) (ps : List ℕ) (high : ℕ) → Rises low ps high → low ≤ high
 rises-le low [] high r = r
 rises-le low (p ∷ ps) high r = let a = rises-le (p + 1) ps high r.1 in let b = r.0 in omega arith
 

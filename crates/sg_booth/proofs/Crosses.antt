@@ -6,7 +6,7 @@ use Rattle.std.proofs.alloc.Global.TheSendSync as heap
 use Rattle.atomic_table.proofs.shared.Shared.TheSendSync.{the_sync as shared_sync}
 use Rattle.atomic_table.proofs.send_lease.SendLease.TheSendSync.{the_sync as lease_sync}
 use Rattle.sg_booth.specs.declared.office.Office.{Ghosts}
-use Rattle.sg_booth.specs.contracts.table.Held.{the_row as held_row}
+use Rattle.sg_booth.specs.contracts.table.ServedOffice.{the_row as held_row}
 use Rattle.sg_booth.specs.contracts.booth.Booth.{the_row as booth_row}
 use Rattle.sg_booth.specs.contracts.booth.Booth.TheInside.{the_row as inside_row}
 

@@ -2,7 +2,7 @@
 use Rattle.std.proofs.Common.{◌≡◌, ℕ, ◌+◌, List, [], ◌∷◌, ◌++◌, ap, ◌∙◌, arith, append_assoc}
 use Rattle.sg_booth.specs.declared.office.Exchange.{Exchange}
 use Rattle.sg_booth.specs.Lists.{times, joined_up, StartsWith, entries_at}
-use Rattle.sg_booth.specs.Desks.{BoothState, DeskState, places, AreOrdered, HasTurned, receipt_of, HasJoined, HasClosed, HasTaken, HasCalls, ReceiptsStand}
+use Rattle.sg_booth.specs.Desks.{BoothState, DeskState, places, ArePlacesOrdered, HasTurned, receipt_of, HasJoined, HasClosed, HasTakenSlot, HasCalls, ReceiptsStand}
 use Rattle.sg_booth.proofs.Sums.{times-append, joined_up-append}
 use Rattle.sg_booth.proofs.Calls.{entries-placed}
 
@@ -22,19 +22,19 @@ module _ {V C R : Type 0} where
   joined-are : (x : ℕ) (old other new : DeskState V C R) → HasJoined old other new → times x (joined_up new.joined) ≡ times x (joined_up old.joined) + times x (places other)
   joined-are x old other new h = ap (λ (d : DeskState V C R). times x (joined_up d.joined)) h.desk ∙ joined-behind x old.joined other.own other.joined
 
-  takes : (desk old new : DeskState V C R) → HasJoined old (receipt_of desk) new → HasTaken new desk
+  takes : (desk old new : DeskState V C R) → HasJoined old (receipt_of desk) new → HasTakenSlot new desk
   takes desk old new h = record {
     seen = h.told;
     calls = λ x. let e = joined-are x old (receipt_of desk) new h in omega (arith, e);
   }
 
-  keeps-taken : (desk old other new : DeskState V C R) → HasTaken old desk → HasJoined old other new → HasTaken new desk
+  keeps-taken : (desk old other new : DeskState V C R) → HasTakenSlot old desk → HasJoined old other new → HasTakenSlot new desk
   keeps-taken desk old other new t h = record {
     seen = starts-then desk.seen old.seen new.seen (joined-seen old other new h) t.seen;
     calls = λ x. let e = joined-are x old other new h in let le = t.calls x in omega (arith, e, le);
   }
 
-  hands-taken : (desk old other new : DeskState V C R) → HasTaken other desk → HasJoined old other new → HasTaken new desk
+  hands-taken : (desk old other new : DeskState V C R) → HasTakenSlot other desk → HasJoined old other new → HasTakenSlot new desk
   hands-taken desk old other new t h = record {
     seen = starts-then desk.seen other.seen new.seen h.told t.seen;
     calls = λ x.
@@ -45,7 +45,7 @@ module _ {V C R : Type 0} where
   }
 
   module _ (step : V → C → R → V → Type 0) where
-    turns-taken : (desk old new : DeskState V C R) (made : V) (call : C) (reply : R) → HasTaken old desk → HasTurned step made old call reply new → HasTaken new desk
+    turns-taken : (desk old new : DeskState V C R) (made : V) (call : C) (reply : R) → HasTakenSlot old desk → HasTurned step made old call reply new → HasTakenSlot new desk
     turns-taken desk old new made call reply t h =
         let e : Exchange C R = record { call = call; reply = reply } in
         let seen : new.seen ≡ old.seen ++ (h.between ++ e ∷ []) = ap (λ (d : DeskState V C R). d.seen) h.desk ∙ append_assoc old.seen h.between (e ∷ []) in
@@ -54,7 +54,7 @@ module _ {V C R : Type 0} where
           calls = λ x. let same : times x (joined_up new.joined) ≡ times x (joined_up old.joined) = ap (λ (d : DeskState V C R). times x (joined_up d.joined)) h.desk in let le = t.calls x in omega (arith, same, le);
         }
 
-    closes-taken : (desk closing : DeskState V C R) (booth : BoothState V) (office : V) → AreOrdered desk → HasTaken closing desk → (closed : HasClosed step booth closing office) → HasCalls closed.history closing desk
+    closes-taken : (desk closing : DeskState V C R) (booth : BoothState V) (office : V) → ArePlacesOrdered desk → HasTakenSlot closing desk → (closed : HasClosed step booth closing office) → HasCalls closed.history closing desk
     closes-taken desk closing booth office ordered t closed =
         let s : StartsWith closed.history desk.seen = starts-then desk.seen closing.seen closed.history closed.seen t.seen in
         record {

@@ -38,8 +38,8 @@ abbrev pub places : {V C R : Type 0} → DeskState V C R → List ℕ
 places desk = desk.own ++ joined_up desk.joined
 
 -- each list of places rises, and they are places of what was seen
-abbrev pub AreOrdered : {V C R : Type 0} → DeskState V C R → Type 0
-AreOrdered desk = Rises 0 desk.own (length desk.seen) × AllRise desk.joined (length desk.seen)
+abbrev pub ArePlacesOrdered : {V C R : Type 0} → DeskState V C R → Type 0
+ArePlacesOrdered desk = Rises 0 desk.own (length desk.seen) × AllRise desk.joined (length desk.seen)
 
 module _ {V C R : Type 0} where
   abbrev pub turned : DeskState V C R → List (Exchange C R) → Exchange C R → DeskState V C R
@@ -89,7 +89,7 @@ module _ {V C R : Type 0} where
         → CountsOnce 0 (length history) (λ x. times x (places desk))
 
   -- The calls of another desk came to this one by a join, and it has seen what that had
-  pub record HasTaken (desk other : DeskState V C R) : Type 0 where
+  pub record HasTakenSlot (desk other : DeskState V C R) : Type 0 where
     pub seen : StartsWith desk.seen other.seen
     pub calls : (x : ℕ) → times x (places other) ≤ times x (joined_up desk.joined)
 
@@ -104,13 +104,13 @@ module _ {V C R : Type 0} where
 -- itself. Where it closes the booth, the history has these calls, whatever became of the desk that the receipt is of
 pub record ReceiptsStand {V C R : Type 0} (step : V → C → R → V → Type 0) : Type 0 where
   pub joins : (desk old new : DeskState V C R) → HasJoined old (receipt_of desk) new
-      → HasTaken new desk
-  pub turns : (desk old new : DeskState V C R) (made : V) (call : C) (reply : R) → HasTaken old desk
-      → HasTurned step made old call reply new → HasTaken new desk
-  pub keeps : (desk old other new : DeskState V C R) → HasTaken old desk → HasJoined old other new
-      → HasTaken new desk
-  pub hands : (desk old other new : DeskState V C R) → HasTaken other desk → HasJoined old other new
-      → HasTaken new desk
-  pub closes : (desk closing : DeskState V C R) (booth : BoothState V) (office : V) → AreOrdered desk
-      → HasTaken closing desk → (closed : HasClosed step booth closing office)
+      → HasTakenSlot new desk
+  pub turns : (desk old new : DeskState V C R) (made : V) (call : C) (reply : R) → HasTakenSlot old desk
+      → HasTurned step made old call reply new → HasTakenSlot new desk
+  pub keeps : (desk old other new : DeskState V C R) → HasTakenSlot old desk → HasJoined old other new
+      → HasTakenSlot new desk
+  pub hands : (desk old other new : DeskState V C R) → HasTakenSlot other desk → HasJoined old other new
+      → HasTakenSlot new desk
+  pub closes : (desk closing : DeskState V C R) (booth : BoothState V) (office : V) → ArePlacesOrdered desk
+      → HasTakenSlot closing desk → (closed : HasClosed step booth closing office)
       → HasCalls closed.history closing desk

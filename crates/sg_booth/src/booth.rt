@@ -1,12 +1,12 @@
 // The lock.
 ghost use Rattle.std.specs.Prelude.{◌≡◌, ◌≤◌, ◌<◌, ◌-◌, ◌^◌, Some, IfOk, IfErr};
 ghost use Rattle.sg_booth.specs.Rule.{IsOneSlot, office_of};
-ghost use Rattle.sg_booth.specs.Desks.{IsDeskOf, AreOrdered, first_desk, HasTurned, fresh_desk, receipt_of, without_calls, HasJoined, HasClosed};
+ghost use Rattle.sg_booth.specs.Desks.{IsDeskOf, ArePlacesOrdered, first_desk, HasTurned, fresh_desk, receipt_of, without_calls, HasJoined, HasClosed};
 
 use crate::desk::Desk;
 use crate::office::Office;
 use crate::steps::{cut, end, glue, hand_over, hold, serve_at};
-use crate::table::{About, Held, Lock, Slot};
+use crate::table::{About, Lock, OfficeSlot, ServedOffice};
 use atomic_table::{Badge, Refused, Table};
 use std::alloc::{AllocError, Global};
 use std::marker::{Brand, Model};
@@ -22,7 +22,7 @@ pub struct Booth<V: Office> {
 impl<V: Office> Model for Booth<V> {
     ghost use Rattle.std.specs.Prelude.{◌≡◌};
     ghost use Rattle.sg_booth.specs.Desks.{BoothState};
-    ghost use Rattle.sg_booth.specs.Rule.{IsSized};
+    ghost use Rattle.sg_booth.specs.Rule.{IsTableSized};
 
     ghost Value = { BoothState V };
 
@@ -32,7 +32,7 @@ impl<V: Office> Model for Booth<V> {
       turns = b.lock.shared.key.turns;
     } };
 
-    ghost invariant = { λ b. IsSized b.lock.shared.table_id };
+    ghost invariant = { λ b. IsTableSized b.lock.shared.table_id };
 }
 
 impl<V: Office> Booth<V> {
@@ -53,7 +53,7 @@ impl<V: Office> Booth<V> {
             Ok(slots) => slots,
             Err(failed) => return Err((value, failed)),
         };
-        slots.push_reserved(Some(Held {
+        slots.push_reserved(Some(ServedOffice {
             office: value,
             said: None,
         }));
@@ -113,7 +113,7 @@ impl<V: Office> Booth<V> {
         requires desk { IsDeskOf self.now desk.old }
         ensures old { desk.new ≡ without_calls desk.old }
         ensures new { result ≡ receipt_of desk.old }
-        ensures ordered { AreOrdered result }
+        ensures ordered { ArePlacesOrdered result }
     {
         let badge = mem::replace(&mut desk.badge, Badge::blank());
         let mut place = badge.into_seat();
@@ -159,11 +159,11 @@ impl<V: Office> Booth<V> {
 }
 
 // The office in the one slot.
-fn only_office<V: Office>(mut slots: Vec<Slot<V>>) -> V
+fn only_office<V: Office>(mut slots: Vec<OfficeSlot<V>>) -> V
     requires { IsOneSlot slots.items }
     ensures { office_of slots.items ≡ Some result }
 {
-    let Some(Some(Held { office, said: _ })) = slots.pop() else {
+    let Some(Some(ServedOffice { office, said: _ })) = slots.pop() else {
         unreachable!()
     };
     slots.destroy_empty();

@@ -7,12 +7,12 @@ use Rattle.sg_device.proofs.DiskCalls.{content_same}
 use Rattle.sg_msg.specs.Message.{Content}
 use Rattle.sg_codec.specs.declared.kept.Kept.{Kept}
 use Rattle.sg_codec.specs.Reading.{reading}
-use Rattle.sg_codec.specs.Spelling.{spelling2, IsKept}
+use Rattle.sg_codec.specs.Spelling.{spelling2, IsSpellable}
 use Rattle.sg_spool.specs.Places.{Remains}
 use Rattle.sg_spool.specs.Ring.{Entries}
 use Rattle.sg_spool.specs.declared.rows.Rows.{Rows}
 use Rattle.sg_buffer.specs.Entries.{AreKept, spelled}
-use Rattle.sg_buffer.specs.First.{AreFirst, AreFirstKept, content_by, content_in, unread_content}
+use Rattle.sg_buffer.specs.First.{AreFirstMessages, AreFirstKept, content_by, content_in, unread_content}
 
 -- what a payload becomes, by what its reading says
 pub content_read : (payload : List ℕ) (kept : Kept) → reading payload ≡ Ok kept → kept.message ≡ content_in payload
@@ -53,7 +53,7 @@ ended d0 d1 r0 r1 gate b left told rows is remains none =
 
 -- an entry is read from its spelling
 abbrev pub SpellingsAreRead : Type 0
-SpellingsAreRead = (kept : Kept) → IsKept kept → reading (spelling2 kept) ≡ Ok kept
+SpellingsAreRead = (kept : Kept) → IsSpellable kept → reading (spelling2 kept) ≡ Ok kept
 
 contents_kept : SpellingsAreRead → (n : ℕ) (entries : List Kept) → AreKept entries → map content_in (take n (spelled entries)) ≡ map (λ kept. kept.message) (take n entries)
 contents_kept again zero entries fits = refl
@@ -62,6 +62,6 @@ contents_kept again (suc n) (kept ∷ entries) fits =
     ap (λ (m : Content). m ∷ map content_in (take n (spelled entries))) (sym (content_read (spelling2 kept) kept (again kept fits.0))) ∙ ap (λ (l : List Content). kept.message ∷ l) (contents_kept again n entries fits.1)
 
 -- where the payloads spell entries the messages are those of the first of these
-pub first_kept : SpellingsAreRead → (disk : DiskState) (n : ℕ) (messages : List Content) → AreFirst disk n messages → AreFirstKept disk n messages
+pub first_kept : SpellingsAreRead → (disk : DiskState) (n : ℕ) (messages : List Content) → AreFirstMessages disk n messages → AreFirstKept disk n messages
 first_kept again disk n messages are bytes told entries fits list =
     are.each ∙ ap (λ (ps : Entries). map content_in ps) (are.first bytes told (spelled entries) list) ∙ contents_kept again n entries fits

@@ -6,7 +6,7 @@ use Rattle.sg_device.proofs.Disks.{started, moves_within}
 use Rattle.sg_device.proofs.DiskCalls.{reads_as_image}
 use Rattle.sg_codec.specs.declared.kept.Kept.{Kept}
 use Rattle.sg_codec.specs.Spelling.{spelling2, Spells1, Spells2}
-use Rattle.sg_spool.specs.Lists.{IsOneOf}
+use Rattle.sg_spool.specs.Lists.{IsEitherList}
 use Rattle.sg_spool.specs.Ring.{Entries, IsList, space}
 use Rattle.sg_spool.specs.View.{HoldsAt}
 use Rattle.sg_spool.specs.declared.rows.Rows.{Rows}
@@ -14,8 +14,8 @@ use Rattle.sg_spool.proofs.AdvanceCalls.{image_told}
 use Rattle.sg_spool.proofs.Whole.{told_at}
 use Rattle.sg_buffer.specs.Entries.{AreStoredAs, IsListOf, spelled}
 use Rattle.sg_buffer.specs.Formats.{upgraded}
-use Rattle.sg_buffer.specs.Found.{Finds}
-use Rattle.sg_buffer.specs.declared.found.Found.{Found}
+use Rattle.sg_buffer.specs.Found.{FindsEntries}
+use Rattle.sg_buffer.specs.declared.found.BufferEntries.{BufferEntries}
 use Rattle.sg_buffer.proofs.Stored.{news_stored, space_spelled}
 
 -- each is spelled in format 2
@@ -35,7 +35,7 @@ log_at (Some log) f moment c left = (bytes_after log.first log.events, refl)
 told_later : (d0 d1 : DiskState) → Moves d0 d1 → (b : List ℕ) → content d0 ≡ Some b → (d : List ℕ) × (content d1 ≡ Some d)
 told_later d0 d1 moves b told = log_at d1.told d1.faults (clock d0) b (moves.kept (clock d0) b (omega arith) (reads_as_image d0 b told))
 
-module _ (d0 : DiskState) (rows : Rows) (found : Found) (entries : List Kept) (payloads : Entries) (finds : Finds d0 rows found entries) (holds : HoldsAt d0 rows payloads []) where
+module _ (d0 : DiskState) (rows : Rows) (found : BufferEntries) (entries : List Kept) (payloads : Entries) (finds : FindsEntries d0 rows found entries) (holds : HoldsAt d0 rows payloads []) where
   stored : (b : List ℕ) → content d0 ≡ Some b → AreStoredAs entries payloads
   stored b told = finds.list b told payloads (holds.images b (reads_as_image d0 b told))
 
@@ -52,7 +52,7 @@ module _ (d0 : DiskState) (rows : Rows) (found : Found) (entries : List Kept) (p
 
   module _ (older : (kept : Kept) (bytes : List ℕ) → Spells1 kept bytes → length bytes ≤ 2 ^ 30 → Spells2 kept (upgraded bytes)) (newer : (kept : Kept) (bytes : List ℕ) → Spells2 kept bytes → upgraded bytes ≡ bytes) (d1 : DiskState) where
     -- while they are spelled anew
-    pub within_renewed : Within d0 d1 (IsOneOf payloads (map upgraded payloads)) → Within d0 d1 (IsListOf entries)
+    pub within_renewed : Within d0 d1 (IsEitherList payloads (map upgraded payloads)) → Within d0 d1 (IsListOf entries)
     within_renewed so_far = record {
       later = so_far.later;
       past = so_far.past;

@@ -4,7 +4,7 @@ use Rattle.sg_msg.specs.Length.{encoded_len}
 use Rattle.sg_codec.proofs.WriteLemmas.{length-spelling}
 use Rattle.sg_codec.specs.declared.kept.Kept.{Kept}
 use Rattle.sg_codec.specs.Reading.{reading}
-use Rattle.sg_codec.specs.Spelling.{spelling2, IsKept, Spells}
+use Rattle.sg_codec.specs.Spelling.{spelling2, IsSpellable, Spells}
 use Rattle.sg_spool.specs.Ring.{Entries, space}
 use Rattle.sg_buffer.specs.Entries.{IsStoredAs, AreStoredAs, AreKept, spelled, size_of}
 use Rattle.sg_buffer.specs.Formats.{is_format1}
@@ -13,11 +13,11 @@ use Rattle.sg_buffer.proofs.Upgrades.{entry-len, spells1-first}
 pub spells_of : (kept : Kept) (payload : List ℕ) → IsStoredAs kept payload → Spells kept payload
 spells_of kept payload is = ⊎_elim (λ two. inl two) (λ one. inr one.0) is
 
-pub kept_of : (kept : Kept) (payload : List ℕ) → IsStoredAs kept payload → IsKept kept
+pub kept_of : (kept : Kept) (payload : List ℕ) → IsStoredAs kept payload → IsSpellable kept
 kept_of kept payload is = ⊎_elim (λ two. two.fits) (λ one. one.0.fits) is
 
 -- in format 2
-pub new_stored : (kept : Kept) → IsKept kept → IsStoredAs kept (spelling2 kept)
+pub new_stored : (kept : Kept) → IsSpellable kept → IsStoredAs kept (spelling2 kept)
 new_stored kept fits = inl (record { fits = fits; spelled = refl })
 
 pub news_stored : (entries : List Kept) → AreKept entries → AreStoredAs entries (spelled entries)
@@ -42,7 +42,7 @@ stored_length [] (p ∷ ps) are = absurd are
 stored_length (k ∷ ks) [] are = absurd are
 stored_length (k ∷ ks) (p ∷ ps) are = ap suc (stored_length ks ps are.1)
 
-pub kept_more : (entries : List Kept) (kept : Kept) → AreKept entries → IsKept kept → AreKept (entries ++ kept ∷ [])
+pub kept_more : (entries : List Kept) (kept : Kept) → AreKept entries → IsSpellable kept → AreKept (entries ++ kept ∷ [])
 kept_more [] kept are is = (is, tt)
 kept_more (k ∷ ks) kept are is = (are.0, kept_more ks kept are.1 is)
 

@@ -13,10 +13,10 @@ use Rattle.sg_spool.specs.declared.places.Places.{Places}
 use Rattle.sg_spool.specs.declared.rows.Rows.{Rows}
 use Rattle.sg_buffer.specs.Entries.{IsStoredAs, AreStoredAs, AreKept, spelled, size_of}
 use Rattle.sg_buffer.specs.Formats.{is_format1}
-use Rattle.sg_buffer.specs.Found.{Adds, AddReason, Finds, IsNoEntry, LookReason}
+use Rattle.sg_buffer.specs.Found.{AddsEntry, AddReason, FindsEntries, IsFirstNoEntry, LookReason}
 use Rattle.sg_buffer.specs.Heads.{head_of}
-use Rattle.sg_buffer.specs.declared.found.Found.{Found}
-use Rattle.sg_buffer.specs.declared.found.Head.{Head}
+use Rattle.sg_buffer.specs.declared.found.BufferEntries.{BufferEntries}
+use Rattle.sg_buffer.specs.declared.found.EntryHead.{EntryHead}
 use Rattle.sg_buffer.proofs.Stored.{kept_of, is_new, stored_more, stored_length, kept_more, size_more, spelled_more, space_spelled}
 
 -- from this gate on a payload is left, and the others from the next gate on
@@ -28,7 +28,7 @@ pub goes_before : (d0 d1 : DiskState) (r0 r1 : Rows) (gate : ℕ) (payload : Lis
 goes_before d0 d1 r0 r1 gate payload next told rows goes = subst (λ (r : Rows). GoesOn d0 r.list gate payload next) rows (λ b is. goes b (content_same d0 d1 told ∙ is))
 
 -- of these payloads the first ones spell the entries, and the others are left from the gate on
-pub record IsSplit (places : Places) (gate : ℕ) (older : Bool) (entries : List Kept) (payloads : Entries) (bytes : List ℕ) : Type 0 where
+pub record IsListSplit (places : Places) (gate : ℕ) (older : Bool) (entries : List Kept) (payloads : Entries) (bytes : List ℕ) : Type 0 where
   pub done : Entries
   pub left : Entries
   pub both : payloads ≡ done ++ left
@@ -37,16 +37,16 @@ pub record IsSplit (places : Places) (gate : ℕ) (older : Bool) (entries : List
   pub newer : older ≡ false → done ≡ spelled entries
 
 -- so many entries were read, up to this gate
-pub record IsRead (disk : DiskState) (places : Places) (turn gate : ℕ) (found : Found) : Type 0 where
+pub record IsRead (disk : DiskState) (places : Places) (turn gate : ℕ) (found : BufferEntries) : Type 0 where
   pub entries : List Kept
   pub heads : found.heads.items ≡ map head_of entries
   pub kept : AreKept entries
   pub count : turn ≡ length entries
   pub size : found.size ≡ min (size_of entries) (2 ^ 64 - 1)
-  pub split : WhereTold (content disk) (λ b. (payloads : Entries) → IsList payloads b → IsSplit places gate found.older entries payloads b)
+  pub split : WhereTold (content disk) (λ b. (payloads : Entries) → IsList payloads b → IsListSplit places gate found.older entries payloads b)
 
 -- nothing yet
-pub read_none : (disk : DiskState) (places : Places) (gate : ℕ) (found : Found) → found.heads.items ≡ [] → found.size ≡ 0 → WhereTold (content disk) (λ b. (payloads : Entries) → IsList payloads b → Remains b places.jump gate payloads places.end) → IsRead disk places 0 gate found
+pub read_none : (disk : DiskState) (places : Places) (gate : ℕ) (found : BufferEntries) → found.heads.items ≡ [] → found.size ≡ 0 → WhereTold (content disk) (λ b. (payloads : Entries) → IsList payloads b → Remains b places.jump gate payloads places.end) → IsRead disk places 0 gate found
 read_none disk places gate found heads size remains = record {
   entries = [];
   heads = heads;
@@ -61,11 +61,11 @@ parts_or true b e = absurd (let no : true ≡ false = e in cc)
 parts_or false b e = (refl, e)
 
 -- an entry more
-pub read_more : (disk : DiskState) (places : Places) (turn gate next : ℕ) (old new : Found) (kept : Kept) (payload : List ℕ) → IsRead disk places turn gate old → IsStoredAs kept payload → Adds kept payload old new
+pub read_more : (disk : DiskState) (places : Places) (turn gate next : ℕ) (old new : BufferEntries) (kept : Kept) (payload : List ℕ) → IsRead disk places turn gate old → IsStoredAs kept payload → AddsEntry kept payload old new
     → GoesOn disk places gate payload next → IsRead disk places (turn + 1) next new
 read_more disk places turn gate next old new kept payload at is adds goes = record {
   entries = at.entries ++ kept ∷ [];
-  heads = adds.heads ∙ ap (λ (l : List Head). l ++ head_of kept ∷ []) at.heads ∙ sym (map-append head_of at.entries (kept ∷ []));
+  heads = adds.heads ∙ ap (λ (l : List EntryHead). l ++ head_of kept ∷ []) at.heads ∙ sym (map-append head_of at.entries (kept ∷ []));
   kept = kept_more at.entries kept at.kept (kept_of kept payload is);
   count = let n = at.count in omega (arith, n, length-append at.entries (kept ∷ []));
   size = let was = at.size in let now = adds.size in omega (arith, was, now, size_more at.entries kept);
@@ -90,7 +90,7 @@ none_left payloads done (p ∷ ps) both long =
     let all : length payloads ≡ length (done ++ p ∷ ps) = ap length both in
     absurd (omega (arith, all, long, length-append done (p ∷ ps)))
 
-module _ (disk : DiskState) (rows : Rows) (gate : ℕ) (found : Found) (at : IsRead disk rows.list rows.count gate found) (counts : WhereTold (content disk) (λ b. (payloads : Entries) → IsList payloads b → rows.count ≡ length payloads)) where
+module _ (disk : DiskState) (rows : Rows) (gate : ℕ) (found : BufferEntries) (at : IsRead disk rows.list rows.count gate found) (counts : WhereTold (content disk) (λ b. (payloads : Entries) → IsList payloads b → rows.count ≡ length payloads)) where
   -- all were read
   all : (b : List ℕ) (told : content disk ≡ Some b) (payloads : Entries) (list : IsList payloads b) → payloads ≡ (at.split b told payloads list).done
   all b told payloads list =
@@ -104,7 +104,7 @@ module _ (disk : DiskState) (rows : Rows) (gate : ℕ) (found : Found) (at : IsR
   pub all_new : found.older ≡ false → WhereTold (content disk) (λ b. (payloads : Entries) → IsList payloads b → payloads ≡ spelled at.entries)
   all_new e b told payloads list = all b told payloads list ∙ (at.split b told payloads list).newer e
 
-  pub finds : (found.older ≡ false → (live rows.list < 2 ^ 63) × (live rows.list ≡ found.size)) → Finds disk rows found at.entries
+  pub finds : (found.older ≡ false → (live rows.list < 2 ^ 63) × (live rows.list ≡ found.size)) → FindsEntries disk rows found at.entries
   finds same = record {
     heads = at.heads;
     kept = at.kept;
@@ -124,7 +124,7 @@ module _ (disk : DiskState) (rows : Rows) (gate : ℕ) (found : Found) (at : IsR
       omega (arith, n, m, k, small)
 
 -- at the gate where the payload is no entry
-pub no_entry : (disk : DiskState) (places : Places) (turn gate next : ℕ) (found : Found) (payload : List ℕ) → IsRead disk places turn gate found → GoesOn disk places gate payload next → ((kept : Kept) → IsStoredAs kept payload → ⊥) → WhereTold (content disk) (λ b. (payloads : Entries) × IsList payloads b) → WhereTold (content disk) (IsNoEntry places gate)
+pub no_entry : (disk : DiskState) (places : Places) (turn gate next : ℕ) (found : BufferEntries) (payload : List ℕ) → IsRead disk places turn gate found → GoesOn disk places gate payload next → ((kept : Kept) → IsStoredAs kept payload → ⊥) → WhereTold (content disk) (λ b. (payloads : Entries) × IsList payloads b) → WhereTold (content disk) (IsFirstNoEntry places gate)
 no_entry disk places turn gate next found payload at goes none there b told =
     let list = there b told in
     let split = at.split b told list.0 list.1 in
@@ -141,14 +141,14 @@ no_entry disk places turn gate next found payload at goes none there b told =
     }
 
 -- why a payload wasn't added
-pub add_reason : (d0 d1 : DiskState) (places : Places) (turn gate next : ℕ) (found : Found) (payload : List ℕ) → IsRead d0 places turn gate found → GoesOn d0 places gate payload next → WhereTold (content d0) (λ b. (payloads : Entries) × IsList payloads b)
+pub add_reason : (d0 d1 : DiskState) (places : Places) (turn gate next : ℕ) (found : BufferEntries) (payload : List ℕ) → IsRead d0 places turn gate found → GoesOn d0 places gate payload next → WhereTold (content d0) (λ b. (payloads : Entries) × IsList payloads b)
     → (refusal : StoreRefusal) → AddReason payload gate refusal → LookReason d0 d1 places refusal
-add_reason d0 d1 places turn gate next found payload at goes there (Damage place) why = subst (λ (k : ℕ). WhereTold (content d0) (IsNoEntry places k)) (sym why.0) (no_entry d0 places turn gate next found payload at goes why.1 there)
+add_reason d0 d1 places turn gate next found payload at goes there (Damage place) why = subst (λ (k : ℕ). WhereTold (content d0) (IsFirstNoEntry places k)) (sym why.0) (no_entry d0 places turn gate next found payload at goes why.1 there)
 add_reason d0 d1 places turn gate next found payload at goes there DiskFault why = absurd why
 add_reason d0 d1 places turn gate next found payload at goes there NoMemory why = tt
 
 -- before the last one was read there is one
-pub not_empty : (disk : DiskState) (rows : Rows) (turn gate : ℕ) (found : Found) → IsRead disk rows.list turn gate found → turn < rows.count → WhereTold (content disk) (λ b. (payloads : Entries) → IsList payloads b → rows.count ≡ length payloads) → WhereTold (content disk) (λ b. (payloads : Entries) × IsList payloads b)
+pub not_empty : (disk : DiskState) (rows : Rows) (turn gate : ℕ) (found : BufferEntries) → IsRead disk rows.list turn gate found → turn < rows.count → WhereTold (content disk) (λ b. (payloads : Entries) → IsList payloads b → rows.count ≡ length payloads) → WhereTold (content disk) (λ b. (payloads : Entries) × IsList payloads b)
     → WhereTold (content disk) (λ b. (left : Entries) → Remains b rows.list.jump gate left rows.list.end → left ≡ []) → (b : List ℕ) → content disk ≡ Some b → ⊥
 not_empty disk rows turn gate found at less counts there none b told =
     let list = there b told in

@@ -2,7 +2,7 @@
 use Rattle.std.specs.Prelude.{◌⊎◌, ◌≤◌, ◌^◌, ◌+◌, ℕ, List, [], ◌∷◌, length, map}
 use Rattle.sg_msg.specs.Length.{encoded_len}
 use Rattle.sg_codec.specs.declared.kept.Kept.{Kept}
-use Rattle.sg_codec.specs.Spelling.{spelling2, IsKept, Spells1, Spells2}
+use Rattle.sg_codec.specs.Spelling.{spelling2, IsSpellable, Spells1, Spells2}
 use Rattle.sg_spool.specs.Ring.{Entries, IsList}
 
 -- a payload of a store is an entry in format 2, or in format 1 with at most 2^30 bytes
@@ -29,7 +29,7 @@ spelled entries = map spelling2 entries
 -- each has a spelling
 abbrev pub AreKept : List Kept → Type 0
 AreKept [] = Unit {0}
-AreKept (kept ∷ entries) = IsKept kept × AreKept entries
+AreKept (kept ∷ entries) = IsSpellable kept × AreKept entries
 
 -- what they take in format 2: 5 bytes and its length for each
 abbrev pub size_of : List Kept → ℕ

@@ -3,7 +3,7 @@ use Rattle.std.specs.Prelude.{◌≡◌, ℕ, pos, Bool, true, false, List, [], 
 use Rattle.sg_device.specs.Disk.{DiskState, WhereTold, content}
 use Rattle.sg_device.specs.Faults.{Rose}
 use Rattle.sg_time.specs.declared.stamp.Stamp.{Stamp}
-use Rattle.sg_msg.specs.Message.{Content, Pair, with_all}
+use Rattle.sg_msg.specs.Message.{Content, NameValue, with_all}
 use Rattle.sg_codec.specs.Reading.{reading}
 use Rattle.sg_codec.specs.declared.kept.Kept.{Kept}
 use Rattle.sg_spool.specs.Ring.{Entries, IsList}
@@ -21,7 +21,7 @@ abbrev pub long_ago : Stamp
 long_ago = record { at = pos 0; offset = pos 0 }
 
 -- what syslog-ng makes of a record that it can't read
-abbrev pub unread_pairs : List ℕ → List Pair
+abbrev pub unread_pairs : List ℕ → List NameValue
 unread_pairs payload = (record { name = codes "PROGRAM"; value = codes "syslog-ng" })
     ∷ (record { name = codes "MESSAGE"; value = codes "Error processing log message: " ++ payload }) ∷ []
 
@@ -45,7 +45,7 @@ content_in payload = content_by payload (reading payload)
 
 -- Each message is that of a payload; where the disk tells its bytes, and they are a list, the payloads are the first n of it as
 -- they stand there, whether they spell an entry or not.
-pub record AreFirst (disk : DiskState) (n : ℕ) (messages : List Content) : Type 0 where
+pub record AreFirstMessages (disk : DiskState) (n : ℕ) (messages : List Content) : Type 0 where
   pub payloads : Entries
   pub each : messages ≡ map content_in payloads
   pub first : WhereTold (content disk) (λ bytes. (entries : Entries) → IsList entries bytes

@@ -11,13 +11,13 @@ use Rattle.sg_spool.specs.Ring.{Entries, IsList}
 use Rattle.sg_spool.specs.declared.places.Places.{Places}
 use Rattle.sg_spool.specs.declared.rows.Rows.{Rows}
 use Rattle.sg_buffer.specs.Entries.{IsStoredAs, AreStoredAs, AreKept, spelled, size_of}
-use Rattle.sg_buffer.specs.declared.found.Found.{Found}
+use Rattle.sg_buffer.specs.declared.found.BufferEntries.{BufferEntries}
 use Rattle.sg_buffer.specs.Formats.{is_format1}
 use Rattle.sg_buffer.specs.Heads.{head_of}
 
 -- These entries were found. Over a disk that tells its bytes they are those of the list; where none is of format 1, each is
 -- spelled in format 2.
-pub record Finds (disk : DiskState) (rows : Rows) (found : Found) (entries : List Kept) : Type 0 where
+pub record FindsEntries (disk : DiskState) (rows : Rows) (found : BufferEntries) (entries : List Kept) : Type 0 where
   pub heads : found.heads.items ≡ map head_of entries
   pub kept : AreKept entries
   pub count : rows.count ≡ length entries
@@ -29,7 +29,7 @@ pub record Finds (disk : DiskState) (rows : Rows) (found : Found) (entries : Lis
       (λ bytes. (payloads : Entries) → IsList payloads bytes → payloads ≡ spelled entries)
 
 -- At this gate stands the first payload of the list that is no entry.
-pub record IsNoEntry (places : Places) (at : ℕ) (bytes : List ℕ) : Type 0 where
+pub record IsFirstNoEntry (places : Places) (at : ℕ) (bytes : List ℕ) : Type 0 where
   pub before : List Kept
   pub payloads : Entries
   pub payload : List ℕ
@@ -40,7 +40,7 @@ pub record IsNoEntry (places : Places) (at : ℕ) (bytes : List ℕ) : Type 0 wh
   pub none : (kept : Kept) → IsStoredAs kept payload → ⊥
 
 -- what was found, and the entry of this payload
-pub record Adds (kept : Kept) (payload : List ℕ) (old new : Found) : Type 0 where
+pub record AddsEntry (kept : Kept) (payload : List ℕ) (old new : BufferEntries) : Type 0 where
   pub heads : new.heads.items ≡ old.heads.items ++ head_of kept ∷ []
   pub older : new.older ≡ (old.older || is_format1 payload)
   pub size : new.size
@@ -54,6 +54,6 @@ AddReason payload gate NoMemory = Unit {0}
 
 -- damage where it is, a fault where the count of faults rose; lack of memory is free
 abbrev pub LookReason : DiskState → DiskState → Places → StoreRefusal → Type 0
-LookReason old new places (Damage at) = WhereTold (content old) (IsNoEntry places at)
+LookReason old new places (Damage at) = WhereTold (content old) (IsFirstNoEntry places at)
 LookReason old new places DiskFault = Rose old.faults new.faults
 LookReason old new places NoMemory = Unit {0}

@@ -1,7 +1,7 @@
 // The first entries of a disk-buffer.
 ghost use Rattle.std.specs.Prelude.{◌≡◌, ◌≤◌, length, codes, ◌++◌, [], ◌∷◌, OnOk, IfOk, IfErr, false};
-ghost use Rattle.sg_spool.specs.Calls.{Reads};
-ghost use Rattle.sg_buffer.specs.First.{AreFirst, ReadReason, content_in, unread_content};
+ghost use Rattle.sg_spool.specs.Calls.{OnlyReadsSpool};
+ghost use Rattle.sg_buffer.specs.First.{AreFirstMessages, ReadReason, content_in, unread_content};
 
 use bytes::Bytes;
 use sg_codec::{CodecRefusal, Kept, decode};
@@ -25,9 +25,9 @@ pub fn first_messages<D: Disk>(
     requires open { spool.old.closed ≡ false }
     requires enough { n ≤ spool.old.rows.count }
     requires unstaged { spool.old.rows.staged ≡ 0 }
-    ensures reads { Reads D.state spool.old spool.new }
+    ensures reads { OnlyReadsSpool D.state spool.old spool.new }
     ensures messages { IfOk result
-        (λ messages. AreFirst (D.state spool.old.disk) n messages.items) }
+        (λ messages. AreFirstMessages (D.state spool.old.disk) n messages.items) }
     ensures number { IfOk result (λ messages. length messages.items ≡ n) }
     ensures open { IfOk result (λ _. spool.new.closed ≡ false) }
     ensures cause { IfErr result

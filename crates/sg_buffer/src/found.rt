@@ -8,7 +8,7 @@ use std::alloc::{AllocError, Global};
 
 /// An entry without its message: what a core keeps of one that stands on the disk.
 #[derive(Clone, Copy, Debug, PartialEq, Eq, Drop)]
-pub struct Head {
+pub struct EntryHead {
     /// The number of the inlet that its record came by.
     pub source: u32,
     /// The place behind its record at that inlet, below 2^63.
@@ -21,21 +21,21 @@ pub struct Head {
 
 /// The entries of a disk-buffer.
 #[derive(Debug, Drop)]
-pub struct Found {
+pub struct BufferEntries {
     /// In the order of the list.
-    pub heads: Vec<Head>,
+    pub heads: Vec<EntryHead>,
     /// Whether one of them is spelled in format 1.
     pub older: bool,
     /// What they take in format 2, 5 bytes and its length for each; 2^64 - 1 where that is more.
     pub size: u64,
 }
 
-impl Head {
-    pub(crate) fn of(kept: &Kept) -> Head
+impl EntryHead {
+    pub(crate) fn of(kept: &Kept) -> EntryHead
         requires { encoded_len kept.now.message ≤ 2 ^ 62 }
         ensures { result ≡ head_of kept.now }
     {
-        Head {
+        EntryHead {
             source: kept.source,
             end: kept.end,
             flow: kept.flow,
@@ -44,21 +44,21 @@ impl Head {
     }
 }
 
-impl Found {
+impl BufferEntries {
     // Nothing yet.
-    pub(crate) fn none(alloc: Global) -> Found
+    pub(crate) fn none(alloc: Global) -> BufferEntries
         ensures heads { result.heads.items ≡ [] }
         ensures older { result.older ≡ false }
         ensures size { result.size ≡ 0 }
     {
-        Found {
+        BufferEntries {
             heads: Vec::new(alloc),
             older: false,
             size: 0,
         }
     }
 
-    pub(crate) fn push(&mut self, head: Head) -> Result<(), AllocError>
+    pub(crate) fn push(&mut self, head: EntryHead) -> Result<(), AllocError>
         ensures heads { OnOk result (self.new.heads.items ≡ self.old.heads.items ++ head ∷ []) }
         ensures older { self.new.older ≡ self.old.older }
         ensures size { self.new.size ≡ self.old.size }

@@ -5,7 +5,7 @@ ghost use Rattle.sg_msg.specs.Message.{Content};
 ghost use Rattle.sg_codec.specs.declared.kept.Kept.{Kept as Entry};
 ghost use Rattle.sg_codec.specs.Spelling.{Spells1, Spells2};
 ghost use Rattle.sg_buffer.specs.Entries.{IsListOf};
-ghost use Rattle.sg_buffer.specs.First.{AreFirst, AreFirstKept};
+ghost use Rattle.sg_buffer.specs.First.{AreFirstMessages, AreFirstKept};
 ghost use Rattle.sg_buffer.specs.Formats.{upgraded};
 
 use sg_codec::spellings_are_read;
@@ -31,7 +31,7 @@ pub fn lists_are_one()
 /// Where the payloads of a disk-buffer spell entries, the messages of its first payloads are those of the
 /// first entries.
 pub fn first_messages_are_kept()
-    ensures { (disk : DiskState) (n : ℕ) (messages : List Content) → AreFirst disk n messages
+    ensures { (disk : DiskState) (n : ℕ) (messages : List Content) → AreFirstMessages disk n messages
         → AreFirstKept disk n messages }
 {
     spellings_are_read();

@@ -12,7 +12,7 @@ mod upgrade;
 
 pub use block::entry_block;
 pub use first::first_messages;
-pub use found::{Found, Head};
+pub use found::{BufferEntries, EntryHead};
 pub use laws::{entries_stay, first_messages_are_kept, lists_are_one};
 pub use looking::look;
 pub use renewing::renew;

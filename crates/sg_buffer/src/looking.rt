@@ -1,13 +1,13 @@
 // The walk over a disk-buffer at its opening.
 ghost use Rattle.std.specs.Prelude.{◌≡◌, ◌≤◌, ◌^◌, List, ℕ, IfOk, IfErr, OnOk, true, false};
 ghost use Rattle.sg_codec.specs.declared.kept.Kept.{Kept as Entry};
-ghost use Rattle.sg_spool.specs.Calls.{Reads};
+ghost use Rattle.sg_spool.specs.Calls.{OnlyReadsSpool};
 ghost use Rattle.sg_spool.specs.Ring.{IsPayload};
 ghost use Rattle.sg_buffer.specs.Entries.{IsStoredAs};
-ghost use Rattle.sg_buffer.specs.Found.{Finds, Adds, AddReason, LookReason};
+ghost use Rattle.sg_buffer.specs.Found.{FindsEntries, AddsEntry, AddReason, LookReason};
 
 use crate::upgrade::{LONGEST, is_format1};
-use crate::{Found, Head};
+use crate::{BufferEntries, EntryHead};
 use sg_codec::{CodecRefusal, decode};
 use sg_device::Disk;
 use sg_spool::{Spool, Walked, bytes_have_one_meaning};
@@ -17,18 +17,18 @@ use std::alloc::Global;
 /// What stands in a disk-buffer that was just opened: each of its payloads is read and decoded, once.
 /// Damage comes at the gate of the first that is no entry, and in a store of format 1 with more than 2^30
 /// bytes. Nothing on the disk changes.
-pub fn look<D: Disk>(alloc: Global, spool: &mut Spool<D>) -> Result<Found, StoreRefusal>
+pub fn look<D: Disk>(alloc: Global, spool: &mut Spool<D>) -> Result<BufferEntries, StoreRefusal>
     requires open { spool.old.closed ≡ false }
     requires unstaged { spool.old.rows.staged ≡ 0 }
-    ensures reads { Reads D.state spool.old spool.new }
+    ensures reads { OnlyReadsSpool D.state spool.old spool.new }
     ensures found { IfOk result (λ found. (entries : List Entry)
-        × Finds (D.state spool.old.disk) spool.old.rows found entries) }
+        × FindsEntries (D.state spool.old.disk) spool.old.rows found entries) }
     ensures open { IfOk result (λ _. spool.new.closed ≡ false) }
     ensures reason { IfErr result
         (LookReason (D.state spool.old.disk) (D.state spool.new.disk) spool.old.rows.list) }
 {
     bytes_have_one_meaning();
-    let mut found = Found::none(alloc);
+    let mut found = BufferEntries::none(alloc);
     let mut gate = spool.head();
     for _turn in 0..spool.count() {
         match spool.item(alloc, gate)? {
@@ -49,10 +49,15 @@ pub fn look<D: Disk>(alloc: Global, spool: &mut Spool<D>) -> Result<Found, Store
 }
 
 // Adds the entry that a payload spells, which stands at this gate.
-fn add(alloc: Global, found: &mut Found, payload: &[u8], gate: u64) -> Result<(), StoreRefusal>
+fn add(
+    alloc: Global,
+    found: &mut BufferEntries,
+    payload: &[u8],
+    gate: u64,
+) -> Result<(), StoreRefusal>
     requires { IsPayload payload.now }
     ensures added { OnOk result
-        ((kept : Entry) × IsStoredAs kept payload.now × Adds kept payload.now found.old found.new) }
+        ((kept : Entry) × IsStoredAs kept payload.now × AddsEntry kept payload.now found.old found.new) }
     ensures reason { IfErr result (AddReason payload.now gate) }
 {
     let older = is_format1(payload);
@@ -61,7 +66,7 @@ fn add(alloc: Global, found: &mut Found, payload: &[u8], gate: u64) -> Result<()
     }
     match decode(alloc, payload) {
         Ok(kept) => {
-            let head = Head::of(&kept);
+            let head = EntryHead::of(&kept);
             found.push(head)?;
             found.older = found.older | older;
             found.size = found.size.saturating_add(5).saturating_add(head.length);

@@ -2,15 +2,15 @@
 ghost use Rattle.std.specs.Prelude.{◌≡◌, [], List, IfErr, OnOk, false};
 ghost use Rattle.sg_device.specs.Disk.{Within};
 ghost use Rattle.sg_codec.specs.declared.kept.Kept.{Kept as Entry};
-ghost use Rattle.sg_spool.specs.Calls.{Lasts};
+ghost use Rattle.sg_spool.specs.Calls.{SpoolLasts};
 ghost use Rattle.sg_spool.specs.Places.{live};
 ghost use Rattle.sg_spool.specs.Ring.{Entries};
-ghost use Rattle.sg_spool.specs.View.{Holds};
+ghost use Rattle.sg_spool.specs.View.{RingHolds};
 ghost use Rattle.sg_buffer.specs.Entries.{IsListOf, size_of, spelled};
-ghost use Rattle.sg_buffer.specs.Found.{Finds};
+ghost use Rattle.sg_buffer.specs.Found.{FindsEntries};
 ghost use Rattle.sg_buffer.specs.Renewing.{IsRenewed, RenewReason};
 
-use crate::{Found, Upgrade, entries_stay};
+use crate::{BufferEntries, Upgrade, entries_stay};
 use sg_device::Disk;
 use sg_spool::{RewriteRefusal, Spool};
 use sg_stable::StoreRefusal;
@@ -21,25 +21,25 @@ use std::alloc::Global;
 pub fn renew<D: Disk>(
     alloc: Global,
     spool: &mut Spool<D>,
-    found: &Found,
+    found: &BufferEntries,
 ) -> Result<(), StoreRefusal>
     requires open { spool.old.closed ≡ false }
     requires unstaged { spool.old.rows.staged ≡ 0 }
-    ensures lasts { Lasts D.state spool.old spool.new }
+    ensures lasts { SpoolLasts D.state spool.old spool.new }
     ensures within { (entries : List Entry) (payloads : Entries)
-        → Finds (D.state spool.old.disk) spool.old.rows found.now entries
-        → Holds D.state spool.old payloads []
+        → FindsEntries (D.state spool.old.disk) spool.old.rows found.now entries
+        → RingHolds D.state spool.old payloads []
         → Within (D.state spool.old.disk) (D.state spool.new.disk) (IsListOf entries) }
     ensures renewed { OnOk result ((entries : List Entry) (payloads : Entries)
-        → Finds (D.state spool.old.disk) spool.old.rows found.now entries
-        → Holds D.state spool.old payloads [] → Holds D.state spool.new (spelled entries) []) }
+        → FindsEntries (D.state spool.old.disk) spool.old.rows found.now entries
+        → RingHolds D.state spool.old payloads [] → RingHolds D.state spool.new (spelled entries) []) }
     ensures size { OnOk result ((entries : List Entry)
-        → Finds (D.state spool.old.disk) spool.old.rows found.now entries
+        → FindsEntries (D.state spool.old.disk) spool.old.rows found.now entries
         → live spool.new.rows.list ≡ size_of entries) }
     ensures listed { OnOk result (IsRenewed spool.old spool.new) }
     ensures reason { IfErr result (λ e. (entries : List Entry) (payloads : Entries)
-        → Finds (D.state spool.old.disk) spool.old.rows found.now entries
-        → Holds D.state spool.old payloads []
+        → FindsEntries (D.state spool.old.disk) spool.old.rows found.now entries
+        → RingHolds D.state spool.old payloads []
         → RenewReason (D.state spool.old.disk) (D.state spool.new.disk) e) }
 {
     if !found.older {

@@ -3,27 +3,27 @@ use Rattle.std.proofs.Common.{◌≡◌, ℕ, zero, suc, ◌^◌, ◌<◌, ◌�
 use Rattle.std.proofs.lemmas.Bool.{ltb-false}
 use Rattle.std.proofs.lemmas.List.{append-nil, nil_from_length}
 use Rattle.std.specs.Int.{w32, w64}
-use Rattle.sg_time.specs.Stamp.{IsValid}
+use Rattle.sg_time.specs.Stamp.{IsValidStamp}
 use Rattle.sg_time.specs.declared.stamp.Stamp.{Stamp}
-use Rattle.sg_msg.specs.Message.{Pair}
+use Rattle.sg_msg.specs.Message.{NameValue}
 use Rattle.sg_codec.specs.declared.kept.Kept.{Kept}
-use Rattle.sg_codec.specs.declared.kept.Head.{Head}
-use Rattle.sg_codec.specs.Spelling.{number_bytes, flag_bytes, stamp_bytes, tag_list, pair_list, head_bytes, IsKept, IsStored, Spells1, Spells2, Spells}
+use Rattle.sg_codec.specs.declared.kept.KeptPrefix.{KeptPrefix}
+use Rattle.sg_codec.specs.Spelling.{number_bytes, flag_bytes, stamp_bytes, tag_list, pair_list, head_bytes, IsSpellable, IsStoredForm, Spells1, Spells2, Spells}
 use Rattle.sg_codec.specs.Reading.{◌>>=◌, number_at, flag_at, end_at, pri_at, stamp_at, tag_list_at, pair_list_at, head_at, kept_of, last_at, format1_at, format2_at, entry_at, placed, reading}
-use Rattle.sg_codec.proofs.FieldLaws.{AreBytes, AreBytes-rest, Takes, Takes-then, step_ok, guard_ok, ok_is, wide32, number_takes, number_again, flag_takes, flag_again, end_takes, end_again, pri_takes, pri_again}
+use Rattle.sg_codec.proofs.FieldLaws.{AreBytes, AreBytes-rest, TakesField, Takes-then, step_ok, guard_ok, ok_is, wide32, number_takes, number_again, flag_takes, flag_again, end_takes, end_again, pri_takes, pri_again}
 use Rattle.sg_codec.proofs.StampLaws.{stamp_takes, stamp_again}
 use Rattle.sg_codec.proofs.ListLaws.{TagsFit, tag_list_takes, tag_list_again, PairsFit, pair_list_takes, pair_list_again}
 
-abbrev head_text : Head → List ℕ
+abbrev head_text : KeptPrefix → List ℕ
 head_text head = flag_bytes head.flow ++ (number_bytes w32 head.source ++ (number_bytes w64 head.end ++ (head.pri ∷ stamp_bytes head.sent)))
 
-record HeadFits (head : Head) : Type 0 where
+record HeadFits (head : KeptPrefix) : Type 0 where
   pub source : head.source < 2 ^ 32
   pub end : head.end < 2 ^ 63
   pub pri : head.pri ≤ 191
-  pub sent : IsValid head.sent
+  pub sent : IsValidStamp head.sent
 
-head_takes : (bytes : List ℕ) (x : Head × List ℕ) → AreBytes bytes → head_at bytes ≡ Ok x → Takes bytes (head_text x.0) x.1 × HeadFits x.0
+head_takes : (bytes : List ℕ) (x : KeptPrefix × List ℕ) → AreBytes bytes → head_at bytes ≡ Ok x → TakesField bytes (head_text x.0) x.1 × HeadFits x.0
 unfolding head_at
 head_takes bytes x fits e =
     let a = step_ok (flag_at bytes) (λ flow. number_at w32 flow.1 >>= λ source. end_at source.1 >>= λ end. pri_at end.1 >>= λ pri. stamp_at pri.1 >>= λ sent. Ok (record { flow = flow.0; source = source.0; end = end.0; pri = pri.0; sent = sent.0 }, sent.1)) x e in
@@ -40,10 +40,10 @@ head_takes bytes x fits e =
     let e2 = Takes-then b.0.1 (number_bytes w64 c.0.0) c.0.1 (d.0.0 ∷ stamp_bytes s.0.0) s.0.1 t2.0 e3 in
     let e1 = Takes-then a.0.1 (number_bytes w32 b.0.0) b.0.1 (number_bytes w64 c.0.0 ++ (d.0.0 ∷ stamp_bytes s.0.0)) s.0.1 t1.0 e2 in
     let e0 = Takes-then bytes (flag_bytes a.0.0) a.0.1 (number_bytes w32 b.0.0 ++ (number_bytes w64 c.0.0 ++ (d.0.0 ∷ stamp_bytes s.0.0))) s.0.1 t0 e1 in
-    let made : Head × List ℕ = (record { flow = a.0.0; source = b.0.0; end = c.0.0; pri = d.0.0; sent = s.0.0 }, s.0.1) in
-    subst (λ (y : Head × List ℕ). Takes bytes (head_text y.0) y.1 × HeadFits y.0) (ok_is made x s.2) (e0, record { source = t1.1; end = t2.1; pri = t3.1; sent = t4.1 })
+    let made : KeptPrefix × List ℕ = (record { flow = a.0.0; source = b.0.0; end = c.0.0; pri = d.0.0; sent = s.0.0 }, s.0.1) in
+    subst (λ (y : KeptPrefix × List ℕ). TakesField bytes (head_text y.0) y.1 × HeadFits y.0) (ok_is made x s.2) (e0, record { source = t1.1; end = t2.1; pri = t3.1; sent = t4.1 })
 
-head_again : (head : Head) (rest : List ℕ) → HeadFits head → head_at (head_text head ++ rest) ≡ Ok (head, rest)
+head_again : (head : KeptPrefix) (rest : List ℕ) → HeadFits head → head_at (head_text head ++ rest) ≡ Ok (head, rest)
 unfolding head_at
 head_again head rest fits =
     let last = head.pri ∷ (stamp_bytes head.sent ++ rest) in
@@ -58,12 +58,12 @@ head_again head rest fits =
 
 -- the pairs, behind which nothing follows
 
-record Closes (head : Head) (received : Stamp) (tags : List (List ℕ)) (bytes : List ℕ) (kept : Kept) : Type 0 where
+record ClosesEntry (head : KeptPrefix) (received : Stamp) (tags : List (List ℕ)) (bytes : List ℕ) (kept : Kept) : Type 0 where
   pub is : kept ≡ kept_of head received tags kept.message.pairs
   pub spelled : bytes ≡ pair_list kept.message.pairs
   pub fits : PairsFit kept.message.pairs
 
-last_takes : (head : Head) (received : Stamp) (tags : List (List ℕ)) (bytes : List ℕ) (kept : Kept) → AreBytes bytes → last_at head received tags bytes ≡ Ok kept → Closes head received tags bytes kept
+last_takes : (head : KeptPrefix) (received : Stamp) (tags : List (List ℕ)) (bytes : List ℕ) (kept : Kept) → AreBytes bytes → last_at head received tags bytes ≡ Ok kept → ClosesEntry head received tags bytes kept
 unfolding last_at
 last_takes head received tags bytes kept fits e =
     let a = step_ok (pair_list_at bytes) (λ pairs. cond (ltb 0 (length pairs.1)) (Err (length pairs.1)) (Ok (kept_of head received tags pairs.0))) kept e in
@@ -71,9 +71,9 @@ last_takes head received tags bytes kept fits e =
     let nothing : a.0.1 ≡ [] = nil_from_length a.0.1 (omega (arith, ltb-false 0 (length a.0.1) g.0)) in
     let t = pair_list_takes bytes a.0 fits a.1 in
     let whole : bytes ≡ pair_list a.0.0 = t.0.parts ∙ ap (λ (r : List ℕ). pair_list a.0.0 ++ r) nothing ∙ append-nil (pair_list a.0.0) in
-    subst (λ (k : Kept). Closes head received tags bytes k) (ok_is (kept_of head received tags a.0.0) kept g.1) (record { is = refl; spelled = whole; fits = t.1 })
+    subst (λ (k : Kept). ClosesEntry head received tags bytes k) (ok_is (kept_of head received tags a.0.0) kept g.1) (record { is = refl; spelled = whole; fits = t.1 })
 
-last_again : (head : Head) (received : Stamp) (tags : List (List ℕ)) (pairs : List Pair) → PairsFit pairs → last_at head received tags (pair_list pairs) ≡ Ok (kept_of head received tags pairs)
+last_again : (head : KeptPrefix) (received : Stamp) (tags : List (List ℕ)) (pairs : List NameValue) → PairsFit pairs → last_at head received tags (pair_list pairs) ≡ Ok (kept_of head received tags pairs)
 unfolding last_at
 last_again head received tags pairs fits =
     let read : pair_list_at (pair_list pairs) ≡ Ok (pairs, []) = ap pair_list_at (sym (append-nil (pair_list pairs))) ∙ pair_list_again pairs [] fits in
@@ -81,10 +81,10 @@ last_again head received tags pairs fits =
 
 -- the formats
 
-abbrev head_of : Kept → Head
+abbrev head_of : Kept → KeptPrefix
 head_of kept = record { flow = kept.flow; source = kept.source; end = kept.end; pri = kept.message.pri; sent = kept.message.sent }
 
-made_fits : (head : Head) (received : Stamp) (tags : List (List ℕ)) (pairs : List Pair) → HeadFits head → IsValid received → TagsFit tags → PairsFit pairs → IsKept (kept_of head received tags pairs)
+made_fits : (head : KeptPrefix) (received : Stamp) (tags : List (List ℕ)) (pairs : List NameValue) → HeadFits head → IsValidStamp received → TagsFit tags → PairsFit pairs → IsSpellable (kept_of head received tags pairs)
 made_fits head received tags pairs h r t p = record {
   source = h.source;
   end = h.end;
@@ -95,13 +95,13 @@ made_fits head received tags pairs h r t p = record {
   values = p.values;
 }
 
-pairs_fit : (kept : Kept) → IsKept kept → PairsFit kept.message.pairs
+pairs_fit : (kept : Kept) → IsSpellable kept → PairsFit kept.message.pairs
 pairs_fit kept fits = record { count = fits.pair_count; ascending = fits.message.ascending; names = fits.message.names; values = fits.values }
 
-tags_fit : (kept : Kept) → IsKept kept → TagsFit kept.message.tags
+tags_fit : (kept : Kept) → IsSpellable kept → TagsFit kept.message.tags
 tags_fit kept fits = record { count = fits.tag_count; texts = fits.tags; distinct = fits.message.tags }
 
-head_fits : (kept : Kept) → IsKept kept → HeadFits (head_of kept)
+head_fits : (kept : Kept) → IsSpellable kept → HeadFits (head_of kept)
 head_fits kept fits = record { source = fits.source; end = fits.end; pri = fits.message.pri; sent = fits.message.sent }
 
 format1_takes : (bytes : List ℕ) (kept : Kept) → AreBytes bytes → format1_at bytes ≡ Ok kept → Spells1 kept (1 ∷ bytes)
@@ -141,12 +141,12 @@ format2_takes bytes kept fits e =
     } in
     subst (λ (k : Kept). Spells2 k (2 ∷ bytes)) (sym c.is) spelled
 
-format1_again : (kept : Kept) → IsKept kept → IsStored kept.message → format1_at (head_bytes kept ++ pair_list kept.message.pairs) ≡ Ok kept
+format1_again : (kept : Kept) → IsSpellable kept → IsStoredForm kept.message → format1_at (head_bytes kept ++ pair_list kept.message.pairs) ≡ Ok kept
 unfolding format1_at
 format1_again kept fits stored =
     rw (head_again (head_of kept) (pair_list kept.message.pairs) (head_fits kept fits), last_again (head_of kept) kept.message.sent [] kept.message.pairs (pairs_fit kept fits), ← stored.received, ← stored.tags) refl
 
-format2_again : (kept : Kept) → IsKept kept → format2_at (head_bytes kept ++ (stamp_bytes kept.message.received ++ (tag_list kept.message.tags ++ pair_list kept.message.pairs))) ≡ Ok kept
+format2_again : (kept : Kept) → IsSpellable kept → format2_at (head_bytes kept ++ (stamp_bytes kept.message.received ++ (tag_list kept.message.tags ++ pair_list kept.message.pairs))) ≡ Ok kept
 unfolding format2_at
 format2_again kept fits =
     let message = kept.message in

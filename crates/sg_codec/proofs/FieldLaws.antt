@@ -51,11 +51,11 @@ pub ok_is : {A : Type 0} (x y : A) → done x ≡ done y → x ≡ y
 ok_is x y e = cc
 
 -- what was taken off the front
-pub record Takes (bytes text rest : List ℕ) : Type 0 where
+pub record TakesField (bytes text rest : List ℕ) : Type 0 where
   pub parts : bytes ≡ text ++ rest
   pub rest_fits : AreBytes rest
 
-pub Takes-then : (a x b y c : List ℕ) → Takes a x b → Takes b y c → Takes a (x ++ y) c
+pub Takes-then : (a x b y c : List ℕ) → TakesField a x b → TakesField b y c → TakesField a (x ++ y) c
 Takes-then a x b y c p q = record { parts = p.parts ∙ ap (λ (t : List ℕ). x ++ t) q.parts ∙ sym (append_assoc x y c); rest_fits = q.rest_fits }
 
 -- numbers
@@ -90,7 +90,7 @@ wide64 = record {
   below = λ bytes fits. omega (arith, fits 0, fits 1, fits 2, fits 3, fits 4, fits 5, fits 6, fits 7);
 }
 
-pub number_takes : (w : Width) (limit : ℕ) (wide : IsWide w limit) (bytes : List ℕ) (n : ℕ) (rest : List ℕ) → AreBytes bytes → number_at w bytes ≡ Ok (n, rest) → Takes bytes (number_bytes w n) rest × (n < limit)
+pub number_takes : (w : Width) (limit : ℕ) (wide : IsWide w limit) (bytes : List ℕ) (n : ℕ) (rest : List ℕ) → AreBytes bytes → number_at w bytes ≡ Ok (n, rest) → TakesField bytes (number_bytes w n) rest × (n < limit)
 unfolding number_at number_bytes
 number_takes w limit wide bytes n rest fits e =
     let g = guard_ok (ltb (length bytes) (byte_len w)) (length bytes) (Ok (from_be_bytes w (take (byte_len w) bytes), drop (byte_len w) bytes)) (n, rest) e in
@@ -110,13 +110,13 @@ number_again w limit wide n rest lt =
 
 -- single bytes
 
-pub flag_takes : (bytes : List ℕ) (x : Bool × List ℕ) → AreBytes bytes → flag_at bytes ≡ Ok x → Takes bytes (flag_bytes x.0) x.1
+pub flag_takes : (bytes : List ℕ) (x : Bool × List ℕ) → AreBytes bytes → flag_at bytes ≡ Ok x → TakesField bytes (flag_bytes x.0) x.1
 unfolding flag_at
 flag_takes [] x fits e = absurd cc
 flag_takes (zero ∷ rest) x fits e =
-    subst (λ (y : Bool × List ℕ). Takes (0 ∷ rest) (flag_bytes y.0) y.1) (ok_is (false, rest) x e) (record { parts = refl; rest_fits = AreBytes-rest 0 rest fits })
+    subst (λ (y : Bool × List ℕ). TakesField (0 ∷ rest) (flag_bytes y.0) y.1) (ok_is (false, rest) x e) (record { parts = refl; rest_fits = AreBytes-rest 0 rest fits })
 flag_takes (suc zero ∷ rest) x fits e =
-    subst (λ (y : Bool × List ℕ). Takes (1 ∷ rest) (flag_bytes y.0) y.1) (ok_is (true, rest) x e) (record { parts = refl; rest_fits = AreBytes-rest 1 rest fits })
+    subst (λ (y : Bool × List ℕ). TakesField (1 ∷ rest) (flag_bytes y.0) y.1) (ok_is (true, rest) x e) (record { parts = refl; rest_fits = AreBytes-rest 1 rest fits })
 flag_takes (suc (suc other) ∷ rest) x fits e = absurd cc
 
 pub flag_again : (flag : Bool) (rest : List ℕ) → flag_at (flag_bytes flag ++ rest) ≡ Ok (flag, rest)
@@ -124,24 +124,24 @@ unfolding flag_at
 flag_again false rest = refl
 flag_again true rest = refl
 
-pub pri_takes : (bytes : List ℕ) (x : ℕ × List ℕ) → AreBytes bytes → pri_at bytes ≡ Ok x → Takes bytes (x.0 ∷ []) x.1 × (x.0 ≤ 191)
+pub pri_takes : (bytes : List ℕ) (x : ℕ × List ℕ) → AreBytes bytes → pri_at bytes ≡ Ok x → TakesField bytes (x.0 ∷ []) x.1 × (x.0 ≤ 191)
 unfolding pri_at
 pri_takes [] x fits e = absurd cc
 pri_takes (pri ∷ rest) x fits e =
     let t = test_ok (leb pri 191) (suc (length rest)) (Ok (pri, rest)) x e in
-    subst (λ (y : ℕ × List ℕ). Takes (pri ∷ rest) (y.0 ∷ []) y.1 × (y.0 ≤ 191)) (ok_is (pri, rest) x t.1) (record { parts = refl; rest_fits = AreBytes-rest pri rest fits }, leb-true pri 191 t.0)
+    subst (λ (y : ℕ × List ℕ). TakesField (pri ∷ rest) (y.0 ∷ []) y.1 × (y.0 ≤ 191)) (ok_is (pri, rest) x t.1) (record { parts = refl; rest_fits = AreBytes-rest pri rest fits }, leb-true pri 191 t.0)
 
 pub pri_again : (pri : ℕ) (rest : List ℕ) → pri ≤ 191 → pri_at (pri ∷ rest) ≡ Ok (pri, rest)
 unfolding pri_at
 pri_again pri rest le = rw (le-leb pri 191 le) refl
 
-pub end_takes : (bytes : List ℕ) (x : ℕ × List ℕ) → AreBytes bytes → end_at bytes ≡ Ok x → Takes bytes (number_bytes w64 x.0) x.1 × (x.0 < 2 ^ 63)
+pub end_takes : (bytes : List ℕ) (x : ℕ × List ℕ) → AreBytes bytes → end_at bytes ≡ Ok x → TakesField bytes (number_bytes w64 x.0) x.1 × (x.0 < 2 ^ 63)
 unfolding end_at
 end_takes bytes x fits e =
     let a = step_ok (number_at w64 bytes) (λ end. cond (ltb end.0 (2 ^ 63)) (Ok end) (Err (length bytes))) x e in
     let t = test_ok (ltb a.0.0 (2 ^ 63)) (length bytes) (Ok a.0) x a.2 in
     let n = number_takes w64 (2 ^ 64) wide64 bytes a.0.0 a.0.1 fits a.1 in
-    subst (λ (y : ℕ × List ℕ). Takes bytes (number_bytes w64 y.0) y.1 × (y.0 < 2 ^ 63)) (ok_is a.0 x t.1) (n.0, ltb-true a.0.0 (2 ^ 63) t.0)
+    subst (λ (y : ℕ × List ℕ). TakesField bytes (number_bytes w64 y.0) y.1 × (y.0 < 2 ^ 63)) (ok_is a.0 x t.1) (n.0, ltb-true a.0.0 (2 ^ 63) t.0)
 
 pub end_again : (end : ℕ) (rest : List ℕ) → end < 2 ^ 63 → end_at (number_bytes w64 end ++ rest) ≡ Ok (end, rest)
 unfolding end_at
@@ -149,12 +149,12 @@ end_again end rest lt = rw (number_again w64 (2 ^ 64) wide64 end rest (omega ari
 
 -- texts
 
-pub bytes_takes : (count : ℕ) (bytes : List ℕ) (x : List ℕ × List ℕ) → AreBytes bytes → bytes_at count bytes ≡ Ok x → Takes bytes x.0 x.1 × (length x.0 ≡ count)
+pub bytes_takes : (count : ℕ) (bytes : List ℕ) (x : List ℕ × List ℕ) → AreBytes bytes → bytes_at count bytes ≡ Ok x → TakesField bytes x.0 x.1 × (length x.0 ≡ count)
 unfolding bytes_at
 bytes_takes count bytes x fits e =
     let g = guard_ok (ltb (length bytes) count) (length bytes) (Ok (take count bytes, drop count bytes)) x e in
     let long : count ≤ length bytes = ltb-false _ _ g.0 in
-    subst (λ (y : List ℕ × List ℕ). Takes bytes y.0 y.1 × (length y.0 ≡ count)) (ok_is (take count bytes, drop count bytes) x g.1)
+    subst (λ (y : List ℕ × List ℕ). TakesField bytes y.0 y.1 × (length y.0 ≡ count)) (ok_is (take count bytes, drop count bytes) x g.1)
     (record { parts = sym (take-append-drop count bytes); rest_fits = AreBytes-drop count bytes fits }, omega (arith, length-take count bytes))
 
 pub bytes_again : (text rest : List ℕ) → bytes_at (length text) (text ++ rest) ≡ Ok (text, rest)
@@ -164,11 +164,11 @@ bytes_again text rest =
     rw (long, take_at text rest (length text) refl, drop_at text rest (length text) refl) refl
 
 -- a length, and that many bytes
-sized : (bytes : List ℕ) (size : ℕ) (after text rest : List ℕ) → Takes bytes (number_bytes w32 size) after → Takes after text rest → length text ≡ size → Takes bytes (text_bytes text) rest
+sized : (bytes : List ℕ) (size : ℕ) (after text rest : List ℕ) → TakesField bytes (number_bytes w32 size) after → TakesField after text rest → length text ≡ size → TakesField bytes (text_bytes text) rest
 sized bytes size after text rest a b len =
-    subst (λ (k : ℕ). Takes bytes (number_bytes w32 k ++ text) rest) (sym len) (Takes-then bytes (number_bytes w32 size) after text rest a b)
+    subst (λ (k : ℕ). TakesField bytes (number_bytes w32 k ++ text) rest) (sym len) (Takes-then bytes (number_bytes w32 size) after text rest a b)
 
-pub text_takes : (bytes : List ℕ) (x : List ℕ × List ℕ) → AreBytes bytes → text_at bytes ≡ Ok x → Takes bytes (text_bytes x.0) x.1 × (length x.0 < 2 ^ 32)
+pub text_takes : (bytes : List ℕ) (x : List ℕ × List ℕ) → AreBytes bytes → text_at bytes ≡ Ok x → TakesField bytes (text_bytes x.0) x.1 × (length x.0 < 2 ^ 32)
 unfolding text_at
 text_takes bytes x fits e =
     let a = step_ok (number_at w32 bytes) (λ size. bytes_at size.0 size.1) x e in
@@ -200,7 +200,7 @@ may_follow-parts last name e =
 pub may_follow-from : (last name : List ℕ) → byte_order last name ≡ Less → is_hard name ≡ false → may_follow last name ≡ true
 may_follow-from last name below soft = rw (below, soft) refl
 
-pub name_takes : (last bytes : List ℕ) (x : List ℕ × List ℕ) → AreBytes bytes → name_at last bytes ≡ Ok x → Takes bytes (text_bytes x.0) x.1 × (1 ≤ length x.0) × (length x.0 ≤ 255) × (may_follow last x.0 ≡ true)
+pub name_takes : (last bytes : List ℕ) (x : List ℕ × List ℕ) → AreBytes bytes → name_at last bytes ≡ Ok x → TakesField bytes (text_bytes x.0) x.1 × (1 ≤ length x.0) × (length x.0 ≤ 255) × (may_follow last x.0 ≡ true)
 unfolding name_at name_size_at
 name_takes last bytes x fits e =
     let s = step_ok (name_size_at bytes) (λ size. bytes_at size.0 size.1 >>= λ name. cond (may_follow last name.0) (Ok name) (Err (length size.1))) x e in
@@ -212,11 +212,11 @@ name_takes last bytes x fits e =
     let size_is : a.0.0 ≡ s.0.0 = ap (λ (p : ℕ × List ℕ). p.0) same in
     let range = and_parts (leb 1 a.0.0) (leb a.0.0 255) t.0 in
     let n = number_takes w32 (2 ^ 32) wide32 bytes a.0.0 a.0.1 fits a.1 in
-    let n' : Takes bytes (number_bytes w32 s.0.0) s.0.1 = subst (λ (y : ℕ × List ℕ). Takes bytes (number_bytes w32 y.0) y.1) same n.0 in
+    let n' : TakesField bytes (number_bytes w32 s.0.0) s.0.1 = subst (λ (y : ℕ × List ℕ). TakesField bytes (number_bytes w32 y.0) y.1) same n.0 in
     let text = bytes_takes s.0.0 s.0.1 b.0 n'.rest_fits b.1 in
     let low = leb-true 1 a.0.0 range.0 in
     let high = leb-true a.0.0 255 range.1 in
-    subst (λ (y : List ℕ × List ℕ). Takes bytes (text_bytes y.0) y.1 × (1 ≤ length y.0) × (length y.0 ≤ 255) × (may_follow last y.0 ≡ true)) (ok_is b.0 x f.1)
+    subst (λ (y : List ℕ × List ℕ). TakesField bytes (text_bytes y.0) y.1 × (1 ≤ length y.0) × (length y.0 ≤ 255) × (may_follow last y.0 ≡ true)) (ok_is b.0 x f.1)
     (sized bytes s.0.0 s.0.1 b.0.0 b.0.1 n' text.0 text.1, omega (arith, text.1, size_is, low), omega (arith, text.1, size_is, high), f.0)
 
 pub name_again : (last name rest : List ℕ) → 1 ≤ length name → length name ≤ 255 → may_follow last name ≡ true → name_at last (text_bytes name ++ rest) ≡ Ok (name, rest)

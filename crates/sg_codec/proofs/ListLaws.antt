@@ -2,10 +2,10 @@
 use Rattle.std.proofs.Common.{◌≡◌, ℕ, zero, suc, ◌^◌, ◌<◌, cond, List, [], ◌∷◌, ◌++◌, length, Ok, Err, refl, sym, ap, subst, ◌∙◌, append_assoc, arith}
 use Rattle.std.proofs.lemmas.List.{append-nil}
 use Rattle.std.specs.Int.{w32}
-use Rattle.sg_msg.specs.Message.{Pair, has_tag, AreDistinct, IsAscending, HaveNames}
+use Rattle.sg_msg.specs.Message.{NameValue, has_tag, AreDistinct, IsAscending, HaveNames}
 use Rattle.sg_codec.specs.Spelling.{number_bytes, text_bytes, tags_bytes, pairs_bytes, tag_list, pair_list, AreTexts, HaveValues}
 use Rattle.sg_codec.specs.Reading.{◌>>=◌, number_at, text_at, name_at, tags_at, pairs_at, tag_list_at, pair_list_at, last_name}
-use Rattle.sg_codec.proofs.FieldLaws.{AreBytes, Takes, Takes-then, step_ok, guard_ok, ok_is, wide32, number_takes, number_again, text_takes, text_again, name_takes, name_again, may_follow-parts, may_follow-from}
+use Rattle.sg_codec.proofs.FieldLaws.{AreBytes, TakesField, Takes-then, step_ok, guard_ok, ok_is, wide32, number_takes, number_again, text_takes, text_again, name_takes, name_again, may_follow-parts, may_follow-from}
 use Rattle.sg_codec.proofs.PairLemmas.{IsChain, chain-ascends, chain-all, last_name-append}
 use Rattle.sg_codec.proofs.TagLemmas.{not_before, distinct-push}
 
@@ -16,7 +16,7 @@ pub record TakesTags (count : ℕ) (before : List (List ℕ)) (bytes : List ℕ)
   pub more : List (List ℕ)
   pub all_is : all ≡ before ++ more
   pub count_is : length more ≡ count
-  pub takes : Takes bytes (tags_bytes more) rest
+  pub takes : TakesField bytes (tags_bytes more) rest
   pub texts : AreTexts more
   pub distinct : AreDistinct all
 
@@ -53,15 +53,15 @@ pub record TagsFit (tags : List (List ℕ)) : Type 0 where
   pub texts : AreTexts tags
   pub distinct : AreDistinct tags
 
-pub tag_list_takes : (bytes : List ℕ) (x : List (List ℕ) × List ℕ) → AreBytes bytes → tag_list_at bytes ≡ Ok x → Takes bytes (tag_list x.0) x.1 × TagsFit x.0
+pub tag_list_takes : (bytes : List ℕ) (x : List (List ℕ) × List ℕ) → AreBytes bytes → tag_list_at bytes ≡ Ok x → TakesField bytes (tag_list x.0) x.1 × TagsFit x.0
 unfolding tag_list_at
 tag_list_takes bytes x fits e =
     let a = step_ok (number_at w32 bytes) (λ count. tags_at count.0 [] count.1) x e in
     let n = number_takes w32 (2 ^ 32) wide32 bytes a.0.0 a.0.1 fits a.1 in
     let t = tags_take a.0.0 [] a.0.1 x n.0.rest_fits tt a.2 in
     let both = Takes-then bytes (number_bytes w32 a.0.0) a.0.1 (tags_bytes t.more) x.1 n.0 t.takes in
-    let counted : Takes bytes (tag_list t.more) x.1 = subst (λ (k : ℕ). Takes bytes (number_bytes w32 k ++ tags_bytes t.more) x.1) (sym t.count_is) both in (
-      subst (λ (ts : List (List ℕ)). Takes bytes (tag_list ts) x.1) (sym t.all_is) counted,
+    let counted : TakesField bytes (tag_list t.more) x.1 = subst (λ (k : ℕ). TakesField bytes (number_bytes w32 k ++ tags_bytes t.more) x.1) (sym t.count_is) both in (
+      subst (λ (ts : List (List ℕ)). TakesField bytes (tag_list ts) x.1) (sym t.all_is) counted,
       record { count = rw t.all_is (omega (arith, t.count_is, n.1)); texts = subst AreTexts (sym t.all_is) t.texts; distinct = t.distinct },
     )
 
@@ -73,24 +73,24 @@ tag_list_again tags rest fits =
 
 -- pairs
 
-pub record TakesPairs (count : ℕ) (before : List Pair) (bytes : List ℕ) (all : List Pair) (rest : List ℕ) : Type 0 where
-  pub more : List Pair
+pub record TakesPairs (count : ℕ) (before : List NameValue) (bytes : List ℕ) (all : List NameValue) (rest : List ℕ) : Type 0 where
+  pub more : List NameValue
   pub all_is : all ≡ before ++ more
   pub count_is : length more ≡ count
-  pub takes : Takes bytes (pairs_bytes more) rest
+  pub takes : TakesField bytes (pairs_bytes more) rest
   pub chain : IsChain (last_name before) more
   pub names : HaveNames more
   pub values : HaveValues more
 
-pub pairs_take : (count : ℕ) (before : List Pair) (bytes : List ℕ) (x : List Pair × List ℕ) → AreBytes bytes → pairs_at count before bytes ≡ Ok x → TakesPairs count before bytes x.0 x.1
+pub pairs_take : (count : ℕ) (before : List NameValue) (bytes : List ℕ) (x : List NameValue × List ℕ) → AreBytes bytes → pairs_at count before bytes ≡ Ok x → TakesPairs count before bytes x.0 x.1
 unfolding pairs_at
 pairs_take zero before bytes x fits e =
-    subst (λ (y : List Pair × List ℕ). TakesPairs 0 before bytes y.0 y.1) (ok_is (before, bytes) x e)
+    subst (λ (y : List NameValue × List ℕ). TakesPairs 0 before bytes y.0 y.1) (ok_is (before, bytes) x e)
     (record { more = []; all_is = sym (append-nil before); count_is = refl; takes = record { parts = refl; rest_fits = fits }; chain = tt; names = tt; values = tt })
 pairs_take (suc count) before bytes x fits e =
     let a = step_ok (name_at (last_name before) bytes) (λ name. text_at name.1 >>= λ value. pairs_at count (before ++ (record { name = name.0; value = value.0 }) ∷ []) value.1) x e in
     let b = step_ok (text_at a.0.1) (λ value. pairs_at count (before ++ (record { name = a.0.0; value = value.0 }) ∷ []) value.1) x a.2 in
-    let pair : Pair = record { name = a.0.0; value = b.0.0 } in
+    let pair : NameValue = record { name = a.0.0; value = b.0.0 } in
     let n = name_takes (last_name before) bytes a.0 fits a.1 in
     let v = text_takes a.0.1 b.0 n.0.rest_fits b.1 in
     let others = pairs_take count (before ++ pair ∷ []) b.0.1 x v.0.rest_fits b.2 in
@@ -105,9 +105,9 @@ pairs_take (suc count) before bytes x fits e =
       values = (v.1, others.values);
     }
 
-pub pairs_again : (pairs before : List Pair) (rest : List ℕ) → IsChain (last_name before) pairs → HaveNames pairs → HaveValues pairs → pairs_at (length pairs) before (pairs_bytes pairs ++ rest) ≡ Ok (before ++ pairs, rest)
+pub pairs_again : (pairs before : List NameValue) (rest : List ℕ) → IsChain (last_name before) pairs → HaveNames pairs → HaveValues pairs → pairs_at (length pairs) before (pairs_bytes pairs ++ rest) ≡ Ok (before ++ pairs, rest)
 unfolding pairs_at
-pairs_again [] before rest chain names values = ap (λ (ps : List Pair). Ok (ps, rest)) (sym (append-nil before))
+pairs_again [] before rest chain names values = ap (λ (ps : List NameValue). Ok (ps, rest)) (sym (append-nil before))
 pairs_again (pair ∷ pairs) before rest chain names values =
     let regrouped : pairs_bytes (pair ∷ pairs) ++ rest ≡ text_bytes pair.name ++ (text_bytes pair.value ++ (pairs_bytes pairs ++ rest)) =
     append_assoc (text_bytes pair.name) (text_bytes pair.value ++ pairs_bytes pairs) rest ∙ ap (λ (r : List ℕ). text_bytes pair.name ++ r) (append_assoc (text_bytes pair.value) (pairs_bytes pairs) rest) in
@@ -115,26 +115,26 @@ pairs_again (pair ∷ pairs) before rest chain names values =
     let next : IsChain (last_name (before ++ pair ∷ [])) pairs = subst (λ (last : List ℕ). IsChain last pairs) (sym (last_name-append before pair)) chain.1 in
     ap (pairs_at (suc (length pairs)) before) regrouped
     ∙ rw (name_again (last_name before) pair.name (text_bytes pair.value ++ (pairs_bytes pairs ++ rest)) names.0.0 names.0.1 (may_follow-from (last_name before) pair.name chain.0 names.0.2), text_again pair.value (pairs_bytes pairs ++ rest) values.0)
-    (pairs_again pairs (before ++ pair ∷ []) rest next names.1 values.1 ∙ ap (λ (ps : List Pair). Ok (ps, rest)) (sym one))
+    (pairs_again pairs (before ++ pair ∷ []) rest next names.1 values.1 ∙ ap (λ (ps : List NameValue). Ok (ps, rest)) (sym one))
 
-pub record PairsFit (pairs : List Pair) : Type 0 where
+pub record PairsFit (pairs : List NameValue) : Type 0 where
   pub count : length pairs < 2 ^ 32
   pub ascending : IsAscending pairs
   pub names : HaveNames pairs
   pub values : HaveValues pairs
 
-pub pair_list_takes : (bytes : List ℕ) (x : List Pair × List ℕ) → AreBytes bytes → pair_list_at bytes ≡ Ok x → Takes bytes (pair_list x.0) x.1 × PairsFit x.0
+pub pair_list_takes : (bytes : List ℕ) (x : List NameValue × List ℕ) → AreBytes bytes → pair_list_at bytes ≡ Ok x → TakesField bytes (pair_list x.0) x.1 × PairsFit x.0
 unfolding pair_list_at
 pair_list_takes bytes x fits e =
     let a = step_ok (number_at w32 bytes) (λ count. pairs_at count.0 [] count.1) x e in
     let n = number_takes w32 (2 ^ 32) wide32 bytes a.0.0 a.0.1 fits a.1 in
     let t = pairs_take a.0.0 [] a.0.1 x n.0.rest_fits a.2 in
     let both = Takes-then bytes (number_bytes w32 a.0.0) a.0.1 (pairs_bytes t.more) x.1 n.0 t.takes in
-    let counted : Takes bytes (pair_list t.more) x.1 = subst (λ (k : ℕ). Takes bytes (number_bytes w32 k ++ pairs_bytes t.more) x.1) (sym t.count_is) both in
+    let counted : TakesField bytes (pair_list t.more) x.1 = subst (λ (k : ℕ). TakesField bytes (number_bytes w32 k ++ pairs_bytes t.more) x.1) (sym t.count_is) both in
     let fit : PairsFit t.more = record { count = omega (arith, t.count_is, n.1); ascending = chain-ascends [] t.more t.chain; names = t.names; values = t.values } in
-    (subst (λ (ps : List Pair). Takes bytes (pair_list ps) x.1) (sym t.all_is) counted, subst PairsFit (sym t.all_is) fit)
+    (subst (λ (ps : List NameValue). TakesField bytes (pair_list ps) x.1) (sym t.all_is) counted, subst PairsFit (sym t.all_is) fit)
 
-pub pair_list_again : (pairs : List Pair) (rest : List ℕ) → PairsFit pairs → pair_list_at (pair_list pairs ++ rest) ≡ Ok (pairs, rest)
+pub pair_list_again : (pairs : List NameValue) (rest : List ℕ) → PairsFit pairs → pair_list_at (pair_list pairs ++ rest) ≡ Ok (pairs, rest)
 unfolding pair_list_at
 pair_list_again pairs rest fits =
     ap pair_list_at (append_assoc (number_bytes w32 (length pairs)) (pairs_bytes pairs) rest)

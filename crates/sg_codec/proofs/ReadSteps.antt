@@ -4,17 +4,17 @@ use Rattle.std.specs.Option.{option_copied, is_some}
 use Rattle.std.specs.Prelude.{not}
 use Rattle.sg_list.proofs.ListLemmas.{slice_get-none}
 use Rattle.sg_msg.specs.Build.{Build}
-use Rattle.sg_msg.specs.Message.{Pair, has_tag, with_tag, IsAscending}
-use Rattle.sg_codec.specs.declared.refusal.Stop.{Stop}
-use Rattle.sg_codec.specs.declared.refusal.Stop.TheVariants.{Damaged, NoMemory}
-use Rattle.sg_codec.specs.Answers.{Stops}
+use Rattle.sg_msg.specs.Message.{NameValue, has_tag, with_tag, IsAscending}
+use Rattle.sg_codec.specs.declared.refusal.DecodeStop.{DecodeStop}
+use Rattle.sg_codec.specs.declared.refusal.DecodeStop.TheVariants.{Damaged, NoMemory}
+use Rattle.sg_codec.specs.Answers.{StopsDecoding}
 use Rattle.sg_codec.specs.Reading.{text_at, name_at, tags_at, pairs_at, may_follow, last_name}
 use Rattle.sg_codec.proofs.FieldLaws.{may_follow-parts}
 use Rattle.sg_codec.proofs.PairLemmas.{last_name-append, ascending-append}
 
 -- tags
 
-pub tags-stops : (stop : Stop) (count i : ℕ) (before : List (List ℕ)) (bytes : List ℕ) (total : Result (List (List ℕ) × List ℕ) ℕ) → i < count → Stops stop (text_at bytes) → tags_at (count - i) before bytes ≡ total → Stops stop total
+pub tags-stops : (stop : DecodeStop) (count i : ℕ) (before : List (List ℕ)) (bytes : List ℕ) (total : Result (List (List ℕ) × List ℕ) ℕ) → i < count → StopsDecoding stop (text_at bytes) → tags_at (count - i) before bytes ≡ total → StopsDecoding stop total
 unfolding tags_at
 tags-stops NoMemory count i before bytes total lt h so_far = tt
 tags-stops (Damaged left) count i before bytes total lt h so_far =
@@ -99,7 +99,7 @@ tags-preserved start now new count i bytes tag rest x total lt h set some others
 
 -- pairs
 
-pub pairs-name_stops : (stop : Stop) (count i : ℕ) (before : List Pair) (last bytes : List ℕ) (total : Result (List Pair × List ℕ) ℕ) → i < count → last ≡ last_name before → Stops stop (name_at last bytes) → pairs_at (count - i) before bytes ≡ total → Stops stop total
+pub pairs-name_stops : (stop : DecodeStop) (count i : ℕ) (before : List NameValue) (last bytes : List ℕ) (total : Result (List NameValue × List ℕ) ℕ) → i < count → last ≡ last_name before → StopsDecoding stop (name_at last bytes) → pairs_at (count - i) before bytes ≡ total → StopsDecoding stop total
 unfolding pairs_at
 pairs-name_stops NoMemory count i before last bytes total lt is h so_far = tt
 pairs-name_stops (Damaged left) count i before last bytes total lt is h so_far =
@@ -107,7 +107,7 @@ pairs-name_stops (Damaged left) count i before last bytes total lt is h so_far =
     let one : pairs_at (count - i) before bytes ≡ Err left = rw (k, ← is, h) refl in
     sym so_far ∙ one
 
-pub pairs-value_stops : (stop : Stop) (count i : ℕ) (before : List Pair) (last bytes name after : List ℕ) (total : Result (List Pair × List ℕ) ℕ) → i < count → last ≡ last_name before → name_at last bytes ≡ Ok (name, after) → Stops stop (text_at after) → pairs_at (count - i) before bytes ≡ total → Stops stop total
+pub pairs-value_stops : (stop : DecodeStop) (count i : ℕ) (before : List NameValue) (last bytes name after : List ℕ) (total : Result (List NameValue × List ℕ) ℕ) → i < count → last ≡ last_name before → name_at last bytes ≡ Ok (name, after) → StopsDecoding stop (text_at after) → pairs_at (count - i) before bytes ≡ total → StopsDecoding stop total
 unfolding pairs_at
 pairs-value_stops NoMemory count i before last bytes name after total lt is e h so_far = tt
 pairs-value_stops (Damaged left) count i before last bytes name after total lt is e h so_far =
@@ -115,7 +115,7 @@ pairs-value_stops (Damaged left) count i before last bytes name after total lt i
     let one : pairs_at (count - i) before bytes ≡ Err left = rw (k, ← is, e, h) refl in
     sym so_far ∙ one
 
-pairs-goes_on : (count i : ℕ) (before : List Pair) (last bytes name after value rest : List ℕ) (total : Result (List Pair × List ℕ) ℕ) → i < count → last ≡ last_name before → name_at last bytes ≡ Ok (name, after) → text_at after ≡ Ok (value, rest) → pairs_at (count - i) before bytes ≡ total
+pairs-goes_on : (count i : ℕ) (before : List NameValue) (last bytes name after value rest : List ℕ) (total : Result (List NameValue × List ℕ) ℕ) → i < count → last ≡ last_name before → name_at last bytes ≡ Ok (name, after) → text_at after ≡ Ok (value, rest) → pairs_at (count - i) before bytes ≡ total
     → pairs_at (count - (i + 1)) (before ++ (record { name = name; value = value }) ∷ []) rest ≡ total
 unfolding pairs_at
 pairs-goes_on count i before last bytes name after value rest total lt is e h so_far =
@@ -123,7 +123,7 @@ pairs-goes_on count i before last bytes name after value rest total lt is e h so
     let one : pairs_at (count - i) before bytes ≡ pairs_at (count - (i + 1)) (before ++ (record { name = name; value = value }) ∷ []) rest = rw (k, ← is, e, h) refl in
     sym one ∙ so_far
 
-pub pairs-done : (count i : ℕ) (before : List Pair) (bytes : List ℕ) (total : Result (List Pair × List ℕ) ℕ) → count ≤ i → pairs_at (count - i) before bytes ≡ total → total ≡ Ok (before, bytes)
+pub pairs-done : (count i : ℕ) (before : List NameValue) (bytes : List ℕ) (total : Result (List NameValue × List ℕ) ℕ) → count ≤ i → pairs_at (count - i) before bytes ≡ total → total ≡ Ok (before, bytes)
 unfolding pairs_at
 pairs-done count i before bytes total le so_far =
     let k : count - i ≡ 0 = omega arith in
@@ -131,17 +131,17 @@ pairs-done count i before bytes total le so_far =
     sym so_far ∙ one
 
 -- one pair on
-pub pairs-preserved : (start now new : Build) (count i : ℕ) (last bytes name after value rest : List ℕ) (total : Result (List Pair × List ℕ) ℕ)
+pub pairs-preserved : (start now new : Build) (count i : ℕ) (last bytes name after value rest : List ℕ) (total : Result (List NameValue × List ℕ) ℕ)
     → i < count → last ≡ last_name now.put → may_follow last name ≡ true → name_at last bytes ≡ Ok (name, after) → text_at after ≡ Ok (value, rest)
     → new ≡ record now { put = now.put ++ (record { name = name; value = value }) ∷ [] }
     → now ≡ record start { put = now.put } → pairs_at (count - i) now.put bytes ≡ total → IsAscending now.put
     → (new ≡ record start { put = new.put }) × (pairs_at (count - (i + 1)) new.put rest ≡ total) × (name ≡ last_name new.put) × IsAscending new.put
 pairs-preserved start now new count i last bytes name after value rest total lt is follows e h set others so_far up =
-    let pair : Pair = record { name = name; value = value } in
+    let pair : NameValue = record { name = name; value = value } in
     let pairs_are : new.put ≡ now.put ++ pair ∷ [] = ap (λ (m : Build). m.put) set in
     let next = pairs-goes_on count i now.put last bytes name after value rest total lt is e h so_far in
     let below = (may_follow-parts (last_name now.put) name (subst (λ (l : List ℕ). may_follow l name ≡ true) is follows)).0 in (
-      set ∙ ap (λ (m : Build). record m { put = now.put ++ pair ∷ [] }) others ∙ ap (λ (ps : List Pair). record start { put = ps }) (sym pairs_are),
+      set ∙ ap (λ (m : Build). record m { put = now.put ++ pair ∷ [] }) others ∙ ap (λ (ps : List NameValue). record start { put = ps }) (sym pairs_are),
       rw pairs_are next,
       rw pairs_are (sym (last_name-append now.put pair)),
       rw pairs_are (ascending-append now.put pair up below),

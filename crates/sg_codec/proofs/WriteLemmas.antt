@@ -4,7 +4,7 @@ use Rattle.std.specs.Int.{w16, w32, w64}
 use Rattle.std.proofs.lemmas.List.{length-append, append-nil}
 use Rattle.sg_list.proofs.ListLemmas.{drop-get, slice_get-all}
 use Rattle.sg_time.specs.declared.stamp.Stamp.{Stamp}
-use Rattle.sg_msg.specs.Message.{Pair, HaveNames}
+use Rattle.sg_msg.specs.Message.{NameValue, HaveNames}
 use Rattle.sg_codec.specs.declared.kept.Kept.{Kept}
 use Rattle.sg_msg.specs.Length.{tag_lengths, pair_lengths, encoded_len}
 use Rattle.sg_codec.specs.Spelling.{number_bytes, flag_bytes, stamp_bytes, text_bytes, tags_bytes, pairs_bytes, tag_list, pair_list, head_bytes, spelling2, AreTexts, HaveValues}
@@ -18,28 +18,28 @@ tags_bytes-end tags k e = rw (slice_get-all tags k (let r : slice_get tags k ≡
 pub texts-step : (tags : List (List ℕ)) (k : ℕ) (tag : List ℕ) → Some tag ≡ slice_get tags k → AreTexts (drop k tags) → (length tag < 2 ^ 32) × AreTexts (drop (k + 1) tags)
 texts-step tags k tag e texts = rw (drop-get tags k tag (let r : slice_get tags k ≡ Some tag = cc in r)) at texts
 
-pub pairs_bytes-step : (pairs : List Pair) (k : ℕ) (name value : List ℕ) → Some (record { name = name; value = value }) ≡ slice_get pairs k
+pub pairs_bytes-step : (pairs : List NameValue) (k : ℕ) (name value : List ℕ) → Some (record { name = name; value = value }) ≡ slice_get pairs k
     → pairs_bytes (drop k pairs) ≡ text_bytes name ++ (text_bytes value ++ pairs_bytes (drop (k + 1) pairs))
 pairs_bytes-step pairs k name value e =
-    let pair : Pair = record { name = name; value = value } in
+    let pair : NameValue = record { name = name; value = value } in
     let found : slice_get pairs k ≡ Some pair = cc in
     rw (drop-get pairs k pair found) refl
 
-pub pairs_bytes-end : (pairs : List Pair) (k : ℕ) → None ≡ slice_get pairs k → pairs_bytes (drop k pairs) ≡ []
+pub pairs_bytes-end : (pairs : List NameValue) (k : ℕ) → None ≡ slice_get pairs k → pairs_bytes (drop k pairs) ≡ []
 pairs_bytes-end pairs k e = rw (slice_get-all pairs k (let r : slice_get pairs k ≡ None = cc in r)) refl
 
-pub names-step : (pairs : List Pair) (k : ℕ) (name value : List ℕ) → Some (record { name = name; value = value }) ≡ slice_get pairs k → HaveNames (drop k pairs)
+pub names-step : (pairs : List NameValue) (k : ℕ) (name value : List ℕ) → Some (record { name = name; value = value }) ≡ slice_get pairs k → HaveNames (drop k pairs)
     → (length name ≤ 255) × HaveNames (drop (k + 1) pairs)
 names-step pairs k name value e names =
-    let pair : Pair = record { name = name; value = value } in
+    let pair : NameValue = record { name = name; value = value } in
     let found : slice_get pairs k ≡ Some pair = cc in
     let split = rw (drop-get pairs k pair found) at names in
     (split.0.1, split.1)
 
-pub values-step : (pairs : List Pair) (k : ℕ) (name value : List ℕ) → Some (record { name = name; value = value }) ≡ slice_get pairs k → HaveValues (drop k pairs)
+pub values-step : (pairs : List NameValue) (k : ℕ) (name value : List ℕ) → Some (record { name = name; value = value }) ≡ slice_get pairs k → HaveValues (drop k pairs)
     → (length value < 2 ^ 32) × HaveValues (drop (k + 1) pairs)
 values-step pairs k name value e values =
-    let pair : Pair = record { name = name; value = value } in
+    let pair : NameValue = record { name = name; value = value } in
     let found : slice_get pairs k ≡ Some pair = cc in
     rw (drop-get pairs k pair found) at values
 
@@ -48,7 +48,7 @@ pub texts_fit : (tags : List (List ℕ)) → tag_lengths tags < 2 ^ 32 → AreTe
 texts_fit [] h = tt
 texts_fit (tag ∷ tags) h = (omega arith, texts_fit tags (omega arith))
 
-pub values_fit : (pairs : List Pair) → pair_lengths pairs < 2 ^ 32 → HaveValues pairs
+pub values_fit : (pairs : List NameValue) → pair_lengths pairs < 2 ^ 32 → HaveValues pairs
 values_fit [] h = tt
 values_fit (pair ∷ pairs) h = (omega arith, values_fit pairs (omega arith))
 
@@ -80,7 +80,7 @@ length-tags : (tags : List (List ℕ)) → length (tags_bytes tags) ≡ tag_leng
 length-tags [] = refl
 length-tags (tag ∷ tags) = rw (length-append (text_bytes tag) (tags_bytes tags), length-text tag, length-tags tags) refl
 
-length-pairs : (pairs : List Pair) → length (pairs_bytes pairs) ≡ pair_lengths pairs
+length-pairs : (pairs : List NameValue) → length (pairs_bytes pairs) ≡ pair_lengths pairs
 length-pairs [] = refl
 length-pairs (pair ∷ pairs) =
     omega (arith, length-append (text_bytes pair.name) (text_bytes pair.value ++ pairs_bytes pairs), length-append (text_bytes pair.value) (pairs_bytes pairs), length-text pair.name, length-text pair.value, length-pairs pairs)

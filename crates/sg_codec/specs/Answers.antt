@@ -5,26 +5,26 @@ use Rattle.sg_msg.specs.Message.{Content}
 use Rattle.sg_codec.specs.declared.kept.Kept.{Kept}
 use Rattle.sg_codec.specs.declared.refusal.CodecRefusal.{CodecRefusal}
 use Rattle.sg_codec.specs.declared.refusal.CodecRefusal.TheVariants as refusals
-use Rattle.sg_codec.specs.declared.refusal.Stop.{Stop}
-use Rattle.sg_codec.specs.declared.refusal.Stop.TheVariants as stops
+use Rattle.sg_codec.specs.declared.refusal.DecodeStop.{DecodeStop}
+use Rattle.sg_codec.specs.declared.refusal.DecodeStop.TheVariants as stops
 
 -- A field's reader gives what the field says, seen by view, unless memory runs out.
-abbrev pub Stops : {Y : Type 0} → Stop → Result Y ℕ → Type 0
-Stops (stops.Damaged left) field = field ≡ Err left
-Stops stops.NoMemory field = Unit {0}
+abbrev pub StopsDecoding : {Y : Type 0} → DecodeStop → Result Y ℕ → Type 0
+StopsDecoding (stops.Damaged left) field = field ≡ Err left
+StopsDecoding stops.NoMemory field = Unit {0}
 
-abbrev pub Gives : {X Y : Type 0} → (X → Y) → Result X Stop → Result Y ℕ → Type 0
-Gives view (Ok x) field = field ≡ Ok (view x)
-Gives view (Err stop) field = Stops stop field
+abbrev pub GivesField : {X Y : Type 0} → (X → Y) → Result X DecodeStop → Result Y ℕ → Type 0
+GivesField view (Ok x) field = field ≡ Ok (view x)
+GivesField view (Err stop) field = StopsDecoding stop field
 
 -- The entry that is read, or the place of the damage, unless memory runs out.
-abbrev pub Refuses : CodecRefusal → Result Kept ℕ → Type 0
-Refuses (refusals.Damage place) entry = entry ≡ Err place
-Refuses refusals.NoMemory entry = Unit {0}
+abbrev pub RefusesEntry : CodecRefusal → Result Kept ℕ → Type 0
+RefusesEntry (refusals.Damage place) entry = entry ≡ Err place
+RefusesEntry refusals.NoMemory entry = Unit {0}
 
 abbrev pub Decodes : Result Kept CodecRefusal → Result Kept ℕ → Type 0
 Decodes (Ok kept) entry = entry ≡ Ok kept
-Decodes (Err refusal) entry = Refuses refusal entry
+Decodes (Err refusal) entry = RefusesEntry refusal entry
 
 -- the message of what was put, as it stands
 abbrev pub content_of : Build → Content

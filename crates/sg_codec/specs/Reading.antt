@@ -7,9 +7,9 @@ use Rattle.std.specs.Ordering.{is_lt}
 use Rattle.sg_time.specs.declared.stamp.Stamp.{Stamp}
 use Rattle.sg_time.specs.Stamp.{local_of}
 use Rattle.sg_msg.specs.Macros.{is_hard}
-use Rattle.sg_msg.specs.Message.{Pair, byte_order, has_tag}
+use Rattle.sg_msg.specs.Message.{NameValue, byte_order, has_tag}
 use Rattle.sg_codec.specs.declared.kept.Kept.{Kept}
-use Rattle.sg_codec.specs.declared.kept.Head.{Head}
+use Rattle.sg_codec.specs.declared.kept.KeptPrefix.{KeptPrefix}
 
 infixl 10 ◌>>=◌
 abbrev pub ◌>>=◌ : {A B : Type 0} → Result A ℕ → (A → Result B ℕ) → Result B ℕ
@@ -87,13 +87,13 @@ name_at last bytes = do
   if may_follow last name.0 then Ok name else Err (length size.1)
 
 -- the greatest name of ascending pairs, and the empty text, below every name, where there is none
-abbrev pub last_name : List Pair → List ℕ
+abbrev pub last_name : List NameValue → List ℕ
 last_name [] = []
 last_name (pair ∷ []) = pair.name
 last_name (pair ∷ next ∷ pairs) = last_name (next ∷ pairs)
 
 -- pairs behind those before them
-unfoldable pub pairs_at : ℕ → List Pair → List ℕ → Result (List Pair × List ℕ) ℕ
+unfoldable pub pairs_at : ℕ → List NameValue → List ℕ → Result (List NameValue × List ℕ) ℕ
 pairs_at zero before bytes = Ok (before, bytes)
 pairs_at (suc count) before bytes = do
   name ← name_at (last_name before) bytes
@@ -105,13 +105,13 @@ tag_list_at bytes = do
   count ← number_at w32 bytes
   tags_at count.0 [] count.1
 
-unfoldable pub pair_list_at : List ℕ → Result (List Pair × List ℕ) ℕ
+unfoldable pub pair_list_at : List ℕ → Result (List NameValue × List ℕ) ℕ
 pair_list_at bytes = do
   count ← number_at w32 bytes
   pairs_at count.0 [] count.1
 
 -- what both formats begin with, behind the byte that tells the format
-unfoldable pub head_at : List ℕ → Result (Head × List ℕ) ℕ
+unfoldable pub head_at : List ℕ → Result (KeptPrefix × List ℕ) ℕ
 head_at bytes = do
   flow ← flag_at bytes
   source ← number_at w32 flow.1
@@ -120,12 +120,12 @@ head_at bytes = do
   sent ← stamp_at pri.1
   Ok (record { flow = flow.0; source = source.0; end = end.0; pri = pri.0; sent = sent.0 }, sent.1)
 
-abbrev pub kept_of : Head → Stamp → List (List ℕ) → List Pair → Kept
+abbrev pub kept_of : KeptPrefix → Stamp → List (List ℕ) → List NameValue → Kept
 kept_of head received tags pairs =
     record { source = head.source; end = head.end; flow = head.flow; message = record { pri = head.pri; sent = head.sent; received = received; pairs = pairs; tags = tags } }
 
 -- the pairs, behind which nothing follows
-unfoldable pub last_at : Head → Stamp → List (List ℕ) → List ℕ → Result Kept ℕ
+unfoldable pub last_at : KeptPrefix → Stamp → List (List ℕ) → List ℕ → Result Kept ℕ
 last_at head received tags bytes = do
   pairs ← pair_list_at bytes
   if nat_lt 0 (length pairs.1) then Err (length pairs.1) else Ok (kept_of head received tags pairs.0)

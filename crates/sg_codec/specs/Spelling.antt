@@ -2,7 +2,7 @@
 use Rattle.std.specs.Prelude.{◌≡◌, ◌<◌, ◌^◌, ◌⊎◌, ℕ, ℤ, Bool, true, false, List, [], ◌∷◌, ◌++◌, length}
 use Rattle.std.specs.Int.{Width, w16, w32, w64, to_be_bytes, cast_unsigned}
 use Rattle.sg_time.specs.declared.stamp.Stamp.{Stamp}
-use Rattle.sg_msg.specs.Message.{Content, Pair, IsMessage}
+use Rattle.sg_msg.specs.Message.{Content, NameValue, IsMessage}
 use Rattle.sg_codec.specs.declared.kept.Kept.{Kept}
 
 unfoldable pub number_bytes : Width → ℕ → List ℕ
@@ -28,7 +28,7 @@ abbrev pub tags_bytes : List (List ℕ) → List ℕ
 tags_bytes [] = []
 tags_bytes (tag ∷ tags) = text_bytes tag ++ tags_bytes tags
 
-abbrev pub pairs_bytes : List Pair → List ℕ
+abbrev pub pairs_bytes : List NameValue → List ℕ
 pairs_bytes [] = []
 pairs_bytes (pair ∷ pairs) = text_bytes pair.name ++ (text_bytes pair.value ++ pairs_bytes pairs)
 
@@ -36,7 +36,7 @@ pairs_bytes (pair ∷ pairs) = text_bytes pair.name ++ (text_bytes pair.value ++
 abbrev pub tag_list : List (List ℕ) → List ℕ
 tag_list tags = number_bytes w32 (length tags) ++ tags_bytes tags
 
-abbrev pub pair_list : List Pair → List ℕ
+abbrev pub pair_list : List NameValue → List ℕ
 pair_list pairs = number_bytes w32 (length pairs) ++ pairs_bytes pairs
 
 -- what both formats begin with, behind the byte that tells the format: flow, source, end, PRI and the
@@ -61,12 +61,12 @@ abbrev pub AreTexts : List (List ℕ) → Type 0
 AreTexts [] = Unit {0}
 AreTexts (text ∷ texts) = (length text < 2 ^ 32) × AreTexts texts
 
-abbrev pub HaveValues : List Pair → Type 0
+abbrev pub HaveValues : List NameValue → Type 0
 HaveValues [] = Unit {0}
 HaveValues (pair ∷ pairs) = (length pair.value < 2 ^ 32) × HaveValues pairs
 
 -- what has a spelling in format 2
-pub record IsKept (kept : Kept) : Type 0 where
+pub record IsSpellable (kept : Kept) : Type 0 where
   pub source : kept.source < 2 ^ 32
   pub end : kept.end < 2 ^ 63
   pub message : IsMessage kept.message
@@ -76,17 +76,17 @@ pub record IsKept (kept : Kept) : Type 0 where
   pub values : HaveValues kept.message.pairs
 
 -- stored form: what format 1 can say
-pub record IsStored (content : Content) : Type 0 where
+pub record IsStoredForm (content : Content) : Type 0 where
   pub tags : content.tags ≡ []
   pub received : content.received ≡ content.sent
 
 pub record Spells2 (kept : Kept) (bytes : List ℕ) : Type 0 where
-  pub fits : IsKept kept
+  pub fits : IsSpellable kept
   pub spelled : bytes ≡ spelling2 kept
 
 pub record Spells1 (kept : Kept) (bytes : List ℕ) : Type 0 where
-  pub fits : IsKept kept
-  pub stored : IsStored kept.message
+  pub fits : IsSpellable kept
+  pub stored : IsStoredForm kept.message
   pub spelled : bytes ≡ spelling1 kept
 
 -- the spellings of an entry: one in format 2, and one in format 1 where its message is in stored form

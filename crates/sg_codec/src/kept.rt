@@ -17,7 +17,7 @@ pub struct Kept {
 
 /// What both formats begin with.
 #[derive(Clone, Copy, Debug, Drop)]
-pub(crate) struct Head {
+pub(crate) struct KeptPrefix {
     pub(crate) flow: bool,
     pub(crate) source: u32,
     pub(crate) end: u64,

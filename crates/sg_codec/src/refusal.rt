@@ -1,7 +1,7 @@
 // Why bytes aren't read as an entry.
 ghost use Rattle.std.specs.Prelude.{◌≡◌};
 ghost use Rattle.sg_codec.specs.declared.refusal.CodecRefusal.TheVariants.{NoMemory as CodecNoMemory};
-ghost use Rattle.sg_codec.specs.declared.refusal.Stop.TheVariants.{NoMemory as StopNoMemory};
+ghost use Rattle.sg_codec.specs.declared.refusal.DecodeStop.TheVariants.{NoMemory as StopNoMemory};
 
 use std::alloc::AllocError;
 use thiserror::Error;
@@ -27,16 +27,16 @@ impl From<AllocError> for CodecRefusal {
 
 /// Where reading stops.
 #[derive(Clone, Copy, Debug, Drop)]
-pub(crate) enum Stop {
+pub(crate) enum DecodeStop {
     /// At the first damaged byte: so many bytes stand from it on.
     Damaged(usize),
     NoMemory,
 }
 
-impl From<AllocError> for Stop {
+impl From<AllocError> for DecodeStop {
     ghost from_gives = { λ _ stop. stop ≡ StopNoMemory };
 
     fn from(_: AllocError) -> Self {
-        Stop::NoMemory
+        DecodeStop::NoMemory
     }
 }

@@ -3,11 +3,11 @@ use Rattle.std.proofs.Common.{◌≡◌, ◌∙◌, inl, inr, ◌-◌, List, [],
 use Rattle.sg_lex.specs.declared.fault.ConfigFault.{ConfigFault}
 use Rattle.sg_lex.specs.declared.token.Token.{Token}
 use Rattle.sg_parse_base.specs.declared.spot.Spot.{Spot}
-use Rattle.sg_parse_base.specs.Input.{Outcome}
+use Rattle.sg_parse_base.specs.Input.{ParseOutcome}
 use Rattle.sg_parse_obj.specs.Objects.{spots_at}
 use Rattle.sg_parse_obj.specs.Answers.{fault_of}
 use Rattle.sg_parse_text.specs.declared.statement.Statement.{Statement}
-use Rattle.sg_parse_text.specs.Grammar.{IsText}
+use Rattle.sg_parse_text.specs.Grammar.{IsConfigText}
 use Rattle.sg_parse_text.specs.Texts.{text_at}
 use Rattle.sg_fault.specs.declared.placed.Placed.{Placed}
 use Rattle.sg_fault.specs.Faults.{earlier, least, fault_at}
@@ -19,20 +19,20 @@ use Rattle.sg_resolve.specs.Globals.{globals_faults}
 use Rattle.sg_resolve.specs.Places.{places_faults}
 use Rattle.sg_resolve.specs.First.{IsFirstFault as HasFirstFault}
 use Rattle.sg_config.specs.declared.config.Config.{Config}
-use Rattle.sg_config.specs.Means.{Means, IsUnparsed, IsUnresolved, IsFirstFault}
+use Rattle.sg_config.specs.Means.{Means, IsUnparsed, IsUnresolved, IsFaultOfTokens}
 
 -- what lower crates say
 abbrev pub AreRead : Type 0
-AreRead = (s : List Spot) (xs : List Statement) → IsText s xs → text_at s ≡ Ok (xs, [])
+AreRead = (s : List Spot) (xs : List Statement) → IsConfigText s xs → text_at s ≡ Ok (xs, [])
 
 abbrev pub NamesHaveOne : Type 0
 NamesHaveOne = (statements : List Statement) (fault other : Option Placed) → IsNamesFault statements fault → IsNamesFault statements other → fault ≡ other
 
-abbrev read-in : Outcome (List Statement) → List Statement
+abbrev read-in : ParseOutcome (List Statement) → List Statement
 read-in (Ok x) = x.0
 read-in (Err fault) = []
 
-pub same-text : AreRead → (s : List Spot) (xs ys : List Statement) → IsText s xs → IsText s ys → xs ≡ ys
+pub same-text : AreRead → (s : List Spot) (xs ys : List Statement) → IsConfigText s xs → IsConfigText s ys → xs ≡ ys
 same-text again s xs ys a b = ap read-in (sym (again s xs a) ∙ again s ys b)
 
 abbrev rest : List Statement → Option Placed
@@ -43,7 +43,7 @@ pub same-first : NamesHaveOne → (statements : List Statement) (a b : Option Pl
 same-first one statements a b (names, found, is) (names', found', is') =
     is ∙ ap (λ n. earlier n (rest statements)) (one statements names names' found found') ∙ sym is'
 
-no-text : AreRead → (tokens : List Token) (statements : List Statement) (fault : ConfigFault) → IsText (spots_at tokens 0) statements → IsUnparsed tokens fault → ⊥
+no-text : AreRead → (tokens : List Token) (statements : List Statement) (fault : ConfigFault) → IsConfigText (spots_at tokens 0) statements → IsUnparsed tokens fault → ⊥
 no-text again tokens statements fault text (first, last, refused, stands, is) =
     let e = sym (again (spots_at tokens 0) statements text) ∙ refused in cc
 
@@ -61,7 +61,7 @@ unresolved-one one statements fault other (placed, has, is) (placed', has', is')
     let same : placed ≡ placed' = cc in
     is ∙ ap fault_at same ∙ sym is'
 
-pub one-fault : AreRead → NamesHaveOne → (tokens : List Token) (fault other : ConfigFault) → IsFirstFault tokens fault → IsFirstFault tokens other → fault ≡ other
+pub one-fault : AreRead → NamesHaveOne → (tokens : List Token) (fault other : ConfigFault) → IsFaultOfTokens tokens fault → IsFaultOfTokens tokens other → fault ≡ other
 one-fault again one tokens fault other (inl a) (inl b) = unparsed-one tokens fault other a b
 one-fault again one tokens fault other (inl a) (inr (statements, text, b)) = absurd (no-text again tokens statements fault text a)
 one-fault again one tokens fault other (inr (statements, text, a)) (inl b) = absurd (no-text again tokens statements other text b)
@@ -69,7 +69,7 @@ one-fault again one tokens fault other (inr (statements, text, a)) (inr (stateme
     let same : statements' ≡ statements = same-text again (spots_at tokens 0) statements' statements text' text in
     unresolved-one one statements fault other a (subst (λ x. IsUnresolved x other) same b)
 
-pub no-fault : AreRead → NamesHaveOne → (tokens : List Token) (config : Config) (fault : ConfigFault) → Means tokens config → IsFirstFault tokens fault → ⊥
+pub no-fault : AreRead → NamesHaveOne → (tokens : List Token) (config : Config) (fault : ConfigFault) → Means tokens config → IsFaultOfTokens tokens fault → ⊥
 no-fault again one tokens config fault means (inl a) = no-text again tokens means.statements fault means.text a
 no-fault again one tokens config fault means (inr (statements, text, unresolved)) =
     let same : statements ≡ means.statements = same-text again (spots_at tokens 0) statements means.statements text means.text in

@@ -2,26 +2,20 @@
 use Rattle.std.proofs.Common.{◌≤◌, ◌<◌, ◌^◌, List, length, arith}
 use Rattle.sg_lex.specs.declared.token.Token.{Token}
 use Rattle.sg_parse_base.specs.declared.spot.Spot.{Spot}
-use Rattle.sg_parse_base.specs.Laws.{Leaves}
 use Rattle.sg_parse_base.proofs.Spots.{spots-length}
 use Rattle.sg_parse_base.proofs.Steps.{symbol-leaves, shorter}
 use Rattle.sg_parse_obj.specs.Objects.{spots_at}
-use Rattle.sg_parse_obj.proofs.ObjectLaws.{object-leaves}
-use Rattle.sg_parse_path.proofs.PathLaws.{log-leaves}
 use Rattle.sg_parse_text.specs.declared.statement.Statement.{Statement}
 use Rattle.sg_parse_text.specs.declared.statement.Statement.TheVariants as statement
-use Rattle.sg_parse_text.specs.Grammar.{IsStatement, IsText}
+use Rattle.sg_parse_text.specs.Grammar.{IsConfigText}
+use Rattle.sg_parse_text.proofs.TextLaws.{statement-leaves}
 
-statement-leaves : (s r : List Spot) (x : Statement) → IsStatement s x r → Leaves s r
-statement-leaves s r (statement.Log log) t = log-leaves 64 s r log t
-statement-leaves s r (statement.Object object) t = object-leaves 64 s r object t
-
-few-statements : (s : List Spot) (xs : List Statement) → IsText s xs → length xs ≤ length s
-few-statements s xs (IsText.none) = omega arith
-few-statements s xs (IsText.extra _ m _ t rest) = omega (arith, shorter s m (symbol-leaves 59 s m t), few-statements m xs rest)
-few-statements s xs (IsText.more _ m k x ys t semi rest) =
+few-statements : (s : List Spot) (xs : List Statement) → IsConfigText s xs → length xs ≤ length s
+few-statements s xs (IsConfigText.none) = omega arith
+few-statements s xs (IsConfigText.extra _ m _ t rest) = omega (arith, shorter s m (symbol-leaves 59 s m t), few-statements m xs rest)
+few-statements s xs (IsConfigText.more _ m k x ys t semi rest) =
     omega (arith, shorter s m (statement-leaves s m x t), shorter m k (symbol-leaves 59 m k semi), few-statements k ys rest)
 
-pub fits : (tokens : List Token) (xs : List Statement) → IsText (spots_at tokens 0) xs → length tokens < 2 ^ 32 → length xs < 2 ^ 32
+pub fits : (tokens : List Token) (xs : List Statement) → IsConfigText (spots_at tokens 0) xs → length tokens < 2 ^ 32 → length xs < 2 ^ 32
 unfolding spots_at
 fits tokens xs t few = omega (arith, few-statements (spots_at tokens 0) xs t, spots-length 0 tokens, few)

@@ -9,13 +9,13 @@ use Rattle.sg_source.specs.declared.inlet.SourceDriver.{SourceDriver}
 use Rattle.sg_run_plan.specs.declared.inlet.InletPlan.{InletPlan}
 use Rattle.sg_resolve.specs.First.{IsFirstFault as HasFirstFault}
 use Rattle.sg_plan.specs.declared.plan.Plan.{Plan}
-use Rattle.sg_plan.specs.Limits.{IsWithin as PlanIsWithin}
-use Rattle.sg_plan.specs.Plans.{IsPlan, AreAlike as PlansAreAlike}
+use Rattle.sg_plan.specs.Limits.{IsPlanWithin as PlanIsWithin}
+use Rattle.sg_plan.specs.Plans.{IsPlan, AreAlikePlans as PlansAreAlike}
 use Rattle.sg_tree.specs.declared.forest.InletRule.{InletRule}
 use Rattle.sg_tree.specs.Readings.{inlet_of}
 use Rattle.sg_forest.specs.Statements.{tops_in}
 use Rattle.sg_config.specs.declared.config.Config.{Config}
-use Rattle.sg_config.specs.Alike.{AreAlike, IsWithin}
+use Rattle.sg_config.specs.Alike.{AreAlikeConfigs, IsConfigWithin}
 use Rattle.sg_config.specs.Means.{IsConfigOf, Means}
 use Rattle.sg_config.specs.Readings.{readings_at, readings_of}
 use Rattle.sg_config.proofs.Faults.{AreRead, same-text}
@@ -40,7 +40,7 @@ same-readings : (a b : Plan) (rules rules' : List InletRule) → PlansAreAlike a
     → map inlet_of rules ≡ map inlet_of rules'
 same-readings a b rules rules' alike is is' = is ∙ (λ i. readings_of (alike i).sources (alike i).inlets) ∙ sym is'
 
-configs-alike : PlansAreOne → (statements : List Statement) (a b : Config) → IsConfigOf statements a → IsConfigOf statements b → AreAlike a b
+configs-alike : PlansAreOne → (statements : List Statement) (a b : Config) → IsConfigOf statements a → IsConfigOf statements b → AreAlikeConfigs a b
 configs-alike one statements a b x y =
     let alike = one statements x.plan y.plan x.planned y.planned in
     let names = names_of statements in
@@ -58,7 +58,7 @@ configs-alike one statements a b x y =
       stores = x.stores ∙ ap (λ p. p.stores) alike ∙ sym y.stores;
     }
 
-pub one-config : AreRead → PlansAreOne → (tokens : List Token) (a b : Config) → Means tokens a → Means tokens b → AreAlike a b
+pub one-config : AreRead → PlansAreOne → (tokens : List Token) (a b : Config) → Means tokens a → Means tokens b → AreAlikeConfigs a b
 one-config again one tokens a b x y =
     let same : y.statements ≡ x.statements = same-text again (spots_at tokens 0) y.statements x.statements y.text x.text in
     configs-alike one x.statements a b x.made (subst (λ s. IsConfigOf s b) same y.made)
@@ -66,15 +66,15 @@ one-config again one tokens a b x y =
 -- ---- the limits
 
 -- each inlet is read, where its driver is there
-abbrev AreThere : List SourceDriver → List InletPlan → Type 0
-AreThere drivers inlets = (i : ℕ) (inlet : InletPlan) → slice_get inlets i ≡ Some inlet → inlet.driver < length drivers
+abbrev AreMeaningsThere : List SourceDriver → List InletPlan → Type 0
+AreMeaningsThere drivers inlets = (i : ℕ) (inlet : InletPlan) → slice_get inlets i ≡ Some inlet → inlet.driver < length drivers
 
 one-reading : (drivers : List SourceDriver) (n : ℕ) → n < length drivers → length (readings_at (slice_get drivers n)) ≡ 1
 one-reading [] n less = absurd (omega (arith, less))
 one-reading (driver ∷ drivers) zero less = refl
 one-reading (driver ∷ drivers) (suc n) less = one-reading drivers n (omega (arith, less))
 
-readings-length : (drivers : List SourceDriver) (inlets : List InletPlan) → AreThere drivers inlets → length (readings_of drivers inlets) ≡ length inlets
+readings-length : (drivers : List SourceDriver) (inlets : List InletPlan) → AreMeaningsThere drivers inlets → length (readings_of drivers inlets) ≡ length inlets
 readings-length drivers [] there = refl
 readings-length drivers (inlet ∷ inlets) there =
     let first = one-reading drivers inlet.driver (there 0 inlet refl) in
@@ -82,14 +82,14 @@ readings-length drivers (inlet ∷ inlets) there =
     let e = length-append (readings_at (slice_get drivers inlet.driver)) (readings_of drivers inlets) in
     omega (arith, first, later, e)
 
-config-within : PlansAreWithin → (statements : List Statement) (config : Config) → HasFirstFault statements None → IsConfigOf statements config → IsWithin config
+config-within : PlansAreWithin → (statements : List Statement) (config : Config) → HasFirstFault statements None → IsConfigOf statements config → IsConfigWithin config
 config-within within statements config none x =
     let w = within statements x.plan none x.planned in
     let inlets = x.inlets in
     let outlets = x.outlets in
     let stores = x.stores in
     let setup = x.setup in
-    let there : AreThere x.plan.sources.items x.plan.inlets.items = λ i inlet is. (w.each i inlet is).driver in
+    let there : AreMeaningsThere x.plan.sources.items x.plan.inlets.items = λ i inlet is. (w.each i inlet is).driver in
     let reads : length (map inlet_of x.rules) ≡ length x.plan.inlets.items = ap length x.readings ∙ readings-length x.plan.sources.items x.plan.inlets.items there in
     record {
       inlets = rw inlets w.inlets;
@@ -107,5 +107,5 @@ config-within within statements config none x =
       paths = x.paths.within;
     }
 
-pub meant-within : PlansAreWithin → (tokens : List Token) (config : Config) → Means tokens config → IsWithin config
+pub meant-within : PlansAreWithin → (tokens : List Token) (config : Config) → Means tokens config → IsConfigWithin config
 meant-within within tokens config x = config-within within x.statements config x.faultless x.made

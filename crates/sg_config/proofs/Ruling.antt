@@ -3,7 +3,7 @@ use Rattle.std.proofs.Common.{◌≡◌, ◌∙◌, ℕ, ◌+◌, ◌<◌, ◌�
 use Rattle.std.proofs.lemmas.List.{take_more, take_all, map-append, flat_map_more}
 use Rattle.sg_source.specs.declared.inlet.SourceDriver.{SourceDriver}
 use Rattle.sg_run_plan.specs.declared.inlet.InletPlan.{InletPlan}
-use Rattle.sg_tree.specs.Readings.{Inlet, inlet_of}
+use Rattle.sg_tree.specs.Readings.{InletReading, inlet_of}
 use Rattle.sg_tree.specs.declared.forest.InletRule.{InletRule}
 use Rattle.sg_config.specs.Readings.{reading_of, readings_at, readings_of}
 
@@ -11,7 +11,7 @@ pub more-rules : (rules : List InletRule) (rule : InletRule) (driver : SourceDri
     → map inlet_of (rules ++ rule ∷ []) ≡ map inlet_of rules ++ readings_at (Some driver)
 more-rules rules rule driver is = map-append inlet_of rules (rule ∷ []) ∙ ap (λ r. map inlet_of rules ++ r ∷ []) is
 
-abbrev reading-by : List SourceDriver → InletPlan → List Inlet
+abbrev reading-by : List SourceDriver → InletPlan → List InletReading
 reading-by drivers inlet = readings_at (slice_get drivers inlet.driver)
 
 pub one-more : (drivers : List SourceDriver) (inlets : List InletPlan) (old new : List InletRule) (i : ℕ) (inlet : InletPlan) → i < length inlets → inlet ≡ get_or inlets i inlet

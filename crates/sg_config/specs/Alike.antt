@@ -3,7 +3,7 @@ use Rattle.std.specs.Prelude.{◌≡◌, ℕ, ◌≤◌, length, map, slice_get,
 use Rattle.sg_machine.specs.declared.setup.SourceSetup.{SourceSetup}
 use Rattle.sg_machine.specs.declared.setup.DestSetup.{DestSetup}
 use Rattle.sg_run_plan.specs.declared.inlet.InletPlan.{InletPlan}
-use Rattle.sg_plan.specs.Limits.{NumbersStores, HasWindow, HasRoom, IsInlet}
+use Rattle.sg_plan.specs.Limits.{NumbersStores, HasWindow, HasPlannedRoom, IsInlet}
 use Rattle.sg_table.specs.Patterns.{patterns_in}
 use Rattle.sg_tree.specs.Laws.{TopsStayWithin}
 use Rattle.sg_tree.specs.Offers.{woods_of}
@@ -12,7 +12,7 @@ use Rattle.sg_forest.specs.Written.{written_of}
 use Rattle.sg_config.specs.declared.config.Config.{Config}
 
 -- all that is said of a configuration is the same: its log paths as they are meant, their patterns and lines, and the rest
-pub record AreAlike (a b : Config) : Type 0 where
+pub record AreAlikeConfigs (a b : Config) : Type 0 where
   pub woods : woods_of a.forest ≡ woods_of b.forest
   pub patterns : patterns_in a.forest ≡ patterns_in b.forest
   pub lines : map line_of a.forest.paths.items ≡ map line_of b.forest.paths.items
@@ -23,7 +23,7 @@ pub record AreAlike (a b : Config) : Type 0 where
   pub outlets : a.outlets.items ≡ b.outlets.items
   pub stores : a.stores.items ≡ b.stores.items
 
-pub record IsWithin (config : Config) : Type 0 where
+pub record IsConfigWithin (config : Config) : Type 0 where
   pub inlets : length config.inlets.items ≤ 128
   pub outlets : length config.outlets.items ≤ 64
   pub stores : length config.stores.items ≤ 192
@@ -33,7 +33,7 @@ pub record IsWithin (config : Config) : Type 0 where
   pub windows : (i : ℕ) (setup : SourceSetup) → slice_get config.setup.sources i ≡ Some setup
       → HasWindow setup
   pub rooms : (d : ℕ) (setup : DestSetup) → slice_get config.setup.dests d ≡ Some setup
-      → HasRoom setup
+      → HasPlannedRoom setup
   -- so many drivers of sources
   pub drivers : ℕ
   pub each : (i : ℕ) (inlet : InletPlan) → slice_get config.inlets.items i ≡ Some inlet

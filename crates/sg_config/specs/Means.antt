@@ -6,7 +6,7 @@ use Rattle.sg_parse_obj.specs.Objects.{spots_at}
 use Rattle.sg_parse_obj.specs.declared.whole.ParseRefusal.TheVariants.{Bad as Unparsed}
 use Rattle.sg_parse_text.specs.declared.statement.Statement.{Statement}
 use Rattle.sg_parse_text.specs.Answers.{Refuses}
-use Rattle.sg_parse_text.specs.Grammar.{IsText}
+use Rattle.sg_parse_text.specs.Grammar.{IsConfigText}
 use Rattle.sg_parse_text.specs.Texts.{text_at}
 use Rattle.sg_fault.specs.declared.placed.Placed.{Placed}
 use Rattle.sg_fault.specs.Faults.{fault_at}
@@ -37,7 +37,7 @@ pub record IsConfigOf (statements : List Statement) (config : Config) : Type 0 w
 -- the tokens are statements with which nothing is wrong, and these come to the configuration
 pub record Means (tokens : List Token) (config : Config) : Type 0 where
   pub statements : List Statement
-  pub text : IsText (spots_at tokens 0) statements
+  pub text : IsConfigText (spots_at tokens 0) statements
   pub faultless : HasFirstFault statements None
   pub made : IsConfigOf statements config
 
@@ -51,9 +51,9 @@ IsUnresolved statements fault = (placed : Placed) × HasFirstFault statements (S
     × (fault ≡ fault_at placed)
 
 -- what is wrong with tokens
-abbrev pub IsFirstFault : List Token → ConfigFault → Type 0
-IsFirstFault tokens fault = IsUnparsed tokens fault ⊎ ((statements : List Statement)
-    × IsText (spots_at tokens 0) statements × IsUnresolved statements fault)
+abbrev pub IsFaultOfTokens : List Token → ConfigFault → Type 0
+IsFaultOfTokens tokens fault = IsUnparsed tokens fault ⊎ ((statements : List Statement)
+    × IsConfigText (spots_at tokens 0) statements × IsUnresolved statements fault)
 
 -- what statements come to, or what is wrong with them, unless memory runs out
 abbrev pub Resolves : List Statement → Result Config LoadRefusal → Type 0
@@ -64,5 +64,5 @@ Resolves statements (Err NoMemory) = Unit {0}
 -- what tokens mean, or what is wrong with them, unless memory runs out
 abbrev pub Loads : List Token → Result Config LoadRefusal → Type 0
 Loads tokens (Ok config) = Means tokens config
-Loads tokens (Err (Bad fault)) = IsFirstFault tokens fault
+Loads tokens (Err (Bad fault)) = IsFaultOfTokens tokens fault
 Loads tokens (Err NoMemory) = Unit {0}

@@ -8,5 +8,5 @@ mod loading;
 mod rules;
 
 pub use config::{Config, LoadRefusal};
-pub use laws::{outlets_are_direct, texts_mean_one};
+pub use laws::texts_mean_one;
 pub use loading::load;

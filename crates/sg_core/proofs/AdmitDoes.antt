@@ -1,11 +1,11 @@
 -- An admit, as one event.
 use Rattle.std.proofs.Common.{◌≡◌, ℕ, ◌+◌, ◌-◌, ◌≤◌, List, [], ◌∷◌, ◌++◌, length, Option, Some, None, Bool, true, false, ◌||◌, refl, sym, ap, ◌∙◌, arith, suc, zero, map, take, drop, slice_get, subst, if◌then◌else◌, inl, inr, ◌⊎◌}
 use Rattle.std.specs.Option.{option_map_or}
-use Rattle.sg_list.proofs.ListLemmas.{some-same}
+use Rattle.sg_list.proofs.ListLemmas.{some-same, map-kept}
 use Rattle.sg_device.specs.Disk.{Within}
 use Rattle.sg_device.specs.Faults.{Rose}
 use Rattle.sg_window.specs.Window.{outstanding as waiting_of}
-use Rattle.sg_window.specs.declared.tracker.Record.{Record}
+use Rattle.sg_window.specs.declared.tracker.BegunRecord.{BegunRecord}
 use Rattle.sg_machine.specs.declared.event.Act.{Act}
 use Rattle.sg_machine.specs.declared.event.Act.TheVariants.{Admit}
 use Rattle.sg_machine.specs.declared.event.Admission.{Admission}
@@ -13,13 +13,13 @@ use Rattle.sg_machine.specs.declared.event.Event.{Event}
 use Rattle.sg_machine.specs.declared.event.Verdict.{Verdict}
 use Rattle.sg_machine.specs.declared.setup.BufferSetup.{BufferSetup}
 use Rattle.sg_machine.specs.declared.state.Dest.{Dest}
-use Rattle.sg_machine.specs.declared.state.Inlet.{Inlet}
+use Rattle.sg_machine.specs.declared.state.InletRecords.{InletRecords}
 use Rattle.sg_machine.specs.declared.state.State.{State}
 use Rattle.sg_machine.specs.Effects.{next_of}
 use Rattle.sg_machine.specs.Legal.{store_of}
 use Rattle.sg_machine.specs.Marks.{outstanding_of}
 use Rattle.sg_machine.specs.Running.{records_from}
-use Rattle.sg_machine.specs.Runs.{Kept, after_all}
+use Rattle.sg_machine.specs.Runs.{BufferedEntry, after_all}
 use Rattle.sg_machine.specs.Safe.{has_failed, appends, spooled_of, spooled_offers, would_spool, failed_entries}
 use Rattle.sg_machine.specs.Verdicts.{Claim, claims_of, is_listed}
 use Rattle.sg_sinks.specs.States.{SinkState}
@@ -33,10 +33,9 @@ use Rattle.sg_offers.proofs.JudgeSteps.{listed-append}
 use Rattle.sg_offers.proofs.SinkLemmas.{offered-setup}
 use Rattle.sg_standing.specs.Sources.{begun_at, begun_all}
 use Rattle.sg_standing.specs.States.{CoreState, setup_of}
-use Rattle.sg_standing.specs.Standing.{IsAt, IsSafeStore, StandsFor, HaveRisen, Does, buffer_in, failed_then}
+use Rattle.sg_standing.specs.Standing.{IsAt, IsSafeStore, StandsFor, HaveRisen, DoesAct, buffer_in, failed_then}
 use Rattle.sg_standing.specs.declared.source.Source.{Source}
 use Rattle.sg_standing.proofs.Calls.{does-of, stays-refl, positions-by, lists-by}
-use Rattle.sg_standing.proofs.ListSteps.{map-kept}
 use Rattle.sg_standing.proofs.More.{within-map}
 use Rattle.sg_standing.proofs.Safes.{spooled-left, settled-most}
 use Rattle.sg_standing.proofs.Still.{StaysSame}
@@ -50,7 +49,7 @@ use Rattle.sg_core.proofs.AdmitAt.{AdmitsAt, admit-judged, legal-admit, at-admit
 
 -- Setups stay.
 
-begun-setup : (bs : List Record) (source : Source) → (begun_all bs source).setup ≡ source.setup
+begun-setup : (bs : List BegunRecord) (source : Source) → (begun_all bs source).setup ≡ source.setup
 begun-setup [] source = refl
 begun-setup (b ∷ bs) source = begun-setup bs (begun_at b.end b.left source)
 
@@ -73,7 +72,7 @@ number-is core s i source at h =
     ap (λ (x : Source). x.tracker.begun) b.shown ∙ sym next
 
 pub record AdmitsIn (old new : CoreState) (s : State) (i : ℕ) (records : List Admission) (vs : List Verdict) (fails : List Bool) (payloads : List Payload) (newly : List ℕ) : Type 0 where
-  pub inlet : Inlet
+  pub inlet : InletRecords
   pub admits_at : AdmitsAt old new s i inlet records vs fails payloads newly
 
 pub admits-in : (old new : CoreState) (s : State) (i : ℕ) (source : Source) (records : List Admission) (vs : List Verdict) (fails : List Bool) (payloads : List Payload) → slice_get old.sources i ≡ Some source → length source.tracker.waiting + length records ≤ source.tracker.limit
@@ -102,7 +101,7 @@ admits-in old new s i source records vs fails payloads h credit adm at =
 
 -- Images of the disk-buffers.
 
-pick : (b : Bool) (xs ys ks : List Kept) → (b ≡ true → xs ≡ ks) → (b ≡ false → ys ≡ ks) → (if b then xs else ys) ≡ ks
+pick : (b : Bool) (xs ys ks : List BufferedEntry) → (b ≡ true → xs ≡ ks) → (b ≡ false → ys ≡ ks) → (if b then xs else ys) ≡ ks
 pick true xs ys ks f g = f refl
 pick false xs ys ks f g = g refl
 
@@ -110,14 +109,14 @@ failed-store : (failed : List ℕ) (dest : Dest) (buffer : BufferSetup) → dest
 failed-store failed dest buffer has = rw has refl
 
 -- the list with the first of what is tried is safe
-safe-some : (x : Dest) (d : ℕ) (act : Act) (failed : List ℕ) (tried ks : List Kept) (bytes : List ℕ) → (if has_failed failed (store_of x) then tried else appends act d x) ≡ ks → IsListWithSome (spooled_of x.left) ks bytes → IsSafeStore x d act failed tried bytes
+safe-some : (x : Dest) (d : ℕ) (act : Act) (failed : List ℕ) (tried ks : List BufferedEntry) (bytes : List ℕ) → (if has_failed failed (store_of x) then tried else appends act d x) ≡ ks → IsListWithSome (spooled_of x.left) ks bytes → IsSafeStore x d act failed tried bytes
 safe-some x d act failed tried ks bytes e h = record {
   list = spooled_of x.left ++ take h.taken ks;
   entries = h.entries;
   safe = record {
     gone = length (spooled_of x.settled);
     added = h.taken;
-    parts = ap (λ (js : List Kept). js ++ take h.taken ks) (sym (spooled-left x)) ∙ ap (λ (js : List Kept). drop (length (spooled_of x.settled)) (spooled_of (x.settled ++ x.left)) ++ take h.taken js) (sym e);
+    parts = ap (λ (js : List BufferedEntry). js ++ take h.taken ks) (sym (spooled-left x)) ∙ ap (λ (js : List BufferedEntry). drop (length (spooled_of x.settled)) (spooled_of (x.settled ++ x.left)) ++ take h.taken js) (sym e);
     settled = settled-most act d x;
     all_settled = λ f s. refl;
   };
@@ -190,7 +189,7 @@ risen-admit old new s i records vs fails payloads newly all = λ u o n l go gn.
 -- The event.
 
 pub admit-does : (old new : CoreState) (t : State) (i : ℕ) (source : Source) (records : List Admission) (vs : List Verdict) (fails : List Bool) (payloads : List Payload) → IsAt old t → slice_get old.sources i ≡ Some source
-    → length source.tracker.waiting + length records ≤ source.tracker.limit → Admitting old new i source.tracker.begun records vs fails payloads → new.calls ≡ old.calls + 1 → Does old new (Admit i records vs)
+    → length source.tracker.waiting + length records ≤ source.tracker.limit → Admitting old new i source.tracker.begun records vs fails payloads → new.calls ≡ old.calls + 1 → DoesAct old new (Admit i records vs)
 admit-does old new t i source records vs fails payloads at h credit adm calls =
     let newly = failing_in fails i source.tracker.begun old.sinks (claims_of records) in
     let all : (s : State) → IsAt old s → AdmitsIn old new s i records vs fails payloads newly = λ s at_s. admits-in old new s i source records vs fails payloads h credit adm at_s in

@@ -4,11 +4,11 @@ use Rattle.std.proofs.lemmas.List.{append-nil, length_push}
 use Rattle.sg_list.specs.Lists.{change}
 use Rattle.sg_list.proofs.ListLemmas.{some-same, get-change-same}
 use Rattle.sg_window.specs.Window.{Window, window_of, after_begin}
-use Rattle.sg_window.specs.declared.tracker.Record.{Record}
+use Rattle.sg_window.specs.declared.tracker.BegunRecord.{BegunRecord}
 use Rattle.sg_window.proofs.WindowLemmas.{stands-begin, outstanding-length}
 use Rattle.sg_machine.specs.declared.event.Admission.{Admission}
 use Rattle.sg_machine.specs.declared.state.Dest.{Dest}
-use Rattle.sg_machine.specs.declared.state.Inlet.{Inlet}
+use Rattle.sg_machine.specs.declared.state.InletRecords.{InletRecords}
 use Rattle.sg_machine.specs.Effects.{ends_of, admitted}
 use Rattle.sg_machine.specs.Running.{owed, records_from}
 use Rattle.sg_machine.proofs.OwedLemmas.{records-same, records-length}
@@ -16,13 +16,14 @@ use Rattle.sg_machine.proofs.MoveLemmas.{change-twice}
 use Rattle.sg_standing.specs.Sources.{HasCredit, begun_at, begun_all}
 use Rattle.sg_standing.specs.Standing.{source_of, sources_from}
 use Rattle.sg_standing.specs.declared.source.Source.{Source}
+use Rattle.sg_machine.proofs.RecordLemmas.{records-below}
 
 -- Records begun one after another.
 
-abbrev of_records : Source → List Record → Source
+abbrev of_records : Source → List BegunRecord → Source
 of_records source rs = record source { tracker = window_of source.tracker.limit (length rs) 0 rs }
 
-begins-all : (source : Source) (rs bs : List Record) → begun_all bs (of_records source rs) ≡ of_records source (rs ++ bs)
+begins-all : (source : Source) (rs bs : List BegunRecord) → begun_all bs (of_records source rs) ≡ of_records source (rs ++ bs)
 begins-all source rs [] = ap (of_records source) (sym (append-nil rs))
 begins-all source rs (b ∷ bs) =
     let w : Window = window_of source.tracker.limit (length rs) 0 rs in
@@ -33,36 +34,29 @@ records-append : (ds : List Dest) (i n : ℕ) (xs ys : List ℕ) → records_fro
 records-append ds i n [] ys = ap (λ (k : ℕ). records_from ds i k ys) (omega arith)
 records-append ds i n (x ∷ xs) ys =
     let at : n + 1 + length xs ≡ n + suc (length xs) = omega arith in
-    ap (λ (rs : List Record). record { end = x; left = owed ds i n } ∷ rs) (records-append ds i (n + 1) xs ys ∙ ap (λ (k : ℕ). records_from ds i (n + 1) xs ++ records_from ds i k ys) at)
+    ap (λ (rs : List BegunRecord). record { end = x; left = owed ds i n } ∷ rs) (records-append ds i (n + 1) xs ys ∙ ap (λ (k : ℕ). records_from ds i (n + 1) xs ++ records_from ds i k ys) at)
 
-records-below : (ds fs : List Dest) (i n : ℕ) (ends : List ℕ) → ((j : ℕ) → j < n + length ends → owed fs i j ≡ owed ds i j) → records_from fs i n ends ≡ records_from ds i n ends
-records-below ds fs i n [] h = refl
-records-below ds fs i n (x ∷ ends) h =
-    let here : owed fs i n ≡ owed ds i n = h n (omega arith) in
-    let rest = records-below ds fs i (n + 1) ends (λ j l. h j (omega arith)) in
-    rw (here, rest) refl
-
-sources-above : (ds fs : List Dest) (i : ℕ) (inlets : List Inlet) → ((j n : ℕ) → i ≤ j → owed fs j n ≡ owed ds j n) → sources_from fs i inlets ≡ sources_from ds i inlets
+sources-above : (ds fs : List Dest) (i : ℕ) (inlets : List InletRecords) → ((j n : ℕ) → i ≤ j → owed fs j n ≡ owed ds j n) → sources_from fs i inlets ≡ sources_from ds i inlets
 sources-above ds fs i [] h = refl
 sources-above ds fs i (x ∷ inlets) h = rw (records-same ds fs i 0 x.ends (λ j l. h i j (omega arith)), sources-above ds fs (i + 1) inlets (λ j n l. h j n (omega arith))) refl
 
 -- one inlet with more records
-source-more : (ds fs : List Dest) (i : ℕ) (x : Inlet) (records : List Admission) (bs : List Record) → ((n : ℕ) → n < length x.ends → owed fs i n ≡ owed ds i n) → records_from fs i (length x.ends) (ends_of records) ≡ bs
+source-more : (ds fs : List Dest) (i : ℕ) (x : InletRecords) (records : List Admission) (bs : List BegunRecord) → ((n : ℕ) → n < length x.ends → owed fs i n ≡ owed ds i n) → records_from fs i (length x.ends) (ends_of records) ≡ bs
     → source_of fs i (admitted records x) ≡ begun_all bs (source_of ds i x)
 source-more ds fs i x records bs same new =
     let rs = records_from ds i 0 x.ends in
     let old = records-below ds fs i 0 x.ends (λ j l. same j (omega arith)) in
     let zero_n : 0 + length x.ends ≡ length x.ends = omega arith in
     let all : records_from fs i 0 (x.ends ++ ends_of records) ≡ rs ++ bs =
-    records-append fs i 0 x.ends (ends_of records) ∙ ap (λ (qs : List Record). qs ++ records_from fs i (0 + length x.ends) (ends_of records)) old
-    ∙ ap (λ (k : ℕ). rs ++ records_from fs i k (ends_of records)) zero_n ∙ ap (λ (qs : List Record). rs ++ qs) new in
+    records-append fs i 0 x.ends (ends_of records) ∙ ap (λ (qs : List BegunRecord). qs ++ records_from fs i (0 + length x.ends) (ends_of records)) old
+    ∙ ap (λ (k : ℕ). rs ++ records_from fs i k (ends_of records)) zero_n ∙ ap (λ (qs : List BegunRecord). rs ++ qs) new in
     let count : length (x.ends ++ ends_of records) ≡ length (rs ++ bs) = sym (records-length fs i 0 (x.ends ++ ends_of records)) ∙ ap length all in
     let start : source_of ds i x ≡ of_records (source_of ds i x) rs = ap (λ (n : ℕ). record (source_of ds i x) { tracker = window_of x.setup.window n 0 rs }) (sym (records-length ds i 0 x.ends)) in
-    ap (λ (qs : List Record). record (source_of ds i x) { tracker = window_of x.setup.window (length (x.ends ++ ends_of records)) 0 qs }) all
+    ap (λ (qs : List BegunRecord). record (source_of ds i x) { tracker = window_of x.setup.window (length (x.ends ++ ends_of records)) 0 qs }) all
     ∙ ap (λ (n : ℕ). record (source_of ds i x) { tracker = window_of x.setup.window n 0 (rs ++ bs) }) count
     ∙ sym (begins-all (source_of ds i x) rs bs) ∙ ap (begun_all bs) (sym start)
 
-pub sources-more : (ds fs : List Dest) (j k i : ℕ) (inlets : List Inlet) (x : Inlet) (records : List Admission) (bs : List Record) → j + k ≡ i → slice_get inlets k ≡ Some x → ((m n : ℕ) → m ≢ i → owed fs m n ≡ owed ds m n)
+pub sources-more : (ds fs : List Dest) (j k i : ℕ) (inlets : List InletRecords) (x : InletRecords) (records : List Admission) (bs : List BegunRecord) → j + k ≡ i → slice_get inlets k ≡ Some x → ((m n : ℕ) → m ≢ i → owed fs m n ≡ owed ds m n)
     → ((n : ℕ) → n < length x.ends → owed fs i n ≡ owed ds i n) → records_from fs i (length x.ends) (ends_of records) ≡ bs
     → sources_from fs j (change inlets k (admitted records)) ≡ change (sources_from ds j inlets) k (begun_all bs)
 sources-more ds fs j k i [] x records bs at there others same new = let wrong : None ≡ Some x = there in cc
@@ -82,10 +76,10 @@ sources-more ds fs j (suc k) i (y ∷ inlets) x records bs at there others same 
 
 -- Begun one at a time.
 
-pub begin-step : (olds mids news : List Source) (i : ℕ) (r : Record) (rs : List Record) → news ≡ change mids i (begun_at r.end r.left) → change mids i (begun_all (r ∷ rs)) ≡ olds → change news i (begun_all rs) ≡ olds
+pub begin-step : (olds mids news : List Source) (i : ℕ) (r : BegunRecord) (rs : List BegunRecord) → news ≡ change mids i (begun_at r.end r.left) → change mids i (begun_all (r ∷ rs)) ≡ olds → change news i (begun_all rs) ≡ olds
 begin-step olds mids news i r rs n h = ap (λ (xs : List Source). change xs i (begun_all rs)) n ∙ change-twice mids i (begun_at r.end r.left) (begun_all rs) ∙ h
 
-credit-one : (source : Source) (n : ℕ) (r : Record) → HasCredit (Some source) (n + 1) → HasCredit (Some (begun_at r.end r.left source)) n
+credit-one : (source : Source) (n : ℕ) (r : BegunRecord) → HasCredit (Some source) (n + 1) → HasCredit (Some (begun_at r.end r.left source)) n
 credit-one source n r h =
     let w = source.tracker.waiting ++ record { end = r.end; left = r.left } ∷ [] in
     let fewer = outstanding-length w in
@@ -94,13 +88,13 @@ credit-one source n r h =
     let b = h.1 in
     (omega arith, omega arith)
 
-credit-by : (sources news : List Source) (i n : ℕ) (r : Record) (o : Option Source) → slice_get sources i ≡ o → news ≡ change sources i (begun_at r.end r.left) → HasCredit o (n + 1) → HasCredit (slice_get news i) n
+credit-by : (sources news : List Source) (i n : ℕ) (r : BegunRecord) (o : Option Source) → slice_get sources i ≡ o → news ≡ change sources i (begun_at r.end r.left) → HasCredit o (n + 1) → HasCredit (slice_get news i) n
 credit-by sources news i n r None e h c = absurd c
 credit-by sources news i n r (Some source) e h c =
     let there : slice_get news i ≡ Some (begun_at r.end r.left source) = ap (λ (xs : List Source). slice_get xs i) h ∙ get-change-same sources i (begun_at r.end r.left) source e in
     subst (λ (o : Option Source). HasCredit o n) (sym there) (credit-one source n r c)
 
-pub credit-step : (sources news : List Source) (i n : ℕ) (r : Record) → news ≡ change sources i (begun_at r.end r.left) → HasCredit (slice_get sources i) (n + 1) → HasCredit (slice_get news i) n
+pub credit-step : (sources news : List Source) (i n : ℕ) (r : BegunRecord) → news ≡ change sources i (begun_at r.end r.left) → HasCredit (slice_get sources i) (n + 1) → HasCredit (slice_get news i) n
 credit-step sources news i n r h c = credit-by sources news i n r (slice_get sources i) refl h c
 
 less-by : (o : Option Source) (n m : ℕ) → m ≤ n → HasCredit o n → HasCredit o m
@@ -115,5 +109,5 @@ none-more [] i = refl
 none-more (s ∷ ss) zero = refl
 none-more (s ∷ ss) (suc i) = ap (λ (xs : List Source). s ∷ xs) (none-more ss i)
 
-pub begin-done : (olds news : List Source) (i : ℕ) (rs : List Record) → rs ≡ [] → change news i (begun_all rs) ≡ olds → news ≡ olds
-begin-done olds news i rs e h = sym (none-more news i) ∙ ap (λ (xs : List Record). change news i (begun_all xs)) (sym e) ∙ h
+pub begin-done : (olds news : List Source) (i : ℕ) (rs : List BegunRecord) → rs ≡ [] → change news i (begun_all rs) ≡ olds → news ≡ olds
+begin-done olds news i rs e h = sym (none-more news i) ∙ ap (λ (xs : List BegunRecord). change news i (begun_all xs)) (sym e) ∙ h

@@ -11,7 +11,7 @@ use Rattle.sg_machine.specs.declared.setup.BufferSetup.{BufferSetup}
 use Rattle.sg_machine.specs.declared.state.Dest.{Dest}
 use Rattle.sg_machine.specs.declared.state.State.{State}
 use Rattle.sg_machine.specs.Effects.{next_of}
-use Rattle.sg_machine.specs.Runs.{Kept}
+use Rattle.sg_machine.specs.Runs.{BufferedEntry}
 use Rattle.sg_machine.specs.Safe.{would_spool}
 use Rattle.sg_machine.specs.Verdicts.{Claim, claims_of, is_listed}
 use Rattle.sg_sinks.specs.Fitting.{space}
@@ -21,14 +21,14 @@ use Rattle.sg_sinks.specs.States.{SinkState}
 use Rattle.sg_stores.specs.Stores.{StoreState, length_of}
 use Rattle.sg_offers.specs.Answering.{fails_at, sinks_after, verdicts_from, begun_of}
 use Rattle.sg_offers.specs.Batches.{sinks_at, WouldFail}
-use Rattle.sg_offers.specs.Payloads.{buffers_of, buffer_at, trial_in, trial_at, payloads_of, taken_at, FitAll, AllKept, AreSpelled}
+use Rattle.sg_offers.specs.Payloads.{buffers_of, buffer_at, trial_in, trial_at, payloads_of, taken_at, FitAll, AllSpellable, ArePayloadsSpelled}
 use Rattle.sg_offers.specs.declared.batch.Payload.{Payload}
 use Rattle.sg_offers.proofs.PayloadLemmas.{length-payloads}
 use Rattle.sg_offers.proofs.TrySteps.{tried-by as tried-hold}
 use Rattle.sg_standing.specs.Sources.{begun_all}
 use Rattle.sg_standing.specs.States.{CoreState}
-use Rattle.sg_standing.specs.Standing.{IsAt, AreApart, IsBuffer, sinks_of, buffer_in}
-use Rattle.sg_core.specs.Admits.{AreApartBuffers, blocks_for, Appended, AppendedAll}
+use Rattle.sg_standing.specs.Standing.{IsAt, AreApart, IsBufferOf, sinks_of, buffer_in}
+use Rattle.sg_core.specs.Admits.{AreApartBuffers, blocks_for, AppendedBlocks, AppendedAll}
 use Rattle.sg_core.specs.Steps.{AreNext}
 use Rattle.sg_core.proofs.AdmitDests.{length-taken, are-next, untried}
 
@@ -38,8 +38,8 @@ pub record Admitting (old new : CoreState) (i next : ℕ) (records : List Admiss
   pub few : length records ≤ 1000
   pub enter : AllMayEnter (length old.sinks) records
   pub payloads_are : payloads ≡ payloads_of i old.sinks (claims_of records)
-  pub spelled : AreSpelled i (claims_of records) payloads
-  pub kept : AllKept i (buffers_of old.sinks) (claims_of records)
+  pub spelled : ArePayloadsSpelled i (claims_of records) payloads
+  pub kept : AllSpellable i (buffers_of old.sinks) (claims_of records)
   pub appended : AppendedAll old.stores new.stores (buffers_of old.sinks) payloads fails
   pub sinks : new.sinks ≡ sinks_after fails i next old.sinks (claims_of records)
   pub verdicts : vs ≡ verdicts_from fails i next old.sinks (claims_of records)
@@ -90,8 +90,8 @@ pub record DestOf (old new : CoreState) (s : State) (fails : List Bool) (payload
   pub now : StoreState
   pub was_there : slice_get old.stores buffer.store ≡ Some was
   pub now_there : slice_get new.stores buffer.store ≡ Some now
-  pub is : IsBuffer was buffer dest (is_listed buffer.store s.failed)
-  pub appended : Appended was now (blocks_for (buffers_of old.sinks) buffer.store payloads) (fails_at fails d)
+  pub is : IsBufferOf was buffer dest (is_listed buffer.store s.failed)
+  pub appended : AppendedBlocks was now (blocks_for (buffers_of old.sinks) buffer.store payloads) (fails_at fails d)
 
 found-by : (stores : List StoreState) (s : ℕ) (k : ℕ) → s < k → length stores ≡ k → (store : StoreState) × (slice_get stores s ≡ Some store)
 found-by stores s k l n = slice_get-some stores s (omega arith)
@@ -131,7 +131,7 @@ takes-of old new s i records vs fails payloads d dest buffer adm at there has x 
     let next = are-next (buffers_of sinks) d i buffer x.was [] buffer.capacity (lengths_of dest.left) claims payloads apart found ((x.is).sized works) len adm.spelled fits in
     record {
       count = count;
-      next = subst (λ (bs : List (Option (List ℕ))). AreNext x.was [] bs (would_spool d i (next_of s i) buffer dest claims)) (sym same) (subst (λ (ks : List Kept). AreNext x.was [] (blocks_for (buffers_of sinks) buffer.store payloads) ks) taken next);
+      next = subst (λ (bs : List (Option (List ℕ))). AreNext x.was [] bs (would_spool d i (next_of s i) buffer dest claims)) (sym same) (subst (λ (ks : List BufferedEntry). AreNext x.was [] (blocks_for (buffers_of sinks) buffer.store payloads) ks) taken next);
     }
 
 -- A store that is said to fail would spool.
@@ -171,12 +171,12 @@ staged-count old new s i next records vs fails payloads d dest buffer adm at the
     ∙ ap (λ (ks : List SinkState). length (blocks_for (buffers_of ks) buffer.store payloads)) (sym at.sinks)
 
 -- where a store is said to fail it worked, and something was staged
-pub record Failing (s : State) (i : ℕ) (claims : List Claim) (d : ℕ) (buffer : BufferSetup) (blocks : List (Option (List ℕ))) : Type 0 where
+pub record FailingAdmit (s : State) (i : ℕ) (claims : List Claim) (d : ℕ) (buffer : BufferSetup) (blocks : List (Option (List ℕ))) : Type 0 where
   pub worked : is_listed buffer.store s.failed ≡ false
   pub staged : blocks ≢ []
 
 pub failing-of : (old new : CoreState) (s : State) (i next : ℕ) (records : List Admission) (vs : List Verdict) (fails : List Bool) (payloads : List Payload) (d : ℕ) (dest : Dest) (buffer : BufferSetup) → Admitting old new i next records vs fails payloads → IsAt old s
-    → slice_get s.dests d ≡ Some dest → dest.setup.buffer ≡ Some buffer → DestOf old new s fails payloads d dest buffer → fails_at fails d ≡ true → Failing s i (claims_of records) d buffer (blocks_for (buffers_of old.sinks) buffer.store payloads)
+    → slice_get s.dests d ≡ Some dest → dest.setup.buffer ≡ Some buffer → DestOf old new s fails payloads d dest buffer → fails_at fails d ≡ true → FailingAdmit s i (claims_of records) d buffer (blocks_for (buffers_of old.sinks) buffer.store payloads)
 failing-of old new s i next records vs fails payloads d dest buffer adm at there has x f =
     let blocks = blocks_for (buffers_of old.sinks) buffer.store payloads in
     let staged : blocks ≢ [] = λ e. (let wrong : true ≡ false = sym f ∙ (x.appended).quiet e in cc) in

@@ -3,7 +3,7 @@ use Rattle.std.proofs.Common.{◌≡◌, ℕ, ◌+◌, ◌-◌, ◌^◌, ◌<◌
 use Rattle.sg_list.specs.Lists.{change}
 use Rattle.sg_list.proofs.ListLemmas.{some-same, slice_get-below}
 use Rattle.sg_counter.specs.Bringing.{AllMayEnter, IsBatch}
-use Rattle.sg_window.specs.declared.tracker.Record.{Record}
+use Rattle.sg_window.specs.declared.tracker.BegunRecord.{BegunRecord}
 use Rattle.sg_machine.specs.declared.event.Act.TheVariants.{Admit}
 use Rattle.sg_machine.specs.declared.event.Admission.{Admission}
 use Rattle.sg_machine.specs.declared.event.Verdict.{Verdict}
@@ -12,17 +12,17 @@ use Rattle.sg_machine.specs.declared.state.State.{State}
 use Rattle.sg_machine.specs.Verdicts.{claims_of}
 use Rattle.sg_sinks.specs.States.{SinkState, Sunk}
 use Rattle.sg_offers.specs.Answering.{fails_at, sinks_after, verdicts_from, begun_of}
-use Rattle.sg_offers.specs.Payloads.{buffers_of, buffer_at, trial_in, payloads_of, AllKept, AreSmall, AreSpelled}
+use Rattle.sg_offers.specs.Payloads.{buffers_of, buffer_at, trial_in, payloads_of, AllSpellable, AreSmall, ArePayloadsSpelled}
 use Rattle.sg_offers.specs.Rooms.{seen_in, AreTo}
 use Rattle.sg_offers.specs.declared.batch.Payload.{Payload}
 use Rattle.sg_offers.proofs.ClaimLemmas.{within-from}
 use Rattle.sg_offers.proofs.PayloadLemmas.{payloads-to}
 use Rattle.sg_standing.specs.Sources.{HasCredit, begun_all}
 use Rattle.sg_standing.specs.States.{CoreState, setup_of}
-use Rattle.sg_standing.specs.Standing.{IsAt, Does, sinks_of}
+use Rattle.sg_standing.specs.Standing.{IsAt, DoesAct, sinks_of}
 use Rattle.sg_standing.specs.declared.source.Source.{Source}
 use Rattle.sg_core.specs.Admits.{HaveStores, AreApartBuffers, AppendedAll}
-use Rattle.sg_core.specs.Whole.{IsWhole}
+use Rattle.sg_core.specs.Whole.{IsWholeCore}
 use Rattle.sg_core.proofs.AdmitDoes.{admit-does}
 use Rattle.sg_core.proofs.AdmitSteps.{Admitting, apart-buffers, buffer-at-dest, BackedAt, backed-or}
 
@@ -77,15 +77,15 @@ length-begun [] vs = refl
 length-begun (r ∷ rs) vs = ap suc (length-begun rs (drop (length r.offers) vs))
 
 -- all of an admit's calls, over the destinations with their room
-pub record AdmitTurn (old new : CoreState) (i next : ℕ) (source : Source) (records : List Admission) (vs : List Verdict) (begun : List Record) (roomy : List SinkState) (payloads read : List Payload) (fails used : List Bool) : Type 0 where
+pub record AdmitTurn (old new : CoreState) (i next : ℕ) (source : Source) (records : List Admission) (vs : List Verdict) (begun : List BegunRecord) (roomy : List SinkState) (payloads read : List Payload) (fails used : List Bool) : Type 0 where
   pub there : slice_get old.sources i ≡ Some source
   pub next_is : next ≡ source.tracker.begun
   pub room : length records ≤ source.tracker.limit - length source.tracker.waiting
   pub batch : IsBatch (setup_of old) records
   pub same : roomy ≡ old.sinks
   pub payloads_are : payloads ≡ payloads_of i old.sinks (claims_of records)
-  pub spelled : AreSmall (buffers_of old.sinks) → AreSpelled i (claims_of records) payloads
-  pub kept : AllKept i (buffers_of old.sinks) (claims_of records)
+  pub spelled : AreSmall (buffers_of old.sinks) → ArePayloadsSpelled i (claims_of records) payloads
+  pub kept : AllSpellable i (buffers_of old.sinks) (claims_of records)
   pub read_is : read ≡ payloads
   pub appended : AppendedAll old.stores new.stores (buffers_of roomy) read fails
   pub used_is : used ≡ fails
@@ -95,7 +95,7 @@ pub record AdmitTurn (old new : CoreState) (i next : ℕ) (source : Source) (rec
   pub sources : new.sources ≡ change old.sources i (begun_all begun)
   pub calls : new.calls ≡ old.calls + 1
 
-admitting-of : (old new : CoreState) (i next : ℕ) (source : Source) (records : List Admission) (vs : List Verdict) (begun : List Record) (roomy : List SinkState) (payloads read : List Payload) (fails used : List Bool) → AreSmall (buffers_of old.sinks)
+admitting-of : (old new : CoreState) (i next : ℕ) (source : Source) (records : List Admission) (vs : List Verdict) (begun : List BegunRecord) (roomy : List SinkState) (payloads read : List Payload) (fails used : List Bool) → AreSmall (buffers_of old.sinks)
     → AdmitTurn old new i next source records vs begun roomy payloads read fails used → Admitting old new i source.tracker.begun records vs fails payloads
 admitting-of old new i next source records vs begun roomy payloads read fails used small t = subst (λ (n : ℕ). Admitting old new i n records vs fails payloads) t.next_is (record {
   some = t.batch.some;
@@ -107,11 +107,11 @@ admitting-of old new i next source records vs begun roomy payloads read fails us
   appended = subst (λ (ks : List SinkState). AppendedAll old.stores new.stores (buffers_of ks) payloads fails) t.same (subst (λ (ps : List Payload). AppendedAll old.stores new.stores (buffers_of roomy) ps fails) t.read_is t.appended);
   sinks = t.sinks ∙ ap (λ (fs : List Bool). sinks_after fs i next roomy (claims_of records)) t.used_is ∙ ap (λ (ks : List SinkState). sinks_after fails i next ks (claims_of records)) t.same;
   verdicts = t.verdicts ∙ ap (λ (fs : List Bool). verdicts_from fs i next roomy (claims_of records)) t.used_is ∙ ap (λ (ks : List SinkState). verdicts_from fails i next ks (claims_of records)) t.same;
-  sources = t.sources ∙ ap (λ (bs : List Record). change old.sources i (begun_all bs)) (t.begun_are ∙ ap (begun_of records) (sym t.verdicts));
+  sources = t.sources ∙ ap (λ (bs : List BegunRecord). change old.sources i (begun_all bs)) (t.begun_are ∙ ap (begun_of records) (sym t.verdicts));
 })
 
-pub turn-does : (old new : CoreState) (i next : ℕ) (source : Source) (records : List Admission) (vs : List Verdict) (begun : List Record) (roomy : List SinkState) (payloads read : List Payload) (fails used : List Bool) → IsWhole old
-    → AdmitTurn old new i next source records vs begun roomy payloads read fails used → Does old new (Admit i records vs)
+pub turn-does : (old new : CoreState) (i next : ℕ) (source : Source) (records : List Admission) (vs : List Verdict) (begun : List BegunRecord) (roomy : List SinkState) (payloads read : List Payload) (fails used : List Bool) → IsWholeCore old
+    → AdmitTurn old new i next source records vs begun roomy payloads read fails used → DoesAct old new (Admit i records vs)
 turn-does old new i next source records vs begun roomy payloads read fails used whole t =
     let some = t.batch.some in
     let room = t.room in

@@ -7,8 +7,8 @@ use Rattle.std.proofs.lemmas.List.{append-nil, length_push}
 use Rattle.std.proofs.Math.ListN.{length-set}
 use Rattle.sg_list.proofs.ListLemmas.{some-same, length-change, slice_get-some, slice_get-below}
 use Rattle.sg_machine.specs.declared.setup.BufferSetup.{BufferSetup}
-use Rattle.sg_machine.specs.Runs.{Kept}
-use Rattle.sg_stores.specs.Appending.{IsAppending, IsNext, StagesAt, Stages}
+use Rattle.sg_machine.specs.Runs.{BufferedEntry}
+use Rattle.sg_stores.specs.Appending.{IsAppending, IsNextPayload, StagesAt, StagesStore}
 use Rattle.sg_stores.specs.Stores.{StoreState}
 use Rattle.sg_stores.proofs.StoreLemmas.{goes_trans}
 use Rattle.sg_stores.proofs.StageLemmas.{begins as appending-begins}
@@ -21,6 +21,7 @@ use Rattle.sg_sinks.specs.States.{Sunk}
 use Rattle.sg_offers.specs.Answering.{fails_at}
 use Rattle.sg_core.specs.Steps.{AreNext}
 use Rattle.sg_core.specs.Admits.{is_for, blocks_for, is_staged, StagesBy, StagesFor, Staged, StagedAll}
+use Rattle.sg_machine.proofs.FailLemmas.{or-assoc}
 
 -- Blocks, one more.
 
@@ -29,18 +30,18 @@ push-nil [] x h = cc
 push-nil (y ∷ xs) x h = cc
 
 -- entries that these blocks spell, and the last one
-record Split (start : StoreState) (tried : List Kept) (blocks : List (Option (List ℕ))) (payload : List ℕ) (ks : List Kept) : Type 0 where
-  front : List Kept
-  last : Kept
+record SplitAppend (start : StoreState) (tried : List BufferedEntry) (blocks : List (Option (List ℕ))) (payload : List ℕ) (ks : List BufferedEntry) : Type 0 where
+  front : List BufferedEntry
+  last : BufferedEntry
   parts : ks ≡ front ++ last ∷ []
   count : length front ≡ length blocks
   before : AreNext start tried blocks front
-  next : IsNext start (tried ++ front) payload last
+  next : IsNextPayload start (tried ++ front) payload last
 
-next-split : (start : StoreState) (tried : List Kept) (blocks : List (Option (List ℕ))) (payload : List ℕ) (ks : List Kept) → length ks ≡ length blocks + 1 → AreNext start tried (blocks ++ Some payload ∷ []) ks → Split start tried blocks payload ks
+next-split : (start : StoreState) (tried : List BufferedEntry) (blocks : List (Option (List ℕ))) (payload : List ℕ) (ks : List BufferedEntry) → length ks ≡ length blocks + 1 → AreNext start tried (blocks ++ Some payload ∷ []) ks → SplitAppend start tried blocks payload ks
 next-split start tried [] payload [] l h = absurd (omega arith)
 next-split start tried [] payload (k ∷ []) l h =
-    record { front = []; last = k; parts = refl; count = refl; before = tt; next = subst (λ (ts : List Kept). IsNext start ts payload k) (sym (append-nil tried)) h.0 }
+    record { front = []; last = k; parts = refl; count = refl; before = tt; next = subst (λ (ts : List BufferedEntry). IsNextPayload start ts payload k) (sym (append-nil tried)) h.0 }
 next-split start tried [] payload (k ∷ (j ∷ ks)) l h = absurd (omega arith)
 next-split start tried (b ∷ blocks) payload [] l h = absurd (omega arith)
 next-split start tried (None ∷ blocks) payload (k ∷ ks) l h = absurd h
@@ -49,14 +50,14 @@ next-split start tried (Some p ∷ blocks) payload (k ∷ ks) l h =
     record {
       front = k ∷ rest.front;
       last = rest.last;
-      parts = ap (λ (js : List Kept). k ∷ js) rest.parts;
+      parts = ap (λ (js : List BufferedEntry). k ∷ js) rest.parts;
       count = ap suc rest.count;
       before = (h.0, rest.before);
-      next = subst (λ (ts : List Kept). IsNext start ts payload rest.last) (append_assoc tried (k ∷ []) rest.front) rest.next;
+      next = subst (λ (ts : List BufferedEntry). IsNextPayload start ts payload rest.last) (append_assoc tried (k ∷ []) rest.front) rest.next;
     }
 
 -- a block that isn't there spells nothing
-next-never : (start : StoreState) (tried : List Kept) (blocks : List (Option (List ℕ))) (ks : List Kept) → length ks ≡ length blocks + 1 → AreNext start tried (blocks ++ None ∷ []) ks → ⊥
+next-never : (start : StoreState) (tried : List BufferedEntry) (blocks : List (Option (List ℕ))) (ks : List BufferedEntry) → length ks ≡ length blocks + 1 → AreNext start tried (blocks ++ None ∷ []) ks → ⊥
 next-never start tried [] [] l h = omega arith
 next-never start tried [] (k ∷ ks) l h = h
 next-never start tried (b ∷ blocks) [] l h = omega arith
@@ -65,7 +66,7 @@ next-never start tried (Some p ∷ blocks) (k ∷ ks) l h = next-never start (tr
 
 -- Stages.
 
-begins : (old : StoreState) (ks : List Kept) → length ks ≡ 0 → old.failed ≡ false → IsAppending old old ks
+begins : (old : StoreState) (ks : List BufferedEntry) → length ks ≡ 0 → old.failed ≡ false → IsAppending old old ks
 begins old [] l works = appending-begins old works
 begins old (k ∷ ks) l works = absurd (omega arith)
 
@@ -80,7 +81,7 @@ staged-never old mid blocks s = record {
   appends = λ ks l works h. absurd (next-never old [] blocks ks (l ∙ length_push blocks None) h);
 }
 
-staged-push : (old mid new : StoreState) (blocks : List (Option (List ℕ))) (payload : List ℕ) → Staged old mid blocks → Stages mid new payload → Staged old new (blocks ++ Some payload ∷ [])
+staged-push : (old mid new : StoreState) (blocks : List (Option (List ℕ))) (payload : List ℕ) → Staged old mid blocks → StagesStore mid new payload → Staged old new (blocks ++ Some payload ∷ [])
 staged-push old mid new blocks payload s t = record {
   goes = goes_trans old mid new s.goes t.goes;
   none = λ h. absurd (push-nil blocks (Some payload) h);
@@ -90,7 +91,7 @@ staged-push old mid new blocks payload s t = record {
   appends = λ ks l works h.
       let p = next-split old [] blocks payload ks (l ∙ length_push blocks (Some payload)) h in
       let a = s.appends p.front p.count works p.before in
-      subst (λ (js : List Kept). IsAppending old new js) (sym p.parts) (t.stages old p.front p.last p.next a);
+      subst (λ (js : List BufferedEntry). IsAppending old new js) (sym p.parts) (t.stages old p.front p.last p.next a);
 }
 
 blocks-more : (a b : Bool) (x y : Option (List ℕ)) (xs ys : List (Option (List ℕ))) → ys ≡ (if b then xs ++ y ∷ [] else xs) → (if a then x ∷ ys else ys) ≡ (if b then (if a then x ∷ xs else xs) ++ y ∷ [] else (if a then x ∷ xs else xs))
@@ -116,7 +117,7 @@ staged-none : (buffers : List (Option BufferSetup)) (s : ℕ) (ps : List Payload
 staged-none buffers s ps p old mid new h b same staged =
     rw (blocks-push buffers s ps p true h, b, same) (staged-never old mid (blocks_for buffers s ps) staged)
 
-staged-some : (buffers : List (Option BufferSetup)) (s : ℕ) (ps : List Payload) (p : Payload) (payload : List ℕ) (old mid new : StoreState) → is_for buffers s p ≡ true → p.block ≡ Some payload → Stages mid new payload
+staged-some : (buffers : List (Option BufferSetup)) (s : ℕ) (ps : List Payload) (p : Payload) (payload : List ℕ) (old mid new : StoreState) → is_for buffers s p ≡ true → p.block ≡ Some payload → StagesStore mid new payload
     → Staged old mid (blocks_for buffers s ps) → Staged old new (blocks_for buffers s (ps ++ p ∷ []))
 staged-some buffers s ps p payload old mid new h b stages staged =
     rw (blocks-push buffers s ps p true h, b) (staged-push old mid new (blocks_for buffers s ps) payload staged stages)
@@ -145,7 +146,7 @@ stage-by buffers ps p (Some x) (Some payload) mids news e f t h s old mid new gm
       | inl q ↦ (
           let is : (x.store == s) ≡ true = grind (arith, q.0) in
           let touched : IsTouched at.old at.new mid new = q.1 in
-          let stages : Stages mid new payload = subst (λ (y : StoreState). Stages mid y payload) touched.after (subst (λ (y : StoreState). Stages y at.new payload) touched.before at.stages) in
+          let stages : StagesStore mid new payload = subst (λ (y : StoreState). StagesStore mid y payload) touched.after (subst (λ (y : StoreState). StagesStore y at.new payload) touched.before at.stages) in
           staged-some buffers s ps p payload old mid new (here ∙ is) f stages staged)
       | inr q ↦ (
           let ne : s ≢ x.store = q.0 in
@@ -201,10 +202,6 @@ or-end : (b : Bool) → (b || false) ≡ b
 or-end true = refl
 or-end false = refl
 
-or-assoc : (a b c : Bool) → (a || (b || c)) ≡ ((a || b) || c)
-or-assoc true b c = refl
-or-assoc false b c = refl
-
 staged-more : (d : ℕ) (ps : List Payload) (p : Payload) → is_staged d (ps ++ p ∷ []) ≡ (is_staged d ps || (p.taken && (p.dest == d)))
 staged-more d [] p = or-end (p.taken && (p.dest == d))
 staged-more d (q ∷ ps) p = ap (λ (b : Bool). (q.taken && (q.dest == d)) || b) (staged-more d ps p) ∙ or-assoc (q.taken && (q.dest == d)) (is_staged d ps) (p.taken && (p.dest == d))
@@ -213,13 +210,13 @@ or-true-end : (b : Bool) → (b || true) ≡ true
 or-true-end true = refl
 or-true-end false = refl
 
-abbrev pub Marks : List Bool → List Bool → List Payload → Type 0
-Marks olds news ps = (d : ℕ) → fails_at news d ≡ (fails_at olds d || is_staged d ps)
+abbrev pub MarksOfClaims : List Bool → List Bool → List Payload → Type 0
+MarksOfClaims olds news ps = (d : ℕ) → fails_at news d ≡ (fails_at olds d || is_staged d ps)
 
-pub marks-start : (fs : List Bool) → Marks fs fs []
+pub marks-start : (fs : List Bool) → MarksOfClaims fs fs []
 marks-start fs = λ d. sym (or-end (fails_at fs d))
 
-pub marks-taken : (olds fs : List Bool) (ps : List Payload) (p : Payload) → p.dest < length fs → Marks olds fs ps → p.taken ≡ true → Marks olds (set fs p.dest true) (ps ++ p ∷ [])
+pub marks-taken : (olds fs : List Bool) (ps : List Payload) (p : Payload) → p.dest < length fs → MarksOfClaims olds fs ps → p.taken ≡ true → MarksOfClaims olds (set fs p.dest true) (ps ++ p ∷ [])
 marks-taken olds fs ps p l m t = λ d.
     let more = ap (λ (b : Bool). fails_at olds d || b) (staged-more d ps p) in
     elim (cases_eq d p.dest) [
@@ -233,7 +230,7 @@ marks-taken olds fs ps p l m t = λ d.
           ∙ sym (more ∙ ap (λ (b : Bool). fails_at olds d || (is_staged d ps || b)) miss ∙ ap (λ (b : Bool). fails_at olds d || b) (or-end (is_staged d ps))))
     ]
 
-pub marks-skip : (olds fs : List Bool) (ps : List Payload) (p : Payload) → Marks olds fs ps → p.taken ≡ false → Marks olds fs (ps ++ p ∷ [])
+pub marks-skip : (olds fs : List Bool) (ps : List Payload) (p : Payload) → MarksOfClaims olds fs ps → p.taken ≡ false → MarksOfClaims olds fs (ps ++ p ∷ [])
 marks-skip olds fs ps p m t = λ d.
     let miss : (p.taken && (p.dest == d)) ≡ false = rw t refl in
     m d ∙ sym (ap (λ (b : Bool). fails_at olds d || b) (staged-more d ps p ∙ ap (λ (b : Bool). is_staged d ps || b) miss ∙ or-end (is_staged d ps)))
@@ -271,7 +268,7 @@ pub record StagedMore (olds news : List StoreState) (buffers : List (Option Buff
   pub to : AreTo count rest
   pub len : length fs ≡ count
   pub all : StagedAll olds news buffers done
-  pub marked : Marks marks fs done
+  pub marked : MarksOfClaims marks fs done
 
 pub more-taken : (olds mids news : List StoreState) (buffers : List (Option BufferSetup)) (count : ℕ) (marks fs gs : List Bool) (done later rest : List Payload) (p : Payload) → StagedMore olds mids buffers count marks fs done (p ∷ rest)
     → later ≡ done ++ p ∷ [] → p.taken ≡ true → StagesFor mids news buffers p → gs ≡ set fs p.dest true → StagedMore olds news buffers count marks gs later rest

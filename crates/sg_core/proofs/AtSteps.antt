@@ -8,7 +8,7 @@ use Rattle.sg_list.proofs.ListLemmas.{some-same, get-change-other}
 use Rattle.sg_machine.specs.declared.event.Act.TheVariants.{Look}
 use Rattle.sg_machine.specs.declared.setup.BufferSetup.{BufferSetup}
 use Rattle.sg_machine.specs.declared.state.Dest.{Dest}
-use Rattle.sg_machine.specs.declared.state.Inlet.{Inlet}
+use Rattle.sg_machine.specs.declared.state.InletRecords.{InletRecords}
 use Rattle.sg_machine.specs.declared.state.State.{State}
 use Rattle.sg_machine.specs.Effects.{after_act}
 use Rattle.sg_machine.specs.Legal.{is_legal_act, is_this, store_of}
@@ -16,7 +16,7 @@ use Rattle.sg_machine.specs.Verdicts.{is_listed}
 use Rattle.sg_sinks.specs.States.{SinkState}
 use Rattle.sg_stores.specs.Stores.{StoreState}
 use Rattle.sg_standing.specs.States.{CoreState, setup_of}
-use Rattle.sg_standing.specs.Standing.{IsAt, IsSound, HoldsPosition, IsStored, AreStored, IsBuffer, IsBacked, AreBacked, Does}
+use Rattle.sg_standing.specs.Standing.{IsAt, IsSoundState, HoldsPosition, IsStoredPosition, ArePositionsStored, IsBufferOf, IsBacked, AreBacked, DoesAct}
 use Rattle.sg_standing.specs.declared.source.Source.{Source}
 use Rattle.sg_standing.proofs.Calls.{quiet}
 
@@ -26,7 +26,7 @@ at-parts old new t sources sinks stores at = record {
   sound = at.sound;
   sources = sources ∙ at.sources;
   sinks = sinks ∙ at.sinks;
-  stores = subst (λ (xs : List StoreState). AreStored xs t.failed t.inlets) (sym stores) at.stores;
+  stores = subst (λ (xs : List StoreState). ArePositionsStored xs t.failed t.inlets) (sym stores) at.stores;
   buffers = subst (λ (xs : List StoreState). AreBacked xs t.failed t.dests) (sym stores) at.buffers;
 }
 
@@ -43,7 +43,7 @@ pub setup-same : (old new : CoreState) → new.sources ≡ old.sources → new.s
 setup-same old new sources sinks = setup-parts old new (ap (map (λ (x : Source). x.setup)) sources) (ap (map (λ (k : SinkState). k.setup)) sinks)
 
 -- a call that changes nothing but the number of calls
-pub quiet-look : (old new : CoreState) → new.sources ≡ old.sources → new.sinks ≡ old.sinks → new.stores ≡ old.stores → new.calls ≡ old.calls + 1 → Does old new Look
+pub quiet-look : (old new : CoreState) → new.sources ≡ old.sources → new.sinks ≡ old.sinks → new.stores ≡ old.stores → new.calls ≡ old.calls + 1 → DoesAct old new Look
 quiet-look old new sources sinks stores calls =
     quiet old new Look stores calls (setup-same old new sources sinks) (λ s at. (refl, at-parts old new (after_act s Look []) sources sinks stores (at-look old s at)))
 
@@ -56,7 +56,7 @@ pub not-changed : (olds news : List StoreState) (u : ℕ) (was now : StoreState)
 not-changed olds news u was now get others same = others ∙ ap (λ (x : StoreState). change olds u (λ _. x)) same ∙ change-const olds u was get
 
 -- whichever stores have failed
-pub sound-failed : (s : State) (failed : List ℕ) → IsSound s → IsSound (record s { failed = failed })
+pub sound-failed : (s : State) (failed : List ℕ) → IsSoundState s → IsSoundState (record s { failed = failed })
 sound-failed s failed sound = record {
   replayed = record { admitted = sound.replayed.admitted; split = sound.replayed.split };
   split = sound.split;
@@ -69,7 +69,7 @@ sound-failed s failed sound = record {
 
 -- a position store that isn't the changed one, where it is listed as before
 pub stored-other : (stores : List StoreState) (failed later : List ℕ) (o : Option ℕ) (p u : ℕ) (now : StoreState) → ((v : ℕ) → o ≡ Some v → v ≢ u) → ((v : ℕ) → o ≡ Some v → is_listed v later ≡ is_listed v failed)
-    → IsStored stores failed o p → IsStored (change stores u (λ _. now)) later o p
+    → IsStoredPosition stores failed o p → IsStoredPosition (change stores u (λ _. now)) later o p
 stored-other stores failed later None p u now ne same h = h
 stored-other stores failed later (Some v) p u now ne same h =
     let Q : Option StoreState → Type 0 = λ r. HoldsPosition r p (is_listed v later) in
@@ -82,7 +82,7 @@ pub backed-other : (stores : List StoreState) (failed later : List ℕ) (b : Buf
 backed-other stores failed later b x u now ne same h = record {
   store = h.store;
   there = get-change-other stores u b.store (λ _. now) ne ∙ h.there;
-  is = subst (λ (f : Bool). IsBuffer h.store b x f) (sym same) h.is;
+  is = subst (λ (f : Bool). IsBufferOf h.store b x f) (sym same) h.is;
 }
 
 -- Stores that fail.
@@ -95,10 +95,10 @@ pub listed-other : (failed : List ℕ) (u v : ℕ) → v ≢ u → is_listed v (
 listed-other [] u v ne = let e : (u == v) ≡ false = grind arith in rw e refl
 listed-other (x ∷ failed) u v ne = ap (λ b. (x == v) || b) (listed-other failed u v ne)
 
-pub any-inlet : (inlets : List Inlet) (i u : ℕ) (x : Inlet) → slice_get inlets i ≡ Some x → x.setup.store ≡ Some u → list_any (λ (inlet : Inlet). is_this u inlet.setup.store) inlets ≡ true
+pub any-inlet : (inlets : List InletRecords) (i u : ℕ) (x : InletRecords) → slice_get inlets i ≡ Some x → x.setup.store ≡ Some u → list_any (λ (inlet : InletRecords). is_this u inlet.setup.store) inlets ≡ true
 any-inlet [] i u x h has = let wrong : None ≡ Some x = h in cc
 any-inlet (y ∷ inlets) zero u x h has =
-    let same : y.setup.store ≡ Some u = ap (λ (z : Inlet). z.setup.store) (some-same y x h) ∙ has in
+    let same : y.setup.store ≡ Some u = ap (λ (z : InletRecords). z.setup.store) (some-same y x h) ∙ has in
     let e : (u == u) ≡ true = grind arith in
     rw (same, e) refl
 any-inlet (y ∷ inlets) (suc i) u x h has = let rest = any-inlet inlets i u x h has in rw rest (grind arith)
@@ -116,11 +116,11 @@ or-true true = refl
 or-true false = refl
 
 -- a look in which the store of an inlet or of a disk-buffer fails, which worked
-pub look-inlet : (s : State) (i u : ℕ) (x : Inlet) → slice_get s.inlets i ≡ Some x → x.setup.store ≡ Some u → is_listed u s.failed ≡ false → is_legal_act s Look (u ∷ []) ≡ true
+pub look-inlet : (s : State) (i u : ℕ) (x : InletRecords) → slice_get s.inlets i ≡ Some x → x.setup.store ≡ Some u → is_listed u s.failed ≡ false → is_legal_act s Look (u ∷ []) ≡ true
 look-inlet s i u x h has l = let a = any-inlet s.inlets i u x h has in rw (a, l) refl
 
 pub look-dest : (s : State) (d : ℕ) (x : Dest) (b : BufferSetup) → slice_get s.dests d ≡ Some x → x.setup.buffer ≡ Some b → is_listed b.store s.failed ≡ false → is_legal_act s Look (b.store ∷ []) ≡ true
 look-dest s d x b h has l =
     let a = any-dest s.dests d x b h has in
-    let c = or-true (list_any (λ (inlet : Inlet). is_this b.store inlet.setup.store) s.inlets) in
+    let c = or-true (list_any (λ (inlet : InletRecords). is_this b.store inlet.setup.store) s.inlets) in
     rw (a, c, l) refl

@@ -8,7 +8,7 @@ use Rattle.sg_standing.specs.States.{CoreState}
 use Rattle.sg_standing.specs.Sources.{store_at}
 use Rattle.sg_counter.specs.Bringing.{store_in}
 use Rattle.sg_counter.specs.Exchanges.{Makes, Exchange}
-use Rattle.sg_standing.specs.Standing.{Does, StandsFor, StandsOn, KeepsRows}
+use Rattle.sg_standing.specs.Standing.{DoesAct, StandsFor, StandsOn, KeepsRows}
 use Rattle.sg_core.specs.Calls.{Serves, acts_in, acts_of}
 use Rattle.sg_standing.specs.declared.source.Source.{Source}
 use Rattle.sg_counter.specs.declared.calls.CoreCall.{CoreCall}
@@ -32,7 +32,7 @@ happens-none old new start events same stood =
     let on = subst Q (sym same) (subst P (sym (append-nil events)) (stood, λ k s low. refl)) in
     ([], refl, record { stands = on.0; keeps = on.1 })
 
-happens-one : (old new : CoreState) (act : Act) (start : State) (events : List Event) → Does old new act → (stood : StandsFor old start events) → Happens new (act ∷ []) start events stood.moments.rows
+happens-one : (old new : CoreState) (act : Act) (start : State) (events : List Event) → DoesAct old new act → (stood : StandsFor old start events) → Happens new (act ∷ []) start events stood.moments.rows
 happens-one old new act start events does stood =
     (record { act = act; failed = does.failed } ∷ [], refl, record { stands = does.stands start events stood; keeps = does.keeps start events stood })
 

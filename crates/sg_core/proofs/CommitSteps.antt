@@ -6,20 +6,20 @@ use Rattle.std.proofs.lemmas.Bool.{cases_eq, cases_lt, eqb-true, and_right, fals
 use Rattle.sg_list.specs.Lists.{change}
 use Rattle.sg_list.proofs.ListLemmas.{some-same, length-change, slice_get-some, slice_get-none, slice_get-below, get-change-same, get-change-other}
 use Rattle.sg_machine.specs.declared.setup.BufferSetup.{BufferSetup}
-use Rattle.sg_stores.specs.Appending.{CommitsAt, Commits}
-use Rattle.sg_stores.specs.Stores.{StoreState, Goes}
+use Rattle.sg_stores.specs.Appending.{CommitsAt, CommitsStore}
+use Rattle.sg_stores.specs.Stores.{StoreState, StoreGoesOn}
 use Rattle.sg_stores.proofs.StoreLemmas.{goes_trans}
 use Rattle.sg_standing.proofs.Calls.{goes-refl, IsTouched, touched-or}
 use Rattle.sg_offers.specs.declared.batch.Payload.{Payload}
 use Rattle.sg_offers.specs.Payloads.{buffer_at}
 use Rattle.sg_offers.specs.Answering.{fails_at}
-use Rattle.sg_core.specs.Admits.{AreApartBuffers, is_for, blocks_for, is_staged, CommitsBy, CommitsFor, Staged, StagedAll, Committed, CommittedAll, Appended, AppendedAll}
+use Rattle.sg_core.specs.Admits.{AreApartBuffers, is_for, blocks_for, is_staged, CommitsBy, CommitsFor, Staged, StagedAll, Committed, CommittedAll, AppendedBlocks, AppendedAll}
 use Rattle.sg_core.proofs.AppendSteps.{fails-set-same, fails-set-other}
 
 -- those below k have committed, and the others are as they were
 pub record Committing (olds news : List StoreState) (buffers : List (Option BufferSetup)) (staged fails : List Bool) (k : ℕ) : Type 0 where
   pub count : length news ≡ length olds
-  pub goes : (s : ℕ) (old new : StoreState) → slice_get olds s ≡ Some old → slice_get news s ≡ Some new → Goes old new
+  pub goes : (s : ℕ) (old new : StoreState) → slice_get olds s ≡ Some old → slice_get news s ≡ Some new → StoreGoesOn old new
   pub below : (d : ℕ) (buffer : BufferSetup) (old new : StoreState) → buffer_at buffers d ≡ Some buffer → slice_get olds buffer.store ≡ Some old → slice_get news buffer.store ≡ Some new → d < k
       → Committed old new (fails_at staged d) (fails_at fails d)
   pub above : (d : ℕ) (buffer : BufferSetup) (old new : StoreState) → buffer_at buffers d ≡ Some buffer → slice_get olds buffer.store ≡ Some old → slice_get news buffer.store ≡ Some new → k ≤ d → new ≡ old
@@ -30,7 +30,7 @@ pub record Committing (olds news : List StoreState) (buffers : List (Option Buff
 pub committing-start : (olds : List StoreState) (buffers : List (Option BufferSetup)) (staged : List Bool) → Committing olds olds buffers staged staged 0
 committing-start olds buffers staged = record {
   count = refl;
-  goes = λ s old new go gn. subst (λ (y : StoreState). Goes old y) (some-same old new (sym go ∙ gn)) (goes-refl old);
+  goes = λ s old new go gn. subst (λ (y : StoreState). StoreGoesOn old y) (some-same old new (sym go ∙ gn)) (goes-refl old);
   below = λ d buffer old new b go gn l. absurd (omega arith);
   above = λ d buffer old new b go gn l. some-same new old (sym gn ∙ go);
   others = λ s h. refl;
@@ -101,13 +101,13 @@ not-not false false h = refl
 touched-new : (mids news : List StoreState) (s : ℕ) (old now new : StoreState) → slice_get mids s ≡ Some old → news ≡ change mids s (λ _. now) → slice_get news s ≡ Some new → new ≡ now
 touched-new mids news s old now new g others h = some-same new now (sym h ∙ ap (λ (xs : List StoreState). slice_get xs s) others ∙ get-change-same mids s (λ _. now) old g)
 
-here-commits : (staged fails : List Bool) (old new : StoreState) (k d : ℕ) (fail was : Bool) → d ≡ k → k < length fails → was ≡ true → (mid now : StoreState) → mid ≡ old → new ≡ now → Commits mid now → not fail ≡ not now.failed
+here-commits : (staged fails : List Bool) (old new : StoreState) (k d : ℕ) (fail was : Bool) → d ≡ k → k < length fails → was ≡ true → (mid now : StoreState) → mid ≡ old → new ≡ now → CommitsStore mid now → not fail ≡ not now.failed
     → Committed old new was (fails_at (set fails k fail) d)
 here-commits staged fails old new k d fail was e l t mid now m n commits answer =
     let is : fails_at (set fails k fail) d ≡ fail = ap (fails_at (set fails k fail)) e ∙ fails-set-same fails k fail l in
     let fail_is : fail ≡ new.failed = not-not fail now.failed answer ∙ ap (λ (y : StoreState). y.failed) (sym n) in
     record {
-      commits = λ q. subst (λ (y : StoreState). Commits old y) (sym n) (subst (λ (y : StoreState). Commits y now) m commits);
+      commits = λ q. subst (λ (y : StoreState). CommitsStore old y) (sym n) (subst (λ (y : StoreState). CommitsStore y now) m commits);
       stays = λ q. absurd (let wrong : true ≡ false = sym t ∙ q in cc);
       failed = is ∙ fail_is ∙ sym (ap (λ (b : Bool). b && new.failed) t);
     }
@@ -127,8 +127,8 @@ committing-some olds mids news buffers staged fails k fail x c l f apart at h =
           elim (touched-or mids news x.store s h.old h.new gm.0 new h.was h.others gm.1 gn) [
             | inl q ↦ (
                 let t : IsTouched h.old h.new gm.0 new = q.1 in
-                goes_trans old gm.0 new first (subst (λ (y : StoreState). Goes gm.0 y) t.after (subst (λ (y : StoreState). Goes y h.new) t.before (h.commits).goes)))
-            | inr q ↦ subst (λ (y : StoreState). Goes old y) q.1 first
+                goes_trans old gm.0 new first (subst (λ (y : StoreState). StoreGoesOn gm.0 y) t.after (subst (λ (y : StoreState). StoreGoesOn y h.new) t.before (h.commits).goes)))
+            | inr q ↦ subst (λ (y : StoreState). StoreGoesOn old y) q.1 first
           ];
       below = λ d buffer old new b go gn m.
           elim (cases_eq d k) [
@@ -240,7 +240,7 @@ staged-blocks buffers d x (p ∷ ps) apart at h =
     let same = for-dest buffers d x p apart at in
     some-if (is_for buffers x.store p) (is_staged d ps) p.block (blocks_for buffers x.store ps) (ap (λ (b : Bool). b || is_staged d ps) same ∙ h) (λ g. staged-blocks buffers d x ps apart at g)
 
-appended-by : (old mid new : StoreState) (blocks : List (Option (List ℕ))) (marked fails b : Bool) → marked ≡ b → (b ≡ true → blocks ≢ []) → (b ≡ false → blocks ≡ []) → Staged old mid blocks → Committed mid new marked fails → Appended old new blocks fails
+appended-by : (old mid new : StoreState) (blocks : List (Option (List ℕ))) (marked fails b : Bool) → marked ≡ b → (b ≡ true → blocks ≢ []) → (b ≡ false → blocks ≡ []) → Staged old mid blocks → Committed mid new marked fails → AppendedBlocks old new blocks fails
 appended-by old mid new blocks marked fails true m some none s c =
     let commits = c.commits m in
     record {
@@ -254,7 +254,7 @@ appended-by old mid new blocks marked fails true m some none s c =
 appended-by old mid new blocks marked fails false m some none s c =
     let same = c.stays m ∙ s.none (none refl) in
     record {
-      goes = subst (λ (y : StoreState). Goes old y) (sym (c.stays m)) s.goes;
+      goes = subst (λ (y : StoreState). StoreGoesOn old y) (sym (c.stays m)) s.goes;
       none = λ h. same;
       before = λ f. same;
       some = λ h. absurd (h (none refl));

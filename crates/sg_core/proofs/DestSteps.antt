@@ -3,26 +3,25 @@ use Rattle.std.proofs.Common.{◌≡◌, ◌≢◌, ℕ, ◌+◌, List, [], ◌�
 use Rattle.std.specs.Option.{option_map_or}
 use Rattle.std.proofs.lemmas.List.{append-nil}
 use Rattle.sg_list.specs.Lists.{change}
-use Rattle.sg_list.proofs.ListLemmas.{some-same, get-change-same, get-change-other}
+use Rattle.sg_list.proofs.ListLemmas.{some-same, get-change-same, get-change-other, get-change}
 use Rattle.sg_machine.specs.declared.setup.BufferSetup.{BufferSetup}
 use Rattle.sg_machine.specs.declared.setup.DestSetup.{DestSetup}
 use Rattle.sg_machine.specs.declared.state.Dest.{Dest}
 use Rattle.sg_machine.specs.declared.state.State.{State}
 use Rattle.sg_machine.specs.Legal.{store_of}
-use Rattle.sg_machine.specs.Running.{IsSound as IsReplayed}
+use Rattle.sg_machine.specs.Running.{IsSoundReplay as IsReplayed}
 use Rattle.sg_machine.specs.Verdicts.{is_listed}
 use Rattle.sg_sinks.specs.Laws.{is_listed_in}
 use Rattle.sg_sinks.specs.Standing.{IsSplit, sink_of}
 use Rattle.sg_sinks.specs.States.{SinkState}
 use Rattle.sg_stores.specs.Stores.{StoreState}
 use Rattle.sg_standing.specs.States.{CoreState}
-use Rattle.sg_standing.specs.Standing.{IsAt, AreApart, AreSpellable, IsBacked, IsBuffer, IsStored, HoldsPosition, buffer_in, is_broken, sources_from}
+use Rattle.sg_standing.specs.Standing.{IsAt, AreApart, AreSpellable, IsBacked, IsBufferOf, IsStoredPosition, HoldsPosition, buffer_in, is_broken, sources_from}
 use Rattle.sg_standing.proofs.Calls.{apart-both, apart-dests}
-use Rattle.sg_standing.proofs.ListSteps.{get-change}
 use Rattle.sg_core.proofs.SettleSteps.{with_dests}
 
 -- the store of the destination's disk-buffer is so, and all others are as they were
-pub record Leaves (olds news : List StoreState) (failed more : List ℕ) (dest : Dest) : Type 0 where
+pub record LeavesDest (olds news : List StoreState) (failed more : List ℕ) (dest : Dest) : Type 0 where
   pub backed : (b : BufferSetup) → dest.setup.buffer ≡ Some b → IsBacked news (failed ++ more) b dest
   pub others : (v : ℕ) → ((b : BufferSetup) → dest.setup.buffer ≡ Some b → v ≢ b.store) → slice_get news v ≡ slice_get olds v
   pub unlisted : (v : ℕ) → ((b : BufferSetup) → dest.setup.buffer ≡ Some b → v ≢ b.store) → is_listed v (failed ++ more) ≡ is_listed v failed
@@ -75,30 +74,30 @@ kept-at s d f dest P there here all e x h =
     ]
 
 -- the stores of a state that other stores are like
-kept-stored : (olds news : List StoreState) (failed more : List ℕ) (dest : Dest) (o : Option ℕ) (p : ℕ) → Leaves olds news failed more dest → ((v : ℕ) → o ≡ Some v → (b : BufferSetup) → dest.setup.buffer ≡ Some b → v ≢ b.store)
-    → IsStored olds failed o p → IsStored news (failed ++ more) o p
+kept-stored : (olds news : List StoreState) (failed more : List ℕ) (dest : Dest) (o : Option ℕ) (p : ℕ) → LeavesDest olds news failed more dest → ((v : ℕ) → o ≡ Some v → (b : BufferSetup) → dest.setup.buffer ≡ Some b → v ≢ b.store)
+    → IsStoredPosition olds failed o p → IsStoredPosition news (failed ++ more) o p
 kept-stored olds news failed more dest None p l ne h = h
 kept-stored olds news failed more dest (Some v) p l ne h =
     let P : Option StoreState → Type 0 = λ r. HoldsPosition r p (is_listed v (failed ++ more)) in
     let Q : Bool → Type 0 = λ b. HoldsPosition (slice_get olds v) p b in
     subst P (sym (l.others v (ne v refl))) (subst Q (sym (l.unlisted v (ne v refl))) h)
 
-kept-backed : (olds news : List StoreState) (failed more : List ℕ) (dest : Dest) (c : BufferSetup) (x : Dest) → Leaves olds news failed more dest → ((b : BufferSetup) → dest.setup.buffer ≡ Some b → c.store ≢ b.store)
+kept-backed : (olds news : List StoreState) (failed more : List ℕ) (dest : Dest) (c : BufferSetup) (x : Dest) → LeavesDest olds news failed more dest → ((b : BufferSetup) → dest.setup.buffer ≡ Some b → c.store ≢ b.store)
     → IsBacked olds failed c x → IsBacked news (failed ++ more) c x
 kept-backed olds news failed more dest c x l ne h = record {
   store = h.store;
   there = l.others c.store ne ∙ h.there;
-  is = subst (λ (b : Bool). IsBuffer h.store c x b) (sym (l.unlisted c.store ne)) h.is;
+  is = subst (λ (b : Bool). IsBufferOf h.store c x b) (sym (l.unlisted c.store ne)) h.is;
 }
 
-broken-kept : (failed more : List ℕ) (dest : Dest) (olds news : List StoreState) (o : Option BufferSetup) → Leaves olds news failed more dest → ((c : BufferSetup) → o ≡ Some c → (b : BufferSetup) → dest.setup.buffer ≡ Some b → c.store ≢ b.store)
+broken-kept : (failed more : List ℕ) (dest : Dest) (olds news : List StoreState) (o : Option BufferSetup) → LeavesDest olds news failed more dest → ((c : BufferSetup) → o ≡ Some c → (b : BufferSetup) → dest.setup.buffer ≡ Some b → c.store ≢ b.store)
     → is_listed_in o (failed ++ more) ≡ is_listed_in o failed
 broken-kept failed more dest olds news None l ne = refl
 broken-kept failed more dest olds news (Some c) l ne = l.unlisted c.store (ne c refl)
 
 pub at-dest : (core new : CoreState) (s : State) (d : ℕ) (f : Dest → Dest) (dest : Dest) (g : SinkState → SinkState) (more : List ℕ) → IsAt core s → slice_get s.dests d ≡ Some dest → ((x : Dest) → (f x).setup ≡ x.setup) → IsSplit (f dest) → AreSpellable (f dest).setup.buffer (f dest).left
     → IsReplayed (with_dests (change s.dests d f) s) → new.sources ≡ sources_from (change s.dests d f) 0 s.inlets → new.sinks ≡ change core.sinks d g
-    → sink_of (is_broken (s.failed ++ more) (f dest)) (f dest) ≡ g (sink_of (is_broken s.failed dest) dest) → Leaves core.stores new.stores s.failed more (f dest)
+    → sink_of (is_broken (s.failed ++ more) (f dest)) (f dest) ≡ g (sink_of (is_broken s.failed dest) dest) → LeavesDest core.stores new.stores s.failed more (f dest)
     → IsAt new (record s { dests = change s.dests d f; failed = s.failed ++ more })
 at-dest core new s d f dest g more at there keeps split spells replayed sources sinks shown l =
     let setup : (f dest).setup ≡ dest.setup = keeps dest in
@@ -139,7 +138,7 @@ same-buffer : (stores : List StoreState) (failed : List ℕ) (b c : BufferSetup)
 same-buffer stores failed b c x e h = subst (λ (z : BufferSetup). IsBacked stores failed z x) e h
 
 -- all stay
-pub leaves-same : (olds news : List StoreState) (failed : List ℕ) (dest : Dest) → news ≡ olds → ((b : BufferSetup) → dest.setup.buffer ≡ Some b → IsBacked olds failed b dest) → Leaves olds news failed [] dest
+pub leaves-same : (olds news : List StoreState) (failed : List ℕ) (dest : Dest) → news ≡ olds → ((b : BufferSetup) → dest.setup.buffer ≡ Some b → IsBacked olds failed b dest) → LeavesDest olds news failed [] dest
 leaves-same olds news failed dest same backed = record {
   backed = λ b h. subst (λ (xs : List StoreState). IsBacked xs (failed ++ []) b dest) (sym same) (subst (λ (fs : List ℕ). IsBacked olds fs b dest) (sym (append-nil failed)) (backed b h));
   others = λ v ne. ap (λ xs. slice_get xs v) same;
@@ -148,7 +147,7 @@ leaves-same olds news failed dest same backed = record {
 
 -- that of the disk-buffer has changed, and it has failed where it is listed as such
 pub leaves-one : (olds news : List StoreState) (failed more : List ℕ) (dest : Dest) (b : BufferSetup) (was now : StoreState) → dest.setup.buffer ≡ Some b → slice_get olds b.store ≡ Some was → news ≡ change olds b.store (λ _. now)
-    → IsBuffer now b dest (is_listed b.store (failed ++ more)) → ((v : ℕ) → v ≢ b.store → is_listed v (failed ++ more) ≡ is_listed v failed) → Leaves olds news failed more dest
+    → IsBufferOf now b dest (is_listed b.store (failed ++ more)) → ((v : ℕ) → v ≢ b.store → is_listed v (failed ++ more) ≡ is_listed v failed) → LeavesDest olds news failed more dest
 leaves-one olds news failed more dest b was now has get others is unlisted = record {
   backed = λ c h. same-buffer news (failed ++ more) b c dest (some-same b c (sym has ∙ h)) (record { store = now; there = ap (λ xs. slice_get xs b.store) others ∙ get-change-same olds b.store (λ _. now) was get; is = is });
   others = λ v ne. ap (λ xs. slice_get xs v) others ∙ get-change-other olds b.store v (λ _. now) (ne b has);
@@ -157,7 +156,7 @@ leaves-one olds news failed more dest b was now has get others is unlisted = rec
 
 -- The destination behind what is kept of it.
 
-pub record IsShown (core : CoreState) (s : State) (d : ℕ) (sink : SinkState) : Type 0 where
+pub record IsDestShown (core : CoreState) (s : State) (d : ℕ) (sink : SinkState) : Type 0 where
   pub dest : Dest
   pub there : slice_get s.dests d ≡ Some dest
   pub shown : sink ≡ sink_of (is_broken s.failed dest) dest
@@ -167,7 +166,7 @@ get-map F [] k y h = let wrong : None ≡ Some y = h in cc
 get-map F (x ∷ xs) zero y h = (x, refl, sym (some-same (F x) y h))
 get-map F (x ∷ xs) (suc k) y h = get-map F xs k y h
 
-pub dest-of : (core : CoreState) (s : State) (d : ℕ) (sink : SinkState) → IsAt core s → slice_get core.sinks d ≡ Some sink → IsShown core s d sink
+pub dest-of : (core : CoreState) (s : State) (d : ℕ) (sink : SinkState) → IsAt core s → slice_get core.sinks d ≡ Some sink → IsDestShown core s d sink
 dest-of core s d sink at h =
     let r = get-map (λ (x : Dest). sink_of (is_broken s.failed x) x) s.dests d sink (ap (λ ks. slice_get ks d) (sym at.sinks) ∙ h) in
     record { dest = r.0; there = r.1; shown = r.2 }

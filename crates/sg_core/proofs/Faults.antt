@@ -31,7 +31,7 @@ use Rattle.sg_stores.proofs.GetLemmas.{get-map}
 use Rattle.sg_stores.proofs.OpenLemmas.{all-by-faults}
 use Rattle.sg_stores.proofs.StoreLemmas.{all_go_trans}
 use Rattle.sg_standing.specs.Sources.{store_at}
-use Rattle.sg_standing.specs.Standing.{IsAt, Does, is_broken}
+use Rattle.sg_standing.specs.Standing.{IsAt, DoesAct, is_broken}
 use Rattle.sg_standing.specs.States.{CoreState, setup_of}
 use Rattle.sg_standing.specs.declared.source.Source.{Source}
 use Rattle.sg_standing.proofs.Calls.{all-go-same}
@@ -142,23 +142,23 @@ refill-told buffer old new NoRoom h = ap (λ (k : SinkState). k.broken) h.3 ∙ 
 refill-told buffer old new RefillBroken h = h
 
 -- it has a disk-buffer
-abbrev HasBuffer : Option SinkState → Type 0
-HasBuffer None = ⊥
-HasBuffer (Some sink) = (b : BufferSetup) × (sink.setup.buffer ≡ Some b)
+abbrev HasBufferFault : Option SinkState → Type 0
+HasBufferFault None = ⊥
+HasBufferFault (Some sink) = (b : BufferSetup) × (sink.setup.buffer ≡ Some b)
 
-refill-at : (o p : Option SinkState) (answer : Refill) → HasBuffer o → RefillsAt o p answer → BrokenIn p (is_refill_broken answer)
+refill-at : (o p : Option SinkState) (answer : Refill) → HasBufferFault o → RefillsAt o p answer → BrokenIn p (is_refill_broken answer)
 refill-at (Some old) (Some new) answer has h = refill-told has.0 old new answer (subst (λ (b : Option BufferSetup). RefillsBy b old new answer) has.1 h)
 refill-at (Some old) None answer has h = absurd h
 refill-at None p answer has h = absurd has
 
-has-buffer : (core : CoreState) (d u : ℕ) → buffer_store_in (setup_of core).dests d ≡ Some u → HasBuffer (slice_get core.sinks d)
+has-buffer : (core : CoreState) (d u : ℕ) → buffer_store_in (setup_of core).dests d ≡ Some u → HasBufferFault (slice_get core.sinks d)
 has-buffer core d u has =
     let x = buffer-with (setup_of core).dests d u has in
     let k = get-map (λ (sink : SinkState). sink.setup) core.sinks d x.0 x.1.0 in
-    subst HasBuffer (sym k.1) (x.1.1.0, ap (λ (s : DestSetup). s.buffer) (sym k.2) ∙ x.1.1.1.0)
+    subst HasBufferFault (sym k.1) (x.1.1.0, ap (λ (s : DestSetup). s.buffer) (sym k.2) ∙ x.1.1.1.0)
 
 -- the store of the disk-buffer, where the call says of its destination whether it is broken
-told-buffer : (old new : CoreState) (act : Act) (t : State) (d u : ℕ) (store : StoreState) (broken failed : Bool) → Does old new act → IsAt old t → buffer_store_in (setup_of old).dests d ≡ Some u
+told-buffer : (old new : CoreState) (act : Act) (t : State) (d u : ℕ) (store : StoreState) (broken failed : Bool) → DoesAct old new act → IsAt old t → buffer_store_in (setup_of old).dests d ≡ Some u
     → broken_at new.sinks d ≡ broken → Some broken ≡ Some failed → slice_get new.stores u ≡ Some store → store.failed ≡ failed
 told-buffer old new act t d u store broken failed does at asked is told get =
     let has : buffer_store_in (setup_of new).dests d ≡ Some u = ap (λ (x : Setup). buffer_store_in x.dests d) does.setup ∙ asked in

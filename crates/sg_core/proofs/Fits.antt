@@ -4,9 +4,9 @@ use Rattle.std.specs.Prelude.{◌==◌}
 use Rattle.std.specs.Option.{option_map}
 use Rattle.sg_list.proofs.ListLemmas.{some-same, slice_get-below}
 use Rattle.sg_window.specs.Window.{outstanding as waiting_of}
-use Rattle.sg_window.specs.declared.tracker.Record.{Record}
-use Rattle.sg_machine.specs.declared.state.Entry.{Entry}
-use Rattle.sg_machine.specs.declared.state.Inlet.{Inlet}
+use Rattle.sg_window.specs.declared.tracker.BegunRecord.{BegunRecord}
+use Rattle.sg_machine.specs.declared.state.DestEntry.{DestEntry}
+use Rattle.sg_machine.specs.declared.state.InletRecords.{InletRecords}
 use Rattle.sg_machine.specs.declared.state.Dest.{Dest}
 use Rattle.sg_machine.specs.declared.state.State.{State}
 use Rattle.sg_machine.specs.declared.tally.SourceTally.{SourceTally}
@@ -19,10 +19,10 @@ use Rattle.sg_machine.proofs.OwedLemmas.{records-length}
 use Rattle.sg_machine.proofs.StepLemmas.{acked-owes}
 use Rattle.sg_sinks.specs.Standing.{sink_of, lengths_of, waiting_from}
 use Rattle.sg_stores.specs.Stores.{StoreState}
-use Rattle.sg_stores.specs.Positions.{WritesAt, IsThere, IsPositionStore, position_of, stored_in}
+use Rattle.sg_stores.specs.Positions.{WritesAt, IsStoreThere, IsPositionStore, position_of, stored_in}
 use Rattle.sg_standing.specs.States.{CoreState}
 use Rattle.sg_standing.specs.Sources.{credit_of, mark_at, mark_in, begun_in, store_at}
-use Rattle.sg_standing.specs.Standing.{HoldsPosition, IsStored, AreStored, is_broken, source_of, sources_from, IsAt}
+use Rattle.sg_standing.specs.Standing.{HoldsPosition, IsStoredPosition, ArePositionsStored, is_broken, source_of, sources_from, IsAt}
 use Rattle.sg_standing.specs.declared.source.Source.{Source}
 use Rattle.sg_counter.specs.declared.answers.Stored.{Stored}
 use Rattle.sg_core.specs.Tallying.{IsFit, AreFit, source_tally_of, sink_tally_of}
@@ -36,11 +36,11 @@ held-below : (stores : List StoreState) (s p : ℕ) (f : Bool) (o : Option Store
 held-below stores s p f None e h = absurd h
 held-below stores s p f (Some store) e h = slice_get-below stores s store e
 
-there-of : (stores : List StoreState) (failed : List ℕ) (o : Option ℕ) (p : ℕ) → IsStored stores failed o p → IsThere stores o
+there-of : (stores : List StoreState) (failed : List ℕ) (o : Option ℕ) (p : ℕ) → IsStoredPosition stores failed o p → IsStoreThere stores o
 there-of stores failed None p h = tt
 there-of stores failed (Some s) p h = held-below stores s p (is_listed s failed) (slice_get stores s) refl h
 
-fits-from : (stores : List StoreState) (failed : List ℕ) (ds : List Dest) (i : ℕ) (inlets : List Inlet) → AreStored stores failed inlets → AreFit stores (sources_from ds i inlets)
+fits-from : (stores : List StoreState) (failed : List ℕ) (ds : List Dest) (i : ℕ) (inlets : List InletRecords) → ArePositionsStored stores failed inlets → AreFit stores (sources_from ds i inlets)
 fits-from stores failed ds i [] h = tt
 fits-from stores failed ds i (x ∷ inlets) h =
     (record { limit = refl; store = there-of stores failed x.setup.store x.stored (h 0 x refl) }, fits-from stores failed ds (i + 1) inlets (λ k y e. h (suc k) y e))
@@ -70,7 +70,7 @@ pub is-position : (core : CoreState) (s : State) (i u : ℕ) (source : Source) �
 is-position core s i u source at there has =
     let b = behind core s i source at there in
     let store : (b.inlet).setup.store ≡ Some u = ap (λ (x : Source). x.setup.store) (sym b.shown) ∙ has in
-    let P : Option ℕ → Type 0 = λ o. IsStored core.stores s.failed o (b.inlet).stored in
+    let P : Option ℕ → Type 0 = λ o. IsStoredPosition core.stores s.failed o (b.inlet).stored in
     position-store (slice_get core.stores u) (b.inlet).stored (is_listed u s.failed) (subst P store (at.stores i b.inlet b.there))
 
 -- What a tally shows.
@@ -79,26 +79,26 @@ position-held : (o : Option StoreState) (p : ℕ) (f : Bool) → HoldsPosition o
 position-held None p f h = absurd h
 position-held (Some store) p f h = h.position_is
 
-stored-tally : (stores : List StoreState) (failed : List ℕ) (o : Option ℕ) (p : ℕ) → IsStored stores failed o p → option_map (λ (_ : ℕ). stored_in stores o) o ≡ option_map (λ (_ : ℕ). p) o
+stored-tally : (stores : List StoreState) (failed : List ℕ) (o : Option ℕ) (p : ℕ) → IsStoredPosition stores failed o p → option_map (λ (_ : ℕ). stored_in stores o) o ≡ option_map (λ (_ : ℕ). p) o
 stored-tally stores failed None p h = refl
 stored-tally stores failed (Some s) p h = ap Some (position-held (slice_get stores s) p (is_listed s failed) h)
 
-tally-source : (stores : List StoreState) (failed : List ℕ) (ds : List Dest) (i : ℕ) (x : Inlet) → IsStored stores failed x.setup.store x.stored → source_tally_of stores (source_of ds i x) ≡ source_tally ds i x
+tally-source : (stores : List StoreState) (failed : List ℕ) (ds : List Dest) (i : ℕ) (x : InletRecords) → IsStoredPosition stores failed x.setup.store x.stored → source_tally_of stores (source_of ds i x) ≡ source_tally ds i x
 tally-source stores failed ds i x h = rw (mark-at ds i x, stored-tally stores failed x.setup.store x.stored h) refl
 
-tally-sources : (stores : List StoreState) (failed : List ℕ) (ds : List Dest) (i : ℕ) (inlets : List Inlet) → AreStored stores failed inlets → map (source_tally_of stores) (sources_from ds i inlets) ≡ source_tallies ds i inlets
+tally-sources : (stores : List StoreState) (failed : List ℕ) (ds : List Dest) (i : ℕ) (inlets : List InletRecords) → ArePositionsStored stores failed inlets → map (source_tally_of stores) (sources_from ds i inlets) ≡ source_tallies ds i inlets
 tally-sources stores failed ds i [] h = refl
 tally-sources stores failed ds i (x ∷ inlets) h =
     let here = tally-source stores failed ds i x (h 0 x refl) in
     let rest = tally-sources stores failed ds (i + 1) inlets (λ k y e. h (suc k) y e) in
     ap (λ t. t ∷ map (source_tally_of stores) (sources_from ds (i + 1) inlets)) here ∙ ap (λ ts. source_tally ds i x ∷ ts) rest
 
-left-cons : (n : ℕ) (e : Entry) (es : List Entry) (b : Bool) → e.spooled ≡ b → length (lengths_of es) + length (waiting_from n es) ≡ length es → length (lengths_of es) + length (waiting_from (n + 1) es) ≡ length es
+left-cons : (n : ℕ) (e : DestEntry) (es : List DestEntry) (b : Bool) → e.spooled ≡ b → length (lengths_of es) + length (waiting_from n es) ≡ length es → length (lengths_of es) + length (waiting_from (n + 1) es) ≡ length es
     → length (lengths_of (e ∷ es)) + length (waiting_from n (e ∷ es)) ≡ suc (length es)
 left-cons n e es true h same more = rw h (omega (arith, same))
 left-cons n e es false h same more = rw h (omega (arith, more))
 
-pub left-length : (n : ℕ) (es : List Entry) → length (lengths_of es) + length (waiting_from n es) ≡ length es
+pub left-length : (n : ℕ) (es : List DestEntry) → length (lengths_of es) + length (waiting_from n es) ≡ length es
 left-length n [] = refl
 left-length n (e ∷ es) = left-cons n e es e.spooled refl (left-length n es) (left-length (n + 1) es)
 
@@ -115,7 +115,7 @@ tallies core s sources dests at hs hd =
 
 -- The credit and the stored position of an inlet.
 
-outstanding-if : (b : Bool) (r : Record) (rs : List Record) (m : ℕ) → (r.left == 0) ≡ b → length (waiting_of rs) ≡ m → length (waiting_of (r ∷ rs)) ≡ (if b then m else suc (length rs))
+outstanding-if : (b : Bool) (r : BegunRecord) (rs : List BegunRecord) (m : ℕ) → (r.left == 0) ≡ b → length (waiting_of rs) ≡ m → length (waiting_of (r ∷ rs)) ≡ (if b then m else suc (length rs))
 outstanding-if true r rs m e h = rw e h
 outstanding-if false r rs m e h = rw e refl
 
@@ -132,7 +132,7 @@ credit-of core s i source at h =
     let b = behind core s i source at h in
     rw b.there (ap credit_of b.shown ∙ ap (λ n. (b.inlet).setup.window - n) (outstanding-same s.dests i 0 (b.inlet).ends))
 
-stored-is : (stores : List StoreState) (failed : List ℕ) (o : Option ℕ) (p : ℕ) → IsStored stores failed o p → stored_in stores o ≡ p
+stored-is : (stores : List StoreState) (failed : List ℕ) (o : Option ℕ) (p : ℕ) → IsStoredPosition stores failed o p → stored_in stores o ≡ p
 stored-is stores failed None p h = sym h
 stored-is stores failed (Some s) p h = position-held (slice_get stores s) p (is_listed s failed) h
 

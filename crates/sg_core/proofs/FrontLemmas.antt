@@ -10,9 +10,9 @@ use Rattle.sg_device.specs.Disk.{content, WhereTold}
 use Rattle.sg_queue.specs.declared.entry.Entry.{Entry as Waiting}
 use Rattle.sg_machine.specs.declared.setup.BufferSetup.{BufferSetup}
 use Rattle.sg_machine.specs.declared.state.Dest.{Dest}
-use Rattle.sg_machine.specs.declared.state.Entry.{Entry}
+use Rattle.sg_machine.specs.declared.state.DestEntry.{DestEntry}
 use Rattle.sg_machine.specs.declared.state.State.{State}
-use Rattle.sg_machine.specs.Runs.{Kept}
+use Rattle.sg_machine.specs.Runs.{BufferedEntry}
 use Rattle.sg_machine.specs.Safe.{spooled_of}
 use Rattle.sg_sinks.specs.Runs.{run_of}
 use Rattle.sg_sinks.specs.Standing.{are_split, are_waiting, lengths_of, waiting_from, sink_of}
@@ -23,7 +23,7 @@ use Rattle.sg_standing.specs.States.{CoreState}
 use Rattle.sg_standing.specs.Standing.{IsAt, is_broken}
 use Rattle.sg_counter.specs.declared.answers.CoreFront.{CoreFront}
 use Rattle.sg_counter.specs.declared.answers.CoreFront.TheVariants.{Entries, Empty, Broken}
-use Rattle.sg_core.specs.Answers.{AnswersFront, AnswersFrontAt, ShowsLeft, IsTold, shown_of, buffer_at}
+use Rattle.sg_core.specs.Answers.{AnswersFront, AnswersFrontAt, ShowsLeft, IsBufferTold, shown_of, buffer_at}
 use Rattle.sg_core.proofs.FrontCalls.{no-lengths}
 use Rattle.sg_core.proofs.SettleParts.{none-broken}
 use Rattle.sg_core.proofs.DestSteps.{dest-of}
@@ -40,7 +40,7 @@ take-message (suc k) (x ∷ es) m h = let b : suc k + 1 ≡ suc (k + 1) = omega 
 
 -- Those that wait.
 
-wait-messages : (p n : ℕ) (es : List Entry) → are_waiting es ≡ true → map (λ (e : Waiting). e.message) (take n (waiting_from p es)) ≡ map (λ (e : Entry). e.message) (take n es)
+wait-messages : (p n : ℕ) (es : List DestEntry) → are_waiting es ≡ true → map (λ (e : Waiting). e.message) (take n (waiting_from p es)) ≡ map (λ (e : DestEntry). e.message) (take n es)
 wait-messages p zero es w = refl
 wait-messages p (suc n) [] w = refl
 wait-messages p (suc n) (e ∷ es) w =
@@ -48,14 +48,14 @@ wait-messages p (suc n) (e ∷ es) w =
     let rest = wait-messages (p + 1) n es (rest-waits e es w) in
     rw no (ap (λ ms. e.message ∷ ms) rest)
 
-cons-none : (e : Entry) (es : List Entry) → e.spooled ≡ true → lengths_of (e ∷ es) ≡ [] → ⊥
+cons-none : (e : DestEntry) (es : List DestEntry) → e.spooled ≡ true → lengths_of (e ∷ es) ≡ [] → ⊥
 cons-none e es h none = let wrong : encoded_len e.message ∷ lengths_of es ≡ [] = rw h at none in cc
 
-none-waits : (b : Bool) (e : Entry) (es : List Entry) → e.spooled ≡ b → are_split (e ∷ es) ≡ true → lengths_of (e ∷ es) ≡ [] → are_waiting (e ∷ es) ≡ true
+none-waits : (b : Bool) (e : DestEntry) (es : List DestEntry) → e.spooled ≡ b → are_split (e ∷ es) ≡ true → lengths_of (e ∷ es) ≡ [] → are_waiting (e ∷ es) ≡ true
 none-waits true e es h split none = absurd (cons-none e es h none)
 none-waits false e es h split none = split-by false e es h split
 
-pub all-wait : (es : List Entry) → are_split es ≡ true → lengths_of es ≡ [] → are_waiting es ≡ true
+pub all-wait : (es : List DestEntry) → are_split es ≡ true → lengths_of es ≡ [] → are_waiting es ≡ true
 all-wait [] split none = refl
 all-wait (e ∷ es) split none = none-waits e.spooled e es refl split none
 
@@ -64,7 +64,7 @@ take-length zero xs = refl
 take-length (suc n) [] = refl
 take-length (suc n) (x ∷ xs) = ap (λ ys. x ∷ ys) (take-length n xs)
 
-nil-of : (es : List Entry) → length es ≡ 0 → es ≡ []
+nil-of : (es : List DestEntry) → length es ≡ 0 → es ≡ []
 nil-of [] h = refl
 nil-of (e ∷ es) h = absurd (omega (arith, h))
 
@@ -78,9 +78,9 @@ shows-waiting core s d most sink dest (Entries place messages) at there get none
     let es : sink.entries ≡ waiting_from p dest.left = ap (λ (z : SinkState). z.entries) shown in
     let ls : lengths_of dest.left ≡ [] = ap (λ (z : SinkState). z.lengths) (sym shown) ∙ none in
     let w = all-wait dest.left (any-split dest.setup.buffer dest.left (at.sound.split d dest get)) ls in
-    let is : messages ≡ map (λ (e : Entry). e.message) (take most dest.left) = a.5 none ∙ ap (λ xs. map (λ (e : Waiting). e.message) (take most xs)) es ∙ wait-messages p most dest.left w in
-    let len : length messages ≡ length (take most dest.left) = ap length is ∙ length-map (take most dest.left) (λ (e : Entry). e.message) in
-    is ∙ ap (map (λ (e : Entry). e.message)) (sym (take-length most dest.left) ∙ ap (λ n. take n dest.left) (sym len))
+    let is : messages ≡ map (λ (e : DestEntry). e.message) (take most dest.left) = a.5 none ∙ ap (λ xs. map (λ (e : Waiting). e.message) (take most xs)) es ∙ wait-messages p most dest.left w in
+    let len : length messages ≡ length (take most dest.left) = ap length is ∙ length-map (take most dest.left) (λ (e : DestEntry). e.message) in
+    is ∙ ap (map (λ (e : DestEntry). e.message)) (sym (take-length most dest.left) ∙ ap (λ n. take n dest.left) (sym len))
 shows-waiting core s d most sink dest Empty at there get none a =
     let v = dest-of core s d sink at there in
     let same : v.dest ≡ dest = some-same v.dest dest (sym v.there ∙ get) in
@@ -94,17 +94,17 @@ shows-waiting core s d most sink dest Broken at there get none a = tt
 
 -- Those on a disk.
 
-spool-by : (b : Bool) (n : ℕ) (e : Entry) (es : List Entry) → e.spooled ≡ b → are_split (e ∷ es) ≡ true → suc n ≤ length (lengths_of (e ∷ es)) → (n ≤ length (lengths_of es) → map (λ (k : Kept). k.message) (take n (spooled_of es)) ≡ map (λ (x : Entry). x.message) (take n es))
-    → map (λ (k : Kept). k.message) (take (suc n) (spooled_of (e ∷ es))) ≡ e.message ∷ map (λ (x : Entry). x.message) (take n es)
+spool-by : (b : Bool) (n : ℕ) (e : DestEntry) (es : List DestEntry) → e.spooled ≡ b → are_split (e ∷ es) ≡ true → suc n ≤ length (lengths_of (e ∷ es)) → (n ≤ length (lengths_of es) → map (λ (k : BufferedEntry). k.message) (take n (spooled_of es)) ≡ map (λ (x : DestEntry). x.message) (take n es))
+    → map (λ (k : BufferedEntry). k.message) (take (suc n) (spooled_of (e ∷ es))) ≡ e.message ∷ map (λ (x : DestEntry). x.message) (take n es)
 spool-by true n e es h split l rest =
     let few : suc n ≤ suc (length (lengths_of es)) = rw h at l in
-    ap (λ ks. map (λ (k : Kept). k.message) (take (suc n) ks)) (spooled-cons true e es h) ∙ ap (λ ms. e.message ∷ ms) (rest (omega (arith, few)))
+    ap (λ ks. map (λ (k : BufferedEntry). k.message) (take (suc n) ks)) (spooled-cons true e es h) ∙ ap (λ ms. e.message ∷ ms) (rest (omega (arith, few)))
 spool-by false n e es h split l rest =
     let none = waiting-lengths (e ∷ es) (split-by false e es h split) in
     let len : length (lengths_of (e ∷ es)) ≡ 0 = ap length none in
     absurd (omega (arith, l, len))
 
-spool-messages : (n : ℕ) (es : List Entry) → are_split es ≡ true → n ≤ length (lengths_of es) → map (λ (k : Kept). k.message) (take n (spooled_of es)) ≡ map (λ (e : Entry). e.message) (take n es)
+spool-messages : (n : ℕ) (es : List DestEntry) → are_split es ≡ true → n ≤ length (lengths_of es) → map (λ (k : BufferedEntry). k.message) (take n (spooled_of es)) ≡ map (λ (e : DestEntry). e.message) (take n es)
 spool-messages zero es split l = refl
 spool-messages (suc n) [] split l = refl
 spool-messages (suc n) (e ∷ es) split l = spool-by e.spooled n e es refl split l (spool-messages n es (spooled-rest e.spooled e es refl split))
@@ -113,7 +113,7 @@ told-bytes : (o : Option (List ℕ)) → is_some o ≡ true → (bytes : List �
 told-bytes None h = let wrong : false ≡ true = h in cc
 told-bytes (Some bytes) h = (bytes, refl)
 
-told-of : (stores : List StoreState) (o : Option BufferSetup) (b : BufferSetup) (was : StoreState) → o ≡ Some b → slice_get stores b.store ≡ Some was → IsTold stores o → is_some (content was.disk) ≡ true
+told-of : (stores : List StoreState) (o : Option BufferSetup) (b : BufferSetup) (was : StoreState) → o ≡ Some b → slice_get stores b.store ≡ Some was → IsBufferTold stores o → is_some (content was.disk) ≡ true
 told-of stores None b was e g t = let wrong : None ≡ Some b = e in cc
 told-of stores (Some c) b was e g t =
     let same = some-same c b e in
@@ -122,7 +122,7 @@ told-of stores (Some c) b was e g t =
 
 pub shows-spooled : (core : CoreState) (s : State) (d n place : ℕ) (sink : SinkState) (dest : Dest) (b : BufferSetup) (was : StoreState) (messages : List Content) → IsAt core s → slice_get core.sinks d ≡ Some sink → slice_get s.dests d ≡ Some dest → sink.setup.buffer ≡ Some b → sink.broken ≡ false
     → slice_get core.stores b.store ≡ Some was → n ≤ length sink.lengths → length messages ≡ n
-    → WhereTold (content was.disk) (λ bytes. (list : List Kept) → HoldsEntries was list [] → messages ≡ map (λ (k : Kept). k.message) (take n list)) → ShowsLeft core.stores dest (Entries place messages)
+    → WhereTold (content was.disk) (λ bytes. (list : List BufferedEntry) → HoldsEntries was list [] → messages ≡ map (λ (k : BufferedEntry). k.message) (take n list)) → ShowsLeft core.stores dest (Entries place messages)
 shows-spooled core s d n place sink dest b was messages at there get has works store few len reads = λ told.
     let v = dest-of core s d sink at there in
     let same : v.dest ≡ dest = some-same v.dest dest (sym v.there ∙ get) in
@@ -133,7 +133,7 @@ shows-spooled core s d n place sink dest b was messages at there get has works s
     let ls : sink.lengths ≡ lengths_of dest.left = ap (λ (z : SinkState). z.lengths) shown in
     let l : n ≤ length (lengths_of dest.left) = subst (λ (ns : List ℕ). n ≤ length ns) ls few in
     reads bytes.0 bytes.1 (spooled_of dest.left) w.holds ∙ spool-messages n dest.left (any-split dest.setup.buffer dest.left (at.sound.split d dest get)) l
-    ∙ ap (λ k. map (λ (e : Entry). e.message) (take k dest.left)) (sym len)
+    ∙ ap (λ k. map (λ (e : DestEntry). e.message) (take k dest.left)) (sym len)
 
 -- Answers.
 

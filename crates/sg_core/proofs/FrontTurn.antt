@@ -10,18 +10,18 @@ use Rattle.sg_machine.specs.declared.event.Act.TheVariants.{Look}
 use Rattle.sg_machine.specs.declared.setup.BufferSetup.{BufferSetup}
 use Rattle.sg_machine.specs.declared.state.Dest.{Dest}
 use Rattle.sg_machine.specs.declared.state.State.{State}
-use Rattle.sg_machine.specs.Runs.{Kept}
+use Rattle.sg_machine.specs.Runs.{BufferedEntry}
 use Rattle.sg_spool.specs.declared.answers.RewriteRefusal.{RewriteRefusal}
 use Rattle.sg_spool.specs.declared.answers.RewriteRefusal.TheVariants.{DiskFault, NoMemory}
 use Rattle.sg_sinks.specs.Runs.{run_of}
 use Rattle.sg_sinks.specs.States.{SinkState, with_broken}
-use Rattle.sg_stores.specs.Reading.{Reads, ReadsAt}
+use Rattle.sg_stores.specs.Reading.{ReadsMessages, ReadsAt}
 use Rattle.sg_stores.specs.Stores.{StoreState, HoldsEntries}
 use Rattle.sg_counter.specs.declared.answers.CoreFront.TheVariants.{Entries, Broken}
 use Rattle.sg_standing.specs.States.{CoreState}
-use Rattle.sg_standing.specs.Standing.{IsAt, Does}
+use Rattle.sg_standing.specs.Standing.{IsAt, DoesAct}
 use Rattle.sg_core.specs.Answers.{AnswersFrontAt, ShowsLeft, buffer_at}
-use Rattle.sg_core.specs.Whole.{IsWhole}
+use Rattle.sg_core.specs.Whole.{IsWholeCore}
 use Rattle.sg_core.proofs.FrontCalls.{read-does, unread-does}
 use Rattle.sg_core.proofs.FrontLemmas.{shows-spooled, at-both, run-some, shown-run, not-nil}
 
@@ -37,26 +37,26 @@ pub record FrontTurn (old : CoreState) (news : List StoreState) (d n most : ℕ)
   pub few : n ≤ length sink.lengths
   pub reads : ReadsAt old.stores news buffer.store n result
 
-as-ok : (old new : StoreState) (n : ℕ) (r : Result (List Content) RewriteRefusal) (messages : List Content) → r ≡ Ok messages → Reads old new n r → (new.failed ≡ false) × (length messages ≡ n) × WhereTold (content old.disk) (λ bytes. (list : List Kept) → HoldsEntries old list [] → messages ≡ map (λ (kept : Kept). kept.message) (take n list))
-as-ok old new n r messages e h = subst (λ (x : Result (List Content) RewriteRefusal). Reads old new n x) e h
+as-ok : (old new : StoreState) (n : ℕ) (r : Result (List Content) RewriteRefusal) (messages : List Content) → r ≡ Ok messages → ReadsMessages old new n r → (new.failed ≡ false) × (length messages ≡ n) × WhereTold (content old.disk) (λ bytes. (list : List BufferedEntry) → HoldsEntries old list [] → messages ≡ map (λ (kept : BufferedEntry). kept.message) (take n list))
+as-ok old new n r messages e h = subst (λ (x : Result (List Content) RewriteRefusal). ReadsMessages old new n x) e h
 
-as-fault : (old new : StoreState) (n : ℕ) (r : Result (List Content) RewriteRefusal) → r ≡ Err DiskFault → Reads old new n r → (new.failed ≡ true) × Rose old.disk.faults new.disk.faults
-as-fault old new n r e h = subst (λ (x : Result (List Content) RewriteRefusal). Reads old new n x) e h
+as-fault : (old new : StoreState) (n : ℕ) (r : Result (List Content) RewriteRefusal) → r ≡ Err DiskFault → ReadsMessages old new n r → (new.failed ≡ true) × Rose old.disk.faults new.disk.faults
+as-fault old new n r e h = subst (λ (x : Result (List Content) RewriteRefusal). ReadsMessages old new n x) e h
 
-as-memory : (old new : StoreState) (n : ℕ) (r : Result (List Content) RewriteRefusal) → r ≡ Err NoMemory → Reads old new n r → new.failed ≡ false
-as-memory old new n r e h = subst (λ (x : Result (List Content) RewriteRefusal). Reads old new n x) e h
+as-memory : (old new : StoreState) (n : ℕ) (r : Result (List Content) RewriteRefusal) → r ≡ Err NoMemory → ReadsMessages old new n r → new.failed ≡ false
+as-memory old new n r e h = subst (λ (x : Result (List Content) RewriteRefusal). ReadsMessages old new n x) e h
 
-pub ok-does : (old new : CoreState) (d n most : ℕ) (r : Result (List Content) RewriteRefusal) (messages : List Content) → r ≡ Ok messages → FrontTurn old new.stores d n most r → new.sources ≡ old.sources → new.sinks ≡ old.sinks → new.calls ≡ old.calls + 1 → Does old new Look
+pub ok-does : (old new : CoreState) (d n most : ℕ) (r : Result (List Content) RewriteRefusal) (messages : List Content) → r ≡ Ok messages → FrontTurn old new.stores d n most r → new.sources ≡ old.sources → new.sinks ≡ old.sinks → new.calls ≡ old.calls + 1 → DoesAct old new Look
 ok-does old new d n most r messages e t sources sinks calls =
     let a = t.reads in
     read-does old new d t.sink t.buffer a.old a.new t.there t.has t.works a.was a.others a.stays (as-ok a.old a.new n r messages e a.reads).0 sources sinks calls
 
-pub memory-does : (old new : CoreState) (d n most : ℕ) (r : Result (List Content) RewriteRefusal) → r ≡ Err NoMemory → FrontTurn old new.stores d n most r → new.sources ≡ old.sources → new.sinks ≡ old.sinks → new.calls ≡ old.calls + 1 → Does old new Look
+pub memory-does : (old new : CoreState) (d n most : ℕ) (r : Result (List Content) RewriteRefusal) → r ≡ Err NoMemory → FrontTurn old new.stores d n most r → new.sources ≡ old.sources → new.sinks ≡ old.sinks → new.calls ≡ old.calls + 1 → DoesAct old new Look
 memory-does old new d n most r e t sources sinks calls =
     let a = t.reads in
     read-does old new d t.sink t.buffer a.old a.new t.there t.has t.works a.was a.others a.stays (as-memory a.old a.new n r e a.reads) sources sinks calls
 
-pub fault-does : (old new : CoreState) (d n most : ℕ) (r : Result (List Content) RewriteRefusal) (whole : IsWhole old) → r ≡ Err DiskFault → FrontTurn old new.stores d n most r → new.sources ≡ old.sources → new.sinks ≡ change old.sinks d with_broken → new.calls ≡ old.calls + 1 → Does old new Look
+pub fault-does : (old new : CoreState) (d n most : ℕ) (r : Result (List Content) RewriteRefusal) (whole : IsWholeCore old) → r ≡ Err DiskFault → FrontTurn old new.stores d n most r → new.sources ≡ old.sources → new.sinks ≡ change old.sinks d with_broken → new.calls ≡ old.calls + 1 → DoesAct old new Look
 fault-does old new d n most r whole e t sources sinks calls =
     let a = t.reads in
     let f = as-fault a.old a.new n r e a.reads in

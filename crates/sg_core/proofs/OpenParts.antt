@@ -1,20 +1,21 @@
 -- The parts of a core at its opening.
-use Rattle.std.proofs.Common.{◌≡◌, ℕ, zero, suc, ◌+◌, ◌<◌, List, [], ◌∷◌, ◌++◌, length, drop, replicate, slice_get, slice_index_or, Some, None, Option, refl, sym, ap, ◌∙◌, arith}
+use Rattle.std.proofs.Common.{◌≡◌, ℕ, zero, suc, ◌+◌, ◌<◌, List, [], ◌∷◌, length, drop, replicate, slice_get, slice_index_or, Some, None, Option, refl, sym, ap, ◌∙◌, arith}
 use Rattle.std.specs.Option.{option_map}
 use Rattle.std.proofs.lemmas.List.{drop_all}
 use Rattle.sg_list.proofs.ListLemmas.{drop-get, some-same}
-use Rattle.sg_buffer.specs.declared.found.Found.{Found}
-use Rattle.sg_buffer.specs.declared.found.Head.{Head}
+use Rattle.sg_buffer.specs.declared.found.BufferEntries.{BufferEntries}
+use Rattle.sg_buffer.specs.declared.found.EntryHead.{EntryHead}
 use Rattle.sg_machine.specs.declared.setup.BufferSetup.{BufferSetup}
 use Rattle.sg_machine.specs.declared.setup.SourceSetup.{SourceSetup}
 use Rattle.sg_machine.specs.declared.setup.DestSetup.{DestSetup}
 use Rattle.sg_sinks.specs.Fitting.{space}
 use Rattle.sg_sinks.specs.States.{SinkState, recovered}
 use Rattle.sg_stores.specs.Stores.{StoreState}
-use Rattle.sg_stores.specs.Positions.{IsThere}
+use Rattle.sg_stores.specs.Positions.{IsStoreThere}
 use Rattle.sg_stores.specs.declared.kind.StoreKind.{StoreKind}
 use Rattle.sg_stores.specs.declared.kind.StoreKind.TheVariants.{Position}
 use Rattle.sg_core.specs.Opening.{HaveWindows, AreThere, HaveStores, kind_by, kind_of, recovers, lengths_in, CanRecover, AreRecoverable}
+use Rattle.sg_sinks.proofs.SpaceLemmas.{space_push}
 
 pub get-at : {A : Type 0} (xs : List A) (k : ℕ) (d : A) → k < length xs → slice_get xs k ≡ Some (slice_index_or xs k d)
 get-at [] k d l = absurd (omega (arith, l))
@@ -29,26 +30,22 @@ window-at [] k d h l = absurd (omega (arith, l))
 window-at (s ∷ ss) zero d h l = h.0
 window-at (s ∷ ss) (suc k) d h l = window-at ss k d h.1 (omega (arith, l))
 
-pub store-at : (stores : List StoreState) (ss : List SourceSetup) (k : ℕ) (d : SourceSetup) → AreThere stores ss → k < length ss → IsThere stores (slice_index_or ss k d).store
+pub store-at : (stores : List StoreState) (ss : List SourceSetup) (k : ℕ) (d : SourceSetup) → AreThere stores ss → k < length ss → IsStoreThere stores (slice_index_or ss k d).store
 store-at stores [] k d h l = absurd (omega (arith, l))
 store-at stores (s ∷ ss) zero d h l = h.0
 store-at stores (s ∷ ss) (suc k) d h l = store-at stores ss k d h.1 (omega (arith, l))
 
-pub recoverable-at : (founds : List Found) (ss : List DestSetup) (k : ℕ) (d : DestSetup) → AreRecoverable founds ss → k < length ss → CanRecover founds (slice_index_or ss k d).buffer
+pub recoverable-at : (founds : List BufferEntries) (ss : List DestSetup) (k : ℕ) (d : DestSetup) → AreRecoverable founds ss → k < length ss → CanRecover founds (slice_index_or ss k d).buffer
 recoverable-at founds [] k d h l = absurd (omega (arith, l))
 recoverable-at founds (s ∷ ss) zero d h l = h.0
 recoverable-at founds (s ∷ ss) (suc k) d h l = recoverable-at founds ss k d h.1 (omega (arith, l))
 
-space_push : (ns : List ℕ) (n : ℕ) → space (ns ++ n ∷ []) ≡ space ns + (5 + n)
-space_push [] n = omega arith
-space_push (m ∷ ns) n = let i = space_push ns n in omega (arith, i)
-
 -- one more entry
-pub recovers-more : (heads : List Head) (k : ℕ) (d : Head) (sink : SinkState) → k < length heads
+pub recovers-more : (heads : List EntryHead) (k : ℕ) (d : EntryHead) (sink : SinkState) → k < length heads
     → recovers (recovered (slice_index_or heads k d).length sink) (drop (k + 1) heads) ≡ recovers sink (drop k heads)
 recovers-more heads k d sink l = ap (recovers sink) (sym (drop-at heads k d l))
 
-pub space-more : (heads : List Head) (k : ℕ) (d : Head) (sink : SinkState) → k < length heads
+pub space-more : (heads : List EntryHead) (k : ℕ) (d : EntryHead) (sink : SinkState) → k < length heads
     → space (recovered (slice_index_or heads k d).length sink).lengths + space (lengths_in (drop (k + 1) heads)) ≡ space sink.lengths + space (lengths_in (drop k heads))
 space-more heads k d sink l =
     let parts : space (lengths_in (drop k heads)) ≡ 5 + (slice_index_or heads k d).length + space (lengths_in (drop (k + 1) heads)) = ap (λ hs. space (lengths_in hs)) (drop-at heads k d l) in

@@ -69,7 +69,7 @@ sink-of : (o : Option SinkState) (n : ℕ) → HasWaiting o n → (sink : SinkSt
 sink-of None n h = absurd h
 sink-of (Some sink) n h = (sink, refl, h)
 
-pub record Turn (olds sinks : List Sunk) (xs ys : List Source) (d n k : ℕ) : Type 0 where
+pub record FrontTurnPart (olds sinks : List Sunk) (xs ys : List Source) (d n k : ℕ) : Type 0 where
   pub sink : SinkState
   pub there : slice_get (seen_in olds) d ≡ Some sink
   pub below : d < length sinks
@@ -82,7 +82,7 @@ entries-of : (sinks : List SinkState) (d n : ℕ) (sink : SinkState) → slice_g
 entries-of sinks d n sink h = rw h refl
 
 pub turn : (olds sinks : List Sunk) (xs ys : List Source) (d n k : ℕ) (f : ℕ → SinkState → SinkState) → HasWaiting (slice_get (seen_in olds) d) n → CanAckAll xs (entries_at (seen_in olds) d n) → k < n
-    → seen_in sinks ≡ change (seen_in olds) d (f k) → ys ≡ acks_all xs (entries_at (seen_in olds) d k) → Turn olds sinks xs ys d n k
+    → seen_in sinks ≡ change (seen_in olds) d (f k) → ys ≡ acks_all xs (entries_at (seen_in olds) d k) → FrontTurnPart olds sinks xs ys d n k
 turn olds sinks xs ys d n k f waits acks_can low seen sources =
     let s = sink-of (slice_get (seen_in olds) d) n waits in
     let sink = s.0 in

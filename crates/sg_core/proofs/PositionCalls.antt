@@ -3,12 +3,12 @@ use Rattle.std.proofs.Common.{◌≡◌, ◌≢◌, ℕ, ◌+◌, List, [], ◌�
 use Rattle.std.specs.Prelude.{◌==◌, option_to_list}
 use Rattle.std.specs.Option.{option_map}
 use Rattle.sg_list.specs.Lists.{change}
-use Rattle.sg_list.proofs.ListLemmas.{get-change-same}
+use Rattle.sg_list.proofs.ListLemmas.{get-change-same, map-kept}
 use Rattle.sg_device.specs.Disk.{Within}
 use Rattle.sg_machine.specs.declared.event.Act.{Act}
 use Rattle.sg_machine.specs.declared.event.Act.TheVariants.{Store, Rewind, Look}
 use Rattle.sg_machine.specs.declared.event.Event.{Event}
-use Rattle.sg_machine.specs.declared.state.Inlet.{Inlet}
+use Rattle.sg_machine.specs.declared.state.InletRecords.{InletRecords}
 use Rattle.sg_machine.specs.declared.state.State.{State}
 use Rattle.sg_machine.specs.Verdicts.{is_listed}
 use Rattle.sg_machine.specs.Marks.{mark, mark_of}
@@ -19,61 +19,60 @@ use Rattle.sg_machine.specs.Safe.{failed_position, running_position}
 use Rattle.sg_counter.specs.declared.answers.Stored.{Stored}
 use Rattle.sg_counter.specs.declared.answers.Stored.TheVariants.{Wrote, Unchanged, Broken}
 use Rattle.sg_sinks.specs.States.{SinkState}
-use Rattle.sg_stores.specs.Stores.{StoreState, Goes}
+use Rattle.sg_stores.specs.Stores.{StoreState, StoreGoesOn}
 use Rattle.sg_stores.specs.Positions.{IsOld, WritesPosition, FailsToWrite, WritesAt, position_of}
 use Rattle.sg_standing.specs.States.{CoreState}
 use Rattle.sg_standing.specs.Sources.{mark_at, anew, after_rewind}
-use Rattle.sg_standing.specs.Standing.{IsAt, IsOneOf, IsPlaced, StandsFor, Does, positions_within}
+use Rattle.sg_standing.specs.Standing.{IsAt, IsPositionOf, IsPositionAt, StandsFor, DoesAct, positions_within}
 use Rattle.sg_standing.specs.declared.source.Source.{Source}
 use Rattle.sg_standing.proofs.Calls.{does-of, all-go-touched, risen-none, risen-touched, positions-inlet, lists-inlet}
-use Rattle.sg_standing.proofs.ListSteps.{map-kept}
 use Rattle.sg_standing.proofs.More.{placed, within-map}
 use Rattle.sg_standing.proofs.Still.{one-of-first, one-of-second}
 use Rattle.sg_standing.proofs.Unfailed.{position-now}
 use Rattle.sg_core.specs.Answers.{store_act, rewind_act, AnswersStore}
 use Rattle.sg_core.proofs.AtSteps.{at-parts, setup-parts, setup-same, quiet-look, not-changed}
-use Rattle.sg_core.proofs.PositionSteps.{IsBehind, behind, mark-at, stores-mark, rewinds, fails}
+use Rattle.sg_core.proofs.PositionSteps.{IsBehindPosition, behind, mark-at, stores-mark, rewinds, fails}
 
 -- within a write that succeeds an image has the old position or the new one
-written-within : (core : CoreState) (start : State) (events : List Event) (act : Act) (i u w : ℕ) (inlet : Inlet) (was now : StoreState) → StandsFor core start events
+written-within : (core : CoreState) (start : State) (events : List Event) (act : Act) (i u w : ℕ) (inlet : InletRecords) (was now : StoreState) → StandsFor core start events
     → slice_get (after_all start events).inlets i ≡ Some inlet → inlet.setup.store ≡ Some u → slice_get core.stores u ≡ Some was → WritesPosition was now w
-    → running_position act i ≡ Some w → Within was.disk now.disk (IsOneOf (positions_within start events (record { act = act; failed = [] }) i inlet))
+    → running_position act i ≡ Some w → Within was.disk now.disk (IsPositionOf (positions_within start events (record { act = act; failed = [] }) i inlet))
 written-within core start events act i u w inlet was now h there has get writes running =
     let e : Event = record { act = act; failed = [] } in
     let held = placed core (after_all start events) i u inlet was h.at there has get in
     let rest = option_to_list (failed_position start (events ++ e ∷ []) i) in
-    let P : Option ℕ → Type 0 = λ r. (c : List ℕ) → IsOld was.position w c → IsOneOf ((inlet.stored ∷ option_to_list r) ++ rest) c in
-    let one : (c : List ℕ) → IsOld was.position w c → IsOneOf ((inlet.stored ∷ w ∷ []) ++ rest) c =
+    let P : Option ℕ → Type 0 = λ r. (c : List ℕ) → IsOld was.position w c → IsPositionOf ((inlet.stored ∷ option_to_list r) ++ rest) c in
+    let one : (c : List ℕ) → IsOld was.position w c → IsPositionOf ((inlet.stored ∷ w ∷ []) ++ rest) c =
     λ c q. elim q [
       | inl p ↦ one-of-first inlet.stored was.position (w ∷ rest) c (sym held.position_is) p
       | inr p ↦ one-of-second inlet.stored w rest c p
     ] in
-    within-map was.disk now.disk (IsOld was.position w) (IsOneOf ((inlet.stored ∷ option_to_list (running_position act i)) ++ rest)) (subst P (sym running) one) writes.within
+    within-map was.disk now.disk (IsOld was.position w) (IsPositionOf ((inlet.stored ∷ option_to_list (running_position act i)) ++ rest)) (subst P (sym running) one) writes.within
 
 -- and within one that fails
-failed-within : (core : CoreState) (start : State) (events : List Event) (i u w : ℕ) (inlet : Inlet) (was now : StoreState) → StandsFor core start events
+failed-within : (core : CoreState) (start : State) (events : List Event) (i u w : ℕ) (inlet : InletRecords) (was now : StoreState) → StandsFor core start events
     → slice_get (after_all start events).inlets i ≡ Some inlet → inlet.setup.store ≡ Some u → slice_get core.stores u ≡ Some was → was.failed ≡ false → FailsToWrite was now w
-    → (if is_nil inlet.ends then 0 else mark_of (after_all start events).dests i inlet) ≡ w → Within was.disk now.disk (IsOneOf (positions_within start events (record { act = Look; failed = u ∷ [] }) i inlet))
+    → (if is_nil inlet.ends then 0 else mark_of (after_all start events).dests i inlet) ≡ w → Within was.disk now.disk (IsPositionOf (positions_within start events (record { act = Look; failed = u ∷ [] }) i inlet))
 failed-within core start events i u w inlet was now h there has get worked fails value =
     let s = after_all start events in
     let e : Event = record { act = Look; failed = u ∷ [] } in
     let held = placed core s i u inlet was h.at there has get in
     let this : is_listed u (u ∷ []) ≡ true = (let q : (u == u) ≡ true = grind arith in rw q refl) in
     let failed : failed_position start (events ++ e ∷ []) i ≡ Some w = position-now start events e i u inlet h.legal there has (sym held.failed_is ∙ worked) this ∙ ap Some value in
-    let P : Option ℕ → Type 0 = λ r. (c : List ℕ) → IsOld was.position w c → IsOneOf (inlet.stored ∷ option_to_list r) c in
-    let one : (c : List ℕ) → IsOld was.position w c → IsOneOf (inlet.stored ∷ w ∷ []) c =
+    let P : Option ℕ → Type 0 = λ r. (c : List ℕ) → IsOld was.position w c → IsPositionOf (inlet.stored ∷ option_to_list r) c in
+    let one : (c : List ℕ) → IsOld was.position w c → IsPositionOf (inlet.stored ∷ w ∷ []) c =
     λ c q. elim q [
       | inl p ↦ one-of-first inlet.stored was.position (w ∷ []) c (sym held.position_is) p
       | inr p ↦ one-of-second inlet.stored w [] c p
     ] in
-    within-map was.disk now.disk (IsOld was.position w) (IsOneOf (inlet.stored ∷ option_to_list (failed_position start (events ++ e ∷ []) i))) (subst P (sym failed) one) (fails.now worked)
+    within-map was.disk now.disk (IsOld was.position w) (IsPositionOf (inlet.stored ∷ option_to_list (failed_position start (events ++ e ∷ []) i))) (subst P (sym failed) one) (fails.now worked)
 
 -- the store of a source
-store-of-behind : (core : CoreState) (s : State) (i u : ℕ) (source : Source) (b : IsBehind core s i source) → source.setup.store ≡ Some u → (b.inlet).setup.store ≡ Some u
+store-of-behind : (core : CoreState) (s : State) (i u : ℕ) (source : Source) (b : IsBehindPosition core s i source) → source.setup.store ≡ Some u → (b.inlet).setup.store ≡ Some u
 store-of-behind core s i u source b h = ap (λ (x : Source). x.setup.store) (sym b.shown) ∙ h
 
-written-placed : (core : CoreState) (s : State) (i u w : ℕ) (inlet : Inlet) (was now : StoreState) → IsAt core s → slice_get s.inlets i ≡ Some inlet → inlet.setup.store ≡ Some u → slice_get core.stores u ≡ Some was
-    → now.buffer ≡ was.buffer → WritesPosition was now w → IsPlaced now w false
+written-placed : (core : CoreState) (s : State) (i u w : ℕ) (inlet : InletRecords) (was now : StoreState) → IsAt core s → slice_get s.inlets i ≡ Some inlet → inlet.setup.store ≡ Some u → slice_get core.stores u ≡ Some was
+    → now.buffer ≡ was.buffer → WritesPosition was now w → IsPositionAt now w false
 written-placed core s i u w inlet was now at there has get kind writes = record {
   kind = kind ∙ (placed core s i u inlet was at there has get).kind;
   position_is = writes.written;
@@ -83,10 +82,10 @@ written-placed core s i u w inlet was now at there has get kind writes = record 
 
 -- a write that fails
 failed-does : (old new : CoreState) (i u w : ℕ) (source : Source) (was now : StoreState) → slice_get old.sources i ≡ Some source → source.setup.store ≡ Some u
-    → slice_get old.stores u ≡ Some was → new.stores ≡ change old.stores u (λ _. now) → now.buffer ≡ was.buffer → new.sources ≡ old.sources → new.sinks ≡ old.sinks → new.calls ≡ old.calls + 1 → Goes was now
+    → slice_get old.stores u ≡ Some was → new.stores ≡ change old.stores u (λ _. now) → now.buffer ≡ was.buffer → new.sources ≡ old.sources → new.sinks ≡ old.sinks → new.calls ≡ old.calls + 1 → StoreGoesOn was now
     → FailsToWrite was now w
-    → ((s : State) → IsAt old s → (b : IsBehind old s i source) → (if is_nil (b.inlet).ends then 0 else mark_of s.dests i b.inlet) ≡ w)
-    → (failed : Bool) → was.failed ≡ failed → Does old new Look
+    → ((s : State) → IsAt old s → (b : IsBehindPosition old s i source) → (if is_nil (b.inlet).ends then 0 else mark_of s.dests i b.inlet) ≡ w)
+    → (failed : Bool) → was.failed ≡ failed → DoesAct old new Look
 failed-does old new i u w source was now there has get others kind sources sinks calls goes fail value true worked =
     quiet-look old new sources sinks (not-changed old.stores new.stores u was now get others (fail.before worked)) calls
 failed-does old new i u w source was now there has get others kind sources sinks calls goes fail value false worked =
@@ -110,7 +109,7 @@ value-of was [] stored opening m w at unmoved none marked other = absurd (other 
 value-of was (x ∷ ends) stored opening m w at unmoved none marked other = let q : (suc (length ends) == 0) ≡ false = grind arith in rw q marked
 
 pub store-does : (old new : CoreState) (i u : ℕ) (source : Source) (answer : Stored) → slice_get old.sources i ≡ Some source → source.setup.store ≡ Some u
-    → WritesAt old.stores new.stores u (mark_at source) answer → new.sources ≡ old.sources → new.sinks ≡ old.sinks → new.calls ≡ old.calls + 1 → Does old new (store_act i answer)
+    → WritesAt old.stores new.stores u (mark_at source) answer → new.sources ≡ old.sources → new.sinks ≡ old.sinks → new.calls ≡ old.calls + 1 → DoesAct old new (store_act i answer)
 store-does old new i u source (Wrote w) there has a sources sinks calls =
     let writes : WritesPosition a.old a.new w = subst (λ (n : ℕ). WritesPosition a.old a.new n) (sym a.writes.1) a.writes.2 in
     let q : (i == i) ≡ true = grind arith in
@@ -143,7 +142,7 @@ store-does old new i u source Broken there has a sources sinks calls =
     (a.old).failed refl
 
 pub rewind-does : (old new : CoreState) (i u : ℕ) (source : Source) (answer : Stored) → slice_get old.sources i ≡ Some source → source.setup.store ≡ Some u → source.tracker.begun ≡ 0
-    → WritesAt old.stores new.stores u 0 answer → new.sources ≡ after_rewind old.sources i answer → new.sinks ≡ old.sinks → new.calls ≡ old.calls + 1 → Does old new (rewind_act i answer)
+    → WritesAt old.stores new.stores u 0 answer → new.sources ≡ after_rewind old.sources i answer → new.sinks ≡ old.sinks → new.calls ≡ old.calls + 1 → DoesAct old new (rewind_act i answer)
 rewind-does old new i u source (Wrote w) there has none a sources sinks calls =
     let q : (i == i) ≡ true = grind arith in
     let running : running_position (Rewind i) i ≡ Some 0 = rw q refl in

@@ -12,11 +12,11 @@ use Rattle.sg_machine.specs.declared.event.Act.TheVariants.{Refill, Look}
 use Rattle.sg_machine.specs.declared.event.Event.{Event}
 use Rattle.sg_machine.specs.declared.setup.BufferSetup.{BufferSetup}
 use Rattle.sg_machine.specs.declared.state.Dest.{Dest}
-use Rattle.sg_machine.specs.declared.state.Entry.{Entry}
+use Rattle.sg_machine.specs.declared.state.DestEntry.{DestEntry}
 use Rattle.sg_machine.specs.declared.state.State.{State}
 use Rattle.sg_machine.specs.Effects.{refilled_some, spool_first, spool_some}
 use Rattle.sg_machine.specs.Legal.{is_legal_act, works, may_refill, fit_in_turn, store_of}
-use Rattle.sg_machine.specs.Runs.{Kept, after_all, are_legal}
+use Rattle.sg_machine.specs.Runs.{BufferedEntry, after_all, are_legal}
 use Rattle.sg_machine.specs.Safe.{IsSafeList, appends, settled_by, failed_entries, spooled_of, waiting, has_failed}
 use Rattle.sg_machine.specs.Verdicts.{is_listed}
 use Rattle.sg_machine.proofs.MoveLemmas.{move-some}
@@ -24,25 +24,25 @@ use Rattle.sg_sinks.specs.Fitting.{space}
 use Rattle.sg_sinks.specs.Standing.{are_split, lengths_of, waiting_from, sink_of, blocks_of}
 use Rattle.sg_sinks.specs.States.{SinkState, with_broken}
 use Rattle.sg_stores.specs.Appending.{IsListWithSome, IsAppended}
-use Rattle.sg_stores.specs.Stores.{StoreState, HasSize, HoldsEntries, length_of}
+use Rattle.sg_stores.specs.Stores.{StoreState, HasBufferSize, HoldsEntries, length_of}
 use Rattle.sg_standing.specs.Sources.{acks_all}
 use Rattle.sg_standing.specs.States.{CoreState}
-use Rattle.sg_standing.specs.Standing.{IsAt, AreSpellable, IsBuffer, IsSafeStore, Does, is_broken, sources_from, failed_then}
+use Rattle.sg_standing.specs.Standing.{IsAt, AreSpellable, IsBufferOf, IsSafeStore, DoesAct, is_broken, sources_from, failed_then}
 use Rattle.sg_standing.specs.declared.source.Source.{Source}
 use Rattle.sg_standing.proofs.Calls.{does-of, all-go-touched, risen-none, risen-touched, positions-buffer, lists-buffer}
-use Rattle.sg_standing.proofs.ListSteps.{map-kept}
 use Rattle.sg_standing.proofs.More.{within-map, broken-store}
 use Rattle.sg_standing.proofs.Safes.{spooled-left}
 use Rattle.sg_standing.proofs.Unfailed.{entries-now}
 use Rattle.sg_core.specs.Parts.{CanAckAll, FitSome, moved_some}
 use Rattle.sg_core.specs.Steps.{AreNext, AppendsAt}
-use Rattle.sg_core.specs.Whole.{IsWhole}
+use Rattle.sg_core.specs.Whole.{IsWholeCore}
 use Rattle.sg_core.proofs.AtSteps.{look-dest, listed-last, listed-other, setup-parts}
 use Rattle.sg_core.proofs.DestSteps.{at-dest, dest-of, leaves-one, broken-listed}
 use Rattle.sg_core.proofs.FrontCalls.{look-at}
 use Rattle.sg_core.proofs.RefillSteps.{moves-sink, moves-acks, are-next}
 use Rattle.sg_core.proofs.SettleCalls.{IsWorking, working, buffer-of, any-split, failed-buffer, acks-setup, not-true, not-false}
 use Rattle.sg_core.proofs.Waits.{spooled-some, waits-length, waits-lengths}
+use Rattle.sg_list.proofs.ListLemmas.{map-kept}
 
 -- what the parts of a refill did
 pub record RefillParts (old : CoreState) (news : List StoreState) (d n : ℕ) (answer : Bool) : Type 0 where
@@ -58,7 +58,7 @@ pub record RefillParts (old : CoreState) (news : List StoreState) (d n : ℕ) (a
   pub fits : FitSome n buffer.capacity (space sink.lengths) sink.entries
   pub appends : AppendsAt old.stores news buffer.store sink.blocks n answer
 
-length-taken : (n : ℕ) (ks : List Kept) → n ≤ length ks → length (take n ks) ≡ n
+length-taken : (n : ℕ) (ks : List BufferedEntry) → n ≤ length ks → length (take n ks) ≡ n
 length-taken zero ks l = refl
 length-taken (suc n) [] l = absurd (omega (arith, l))
 length-taken (suc n) (k ∷ ks) l = ap suc (length-taken n ks (omega (arith, l)))
@@ -121,17 +121,17 @@ legal-refill s d n dest b there has l some most fits =
     let may : may_refill n s.failed dest ≡ true = rw (a, c, e, f) refl in
     rw (there, may) refl
 
-appended-safe : (dest : Dest) (d k : ℕ) (act : Act) (failed : List ℕ) (tried more list : List Kept) → list ≡ spooled_of dest.left ++ take k more → (if has_failed failed (store_of dest) then tried else appends act d dest) ≡ more → settled_by act d dest ≡ dest.settled
+appended-safe : (dest : Dest) (d k : ℕ) (act : Act) (failed : List ℕ) (tried more list : List BufferedEntry) → list ≡ spooled_of dest.left ++ take k more → (if has_failed failed (store_of dest) then tried else appends act d dest) ≡ more → settled_by act d dest ≡ dest.settled
     → IsSafeList dest d act failed tried list
 appended-safe dest d k act failed tried more list e h settled = record {
   gone = length (spooled_of dest.settled);
   added = k;
   parts = e ∙ ap (λ ks. ks ++ take k more) (sym (spooled-left dest)) ∙ ap (λ ks. drop (length (spooled_of dest.settled)) (spooled_of (dest.settled ++ dest.left)) ++ take k ks) (sym h);
-  settled = let same = ap (λ (es : List Entry). length (spooled_of es)) settled in omega (arith, same);
+  settled = let same = ap (λ (es : List DestEntry). length (spooled_of es)) settled in omega (arith, same);
   all_settled = λ f s. refl;
 }
 
-take-twice : (j n : ℕ) (ks : List Kept) → take j (take n ks) ≡ take (min j n) ks
+take-twice : (j n : ℕ) (ks : List BufferedEntry) → take j (take n ks) ≡ take (min j n) ks
 take-twice zero n ks = let z : min 0 n ≡ 0 = omega arith in rw z refl
 take-twice (suc j) zero ks = let z : min (suc j) 0 ≡ 0 = omega arith in rw z refl
 take-twice (suc j) (suc n) [] = let z : min (suc j) (suc n) ≡ suc (min j n) = omega arith in rw z refl
@@ -177,28 +177,28 @@ unmoved-within start events d n dest b was now legal there has l holds a =
 
 -- what the store has then
 moved-buffer : (dest : Dest) (b : BufferSetup) (was now : StoreState) (n p : ℕ) (broken : Bool) → are_split dest.left ≡ true → n ≤ length (waiting_from p dest.left) → lengths_of (spool_some n dest.left) ≡ lengths_of dest.left ++ map (λ (x : Waiting). encoded_len x.message) (take n (waiting_from p dest.left))
-    → HasSize b.capacity (lengths_of dest.left) was.buffer → HoldsEntries was (spooled_of dest.left) [] → now.failed ≡ false → broken ≡ false → IsAppended was now (take n (waiting dest.left)) → IsBuffer now b (refilled_some n dest) broken
+    → HasBufferSize b.capacity (lengths_of dest.left) was.buffer → HoldsEntries was (spooled_of dest.left) [] → now.failed ≡ false → broken ≡ false → IsAppended was now (take n (waiting dest.left)) → IsBufferOf now b (refilled_some n dest) broken
 moved-buffer dest b was now n p broken split few lengths sized holds fine unbroken a = record {
   failed_is = fine ∙ sym unbroken;
   sized = λ w.
       let ns : lengths_of dest.left ++ map length_of (take n (waiting dest.left)) ≡ lengths_of (spool_some n dest.left) = ap (λ xs. lengths_of dest.left ++ xs) (waits-lengths dest.left n p) ∙ sym lengths in
-      subst (λ (xs : List ℕ). HasSize b.capacity xs now.buffer) ns (a.sized fine b.capacity (lengths_of dest.left) sized);
-  works = λ w. subst (λ (ks : List Kept). HoldsEntries now ks []) (sym (spooled-some n dest.left p split few)) (a.holds fine (spooled_of dest.left) holds);
+      subst (λ (xs : List ℕ). HasBufferSize b.capacity xs now.buffer) ns (a.sized fine b.capacity (lengths_of dest.left) sized);
+  works = λ w. subst (λ (ks : List BufferedEntry). HoldsEntries now ks []) (sym (spooled-some n dest.left p split few)) (a.holds fine (spooled_of dest.left) holds);
 }
 
-spell-by : (b : Bool) (o : Option BufferSetup) (e : Entry) (es : List Entry) → e.spooled ≡ b → AreSpellable o (e ∷ es) → AreSpellable o (spool_first es) → AreSpellable o (spool_first (e ∷ es))
+spell-by : (b : Bool) (o : Option BufferSetup) (e : DestEntry) (es : List DestEntry) → e.spooled ≡ b → AreSpellable o (e ∷ es) → AreSpellable o (spool_first es) → AreSpellable o (spool_first (e ∷ es))
 spell-by true o e es h all rest = rw h (all.0, rest)
 spell-by false o e es h all rest = rw h (all.0, all.1)
 
-spell-first : (o : Option BufferSetup) (es : List Entry) → AreSpellable o es → AreSpellable o (spool_first es)
+spell-first : (o : Option BufferSetup) (es : List DestEntry) → AreSpellable o es → AreSpellable o (spool_first es)
 spell-first o [] h = tt
 spell-first o (e ∷ es) h = spell-by e.spooled o e es refl h (spell-first o es h.1)
 
-spell-some : (o : Option BufferSetup) (n : ℕ) (es : List Entry) → AreSpellable o es → AreSpellable o (spool_some n es)
+spell-some : (o : Option BufferSetup) (n : ℕ) (es : List DestEntry) → AreSpellable o es → AreSpellable o (spool_some n es)
 spell-some o zero es h = h
 spell-some o (suc n) es h = spell-some o n (spool_first es) (spell-first o es h)
 
-pub refill-does : (old new : CoreState) (d n : ℕ) (t : RefillParts old new.stores d n true) → new.sources ≡ acks_all old.sources (take n (t.sink).entries) → new.sinks ≡ change old.sinks d (moved_some n) → new.calls ≡ old.calls + 1 → Does old new (Refill d n)
+pub refill-does : (old new : CoreState) (d n : ℕ) (t : RefillParts old new.stores d n true) → new.sources ≡ acks_all old.sources (take n (t.sink).entries) → new.sinks ≡ change old.sinks d (moved_some n) → new.calls ≡ old.calls + 1 → DoesAct old new (Refill d n)
 refill-does old new d n t sources sinks calls =
     let a = t.appends in
     let b = t.buffer in
@@ -232,7 +232,7 @@ refill-does old new d n t sources sinks calls =
     lists-buffer old new.stores start events (record { act = Refill d n; failed = [] }) d r.dest b a.old a.new h r.there r.had a.was a.others
     (inr (moved-within start events d n r.dest b a.old a.new r.had (r.working_then).unlisted (r.working_then).holds r.appended)))
 
-pub unfilled-does : (old new : CoreState) (d n : ℕ) (whole : IsWhole old) (t : RefillParts old new.stores d n false) → new.sources ≡ old.sources → new.sinks ≡ change old.sinks d with_broken → new.calls ≡ old.calls + 1 → Does old new Look
+pub unfilled-does : (old new : CoreState) (d n : ℕ) (whole : IsWholeCore old) (t : RefillParts old new.stores d n false) → new.sources ≡ old.sources → new.sinks ≡ change old.sinks d with_broken → new.calls ≡ old.calls + 1 → DoesAct old new Look
 unfilled-does old new d n whole t sources sinks calls =
     let a = t.appends in
     let b = t.buffer in

@@ -5,14 +5,14 @@ use Rattle.sg_list.specs.Lists.{change}
 use Rattle.sg_list.proofs.ListLemmas.{some-same, drop-get, slice_get-all, get-change-same}
 use Rattle.sg_msg.specs.Length.{encoded_len}
 use Rattle.sg_queue.specs.declared.entry.Entry.{Entry}
-use Rattle.sg_machine.specs.Runs.{Kept}
+use Rattle.sg_machine.specs.Runs.{BufferedEntry}
 use Rattle.sg_machine.proofs.MoveLemmas.{change-twice}
 use Rattle.sg_sinks.specs.Fitting.{has_space}
 use Rattle.sg_sinks.specs.Moving.{block_at}
 use Rattle.sg_sinks.specs.Trials.{takes_in, tried}
 use Rattle.sg_sinks.specs.declared.trial.Trial.{Trial}
-use Rattle.sg_stores.specs.Appending.{IsNext, IsAppending, StagesAt, CommitsAt}
-use Rattle.sg_stores.specs.Stores.{StoreState, Goes}
+use Rattle.sg_stores.specs.Appending.{IsNextPayload, IsAppending, StagesAt, CommitsAt}
+use Rattle.sg_stores.specs.Stores.{StoreState, StoreGoesOn}
 use Rattle.sg_stores.proofs.StoreLemmas.{goes_refl, goes_trans}
 use Rattle.sg_stores.proofs.StageLemmas.{begins}
 use Rattle.sg_core.specs.Answers.{fitting}
@@ -109,10 +109,10 @@ pub record IsStaging (olds news : List StoreState) (s : ℕ) (blocks : List (Opt
   pub new : StoreState
   pub was : slice_get olds s ≡ Some old
   pub others : news ≡ change olds s (λ _. new)
-  pub goes : Goes old new
-  pub appends : (ks : List Kept) → length ks ≡ k → old.failed ≡ false → AreNext old [] blocks ks → IsAppending old new ks
+  pub goes : StoreGoesOn old new
+  pub appends : (ks : List BufferedEntry) → length ks ≡ k → old.failed ≡ false → AreNext old [] blocks ks → IsAppending old new ks
 
-begins-none : (old : StoreState) (ks : List Kept) → length ks ≡ 0 → old.failed ≡ false → IsAppending old old ks
+begins-none : (old : StoreState) (ks : List BufferedEntry) → length ks ≡ 0 → old.failed ≡ false → IsAppending old old ks
 begins-none old [] l works = begins old works
 begins-none old (k ∷ ks) l works = absurd (omega (arith, l))
 
@@ -127,15 +127,15 @@ staging-begins stores s old blocks was = record {
 }
 
 -- the entry of the block at this place
-record IsLast (start : StoreState) (tried : List Kept) (blocks : List (Option (List ℕ))) (payload : List ℕ) (k : ℕ) (ks : List Kept) : Type 0 where
-  front : List Kept
-  last : Kept
+record IsLastRefilled (start : StoreState) (tried : List BufferedEntry) (blocks : List (Option (List ℕ))) (payload : List ℕ) (k : ℕ) (ks : List BufferedEntry) : Type 0 where
+  front : List BufferedEntry
+  last : BufferedEntry
   parts : ks ≡ front ++ last ∷ []
   count : length front ≡ k
   before : AreNext start tried blocks front
-  next : IsNext start (tried ++ front) payload last
+  next : IsNextPayload start (tried ++ front) payload last
 
-next-at : (start : StoreState) (tried : List Kept) (blocks : List (Option (List ℕ))) (payload : List ℕ) (k : ℕ) (ks : List Kept) → length ks ≡ k + 1 → block_at blocks k ≡ Some payload → AreNext start tried blocks ks → IsLast start tried blocks payload k ks
+next-at : (start : StoreState) (tried : List BufferedEntry) (blocks : List (Option (List ℕ))) (payload : List ℕ) (k : ℕ) (ks : List BufferedEntry) → length ks ≡ k + 1 → block_at blocks k ≡ Some payload → AreNext start tried blocks ks → IsLastRefilled start tried blocks payload k ks
 next-at start tried blocks payload k [] l b h = absurd (omega (arith, l))
 next-at start tried [] payload k (x ∷ ks) l b h = absurd h
 next-at start tried (None ∷ blocks) payload k (x ∷ ks) l b h = absurd h
@@ -146,7 +146,7 @@ next-at start tried (Some p ∷ blocks) payload zero (x ∷ []) l b h =
       parts = refl;
       count = refl;
       before = tt;
-      next = subst (λ (ts : List Kept). IsNext start ts payload x) (sym (append-nil tried)) (subst (λ (q : List ℕ). IsNext start tried q x) (some-same p payload b) h.0);
+      next = subst (λ (ts : List BufferedEntry). IsNextPayload start ts payload x) (sym (append-nil tried)) (subst (λ (q : List ℕ). IsNextPayload start tried q x) (some-same p payload b) h.0);
     }
 next-at start tried (Some p ∷ blocks) payload zero (x ∷ (y ∷ ks)) l b h = absurd (omega (arith, l))
 next-at start tried (Some p ∷ blocks) payload (suc k) (x ∷ ks) l b h =
@@ -154,13 +154,13 @@ next-at start tried (Some p ∷ blocks) payload (suc k) (x ∷ ks) l b h =
     record {
       front = x ∷ rest.front;
       last = rest.last;
-      parts = ap (λ (js : List Kept). x ∷ js) rest.parts;
+      parts = ap (λ (js : List BufferedEntry). x ∷ js) rest.parts;
       count = ap suc rest.count;
       before = (h.0, rest.before);
-      next = subst (λ (ts : List Kept). IsNext start ts payload rest.last) (append_assoc tried (x ∷ []) rest.front) rest.next;
+      next = subst (λ (ts : List BufferedEntry). IsNextPayload start ts payload rest.last) (append_assoc tried (x ∷ []) rest.front) rest.next;
     }
 
-next-never : (start : StoreState) (tried : List Kept) (blocks : List (Option (List ℕ))) (k : ℕ) (ks : List Kept) → length ks ≡ k + 1 → block_at blocks k ≡ None → AreNext start tried blocks ks → ⊥
+next-never : (start : StoreState) (tried : List BufferedEntry) (blocks : List (Option (List ℕ))) (k : ℕ) (ks : List BufferedEntry) → length ks ≡ k + 1 → block_at blocks k ≡ None → AreNext start tried blocks ks → ⊥
 next-never start tried blocks k [] l b h = omega (arith, l)
 next-never start tried [] k (x ∷ ks) l b h = h
 next-never start tried (None ∷ blocks) k (x ∷ ks) l b h = h
@@ -177,11 +177,11 @@ staging-some olds news nexts s blocks k payload works st b t =
       new = t.new;
       was = st.was;
       others = t.others ∙ ap (λ xs. change xs s (λ _. t.new)) st.others ∙ change-twice olds s (λ _. st.new) (λ _. t.new);
-      goes = goes_trans st.old st.new t.new st.goes (subst (λ (x : StoreState). Goes x t.new) same stages.goes);
+      goes = goes_trans st.old st.new t.new st.goes (subst (λ (x : StoreState). StoreGoesOn x t.new) same stages.goes);
       appends = λ ks l works0 h.
           let p = next-at st.old [] blocks payload k ks l b h in
           let a = st.appends p.front p.count works0 p.before in
-          subst (λ (js : List Kept). IsAppending st.old t.new js) (sym p.parts) (stages.stages st.old p.front p.last p.next (subst (λ (x : StoreState). IsAppending st.old x p.front) (sym same) a));
+          subst (λ (js : List BufferedEntry). IsAppending st.old t.new js) (sym p.parts) (stages.stages st.old p.front p.last p.next (subst (λ (x : StoreState). IsAppending st.old x p.front) (sym same) a));
     }
 
 pub staging-none : (olds news : List StoreState) (s : ℕ) (blocks : List (Option (List ℕ))) (k : ℕ) → IsStaging olds news s blocks k → block_at blocks k ≡ None → IsStaging olds news s blocks (k + 1)
@@ -205,6 +205,6 @@ staging-commits olds news nexts s blocks n works st t =
       was = st.was;
       others = t.others ∙ ap (λ xs. change xs s (λ _. t.new)) st.others ∙ change-twice olds s (λ _. st.new) (λ _. t.new);
       works = t.answer;
-      goes = goes_trans st.old st.new t.new st.goes (subst (λ (x : StoreState). Goes x t.new) same commits.goes);
+      goes = goes_trans st.old st.new t.new st.goes (subst (λ (x : StoreState). StoreGoesOn x t.new) same commits.goes);
       appends = λ ks l works0 h. commits.commits st.old ks (subst (λ (x : StoreState). IsAppending st.old x ks) (sym same) (st.appends ks l works0 h));
     }

@@ -11,13 +11,13 @@ use Rattle.sg_codec.specs.Spelling.{spelling2}
 use Rattle.sg_queue.specs.declared.entry.Entry.{Entry as Waiting}
 use Rattle.sg_machine.specs.declared.setup.BufferSetup.{BufferSetup}
 use Rattle.sg_machine.specs.declared.state.Dest.{Dest}
-use Rattle.sg_machine.specs.declared.state.Entry.{Entry}
+use Rattle.sg_machine.specs.declared.state.DestEntry.{DestEntry}
 use Rattle.sg_machine.specs.declared.state.State.{State}
 use Rattle.sg_machine.specs.Counts.{as_kept}
 use Rattle.sg_machine.specs.Effects.{spool_first, refilled_some}
 use Rattle.sg_machine.specs.Legal.{first_fits, fit_in_turn}
-use Rattle.sg_machine.specs.Running.{IsSound as IsReplayed}
-use Rattle.sg_machine.specs.Runs.{Kept}
+use Rattle.sg_machine.specs.Running.{IsSoundReplay as IsReplayed}
+use Rattle.sg_machine.specs.Runs.{BufferedEntry}
 use Rattle.sg_machine.specs.Safe.{waiting}
 use Rattle.sg_machine.proofs.MoveLemmas.{split-at, change-twice, change-self, move-some}
 use Rattle.sg_machine.proofs.RunLemmas.{both-true}
@@ -28,8 +28,8 @@ use Rattle.sg_sinks.specs.Moving.{moved_first}
 use Rattle.sg_sinks.specs.Standing.{IsSplit, are_split, kept_of, blocks_of, waiting_from, waiting_at, sink_of}
 use Rattle.sg_sinks.specs.States.{SinkState}
 use Rattle.sg_sinks.proofs.MoveSteps.{moving, split-first}
-use Rattle.sg_stores.specs.Appending.{IsNext}
-use Rattle.sg_stores.specs.Stores.{StoreState, HasSize, length_of}
+use Rattle.sg_stores.specs.Appending.{IsNextPayload}
+use Rattle.sg_stores.specs.Stores.{StoreState, HasBufferSize, length_of}
 use Rattle.sg_standing.specs.Sources.{acks_all}
 use Rattle.sg_standing.specs.Standing.{AreSpellable, sources_from}
 use Rattle.sg_standing.specs.declared.source.Source.{Source}
@@ -122,9 +122,9 @@ short-by capacity used n small h =
     let l : used + (5 + n + 1) ≤ capacity = leb-true (used + (5 + n + 1)) capacity h in
     grind (arith, l, small)
 
-next-by : (b : Bool) (n : ℕ) (buffer : BufferSetup) (start : StoreState) (lengths : List ℕ) (tried : List Kept) (e : Entry) (es : List Entry) (p : ℕ) → e.spooled ≡ b → buffer.capacity ≤ 2 ^ 30 → HasSize buffer.capacity lengths start.buffer
+next-by : (b : Bool) (n : ℕ) (buffer : BufferSetup) (start : StoreState) (lengths : List ℕ) (tried : List BufferedEntry) (e : DestEntry) (es : List DestEntry) (p : ℕ) → e.spooled ≡ b → buffer.capacity ≤ 2 ^ 30 → HasBufferSize buffer.capacity lengths start.buffer
     → AreSpellable (Some buffer) (e ∷ es) → FitSome n buffer.capacity (space (lengths ++ map length_of tried)) (waiting_from p (e ∷ es))
-    → ((m q : ℕ) (ks : List Kept) → AreSpellable (Some buffer) es → FitSome m buffer.capacity (space (lengths ++ map length_of ks)) (waiting_from q es) → AreNext start ks (blocks_of (Some buffer) es) (take m (waiting es)))
+    → ((m q : ℕ) (ks : List BufferedEntry) → AreSpellable (Some buffer) es → FitSome m buffer.capacity (space (lengths ++ map length_of ks)) (waiting_from q es) → AreNext start ks (blocks_of (Some buffer) es) (take m (waiting es)))
     → AreNext start tried (blocks_of (Some buffer) (e ∷ es)) (take n (waiting (e ∷ es)))
 next-by true n buffer start lengths tried e es p h small sized spells f rest =
     let fit : FitSome n buffer.capacity (space (lengths ++ map length_of tried)) (waiting_from p es) = rw h at f in
@@ -139,7 +139,7 @@ next-by false (suc n) buffer start lengths tried e es p h small sized spells f r
     let more : (lengths ++ map length_of tried) ++ encoded_len e.message ∷ [] ≡ lengths ++ map length_of (tried ++ k ∷ []) = append_assoc lengths (map length_of tried) (encoded_len e.message ∷ []) ∙ ap (λ ns. lengths ++ ns) (sym (map-append length_of tried (k ∷ []))) in
     let used : space (lengths ++ map length_of tried) + (5 + encoded_len e.message) ≡ space (lengths ++ map length_of (tried ++ k ∷ [])) = sym (space-pushed (lengths ++ map length_of tried) (encoded_len e.message)) ∙ ap space more in
     let r = rest n (p + 1) (tried ++ k ∷ []) spells.1 (subst (λ (u : ℕ). FitSome n buffer.capacity u (waiting_from (p + 1) es)) used fit.1) in
-    let next : IsNext start tried (spelling2 (kept_of e)) k = record {
+    let next : IsNextPayload start tried (spelling2 (kept_of e)) k = record {
       spelled = refl;
       has_spelling = spells.0 (subst (λ (o : Option (List ℕ)). IsSome o) (sym block) refl);
       capacity = buffer.capacity;
@@ -153,7 +153,7 @@ next-by false (suc n) buffer start lengths tried e es p h small sized spells f r
     rw h got
 
 -- the first n are spelled by the blocks that they wait with
-pub are-next : (es : List Entry) (n : ℕ) (buffer : BufferSetup) (start : StoreState) (lengths : List ℕ) (tried : List Kept) (p : ℕ) → buffer.capacity ≤ 2 ^ 30 → HasSize buffer.capacity lengths start.buffer → AreSpellable (Some buffer) es
+pub are-next : (es : List DestEntry) (n : ℕ) (buffer : BufferSetup) (start : StoreState) (lengths : List ℕ) (tried : List BufferedEntry) (p : ℕ) → buffer.capacity ≤ 2 ^ 30 → HasBufferSize buffer.capacity lengths start.buffer → AreSpellable (Some buffer) es
     → FitSome n buffer.capacity (space (lengths ++ map length_of tried)) (waiting_from p es) → AreNext start tried (blocks_of (Some buffer) es) (take n (waiting es))
 are-next [] zero buffer start lengths tried p small sized spells f = tt
 are-next [] (suc n) buffer start lengths tried p small sized spells f = absurd f

@@ -17,7 +17,7 @@ use Rattle.sg_standing.specs.Standing.{IsAt}
 use Rattle.sg_standing.specs.declared.source.Source.{Source}
 use Rattle.sg_core.specs.Answers.{RefillsBy, RefillsAt, buffer_at}
 use Rattle.sg_core.specs.Parts.{CanAckAll, CanMove, FitSome, entries_at}
-use Rattle.sg_core.specs.Whole.{IsWhole}
+use Rattle.sg_core.specs.Whole.{IsWholeCore}
 use Rattle.sg_core.proofs.DestSteps.{dest-of}
 use Rattle.sg_core.proofs.SettleCalls.{buffer-of}
 
@@ -58,7 +58,7 @@ store-there core s d sink b at there has =
     let store = at.buffers d v.dest b v.there (buffer-of s v.dest sink b v.shown has) in
     slice_get-below core.stores b.store store.store store.there
 
-pub small-there : (core : CoreState) (whole : IsWhole core) (d : ℕ) (sink : SinkState) (b : BufferSetup) → slice_get core.sinks d ≡ Some sink → sink.setup.buffer ≡ Some b → b.capacity ≤ 2 ^ 30
+pub small-there : (core : CoreState) (whole : IsWholeCore core) (d : ℕ) (sink : SinkState) (b : BufferSetup) → slice_get core.sinks d ≡ Some sink → sink.setup.buffer ≡ Some b → b.capacity ≤ 2 ^ 30
 small-there core whole d sink b there has =
     let get : slice_get (buffers_of core.sinks) d ≡ Some (Some b) = slice_get-map (λ (x : SinkState). x.setup.buffer) core.sinks d sink there ∙ ap Some has in
     whole.small d b (ap (λ o. option_and_then (λ (x : Option BufferSetup). x) o) get)

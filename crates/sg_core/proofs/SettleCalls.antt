@@ -3,7 +3,7 @@ use Rattle.std.proofs.Common.{◌≡◌, ℕ, ◌+◌, ◌-◌, ◌<◌, ◌≤�
 use Rattle.std.specs.Prelude.{◌==◌, nat_lt, nat_le}
 use Rattle.std.proofs.lemmas.List.{append-nil, length-map}
 use Rattle.sg_list.specs.Lists.{change}
-use Rattle.sg_list.proofs.ListLemmas.{get-change-same}
+use Rattle.sg_list.proofs.ListLemmas.{get-change-same, map-kept}
 use Rattle.sg_device.specs.Disk.{Within}
 use Rattle.sg_queue.specs.declared.entry.Entry.{Entry as Waiting}
 use Rattle.sg_machine.specs.declared.event.Act.{Act}
@@ -11,11 +11,11 @@ use Rattle.sg_machine.specs.declared.event.Act.TheVariants.{Settle}
 use Rattle.sg_machine.specs.declared.event.Event.{Event}
 use Rattle.sg_machine.specs.declared.setup.BufferSetup.{BufferSetup}
 use Rattle.sg_machine.specs.declared.state.Dest.{Dest}
-use Rattle.sg_machine.specs.declared.state.Entry.{Entry}
+use Rattle.sg_machine.specs.declared.state.DestEntry.{DestEntry}
 use Rattle.sg_machine.specs.declared.state.State.{State}
 use Rattle.sg_machine.specs.Effects.{settled_some}
 use Rattle.sg_machine.specs.Legal.{is_legal_act, works, at_most_this, may_settle, store_of}
-use Rattle.sg_machine.specs.Runs.{Kept, after_all}
+use Rattle.sg_machine.specs.Runs.{BufferedEntry, after_all}
 use Rattle.sg_machine.specs.Safe.{failed_entries, spooled_of}
 use Rattle.sg_machine.specs.Verdicts.{is_listed}
 use Rattle.sg_machine.proofs.MoveLemmas.{settle-some, change-twice, change-self}
@@ -26,30 +26,29 @@ use Rattle.sg_sinks.specs.Standing.{are_split, is_split_by, lengths_of, waiting_
 use Rattle.sg_sinks.specs.States.{SinkState, with_broken}
 use Rattle.sg_sinks.proofs.LeftLemmas.{waiting-split}
 use Rattle.sg_sinks.proofs.SettleSteps.{lengths-drop, settling}
-use Rattle.sg_stores.specs.Advancing.{IsListOrRest, Advances, AdvancesAt}
-use Rattle.sg_stores.specs.Stores.{StoreState, HasSize, HoldsEntries, length_of}
+use Rattle.sg_stores.specs.Advancing.{IsListOrRest, AdvancesStore, AdvancesAt}
+use Rattle.sg_stores.specs.Stores.{StoreState, HasBufferSize, HoldsEntries, length_of}
 use Rattle.sg_standing.specs.Sources.{acked_at, acks, acks_all}
 use Rattle.sg_standing.specs.States.{CoreState}
-use Rattle.sg_standing.specs.Standing.{IsAt, AreSpellable, IsBuffer, IsBacked, IsSafeStore, Does, is_broken, sources_from, failed_then}
+use Rattle.sg_standing.specs.Standing.{IsAt, AreSpellable, IsBufferOf, IsBacked, IsSafeStore, DoesAct, is_broken, sources_from, failed_then}
 use Rattle.sg_standing.specs.declared.source.Source.{Source}
 use Rattle.sg_standing.proofs.Calls.{does-of, quiet, all-go-touched, risen-none, risen-touched, positions-buffer, lists-buffer}
-use Rattle.sg_standing.proofs.ListSteps.{map-kept}
 use Rattle.sg_standing.proofs.More.{backed, within-map}
 use Rattle.sg_standing.proofs.Safes.{safe-same}
 use Rattle.sg_core.specs.Parts.{CanAckAll}
 use Rattle.sg_core.specs.Steps.{TakesOff}
-use Rattle.sg_core.specs.Whole.{IsWhole}
+use Rattle.sg_core.specs.Whole.{IsWholeCore}
 use Rattle.sg_core.proofs.AtSteps.{setup-parts, listed-last, listed-other}
 use Rattle.sg_core.proofs.DestSteps.{at-dest, dest-of, leaves-same, leaves-one, broken-listed}
 use Rattle.sg_core.proofs.Fits.{left-length}
 use Rattle.sg_core.proofs.SettleSteps.{settles-all}
 use Rattle.sg_core.proofs.Spooled.{lengths-spooled, spooled-drop, safe-dropped}
 
-pub any-split : (o : Option BufferSetup) (left : List Entry) → is_split_by o left ≡ true → are_split left ≡ true
+pub any-split : (o : Option BufferSetup) (left : List DestEntry) → is_split_by o left ≡ true → are_split left ≡ true
 any-split None left h = waiting-split left h
 any-split (Some b) left h = h
 
-drop-spells : (o : Option BufferSetup) (n : ℕ) (es : List Entry) → AreSpellable o es → AreSpellable o (drop n es)
+drop-spells : (o : Option BufferSetup) (n : ℕ) (es : List DestEntry) → AreSpellable o es → AreSpellable o (drop n es)
 drop-spells o zero es h = h
 drop-spells o (suc n) [] h = tt
 drop-spells o (suc n) (e ∷ es) h = drop-spells o n es h.1
@@ -129,7 +128,7 @@ drop-all zero ns h = refl
 drop-all (suc n) [] h = refl
 drop-all (suc n) (x ∷ ns) h = absurd (omega (arith, h))
 
-drop-kept : (n : ℕ) (ks : List Kept) → min (length ks) n ≡ 0 → drop n ks ≡ ks
+drop-kept : (n : ℕ) (ks : List BufferedEntry) → min (length ks) n ≡ 0 → drop n ks ≡ ks
 drop-kept zero ks h = refl
 drop-kept (suc n) [] h = refl
 drop-kept (suc n) (x ∷ ks) h = absurd (omega (arith, h))
@@ -145,7 +144,7 @@ still-backed stores failed b dest n split why h = record {
       | inl broken ↦ (let wrong : true ≡ false = sym ((h.is).failed_is ∙ broken) ∙ w in cc)
       | inr none ↦ (
           let same : lengths_of (drop n dest.left) ≡ lengths_of dest.left = lengths-drop n dest.left split ∙ drop-all n (lengths_of dest.left) none in
-          subst (λ (ns : List ℕ). HasSize b.capacity ns (h.store).buffer) (sym same) ((h.is).sized w))
+          subst (λ (ns : List ℕ). HasBufferSize b.capacity ns (h.store).buffer) (sym same) ((h.is).sized w))
     ];
     works = λ w. elim why [
       | inl broken ↦ (let wrong : true ≡ false = sym ((h.is).failed_is ∙ broken) ∙ w in cc)
@@ -153,7 +152,7 @@ still-backed stores failed b dest n split why h = record {
           let len : length (lengths_of dest.left) ≡ length (spooled_of dest.left) = ap length (lengths-spooled dest.left) ∙ length-map (spooled_of dest.left) length_of in
           let few : min (length (spooled_of dest.left)) n ≡ 0 = ap (λ m. min m n) (sym len) ∙ none in
           let same : spooled_of (drop n dest.left) ≡ spooled_of dest.left = spooled-drop n dest.left split ∙ drop-kept n (spooled_of dest.left) few in
-          subst (λ (ks : List Kept). HoldsEntries h.store ks []) (sym same) ((h.is).works w))
+          subst (λ (ks : List BufferedEntry). HoldsEntries h.store ks []) (sym same) ((h.is).works w))
     ];
   };
 }
@@ -164,7 +163,7 @@ with-broken sink n h = rw h refl
 
 -- a settle that leaves all stores
 quiet-settle : (old new : CoreState) (d n : ℕ) (sink : SinkState) → slice_get old.sinks d ≡ Some sink → 0 < n → n ≤ length sink.lengths + length sink.entries → new.sources ≡ acks_all old.sources (take (n - length sink.lengths) sink.entries)
-    → new.sinks ≡ change old.sinks d (settled_first n) → new.stores ≡ old.stores → new.calls ≡ old.calls + 1 → ((b : BufferSetup) → sink.setup.buffer ≡ Some b → (sink.broken ≡ true) ⊎ (min (length sink.lengths) n ≡ 0)) → Does old new (Settle d n)
+    → new.sinks ≡ change old.sinks d (settled_first n) → new.stores ≡ old.stores → new.calls ≡ old.calls + 1 → ((b : BufferSetup) → sink.setup.buffer ≡ Some b → (sink.broken ≡ true) ⊎ (min (length sink.lengths) n ≡ 0)) → DoesAct old new (Settle d n)
 quiet-settle old new d n sink there some l sources sinks stores calls why =
     quiet old new (Settle d n) stores calls (setup-parts old new (ap (map (λ (x : Source). x.setup)) sources ∙ acks-setup old.sources (take (n - length sink.lengths) sink.entries)) (ap (map (λ (k : SinkState). k.setup)) sinks ∙ settled-setup old.sinks d n))
     (λ s at.
@@ -186,7 +185,7 @@ quiet-settle old new d n sink there some l sources sinks stores calls why =
 
 -- Stores that advance.
 
-rest-safe : (dest : Dest) (d n k : ℕ) (failed : List ℕ) (tried : List Kept) (bytes : List ℕ) → are_split dest.left ≡ true → k ≡ min n (length (spooled_of dest.left)) → IsListOrRest k (spooled_of dest.left) bytes → IsSafeStore dest d (Settle d n) failed tried bytes
+rest-safe : (dest : Dest) (d n k : ℕ) (failed : List ℕ) (tried : List BufferedEntry) (bytes : List ℕ) → are_split dest.left ≡ true → k ≡ min n (length (spooled_of dest.left)) → IsListOrRest k (spooled_of dest.left) bytes → IsSafeStore dest d (Settle d n) failed tried bytes
 rest-safe dest d n k failed tried bytes split at h =
     elim h [
       | inl whole ↦ record { list = spooled_of dest.left; entries = whole; safe = safe-same dest d (Settle d n) failed tried }
@@ -207,7 +206,7 @@ take-min (suc n) (x ∷ xs) = let z : min (suc (length xs)) (suc n) ≡ suc (min
 pub record IsWorking (old : CoreState) (s : State) (dest : Dest) (b : BufferSetup) (was : StoreState) : Type 0 where
   pub unlisted : is_listed b.store s.failed ≡ false
   pub running : was.failed ≡ false
-  pub sized : HasSize b.capacity (lengths_of dest.left) was.buffer
+  pub sized : HasBufferSize b.capacity (lengths_of dest.left) was.buffer
   pub holds : HoldsEntries was (spooled_of dest.left) []
 
 pub working : (old : CoreState) (s : State) (d : ℕ) (dest : Dest) (b : BufferSetup) (sink : SinkState) (was : StoreState) → IsAt old s → slice_get s.dests d ≡ Some dest → sink ≡ sink_of (is_broken s.failed dest) dest → dest.setup.buffer ≡ Some b → sink.broken ≡ false
@@ -216,12 +215,12 @@ working old s d dest b sink was at there shown has works get =
     let backed_by = at.buffers d dest b there has in
     let same = backed old s d dest b was at there has get in
     let unlisted : is_listed b.store s.failed ≡ false = sym (broken-listed s.failed dest b has) ∙ ap (λ (k : SinkState). k.broken) (sym shown) ∙ works in
-    let is : IsBuffer was b dest (is_listed b.store s.failed) = subst (λ (x : StoreState). IsBuffer x b dest (is_listed b.store s.failed)) same backed_by.is in
+    let is : IsBufferOf was b dest (is_listed b.store s.failed) = subst (λ (x : StoreState). IsBufferOf x b dest (is_listed b.store s.failed)) same backed_by.is in
     let running : was.failed ≡ false = is.failed_is ∙ unlisted in
     record { unlisted = unlisted; running = running; sized = is.sized running; holds = is.works running }
 
 settled-within : (old : CoreState) (start : State) (events : List Event) (e : Event) (d n k : ℕ) (dest : Dest) (b : BufferSetup) (was now : StoreState) (size : ℕ) → e.act ≡ Settle d n → are_split dest.left ≡ true → k ≡ min n (length (spooled_of dest.left)) → HoldsEntries was (spooled_of dest.left) []
-    → Advances was now k size → Within was.disk now.disk (IsSafeStore dest d e.act (failed_then start events e) (failed_entries start (events ++ e ∷ []) d))
+    → AdvancesStore was now k size → Within was.disk now.disk (IsSafeStore dest d e.act (failed_then start events e) (failed_entries start (events ++ e ∷ []) d))
 settled-within old start events e d n k dest b was now size act split at holds a =
     let tried = failed_entries start (events ++ e ∷ []) d in
     let w = within-map was.disk now.disk (IsListOrRest k (spooled_of dest.left)) (IsSafeStore dest d (Settle d n) (failed_then start events e) tried) (λ bytes h. rest-safe dest d n k (failed_then start events e) tried bytes split at h) (a.within (spooled_of dest.left) holds) in
@@ -234,8 +233,8 @@ least-of dest k n sink ls at =
     omega (arith, at, a, c)
 
 -- what the store has then
-advanced-buffer : (dest : Dest) (b : BufferSetup) (was now : StoreState) (k n size : ℕ) (sink : SinkState) (broken : Bool) → are_split dest.left ≡ true → sink.lengths ≡ lengths_of dest.left → k ≡ min (length sink.lengths) n → size ≡ space (take n sink.lengths) → HasSize b.capacity (lengths_of dest.left) was.buffer
-    → HoldsEntries was (spooled_of dest.left) [] → now.failed ≡ false → broken ≡ false → Advances was now k size → IsBuffer now b (settled_some n dest) broken
+advanced-buffer : (dest : Dest) (b : BufferSetup) (was now : StoreState) (k n size : ℕ) (sink : SinkState) (broken : Bool) → are_split dest.left ≡ true → sink.lengths ≡ lengths_of dest.left → k ≡ min (length sink.lengths) n → size ≡ space (take n sink.lengths) → HasBufferSize b.capacity (lengths_of dest.left) was.buffer
+    → HoldsEntries was (spooled_of dest.left) [] → now.failed ≡ false → broken ≡ false → AdvancesStore was now k size → IsBufferOf now b (settled_some n dest) broken
 advanced-buffer dest b was now k n size sink broken split ls at sized has_size holds works unbroken a =
     let kl : k ≡ min (length (lengths_of dest.left)) n = at ∙ ap (λ ks. min (length ks) n) ls in
     let ks : k ≡ min (length (spooled_of dest.left)) n = (let l = least-of dest k n sink ls at in omega (arith, l)) in
@@ -244,11 +243,11 @@ advanced-buffer dest b was now k n size sink broken split ls at sized has_size h
     let list : drop k (spooled_of dest.left) ≡ spooled_of (drop n dest.left) = ap (λ m. drop m (spooled_of dest.left)) ks ∙ drop-min n (spooled_of dest.left) ∙ sym (spooled-drop n dest.left split) in
     record {
       failed_is = works ∙ sym unbroken;
-      sized = λ w. subst (λ (ns : List ℕ). HasSize b.capacity ns now.buffer) lengths (a.sized works b.capacity (lengths_of dest.left) has_size spaced);
-      works = λ w. subst (λ (es : List Kept). HoldsEntries now es []) list (a.holds works (spooled_of dest.left) holds);
+      sized = λ w. subst (λ (ns : List ℕ). HasBufferSize b.capacity ns now.buffer) lengths (a.sized works b.capacity (lengths_of dest.left) has_size spaced);
+      works = λ w. subst (λ (es : List BufferedEntry). HoldsEntries now es []) list (a.holds works (spooled_of dest.left) holds);
     }
 
-pub failed-buffer : (dest : Dest) (b : BufferSetup) (now : StoreState) (broken : Bool) → now.failed ≡ true → broken ≡ true → IsBuffer now b dest broken
+pub failed-buffer : (dest : Dest) (b : BufferSetup) (now : StoreState) (broken : Bool) → now.failed ≡ true → broken ≡ true → IsBufferOf now b dest broken
 failed-buffer dest b now broken fails is = record {
   failed_is = fails ∙ sym is;
   sized = λ w. let wrong : true ≡ false = sym fails ∙ w in cc;
@@ -256,7 +255,7 @@ failed-buffer dest b now broken fails is = record {
 }
 
 -- the parts that each settle has
-record Parts (old new : CoreState) (d n k size : ℕ) (sink : SinkState) : Type 0 where
+record SettleParts (old new : CoreState) (d n k size : ℕ) (sink : SinkState) : Type 0 where
   there : slice_get old.sinks d ≡ Some sink
   some : 0 < n
   few : n ≤ length sink.lengths + length sink.entries
@@ -276,8 +275,8 @@ pub not-false : (f : Bool) → false ≡ not f → f ≡ true
 not-false true h = refl
 not-false false h = h
 
-advance-does : (old new : CoreState) (d n k size : ℕ) (sink : SinkState) (b : BufferSetup) (a : AdvancesAt old.stores new.stores b.store k size true) → Parts old new d n k size sink → sink.setup.buffer ≡ Some b → sink.broken ≡ false → new.sinks ≡ change old.sinks d (settled_first n)
-    → Does old new (Settle d n)
+advance-does : (old new : CoreState) (d n k size : ℕ) (sink : SinkState) (b : BufferSetup) (a : AdvancesAt old.stores new.stores b.store k size true) → SettleParts old new d n k size sink → sink.setup.buffer ≡ Some b → sink.broken ≡ false → new.sinks ≡ change old.sinks d (settled_first n)
+    → DoesAct old new (Settle d n)
 advance-does old new d n k size sink b a p has works sinks =
     let fine : (a.new).failed ≡ false = not-true (a.new).failed a.answer in
     does-of old new (Settle d n) [] (risen-none old.stores new.stores) (all-go-touched old.stores new.stores b.store a.old a.new a.was a.others (a.advances).goes) p.calls
@@ -309,8 +308,8 @@ advance-does old new d n k size sink b a p has works sinks =
     let ls : sink.lengths ≡ lengths_of (v.dest).left = ap (λ (k : SinkState). k.lengths) v.shown in
     lists-buffer old new.stores start events e d v.dest b a.old a.new h v.there had a.was a.others (inr (settled-within old start events e d n k v.dest b a.old a.new size refl v.split (least-of v.dest k n sink ls p.least) w.holds a.advances)))
 
-fail-does : (old new : CoreState) (d n k size : ℕ) (sink : SinkState) (b : BufferSetup) (whole : IsWhole old) (a : AdvancesAt old.stores new.stores b.store k size false) → Parts old new d n k size sink → sink.setup.buffer ≡ Some b → sink.broken ≡ false
-    → new.sinks ≡ change (change old.sinks d (settled_first n)) d with_broken → Does old new (Settle d n)
+fail-does : (old new : CoreState) (d n k size : ℕ) (sink : SinkState) (b : BufferSetup) (whole : IsWholeCore old) (a : AdvancesAt old.stores new.stores b.store k size false) → SettleParts old new d n k size sink → sink.setup.buffer ≡ Some b → sink.broken ≡ false
+    → new.sinks ≡ change (change old.sinks d (settled_first n)) d with_broken → DoesAct old new (Settle d n)
 fail-does old new d n k size sink b whole a p has works sinks =
     let seen = dest-of old whole.state d sink whole.at p.there in
     let runs = working old whole.state d seen.dest b sink a.old whole.at seen.there seen.shown (buffer-of whole.state seen.dest sink b seen.shown has) works a.was in
@@ -354,13 +353,13 @@ settled_sinks false sinks d n = change (change sinks d (settled_first n)) d with
 change-same-at : {A : Type 0} (xs : List A) (d : ℕ) (f : A → A) (x : A) → slice_get xs d ≡ Some x → f x ≡ x → change xs d f ≡ xs
 change-same-at xs d f x h same = change-self xs d f x h same
 
-advances-by : (old new : CoreState) (d n k size : ℕ) (sink : SinkState) (b : BufferSetup) (whole : IsWhole old) → Parts old new d n k size sink → sink.setup.buffer ≡ Some b → sink.broken ≡ false → (works : Bool)
-    → AdvancesAt old.stores new.stores b.store k size works → new.sinks ≡ settled_sinks works old.sinks d n → Does old new (Settle d n)
+advances-by : (old new : CoreState) (d n k size : ℕ) (sink : SinkState) (b : BufferSetup) (whole : IsWholeCore old) → SettleParts old new d n k size sink → sink.setup.buffer ≡ Some b → sink.broken ≡ false → (works : Bool)
+    → AdvancesAt old.stores new.stores b.store k size works → new.sinks ≡ settled_sinks works old.sinks d n → DoesAct old new (Settle d n)
 advances-by old new d n k size sink b whole p has is true a sinks = advance-does old new d n k size sink b a p has is sinks
 advances-by old new d n k size sink b whole p has is false a sinks = fail-does old new d n k size sink b whole a p has is sinks
 
-settle-by : (old new : CoreState) (d n k size : ℕ) (sink : SinkState) (whole : IsWhole old) (works : Bool) → Parts old new d n k size sink → (o : Option BufferSetup) → sink.setup.buffer ≡ o → (broken : Bool) → sink.broken ≡ broken
-    → TakesOff old.stores new.stores o broken k size works → new.sinks ≡ settled_sinks works old.sinks d n → Does old new (Settle d n)
+settle-by : (old new : CoreState) (d n k size : ℕ) (sink : SinkState) (whole : IsWholeCore old) (works : Bool) → SettleParts old new d n k size sink → (o : Option BufferSetup) → sink.setup.buffer ≡ o → (broken : Bool) → sink.broken ≡ broken
+    → TakesOff old.stores new.stores o broken k size works → new.sinks ≡ settled_sinks works old.sinks d n → DoesAct old new (Settle d n)
 settle-by old new d n k size sink whole works p None has broken is t sinks =
     let all : new.sinks ≡ change old.sinks d (settled_first n) = sinks ∙ ap (λ w. settled_sinks w old.sinks d n) t.1 in
     quiet-settle old new d n sink p.there p.some p.few p.sources all t.0 p.calls (λ b h. let wrong : None ≡ Some b = sym has ∙ h in cc)
@@ -377,7 +376,7 @@ settle-by old new d n k size sink whole works p (Some b) has false is t sinks =
       | inr some ↦ advances-by old new d n k size sink b whole p has is works some.1 sinks
     ]
 
-pub settle-does : (old new : CoreState) (d n k size : ℕ) (sink : SinkState) (whole : IsWhole old) (works : Bool) → slice_get old.sinks d ≡ Some sink → 0 < n → n ≤ length sink.lengths + length sink.entries → k ≡ min (length sink.lengths) n → size ≡ space (take n sink.lengths)
-    → new.sources ≡ acks_all old.sources (take (n - length sink.lengths) sink.entries) → new.calls ≡ old.calls + 1 → TakesOff old.stores new.stores sink.setup.buffer sink.broken k size works → new.sinks ≡ settled_sinks works old.sinks d n → Does old new (Settle d n)
+pub settle-does : (old new : CoreState) (d n k size : ℕ) (sink : SinkState) (whole : IsWholeCore old) (works : Bool) → slice_get old.sinks d ≡ Some sink → 0 < n → n ≤ length sink.lengths + length sink.entries → k ≡ min (length sink.lengths) n → size ≡ space (take n sink.lengths)
+    → new.sources ≡ acks_all old.sources (take (n - length sink.lengths) sink.entries) → new.calls ≡ old.calls + 1 → TakesOff old.stores new.stores sink.setup.buffer sink.broken k size works → new.sinks ≡ settled_sinks works old.sinks d n → DoesAct old new (Settle d n)
 settle-does old new d n k size sink whole works there some few least sized sources calls t sinks =
     settle-by old new d n k size sink whole works (record { there = there; some = some; few = few; least = least; sized = sized; sources = sources; calls = calls }) sink.setup.buffer refl sink.broken refl t sinks

@@ -4,7 +4,7 @@ use Rattle.std.specs.Prelude.{◌==◌, nat_le, option_and_then}
 use Rattle.std.specs.Option.{option_map_or}
 use Rattle.std.proofs.lemmas.List.{length-map}
 use Rattle.sg_list.specs.Lists.{change}
-use Rattle.sg_list.proofs.ListLemmas.{some-same, get-change-same, slice_get-map, slice_get-below, length-change}
+use Rattle.sg_list.proofs.ListLemmas.{some-same, get-change-same, slice_get-below, length-change}
 use Rattle.sg_queue.specs.declared.entry.Entry.{Entry as Waiting}
 use Rattle.sg_machine.specs.declared.setup.BufferSetup.{BufferSetup}
 use Rattle.sg_machine.specs.declared.state.State.{State}
@@ -17,7 +17,7 @@ use Rattle.sg_sinks.specs.Laws.{is_listed_in}
 use Rattle.sg_sinks.specs.Settling.{settled_spooled, settled_first}
 use Rattle.sg_sinks.specs.States.{SinkState, Sunk, with_broken}
 use Rattle.sg_stores.specs.Advancing.{CanAdvance, HasFirst}
-use Rattle.sg_stores.specs.Stores.{StoreState, HasSize, length_of}
+use Rattle.sg_stores.specs.Stores.{StoreState, HasBufferSize, length_of}
 use Rattle.sg_standing.specs.States.{CoreState}
 use Rattle.sg_standing.specs.Standing.{IsAt}
 use Rattle.sg_core.specs.Answers.{can_settle, can_settle_at, broken_at, buffer_at}
@@ -27,11 +27,9 @@ use Rattle.sg_core.proofs.DestSteps.{dest-of}
 use Rattle.sg_core.proofs.PartLemmas.{seen-written}
 use Rattle.sg_core.proofs.SettleCalls.{working, buffer-of, drop-min, take-min, settles-at}
 use Rattle.sg_core.proofs.Spooled.{lengths-spooled}
+use Rattle.sg_offers.proofs.ItemLemmas.{seen-there}
 
 -- Those on the disk, then those that wait.
-
-pub seen-there : (sinks : List Sunk) (d : ℕ) (x : Sunk) → slice_get sinks d ≡ Some x → slice_get (seen_in sinks) d ≡ Some x.seen
-seen-there sinks d x h = slice_get-map (λ (y : Sunk). y.seen) sinks d x h
 
 pub spooled-first : (sinks : List Sunk) (d k : ℕ) (x y : Sunk) → slice_get sinks d ≡ Some x → y.seen ≡ settled_spooled k x.seen → seen_in (set sinks d y) ≡ change (seen_in sinks) d (settled_spooled k)
 spooled-first sinks d k x y h e = seen-written sinks d x y (settled_spooled k) h e
@@ -128,7 +126,7 @@ can-take-by core s d n k size sink (Some b) broken at there has is least sized =
     can-advance (slice_get core.stores b.store) store.store k size store.there (λ f. record {
       capacity = b.capacity;
       list = spooled_of (v.dest).left;
-      sized = subst (λ (ns : List ℕ). HasSize b.capacity ns (store.store).buffer) (lengths-spooled (v.dest).left) w.sized;
+      sized = subst (λ (ns : List ℕ). HasBufferSize b.capacity ns (store.store).buffer) (lengths-spooled (v.dest).left) w.sized;
       holds = w.holds;
       some = omega (arith, some);
       enough = omega (arith, least, len);

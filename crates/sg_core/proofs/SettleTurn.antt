@@ -5,11 +5,11 @@ use Rattle.sg_sinks.specs.Fitting.{space}
 use Rattle.sg_sinks.specs.States.{SinkState}
 use Rattle.sg_standing.specs.Sources.{acks_all}
 use Rattle.sg_standing.specs.States.{CoreState}
-use Rattle.sg_standing.specs.Standing.{Does}
+use Rattle.sg_standing.specs.Standing.{DoesAct}
 use Rattle.sg_core.specs.Answers.{can_settle, can_settle_at, broken_at, buffer_at}
 use Rattle.sg_core.specs.Parts.{settling_at, lengths_at}
 use Rattle.sg_core.specs.Steps.{TakesOff}
-use Rattle.sg_core.specs.Whole.{IsWhole}
+use Rattle.sg_core.specs.Whole.{IsWholeCore}
 use Rattle.sg_core.proofs.SettleCalls.{settle-does, settled_sinks}
 use Rattle.sg_core.proofs.SettleParts.{can-at, can-left, settling-is, lengths-is, worked, never-fails, broken-first, broken-then}
 
@@ -28,7 +28,7 @@ pub record SettleTurn (old new : CoreState) (d place n : ℕ) (works : Bool) : T
   pub taken : TakesOff old.stores new.stores sink.setup.buffer sink.broken k size works
   pub sinks : new.sinks ≡ settled_sinks works old.sinks d n
 
-pub turn-does : (old new : CoreState) (d place n : ℕ) (works : Bool) (whole : IsWhole old) → SettleTurn old new d place n works → Does old new (Settle d n)
+pub turn-does : (old new : CoreState) (d place n : ℕ) (works : Bool) (whole : IsWholeCore old) → SettleTurn old new d place n works → DoesAct old new (Settle d n)
 turn-does old new d place n works whole t =
     settle-does old new d n t.k t.size t.sink whole works t.there t.some (can-left t.sink place n t.can) t.least (t.sized ∙ ap (λ ns. space (take n ns)) (lengths-is old.sinks d t.sink t.there))
     (t.sources ∙ ap (acks_all old.sources) (settling-is old.sinks d n t.sink t.there)) t.calls t.taken t.sinks
@@ -36,7 +36,7 @@ turn-does old new d place n works whole t =
 pub turn-can : (old new : CoreState) (d place n : ℕ) (works : Bool) → SettleTurn old new d place n works → can_settle_at old.sinks d place n ≡ true
 turn-can old new d place n works t = can-at old.sinks d place n t.sink t.there ∙ t.can
 
-pub turn-works : (old new : CoreState) (d place n : ℕ) (whole : IsWhole old) → SettleTurn old new d place n true → broken_at new.sinks d ≡ false
+pub turn-works : (old new : CoreState) (d place n : ℕ) (whole : IsWholeCore old) → SettleTurn old new d place n true → broken_at new.sinks d ≡ false
 turn-works old new d place n whole t = broken-first old.sinks new.sinks d n t.sink t.there t.sinks ∙ worked old whole.state new.stores d t.k t.size t.sink true whole.at t.there t.taken refl
 
 pub turn-fails : (old new : CoreState) (d place n : ℕ) → SettleTurn old new d place n false → broken_at new.sinks d ≡ true

@@ -8,8 +8,8 @@ use Rattle.sg_machine.specs.Effects.{after_act}
 use Rattle.sg_sinks.specs.States.{SinkState}
 use Rattle.sg_offers.specs.Payloads.{buffers_of, AreSmall}
 use Rattle.sg_standing.specs.States.{CoreState}
-use Rattle.sg_standing.specs.Standing.{Does}
-use Rattle.sg_core.specs.Whole.{IsWhole}
+use Rattle.sg_standing.specs.Standing.{DoesAct}
+use Rattle.sg_core.specs.Whole.{IsWholeCore}
 
 -- the disk-buffers of a setup
 abbrev buffers_in : Setup → List (Option BufferSetup)
@@ -19,7 +19,7 @@ buffers-setup : (sinks : List SinkState) → map (λ (d : DestSetup). d.buffer) 
 buffers-setup [] = refl
 buffers-setup (k ∷ sinks) = ap (λ (bs : List (Option BufferSetup)). k.setup.buffer ∷ bs) (buffers-setup sinks)
 
-pub whole-still : (old new : CoreState) (act : Act) → IsWhole old → Does old new act → IsWhole new
+pub whole-still : (old new : CoreState) (act : Act) → IsWholeCore old → DoesAct old new act → IsWholeCore new
 whole-still old new act whole does = record {
   state = after_act whole.state act does.failed;
   at = (does.step whole.state whole.at).1;

@@ -3,22 +3,22 @@ use Rattle.std.proofs.Common.{◌≡◌, ◌≢◌, ℕ, ◌+◌, ◌-◌, ◌<�
 use Rattle.std.specs.Prelude.{◌==◌, is_some, unwrap_or}
 use Rattle.sg_list.specs.Lists.{change}
 use Rattle.sg_list.proofs.ListLemmas.{length-change}
-use Rattle.sg_window.specs.Window.{window_of, outstanding, after_ack, first_waiting, left_at, one_less, StandsFor}
+use Rattle.sg_window.specs.Window.{window_of, outstanding, after_ack, first_waiting, left_at, one_less, WindowStandsFor}
 use Rattle.sg_window.proofs.WindowLemmas.{outstanding-length, stands-ack}
-use Rattle.sg_window.specs.declared.tracker.Record.{Record}
-use Rattle.sg_machine.specs.declared.state.Inlet.{Inlet}
+use Rattle.sg_window.specs.declared.tracker.BegunRecord.{BegunRecord}
+use Rattle.sg_machine.specs.declared.state.InletRecords.{InletRecords}
 use Rattle.sg_machine.specs.declared.state.Dest.{Dest}
-use Rattle.sg_machine.specs.declared.state.Entry.{Entry}
+use Rattle.sg_machine.specs.declared.state.DestEntry.{DestEntry}
 use Rattle.sg_machine.specs.declared.state.State.{State}
 use Rattle.sg_machine.specs.Marks.{is_owed_to}
-use Rattle.sg_machine.specs.Running.{IsSound as IsReplayed, owed, records_from, ends_at}
+use Rattle.sg_machine.specs.Running.{IsSoundReplay as IsReplayed, owed, records_from, ends_at}
 use Rattle.sg_machine.proofs.OwedLemmas.{one_if, Lessens, owed-change, records-same, records-less, records-length, records-get, admitted-owed}
 use Rattle.sg_sinks.specs.Standing.{waiting_at}
 use Rattle.sg_standing.specs.Sources.{CanAck, acked_at, acks}
 use Rattle.sg_standing.specs.Standing.{sources_from}
 
 -- a record that something is owed to is outstanding
-outstanding-owed : (rs : List Record) (n : ℕ) → 0 < left_at rs n
+outstanding-owed : (rs : List BegunRecord) (n : ℕ) → 0 < left_at rs n
     → (length rs - length (outstanding rs) ≤ n) × (left_at (outstanding rs) (n - (length rs - length (outstanding rs))) ≡ left_at rs n)
 outstanding-owed [] n h = absurd (omega arith)
 outstanding-owed (r ∷ rs) zero h = grind arith
@@ -38,21 +38,21 @@ window-less ds fs i n limit from ends l h others less =
     let owing : 0 < left_at rs n = rw (got, zero_n) h in
     let o = outstanding-owed rs n owing in
     let f : first_waiting w ≤ n = rw (← len) o.0 in
-    let stands : StandsFor w from rs = rw len refl in
+    let stands : WindowStandsFor w from rs = rw len refl in
     let s = stands-ack w n from rs f stands in
     let len2 = length-change rs n one_less in
     rw r (sym (s ∙ ap (λ k. window_of limit k from (change rs n one_less)) (len2 ∙ len)))
 
-pub sources-same : (ds fs : List Dest) (i : ℕ) (inlets : List Inlet) → ((j n : ℕ) → owed fs j n ≡ owed ds j n) → sources_from fs i inlets ≡ sources_from ds i inlets
+pub sources-same : (ds fs : List Dest) (i : ℕ) (inlets : List InletRecords) → ((j n : ℕ) → owed fs j n ≡ owed ds j n) → sources_from fs i inlets ≡ sources_from ds i inlets
 sources-same ds fs i [] h = refl
 sources-same ds fs i (x ∷ inlets) h = rw (records-same ds fs i 0 x.ends (λ j l. h i j), sources-same ds fs (i + 1) inlets h) refl
 
 -- the sources above that inlet stay
-pub sources-above : (ds fs : List Dest) (i : ℕ) (inlets : List Inlet) → ((j n : ℕ) → i ≤ j → owed fs j n ≡ owed ds j n) → sources_from fs i inlets ≡ sources_from ds i inlets
+pub sources-above : (ds fs : List Dest) (i : ℕ) (inlets : List InletRecords) → ((j n : ℕ) → i ≤ j → owed fs j n ≡ owed ds j n) → sources_from fs i inlets ≡ sources_from ds i inlets
 sources-above ds fs i [] h = refl
 sources-above ds fs i (x ∷ inlets) h = rw (records-same ds fs i 0 x.ends (λ j l. h i j (omega arith)), sources-above ds fs (i + 1) inlets (λ j n l. h j n (omega arith))) refl
 
-sources-less : (ds fs : List Dest) (i k m n : ℕ) (inlets : List Inlet) → i + k ≡ m → n < length (ends_at inlets k) → 0 < owed ds m n
+sources-less : (ds fs : List Dest) (i k m n : ℕ) (inlets : List InletRecords) → i + k ≡ m → n < length (ends_at inlets k) → 0 < owed ds m n
     → ((j o : ℕ) → j ≢ m → owed fs j o ≡ owed ds j o) → ((o : ℕ) → o ≢ n → owed fs m o ≡ owed ds m o) → owed fs m n ≡ owed ds m n - 1
     → sources_from fs i inlets ≡ change (sources_from ds i inlets) k (acked_at n)
 sources-less ds fs i k m n [] at l h apart others less = refl
@@ -67,7 +67,7 @@ sources-less ds fs i (suc k) m n (x ∷ inlets) at l h apart others less =
     let rest = sources-less ds fs (i + 1) k m n inlets (omega arith) l h apart others less in
     rw (here, rest) refl
 
-can-ack-from : (ds : List Dest) (i k m n : ℕ) (inlets : List Inlet) → i + k ≡ m → n < length (ends_at inlets k) → 0 < owed ds m n → CanAck (slice_get (sources_from ds i inlets) k) n
+can-ack-from : (ds : List Dest) (i k m n : ℕ) (inlets : List InletRecords) → i + k ≡ m → n < length (ends_at inlets k) → 0 < owed ds m n → CanAck (slice_get (sources_from ds i inlets) k) n
 can-ack-from ds i k m n [] at l h = absurd (omega arith)
 can-ack-from ds i zero m n (x ∷ inlets) at l h =
     let same : i ≡ m = omega arith in
@@ -86,26 +86,26 @@ number-some : (o : Option ℕ) → is_some o ≡ true → o ≡ Some (unwrap_or 
 number-some None h = let wrong : false ≡ true = h in cc
 number-some (Some n) h = refl
 
-not_owing : (e : Entry) (i n : ℕ) → e.flow ≡ false → is_owed_to i n e ≡ false
+not_owing : (e : DestEntry) (i n : ℕ) → e.flow ≡ false → is_owed_to i n e ≡ false
 not_owing e i n h = grind arith
 
-owing_to : (e : Entry) (m i n : ℕ) → e.number ≡ Some m → e.spooled ≡ false → e.flow ≡ true → is_owed_to i n e ≡ ((e.inlet == i) && (m == n))
+owing_to : (e : DestEntry) (m i n : ℕ) → e.number ≡ Some m → e.spooled ≡ false → e.flow ≡ true → is_owed_to i n e ≡ ((e.inlet == i) && (m == n))
 owing_to e m i n number memory flow = grind arith
 
-spooled_owes : (e : Entry) (i n : ℕ) → e.spooled ≡ true → is_owed_to i n e ≡ false
+spooled_owes : (e : DestEntry) (i n : ℕ) → e.spooled ≡ true → is_owed_to i n e ≡ false
 spooled_owes e i n h = grind arith
 
 -- so much less is owed once the destination is so
-pub lessens-by : (ds : List Dest) (d : ℕ) (f : Dest → Dest) (dest : Dest) (e : Entry) → slice_get ds d ≡ Some dest → Lessens dest (f dest) e → (i n : ℕ) (b : Bool) → is_owed_to i n e ≡ b
+pub lessens-by : (ds : List Dest) (d : ℕ) (f : Dest → Dest) (dest : Dest) (e : DestEntry) → slice_get ds d ≡ Some dest → Lessens dest (f dest) e → (i n : ℕ) (b : Bool) → is_owed_to i n e ≡ b
     → owed ds i n ≡ one_if b + owed (change ds d f) i n
 lessens-by ds d f dest e g h i n b q = rw (← q) (owed-change ds d f dest (one_if (is_owed_to i n e)) i n g (h i n))
 
 -- the record of an entry with flow-control is acknowledged, and could be
-pub record Acks (s : State) (ds : List Dest) (k : ℕ) (e : Entry) : Type 0 where
+pub record Acks (s : State) (ds : List Dest) (k : ℕ) (e : DestEntry) : Type 0 where
   pub can : e.flow ≡ true → CanAck (slice_get (sources_from s.dests 0 s.inlets) e.inlet) (unwrap_or e.number 0)
   pub after : sources_from ds 0 s.inlets ≡ acks (sources_from s.dests 0 s.inlets) (waiting_at k e)
 
-acks-flow : (s : State) (d k m : ℕ) (f : Dest → Dest) (dest : Dest) (e : Entry) → IsReplayed s → slice_get s.dests d ≡ Some dest → e.number ≡ Some m → unwrap_or e.number 0 ≡ m → e.spooled ≡ false → Lessens dest (f dest) e
+acks-flow : (s : State) (d k m : ℕ) (f : Dest → Dest) (dest : Dest) (e : DestEntry) → IsReplayed s → slice_get s.dests d ≡ Some dest → e.number ≡ Some m → unwrap_or e.number 0 ≡ m → e.spooled ≡ false → Lessens dest (f dest) e
     → (b : Bool) → e.flow ≡ b → Acks s (change s.dests d f) k e
 acks-flow s d k m f dest e sound g number value memory h false flow = record {
   can = λ y. let wrong : false ≡ true = sym flow ∙ y in cc;
@@ -127,9 +127,9 @@ acks-flow s d k m f dest e sound g number value memory h true flow =
           rw (flow, value) less;
     }
 
-pub acks-one : (s : State) (d k : ℕ) (f : Dest → Dest) (dest : Dest) (e : Entry) → IsReplayed s → slice_get s.dests d ≡ Some dest → is_some e.number ≡ true → e.spooled ≡ false → Lessens dest (f dest) e → Acks s (change s.dests d f) k e
+pub acks-one : (s : State) (d k : ℕ) (f : Dest → Dest) (dest : Dest) (e : DestEntry) → IsReplayed s → slice_get s.dests d ≡ Some dest → is_some e.number ≡ true → e.spooled ≡ false → Lessens dest (f dest) e → Acks s (change s.dests d f) k e
 acks-one s d k f dest e sound g number memory h = acks-flow s d k (unwrap_or e.number 0) f dest e sound g (number-some e.number number) refl memory h e.flow refl
 
 -- a spooled one is waited for by none
-pub acks-none : (s : State) (d : ℕ) (f : Dest → Dest) (dest : Dest) (e : Entry) → slice_get s.dests d ≡ Some dest → e.spooled ≡ true → Lessens dest (f dest) e → sources_from (change s.dests d f) 0 s.inlets ≡ sources_from s.dests 0 s.inlets
+pub acks-none : (s : State) (d : ℕ) (f : Dest → Dest) (dest : Dest) (e : DestEntry) → slice_get s.dests d ≡ Some dest → e.spooled ≡ true → Lessens dest (f dest) e → sources_from (change s.dests d f) 0 s.inlets ≡ sources_from s.dests 0 s.inlets
 acks-none s d f dest e g spooled h = sources-same s.dests (change s.dests d f) 0 s.inlets (λ j n. let a = lessens-by s.dests d f dest e g h j n false (spooled_owes e j n spooled) in omega arith)

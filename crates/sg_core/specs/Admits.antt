@@ -3,9 +3,9 @@ use Rattle.std.specs.Prelude.{◌≡◌, ◌≢◌, ◌<◌, ℕ, ◌==◌, Bool
 use Rattle.std.specs.Option.{option_map_or}
 use Rattle.std.specs.List.{list_any}
 use Rattle.sg_machine.specs.declared.setup.BufferSetup.{BufferSetup}
-use Rattle.sg_machine.specs.Runs.{Kept}
-use Rattle.sg_stores.specs.Appending.{IsAppending, IsAppended, StagesAt, Commits, CommitsAt}
-use Rattle.sg_stores.specs.Stores.{StoreState, Goes, AllGo}
+use Rattle.sg_machine.specs.Runs.{BufferedEntry}
+use Rattle.sg_stores.specs.Appending.{IsAppending, IsAppended, StagesAt, CommitsStore, CommitsAt}
+use Rattle.sg_stores.specs.Stores.{StoreState, StoreGoesOn, AllGo}
 use Rattle.sg_offers.specs.declared.batch.Payload.{Payload}
 use Rattle.sg_offers.specs.Payloads.{buffer_at}
 use Rattle.sg_offers.specs.Answering.{fails_at}
@@ -58,10 +58,10 @@ CommitsFor olds news buffers d fails = CommitsBy olds news (buffer_at buffers d)
 
 -- these blocks are staged; a store for which there is none stays, and one that has failed before
 pub record Staged (old new : StoreState) (blocks : List (Option (List ℕ))) : Type 0 where
-  pub goes : Goes old new
+  pub goes : StoreGoesOn old new
   pub none : blocks ≡ [] → new ≡ old
   pub before : old.failed ≡ true → new ≡ old
-  pub appends : (ks : List Kept) → length ks ≡ length blocks → old.failed ≡ false
+  pub appends : (ks : List BufferedEntry) → length ks ≡ length blocks → old.failed ≡ false
       → AreNext old [] blocks ks → IsAppending old new ks
 
 pub record StagedAll (olds news : List StoreState) (buffers : List (Option BufferSetup)) (payloads : List Payload) : Type 0 where
@@ -71,7 +71,7 @@ pub record StagedAll (olds news : List StoreState) (buffers : List (Option Buffe
 
 -- where something is staged it is committed, and else the store stays; whether it fails then
 pub record Committed (old new : StoreState) (staged fails : Bool) : Type 0 where
-  pub commits : staged ≡ true → Commits old new
+  pub commits : staged ≡ true → CommitsStore old new
   pub stays : staged ≡ false → new ≡ old
   pub failed : fails ≡ (staged && new.failed)
 
@@ -79,7 +79,7 @@ pub record Committed (old new : StoreState) (staged fails : Bool) : Type 0 where
 pub record CommittedAll (olds news : List StoreState) (buffers : List (Option BufferSetup)) (staged fails : List Bool) : Type 0 where
   pub count : length news ≡ length olds
   pub goes : (s : ℕ) (old new : StoreState) → slice_get olds s ≡ Some old
-      → slice_get news s ≡ Some new → Goes old new
+      → slice_get news s ≡ Some new → StoreGoesOn old new
   pub each : (d : ℕ) (buffer : BufferSetup) (old new : StoreState)
       → buffer_at buffers d ≡ Some buffer → slice_get olds buffer.store ≡ Some old
       → slice_get news buffer.store ≡ Some new
@@ -90,13 +90,13 @@ pub record CommittedAll (olds news : List StoreState) (buffers : List (Option Bu
   pub unbacked : (d : ℕ) → buffer_at buffers d ≡ None → fails_at fails d ≡ false
 
 -- the blocks are appended in one commit; where there are any, whether the store fails
-pub record Appended (old new : StoreState) (blocks : List (Option (List ℕ))) (fails : Bool) : Type 0 where
-  pub goes : Goes old new
+pub record AppendedBlocks (old new : StoreState) (blocks : List (Option (List ℕ))) (fails : Bool) : Type 0 where
+  pub goes : StoreGoesOn old new
   pub none : blocks ≡ [] → new ≡ old
   pub before : old.failed ≡ true → new ≡ old
   pub some : blocks ≢ [] → fails ≡ new.failed
   pub quiet : blocks ≡ [] → fails ≡ false
-  pub appends : (ks : List Kept) → length ks ≡ length blocks → blocks ≢ [] → old.failed ≡ false
+  pub appends : (ks : List BufferedEntry) → length ks ≡ length blocks → blocks ≢ [] → old.failed ≡ false
       → AreNext old [] blocks ks → IsAppended old new ks
 
 pub record AppendedAll (olds news : List StoreState) (buffers : List (Option BufferSetup)) (payloads : List Payload) (fails : List Bool) : Type 0 where
@@ -104,7 +104,7 @@ pub record AppendedAll (olds news : List StoreState) (buffers : List (Option Buf
   pub each : (d : ℕ) (buffer : BufferSetup) (old new : StoreState)
       → buffer_at buffers d ≡ Some buffer → slice_get olds buffer.store ≡ Some old
       → slice_get news buffer.store ≡ Some new
-      → Appended old new (blocks_for buffers buffer.store payloads) (fails_at fails d)
+      → AppendedBlocks old new (blocks_for buffers buffer.store payloads) (fails_at fails d)
   pub others : (s : ℕ)
       → ((d : ℕ) (buffer : BufferSetup) → buffer_at buffers d ≡ Some buffer → buffer.store ≢ s)
       → slice_get news s ≡ slice_get olds s

@@ -85,14 +85,14 @@ AnswersFront old new most Empty = (new ≡ old) × (old.broken ≡ false) × (ol
 AnswersFront old new most FrontBroken = new ≡ with_broken old
 
 -- there is no disk-buffer, or its disk tells its bytes
-abbrev pub IsTold : List StoreState → Option BufferSetup → Type 0
-IsTold stores None = Unit {0}
-IsTold stores (Some buffer) = option_map (λ (store : StoreState). is_some (content store.disk))
+abbrev pub IsBufferTold : List StoreState → Option BufferSetup → Type 0
+IsBufferTold stores None = Unit {0}
+IsBufferTold stores (Some buffer) = option_map (λ (store : StoreState). is_some (content store.disk))
     (slice_get stores buffer.store) ≡ Some true
 
 -- the messages are those of the first entries that are left
 abbrev pub ShowsLeft : List StoreState → Dest → CoreFront → Type 0
-ShowsLeft stores dest (Entries place messages) = IsTold stores dest.setup.buffer
+ShowsLeft stores dest (Entries place messages) = IsBufferTold stores dest.setup.buffer
     → messages ≡ map (λ e. e.message) (take (length messages) dest.left)
 ShowsLeft stores dest Empty = dest.left ≡ []
 ShowsLeft stores dest FrontBroken = Unit {0}

@@ -20,7 +20,7 @@ use Rattle.sg_counter.specs.declared.calls.CoreReply.TheVariants.{Credit as Cred
 use Rattle.sg_stores.specs.Positions.{WritesAt}
 use Rattle.sg_standing.specs.Sources.{credit_at, mark_in, store_at}
 use Rattle.sg_standing.specs.States.{CoreState, counted}
-use Rattle.sg_standing.specs.Standing.{IsAt, Does}
+use Rattle.sg_standing.specs.Standing.{IsAt, DoesAct}
 use Rattle.sg_core.specs.Answers.{credit_left, settle_act, refill_act, store_act, is_no_credit, can_settle_at, broken_at, OnNotFront, AnswersStore, AnswersSettle, AnswersFrontAt, ShowsLeft, RefillsAt}
 
 -- the credit is told: that changes nothing, and is no event
@@ -35,8 +35,8 @@ CreditGives old i reply new = ⊥
 
 -- records come in; or they don't, and come back
 pub record HasAdmitted (old : CoreState) (i : ℕ) (records : List Admission) (result : Result (List Verdict) Refused) (new : CoreState) : Type 0 where
-  pub does : MatchResult result (λ verdicts. Does old new (AdmitAct i records verdicts))
-      (λ _. Does old new Look)
+  pub does : MatchResult result (λ verdicts. DoesAct old new (AdmitAct i records verdicts))
+      (λ _. DoesAct old new Look)
   pub no_credit : (is_no_credit result ≡ true) ↔ (credit_at old.sources i < length records)
   pub back : IfErr result (λ refused. records_back refused ≡ records)
   pub err : OnErr result (new ≡ counted old)
@@ -47,7 +47,7 @@ AdmitGives old i records reply new = ⊥
 
 -- the first entries are shown
 pub record HasShown {E : Type 0} (old : CoreState) (d most : ℕ) (result : Result CoreFront E) (new : CoreState) : Type 0 where
-  pub does : Does old new Look
+  pub does : DoesAct old new Look
   pub front : IfOk result (AnswersFrontAt (slice_get old.sinks d) (slice_get new.sinks d) most)
   pub shows : IfOk result (λ front. (state : State) (dest : Dest) → IsAt old state
       → slice_get state.dests d ≡ Some dest → ShowsLeft old.stores dest front)
@@ -59,7 +59,7 @@ FrontGives old d most reply new = ⊥
 
 -- the first entries are settled, where the first has this place and so many are left
 pub record HasSettled (old : CoreState) (d place n : ℕ) (result : Settled) (new : CoreState) : Type 0 where
-  pub does : Does old new (settle_act d n result)
+  pub does : DoesAct old new (settle_act d n result)
   pub answer : AnswersSettle (can_settle_at old.sinks d place n) (broken_at new.sinks d) result
   pub same : OnNotFront result (new ≡ counted old)
 
@@ -69,7 +69,7 @@ SettleGives old d place n reply new = ⊥
 
 -- the first entries that wait are moved
 pub record HasRefilled (old : CoreState) (d : ℕ) (result : Refill) (new : CoreState) : Type 0 where
-  pub does : Does old new (refill_act d result)
+  pub does : DoesAct old new (refill_act d result)
   pub answer : RefillsAt (slice_get old.sinks d) (slice_get new.sinks d) result
 
 abbrev pub RefillGives : CoreState → ℕ → CoreReply → CoreState → Type 0
@@ -78,7 +78,7 @@ RefillGives old d reply new = ⊥
 
 -- the mark is stored
 pub record HasStored (old : CoreState) (i : ℕ) (result : Stored) (new : CoreState) : Type 0 where
-  pub does : Does old new (store_act i result)
+  pub does : DoesAct old new (store_act i result)
   pub writes : (s : ℕ) → store_at old.sources i ≡ Some s
       → WritesAt old.stores new.stores s (mark_in old.sources i) result
   pub answer : (s : ℕ) → store_at old.sources i ≡ Some s → AnswersStore (mark_in old.sources i)

@@ -3,20 +3,20 @@ use Rattle.std.specs.Prelude.{◌≡◌, ◌≤◌, ◌<◌, ◌^◌, ℕ, Optio
 use Rattle.std.specs.Option.{option_map_or}
 use Rattle.sg_device.specs.Disk.{DiskState, content, WhereTold}
 use Rattle.sg_buffer.specs.Entries.{IsListOf}
-use Rattle.sg_buffer.specs.declared.found.Found.{Found}
-use Rattle.sg_buffer.specs.declared.found.Head.{Head}
+use Rattle.sg_buffer.specs.declared.found.BufferEntries.{BufferEntries}
+use Rattle.sg_buffer.specs.declared.found.EntryHead.{EntryHead}
 use Rattle.sg_window.specs.Window.{window_of}
 use Rattle.sg_machine.specs.declared.setup.BufferSetup.{BufferSetup}
 use Rattle.sg_machine.specs.declared.setup.SourceSetup.{SourceSetup}
 use Rattle.sg_machine.specs.declared.setup.DestSetup.{DestSetup}
 use Rattle.sg_machine.specs.declared.setup.Setup.{Setup}
-use Rattle.sg_machine.specs.Runs.{Kept, Opening, opened}
+use Rattle.sg_machine.specs.Runs.{BufferedEntry, Opening, opened}
 use Rattle.sg_counter.specs.Bringing.{store_in}
 use Rattle.sg_sinks.specs.Fitting.{space}
 use Rattle.sg_sinks.specs.States.{SinkState, fresh_sink, recovered}
 use Rattle.sg_stores.specs.Stores.{StoreState, coded}
-use Rattle.sg_stores.specs.Positions.{IsThere, stored_in}
-use Rattle.sg_stores.specs.Opening.{AreOpened, IsRefused}
+use Rattle.sg_stores.specs.Positions.{IsStoreThere, stored_in}
+use Rattle.sg_stores.specs.Opening.{AreOpened, AreStoresRefused}
 use Rattle.sg_stores.specs.declared.answers.CoreRefusal.{CoreRefusal}
 use Rattle.sg_stores.specs.declared.kind.StoreKind.{StoreKind}
 use Rattle.sg_stores.specs.declared.kind.StoreKind.TheVariants.{Position, Buffer}
@@ -74,45 +74,45 @@ abbrev pub opened_source : List StoreState → SourceSetup → Source
 opened_source stores setup = record { setup = setup; opening = stored_in stores setup.store; tracker = window_of setup.window 0 0 [] }
 
 -- a destination with these entries on its disk
-abbrev pub recovers : SinkState → List Head → SinkState
+abbrev pub recovers : SinkState → List EntryHead → SinkState
 recovers sink [] = sink
 recovers sink (h ∷ hs) = recovers (recovered h.length sink) hs
 
 -- the lengths of these entries
-abbrev pub lengths_in : List Head → List ℕ
-lengths_in heads = map (λ (h : Head). h.length) heads
+abbrev pub lengths_in : List EntryHead → List ℕ
+lengths_in heads = map (λ (h : EntryHead). h.length) heads
 
 -- what was found at a destination's disk-buffer
-abbrev pub found_at : List Found → Option BufferSetup → List Head
+abbrev pub found_at : List BufferEntries → Option BufferSetup → List EntryHead
 found_at founds None = []
-found_at founds (Some buffer) = option_map_or (λ (found : Found). found.heads.items)
+found_at founds (Some buffer) = option_map_or (λ (found : BufferEntries). found.heads.items)
     (slice_get founds buffer.store) []
 
-abbrev pub opened_sink : List Found → DestSetup → SinkState
+abbrev pub opened_sink : List BufferEntries → DestSetup → SinkState
 opened_sink founds setup = recovers (fresh_sink setup) (found_at founds setup.buffer)
 
 -- entries were found in the disk-buffer's store, whose sizes add up
-abbrev pub CanRecover : List Found → Option BufferSetup → Type 0
+abbrev pub CanRecover : List BufferEntries → Option BufferSetup → Type 0
 CanRecover founds None = Unit {0}
 CanRecover founds (Some buffer) = (buffer.store < length founds)
-    × ((found : Found) → slice_get founds buffer.store ≡ Some found
+    × ((found : BufferEntries) → slice_get founds buffer.store ≡ Some found
     → space (lengths_in found.heads.items) < 2 ^ 64)
 
-abbrev pub AreRecoverable : List Found → List DestSetup → Type 0
+abbrev pub AreRecoverable : List BufferEntries → List DestSetup → Type 0
 AreRecoverable founds [] = Unit {0}
 AreRecoverable founds (setup ∷ setups) = CanRecover founds setup.buffer
     × AreRecoverable founds setups
 
 abbrev pub AreThere : List StoreState → List SourceSetup → Type 0
 AreThere stores [] = Unit {0}
-AreThere stores (setup ∷ setups) = IsThere stores setup.store × AreThere stores setups
+AreThere stores (setup ∷ setups) = IsStoreThere stores setup.store × AreThere stores setups
 
 -- The core was opened over these disks: it is at its beginning, each source at the position in its store, and each destination with
 -- the entries of its disk-buffer.
 pub record IsOpen (setup : Setup) (disks : List DiskState) (core : CoreState) : Type 0 where
   pub kinds : List StoreKind
   pub kinds_are : AreKinds setup.dests (length disks) kinds
-  pub founds : List Found
+  pub founds : List BufferEntries
   pub stores : AreOpened kinds disks founds core.stores
   pub sources : core.sources ≡ map (opened_source core.stores) setup.sources
   pub sinks : core.sinks ≡ map (opened_sink founds) setup.dests
@@ -121,7 +121,7 @@ pub record IsOpen (setup : Setup) (disks : List DiskState) (core : CoreState) : 
       ≡ map (λ (s : SourceSetup). stored_in core.stores s.store) setup.sources
   pub every_list : length opening.entries ≡ length setup.dests
   pub lists :
-      (d : ℕ) (dest : DestSetup) (buffer : BufferSetup) (disk : DiskState) (list : List Kept)
+      (d : ℕ) (dest : DestSetup) (buffer : BufferSetup) (disk : DiskState) (list : List BufferedEntry)
       → slice_get setup.dests d ≡ Some dest → dest.buffer ≡ Some buffer
       → slice_get disks buffer.store ≡ Some disk → slice_get opening.entries d ≡ Some list
       → WhereTold (content disk) (IsListOf (map coded list))
@@ -134,4 +134,4 @@ pub record IsOpen (setup : Setup) (disks : List DiskState) (core : CoreState) : 
 pub record IsUnopened (setup : Setup) (olds news : List DiskState) (refusal : CoreRefusal) : Type 0 where
   pub kinds : List StoreKind
   pub kinds_are : AreKinds setup.dests (length olds) kinds
-  pub refused : IsRefused kinds olds news refusal
+  pub refused : AreStoresRefused kinds olds news refusal

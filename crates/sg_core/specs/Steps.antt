@@ -2,10 +2,10 @@
 use Rattle.std.specs.Prelude.{◌≡◌, ◌<◌, ◌⊎◌, ℕ, Bool, true, false, not, Option, Some, None, List, [], ◌∷◌, ◌++◌, length, slice_get}
 use Rattle.sg_list.specs.Lists.{change}
 use Rattle.sg_machine.specs.declared.setup.BufferSetup.{BufferSetup}
-use Rattle.sg_machine.specs.Runs.{Kept}
+use Rattle.sg_machine.specs.Runs.{BufferedEntry}
 use Rattle.sg_stores.specs.Advancing.{CanAdvance, AdvancesAt}
-use Rattle.sg_stores.specs.Appending.{IsNext, IsAppended}
-use Rattle.sg_stores.specs.Stores.{StoreState, Goes}
+use Rattle.sg_stores.specs.Appending.{IsNextPayload, IsAppended}
+use Rattle.sg_stores.specs.Stores.{StoreState, StoreGoesOn}
 
 -- Settles.
 
@@ -30,11 +30,11 @@ TakesOff olds news (Some buffer) false n size works = Advancing olds news buffer
 -- Appends.
 
 -- these blocks spell these entries, each of which fits behind those before
-abbrev pub AreNext : StoreState → List Kept → List (Option (List ℕ)) → List Kept → Type 0
+abbrev pub AreNext : StoreState → List BufferedEntry → List (Option (List ℕ)) → List BufferedEntry → Type 0
 AreNext start tried blocks [] = Unit {0}
 AreNext start tried [] (k ∷ ks) = ⊥
 AreNext start tried (None ∷ blocks) (k ∷ ks) = ⊥
-AreNext start tried (Some payload ∷ blocks) (k ∷ ks) = IsNext start tried payload k
+AreNext start tried (Some payload ∷ blocks) (k ∷ ks) = IsNextPayload start tried payload k
     × AreNext start (tried ++ k ∷ []) blocks ks
 
 -- the first n blocks are appended in one commit; the other stores stay as they are
@@ -44,6 +44,6 @@ pub record AppendsAt (olds news : List StoreState) (s : ℕ) (blocks : List (Opt
   pub was : slice_get olds s ≡ Some old
   pub others : news ≡ change olds s (λ _. new)
   pub works : answer ≡ not new.failed
-  pub goes : Goes old new
-  pub appends : (ks : List Kept) → length ks ≡ n → old.failed ≡ false → AreNext old [] blocks ks
+  pub goes : StoreGoesOn old new
+  pub appends : (ks : List BufferedEntry) → length ks ≡ n → old.failed ≡ false → AreNext old [] blocks ks
       → IsAppended old new ks

@@ -4,14 +4,14 @@ use Rattle.sg_machine.specs.declared.tally.SourceTally.{SourceTally}
 use Rattle.sg_machine.specs.declared.tally.DestTally.{DestTally}
 use Rattle.sg_sinks.specs.States.{SinkState}
 use Rattle.sg_stores.specs.Stores.{StoreState}
-use Rattle.sg_stores.specs.Positions.{IsThere, stored_in}
+use Rattle.sg_stores.specs.Positions.{IsStoreThere, stored_in}
 use Rattle.sg_standing.specs.Sources.{mark_at}
 use Rattle.sg_standing.specs.declared.source.Source.{Source}
 
 -- the window has the number of records that the setup says, and the store is there
 pub record IsFit (stores : List StoreState) (source : Source) : Type 0 where
   pub limit : source.tracker.limit ≡ source.setup.window
-  pub store : IsThere stores source.setup.store
+  pub store : IsStoreThere stores source.setup.store
 
 abbrev pub AreFit : List StoreState → List Source → Type 0
 AreFit stores [] = Unit {0}

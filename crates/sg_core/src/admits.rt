@@ -6,7 +6,7 @@ ghost use Rattle.sg_counter.specs.Bringing.{IsBatch, records_back};
 ghost use Rattle.sg_offers.specs.Rooms.{seen_in};
 ghost use Rattle.sg_standing.specs.Sources.{credit_at, HasCredit, begun_all};
 ghost use Rattle.sg_standing.specs.States.{setup_of, counted};
-ghost use Rattle.sg_standing.specs.Standing.{Does};
+ghost use Rattle.sg_standing.specs.Standing.{DoesAct};
 ghost use Rattle.sg_core.specs.Answers.{is_no_credit};
 
 use crate::appends::append_all;
@@ -17,14 +17,14 @@ use sg_list::Seq;
 use sg_machine::{Admission, Verdict};
 use sg_offers::{offer_all, prepare};
 use sg_standing::{Source, begin_at};
-use sg_window::Record;
+use sg_window::BegunRecord;
 use std::alloc::Global;
 
 // The source begins with no more records than this.
 const MOST: u64 = 1 << 63;
 
 // Begins these records.
-fn begin_all(sources: &mut Seq<Source>, i: u32, records: &[Record])
+fn begin_all(sources: &mut Seq<Source>, i: u32, records: &[BegunRecord])
     requires inlet { i < length sources.old }
     requires credit { HasCredit (slice_get sources.old i) (length records.now) }
     ensures { sources.new ≡ change sources.old i (begun_all records.now) }
@@ -49,8 +49,8 @@ impl<D: Disk> Core<D> {
         requires batch { IsBatch (setup_of self.old) records.items }
         requires few { self.old.calls + 1 < 2 ^ 54 }
         ensures does { MatchResult result
-            (λ verdicts. Does self.old self.new (Act.Admit i records.items verdicts.items))
-            (λ _. Does self.old self.new Act.Look) }
+            (λ verdicts. DoesAct self.old self.new (Act.Admit i records.items verdicts.items))
+            (λ _. DoesAct self.old self.new Act.Look) }
         ensures no_credit { (is_no_credit result ≡ true) ↔
             (credit_at self.old.sources i < length records.items) }
         ensures back { IfErr result (λ refused. records_back refused ≡ records.items) }

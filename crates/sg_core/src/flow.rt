@@ -34,7 +34,7 @@ pub struct Core<D: Disk> {
 impl<D: Disk> Model for Core<D> {
     ghost use Rattle.sg_offers.specs.Rooms.{seen_in};
     ghost use Rattle.sg_standing.specs.States.{CoreState};
-    ghost use Rattle.sg_core.specs.Whole.{IsWhole};
+    ghost use Rattle.sg_core.specs.Whole.{IsWholeCore};
 
     ghost Value = { CoreState };
 
@@ -45,7 +45,7 @@ impl<D: Disk> Model for Core<D> {
       calls = c.calls;
     } };
 
-    ghost invariant = { λ c. IsWhole (record {
+    ghost invariant = { λ c. IsWholeCore (record {
       sources = c.sources;
       sinks = seen_in c.sinks;
       stores = c.stores;

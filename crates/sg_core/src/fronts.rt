@@ -5,7 +5,7 @@ ghost use Rattle.sg_machine.specs.declared.event.Act.{Act};
 ghost use Rattle.sg_machine.specs.declared.state.Dest.{Dest};
 ghost use Rattle.sg_machine.specs.declared.state.State.{State};
 ghost use Rattle.sg_standing.specs.States.{counted};
-ghost use Rattle.sg_standing.specs.Standing.{IsAt, Does};
+ghost use Rattle.sg_standing.specs.Standing.{IsAt, DoesAct};
 ghost use Rattle.sg_core.specs.Answers.{AnswersFront, AnswersFrontAt, ShowsLeft, buffer_at, is_front_broken};
 ghost use Rattle.std.specs.Prelude.{false};
 
@@ -77,7 +77,7 @@ impl<D: Disk> Core<D> {
         requires dest { d < length self.old.sinks }
         requires some { 0 < most }
         requires few { self.old.calls + 1 < 2 ^ 54 }
-        ensures does { Does self.old self.new Act.Look }
+        ensures does { DoesAct self.old self.new Act.Look }
         ensures front { IfOk result
             (AnswersFrontAt (slice_get self.old.sinks d) (slice_get self.new.sinks d) most) }
         ensures shows { IfOk result (λ front. (state : State) (dest : Dest) → IsAt self.old state

@@ -2,17 +2,17 @@
 ghost use Rattle.std.specs.Prelude.{◌≡◌, ◌≤◌, ◌<◌, ◌+◌, ◌^◌, ℕ, IfOk, IfErr, OnOk, map, length, slice_get, option_map};
 ghost use Rattle.sg_offers.specs.Rooms.{seen_in};
 ghost use Rattle.sg_sinks.specs.Fitting.{space};
-ghost use Rattle.sg_stores.specs.Positions.{IsThere};
+ghost use Rattle.sg_stores.specs.Positions.{IsStoreThere};
 ghost use Rattle.sg_core.specs.Opening.{NumberStores, HaveWindows, HaveCapacities, HaveStores, AreKinds, kind_by, AreThere, opened_source, opened_sink, recovers, lengths_in, CanRecover, AreRecoverable, IsOpen, IsUnopened};
 
 use crate::flow::Core;
-use sg_buffer::{Found, Head};
+use sg_buffer::{BufferEntries, EntryHead};
 use sg_device::Disk;
 use sg_list::Seq;
 use sg_machine::{BufferSetup, DestSetup, Setup, SourceSetup};
 use sg_sinks::Sink;
 use sg_standing::Source;
-use sg_stores::{CoreRefusal, Opened, StoreKind, Stores};
+use sg_stores::{CoreRefusal, OpenedStores, StoreKind, Stores};
 use sg_window::Tracker;
 use std::alloc::{AllocError, Global};
 
@@ -51,7 +51,7 @@ fn source_at<D: Disk>(
     stores: &Stores<D>,
 ) -> Result<Source, AllocError>
     requires window { 0 < setup.window }
-    requires store { IsThere stores.now setup.store }
+    requires store { IsStoreThere stores.now setup.store }
     ensures { IfOk result (λ source. source ≡ opened_source stores.now setup) }
 {
     let tracker = Tracker::new(alloc, setup.window, 0)?;
@@ -79,7 +79,7 @@ fn sources_at<D: Disk>(
 }
 
 // Adds the entries that were found to a destination.
-fn recover_all(sink: &mut Sink, heads: &[Head]) -> Result<(), AllocError>
+fn recover_all(sink: &mut Sink, heads: &[EntryHead]) -> Result<(), AllocError>
     requires room { sink.old.room ≡ 0 }
     requires sum { space sink.old.seen.lengths + space (lengths_in heads.now) < 2 ^ 64 }
     ensures { OnOk result (sink.new.seen ≡ recovers sink.old.seen heads.now) }
@@ -91,7 +91,7 @@ fn recover_all(sink: &mut Sink, heads: &[Head]) -> Result<(), AllocError>
 }
 
 // A destination with the entries of its disk-buffer.
-fn sink_at(alloc: Global, setup: DestSetup, found: &Seq<Found>) -> Result<Sink, AllocError>
+fn sink_at(alloc: Global, setup: DestSetup, found: &Seq<BufferEntries>) -> Result<Sink, AllocError>
     requires { CanRecover found.now setup.buffer }
     ensures { IfOk result (λ sink. sink.seen ≡ opened_sink found.now setup) }
 {
@@ -105,7 +105,7 @@ fn sink_at(alloc: Global, setup: DestSetup, found: &Seq<Found>) -> Result<Sink, 
 fn sinks_at(
     alloc: Global,
     setups: &[DestSetup],
-    found: &Seq<Found>,
+    found: &Seq<BufferEntries>,
 ) -> Result<Seq<Sink>, AllocError>
     requires { AreRecoverable found.now setups.now }
     ensures { IfOk result (λ sinks. seen_in sinks ≡ map (opened_sink found.now) setups.now) }
@@ -141,7 +141,7 @@ impl<D: Disk> Core<D> {
             Ok(kinds) => kinds,
             Err(_) => return Err((stores, CoreRefusal::NoMemory)),
         };
-        let Opened { stores, found } = Stores::open(alloc, stores, &kinds)?;
+        let OpenedStores { stores, found } = Stores::open(alloc, stores, &kinds)?;
         let sinks = match sinks_at(alloc, setup.dests.as_slice(), &found) {
             Ok(sinks) => sinks,
             Err(_) => return Err((stores.into_disks(), CoreRefusal::NoMemory)),

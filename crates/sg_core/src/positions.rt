@@ -2,7 +2,7 @@
 ghost use Rattle.std.specs.Prelude.{◌≡◌, ◌<◌, ◌+◌, ◌^◌, ℕ, IsSome, Some, length, slice_get};
 ghost use Rattle.sg_stores.specs.Positions.{WritesAt};
 ghost use Rattle.sg_standing.specs.Sources.{mark_in, begun_in, store_at};
-ghost use Rattle.sg_standing.specs.Standing.{Does};
+ghost use Rattle.sg_standing.specs.Standing.{DoesAct};
 ghost use Rattle.sg_core.specs.Answers.{store_act, rewind_act, AnswersStore};
 
 use crate::flow::Core;
@@ -16,7 +16,7 @@ impl<D: Disk> Core<D> {
         requires inlet { i < length self.old.sources }
         requires store { IsSome (store_at self.old.sources i) }
         requires few { self.old.calls + 1 < 2 ^ 54 }
-        ensures does { Does self.old self.new (store_act i result) }
+        ensures does { DoesAct self.old self.new (store_act i result) }
         ensures writes { (s : ℕ) → store_at self.old.sources i ≡ Some s
             → WritesAt self.old.stores self.new.stores s (mark_in self.old.sources i) result }
         ensures answer { (s : ℕ) → store_at self.old.sources i ≡ Some s
@@ -38,7 +38,7 @@ impl<D: Disk> Core<D> {
         requires store { IsSome (store_at self.old.sources i) }
         requires none { begun_in self.old.sources i ≡ 0 }
         requires few { self.old.calls + 1 < 2 ^ 54 }
-        ensures does { Does self.old self.new (rewind_act i result) }
+        ensures does { DoesAct self.old self.new (rewind_act i result) }
         ensures writes { (s : ℕ) → store_at self.old.sources i ≡ Some s
             → WritesAt self.old.stores self.new.stores s 0 result }
         ensures answer { (s : ℕ) → store_at self.old.sources i ≡ Some s

@@ -3,7 +3,7 @@ ghost use Rattle.std.specs.Prelude.{◌≡◌, ◌≤◌, ◌<◌, ◌+◌, ◌^
 ghost use Rattle.sg_offers.specs.Rooms.{seen_in};
 ghost use Rattle.sg_sinks.specs.Trials.{refill_of};
 ghost use Rattle.sg_standing.specs.States.{counted};
-ghost use Rattle.sg_standing.specs.Standing.{Does};
+ghost use Rattle.sg_standing.specs.Standing.{DoesAct};
 ghost use Rattle.sg_core.specs.Answers.{refill_act, RefillsAt, fitting, buffer_at};
 ghost use Rattle.sg_core.specs.Parts.{FitSome};
 ghost use Rattle.sg_core.specs.Steps.{AppendsAt};
@@ -61,7 +61,7 @@ impl<D: Disk> Core<D> {
     pub fn refill(&mut self, d: u32) -> Refill
         requires dest { d < length self.old.sinks }
         requires few { self.old.calls + 1 < 2 ^ 54 }
-        ensures does { Does self.old self.new (refill_act d result) }
+        ensures does { DoesAct self.old self.new (refill_act d result) }
         ensures answer { RefillsAt (slice_get self.old.sinks d) (slice_get self.new.sinks d)
             result }
         ensures none { buffer_at self.old.sinks d ≡ None → result ≡ Answer.NoneWaits }

@@ -3,7 +3,7 @@ ghost use Rattle.std.specs.Prelude.{◌≡◌, ◌≤◌, ◌<◌, ◌+◌, ◌^
 ghost use Rattle.sg_list.specs.Lists.{change};
 ghost use Rattle.sg_offers.specs.Rooms.{seen_in};
 ghost use Rattle.sg_standing.specs.States.{counted};
-ghost use Rattle.sg_standing.specs.Standing.{Does};
+ghost use Rattle.sg_standing.specs.Standing.{DoesAct};
 ghost use Rattle.sg_core.specs.Answers.{settle_act, AnswersSettle, OnNotFront, can_settle, can_settle_at, broken_at, buffer_at};
 ghost use Rattle.sg_core.specs.Parts.{HasLeft, CanAckAll, settling_at, lengths_at};
 ghost use Rattle.sg_core.specs.Steps.{CanTakeOff, TakesOff};
@@ -77,7 +77,7 @@ impl<D: Disk> Core<D> {
         requires dest { d < length self.old.sinks }
         requires some { 0 < n }
         requires few { self.old.calls + 1 < 2 ^ 54 }
-        ensures does { Does self.old self.new (settle_act d n result) }
+        ensures does { DoesAct self.old self.new (settle_act d n result) }
         ensures answer { AnswersSettle (can_settle_at self.old.sinks d place n)
             (broken_at self.new.sinks d) result }
         ensures same { OnNotFront result (self.new ≡ counted self.old) }

@@ -1,16 +1,11 @@
 -- What may be brought to a core.
 use Rattle.std.specs.Prelude.{◌≤◌, ◌<◌, ℕ, ◌^◌, Option, option_and_then, List, [], ◌∷◌, length, slice_get, Bool, true, false}
-use Rattle.sg_msg.specs.declared.offer.Offer.{Offer}
 use Rattle.sg_machine.specs.declared.event.Admission.{Admission}
 use Rattle.sg_machine.specs.declared.setup.SourceSetup.{SourceSetup}
 use Rattle.sg_machine.specs.declared.setup.Setup.{Setup}
 use Rattle.sg_counter.specs.declared.answers.Refused.{Refused}
 use Rattle.sg_counter.specs.declared.answers.Refused.TheVariants.{NoCredit, NoMemory}
-
--- each offer is to one of so many destinations
-abbrev pub AllWithin : ℕ → List Offer → Type 0
-AllWithin count [] = Unit {0}
-AllWithin count (o ∷ os) = (o.dest < count) × AllWithin count os
+use Rattle.sg_msg.specs.Offers.{AllWithin}
 
 -- an end below 2^63, and at most 1024 offers, each to a destination that is there
 pub record MayEnter (count : ℕ) (r : Admission) : Type 0 where

@@ -21,7 +21,7 @@ use Rattle.sg_crew.specs.Crews.{any, Every, TookEach, EndsWith, TellsPhase, Work
 use Rattle.sg_crew.specs.Workers.{actor_of, seat_of, turn_of, busy_of_worker, busy_sum, AreCounted}
 use Rattle.sg_crew.specs.declared.worker.Worker.{Worker}
 use Rattle.sg_crew.proofs.ListLemmas.{any-some, any-none, unmapped, length-map, choose}
-use Rattle.sg_crew.proofs.SeatLemmas.{IsSpent, is-spent}
+use Rattle.sg_crew.proofs.SeatLemmas.{IsSeatSpent, is-spent}
 use Rattle.sg_crew.proofs.TurnLemmas.{is-none, is-there}
 use Rattle.sg_crew.proofs.KindLemmas.{source-stays, dest-stays}
 
@@ -87,7 +87,7 @@ module _ {A D : Type 0} (takes : A → A → Turn → Type 0) (who : ℕ → Cal
   worked-by j y after = let x = earlier j y after in (x.0, (x.1, k.each j x.0 y x.1 after))
 
   pub spent-is : (first : SeatState) → ((j : ℕ) (x : Worker A D) → slice_get old j ≡ Some x → x.seat ≡ fresh_desk first 1024) → (j : ℕ) (y : Worker A D) → slice_get new j ≡ Some y
-      → IsSpent hub first (who j) (calls_of (turns j)) y.seat
+      → IsSeatSpent hub first (who j) (calls_of (turns j)) y.seat
   spent-is first dealt j y after =
       let x = worked-by j y after in
       let w = x.1.1.worked in
@@ -97,8 +97,8 @@ module _ {A D : Type 0} (takes : A → A → Turn → Type 0) (who : ℕ → Cal
       is-spent hub first x.0.seat y.seat (who j) (calls_of (turns j)) (dealt j x.0 x.1.0) w.makes w.own (omega (arith, few, all, most))
 
   pub spent-at : (first : SeatState) → ((j : ℕ) (x : Worker A D) → slice_get old j ≡ Some x → x.seat ≡ fresh_desk first 1024) → (j : ℕ) (s : SeatState) → slice_get (map seat_of new) j ≡ Some s
-      → IsSpent hub first (who j) (calls_of (turns j)) s
-  spent-at first dealt j s e = let y = unmapped seat_of new j s e in subst (IsSpent hub first (who j) (calls_of (turns j))) y.1.1 (spent-is first dealt j y.0 y.1.0)
+      → IsSeatSpent hub first (who j) (calls_of (turns j)) s
+  spent-at first dealt j s e = let y = unmapped seat_of new j s e in subst (IsSeatSpent hub first (who j) (calls_of (turns j))) y.1.1 (spent-is first dealt j y.0 y.1.0)
 
   pub took-at : (j : ℕ) (a b : A) → slice_get (map actor_of old) j ≡ Some a → slice_get (map actor_of new) j ≡ Some b → TookEach takes a b (turns j)
   took-at j a b before after =

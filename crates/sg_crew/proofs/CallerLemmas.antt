@@ -5,7 +5,7 @@ use Rattle.sg_list.proofs.ListLemmas.{slice_get-below}
 use Rattle.sg_booth.specs.Lists.{times, joined_up, Rises, entries_at}
 use Rattle.sg_counter.specs.Exchanges.{Exchange, Caller, OfSource, OfDest, caller_of, same_caller, calls_by}
 use Rattle.sg_turns.proofs.TurnLemmas.{same-self, other-caller}
-use Rattle.sg_crew.proofs.PlaceLemmas.{find-list, Each, each-at, selects}
+use Rattle.sg_crew.proofs.PlaceLemmas.{find-list, EachPlace, each-at, selects}
 
 -- the list of places of this caller
 abbrev pub IsOwner : List (List ℕ) → List (List ℕ) → Caller → List ℕ → Type 0
@@ -13,7 +13,7 @@ IsOwner xss yss (OfSource i) own = slice_get xss i ≡ Some own
 IsOwner xss yss (OfDest d) own = slice_get yss d ≡ Some own
 
 abbrev pub ByCaller : Caller → List Exchange → Type 0
-ByCaller who made = Each (λ (x : Exchange). caller_of x.call ≡ who) made
+ByCaller who made = EachPlace (λ (x : Exchange). caller_of x.call ≡ who) made
 
 -- the one whose list has a place
 find-owner : (xss yss : List (List ℕ)) (x : ℕ) → 0 < times x (joined_up xss) + times x (joined_up yss)

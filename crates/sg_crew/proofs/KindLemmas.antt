@@ -18,9 +18,10 @@ use Rattle.sg_turns.proofs.ActorLemmas.{source-again, dest-failures}
 use Rattle.sg_hub.specs.Seats.{HubState}
 use Rattle.sg_hub.proofs.Seated.{goes-on}
 use Rattle.sg_crew.specs.Crews.{TookEach, WorkedOnce, WorkedWith}
-use Rattle.sg_crew.specs.Workers.{MayRead, MaySend, Begins, ReadsOnce, SendsOnce, HasRead, HasSent}
+use Rattle.sg_crew.specs.Workers.{MayRead, MaySend, BeginsPhase, ReadsOnce, SendsOnce, HasReadPhase, HasSent}
 use Rattle.sg_crew.specs.declared.worker.Worker.{Worker}
-use Rattle.sg_crew.proofs.TurnLemmas.{busy-most, worked-first, worked-more, counted-first, counted-more}
+use Rattle.sg_crew.proofs.TurnLemmas.{worked-first, worked-more, counted-first, counted-more}
+use Rattle.sg_turns.proofs.BoundLemmas.{busy-most}
 
 -- What stays behind turns.
 
@@ -35,15 +36,15 @@ module _ {R I : Type 0} (state : I → InletState) (offers : R → ℕ → Recor
   source-spec a b (t ∷ turns) k = source-spec k.0 b turns k.1.1 ∙ k.1.0.spec
 
   module _ {D : Type 0} (hub : HubState) where
-    pub read-first : (w v : Worker (SourceActor R I) D) → Begins w → ReadsOnce state offers inlets dests hub w v → HasRead state offers inlets dests hub w v
+    pub read-first : (w v : Worker (SourceActor R I) D) → BeginsPhase w → ReadsOnce state offers inlets dests hub w v → HasReadPhase state offers inlets dests hub w v
     read-first w v b r = record {
       turns = r.turn ∷ [];
       worked = worked-first (SourceTakes state offers inlets dests) (OfSource w.actor.spec.inlet) hub w.actor v.actor w.seat v.seat v.turn r.turn r.worked;
       counted = counted-first w v r.turn r.counted b.0 b.1;
     }
 
-    pub read-more : (w v u : Worker (SourceActor R I) D) (turned : Turned) → HasRead state offers inlets dests hub w v → v.turn ≡ Some turned → v.turns < 256
-        → ReadsOnce state offers inlets dests hub v u → HasRead state offers inlets dests hub w u
+    pub read-more : (w v u : Worker (SourceActor R I) D) (turned : Turned) → HasReadPhase state offers inlets dests hub w v → v.turn ≡ Some turned → v.turns < 256
+        → ReadsOnce state offers inlets dests hub v u → HasReadPhase state offers inlets dests hub w u
     read-more w v u turned h is below r =
         let same : OfSource v.actor.spec.inlet ≡ OfSource w.actor.spec.inlet = ap (λ (s : SourceSpec). OfSource s.inlet) (source-spec w.actor v.actor h.turns h.worked.took) in
         record {
@@ -54,7 +55,7 @@ module _ {R I : Type 0} (state : I → InletState) (offers : R → ℕ → Recor
           counted = counted-more v u h.turns r.turn h.counted r.counted below;
         }
 
-    pub may-read-more : (w v : Worker (SourceActor R I) D) → MayRead state inlets dests hub w → Begins w → HasRead state offers inlets dests hub w v → v.turns < 256 → MayRead state inlets dests hub v
+    pub may-read-more : (w v : Worker (SourceActor R I) D) → MayRead state inlets dests hub w → BeginsPhase w → HasReadPhase state offers inlets dests hub w v → v.turns < 256 → MayRead state inlets dests hub v
     may-read-more w v m b h below =
         let s = source-stays (setup_of hub.made) w.actor.spec.inlet w.actor v.actor h.turns (record { number = refl; fits = m.fits; ready = m.ready }) h.worked.took in
         let g = goes-on hub w.seat v.seat (calls_of h.turns) h.worked.makes in
@@ -87,7 +88,7 @@ module _ {O : Type 0} (state : O → OutletState) where
   dest-spec a b (t ∷ turns) k = dest-spec k.0 b turns k.1.1 ∙ k.1.0.spec
 
   module _ {D : Type 0} (hub : HubState) where
-    pub send-first : (w v : Worker (DestActor O) D) → Begins w → SendsOnce state hub w v → HasSent state hub w v
+    pub send-first : (w v : Worker (DestActor O) D) → BeginsPhase w → SendsOnce state hub w v → HasSent state hub w v
     send-first w v b r = record {
       turns = r.turn ∷ [];
       worked = worked-first (DestTakes state) (OfDest w.actor.spec.dest) hub w.actor v.actor w.seat v.seat v.turn r.turn r.worked;
@@ -105,7 +106,7 @@ module _ {O : Type 0} (state : O → OutletState) where
           counted = counted-more v u h.turns r.turn h.counted r.counted below;
         }
 
-    pub may-send-more : (w v : Worker (DestActor O) D) → MaySend state hub w → Begins w → HasSent state hub w v → v.turns < 256 → MaySend state hub v
+    pub may-send-more : (w v : Worker (DestActor O) D) → MaySend state hub w → BeginsPhase w → HasSent state hub w v → v.turns < 256 → MaySend state hub v
     may-send-more w v m b h below =
         let s = dest-stays w.actor.spec.dest w.actor v.actor h.turns (record { number = refl; failures = m.failures }) h.worked.took in
         let g = goes-on hub w.seat v.seat (calls_of h.turns) h.worked.makes in

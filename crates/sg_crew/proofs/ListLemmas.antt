@@ -1,12 +1,13 @@
 -- Lists, and changes of their items.
 use Rattle.std.proofs.Common.{arith, ◌≡◌, ◌≤◌, ◌<◌, ◌+◌, ℕ, zero, suc, Bool, true, false, List, [], ◌∷◌, ◌++◌, length, map, set, take, get_or, refl, ap, sym, ◌∙◌, subst, slice_get, Some, None, ◌⊎◌, inl, inr}
-use Rattle.std.proofs.lemmas.Bool.{cases_eq, or_cases, or_parts}
+use Rattle.std.proofs.lemmas.Bool.{or_cases, or_parts}
 use Rattle.std.proofs.lemmas.Option.{slice_get-get_or}
 use Rattle.std.specs.Prelude.{◌||◌}
 use Rattle.sg_list.proofs.ListLemmas.{change-set, length-change, get-change-same, get-change-other, slice_get-below, some-same}
 use Rattle.sg_list.specs.Lists.{change}
 use Rattle.sg_booth.specs.Lists.{total}
 use Rattle.sg_crew.specs.Crews.{any, AllChanged}
+use Rattle.sg_turns.proofs.PartLemmas.{last-or}
 
 module _ {X : Type 0} (passes : X → Bool) where
   pub any-push : (xs : List X) (x : X) → any passes (xs ++ x ∷ []) ≡ (any passes xs || passes x)
@@ -70,9 +71,6 @@ changed-none changed old = record { all = refl; each = λ j x y below. absurd (o
 
 pub item-there : {X : Type 0} (xs : List X) (i : ℕ) (x : X) → i < length xs → x ≡ get_or xs i x → slice_get xs i ≡ Some x
 item-there xs i x below is = slice_get-get_or xs i x below ∙ ap Some (sym is)
-
-pub last-or : (j n : ℕ) → j < n + 1 → (j ≡ n) ⊎ ((j < n) × (j ≡ n → ⊥))
-last-or j n h = elim (cases_eq j n) [ inl e ↦ inl e | inr d ↦ inr (omega (arith, h, d), d) ]
 
 -- the item that is next, as it was
 pub next-is : {X : Type 0} (changed : X → X → Type 0) (old mid : List X) (n : ℕ) (x : X) → ChangedFirst changed old mid n → n < length mid → x ≡ get_or mid n x → slice_get old n ≡ Some x

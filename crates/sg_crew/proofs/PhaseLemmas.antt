@@ -2,7 +2,7 @@
 use Rattle.std.proofs.Common.{arith, ◌≡◌, ◌<◌, ◌+◌, ℕ, Bool, true, false, List, ◌++◌, length, map, ap, sym, ◌∙◌, subst, slice_get, Some, None, Option, inl, inr}
 use Rattle.std.proofs.lemmas.Bool.{or_cases, or_parts}
 use Rattle.std.specs.Prelude.{not, is_some, ◌||◌, ◌*◌}
-use Rattle.sg_booth.specs.Desks.{AreOrdered, fresh_desk, places}
+use Rattle.sg_booth.specs.Desks.{ArePlacesOrdered, fresh_desk, places}
 use Rattle.sg_counter.specs.Exchanges.{Exchange, Makes, Caller, OfSource, OfDest}
 use Rattle.sg_counter.specs.declared.calls.CoreCall.{CoreCall}
 use Rattle.sg_counter.specs.declared.calls.CoreReply.{CoreReply}
@@ -11,7 +11,7 @@ use Rattle.sg_turns.specs.Turns.{Turn, calls_of}
 use Rattle.sg_turns.specs.Serving.{IsActor, busy_of, sum_below, Took, ServesWith}
 use Rattle.sg_turns.specs.declared.ended.Ended.{Ended}
 use Rattle.sg_turns.proofs.RoundLemmas.{actor-as}
-use Rattle.sg_hub.specs.Histories.{Called}
+use Rattle.sg_hub.specs.Histories.{ToldCall}
 use Rattle.sg_hub.specs.Seats.{HubState, SeatState}
 use Rattle.sg_crew.specs.Crews.{any, Every, EndsWith, TellsPhase, HasGathered, HasPhaseWith}
 use Rattle.sg_crew.specs.Workers.{actor_of, seat_of, turn_of, busy_sum}
@@ -71,7 +71,7 @@ module _ {A B D : Type 0} (takes : A → A → Turn → Type 0) (sends : B → B
   long' : length (map seat_of d2) ≡ length (map actor_of d1)
   long' = length-map seat_of d2 ∙ (sent.all ∙ sym (length-map actor_of d1))
 
-  pub phase-is : (number busy : ℕ) (starved : Bool) (more : List Called) → f3.seen ≡ f0.seen ++ more → AreOrdered f0
+  pub phase-is : (number busy : ℕ) (starved : Bool) (more : List ToldCall) → f3.seen ≡ f0.seen ++ more → ArePlacesOrdered f0
       → Every (λ (w : Worker A D). w.turns ≡ number) s2 → Every (λ (w : Worker B D). w.turns ≡ number) d2
       → busy ≡ busy_sum s2 + busy_sum d2
       → starved ≡ (any (λ a. not (is_some a)) (map turn_of s2) || any (λ a. not (is_some a)) (map turn_of d2))
@@ -106,7 +106,7 @@ module _ {A B D : Type 0} (takes : A → A → Turn → Type 0) (sends : B → B
         all_dests = length-map actor_of d2 ∙ (sent.all ∙ sym (length-map actor_of d1));
       }
 
-  pub phase-turns : (more : List Called) → f3.seen ≡ f0.seen ++ more → f1.left + (1024 * length s1 + 1024 * length d1) ≡ f0.left → length (places f3) + f3.left ≡ length (places f0) + f0.left
+  pub phase-turns : (more : List ToldCall) → f3.seen ≡ f0.seen ++ more → f1.left + (1024 * length s1 + 1024 * length d1) ≡ f0.left → length (places f3) + f3.left ≡ length (places f0) + f0.left
   phase-turns more seen left1 =
       let ss = spent-at takes OfSource hub s1 s2 f took f0 dealt in
       let ds = spent-at sends OfDest hub d1 d2 g sent f0 dealt' in

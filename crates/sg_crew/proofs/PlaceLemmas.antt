@@ -5,12 +5,9 @@ use Rattle.std.specs.Prelude.{filter, if◌then◌else◌}
 use Rattle.std.specs.Option.{option_to_list}
 use Rattle.sg_booth.specs.Lists.{times, joined_up, Rises, AllRise, entries_at}
 use Rattle.sg_booth.proofs.Sums.{times-append}
+use Rattle.sg_booth.proofs.Calls.{rises-le}
 
 -- Places in a list.
-
-pub rises-le : (low : ℕ) (ps : List ℕ) (high : ℕ) → Rises low ps high → low ≤ high
-rises-le low [] high r = r
-rises-le low (p ∷ ps) high r = let a = rises-le (p + 1) ps high r.1 in let b = r.0 in omega (arith, a, b)
 
 times-head : (p : ℕ) (ps : List ℕ) (x : ℕ) → x ≡ p → times x (p ∷ ps) ≡ 1 + times x ps
 times-head p ps x e = ap (λ b. (if b then 1 else 0) + times x ps) (eq-eqb x p e)
@@ -59,22 +56,22 @@ find-list (xs ∷ xss) x h = elim (cases_eq (times x xs) 0) [
 ]
 
 -- each of these items
-abbrev pub Each : {X : Type 0} → (X → Type 0) → List X → Type 0
-Each P [] = Unit {0}
-Each P (x ∷ xs) = P x × Each P xs
+abbrev pub EachPlace : {X : Type 0} → (X → Type 0) → List X → Type 0
+EachPlace P [] = Unit {0}
+EachPlace P (x ∷ xs) = P x × EachPlace P xs
 
 -- The items at the places of a list are those of the part behind a place that pass a test, where the places are those of them.
 module _ {E X : Type 0} (g : E → X) where
-  each-tail : (P : X → Type 0) (o : Option E) (rest : List E) → Each P (map g (option_to_list o ++ rest)) → Each P (map g rest)
+  each-tail : (P : X → Type 0) (o : Option E) (rest : List E) → EachPlace P (map g (option_to_list o ++ rest)) → EachPlace P (map g rest)
   each-tail P (Some e) rest h = h.1
   each-tail P None rest h = h
 
-  pub each-at : (P : X → Type 0) (whole : List E) (own : List ℕ) (p : ℕ) (e : E) → Each P (map g (entries_at whole own)) → slice_get whole p ≡ Some e → 0 < times p own → P (g e)
+  pub each-at : (P : X → Type 0) (whole : List E) (own : List ℕ) (p : ℕ) (e : E) → EachPlace P (map g (entries_at whole own)) → slice_get whole p ≡ Some e → 0 < times p own → P (g e)
   each-at P whole [] p e all there some = absurd (omega (arith, some))
   each-at P whole (q ∷ own) p e all there some = elim (cases_eq p q) [
     | inl is ↦ (
         let at : slice_get whole q ≡ Some e = ap (λ k. slice_get whole k) (sym is) ∙ there in
-        let all' : Each P (map g (option_to_list (Some e) ++ entries_at whole own)) = subst (λ o. Each P (map g (option_to_list o ++ entries_at whole own))) at all in
+        let all' : EachPlace P (map g (option_to_list (Some e) ++ entries_at whole own)) = subst (λ o. EachPlace P (map g (option_to_list o ++ entries_at whole own))) at all in
         all'.0)
     | inr other ↦ (
         let t = times-tail q own p other in

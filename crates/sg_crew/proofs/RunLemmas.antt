@@ -1,36 +1,31 @@
 -- Phases of a run, one behind the other.
-use Rattle.std.proofs.Common.{arith, ◌≡◌, ◌≤◌, ◌<◌, ◌+◌, ℕ, zero, suc, Bool, true, false, List, [], ◌∷◌, ◌++◌, length, refl, ap, sym, ◌∙◌, subst, append_assoc, length-append, Some, inl, inr}
-use Rattle.std.proofs.lemmas.Bool.{cases_eq, or_parts}
+use Rattle.std.proofs.Common.{arith, ◌≡◌, ◌≤◌, ◌<◌, ◌+◌, ℕ, zero, suc, Bool, true, false, List, [], ◌∷◌, ◌++◌, length, refl, ap, sym, ◌∙◌, subst, append_assoc, length-append, inl, inr}
+use Rattle.std.proofs.lemmas.Bool.{cases_eq}
 use Rattle.std.proofs.lemmas.List.{append-nil, map-append}
 use Rattle.sg_list.proofs.ListLemmas.{slice_get-some, slice_get-below, some-same}
 use Rattle.sg_booth.specs.Lists.{times, joined_up}
 use Rattle.sg_booth.specs.Rule.{Makes as MakesAll}
-use Rattle.sg_booth.specs.Desks.{AreOrdered, places, HasClosed}
+use Rattle.sg_booth.specs.Desks.{ArePlacesOrdered, places, HasClosed}
 use Rattle.sg_booth.proofs.Sums.{times-append}
-use Rattle.sg_counter.specs.Exchanges.{Exchange, Makes, Caller, OfSource, OfDest, calls_by}
+use Rattle.sg_counter.specs.Exchanges.{Exchange, Caller, OfSource, OfDest, calls_by}
 use Rattle.sg_counter.specs.declared.calls.CoreCall.{CoreCall}
 use Rattle.sg_counter.specs.declared.calls.CoreReply.{CoreReply}
 use Rattle.sg_standing.specs.States.{CoreState, setup_of}
 use Rattle.sg_core.specs.Calls.{Serves as CoreServes}
 use Rattle.sg_actor.specs.Reading.{one_if}
-use Rattle.sg_actor.specs.declared.turned.Turned.{Turned}
 use Rattle.sg_turns.specs.Turns.{Turn, calls_of, any_step}
-use Rattle.sg_turns.specs.Serving.{IsActor, is_busy, is_busy_answer, busy_of, sum_below, busy_turns, AreFed, IsLast, Took, Serves, ServesWith}
+use Rattle.sg_turns.specs.Serving.{IsActor, is_busy, busy_of, sum_below, busy_turns, AreFed, IsLast, Took, ServesRounds, ServesWith}
 use Rattle.sg_turns.specs.declared.ended.Ended.{Ended}
 use Rattle.sg_turns.specs.declared.ended.Ended.TheVariants.{Quiet, RoundsSpent, NoMemory}
-use Rattle.sg_turns.proofs.TurnLemmas.{calls-append}
-use Rattle.sg_turns.proofs.RoundLemmas.{actor-as}
-use Rattle.sg_hub.specs.Histories.{Called, exchange_of, exchanges_of}
+use Rattle.sg_turns.proofs.TurnLemmas.{calls-append, any-makes}
+use Rattle.sg_turns.proofs.RoundLemmas.{actor-as, nothing-done}
+use Rattle.sg_hub.specs.Histories.{ToldCall, exchange_of, exchanges_of}
 use Rattle.sg_hub.specs.Seats.{HubState, SeatState}
 use Rattle.sg_hub.proofs.Tellings.{made-of, setups-stay}
 use Rattle.sg_crew.specs.Crews.{AllSeen, TookEach, TookPhase, HasPhase, IsPhase, HasServed}
 use Rattle.sg_crew.proofs.PlaceLemmas.{times-high, all-high}
 use Rattle.sg_crew.proofs.TurnLemmas.{calls-join, busy-join, fed-join, ends-fed}
 use Rattle.sg_crew.proofs.PhaseLemmas.{serves-with}
-
-any-makes : (made : List Exchange) → Makes any_step (tt {0}) made (tt {0})
-any-makes [] = refl
-any-makes (e ∷ es) = (tt, tt, any-makes es)
 
 -- the turns of a phase behind those of earlier ones
 abbrev pub and-turns : (Caller → List Turn) → (Caller → List Turn) → Caller → List Turn
@@ -95,11 +90,6 @@ busy-is : (b : Bool) → 0 < one_if b → b ≡ true
 busy-is true h = refl
 busy-is false h = absurd (omega (arith, h))
 
-nothing-done : (t : Turn) (turned : Turned) → t.answer ≡ Some turned → is_busy t ≡ false → t.answer ≡ Some (record { did = false; idle = false })
-nothing-done t turned is calm =
-    let parts = or_parts turned.did turned.idle (ap is_busy_answer (sym is) ∙ calm) in
-    is ∙ ap (λ (b : Bool). Some (record { did = b; idle = turned.idle })) parts.0 ∙ ap (λ (b : Bool). Some (record { did = false; idle = b })) parts.1
-
 none-of : (turns : List Turn) → length turns ≡ 0 → turns ≡ []
 none-of [] e = refl
 none-of (t ∷ turns) e = absurd (omega (arith, e))
@@ -110,7 +100,7 @@ alone turns earlier turn are one =
     let sum = length-append earlier (turn ∷ []) in
     are ∙ ap (λ l. l ++ turn ∷ []) (none-of earlier (omega (arith, long, sum, one)))
 
-made-is : (old new more : List Called) → new ≡ old ++ more → exchanges_of old ++ exchanges_of more ≡ exchanges_of new
+made-is : (old new more : List ToldCall) → new ≡ old ++ more → exchanges_of old ++ exchanges_of more ≡ exchanges_of new
 made-is old new more e = sym (ap exchanges_of e ∙ map-append exchange_of old more)
 
 module _ {A B : Type 0} (source : A → A → List Turn → Type 0) (dest : B → B → List Turn → Type 0) (takes : A → A → Turn → Type 0) (sends : B → B → Turn → Type 0)
@@ -120,7 +110,7 @@ module _ {A B : Type 0} (source : A → A → List Turn → Type 0) (dest : B �
   pub run-none : (first : SeatState) (sources : List A) (dests : List B) (left : ℕ) → first.seen ≡ [] → HasRun source dest first sources sources dests dests 0 left
   run-none first sources dests left unseen = (
     (λ who. []),
-    (λ all. subst (λ (s : List Called). RunsFor source dest sources sources dests dests (exchanges_of s) (λ who. []) 0 left) (sym unseen) (record {
+    (λ all. subst (λ (s : List ToldCall). RunsFor source dest sources sources dests dests (exchanges_of s) (λ who. []) 0 left) (sym unseen) (record {
       took = record {
         makes = refl;
         all_sources = refl;
@@ -324,7 +314,7 @@ run-spent source dest first s0 s d0 d number left rounds h is over some = (
 
 -- The close: the history is what the first seat has seen, and has the calls of its places and no others.
 
-module _ (hub : HubState) (first : SeatState) (core : CoreState) (ordered : AreOrdered first) (sum : length (places first) + first.left ≡ hub.turns) (closed : HasClosed CoreServes hub first core) where
+module _ (hub : HubState) (first : SeatState) (core : CoreState) (ordered : ArePlacesOrdered first) (sum : length (places first) + first.left ≡ hub.turns) (closed : HasClosed CoreServes hub first core) where
   -- no place of the first seat lies behind what it has seen
   unplaced : (x : ℕ) → length first.seen ≤ x → times x (places first) ≡ 0
   unplaced x above =
@@ -333,7 +323,7 @@ module _ (hub : HubState) (first : SeatState) (core : CoreState) (ordered : AreO
       let c = all-high first.joined (length first.seen) x ordered.1 above in
       omega (arith, a, b, c)
 
-  ends : (rest : List Called) → closed.history ≡ first.seen ++ rest → closed.history ≡ first.seen
+  ends : (rest : List ToldCall) → closed.history ≡ first.seen ++ rest → closed.history ≡ first.seen
   ends [] e = e ∙ append-nil first.seen
   ends (x ∷ rest) e =
       let long : length closed.history ≡ length first.seen + length (x ∷ rest) = ap length e ∙ length-append first.seen (x ∷ rest) in
@@ -351,13 +341,13 @@ module _ (hub : HubState) (first : SeatState) (core : CoreState) (ordered : AreO
       omega (arith, one)
 
   pub gives-seen : MakesAll CoreServes hub.made first.seen core
-  gives-seen = subst (λ (s : List Called). MakesAll CoreServes hub.made s core) history-is closed.gives
+  gives-seen = subst (λ (s : List ToldCall). MakesAll CoreServes hub.made s core) history-is closed.gives
 
   pub setup-stays : setup_of core ≡ setup_of hub.made
   setup-stays = setups-stay hub.made core first.seen gives-seen
 
   pub served-is : {A B : Type 0} (source : A → A → List Turn → Type 0) (dest : B → B → List Turn → Type 0) (s0 s : List A) (d0 d : List B) (rounds : ℕ) (ended : Ended)
-      → HasServed source dest first s0 s d0 d rounds ended → Serves source dest CoreServes hub.made core s0 s d0 d rounds ended
+      → HasServed source dest first s0 s d0 d rounds ended → ServesRounds source dest CoreServes hub.made core s0 s d0 d rounds ended
   served-is source dest s0 s d0 d rounds ended h = (
     exchanges_of first.seen,
     (
@@ -373,9 +363,9 @@ module _ (hub : HubState) (first : SeatState) (core : CoreState) (ordered : AreO
 -- the same actors in other lists
 pub serves-as : {A B S : Type 0} (source : A → A → List Turn → Type 0) (dest : B → B → List Turn → Type 0) (step : S → CoreCall → CoreReply → S → Type 0) (c c' : S)
     (s0 s0' s s' : List A) (d0 d0' d d' : List B) (rounds : ℕ) (ended : Ended) → s0 ≡ s0' → s' ≡ s → d0 ≡ d0' → d' ≡ d
-    → Serves source dest step c c' s0 s d0 d rounds ended → Serves source dest step c c' s0' s' d0' d' rounds ended
+    → ServesRounds source dest step c c' s0 s d0 d rounds ended → ServesRounds source dest step c c' s0' s' d0' d' rounds ended
 serves-as source dest step c c' s0 s0' s s' d0 d0' d d' rounds ended a b e f h =
-    subst (λ x. Serves source dest step c c' s0' s' d0' x rounds ended) (sym f)
-    (subst (λ x. Serves source dest step c c' s0' s' x d rounds ended) e
-    (subst (λ x. Serves source dest step c c' s0' x d0 d rounds ended) (sym b)
-    (subst (λ x. Serves source dest step c c' x s d0 d rounds ended) a h)))
+    subst (λ x. ServesRounds source dest step c c' s0' s' d0' x rounds ended) (sym f)
+    (subst (λ x. ServesRounds source dest step c c' s0' s' x d rounds ended) e
+    (subst (λ x. ServesRounds source dest step c c' s0' x d0 d rounds ended) (sym b)
+    (subst (λ x. ServesRounds source dest step c c' x s d0 d rounds ended) a h)))

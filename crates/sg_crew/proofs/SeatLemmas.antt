@@ -4,14 +4,14 @@ use Rattle.std.proofs.lemmas.List.{append-nil, map-append}
 use Rattle.std.specs.Prelude.{◌*◌}
 use Rattle.sg_list.proofs.ListLemmas.{slice_get-some, slice_get-below, slice_get-map, some-same}
 use Rattle.sg_booth.specs.Lists.{total, times, joined_up, Rises, StartsWith, entries_at}
-use Rattle.sg_booth.specs.Desks.{IsDeskOf, AreOrdered, fresh_desk, HasJoined, places}
+use Rattle.sg_booth.specs.Desks.{IsDeskOf, ArePlacesOrdered, fresh_desk, HasJoined, places}
 use Rattle.sg_booth.proofs.Sums.{times-append, joined_up-append, rises_to}
 use Rattle.sg_booth.proofs.Calls.{entries-more}
 use Rattle.sg_counter.specs.Exchanges.{Exchange, Makes, Caller, OfSource, OfDest, calls_by}
 use Rattle.sg_actor.specs.Bringing.{AllBy}
 use Rattle.sg_turns.specs.Serving.{IsActor}
-use Rattle.sg_hub.specs.Histories.{Called, exchange_of, exchanges_of}
-use Rattle.sg_hub.specs.Laws.{GoesOn}
+use Rattle.sg_hub.specs.Histories.{ToldCall, exchange_of, exchanges_of}
+use Rattle.sg_hub.specs.Laws.{SeatGoesOn}
 use Rattle.sg_hub.specs.Seats.{HubState, SeatState, SeatStep}
 use Rattle.sg_hub.proofs.Seated.{goes-on}
 use Rattle.sg_crew.specs.Crews.{AllSeen, HasGathered}
@@ -29,7 +29,7 @@ behind hub old new (x ∷ made) m =
     let mid : SeatState = m.0 in
     let t = m.1 in
     let rest = behind hub mid new made m.2 in
-    let e : Called = record { call = x.call; reply = x.reply } in
+    let e : ToldCall = record { call = x.call; reply = x.reply } in
     let own : mid.own ≡ old.own ++ length (old.seen ++ t.between) ∷ [] = ap (λ (d : SeatState). d.own) t.desk in
     let seen : mid.seen ≡ (old.seen ++ t.between) ++ e ∷ [] = ap (λ (d : SeatState). d.seen) t.desk in
     let long : length mid.seen ≡ length (old.seen ++ t.between) + 1 = ap length seen ∙ length-append (old.seen ++ t.between) (e ∷ []) in
@@ -43,7 +43,7 @@ behind hub old new (x ∷ made) m =
     )
 
 -- A seat behind the turns of a phase, which is this caller's and made these calls.
-pub record IsSpent (hub : HubState) (first : SeatState) (who : Caller) (made : List Exchange) (seat : SeatState) : Type 0 where
+pub record IsSeatSpent (hub : HubState) (first : SeatState) (who : Caller) (made : List Exchange) (seat : SeatState) : Type 0 where
   pub rises : Rises (length first.seen) seat.own (length seat.seen)
   pub calls : exchanges_of (entries_at seat.seen seat.own) ≡ made
   pub by : AllBy who made
@@ -52,10 +52,10 @@ pub record IsSpent (hub : HubState) (first : SeatState) (who : Caller) (made : L
   pub of_hub : IsDeskOf hub first → IsDeskOf hub seat
 
 pub is-spent : (hub : HubState) (first old new : SeatState) (who : Caller) (made : List Exchange) → old ≡ fresh_desk first 1024 → Makes (SeatStep hub) old made new → AllBy who made → length made ≤ 1024
-    → IsSpent hub first who made new
+    → IsSeatSpent hub first who made new
 is-spent hub first old new who made dealt makes by few =
     let from : Makes (SeatStep hub) (fresh_desk first 1024) made new = subst (λ d. Makes (SeatStep hub) d made new) dealt makes in
-    let on : GoesOn hub (fresh_desk first 1024) made new = goes-on hub (fresh_desk first 1024) new made from in
+    let on : SeatGoesOn hub (fresh_desk first 1024) made new = goes-on hub (fresh_desk first 1024) new made from in
     let b = behind hub (fresh_desk first 1024) new made from in
     let own : new.own ≡ b.0 = b.1.0 in
     let long : length new.own ≡ length made = ap length own ∙ b.1.1.1 in
@@ -126,18 +126,18 @@ sums (s ∷ seats) h =
     let long = length-append s.own (joined_up (map (λ (seat : SeatState). seat.own) seats)) in
     omega (arith, one, rest, long)
 
-module _ (hub : HubState) (f0 f1 f2 f3 : SeatState) (ss ds : List SeatState) (made : Caller → List Exchange) (more : List Called)
+module _ (hub : HubState) (f0 f1 f2 f3 : SeatState) (ss ds : List SeatState) (made : Caller → List Exchange) (more : List ToldCall)
     (seen1 : f1.seen ≡ f0.seen) (own1 : f1.own ≡ f0.own) (joined1 : f1.joined ≡ f0.joined)
-    (sources : (j : ℕ) (seat : SeatState) → slice_get ss j ≡ Some seat → IsSpent hub f0 (OfSource j) (made (OfSource j)) seat)
-    (dests : (j : ℕ) (seat : SeatState) → slice_get ds j ≡ Some seat → IsSpent hub f0 (OfDest j) (made (OfDest j)) seat)
+    (sources : (j : ℕ) (seat : SeatState) → slice_get ss j ≡ Some seat → IsSeatSpent hub f0 (OfSource j) (made (OfSource j)) seat)
+    (dests : (j : ℕ) (seat : SeatState) → slice_get ds j ≡ Some seat → IsSeatSpent hub f0 (OfDest j) (made (OfDest j)) seat)
     (g : HasGathered f1 ss f2) (h : HasGathered f2 ds f3) (seen : f3.seen ≡ f0.seen ++ more) where
   -- a seat of the round, in the history that the first seat has seen behind it
-  record IsIn (who : Caller) (own : List ℕ) : Type 0 where
+  record IsInPhase (who : Caller) (own : List ℕ) : Type 0 where
     pub rises : Rises (length f0.seen) own (length (f0.seen ++ more))
     pub calls : map exchange_of (entries_at (f0.seen ++ more) own) ≡ made who
     pub by : ByCaller who (map exchange_of (entries_at (f0.seen ++ more) own))
 
-  is-in : (who : Caller) (seat : SeatState) → IsSpent hub f0 who (made who) seat → StartsWith f3.seen seat.seen → IsIn who seat.own
+  is-in : (who : Caller) (seat : SeatState) → IsSeatSpent hub f0 who (made who) seat → StartsWith f3.seen seat.seen → IsInPhase who seat.own
   is-in who seat s starts =
       let whole : f0.seen ++ more ≡ seat.seen ++ starts.0 = sym seen ∙ starts.1 in
       let long : length (f0.seen ++ more) ≡ length seat.seen + length starts.0 = ap length whole ∙ length-append seat.seen starts.0 in
@@ -149,13 +149,13 @@ module _ (hub : HubState) (f0 f1 f2 f3 : SeatState) (ss ds : List SeatState) (ma
         by = subst (ByCaller who) (sym calls) (each-by who (made who) s.by);
       }
 
-  owner-in : (who : Caller) (own : List ℕ) → IsOwner (map (λ (seat : SeatState). seat.own) ss) (map (λ (seat : SeatState). seat.own) ds) who own → IsIn who own
+  owner-in : (who : Caller) (own : List ℕ) → IsOwner (map (λ (seat : SeatState). seat.own) ss) (map (λ (seat : SeatState). seat.own) ds) who own → IsInPhase who own
   owner-in (OfSource j) own e =
       let s = unmapped (λ (seat : SeatState). seat.own) ss j own e in
-      subst (IsIn (OfSource j)) s.1.1 (is-in (OfSource j) s.0 (sources j s.0 s.1.0) (starts-trans f3.seen f2.seen s.0.seen h.seen (g.told j s.0 s.1.0)))
+      subst (IsInPhase (OfSource j)) s.1.1 (is-in (OfSource j) s.0 (sources j s.0 s.1.0) (starts-trans f3.seen f2.seen s.0.seen h.seen (g.told j s.0 s.1.0)))
   owner-in (OfDest j) own e =
       let s = unmapped (λ (seat : SeatState). seat.own) ds j own e in
-      subst (IsIn (OfDest j)) s.1.1 (is-in (OfDest j) s.0 (dests j s.0 s.1.0) (h.told j s.0 s.1.0))
+      subst (IsInPhase (OfDest j)) s.1.1 (is-in (OfDest j) s.0 (dests j s.0 s.1.0) (h.told j s.0 s.1.0))
 
   joined-up : joined_up f3.joined ≡ joined_up f0.joined ++ (joined_up (map (λ (seat : SeatState). seat.own) ss) ++ joined_up (map (λ (seat : SeatState). seat.own) ds))
   joined-up =
@@ -189,7 +189,7 @@ module _ (hub : HubState) (f0 f1 f2 f3 : SeatState) (ss ds : List SeatState) (ma
       let d = all-low (map (λ (seat : SeatState). seat.own) ds) (length f0.seen) (length (f0.seen ++ more)) x (λ j own e. (owner-in (OfDest j) own e).rises) below in
       omega (arith, some, are, s, d)
 
-  covers : AreOrdered f0 → AllSeen f3 → (x : ℕ) → length f0.seen ≤ x → x < length (f0.seen ++ more)
+  covers : ArePlacesOrdered f0 → AllSeen f3 → (x : ℕ) → length f0.seen ≤ x → x < length (f0.seen ++ more)
       → 0 < times x (joined_up (map (λ (seat : SeatState). seat.own) ss)) + times x (joined_up (map (λ (seat : SeatState). seat.own) ds))
   covers ordered all x above below =
       let same = ap length seen in
@@ -200,14 +200,14 @@ module _ (hub : HubState) (f0 f1 f2 f3 : SeatState) (ss ds : List SeatState) (ma
       let joined = all-high f0.joined (length f0.seen) x ordered.1 above in
       omega (arith, some, are, old, own, joined)
 
-  calls-of-round : AreOrdered f0 → AllSeen f3 → (c : Caller) (own : List ℕ) → Rises (length f0.seen) own (length (f0.seen ++ more))
+  calls-of-round : ArePlacesOrdered f0 → AllSeen f3 → (c : Caller) (own : List ℕ) → Rises (length f0.seen) own (length (f0.seen ++ more))
       → ByCaller c (map exchange_of (entries_at (f0.seen ++ more) own)) → ((other : List ℕ) → IsOwner (map (λ (seat : SeatState). seat.own) ss) (map (λ (seat : SeatState). seat.own) ds) c other → other ≡ own)
       → calls_by c (map exchange_of more) ≡ map exchange_of (entries_at (f0.seen ++ more) own)
   calls-of-round ordered all c own rises mine one =
       calls-at exchange_of f0.seen more (map (λ (seat : SeatState). seat.own) ss) (map (λ (seat : SeatState). seat.own) ds) (λ who o is. (owner-in who o is).by) (covers ordered all) c own rises mine one
 
   -- each actor's calls are those of its turn
-  pub calls-are : AreOrdered f0 → AllSeen f3 → (who : Caller) → IsActor (length ss) (length ds) who → calls_by who (exchanges_of more) ≡ made who
+  pub calls-are : ArePlacesOrdered f0 → AllSeen f3 → (who : Caller) → IsActor (length ss) (length ds) who → calls_by who (exchanges_of more) ≡ made who
   calls-are ordered all (OfSource j) below =
       let s = slice_get-some ss j below in
       let there : slice_get (map (λ (seat : SeatState). seat.own) ss) j ≡ Some s.0.own = slice_get-map (λ (seat : SeatState). seat.own) ss j s.0 s.1 in
@@ -224,7 +224,7 @@ module _ (hub : HubState) (f0 f1 f2 f3 : SeatState) (ss ds : List SeatState) (ma
   none-owns (OfDest j) not-there other e = (let s = unmapped (λ (seat : SeatState). seat.own) ds j other e in not-there (slice_get-below ds j s.0 s.1.0))
 
   -- and there are no others
-  pub no-others : AreOrdered f0 → AllSeen f3 → (who : Caller) → (IsActor (length ss) (length ds) who → ⊥) → calls_by who (exchanges_of more) ≡ []
+  pub no-others : ArePlacesOrdered f0 → AllSeen f3 → (who : Caller) → (IsActor (length ss) (length ds) who → ⊥) → calls_by who (exchanges_of more) ≡ []
   no-others ordered all who not-there =
       let longer = length-append f0.seen more in
       calls-of-round ordered all who [] (omega (arith, longer)) tt (λ other e. absurd (none-owns who not-there other e))

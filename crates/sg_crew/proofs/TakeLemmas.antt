@@ -12,18 +12,18 @@ use Rattle.sg_actor.specs.declared.dest.DestActor.{DestActor}
 use Rattle.sg_actor.specs.declared.source.SourceActor.{SourceActor}
 use Rattle.sg_turns.specs.Turns.{Turn}
 use Rattle.sg_turns.specs.Actors.{AreSources, AreDests, SourceTakes, DestTakes}
-use Rattle.sg_hub.specs.Histories.{Called}
+use Rattle.sg_hub.specs.Histories.{ToldCall}
 use Rattle.sg_hub.specs.Seats.{HubState, SeatState}
 use Rattle.sg_crew.specs.Crews.{AllChanged, Every, HasPhaseWith}
-use Rattle.sg_crew.specs.Workers.{actor_of, actors_of, IsDealt, HasStayed, MayJoin, MayRead, MaySend, Begins, HasRead, HasSent}
+use Rattle.sg_crew.specs.Workers.{actor_of, actors_of, IsSeatDealt, HasStayed, MayJoin, MayRead, MaySend, BeginsPhase, HasReadPhase, HasSent}
 use Rattle.sg_crew.specs.declared.worker.Worker.{Worker}
 use Rattle.sg_crew.proofs.ListLemmas.{part-stays, length-map}
-use Rattle.sg_crew.proofs.TurnLemmas.{busy-most}
 use Rattle.sg_crew.proofs.ActorLemmas.{KindTook, kind-took, worked-by, spent-is, took-at, sources-again, dests-again}
+use Rattle.sg_turns.proofs.BoundLemmas.{busy-most}
 
 -- seats of this first one, or of one that only gave turns away since
-module _ {A D : Type 0} (f0 first : SeatState) (same : fresh_desk first 1024 ≡ fresh_desk f0 1024) (ws xs : List (Worker A D)) (dealt : AllChanged (IsDealt first) ws xs) where
-  dealt-at : (j : ℕ) (x : Worker A D) → slice_get xs j ≡ Some x → (w : Worker A D) × IsDealt first w x
+module _ {A D : Type 0} (f0 first : SeatState) (same : fresh_desk first 1024 ≡ fresh_desk f0 1024) (ws xs : List (Worker A D)) (dealt : AllChanged (IsSeatDealt first) ws xs) where
+  dealt-at : (j : ℕ) (x : Worker A D) → slice_get xs j ≡ Some x → (w : Worker A D) × IsSeatDealt first w x
   dealt-at j x e =
       let below = slice_get-below xs j x e in
       let all = dealt.all in
@@ -33,14 +33,14 @@ module _ {A D : Type 0} (f0 first : SeatState) (same : fresh_desk first 1024 ≡
   pub dealt-seat : (j : ℕ) (x : Worker A D) → slice_get xs j ≡ Some x → x.seat ≡ fresh_desk f0 1024
   dealt-seat j x e = (dealt-at j x e).1.1 ∙ same
 
-  pub dealt-begins : (j : ℕ) (x : Worker A D) → slice_get xs j ≡ Some x → Begins x
+  pub dealt-begins : (j : ℕ) (x : Worker A D) → slice_get xs j ≡ Some x → BeginsPhase x
   dealt-begins j x e =
       let d = (dealt-at j x e).1 in
       let left = ap (λ (s : SeatState). s.left) (dealt-seat j x e) in
       (d.2, d.3, omega (arith, left))
 
   pub dealt-actors : actors_of xs ≡ actors_of ws
-  dealt-actors = part-stays (IsDealt first) actor_of (λ x y h. h.0) ws xs dealt
+  dealt-actors = part-stays (IsSeatDealt first) actor_of (λ x y h. h.0) ws xs dealt
 
   pub dealt-actor : (j : ℕ) (x : Worker A D) → slice_get xs j ≡ Some x → slice_get (actors_of ws) j ≡ Some x.actor
   dealt-actor j x e = ap (λ as'. slice_get as' j) (sym dealt-actors) ∙ slice_get-map actor_of xs j x e
@@ -52,9 +52,9 @@ module _ {A D : Type 0} (f0 first : SeatState) (same : fresh_desk first 1024 ≡
   dealt-hub hub of_hub j x e = subst (IsDeskOf hub) (sym (dealt-seat j x e)) (of_hub.0, of_hub.1)
 
 module _ {R I D : Type 0} (state : I → InletState) (offers : R → ℕ → Record → List Offer → Type 0) (inlets dests : R → ℕ) (hub : HubState)
-    (f0 first : SeatState) (same : fresh_desk first 1024 ≡ fresh_desk f0 1024) (ws xs : List (Worker (SourceActor R I) D)) (dealt : AllChanged (IsDealt first) ws xs)
+    (f0 first : SeatState) (same : fresh_desk first 1024 ≡ fresh_desk f0 1024) (ws xs : List (Worker (SourceActor R I) D)) (dealt : AllChanged (IsSeatDealt first) ws xs)
     (sources : AreSources state inlets dests (setup_of hub.made) (actors_of ws)) where
-  pub may-read : IsDeskOf hub f0 → (j : ℕ) (x : Worker (SourceActor R I) D) → slice_get xs j ≡ Some x → MayRead state inlets dests hub x × Begins x
+  pub may-read : IsDeskOf hub f0 → (j : ℕ) (x : Worker (SourceActor R I) D) → slice_get xs j ≡ Some x → MayRead state inlets dests hub x × BeginsPhase x
   may-read of_hub j x e =
       let s = sources.each j x.actor (dealt-actor f0 first same ws xs dealt j x e) in
       let b = dealt-begins f0 first same ws xs dealt j x e in
@@ -71,7 +71,7 @@ module _ {R I D : Type 0} (state : I → InletState) (offers : R → ℕ → Rec
         b,
       )
 
-  pub sources-took : (ys : List (Worker (SourceActor R I) D)) → AllChanged (HasRead state offers inlets dests hub) xs ys
+  pub sources-took : (ys : List (Worker (SourceActor R I) D)) → AllChanged (HasReadPhase state offers inlets dests hub) xs ys
       → (turns : ℕ → List Turn) × KindTook (SourceTakes state offers inlets dests) OfSource hub xs ys turns
   sources-took ys worked = kind-took (SourceTakes state offers inlets dests) OfSource (λ (a : SourceActor R I). a.spec.inlet) hub xs ys worked.all
       (λ j x e. (sources.each j x.actor (dealt-actor f0 first same ws xs dealt j x e)).number)
@@ -87,9 +87,9 @@ module _ {R I D : Type 0} (state : I → InletState) (offers : R → ℕ → Rec
       (took-at (SourceTakes state offers inlets dests) OfSource hub xs ys turns took))
 
 module _ {O D : Type 0} (state : O → OutletState) (hub : HubState)
-    (f0 first : SeatState) (same : fresh_desk first 1024 ≡ fresh_desk f0 1024) (ws xs : List (Worker (DestActor O) D)) (dealt : AllChanged (IsDealt first) ws xs)
+    (f0 first : SeatState) (same : fresh_desk first 1024 ≡ fresh_desk f0 1024) (ws xs : List (Worker (DestActor O) D)) (dealt : AllChanged (IsSeatDealt first) ws xs)
     (dests : AreDests state (setup_of hub.made) (actors_of ws)) where
-  pub may-send : IsDeskOf hub f0 → (j : ℕ) (x : Worker (DestActor O) D) → slice_get xs j ≡ Some x → MaySend state hub x × Begins x
+  pub may-send : IsDeskOf hub f0 → (j : ℕ) (x : Worker (DestActor O) D) → slice_get xs j ≡ Some x → MaySend state hub x × BeginsPhase x
   may-send of_hub j x e =
       let there = dealt-actor f0 first same ws xs dealt j x e in
       let s = dests.each j x.actor there in
@@ -140,7 +140,7 @@ may-join takes who hub f0 xs ys turns took dealt of_hub j y e =
 
 -- a phase of other lists of the same actors
 pub phase-as : {A B : Type 0} (takes : A → A → Turn → Type 0) (sends : B → B → Turn → Type 0) (first first' : SeatState) (s1 s2 s0 s3 : List A) (d1 d2 d0 d3 : List B) (number busy : ℕ) (starved : Bool)
-    (more : List Called) (turns : Caller → List Turn) → s1 ≡ s0 → s3 ≡ s2 → d1 ≡ d0 → d3 ≡ d2
+    (more : List ToldCall) (turns : Caller → List Turn) → s1 ≡ s0 → s3 ≡ s2 → d1 ≡ d0 → d3 ≡ d2
     → HasPhaseWith takes sends first first' s1 s2 d1 d2 number busy starved more turns → HasPhaseWith takes sends first first' s0 s3 d0 d3 number busy starved more turns
 phase-as takes sends first first' s1 s2 s0 s3 d1 d2 d0 d3 number busy starved more turns a b e f h =
     subst (λ x. HasPhaseWith takes sends first first' s0 s3 d0 x number busy starved more turns) (sym f)

@@ -12,7 +12,7 @@ use Rattle.sg_actor.specs.declared.turned.Turned.{Turned}
 use Rattle.sg_hub.specs.Seats.{HubState}
 use Rattle.sg_crew.specs.Crews.{AllChanged, Every}
 use Rattle.sg_crew.specs.Pools.{MayGoOn, KeepsReads, KeepsSends}
-use Rattle.sg_crew.specs.Workers.{MayRead, MaySend, Begins, ReadsOnce, SendsOnce, HasRead, HasSent}
+use Rattle.sg_crew.specs.Workers.{MayRead, MaySend, BeginsPhase, ReadsOnce, SendsOnce, HasReadPhase, HasSent}
 use Rattle.sg_crew.specs.declared.worker.Worker.{Worker}
 use Rattle.sg_crew.proofs.KindLemmas.{read-first, read-more, may-read-more, send-first, send-more, may-send-more}
 
@@ -22,14 +22,14 @@ some-there (Some turned) h = (turned, refl)
 
 module _ {R I D : Type 0} (state : I → InletState) (offers : R → ℕ → Record → List Offer → Type 0) (inlets dests : R → ℕ) (hub : HubState) where
   abbrev pub MayStartRead : Worker (SourceActor R I) D → Type 0
-  MayStartRead w = MayRead state inlets dests hub w × Begins w
+  MayStartRead w = MayRead state inlets dests hub w × BeginsPhase w
 
   -- the source that was in this place of the list, behind turns, if there were any
   pub record ReadSoFar (olds : List (Worker (SourceActor R I) D)) (j : ℕ) (v : Worker (SourceActor R I) D) : Type 0 where
     pub old : Worker (SourceActor R I) D
     pub there : slice_get olds j ≡ Some old
     pub fresh : v.turns ≡ 0 → v ≡ old
-    pub has_read : 0 < v.turns → HasRead state offers inlets dests hub old v
+    pub has_read : 0 < v.turns → HasReadPhase state offers inlets dests hub old v
 
   module _ (xs : List (Worker (SourceActor R I) D)) (may : Every MayStartRead xs) where
     may-read-on : (j : ℕ) (w : Worker (SourceActor R I) D) → ReadSoFar xs j w → MayGoOn w → (n : ℕ) → w.turns ≡ n → MayRead state inlets dests hub w
@@ -37,7 +37,7 @@ module _ {R I D : Type 0} (state : I → InletState) (offers : R → ℕ → Rec
     may-read-on j w k g (suc n) e = let m = may j k.old k.there in may-read-more state offers inlets dests hub k.old w m.0 m.1 (k.has_read (omega (arith, e))) g.0
 
     reads-again : (j : ℕ) (w v : Worker (SourceActor R I) D) → ReadSoFar xs j w → MayGoOn w → ReadsOnce state offers inlets dests hub w v → (n : ℕ) → w.turns ≡ n
-        → (old : Worker (SourceActor R I) D) × ((slice_get xs j ≡ Some old) × HasRead state offers inlets dests hub old v)
+        → (old : Worker (SourceActor R I) D) × ((slice_get xs j ≡ Some old) × HasReadPhase state offers inlets dests hub old v)
     reads-again j w v k g r zero e =
         (k.old, (k.there, read-first state offers inlets dests hub k.old v (may j k.old k.there).1 (subst (λ x. ReadsOnce state offers inlets dests hub x v) (k.fresh e) r)))
     reads-again j w v k g r (suc n) e =
@@ -57,15 +57,15 @@ module _ {R I D : Type 0} (state : I → InletState) (offers : R → ℕ → Rec
             let one = r.counted.turns in
             record { old = s.0; there = s.1.0; fresh = λ none. absurd (omega (arith, none, one)); has_read = λ some. s.1.1 };
       };
-      tells = λ j w v e k some. subst (λ x. HasRead state offers inlets dests hub x v) (some-same k.old w (sym k.there ∙ e)) (k.has_read some);
+      tells = λ j w v e k some. subst (λ x. HasReadPhase state offers inlets dests hub x v) (some-same k.old w (sym k.there ∙ e)) (k.has_read some);
     }
 
-    pub reads-once : (ys : List (Worker (SourceActor R I) D)) → AllChanged (ReadsOnce state offers inlets dests hub) xs ys → AllChanged (HasRead state offers inlets dests hub) xs ys
+    pub reads-once : (ys : List (Worker (SourceActor R I) D)) → AllChanged (ReadsOnce state offers inlets dests hub) xs ys → AllChanged (HasReadPhase state offers inlets dests hub) xs ys
     reads-once ys h = record { all = h.all; each = λ j x y before after. read-first state offers inlets dests hub x y (may j x before).1 (h.each j x y before after) }
 
 module _ {O D : Type 0} (state : O → OutletState) (hub : HubState) where
   abbrev pub MayStartSend : Worker (DestActor O) D → Type 0
-  MayStartSend w = MaySend state hub w × Begins w
+  MayStartSend w = MaySend state hub w × BeginsPhase w
 
   -- the destination that was in this place of the list, behind turns, if there were any
   pub record SentSoFar (olds : List (Worker (DestActor O) D)) (j : ℕ) (v : Worker (DestActor O) D) : Type 0 where

@@ -1,18 +1,18 @@
 -- Turns at a seat, one more each time.
-use Rattle.std.proofs.Common.{arith, ◌≡◌, ◌≤◌, ◌<◌, ◌+◌, List, [], ◌∷◌, ◌++◌, length, refl, ap, sym, ◌∙◌, subst, append_assoc, length-append, Option, Some, None}
+use Rattle.std.proofs.Common.{arith, ◌≡◌, ◌<◌, ◌+◌, List, [], ◌∷◌, ◌++◌, length, refl, ap, sym, ◌∙◌, subst, append_assoc, length-append, Option, Some, None}
 use Rattle.std.proofs.lemmas.List.{append-nil}
-use Rattle.std.specs.Prelude.{not, is_some, true, false, Bool}
+use Rattle.std.specs.Prelude.{not, is_some, true, false}
 use Rattle.sg_counter.specs.Exchanges.{Exchange, Makes, Caller}
 use Rattle.sg_actor.specs.Bringing.{AllBy}
-use Rattle.sg_actor.specs.Reading.{one_if}
 use Rattle.sg_actor.specs.declared.turned.Turned.{Turned}
 use Rattle.sg_turns.specs.Turns.{Turn, calls_of}
-use Rattle.sg_turns.specs.Serving.{is_busy, busy_of, AreFed}
-use Rattle.sg_turns.proofs.TurnLemmas.{makes-append}
+use Rattle.sg_turns.specs.Serving.{busy_of, AreFed}
 use Rattle.sg_hub.specs.Seats.{HubState, SeatState, SeatStep}
 use Rattle.sg_crew.specs.Crews.{TookEach, EndsWith, WorkedOnce, WorkedWith}
-use Rattle.sg_crew.specs.Workers.{IsCounted, AreCounted}
+use Rattle.sg_crew.specs.Workers.{IsTurnCounted, AreCounted}
 use Rattle.sg_crew.specs.declared.worker.Worker.{Worker}
+use Rattle.sg_turns.proofs.RoundLemmas.{calls-push}
+use Rattle.sg_actor.proofs.TurnLemmas.{makes-append}
 
 -- What a turn came to.
 
@@ -30,20 +30,9 @@ pub calls-join : (xs ys : List Turn) → calls_of (xs ++ ys) ≡ calls_of xs ++ 
 calls-join [] ys = refl
 calls-join (x ∷ xs) ys = ap (λ l. x.made ++ l) (calls-join xs ys) ∙ sym (append_assoc x.made (calls_of xs) (calls_of ys))
 
-calls-push : (turns : List Turn) (t : Turn) → calls_of (turns ++ t ∷ []) ≡ calls_of turns ++ t.made
-calls-push turns t = calls-join turns (t ∷ []) ∙ ap (λ l. calls_of turns ++ l) (append-nil t.made)
-
 pub busy-join : (xs ys : List Turn) → busy_of (xs ++ ys) ≡ busy_of xs + busy_of ys
 busy-join [] ys = omega arith
 busy-join (x ∷ xs) ys = let rest = busy-join xs ys in omega (arith, rest)
-
-one-most : (b : Bool) → one_if b ≤ 1
-one-most true = omega arith
-one-most false = omega arith
-
-pub busy-most : (turns : List Turn) → busy_of turns ≤ length turns
-busy-most [] = omega arith
-busy-most (t ∷ turns) = let rest = busy-most turns in let one = one-most (is_busy t) in omega (arith, rest, one)
 
 pub fed-join : (xs ys : List Turn) → AreFed xs → AreFed ys → AreFed (xs ++ ys)
 fed-join [] ys h k = k
@@ -85,13 +74,13 @@ module _ {A : Type 0} (takes : A → A → Turn → Type 0) (who : Caller) (hub 
     ends = record { earlier = turns; turn = turn; are = refl; fed = ends-fed turns turned h.ends; answered = w.answered };
   }
 
-pub counted-first : {A D : Type 0} (w v : Worker A D) (turn : Turn) → IsCounted w v turn → w.turns ≡ 0 → w.busy ≡ 0 → AreCounted v (turn ∷ [])
+pub counted-first : {A D : Type 0} (w v : Worker A D) (turn : Turn) → IsTurnCounted w v turn → w.turns ≡ 0 → w.busy ≡ 0 → AreCounted v (turn ∷ [])
 counted-first w v turn c none calm =
     let turns = c.turns in
     let busy = c.busy in
     record { all = omega (arith, turns, none); busy = omega (arith, busy, calm); few = omega (arith, turns, none) }
 
-pub counted-more : {A D : Type 0} (w v : Worker A D) (turns : List Turn) (turn : Turn) → AreCounted w turns → IsCounted w v turn → w.turns < 256 → AreCounted v (turns ++ turn ∷ [])
+pub counted-more : {A D : Type 0} (w v : Worker A D) (turns : List Turn) (turn : Turn) → AreCounted w turns → IsTurnCounted w v turn → w.turns < 256 → AreCounted v (turns ++ turn ∷ [])
 counted-more w v turns turn h c below =
     let n = length-append turns (turn ∷ []) in
     let s = busy-join turns (turn ∷ []) in

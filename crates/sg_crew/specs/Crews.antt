@@ -1,14 +1,14 @@
 -- Actors at seats of a hub, all of which are split off the first seat for a phase and joined into it behind it.
 use Rattle.std.specs.Prelude.{◌≡◌, ◌≤◌, ◌<◌, ◌+◌, ◌*◌, ◌||◌, ℕ, Bool, true, false, Option, Some, None, List, [], ◌∷◌, ◌++◌, map, length, slice_get}
 use Rattle.sg_booth.specs.Lists.{total, times, StartsWith}
-use Rattle.sg_booth.specs.Desks.{IsDeskOf, AreOrdered, places}
+use Rattle.sg_booth.specs.Desks.{IsDeskOf, ArePlacesOrdered, places}
 use Rattle.sg_counter.specs.Exchanges.{Exchange, Makes, Caller, OfSource, OfDest, calls_by}
 use Rattle.sg_actor.specs.Bringing.{AllBy}
 use Rattle.sg_actor.specs.declared.turned.Turned.{Turned}
 use Rattle.sg_turns.specs.Turns.{Turn, calls_of, any_step}
 use Rattle.sg_turns.specs.Serving.{IsActor, busy_turns, AreFed, ServesWith}
 use Rattle.sg_turns.specs.declared.ended.Ended.{Ended}
-use Rattle.sg_hub.specs.Histories.{Called, exchanges_of}
+use Rattle.sg_hub.specs.Histories.{ToldCall, exchanges_of}
 use Rattle.sg_hub.specs.Seats.{HubState, SeatState, SeatStep}
 
 -- Lists.
@@ -104,7 +104,7 @@ pub record TookPhase {A B : Type 0} (source : A → A → Turn → Type 0) (dest
 -- Of the history that the first seat has seen all is known where it has all calls of it, as the hub's close tells: then the calls of a phase
 -- stand behind those of the earlier ones.
 pub record HasPhaseWith {A B : Type 0} (source : A → A → Turn → Type 0) (dest : B → B → Turn → Type 0) (first first' : SeatState) (sources sources' : List A) (dests dests' : List B)
-    (number busy : ℕ) (starved : Bool) (more : List Called) (turns : Caller → List Turn) : Type 0 where
+    (number busy : ℕ) (starved : Bool) (more : List ToldCall) (turns : Caller → List Turn) : Type 0 where
   pub seen : first'.seen ≡ first.seen ++ more
   pub before : AllSeen first' → AllSeen first
   pub took : AllSeen first' → TookPhase source dest sources sources' dests dests' number busy
@@ -115,7 +115,7 @@ pub record HasPhaseWith {A B : Type 0} (source : A → A → Turn → Type 0) (d
 abbrev pub HasPhase : {A B : Type 0} → (A → A → Turn → Type 0) → (B → B → Turn → Type 0) → SeatState
     → SeatState → List A → List A → List B → List B → ℕ → ℕ → Bool → Type 0
 HasPhase source dest first first' sources sources' dests dests' number busy starved =
-    (more : List Called) × ((turns : Caller → List Turn)
+    (more : List ToldCall) × ((turns : Caller → List Turn)
     × HasPhaseWith source dest first first' sources sources' dests dests' number busy starved more turns)
 
 -- A phase of so many rounds at most: one round, or as many busy turns as rounds; where a turn found no memory, one fewer.
@@ -135,8 +135,8 @@ HasServed source dest first sources sources' dests dests' rounds ended =
 
 -- The first seat is the hub's, and its places are in order. All turns are those that it has left, as many as this at least, and those of its
 -- calls.
-pub record IsFirst (hub : HubState) (turns least : ℕ) (seat : SeatState) : Type 0 where
+pub record IsFirstSeat (hub : HubState) (turns least : ℕ) (seat : SeatState) : Type 0 where
   pub of_hub : IsDeskOf hub seat
-  pub ordered : AreOrdered seat
+  pub ordered : ArePlacesOrdered seat
   pub sum : length (places seat) + seat.left ≡ turns
   pub left : least ≤ seat.left

@@ -41,8 +41,8 @@ abbrev pub turns_of : {A D : Type 0} → List (Worker A D) → List (Option Turn
 turns_of ws = map turn_of ws
 
 -- the worker has a seat with the turns of a phase, which has seen what the first seat has
-abbrev pub IsDealt : {A D : Type 0} → SeatState → Worker A D → Worker A D → Type 0
-IsDealt first w v = (v.actor ≡ w.actor) × (v.seat ≡ fresh_desk first 1024) × (v.turns ≡ 0)
+abbrev pub IsSeatDealt : {A D : Type 0} → SeatState → Worker A D → Worker A D → Type 0
+IsSeatDealt first w v = (v.actor ≡ w.actor) × (v.seat ≡ fresh_desk first 1024) × (v.turns ≡ 0)
     × (v.busy ≡ 0)
 
 abbrev pub HasStayed : {A D : Type 0} → Worker A D → Worker A D → Type 0
@@ -60,8 +60,8 @@ abbrev pub busy_sum : {A D : Type 0} → List (Worker A D) → ℕ
 busy_sum ws = total busy_of_worker ws
 
 -- the worker hasn't taken a turn of the phase yet
-abbrev pub Begins : {A D : Type 0} → Worker A D → Type 0
-Begins w = (w.turns ≡ 0) × (w.busy ≡ 0) × (1024 ≤ w.seat.left)
+abbrev pub BeginsPhase : {A D : Type 0} → Worker A D → Type 0
+BeginsPhase w = (w.turns ≡ 0) × (w.busy ≡ 0) × (1024 ≤ w.seat.left)
 
 -- the source may take a turn
 pub record MayRead {R I D : Type 0} (state : I → InletState) (inlets dests : R → ℕ) (hub : HubState) (w : Worker (SourceActor R I) D) : Type 0 where
@@ -83,7 +83,7 @@ pub record MaySend {O D : Type 0} (state : O → OutletState) (hub : HubState) (
   pub busy : w.busy ≤ w.turns
 
 -- this turn was counted
-pub record IsCounted {A D : Type 0} (w v : Worker A D) (turn : Turn) : Type 0 where
+pub record IsTurnCounted {A D : Type 0} (w v : Worker A D) (turn : Turn) : Type 0 where
   pub turns : v.turns ≡ w.turns + 1
   pub busy : v.busy ≡ w.busy + one_if (is_busy turn)
 
@@ -92,14 +92,14 @@ pub record ReadsOnce {R I D : Type 0} (state : I → InletState) (offers : R →
   pub turn : Turn
   pub worked : WorkedOnce (SourceTakes state offers inlets dests w.actor v.actor)
       (OfSource w.actor.spec.inlet) hub w.seat v.seat v.turn turn
-  pub counted : IsCounted w v turn
+  pub counted : IsTurnCounted w v turn
 
 -- the destination took a turn
 pub record SendsOnce {O D : Type 0} (state : O → OutletState) (hub : HubState) (w v : Worker (DestActor O) D) : Type 0 where
   pub turn : Turn
   pub worked : WorkedOnce (DestTakes state w.actor v.actor) (OfDest w.actor.spec.dest) hub w.seat
       v.seat v.turn turn
-  pub counted : IsCounted w v turn
+  pub counted : IsTurnCounted w v turn
 
 -- so many turns were counted, and of them so many that did something or were idle
 pub record AreCounted {A D : Type 0} (v : Worker A D) (turns : List Turn) : Type 0 where
@@ -108,7 +108,7 @@ pub record AreCounted {A D : Type 0} (v : Worker A D) (turns : List Turn) : Type
   pub few : v.turns ≤ 256
 
 -- the source took its turns of a phase
-pub record HasRead {R I D : Type 0} (state : I → InletState) (offers : R → ℕ → Record → List Offer → Type 0) (inlets dests : R → ℕ) (hub : HubState) (w v : Worker (SourceActor R I) D) : Type 0 where
+pub record HasReadPhase {R I D : Type 0} (state : I → InletState) (offers : R → ℕ → Record → List Offer → Type 0) (inlets dests : R → ℕ) (hub : HubState) (w v : Worker (SourceActor R I) D) : Type 0 where
   pub turns : List Turn
   pub worked : WorkedWith (TookEach (SourceTakes state offers inlets dests) w.actor v.actor)
       (OfSource w.actor.spec.inlet) hub w.seat v.seat v.turn turns

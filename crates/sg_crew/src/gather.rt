@@ -2,7 +2,7 @@
 ghost use Rattle.std.specs.Prelude.{◌≡◌, ◌≤◌, ◌<◌, ◌+◌, ◌-◌, ◌*◌, ◌^◌, ◌||◌, true, length, not, is_some};
 ghost use Rattle.sg_booth.specs.Desks.{IsDeskOf, HasJoined};
 ghost use Rattle.sg_crew.specs.Crews.{any, AllChanged, Every, HasGathered};
-ghost use Rattle.sg_crew.specs.Workers.{seats_of, turns_of, busy_sum, IsDealt, HasStayed, MayJoin};
+ghost use Rattle.sg_crew.specs.Workers.{seats_of, turns_of, busy_sum, IsSeatDealt, HasStayed, MayJoin};
 
 use crate::worker::Worker;
 use sg_device::Disk;
@@ -11,7 +11,7 @@ use std::mem;
 
 /// What the turns of a phase, or of a part of one, came to.
 #[derive(Clone, Copy, Drop)]
-pub(crate) struct Part {
+pub(crate) struct PhaseSum {
     /// Each actor took as many turns as there were rounds.
     pub(crate) even: bool,
     /// How many turns did something, or were idle.
@@ -21,13 +21,13 @@ pub(crate) struct Part {
 }
 
 // With a worker more that took its turns in so many rounds.
-fn with_one<A, D: Disk>(part: Part, worker: &Worker<A, D>, rounds: u64) -> Part
+fn with_one<A, D: Disk>(part: PhaseSum, worker: &Worker<A, D>, rounds: u64) -> PhaseSum
     requires { part.busy + worker.now.busy < 2 ^ 64 }
     ensures even { result.even ≡ true → (part.even ≡ true) × (worker.now.turns ≡ rounds) }
     ensures busy { result.busy ≡ part.busy + worker.now.busy }
     ensures starved { result.starved ≡ (part.starved || not (is_some worker.now.turn)) }
 {
-    Part {
+    PhaseSum {
         even: part.even && worker.turns == rounds,
         busy: part.busy + worker.busy,
         starved: part.starved || worker.turn.is_none(),
@@ -51,7 +51,7 @@ fn deal_one<A, D: Disk>(hub: &Hub<D>, first: &mut Seat<D>, worker: &mut Worker<A
     requires first { IsDeskOf hub.now first.old }
     requires left { 1024 < first.old.left }
     ensures first { first.new ≡ record first.old { left = first.old.left - 1024 } }
-    ensures dealt { IsDealt first.old worker.old worker.new }
+    ensures dealt { IsSeatDealt first.old worker.old worker.new }
 {
     worker.seat = hub.split(first, 1024);
     worker.turns = 0;
@@ -64,7 +64,7 @@ pub(crate) fn deal<A, D: Disk>(hub: &Hub<D>, first: &mut Seat<D>, workers: &mut 
     requires left { 1024 * length workers.old.items < first.old.left }
     ensures first { first.new
         ≡ record first.old { left = first.old.left - 1024 * length workers.old.items } }
-    ensures workers { AllChanged (IsDealt first.old) workers.old.items workers.new.items }
+    ensures workers { AllChanged (IsSeatDealt first.old) workers.old.items workers.new.items }
 {
     for i in 0..workers.len() {
         deal_one(hub, first, &mut workers[i]);
@@ -76,9 +76,9 @@ fn gather_one<A, D: Disk>(
     hub: &Hub<D>,
     first: &mut Seat<D>,
     worker: &mut Worker<A, D>,
-    part: Part,
+    part: PhaseSum,
     rounds: u64,
-) -> Part
+) -> PhaseSum
     requires first { IsDeskOf hub.now first.old }
     requires left { 0 < first.old.left }
     requires seat { IsDeskOf hub.now worker.old.seat }
@@ -103,7 +103,7 @@ pub(crate) fn gather<A, D: Disk>(
     first: &mut Seat<D>,
     workers: &mut Vec<Worker<A, D>>,
     rounds: u64,
-) -> Part
+) -> PhaseSum
     requires first { IsDeskOf hub.now first.old }
     requires left { 0 < first.old.left }
     requires few { length workers.old.items ≤ 128 }
@@ -116,7 +116,7 @@ pub(crate) fn gather<A, D: Disk>(
     ensures starved { result.starved
         ≡ any (λ turn. not (is_some turn)) (turns_of workers.old.items) }
 {
-    let mut part = Part {
+    let mut part = PhaseSum {
         even: true,
         busy: 0,
         starved: false,

@@ -1,14 +1,14 @@
 // A phase: all actors take their turns in some rounds, with no step of the first seat between them.
 ghost use Rattle.std.specs.Prelude.{◌≡◌, ◌≤◌, ◌<◌, ◌+◌, ◌-◌, ◌^◌, ◌||◌, true, length};
-ghost use Rattle.sg_booth.specs.Desks.{IsDeskOf, AreOrdered, places};
+ghost use Rattle.sg_booth.specs.Desks.{IsDeskOf, ArePlacesOrdered, places};
 ghost use Rattle.sg_standing.specs.States.{setup_of};
 ghost use Rattle.sg_turns.specs.Actors.{AreFewActors, AreSources, AreDests, SourceTakes, DestTakes};
 ghost use Rattle.sg_crew.specs.Workers.{actors_of, AreCrew};
-ghost use Rattle.sg_crew.specs.Crews.{HasPhase, IsPhase, IsFirst};
+ghost use Rattle.sg_crew.specs.Crews.{HasPhase, IsPhase, IsFirstSeat};
 
-use crate::gather::{Part, deal, gather, spread_of};
+use crate::gather::{PhaseSum, deal, gather, spread_of};
 use crate::hold::hold;
-use crate::together::{Taken, take_turns};
+use crate::together::{RoundsTaken, take_turns};
 use crate::worker::{TURNS, Worker};
 use sg_actor::{DestActor, SourceActor};
 use sg_device::{Disk, Inlet, Outlet};
@@ -32,19 +32,21 @@ pub(crate) struct Phase {
     pub(crate) starved: bool,
     /// How many records were brought in in the last round beside those of the source that brought most.
     pub(crate) spread: u64,
-    /// Threads can't be had.
+    /// Threads took the turns.
+    pub(crate) beside: bool,
+    /// Threads couldn't be had.
     pub(crate) alone: bool,
 }
 
 // The turns of sources and those of destinations are as many as there were rounds.
-fn is_even(read: Part, sent: Part) -> bool
+fn is_even(read: PhaseSum, sent: PhaseSum) -> bool
     ensures { result ≡ true → (read.even ≡ true) × (sent.even ≡ true) }
 {
     read.even && sent.even
 }
 
 // What both kinds came to.
-fn joined(taken: Taken, read: Part, sent: Part, spread: u64) -> Phase
+fn joined(taken: RoundsTaken, read: PhaseSum, sent: PhaseSum, spread: u64) -> Phase
     requires { read.busy + sent.busy < 2 ^ 64 }
     ensures rounds { result.rounds ≡ taken.rounds }
     ensures busy { result.busy ≡ read.busy + sent.busy }
@@ -55,6 +57,7 @@ fn joined(taken: Taken, read: Part, sent: Part, spread: u64) -> Phase
         busy: read.busy + sent.busy,
         starved: read.starved || sent.starved,
         spread,
+        beside: taken.beside,
         alone: taken.alone,
     }
 }
@@ -82,7 +85,7 @@ fn is_phase(phase: Phase, most: u64) -> bool
 
 /// A phase of so many rounds at most, on so many threads. Behind it the first seat has seen all its calls.
 pub(crate) fn take_phase<
-    T: Threads + Wait + Sync,
+    T: Threads + Wait + Eprint + Sync,
     R: Router + Send,
     I: Inlet + Send,
     O: Outlet + Send,
@@ -98,12 +101,12 @@ pub(crate) fn take_phase<
     most: u64,
 ) -> Phase
     requires first { IsDeskOf hub.now first.old }
-    requires seat { AreOrdered first.old × (196608 < first.old.left) }
+    requires seat { ArePlacesOrdered first.old × (196608 < first.old.left) }
     requires few { AreFewActors (length sources.old.items) (length dests.old.items) }
     requires sources { AreSources I.state R.inlets R.dests (setup_of hub.now.made)
         (actors_of sources.old.items) }
     requires dests { AreDests O.state (setup_of hub.now.made) (actors_of dests.old.items) }
-    ensures first { IsFirst hub.entry.now (length (places first.old) + first.old.left)
+    ensures first { IsFirstSeat hub.entry.now (length (places first.old) + first.old.left)
         (first.old.left - 196608) first.new }
     ensures took { HasPhase (SourceTakes I.state R.offers R.inlets R.dests) (DestTakes O.state)
         first.old first.new (actors_of sources.old.items) (actors_of sources.new.items)

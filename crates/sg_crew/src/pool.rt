@@ -8,36 +8,36 @@ use std::sync::atomic::{AtomicU64, Ordering};
 use std::sync::{Mutex, Wait};
 
 /// What is known of a worker from turn to turn, whichever threads take them, by its place.
-pub(crate) trait Kept<W> {
+pub(crate) trait WorkerInvariant<W> {
     ghost kept: { ℕ → W → Type 0 };
 }
 
-impl<W> Kept<W> for Brand {
+impl<W> WorkerInvariant<W> for Brand {
     ghost kept = { λ place worker. ℕ };
 }
 
 /// A worker, and its place among those of its kind.
-pub(crate) struct Held<W, K: Kept<W>> {
+pub(crate) struct PlacedWorker<W, K: WorkerInvariant<W>> {
     place: usize,
     pub(crate) worker: W,
     by: PhantomData<K>,
 }
 
-impl<W, K: Kept<W>> Model for Held<W, K> {
-    ghost use Rattle.sg_crew.specs.Pools.{Place};
+impl<W, K: WorkerInvariant<W>> Model for PlacedWorker<W, K> {
+    ghost use Rattle.sg_crew.specs.Pools.{WorkerAt};
 
-    ghost Value = { Place W };
+    ghost Value = { WorkerAt W };
 
     ghost view = { λ held. record { place = held.place; worker = held.worker } };
 
     ghost invariant = { λ held. K.kept held.place held.worker };
 }
 
-impl<W, K: Kept<W>> Held<W, K> {
-    fn new(place: usize, worker: W) -> Held<W, K>
+impl<W, K: WorkerInvariant<W>> PlacedWorker<W, K> {
+    fn new(place: usize, worker: W) -> PlacedWorker<W, K>
         requires { K.kept place worker }
     {
-        Held {
+        PlacedWorker {
             place,
             worker,
             by: PhantomData,
@@ -47,7 +47,7 @@ impl<W, K: Kept<W>> Held<W, K> {
     fn leave(self) -> (usize, W)
         ensures { K.kept result.0 result.1 }
     {
-        let Held {
+        let PlacedWorker {
             place,
             worker,
             by: _,
@@ -57,19 +57,19 @@ impl<W, K: Kept<W>> Held<W, K> {
 }
 
 /// A worker that threads share.
-pub(crate) struct Slot<W, K: Kept<W>> {
+pub(crate) struct Slot<W, K: WorkerInvariant<W>> {
     // How many of its turns were claimed.
     claimed: AtomicU64,
-    pub(crate) held: Mutex<Held<W, K>>,
+    pub(crate) held: Mutex<PlacedWorker<W, K>>,
 }
 
-impl<W, K: Kept<W>> Slot<W, K> {
+impl<W, K: WorkerInvariant<W>> Slot<W, K> {
     fn new(place: usize, worker: W) -> Slot<W, K>
         requires { K.kept place worker }
     {
         Slot {
             claimed: AtomicU64::new(0),
-            held: Mutex::new(Held::new(place, worker)),
+            held: Mutex::new(PlacedWorker::new(place, worker)),
         }
     }
 
@@ -90,7 +90,10 @@ impl<W, K: Kept<W>> Slot<W, K> {
 }
 
 /// Puts the workers into slots, for which there is room.
-pub(crate) fn share<W, K: Kept<W>>(workers: &mut Vec<W>, room: Vec<Slot<W, K>>) -> Vec<Slot<W, K>>
+pub(crate) fn share<W, K: WorkerInvariant<W>>(
+    workers: &mut Vec<W>,
+    room: Vec<Slot<W, K>>,
+) -> Vec<Slot<W, K>>
     requires kept { AllKept K.kept workers.old.items }
     requires empty { room.items ≡ [] }
     requires fits { length workers.old.items ≤ vec_capacity room }
@@ -106,7 +109,11 @@ pub(crate) fn share<W, K: Kept<W>>(workers: &mut Vec<W>, room: Vec<Slot<W, K>>) 
 }
 
 /// The workers leave their slots, each to its place.
-pub(crate) fn collect<W, K: Kept<W>, T: Wait>(rt: &T, slots: Vec<Slot<W, K>>, workers: &mut Vec<W>)
+pub(crate) fn collect<W, K: WorkerInvariant<W>, T: Wait + Eprint>(
+    rt: &T,
+    slots: Vec<Slot<W, K>>,
+    workers: &mut Vec<W>,
+)
     requires none { workers.old.items ≡ [] }
     requires fits { length slots.items ≤ vec_capacity workers.old }
     ensures all { length workers.new.items ≡ length slots.items }

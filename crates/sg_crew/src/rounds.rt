@@ -4,7 +4,7 @@ ghost use Rattle.sg_booth.specs.Desks.{first_desk};
 ghost use Rattle.sg_standing.specs.States.{setup_of};
 ghost use Rattle.sg_turns.specs.Actors.{AreFewActors, AreSources, AreDests, SourceTook, DestTook};
 ghost use Rattle.sg_crew.specs.Workers.{actors_of, AreCrew};
-ghost use Rattle.sg_crew.specs.Crews.{HasServed, IsFirst};
+ghost use Rattle.sg_crew.specs.Crews.{HasServed, IsFirstSeat};
 
 use crate::meeting::WORTH;
 use crate::phase::{MOST, Phase, take_phase};
@@ -18,10 +18,50 @@ use std::alloc::Global;
 use std::sync::Wait;
 use std::thread::Threads;
 
+// In how many phases threads aren't tried again that couldn't be had, at first and at most.
+const SHORTEST: u64 = 1_000;
+
+const LONGEST: u64 = 1_000_000;
+
+// How long threads that couldn't be had aren't tried again.
+#[derive(Clone, Copy, Drop)]
+struct Pause {
+    // The phases that are left.
+    left: u64,
+    // How many they are where threads can't be had the next time.
+    next: u64,
+}
+
+impl Pause {
+    fn none() -> Pause {
+        Pause {
+            left: 0,
+            next: SHORTEST,
+        }
+    }
+
+    // Behind a phase. Each pause is twice as long as the one before, until threads can be had.
+    fn after(self, phase: Phase) -> Pause {
+        if phase.alone {
+            return Pause {
+                left: self.next,
+                next: self.next.saturating_mul(2).min(LONGEST),
+            };
+        }
+        if self.left > 0 {
+            return Pause {
+                left: self.left - 1,
+                next: self.next,
+            };
+        }
+        if phase.beside { Pause::none() } else { self }
+    }
+}
+
 // On how many threads the turns behind a phase are taken, where there may be so many: on this one where too few records
 // were spread over sources, unless the phase ended for its length alone.
-fn threads_after(phase: Phase, threads: usize) -> usize {
-    if phase.spread < WORTH && phase.rounds < MOST {
+fn threads_after(phase: Phase, threads: usize, pause: Pause) -> usize {
+    if pause.left > 0 || (phase.spread < WORTH && phase.rounds < MOST) {
         1
     } else {
         threads
@@ -48,7 +88,7 @@ fn rounds_of(left: u64, threads: usize) -> u64
 /// Runs so many rounds at most. The first quiet one is the last, and so is one in which a turn finds no
 /// memory.
 pub(crate) fn run_rounds<
-    T: Threads + Wait + Sync,
+    T: Threads + Wait + Eprint + Sync,
     R: Router + Send,
     I: Inlet + Send,
     O: Outlet + Send,
@@ -70,7 +110,7 @@ pub(crate) fn run_rounds<
     requires sources { AreSources I.state R.inlets R.dests (setup_of hub.now.made)
         (actors_of sources.old.items) }
     requires dests { AreDests O.state (setup_of hub.now.made) (actors_of dests.old.items) }
-    ensures first { IsFirst hub.entry.now hub.entry.now.turns 1 first.new }
+    ensures first { IsFirstSeat hub.entry.now hub.entry.now.turns 1 first.new }
     ensures served { HasServed (SourceTook I.state R.offers R.inlets R.dests) (DestTook O.state)
         first.new (actors_of sources.old.items) (actors_of sources.new.items)
         (actors_of dests.old.items) (actors_of dests.new.items) rounds result }
@@ -78,7 +118,7 @@ pub(crate) fn run_rounds<
         sources.new.items dests.old.items dests.new.items }
 {
     let mut left = rounds;
-    let mut threads = threads;
+    let mut pause = Pause::none();
     let mut beside = threads;
     while left > 0 {
         let most = rounds_of(left, beside);
@@ -90,10 +130,8 @@ pub(crate) fn run_rounds<
             return Ended::Quiet;
         }
         left -= phase.rounds;
-        if phase.alone {
-            threads = 1;
-        }
-        beside = threads_after(phase, threads);
+        pause = pause.after(phase);
+        beside = threads_after(phase, threads, pause);
     }
     Ended::RoundsSpent
 }

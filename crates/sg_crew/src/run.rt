@@ -4,7 +4,7 @@ ghost use Rattle.sg_booth.specs.Desks.{first_desk};
 ghost use Rattle.sg_standing.specs.States.{setup_of};
 ghost use Rattle.sg_core.specs.Calls.{Serves as CoreServes};
 ghost use Rattle.sg_turns.specs.Actors.{AreFewActors, AreSources, AreDests, SourceTook, DestTook};
-ghost use Rattle.sg_turns.specs.Serving.{Serves};
+ghost use Rattle.sg_turns.specs.Serving.{ServesRounds};
 ghost use Rattle.sg_crew.specs.Rooms.{IsRoom};
 
 use crate::rounds::run_rounds;
@@ -20,18 +20,18 @@ use std::sync::Wait;
 use std::thread::{Threads, available_parallelism};
 
 // The memory of a run: where the actors sit, and where they come back.
-struct Room<A, D: Disk> {
+struct CrewRoom<A, D: Disk> {
     workers: Vec<Worker<A, D>>,
     actors: Vec<A>,
 }
 
 // Room for so many actors.
-fn make_room<A, D: Disk>(alloc: Global, count: usize) -> Result<Room<A, D>, AllocError>
+fn make_room<A, D: Disk>(alloc: Global, count: usize) -> Result<CrewRoom<A, D>, AllocError>
     ensures { IfOk result (λ room. IsRoom count room) }
 {
     let workers = Vec::with_capacity(alloc, count)?;
     match Vec::with_capacity(alloc, count) {
-        Ok(actors) => Ok(Room { workers, actors }),
+        Ok(actors) => Ok(CrewRoom { workers, actors }),
         Err(e) => {
             workers.destroy_empty();
             Err(e)
@@ -40,10 +40,10 @@ fn make_room<A, D: Disk>(alloc: Global, count: usize) -> Result<Room<A, D>, Allo
 }
 
 // Gives the memory back.
-fn leave<A, D: Disk>(room: Room<A, D>)
+fn leave<A, D: Disk>(room: CrewRoom<A, D>)
     requires { (room.workers.items ≡ []) × (room.actors.items ≡ []) }
 {
-    let Room { workers, actors } = room;
+    let CrewRoom { workers, actors } = room;
     workers.destroy_empty();
     actors.destroy_empty();
 }
@@ -59,7 +59,7 @@ fn threads<T: Threads>(rt: &T, sources: usize, dests: usize) -> usize {
 
 // The run, once there is memory for it.
 fn serve_at<
-    T: Threads + Wait + Sync,
+    T: Threads + Wait + Eprint + Sync,
     R: Router + Send,
     I: Inlet + Send,
     O: Outlet + Send,
@@ -71,8 +71,8 @@ fn serve_at<
     first: Seat<D>,
     sources: Vec<SourceActor<R, I>>,
     dests: Vec<DestActor<O>>,
-    sources_room: Room<SourceActor<R, I>, D>,
-    dests_room: Room<DestActor<O>, D>,
+    sources_room: CrewRoom<SourceActor<R, I>, D>,
+    dests_room: CrewRoom<DestActor<O>, D>,
     rounds: u64,
 ) -> Served<R, I, O, D>
     requires first { first ≡ first_desk hub }
@@ -82,7 +82,7 @@ fn serve_at<
     requires dests { AreDests O.state (setup_of hub.made) dests.items }
     requires rooms { (IsRoom (length sources.items) sources_room)
         × (IsRoom (length dests.items) dests_room) }
-    ensures serves { Serves (SourceTook I.state R.offers R.inlets R.dests) (DestTook O.state)
+    ensures serves { ServesRounds (SourceTook I.state R.offers R.inlets R.dests) (DestTook O.state)
         CoreServes hub.made result.core sources.items result.sources.items dests.items
         result.dests.items rounds result.ended }
     ensures sources { AreSources I.state R.inlets R.dests (setup_of result.core)
@@ -91,11 +91,11 @@ fn serve_at<
     ensures setup { setup_of result.core ≡ setup_of hub.made }
 {
     let mut first = first;
-    let Room {
+    let CrewRoom {
         workers: readers,
         actors: sources_back,
     } = sources_room;
-    let Room {
+    let CrewRoom {
         workers: senders,
         actors: dests_back,
     } = dests_room;
@@ -123,7 +123,7 @@ fn serve_at<
 
 // The run, once there is room for the actors.
 fn serve_in<
-    T: Threads + Wait + Sync,
+    T: Threads + Wait + Eprint + Sync,
     R: Router + Send,
     I: Inlet + Send,
     O: Outlet + Send,
@@ -134,8 +134,8 @@ fn serve_in<
     core: Core<D>,
     sources: Vec<SourceActor<R, I>>,
     dests: Vec<DestActor<O>>,
-    sources_room: Room<SourceActor<R, I>, D>,
-    dests_room: Room<DestActor<O>, D>,
+    sources_room: CrewRoom<SourceActor<R, I>, D>,
+    dests_room: CrewRoom<DestActor<O>, D>,
     rounds: u64,
 ) -> Served<R, I, O, D>
     requires rounds { (0 < rounds) × (rounds ≤ 2 ^ 36) }
@@ -145,7 +145,7 @@ fn serve_in<
     requires dests { AreDests O.state (setup_of core) dests.items }
     requires rooms { (IsRoom (length sources.items) sources_room)
         × (IsRoom (length dests.items) dests_room) }
-    ensures serves { Serves (SourceTook I.state R.offers R.inlets R.dests) (DestTook O.state)
+    ensures serves { ServesRounds (SourceTook I.state R.offers R.inlets R.dests) (DestTook O.state)
         CoreServes core result.core sources.items result.sources.items dests.items
         result.dests.items rounds result.ended }
     ensures sources { AreSources I.state R.inlets R.dests (setup_of result.core)
@@ -183,7 +183,7 @@ fn serve_in<
 /// the order of their numbers. Where there is no memory for the threads' places, the turns are taken on this
 /// thread, one after the other.
 pub fn serve<
-    T: Threads + Wait + Sync,
+    T: Threads + Wait + Eprint + Sync,
     R: Router + Send,
     I: Inlet + Send,
     O: Outlet + Send,
@@ -202,7 +202,7 @@ pub fn serve<
     requires few { AreFewActors (length sources.items) (length dests.items) }
     requires sources { AreSources I.state R.inlets R.dests (setup_of core) sources.items }
     requires dests { AreDests O.state (setup_of core) dests.items }
-    ensures serves { Serves (SourceTook I.state R.offers R.inlets R.dests) (DestTook O.state)
+    ensures serves { ServesRounds (SourceTook I.state R.offers R.inlets R.dests) (DestTook O.state)
         CoreServes core result.core sources.items result.sources.items dests.items
         result.dests.items rounds result.ended }
     ensures sources { AreSources I.state R.inlets R.dests (setup_of result.core)

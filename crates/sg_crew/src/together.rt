@@ -2,13 +2,13 @@
 ghost use Rattle.std.specs.Prelude.{◌≡◌, ◌≤◌, ◌<◌, [], length, vec_capacity, MatchOption};
 ghost use denote.Param.Send.{IsSend, IsSync};
 ghost use Rattle.sg_crew.specs.Crews.{AllChanged, Every};
-ghost use Rattle.sg_crew.specs.Workers.{MayRead, MaySend, Begins, HasRead, HasSent};
-ghost use Rattle.sg_crew.specs.Pools.{ReadsOn, SendsOn, KeepsReads, KeepsSends};
+ghost use Rattle.sg_crew.specs.Workers.{MayRead, MaySend, BeginsPhase, HasReadPhase, HasSent};
+ghost use Rattle.sg_crew.specs.Pools.{ReadsOnKept, SendsOnKept, KeepsReads, KeepsSends};
 
 use crate::hold::hold;
 use crate::look::{Came, nothing};
 use crate::meeting::Meeting;
-use crate::pool::{Kept, Slot, collect, share};
+use crate::pool::{Slot, WorkerInvariant, collect, share};
 use crate::work::{read_each, read_held, send_each, send_held};
 use crate::worker::Worker;
 use sg_actor::{DestActor, SourceActor};
@@ -20,10 +20,12 @@ use std::marker::Brand;
 use std::sync::Wait;
 use std::thread::{Threads, for_each_mut};
 
-/// How many rounds were taken, as those who took them say, and whether threads can't be had.
+/// How many rounds were taken, as those who took them say, and whether threads took them, or couldn't be
+/// had.
 #[derive(Clone, Copy, Drop)]
-pub(crate) struct Taken {
+pub(crate) struct RoundsTaken {
     pub(crate) rounds: u64,
+    pub(crate) beside: bool,
     pub(crate) alone: bool,
 }
 
@@ -43,7 +45,13 @@ fn place_behind(from: usize, k: usize, count: usize) -> usize
 }
 
 // The turns of sources that no other thread has claimed in the round. What they came to joins what came before.
-fn read_claimed<T: Wait, R: Router, I: Inlet, D: Disk, K: Kept<Worker<SourceActor<R, I>, D>>>(
+fn read_claimed<
+    T: Wait,
+    R: Router,
+    I: Inlet,
+    D: Disk,
+    K: WorkerInvariant<Worker<SourceActor<R, I>, D>>,
+>(
     rt: &T,
     alloc: Global,
     hub: &Hub<D>,
@@ -52,7 +60,7 @@ fn read_claimed<T: Wait, R: Router, I: Inlet, D: Disk, K: Kept<Worker<SourceActo
     from: usize,
     came: Came,
 ) -> Came
-    requires { ReadsOn I.state R.offers R.inlets R.dests hub.now K.kept }
+    requires { ReadsOnKept I.state R.offers R.inlets R.dests hub.now K.kept }
 {
     let mut came = came;
     for k in 0..slots.len() {
@@ -66,7 +74,7 @@ fn read_claimed<T: Wait, R: Router, I: Inlet, D: Disk, K: Kept<Worker<SourceActo
 }
 
 // The turns of destinations that no other thread has claimed in the round.
-fn send_claimed<T: Wait, O: Outlet, D: Disk, K: Kept<Worker<DestActor<O>, D>>>(
+fn send_claimed<T: Wait, O: Outlet, D: Disk, K: WorkerInvariant<Worker<DestActor<O>, D>>>(
     rt: &T,
     alloc: Global,
     hub: &Hub<D>,
@@ -75,7 +83,7 @@ fn send_claimed<T: Wait, O: Outlet, D: Disk, K: Kept<Worker<DestActor<O>, D>>>(
     from: usize,
     came: Came,
 ) -> Came
-    requires { SendsOn O.state hub.now K.kept }
+    requires { SendsOnKept O.state hub.now K.kept }
 {
     let mut came = came;
     for k in 0..slots.len() {
@@ -96,8 +104,8 @@ fn take_rounds<
     I: Inlet,
     O: Outlet,
     D: Disk,
-    K: Kept<Worker<SourceActor<R, I>, D>>,
-    L: Kept<Worker<DestActor<O>, D>>,
+    K: WorkerInvariant<Worker<SourceActor<R, I>, D>>,
+    L: WorkerInvariant<Worker<DestActor<O>, D>>,
 >(
     rt: &T,
     alloc: Global,
@@ -108,8 +116,8 @@ fn take_rounds<
     dests: &[Slot<Worker<DestActor<O>, D>, L>],
     start: Start,
 )
-    requires read { ReadsOn I.state R.offers R.inlets R.dests hub.now K.kept }
-    requires send { SendsOn O.state hub.now L.kept }
+    requires read { ReadsOnKept I.state R.offers R.inlets R.dests hub.now K.kept }
+    requires send { SendsOnKept O.state hub.now L.kept }
 {
     let together = meeting.register(rt);
     for round in 0..most {
@@ -126,13 +134,13 @@ fn take_rounds<
 
 // The rounds of all threads.
 fn take_all<
-    T: Threads + Wait + Sync,
+    T: Threads + Wait + Eprint + Sync,
     R: Router + Send,
     I: Inlet + Send,
     O: Outlet + Send,
     D: Disk + Send,
-    K: Kept<Worker<SourceActor<R, I>, D>> + Send,
-    L: Kept<Worker<DestActor<O>, D>> + Send,
+    K: WorkerInvariant<Worker<SourceActor<R, I>, D>> + Send,
+    L: WorkerInvariant<Worker<DestActor<O>, D>> + Send,
 >(
     rt: &T,
     alloc: Global,
@@ -143,15 +151,15 @@ fn take_all<
     dests: &[Slot<Worker<DestActor<O>, D>, L>],
     starts: &mut [Start],
 )
-    requires read { ReadsOn I.state R.offers R.inlets R.dests hub.now K.kept }
-    requires send { SendsOn O.state hub.now L.kept }
+    requires read { ReadsOnKept I.state R.offers R.inlets R.dests hub.now K.kept }
+    requires send { SendsOnKept O.state hub.now L.kept }
 {
     let threads = starts.len().max(1);
     let take = |_place: usize, start: &mut Start|
         requires { IsSync T.row × IsSend R.row × IsSend I.row × IsSend O.row × IsSend D.row
             × IsSend K.row × IsSend L.row
-            × ReadsOn I.state R.offers R.inlets R.dests hub.now K.kept
-            × SendsOn O.state hub.now L.kept }
+            × ReadsOnKept I.state R.offers R.inlets R.dests hub.now K.kept
+            × SendsOnKept O.state hub.now L.kept }
     { take_rounds(rt, alloc, hub, meeting, most, sources, dests, *start) };
     for_each_mut(rt, starts, threads, &take);
 }
@@ -173,7 +181,7 @@ fn starts_of(alloc: Global, threads: usize, sources: usize, dests: usize) -> Opt
 }
 
 // Each has taken a turn, as is looked at behind the threads.
-fn hold_to_turns<A, D: Disk, T: Wait>(rt: &T, workers: &[Worker<A, D>])
+fn hold_to_turns<A, D: Disk, T: Wait + Eprint>(rt: &T, workers: &[Worker<A, D>])
     ensures { Every (λ w. 0 < w.turns) workers.now }
 {
     for worker in workers {
@@ -184,13 +192,13 @@ fn hold_to_turns<A, D: Disk, T: Wait>(rt: &T, workers: &[Worker<A, D>])
 // So many rounds at most on so many threads; None, and nothing is done, where there is no memory for that. What is kept
 // of the workers from turn to turn is the caller's choice.
 fn take_kept<
-    T: Threads + Wait + Sync,
+    T: Threads + Wait + Eprint + Sync,
     R: Router + Send,
     I: Inlet + Send,
     O: Outlet + Send,
     D: Disk + Send,
-    K: Kept<Worker<SourceActor<R, I>, D>> + Send,
-    L: Kept<Worker<DestActor<O>, D>> + Send,
+    K: WorkerInvariant<Worker<SourceActor<R, I>, D>> + Send,
+    L: WorkerInvariant<Worker<DestActor<O>, D>> + Send,
 >(
     rt: &T,
     alloc: Global,
@@ -199,12 +207,12 @@ fn take_kept<
     most: u64,
     sources: &mut Vec<Worker<SourceActor<R, I>, D>>,
     dests: &mut Vec<Worker<DestActor<O>, D>>,
-) -> Option<Taken>
+) -> Option<RoundsTaken>
     requires some { 0 < threads }
     requires read { KeepsReads I.state R.offers R.inlets R.dests hub.now sources.old.items K.kept }
     requires send { KeepsSends O.state hub.now dests.old.items L.kept }
     ensures read { MatchOption result (sources.new.items ≡ sources.old.items)
-        (λ _. AllChanged (HasRead I.state R.offers R.inlets R.dests hub.entry.now)
+        (λ _. AllChanged (HasReadPhase I.state R.offers R.inlets R.dests hub.entry.now)
         sources.old.items sources.new.items) }
     ensures sent { MatchOption result (dests.new.items ≡ dests.old.items)
         (λ _. AllChanged (HasSent O.state hub.entry.now) dests.old.items dests.new.items) }
@@ -234,15 +242,16 @@ fn take_kept<
     collect(rt, senders, dests);
     hold_to_turns(rt, sources);
     hold_to_turns(rt, dests);
-    Some(Taken {
+    Some(RoundsTaken {
         rounds: meeting.rounds(),
+        beside: !meeting.is_apart(),
         alone: meeting.is_apart(),
     })
 }
 
 // The same, for turns as the caller knows them.
 fn take_beside<
-    T: Threads + Wait + Sync,
+    T: Threads + Wait + Eprint + Sync,
     R: Router + Send,
     I: Inlet + Send,
     O: Outlet + Send,
@@ -255,13 +264,13 @@ fn take_beside<
     most: u64,
     sources: &mut Vec<Worker<SourceActor<R, I>, D>>,
     dests: &mut Vec<Worker<DestActor<O>, D>>,
-) -> Option<Taken>
+) -> Option<RoundsTaken>
     requires some { 0 < threads }
-    requires read { Every (λ w. MayRead I.state R.inlets R.dests hub.now w × Begins w)
+    requires read { Every (λ w. MayRead I.state R.inlets R.dests hub.now w × BeginsPhase w)
         sources.old.items }
-    requires send { Every (λ w. MaySend O.state hub.now w × Begins w) dests.old.items }
+    requires send { Every (λ w. MaySend O.state hub.now w × BeginsPhase w) dests.old.items }
     ensures read { MatchOption result (sources.new.items ≡ sources.old.items)
-        (λ _. AllChanged (HasRead I.state R.offers R.inlets R.dests hub.entry.now)
+        (λ _. AllChanged (HasReadPhase I.state R.offers R.inlets R.dests hub.entry.now)
         sources.old.items sources.new.items) }
     ensures sent { MatchOption result (dests.new.items ≡ dests.old.items)
         (λ _. AllChanged (HasSent O.state hub.entry.now) dests.old.items dests.new.items) }
@@ -276,18 +285,19 @@ fn take_alone<T: Wait, R: Router, I: Inlet, O: Outlet, D: Disk>(
     hub: &Hub<D>,
     sources: &mut Vec<Worker<SourceActor<R, I>, D>>,
     dests: &mut Vec<Worker<DestActor<O>, D>>,
-) -> Taken
-    requires read { Every (λ w. MayRead I.state R.inlets R.dests hub.now w × Begins w)
+) -> RoundsTaken
+    requires read { Every (λ w. MayRead I.state R.inlets R.dests hub.now w × BeginsPhase w)
         sources.old.items }
-    requires send { Every (λ w. MaySend O.state hub.now w × Begins w) dests.old.items }
-    ensures read { AllChanged (HasRead I.state R.offers R.inlets R.dests hub.entry.now)
+    requires send { Every (λ w. MaySend O.state hub.now w × BeginsPhase w) dests.old.items }
+    ensures read { AllChanged (HasReadPhase I.state R.offers R.inlets R.dests hub.entry.now)
         sources.old.items sources.new.items }
     ensures sent { AllChanged (HasSent O.state hub.entry.now) dests.old.items dests.new.items }
 {
     read_each(rt, alloc, hub, sources);
     send_each(rt, alloc, hub, dests);
-    Taken {
+    RoundsTaken {
         rounds: 1,
+        beside: false,
         alone: false,
     }
 }
@@ -295,7 +305,7 @@ fn take_alone<T: Wait, R: Router, I: Inlet, O: Outlet, D: Disk>(
 /// Each source and each destination takes so many turns at most, 1 or more, on so many threads; on this one where they
 /// are fewer than two or there is no memory for them, and then one turn.
 pub(crate) fn take_turns<
-    T: Threads + Wait + Sync,
+    T: Threads + Wait + Eprint + Sync,
     R: Router + Send,
     I: Inlet + Send,
     O: Outlet + Send,
@@ -308,11 +318,11 @@ pub(crate) fn take_turns<
     most: u64,
     sources: &mut Vec<Worker<SourceActor<R, I>, D>>,
     dests: &mut Vec<Worker<DestActor<O>, D>>,
-) -> Taken
-    requires read { Every (λ w. MayRead I.state R.inlets R.dests hub.now w × Begins w)
+) -> RoundsTaken
+    requires read { Every (λ w. MayRead I.state R.inlets R.dests hub.now w × BeginsPhase w)
         sources.old.items }
-    requires send { Every (λ w. MaySend O.state hub.now w × Begins w) dests.old.items }
-    ensures read { AllChanged (HasRead I.state R.offers R.inlets R.dests hub.entry.now)
+    requires send { Every (λ w. MaySend O.state hub.now w × BeginsPhase w) dests.old.items }
+    ensures read { AllChanged (HasReadPhase I.state R.offers R.inlets R.dests hub.entry.now)
         sources.old.items sources.new.items }
     ensures sent { AllChanged (HasSent O.state hub.entry.now) dests.old.items dests.new.items }
 {

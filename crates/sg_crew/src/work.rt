@@ -5,11 +5,11 @@ ghost use Rattle.sg_turns.specs.Turns.{answer_of};
 ghost use Rattle.sg_turns.specs.Serving.{is_busy_answer};
 ghost use Rattle.sg_crew.specs.Crews.{AllChanged, Every};
 ghost use Rattle.sg_crew.specs.Workers.{MayRead, MaySend, ReadsOnce, SendsOnce};
-ghost use Rattle.sg_crew.specs.Pools.{MayGoOn, ReadsOn, SendsOn};
+ghost use Rattle.sg_crew.specs.Pools.{MayGoOn, ReadsOnKept, SendsOnKept};
 
 use crate::look::{Came, with_one};
 use crate::meter::Metered;
-use crate::pool::{Held, Kept};
+use crate::pool::{PlacedWorker, WorkerInvariant};
 use crate::worker::{TURNS, Worker};
 use sg_actor::{DestActor, SourceActor, Turned};
 use sg_device::{Disk, Inlet, NoMemory, Outlet};
@@ -150,15 +150,15 @@ pub(crate) fn read_held<
     R: Router,
     I: Inlet,
     D: Disk,
-    K: Kept<Worker<SourceActor<R, I>, D>>,
+    K: WorkerInvariant<Worker<SourceActor<R, I>, D>>,
 >(
     rt: &T,
     alloc: Global,
     hub: &Hub<D>,
-    held: &mut Held<Worker<SourceActor<R, I>, D>, K>,
+    held: &mut PlacedWorker<Worker<SourceActor<R, I>, D>, K>,
     came: Came,
 ) -> Came
-    requires { ReadsOn I.state R.offers R.inlets R.dests hub.now K.kept }
+    requires { ReadsOnKept I.state R.offers R.inlets R.dests hub.now K.kept }
 {
     if !may_go_on(&held.worker) {
         return came;
@@ -168,14 +168,14 @@ pub(crate) fn read_held<
 }
 
 /// A shared destination takes a turn, if it may. What the turn came to joins what came before.
-pub(crate) fn send_held<T: Wait, O: Outlet, D: Disk, K: Kept<Worker<DestActor<O>, D>>>(
+pub(crate) fn send_held<T: Wait, O: Outlet, D: Disk, K: WorkerInvariant<Worker<DestActor<O>, D>>>(
     rt: &T,
     alloc: Global,
     hub: &Hub<D>,
-    held: &mut Held<Worker<DestActor<O>, D>, K>,
+    held: &mut PlacedWorker<Worker<DestActor<O>, D>, K>,
     came: Came,
 ) -> Came
-    requires { SendsOn O.state hub.now K.kept }
+    requires { SendsOnKept O.state hub.now K.kept }
 {
     if !may_go_on(&held.worker) {
         return came;

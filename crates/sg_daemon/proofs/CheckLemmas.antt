@@ -5,7 +5,7 @@ use Rattle.sg_outside.specs.World.{WorldState, Files}
 use Rattle.sg_config.specs.declared.config.Config.{Config}
 use Rattle.sg_loaded.specs.Compiling.{CanBeCompiled}
 use Rattle.sg_loaded.specs.Loading.{Configures}
-use Rattle.sg_daemon.specs.Checked.{Checks, OnlyChecks, IsUntroubled}
+use Rattle.sg_daemon.specs.Checked.{Checks, OnlyChecks, ChecksUntroubled}
 use Rattle.sg_daemon.specs.Checked as checked
 use Rattle.sg_daemon.specs.declared.unchecked.Unchecked.{Unchecked}
 use Rattle.sg_daemon.specs.declared.unchecked.Unchecked.TheVariants.{SayFault as Unsaid, NoMemory as Starved}
@@ -19,7 +19,7 @@ use Rattle.sg_daemon.proofs.SaidLemmas.{OnlyTells}
 -- a configuration is checked whole, where no trouble comes
 abbrev pub IsWhole : WorldState → WorldState → List ℕ → Result Unit Unchecked → Type 0
 IsWhole old mid file result =
-    (files : Files) (config : Config) → old.files ≡ Some files → Configures old file config → CanBeCompiled config → IsUntroubled old mid → checked.IsComplete result
+    (files : Files) (config : Config) → old.files ≡ Some files → Configures old file config → CanBeCompiled config → ChecksUntroubled old mid → checked.WasChecked result
 
 pub checks-ok : (old new : WorldState) (file : List ℕ) → OnlyChecks old new → Checks old new file (Ok tt) → ChecksFile old new file (Ended Clean)
 checks-ok old new file only is = (new, (Ok tt, record { checks = is; only = only; ends = (refl, refl); complete = λ files config f c k u. tt }))
@@ -32,7 +32,7 @@ pub checks-starved : (old new : WorldState) (file : List ℕ) → OnlyChecks old
 checks-starved old new file only = (new, (Err Starved, record { checks = tt; only = only; ends = (refl, refl); complete = λ files config f c k u. tt }))
 
 -- no trouble came before what was told last
-before : (old mid new : WorldState) → OnlyTells mid new → IsUntroubled old new → IsUntroubled old mid
+before : (old mid new : WorldState) → OnlyTells mid new → ChecksUntroubled old new → ChecksUntroubled old mid
 before old mid new tells u = record {
   read = λ rose. u.read (rose-on old.read_faults mid.read_faults new.read_faults rose tells.read);
   build = λ rose. u.build (subst (λ (n : ℕ). Rose old.build_faults n) (sym (ap (λ (w : WorldState). w.build_faults) tells.state)) rose);
@@ -40,7 +40,7 @@ before old mid new tells u = record {
 }
 
 pub checks-refused : (old mid new : WorldState) (file : List ℕ) (why : Unchecked) (status : Status) → OnlyChecks old mid → Checks old mid file (Err why)
-    → ((files : Files) (config : Config) → old.files ≡ Some files → Configures old file config → CanBeCompiled config → IsUntroubled old mid → ⊥) → OnlyTells mid new → EndsCheck mid new (Err why) status
+    → ((files : Files) (config : Config) → old.files ≡ Some files → Configures old file config → CanBeCompiled config → ChecksUntroubled old mid → ⊥) → OnlyTells mid new → EndsCheck mid new (Err why) status
     → ChecksFile old new file status
 checks-refused old mid new file why status only is whole tells ends =
     (mid, (Err why, record { checks = is; only = only; ends = ends; complete = λ files config f c k u. absurd (whole files config f c k (before old mid new tells u)) }))

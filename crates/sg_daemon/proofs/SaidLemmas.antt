@@ -6,12 +6,12 @@ use Rattle.sg_output.proofs.Sayings.{only-says-none}
 use Rattle.sg_loaded.specs.declared.loaded.Unloaded.{Unloaded}
 use Rattle.sg_loaded.specs.declared.loaded.Unloaded.TheVariants.{Bad, Unread, NoMemory as Unfed}
 use Rattle.sg_daemon.specs.Loading.{TellsUnloaded}
-use Rattle.sg_daemon.specs.Said.{Concludes}
+use Rattle.sg_daemon.specs.Said.{ConcludesCommand}
 use Rattle.sg_daemon.specs.declared.status.Status.{Status}
 use Rattle.sg_daemon.specs.declared.status.Status.TheVariants.{NoMemory}
 
 -- without memory nothing was said
-pub starved : (world : WorldState) (status : Status) (text : List ℕ) → Concludes world world status text NoMemory
+pub starved : (world : WorldState) (status : Status) (text : List ℕ) → ConcludesCommand world world status text NoMemory
 starved world status text = record { says = only-says-none world; said = inr (inr refl) }
 
 -- text was said and files were read, and nothing else
@@ -35,5 +35,5 @@ reads-tells old said new says reads =
 
 pub tells-of : (loaded new : WorldState) (why : Unloaded) (status : Status) → TellsUnloaded loaded new why status → OnlyTells loaded new
 tells-of loaded new (Bad fault names) status tells = reads-tells loaded tells.0 new (tells.1.0).says tells.1.1
-tells-of loaded new (Unread name) status tells = says-tells loaded new tells.says
+tells-of loaded new (Unread name) status tells = reads-tells loaded tells.0 new (tells.1.0).says tells.1.1
 tells-of loaded new Unfed status tells = subst (λ (w : WorldState). OnlyTells loaded w) (sym tells.0) (says-tells loaded loaded (only-says-none loaded))

@@ -7,11 +7,11 @@ use Rattle.sg_loaded.specs.Compiling.{CanBeCompiled}
 use Rattle.sg_loaded.specs.Loading.{Configures}
 use Rattle.sg_loaded.specs.declared.loaded.Unloaded.{Unloaded}
 use Rattle.sg_loaded.specs.declared.loaded.Unloaded.TheVariants.{Bad, Unread, NoMemory as Unfed}
-use Rattle.sg_trace.specs.Traces.{IsComplete as IsTraced}
+use Rattle.sg_trace.specs.Traces.{WasTraced as IsTraced}
 use Rattle.sg_trace.specs.declared.untraced.Untraced.{Untraced}
 use Rattle.sg_trace.specs.declared.untraced.Untraced.TheVariants.{NotOpened, InletFault, RoundsSpent, SayFault, NoMemory}
 use Rattle.sg_trace.specs.Tracing.{first_of, TracesFile}
-use Rattle.sg_trace.specs.Completeness.{IsUntroubled, IsComplete as IsShown}
+use Rattle.sg_trace.specs.Completeness.{ShowsUntroubled, WasShown as IsShown}
 use Rattle.sg_trace.specs.declared.unshown.Unshown.{Unshown}
 use Rattle.sg_trace.specs.declared.unshown.Unshown.TheVariants as unshown
 use Rattle.sg_run.specs.declared.end.End.TheVariants.{Clean}
@@ -25,7 +25,7 @@ use Rattle.sg_daemon.proofs.SaidLemmas.{OnlyTells, tells-of}
 -- INPUT is traced to its end, where no trouble comes
 abbrev pub IsWhole : WorldState → WorldState → List ℕ → List ℕ → List ℕ → Result Unit Unshown → Type 0
 IsWhole old shown file source input result =
-    (files : Files) (config : Config) (i : ℕ) → old.files ≡ Some files → Configures old file config → CanBeCompiled config → first_of 0 source config.inlets.items ≡ Some i → IsUntroubled old shown input → IsShown result
+    (files : Files) (config : Config) (i : ℕ) → old.files ≡ Some files → Configures old file config → CanBeCompiled config → first_of 0 source config.inlets.items ≡ Some i → ShowsUntroubled old shown input → IsShown result
 
 pub traces-ok : (old new : WorldState) (file source input : List ℕ) → TracesFile old new file source input (Ok tt) → TracesCommand old new file source input (Ended Clean)
 traces-ok old new file source input traces = (new, (Ok tt, record { traces = traces; ends = (refl, refl); complete = λ files config i f c k n u. tt }))
@@ -43,7 +43,7 @@ traces-ended old new file source input untraced traces whole =
     (new, (Err (unshown.Untraced untraced), record { traces = traces; ends = (refl, refl); complete = λ files config i f c k n u. whole-status untraced (whole files config i f c k n u) }))
 
 -- no trouble came before what was told last
-before : (old shown new : WorldState) (input : List ℕ) → OnlyTells shown new → IsUntroubled old new input → IsUntroubled old shown input
+before : (old shown new : WorldState) (input : List ℕ) → OnlyTells shown new → ShowsUntroubled old new input → ShowsUntroubled old shown input
 before old shown new input tells u = record {
   load = record {
     read = λ rose. (u.load).read (rose-on old.read_faults shown.read_faults new.read_faults rose tells.read);

@@ -31,18 +31,18 @@ Checks old new file (Err SayFault) = Rose old.say_faults new.say_faults
 Checks old new file (Err NoMemory) = Unit {0}
 
 -- no reading and no saying failed, and no pattern was too large
-pub record IsUntroubled (old new : WorldState) : Type 0 where
+pub record ChecksUntroubled (old new : WorldState) : Type 0 where
   pub read : ¬ Rose old.read_faults new.read_faults
   pub build : ¬ Rose old.build_faults new.build_faults
   pub say : ¬ Rose old.say_faults new.say_faults
 
 -- it was said, or memory ran out
-abbrev pub IsComplete : Result Unit Unchecked → Type 0
-IsComplete (Ok done) = Unit {0}
-IsComplete (Err (Bad fault names)) = ⊥
-IsComplete (Err (Unread name)) = ⊥
-IsComplete (Err SayFault) = ⊥
-IsComplete (Err NoMemory) = Unit {0}
+abbrev pub WasChecked : Result Unit Unchecked → Type 0
+WasChecked (Ok done) = Unit {0}
+WasChecked (Err (Bad fault names)) = ⊥
+WasChecked (Err (Unread name)) = ⊥
+WasChecked (Err SayFault) = ⊥
+WasChecked (Err NoMemory) = Unit {0}
 
 -- ---- the part that says it
 

@@ -5,7 +5,7 @@ use Rattle.sg_config.specs.declared.config.Config.{Config}
 use Rattle.sg_loaded.specs.Compiling.{CanBeCompiled}
 use Rattle.sg_loaded.specs.Loading.{Configures}
 use Rattle.sg_loaded.specs.declared.loaded.Unloaded.TheVariants as unloaded
-use Rattle.sg_daemon.specs.Checked.{OnlyChecks, Checks, IsUntroubled}
+use Rattle.sg_daemon.specs.Checked.{OnlyChecks, Checks, ChecksUntroubled}
 use Rattle.sg_daemon.specs.declared.unchecked.Unchecked.{Unchecked}
 use Rattle.sg_daemon.specs.declared.unchecked.Unchecked.TheVariants.{Bad, Unread, SayFault, NoMemory}
 use Rattle.sg_run.specs.declared.end.End.TheVariants.{Clean}
@@ -34,7 +34,7 @@ pub record ChecksBy (old checked new : WorldState) (file : List ℕ) (result : R
   pub only : OnlyChecks old checked
   pub ends : EndsCheck checked new result status
   pub complete : (files : Files) (config : Config) → old.files ≡ Some files
-      → Configures old file config → CanBeCompiled config → IsUntroubled old new → IsComplete status
+      → Configures old file config → CanBeCompiled config → ChecksUntroubled old new → IsComplete status
 
 abbrev pub ChecksFile : WorldState → WorldState → List ℕ → Status → Type 0
 ChecksFile old new file status = (checked : WorldState)

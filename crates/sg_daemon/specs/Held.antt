@@ -5,7 +5,7 @@ use Rattle.sg_machine.specs.declared.setup.SourceSetup.{SourceSetup}
 use Rattle.sg_machine.specs.declared.setup.BufferSetup.{BufferSetup}
 use Rattle.sg_machine.specs.declared.setup.DestSetup.{DestSetup}
 use Rattle.sg_run_plan.specs.declared.inlet.InletPlan.{InletPlan}
-use Rattle.sg_daemon.specs.declared.held.Held.{Held}
+use Rattle.sg_daemon.specs.declared.held.MostHeld.{MostHeld}
 
 -- counts stand still at the end of 64 bits
 abbrev pub cut : ℕ → ℕ
@@ -29,17 +29,17 @@ abbrev pub largest : ℕ → List InletPlan → ℕ
 largest most [] = most
 largest most (inlet ∷ inlets) = largest (max most inlet.limit) inlets
 
-abbrev pub held_by : List SourceSetup → List DestSetup → List InletPlan → Held
+abbrev pub held_by : List SourceSetup → List DestSetup → List InletPlan → MostHeld
 held_by sources dests inlets = record {
   records = cut (in_queues 0 dests + in_windows 0 sources);
   size = largest 0 inlets;
 }
 
-abbrev pub bytes_of : Held → ℕ
+abbrev pub bytes_of : MostHeld → ℕ
 bytes_of held = cut (held.records * held.size)
 
 -- a part of a MiB counts as one
-abbrev pub mebibytes_of : Held → ℕ
+abbrev pub mebibytes_of : MostHeld → ℕ
 mebibytes_of held = cut (bytes_of held + 1048575) / 1048576
 
 abbrev pub numbers_text : (mebibytes records size : ℕ) → List ℕ
@@ -48,9 +48,9 @@ numbers_text mebibytes records size =
     ++ (codes " MiB of memory: " ++ (decimal records ++ (codes " of up to " ++ (decimal size
     ++ codes " bytes (log-fifo-size of queues in memory and log-iw-size; log-msg-size)\n")))))
 
-abbrev pub held_text : List ℕ → Held → List ℕ
+abbrev pub held_text : List ℕ → MostHeld → List ℕ
 held_text file held = file ++ numbers_text (mebibytes_of held) held.records held.size
 
 -- it is told where it is more than 256 MiB
-abbrev pub held_hint : List ℕ → Held → Option (List ℕ)
+abbrev pub held_hint : List ℕ → MostHeld → Option (List ℕ)
 held_hint file held = if nat_le (bytes_of held) 268435456 then None else Some (held_text file held)

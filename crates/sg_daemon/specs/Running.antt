@@ -7,13 +7,13 @@ use Rattle.sg_loaded.specs.declared.loaded.Unloaded.{Unloaded}
 use Rattle.sg_run.specs.Run.{RunsFile}
 use Rattle.sg_run.specs.declared.end.Outcome.{Outcome}
 use Rattle.sg_daemon.specs.Loading.{TellsUnloaded}
-use Rattle.sg_daemon.specs.Said.{Concludes}
+use Rattle.sg_daemon.specs.Said.{ConcludesCommand}
 use Rattle.sg_daemon.specs.declared.status.Status.{Status}
 use Rattle.sg_daemon.specs.declared.status.Status.TheVariants.{Ended}
 
 -- the status of what the run came to, and what is said of that
 abbrev pub EndsRun : WorldState → WorldState → Result Outcome Unloaded → Status → Type 0
-EndsRun ran new (Ok outcome) status = Concludes ran new (Ended outcome.end) outcome.text.items
+EndsRun ran new (Ok outcome) status = ConcludesCommand ran new (Ended outcome.end) outcome.text.items
     status
 EndsRun ran new (Err unloaded) status = TellsUnloaded ran new unloaded status
 

@@ -8,7 +8,7 @@ use Rattle.sg_serve.specs.declared.ending.Device.TheVariants.{Inlet}
 use Rattle.sg_trace.specs.declared.untraced.Untraced.{Untraced}
 use Rattle.sg_trace.specs.declared.untraced.Untraced.TheVariants.{NotOpened, InletFault, RoundsSpent, SayFault, NoMemory}
 use Rattle.sg_trace.specs.Tracing.{first_of, TracesFile}
-use Rattle.sg_trace.specs.Completeness.{IsUntroubled}
+use Rattle.sg_trace.specs.Completeness.{ShowsUntroubled}
 use Rattle.sg_trace.specs.declared.unshown.Unshown.{Unshown}
 use Rattle.sg_trace.specs.declared.unshown.Unshown.TheVariants as unshown
 use Rattle.sg_run.specs.declared.end.End.TheVariants as end
@@ -39,14 +39,14 @@ IsComplete status = ⊥
 
 -- INPUT was traced as SOURCE's first inlet would take it, through the log paths of FILE, or it was said what is wrong with that. Where no trouble comes and memory is
 -- there, a configuration that has the source traces INPUT to its end.
-pub record TracesTo (old shown new : WorldState) (file source input : List ℕ) (result : Result Unit Unshown) (status : Status) : Type 0 where
+pub record TracesToStatus (old shown new : WorldState) (file source input : List ℕ) (result : Result Unit Unshown) (status : Status) : Type 0 where
   pub traces : TracesFile old shown file source input result
   pub ends : EndsTrace shown new result status
   pub complete : (files : Files) (config : Config) (i : ℕ) → old.files ≡ Some files
       → Configures old file config → CanBeCompiled config
-      → first_of 0 source config.inlets.items ≡ Some i → IsUntroubled old new input
+      → first_of 0 source config.inlets.items ≡ Some i → ShowsUntroubled old new input
       → IsComplete status
 
 abbrev pub TracesCommand : WorldState → WorldState → List ℕ → List ℕ → List ℕ → Status → Type 0
 TracesCommand old new file source input status = (shown : WorldState)
-    × ((result : Result Unit Unshown) × TracesTo old shown new file source input result status)
+    × ((result : Result Unit Unshown) × TracesToStatus old shown new file source input result status)

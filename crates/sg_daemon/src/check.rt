@@ -16,8 +16,10 @@ pub fn check<W: World>(alloc: Global, file: &[u8], world: &mut W) -> Status
         Err(Unchecked::SayFault) => Status::SayFault,
         Err(Unchecked::NoMemory) => Status::NoMemory,
         Err(Unchecked::Bad(fault, names)) => {
-            tell_unloaded(alloc, Unloaded::Bad(fault, names), world)
+            tell_unloaded(alloc, file, Unloaded::Bad(fault, names), true, world)
         }
-        Err(Unchecked::Unread(name)) => tell_unloaded(alloc, Unloaded::Unread(name), world),
+        Err(Unchecked::Unread(name)) => {
+            tell_unloaded(alloc, file, Unloaded::Unread(name), true, world)
+        }
     }
 }

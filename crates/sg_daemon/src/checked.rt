@@ -4,7 +4,7 @@ ghost use Rattle.sg_outside.specs.World.{Files};
 ghost use Rattle.sg_config.specs.declared.config.Config.{Config as Meant};
 ghost use Rattle.sg_loaded.specs.Compiling.{CanBeCompiled};
 ghost use Rattle.sg_loaded.specs.Loading.{Configures};
-ghost use Rattle.sg_daemon.specs.Checked.{ok_line, HasSaid, OnlyChecks, Checks, IsUntroubled, IsComplete};
+ghost use Rattle.sg_daemon.specs.Checked.{ok_line, HasSaid, OnlyChecks, Checks, ChecksUntroubled, WasChecked};
 ghost use Rattle.sg_output.specs.Saying.{OnlySays};
 
 use crate::Unchecked;
@@ -12,6 +12,7 @@ use crate::held::tell_held;
 use sg_config::Config;
 use sg_device::{NoMemory, SayRefusal};
 use sg_loaded::{Unloaded, load_file};
+use sg_warnings::tell_warnings;
 use sg_world::World;
 use std::alloc::Global;
 
@@ -60,10 +61,14 @@ pub fn check_file<W: World>(alloc: Global, file: &[u8], world: &mut W) -> Result
     // What is one is said to be one, where nothing fails and memory is there.
     ensures complete { (files : Files) (config : Meant) → (W.state world.old).files ≡ Some files
         → Configures (W.state world.old) file.now config → CanBeCompiled config
-        → IsUntroubled (W.state world.old) (W.state world.new) → IsComplete result }
+        → ChecksUntroubled (W.state world.old) (W.state world.new) → WasChecked result }
 {
     match load_file(alloc, file, world) {
-        Ok(loaded) => say_ok(alloc, file, &loaded.config, world),
+        Ok(loaded) => {
+            let said = say_ok(alloc, file, &loaded.config, world);
+            tell_warnings(alloc, world, file);
+            said
+        }
         Err(Unloaded::Bad(fault, names)) => Err(Unchecked::Bad(fault, names)),
         Err(Unloaded::Unread(name)) => Err(Unchecked::Unread(name)),
         Err(Unloaded::NoMemory) => Err(Unchecked::NoMemory),

@@ -10,7 +10,7 @@ use std::sync::Wait;
 use std::thread::Threads;
 
 /// Runs a fixed configuration on so many records over a machine in memory, and says how that ended.
-pub fn drill<T: Threads + Wait + Sync, W: World>(
+pub fn drill<T: Threads + Wait + Eprint + Sync, W: World>(
     rt: &T,
     alloc: Global,
     records: u64,

@@ -16,7 +16,7 @@ const WORTH: u64 = 268_435_456;
 /// The records that can wait in memory at most: those of queues, which have no flow-control, and those of
 /// windows.
 #[derive(Clone, Copy, Debug, PartialEq, Eq, Drop)]
-pub struct Held {
+pub struct MostHeld {
     pub records: u64,
     /// How many bytes the largest of them can have as it is received.
     pub size: u32,
@@ -62,22 +62,22 @@ fn largest(inlets: &[InletPlan]) -> u32
 }
 
 /// The records that wait at most, with these windows and queues, and records of these inlets.
-pub fn held_by(sources: &[SourceSetup], dests: &[DestSetup], inlets: &[InletPlan]) -> Held
+pub fn held_by(sources: &[SourceSetup], dests: &[DestSetup], inlets: &[InletPlan]) -> MostHeld
     ensures { result ≡ spec.held_by sources.now dests.now inlets.now }
 {
-    Held {
+    MostHeld {
         records: in_queues(dests).saturating_add(in_windows(sources)),
         size: largest(inlets),
     }
 }
 
-fn bytes_of(held: Held) -> u64
+fn bytes_of(held: MostHeld) -> u64
     ensures { result ≡ spec.bytes_of held }
 {
     held.records.saturating_mul(u64::from(held.size))
 }
 
-fn mebibytes_of(held: Held) -> u64
+fn mebibytes_of(held: MostHeld) -> u64
     ensures { result ≡ spec.mebibytes_of held }
 {
     bytes_of(held).saturating_add(1_048_575) / 1_048_576
@@ -101,7 +101,7 @@ fn append_numbers(
     Ok(())
 }
 
-fn held_text(alloc: Global, file: &[u8], held: Held) -> Result<Vec<u8>, NoMemory>
+fn held_text(alloc: Global, file: &[u8], held: MostHeld) -> Result<Vec<u8>, NoMemory>
     ensures { IfOk result (λ text. text.items ≡ spec.held_text file.now held) }
 {
     let mut text = file.to_vec(alloc)?;
@@ -117,7 +117,7 @@ fn held_text(alloc: Global, file: &[u8], held: Held) -> Result<Vec<u8>, NoMemory
 
 /// What is told of the memory that they can take, where it is more than 256 MiB. What else a record takes, as
 /// its pairs and the values that rewrites set, isn't counted.
-pub fn held_hint(alloc: Global, file: &[u8], held: Held) -> Result<Option<Vec<u8>>, NoMemory>
+pub fn held_hint(alloc: Global, file: &[u8], held: MostHeld) -> Result<Option<Vec<u8>>, NoMemory>
     ensures { IfOk result
         (λ hint. option_map (λ text. text.items) hint ≡ spec.held_hint file.now held) }
 {

@@ -15,7 +15,7 @@ mod trace;
 mod unchecked;
 
 pub use checked::check_file;
-pub use held::{Held, held_by, held_hint};
+pub use held::{MostHeld, held_by, held_hint};
 pub use laws::first_words_tell;
 pub use status::Status;
 pub use top::{daemon, offline};

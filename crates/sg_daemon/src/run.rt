@@ -1,8 +1,9 @@
 // A configuration run.
 ghost use Rattle.std.specs.Prelude.{◌≤◌, ◌<◌, ◌^◌};
 ghost use Rattle.sg_daemon.specs.Running.{RunsCommand};
-ghost use Rattle.sg_daemon.specs.Said.{Concludes};
+ghost use Rattle.sg_daemon.specs.Said.{ConcludesCommand};
 ghost use Rattle.sg_daemon.specs.declared.status.Status.TheVariants.{Ended};
+ghost use Rattle.sg_serve.specs.Exits.{exit_of};
 
 use crate::say::{conclude, tell_unloaded};
 use crate::status::Status;
@@ -14,14 +15,14 @@ use std::thread::Threads;
 
 /// Says what a run came to.
 pub(crate) fn tell_outcome<W: World>(alloc: Global, outcome: Outcome, world: &mut W) -> Status
-    ensures { Concludes (W.state world.old) (W.state world.new) (Ended outcome.end)
+    ensures { ConcludesCommand (W.state world.old) (W.state world.new) (Ended outcome.end)
         outcome.text.items result }
 {
     conclude(alloc, Status::Ended(outcome.end), &outcome.text, world)
 }
 
 /// Runs the configuration FILE, so many rounds at most, and says how that ended.
-pub fn run<T: Threads + Wait + Sync, W: World>(
+pub fn run<T: Threads + Wait + Eprint + Sync, W: World>(
     rt: &T,
     alloc: Global,
     file: &[u8],
@@ -31,11 +32,12 @@ pub fn run<T: Threads + Wait + Sync, W: World>(
 ) -> Status
     requires some { 0 < rounds }
     requires rounds { rounds ≤ 2 ^ 36 }
-    ensures { RunsCommand W.Feed.state W.Drain.state (W.state world.old) (W.state world.new)
+    ensures { RunsCommand W.Feed.state (exit_of W.Drain.state W.Paths.state)
+        (W.state world.old) (W.state world.new)
         file.now once rounds result }
 {
     match run_file(rt, alloc, file, once, rounds, world) {
         Ok(outcome) => tell_outcome(alloc, outcome, world),
-        Err(unloaded) => tell_unloaded(alloc, unloaded, world),
+        Err(unloaded) => tell_unloaded(alloc, file, unloaded, false, world),
     }
 }

@@ -1,7 +1,8 @@
 // The top calls.
 ghost use Rattle.sg_words.specs.Words.{asked};
-ghost use Rattle.sg_daemon.specs.Answers.{Answers};
+ghost use Rattle.sg_daemon.specs.Answers.{AnswersCommand};
 ghost use Rattle.sg_daemon.specs.Offline.{IsOffline};
+ghost use Rattle.sg_serve.specs.Exits.{exit_of};
 
 use crate::check::check;
 use crate::drill::drill;
@@ -27,7 +28,8 @@ use std::thread::Threads;
 /// and so it returns.
 pub fn offline<W: World>(alloc: Global, words: &[Name], world: &mut W) -> Status
     requires { IsOffline words.now }
-    ensures { Answers W.Feed.state W.Drain.state (W.state world.old) (W.state world.new)
+    ensures { AnswersCommand W.Feed.state (exit_of W.Drain.state W.Paths.state)
+        (W.state world.old) (W.state world.new)
         (asked words.now) result }
 {
     match command_of(words) {
@@ -53,13 +55,14 @@ pub fn offline<W: World>(alloc: Global, words: &[Name], world: &mut W) -> Status
 /// `run FILE [--once] [--rounds N]` moves messages as the configuration FILE says, N rounds at most: with `--once`
 /// until all input was taken. `drill N` moves N records through a fixed configuration over devices in memory. All
 /// other words are those of `offline`.
-pub fn daemon<T: Threads + Wait + Sync, W: World>(
+pub fn daemon<T: Threads + Wait + Eprint + Sync, W: World>(
     rt: &T,
     alloc: Global,
     words: &[Name],
     world: &mut W,
 ) -> Status
-    ensures { Answers W.Feed.state W.Drain.state (W.state world.old) (W.state world.new)
+    ensures { AnswersCommand W.Feed.state (exit_of W.Drain.state W.Paths.state)
+        (W.state world.old) (W.state world.new)
         (asked words.now) result }
 {
     match command_of(words) {

@@ -36,6 +36,6 @@ pub fn trace<W: World>(
     match trace_input(alloc, file, source, input, world) {
         Ok(()) => Status::Ended(End::Clean),
         Err(Unshown::Untraced(untraced)) => status_of(untraced),
-        Err(Unshown::Unloaded(unloaded)) => tell_unloaded(alloc, unloaded, world),
+        Err(Unshown::Unloaded(unloaded)) => tell_unloaded(alloc, file, unloaded, false, world),
     }
 }

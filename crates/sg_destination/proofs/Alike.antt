@@ -3,7 +3,7 @@ use Rattle.std.proofs.Common.{◌≡◌, ◌≤◌, ◌≤ℤ◌, pos, negsuc, O
 use denote.Struct.Props.{props}
 use mathlib.Core.HLevel.{is_prop→PathP}
 use Rattle.std.specs.Option.{ForSome}
-use Rattle.sg_macro.specs.declared.part.Part.{Part}
+use Rattle.sg_macro.specs.declared.part.TemplatePart.{TemplatePart}
 use Rattle.sg_macro.specs.declared.fault.TemplateFault.{TemplateFault}
 use Rattle.sg_macro.specs.Reading.{parts_of}
 use Rattle.sg_template.specs.declared.env.Env.{Env}
@@ -19,8 +19,9 @@ use Rattle.sg_driver.specs.declared.defaults.Defaults.{Defaults}
 use Rattle.sg_driver.specs.Driver.{driver_kind, options_of}
 use Rattle.sg_run_plan.specs.declared.outlet.OutletPlan.{OutletPlan}
 use Rattle.sg_destination.specs.declared.outlet.DestinationDriver.{DestinationDriver}
-use Rattle.sg_destination.specs.Templates.{Texts, template_words, text_named, IsText, HasShape}
-use Rattle.sg_destination.specs.Outlets.{HasEnv, IsPlan, IsDestination}
+use Rattle.sg_destination.specs.Templates.{Texts, template_words, text_named, IsTextShape, HasShape}
+use Rattle.sg_destination.specs.ByPath.{path_parts, with_path}
+use Rattle.sg_destination.specs.Outlets.{HasEnv, HasFrames, IsOutletPlan, IsDestination}
 
 same_env : (a b : Env) → a.zone ≡ b.zone → a.digits ≡ b.digits → a.iso ≡ b.iso → a.old ≡ b.old → a ≡ b
 same_env a b zone digits iso old = λ i. record {
@@ -32,7 +33,7 @@ same_env a b zone digits iso old = λ i. record {
   zone_in_range = is_prop→PathP (λ j. ForSome (zone j) (λ offset. (negsuc 1438 ≤ℤ offset) × (offset ≤ℤ pos 1439))) (λ j. hlevel props) a.zone_in_range b.zone_in_range i;
 }
 
-same_parts : (read : Result (List Part) TemplateFault) (p q : List Part) → read ≡ Ok p → read ≡ Ok q → p ≡ q
+same_parts : (read : Result (List TemplatePart) TemplateFault) (p q : List TemplatePart) → read ≡ Ok p → read ≡ Ok q → p ≡ q
 same_parts read p q e f = cc
 
 default_is_one : (kind : DriverKind) (a b : Shape) → IsDefault kind a → IsDefault kind b → a ≡ b
@@ -52,7 +53,7 @@ default_is_one Syslog (ByPath p t) b e f = absurd e
 default_is_one Syslog Counted5424 (Text q) e f = absurd f
 default_is_one Syslog Counted5424 (ByPath q t) e f = absurd f
 
-text_is_one : (kind : DriverKind) (read : Result (List Part) TemplateFault) (a b : Shape) → IsText kind read a → IsText kind read b → a ≡ b
+text_is_one : (kind : DriverKind) (read : Result (List TemplatePart) TemplateFault) (a b : Shape) → IsTextShape kind read a → IsTextShape kind read b → a ≡ b
 text_is_one kind (Ok parts) a b e f = e ∙ sym f
 text_is_one kind (Err fault) a b e f = default_is_one kind a b e f
 
@@ -60,16 +61,21 @@ shape_is_one : (texts : Texts) (kind : DriverKind) (value : Option Spot) (a b : 
 shape_is_one texts kind None a b e f = default_is_one kind a b e f
 shape_is_one texts kind (Some spot) a b e f = text_is_one kind (parts_of (text_named (texts spot.token.text) spot)) a b e f
 
+frames_are_one : (texts : Texts) (call : Call) (a b : Shape) → HasFrames texts call a → HasFrames texts call b → a ≡ b
+frames_are_one texts call a b p q =
+    let text : p.text ≡ q.text = shape_is_one texts (driver_kind call) (last_value template_words (options_of call)) p.text q.text p.has_text q.has_text in
+    p.shape_is ∙ ap (with_path (path_parts call)) text ∙ sym q.shape_is
+
 env_is_one : (defaults : Defaults) (call : Call) (a b : Env) → HasEnv defaults call a → HasEnv defaults call b → a ≡ b
 env_is_one defaults call a b p q = same_env a b (p.zone ∙ sym q.zone) (p.digits ∙ sym q.digits) (p.iso ∙ sym q.iso) (p.old ∙ sym q.old)
 
 same_plan : (a b : OutletPlan) → a.spec ≡ b.spec → a.shape ≡ b.shape → a.env ≡ b.env → a ≡ b
 same_plan a b spec shape env = λ i. record { spec = spec i; shape = shape i; env = env i }
 
-plan_is_one : (defaults : Defaults) (texts : Texts) (call : Call) (a b : OutletPlan) → IsPlan defaults texts call a → IsPlan defaults texts call b → a ≡ b
+plan_is_one : (defaults : Defaults) (texts : Texts) (call : Call) (a b : OutletPlan) → IsOutletPlan defaults texts call a → IsOutletPlan defaults texts call b → a ≡ b
 plan_is_one defaults texts call a b p q =
     same_plan a b (p.spec ∙ sym q.spec)
-    (shape_is_one texts (driver_kind call) (last_value template_words (options_of call)) a.shape b.shape p.shape q.shape)
+    (frames_are_one texts call a.shape b.shape p.shape q.shape)
     (env_is_one defaults call a.env b.env p.env q.env)
 
 same_destination : (a b : DestinationDriver) → a.plan ≡ b.plan → a.fifo ≡ b.fifo → a.buffer ≡ b.buffer → a ≡ b

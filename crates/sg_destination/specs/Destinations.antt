@@ -8,7 +8,7 @@ use Rattle.sg_options.specs.Settings.{last_option}
 use Rattle.sg_options.specs.Checks.{bad_values}
 use Rattle.sg_outfmt.specs.declared.shape.DriverKind.{DriverKind}
 use Rattle.sg_outfmt.specs.declared.shape.DriverKind.TheVariants.{File, Network, Syslog}
-use Rattle.sg_driver.specs.Limits.{fifo_size, fraction_digits, reopen_time, ports}
+use Rattle.sg_driver.specs.Limits.{fifo_size, fraction_digits, reopen_time, reap_time, ports}
 use Rattle.sg_driver.specs.Driver.{driver_kind, options_of, missing_unless, long_names}
 use Rattle.sg_destination.specs.Templates.{Texts, template_faults}
 use Rattle.sg_destination.specs.Buffers.{buffer_faults, store_of_destination}
@@ -24,7 +24,8 @@ destination_checks =
 
 -- further options of `file`
 unfoldable pub file_checks : List (List ℕ × Check)
-file_checks = (codes "perm", Mode) ∷ []
+file_checks =
+    (codes "perm", Mode) ∷ (codes "dir-perm", Mode) ∷ (codes "time-reap", Within reap_time) ∷ []
 
 -- further options of `network` and `syslog`
 unfoldable pub host_checks : List (List ℕ × Check)

@@ -1,3 +1,4 @@
+pub mod ByPath
 pub mod Templates
 pub mod Buffers
 pub mod Destinations

@@ -2,7 +2,7 @@
 use Rattle.std.specs.Prelude.{◌≡◌, ℕ, if◌then◌else◌, List, [], ◌∷◌, codes, Option, Some, None, Result, Ok, Err}
 use Rattle.sg_lex.specs.declared.fault.ConfigKind.{ConfigKind}
 use Rattle.sg_lex.specs.declared.fault.ConfigKind.TheVariants.{UnknownName}
-use Rattle.sg_macro.specs.declared.part.Part.{Part}
+use Rattle.sg_macro.specs.declared.part.TemplatePart.{TemplatePart}
 use Rattle.sg_macro.specs.declared.fault.TemplateFault.{TemplateFault}
 use Rattle.sg_macro.specs.Reading.{parts_of}
 use Rattle.sg_parse_base.specs.declared.spot.Spot.{Spot}
@@ -53,11 +53,11 @@ text_named None spot = spot.token.text
 text_named (Some text) spot = text
 
 -- the shape of the frames; without a template, or with one that has a fault and so is refused, it is the driver's own
-abbrev pub IsText : DriverKind → Result (List Part) TemplateFault → Shape → Type 0
-IsText kind (Ok parts) shape = shape ≡ Text parts
-IsText kind (Err fault) shape = IsDefault kind shape
+abbrev pub IsTextShape : DriverKind → Result (List TemplatePart) TemplateFault → Shape → Type 0
+IsTextShape kind (Ok parts) shape = shape ≡ Text parts
+IsTextShape kind (Err fault) shape = IsDefault kind shape
 
 abbrev pub HasShape : Texts → DriverKind → Option Spot → Shape → Type 0
 HasShape texts kind None shape = IsDefault kind shape
-HasShape texts kind (Some spot) shape = IsText kind
+HasShape texts kind (Some spot) shape = IsTextShape kind
     (parts_of (text_named (texts spot.token.text) spot)) shape

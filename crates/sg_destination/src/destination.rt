@@ -9,7 +9,8 @@ use crate::buffers::{buffer_fault, store_of_destination};
 use crate::templates::{Templates, template_fault};
 use sg_device::NoMemory;
 use sg_driver::{
-    FIFO_SIZE, FRACTION_DIGITS, PORTS, REOPEN_TIME, driver_kind, long_name, missing_unless,
+    FIFO_SIZE, FRACTION_DIGITS, PORTS, REAP_TIME, REOPEN_TIME, driver_kind, long_name,
+    missing_unless,
 };
 use sg_fault::{Placed, earlier};
 use sg_options::{Check, args_of, first_bad_argument, last_argument};
@@ -24,7 +25,11 @@ const CHECKS: [(&[u8], Check); 4] = [
     (b"time-reopen", Check::Within(REOPEN_TIME)),
 ];
 
-const FILE_CHECKS: [(&[u8], Check); 1] = [(b"perm", Check::Mode)];
+const FILE_CHECKS: [(&[u8], Check); 3] = [
+    (b"perm", Check::Mode),
+    (b"dir-perm", Check::Mode),
+    (b"time-reap", Check::Within(REAP_TIME)),
+];
 
 const HOST_CHECKS: [(&[u8], Check); 1] = [(b"port", Check::Within(PORTS))];
 

@@ -2,6 +2,7 @@
 #![tactic(auto)]
 
 mod buffers;
+mod by_path;
 mod destination;
 mod laws;
 mod outlet;

@@ -5,9 +5,12 @@ ghost use Rattle.sg_driver.specs.Defaults.{AreDefaults};
 ghost use Rattle.sg_destination.specs.Outlets as spec;
 
 use crate::buffers::{DiskBuffer, buffer_of, port_of};
+use crate::by_path::{is_by_path, with_path};
 use crate::templates::{Templates, shape_of};
 use sg_device::{Name, NoMemory};
-use sg_driver::{Defaults, FIFO_SIZE, FRACTION_DIGITS, REOPEN_TIME, driver_kind, iso_or, name_of};
+use sg_driver::{
+    Defaults, FIFO_SIZE, FRACTION_DIGITS, REAP_TIME, REOPEN_TIME, driver_kind, iso_or, name_of,
+};
 use sg_options::{args_of, last_argument_value, mode_or, number_or, truth_or, zone_or_none};
 use sg_outfmt::{DriverKind, Shape};
 use sg_outside::OutletSpec;
@@ -33,17 +36,53 @@ fn reopen_of(defaults: &Defaults, call: &Call) -> u32
     number_or(value, REOPEN_TIME, defaults.reopen)
 }
 
+fn reap_of(defaults: &Defaults, call: &Call) -> u32
+    requires { AreDefaults defaults.now }
+    ensures { result ≡ spec.reap_of defaults.now call.now }
+{
+    let value = last_argument_value(&[b"time-reap"], args_of(call));
+    number_or(value, REAP_TIME, defaults.reap)
+}
+
+// The mode of the folders on the way to a file, where missing ones are made too.
+fn folders_of(defaults: &Defaults, call: &Call) -> Option<u16>
+    ensures { result ≡ spec.folders_of defaults.now call.now }
+{
+    let args = args_of(call);
+    if !truth_or(
+        last_argument_value(&[b"create-dirs"], args),
+        defaults.folders,
+    ) {
+        return None;
+    }
+    let mode = last_argument_value(&[b"dir-perm"], args);
+    Some(mode_or(mode, defaults.folder_mode))
+}
+
 fn file_of(alloc: Global, defaults: &Defaults, call: &Call) -> Result<OutletSpec, NoMemory>
     requires { AreDefaults defaults.now }
     ensures { IfOk result (λ outlet. outlet ≡ spec.file_of defaults.now call.now) }
 {
     let args = args_of(call);
+    let fsync = truth_or(last_argument_value(&[b"fsync"], args), false);
+    let mode = mode_or(last_argument_value(&[b"perm"], args), defaults.mode);
+    let folders = folders_of(defaults, call);
+    let reopen = reopen_of(defaults, call);
+    if is_by_path(call) {
+        return Ok(OutletSpec::ByPath {
+            fsync,
+            mode,
+            folders,
+            reopen,
+            reap: reap_of(defaults, call),
+        });
+    }
     Ok(OutletSpec::File {
         path: Name::new(alloc, name_of(call))?,
-        fsync: truth_or(last_argument_value(&[b"fsync"], args), false),
-        mode: mode_or(last_argument_value(&[b"perm"], args), defaults.mode),
-        folders: None,
-        reopen: reopen_of(defaults, call),
+        fsync,
+        mode,
+        folders,
+        reopen,
     })
 }
 
@@ -91,12 +130,13 @@ fn plan_of<T: Templates>(
     templates: &T,
 ) -> Result<OutletPlan, NoMemory>
     requires { AreDefaults defaults.now }
-    ensures { IfOk result (spec.IsPlan defaults.now (T.texts templates.now) call.now) }
+    ensures { IfOk result (spec.IsOutletPlan defaults.now (T.texts templates.now) call.now) }
 {
     let template = last_argument_value(&[b"template"], args_of(call));
+    let text = shape_of(alloc, templates, driver_kind(call), template)?;
     Ok(OutletPlan {
         spec: spec_of(alloc, defaults, call)?,
-        shape: shape_of(alloc, templates, driver_kind(call), template)?,
+        shape: with_path(alloc, call, text)?,
         env: env_of(defaults, call),
     })
 }

@@ -128,7 +128,7 @@ pub(crate) fn template_fault<T: Templates>(
 
 // The shape of that text, and the driver's own one where the text has a fault.
 fn shape_of_text(alloc: Global, kind: DriverKind, text: &[u8]) -> Result<Shape, NoMemory>
-    ensures { IfOk result (spec.IsText kind (parts_of text.now)) }
+    ensures { IfOk result (spec.IsTextShape kind (parts_of text.now)) }
 {
     match Template::read(alloc, text) {
         Ok(template) => Ok(Shape::Text(template)),

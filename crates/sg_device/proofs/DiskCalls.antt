@@ -3,7 +3,7 @@ use Rattle.std.proofs.Common.{◌≡◌, inl, inr, ⊎_elim, ℕ, suc, ◌-◌, 
 use Rattle.std.specs.Prelude.{Result, Ok, Err, is_some}
 use Rattle.std.specs.Option.{option_map}
 use Rattle.sg_device.specs.DiskBytes.{overwritten, Torn, Written, Same}
-use Rattle.sg_device.specs.Disk.{DiskEvent, Wrote, Tore, Synced, Lost, DiskLog, DiskState, with_event, bytes_after, IsLeft, content, IsImage, Changes, Elapses, Preserves, Rests, Durable, Writes, Syncs, Moves}
+use Rattle.sg_device.specs.Disk.{DiskEvent, Wrote, Tore, Synced, Lost, DiskLog, DiskState, with_event, bytes_after, IsLeftByCrash, content, IsImage, Changes, Elapses, Preserves, Rests, Durable, Writes, Syncs, Moves}
 use Rattle.sg_device.specs.declared.fault.DiskFault.{DiskFault}
 use Rattle.sg_device.proofs.Parts.{written_by, torn_of_written, torn_refl}
 use Rattle.sg_device.proofs.Disks.{changed, preserves_refl}
@@ -22,7 +22,7 @@ pub torn_by : (at n : ℕ) (bytes c : List ℕ) → Torn at n c (overwritten at 
 torn_by at n bytes c = torn_wider at (length (take n bytes)) n c _ (omega (arith, length-take n bytes)) (torn_of_written at (take n bytes) c _ (written_by at (take n bytes) c))
 
 -- what a read gives is an image
-pub left_as_read : (first : List ℕ) (events : List DiskEvent) → IsLeft first events (bytes_after first events)
+pub left_as_read : (first : List ℕ) (events : List DiskEvent) → IsLeftByCrash first events (bytes_after first events)
 left_as_read first [] = refl
 left_as_read first (Wrote at bytes ∷ earlier) = (bytes_after first earlier, left_as_read first earlier, torn_of_written at bytes _ _ (written_by at bytes (bytes_after first earlier)))
 left_as_read first (Tore at n bytes ∷ earlier) = (bytes_after first earlier, left_as_read first earlier, torn_by at n bytes (bytes_after first earlier))
@@ -41,28 +41,28 @@ told_as_image : (told : Option DiskLog) (f : ℕ) (b : List ℕ) → content (re
 told_as_image None f b is = absurd (let e : None ≡ Some b = is in cc)
 told_as_image (Some log) f b is =
     let same : bytes_after log.first log.events ≡ b = cc in
-    subst (λ (l : List DiskEvent). IsLeft log.first l b) (sym (all_events (length log.events) log.events (omega arith))) (subst (λ (l : List ℕ). IsLeft log.first log.events l) same (left_as_read log.first log.events))
+    subst (λ (l : List DiskEvent). IsLeftByCrash log.first l b) (sym (all_events (length log.events) log.events (omega arith))) (subst (λ (l : List ℕ). IsLeftByCrash log.first log.events l) same (left_as_read log.first log.events))
 
 -- the disk as it reads is one of its images
 pub reads_as_image : (disk : DiskState) (b : List ℕ) → content disk ≡ Some b → IsImage disk b
 reads_as_image disk b is = told_as_image disk.told disk.faults b is
 
 -- what is left after all events is an image
-pub image_now : (log : DiskLog) (f : ℕ) (c : List ℕ) → IsLeft log.first log.events c → IsImage (record { told = Some log; faults = f }) c
-image_now log f c left = subst (λ (l : List DiskEvent). IsLeft log.first l c) (sym (all_events (length log.events) log.events (omega arith))) left
+pub image_now : (log : DiskLog) (f : ℕ) (c : List ℕ) → IsLeftByCrash log.first log.events c → IsImage (record { told = Some log; faults = f }) c
+image_now log f c left = subst (λ (l : List DiskEvent). IsLeftByCrash log.first l c) (sym (all_events (length log.events) log.events (omega arith))) left
 
 -- one event more leads each image on by a step
-module _ (step : List ℕ → List ℕ → Type 0) (event : DiskEvent) (goes : (first : List ℕ) (earlier : List DiskEvent) (c : List ℕ) → IsLeft first (event ∷ earlier) c → (d : List ℕ) × IsLeft first earlier d × step d c) where
+module _ (step : List ℕ → List ℕ → Type 0) (event : DiskEvent) (goes : (first : List ℕ) (earlier : List DiskEvent) (c : List ℕ) → IsLeftByCrash first (event ∷ earlier) c → (d : List ℕ) × IsLeftByCrash first earlier d × step d c) where
   event_elapses : (f g : ℕ) (told : Option DiskLog) → Elapses step (record { told = told; faults = f }) (record { told = option_map (with_event event) told; faults = g })
   event_elapses f g None = record { later = omega arith; past = λ t c le left. left; kept = λ t c le left. left; since = λ t c lt le left. absurd left }
   event_elapses f g (Some log) = record {
     later = omega arith;
-    past = λ t c le left. subst (λ (l : List DiskEvent). IsLeft log.first l c) (past_events t event log.events le) left;
-    kept = λ t c le left. subst (λ (l : List DiskEvent). IsLeft log.first l c) (sym (past_events t event log.events le)) left;
+    past = λ t c le left. subst (λ (l : List DiskEvent). IsLeftByCrash log.first l c) (past_events t event log.events le) left;
+    kept = λ t c le left. subst (λ (l : List DiskEvent). IsLeftByCrash log.first l c) (sym (past_events t event log.events le)) left;
     since = λ t c lt le left.
-        let now : IsLeft log.first (event ∷ log.events) c = subst (λ (l : List DiskEvent). IsLeft log.first l c) (all_events t (event ∷ log.events) (omega (arith, lt))) left in
+        let now : IsLeftByCrash log.first (event ∷ log.events) c = subst (λ (l : List DiskEvent). IsLeftByCrash log.first l c) (all_events t (event ∷ log.events) (omega (arith, lt))) left in
         let from = goes log.first log.events c now in
-        (from.0, subst (λ (l : List DiskEvent). IsLeft log.first l from.0) (sym (all_events (length log.events) log.events (omega arith))) from.1, from.2);
+        (from.0, subst (λ (l : List DiskEvent). IsLeftByCrash log.first l from.0) (sym (all_events (length log.events) log.events (omega arith))) from.1, from.2);
   }
 
   pub elapses_by : (old new : DiskState) → new.told ≡ option_map (with_event event) old.told → Elapses step old new
@@ -117,11 +117,11 @@ lost_elapses : (f g : ℕ) (told : Option DiskLog) (lost : List ℕ) → IsImage
 lost_elapses f g None lost is = absurd is
 lost_elapses f g (Some log) lost is = record {
   later = omega arith;
-  past = λ t c le left. subst (λ (l : List DiskEvent). IsLeft log.first l c) (past_events t (Lost lost) log.events le) left;
-  kept = λ t c le left. subst (λ (l : List DiskEvent). IsLeft log.first l c) (sym (past_events t (Lost lost) log.events le)) left;
+  past = λ t c le left. subst (λ (l : List DiskEvent). IsLeftByCrash log.first l c) (past_events t (Lost lost) log.events le) left;
+  kept = λ t c le left. subst (λ (l : List DiskEvent). IsLeftByCrash log.first l c) (sym (past_events t (Lost lost) log.events le)) left;
   since = λ t c lt le left.
-      let now : IsLeft log.first (Lost lost ∷ log.events) c = subst (λ (l : List DiskEvent). IsLeft log.first l c) (all_events t (Lost lost ∷ log.events) (omega (arith, lt))) left in
-      ⊎_elim (λ (before : IsLeft log.first log.events c). (c, image_now log f c before, refl)) (λ (same : c ≡ lost). (lost, is, same)) now;
+      let now : IsLeftByCrash log.first (Lost lost ∷ log.events) c = subst (λ (l : List DiskEvent). IsLeftByCrash log.first l c) (all_events t (Lost lost ∷ log.events) (omega (arith, lt))) left in
+      ⊎_elim (λ (before : IsLeftByCrash log.first log.events c). (c, image_now log f c before, refl)) (λ (same : c ≡ lost). (lost, is, same)) now;
 }
 
 told_lost : (f : ℕ) (told : Option DiskLog) (lost : List ℕ) → is_some (content (record { told = option_map (with_event (Lost lost)) told; faults = f })) ≡ is_some (content (record { told = told; faults = f }))
@@ -137,7 +137,7 @@ sync_rests old new (Err e) (inr lost) = subst (λ (told : Option DiskLog). Rests
 event_durable : (g : ℕ) (told : Option DiskLog) → Durable (record { told = option_map (with_event Synced) told; faults = g })
 event_durable g None c left = absurd left
 event_durable g (Some log) c left =
-    let now : IsLeft log.first (Synced ∷ log.events) c = subst (λ (l : List DiskEvent). IsLeft log.first l c) (all_events (length (Synced ∷ log.events)) (Synced ∷ log.events) (omega arith)) left in
+    let now : IsLeftByCrash log.first (Synced ∷ log.events) c = subst (λ (l : List DiskEvent). IsLeftByCrash log.first l c) (all_events (length (Synced ∷ log.events)) (Synced ∷ log.events) (omega arith)) left in
     ap (λ (l : List ℕ). Some l) (sym now)
 
 -- a sync that succeeds

@@ -2,7 +2,7 @@
 use Rattle.std.specs.Option.{option_map}
 use Rattle.std.proofs.Common.{◌≡◌, ◌≤◌, ◌+◌, ℕ, ℤ, max, map, IfSome, true, Option, Some, None, List, [], ◌∷◌, ◌++◌, length, take, Result, Ok, Err, refl, sym, ap, ◌∙◌, subst, arith, append_assoc, length-append}
 use Rattle.std.proofs.lemmas.List.{append-nil, length-take-le}
-use Rattle.sg_device.specs.Inlet.{Stamped, Part, InletState, stamped, with_bytes, with_part, PullIsWhole, PullTells, PullMoves, PullLeaves, PullCounts, PullFaults, HangsUp, GoesOn, TellsOn, bytes_of, Advances}
+use Rattle.sg_device.specs.Inlet.{Stamped, Part, InletState, stamped, with_bytes, with_part, PullIsWhole, PullTells, PullMoves, PullLeaves, PullCounts, PullFaults, HangsUp, PartsGoOn, TellsOn, bytes_of, Advances}
 use Rattle.sg_device.specs.declared.inlet.Pull.{Pull}
 use Rattle.sg_device.specs.declared.inlet.Pull.TheVariants.{Bytes, Next, Idle, End}
 use Rattle.sg_device.specs.declared.fault.InletFault.{InletFault}
@@ -10,45 +10,45 @@ use Rattle.sg_device.specs.declared.fault.InletFault.{InletFault}
 abbrev with_more : Part → List Stamped → Part
 with_more part more = record part { given = part.given ++ more }
 
-goes_refl : (parts : List Part) → GoesOn parts parts
+goes_refl : (parts : List Part) → PartsGoOn parts parts
 goes_refl [] = tt
 goes_refl (p ∷ []) = ([], ([], ap (λ (given : List Stamped). record p { given = given } ∷ []) (sym (append-nil p.given))))
 goes_refl (p ∷ q ∷ ps) = (q ∷ ps, (refl, goes_refl (q ∷ ps)))
 
-goes_bytes : (parts : List Part) (peer : List ℕ) (given : List Stamped) → GoesOn parts (with_bytes parts peer given)
+goes_bytes : (parts : List Part) (peer : List ℕ) (given : List Stamped) → PartsGoOn parts (with_bytes parts peer given)
 goes_bytes [] peer given = tt
 goes_bytes (p ∷ []) peer given = (given, ([], refl))
 goes_bytes (p ∷ q ∷ ps) peer given = (with_bytes (q ∷ ps) peer given, (refl, goes_bytes (q ∷ ps) peer given))
 
-goes_part : (parts : List Part) (peer : List ℕ) → GoesOn parts (with_part parts peer)
+goes_part : (parts : List Part) (peer : List ℕ) → PartsGoOn parts (with_part parts peer)
 goes_part [] peer = tt
 goes_part (p ∷ []) peer = ([], ((record { peer = peer; given = [] }) ∷ [], ap (λ (given : List Stamped). record p { given = given } ∷ (record { peer = peer; given = [] }) ∷ []) (sym (append-nil p.given))))
 goes_part (p ∷ q ∷ ps) peer = (with_part (q ∷ ps) peer, (refl, goes_part (q ∷ ps) peer))
 
 -- what goes on from some parts is some parts
-goes_some : (q : Part) (ps rest : List Part) → GoesOn (q ∷ ps) rest → (r : Part) × ((rs : List Part) × (rest ≡ r ∷ rs))
+goes_some : (q : Part) (ps rest : List Part) → PartsGoOn (q ∷ ps) rest → (r : Part) × ((rs : List Part) × (rest ≡ r ∷ rs))
 goes_some q [] rest (more, (rs, is)) = (_, (rs, is))
 goes_some q (p ∷ ps) rest (rs, (is, on)) = (q, (rs, is))
 
-goes_last : (p : Part) (more : List Stamped) (rest later : List Part) → GoesOn (with_more p more ∷ rest) later → GoesOn (p ∷ []) later
+goes_last : (p : Part) (more : List Stamped) (rest later : List Part) → PartsGoOn (with_more p more ∷ rest) later → PartsGoOn (p ∷ []) later
 goes_last p more [] later (then, (rest, is)) = (more ++ then, (rest, is ∙ ap (λ (given : List Stamped). record p { given = given } ∷ rest) (append_assoc p.given more then)))
 goes_last p more (q ∷ qs) later (rest, (is, on)) = (more, (rest, is))
 
-goes_trans : (a b c : List Part) → GoesOn a b → GoesOn b c → GoesOn a c
+goes_trans : (a b c : List Part) → PartsGoOn a b → PartsGoOn b c → PartsGoOn a c
 goes_trans [] b c first second = tt
-goes_trans (p ∷ []) b c (more, (rest, is)) second = goes_last p more rest c (subst (λ (parts : List Part). GoesOn parts c) is second)
+goes_trans (p ∷ []) b c (more, (rest, is)) second = goes_last p more rest c (subst (λ (parts : List Part). PartsGoOn parts c) is second)
 goes_trans (p ∷ q ∷ ps) b c (rest, (is, on)) second =
     let some = goes_some q ps rest on in
     let r = some.0 in
     let rs = some.1.0 in
-    let later : GoesOn (p ∷ r ∷ rs) c = subst (λ (parts : List Part). GoesOn (p ∷ parts) c) some.1.1 (subst (λ (parts : List Part). GoesOn parts c) is second) in
-    (later.0, (later.1.0, goes_trans (q ∷ ps) (r ∷ rs) later.0 (subst (λ (parts : List Part). GoesOn (q ∷ ps) parts) some.1.1 on) later.1.1))
+    let later : PartsGoOn (p ∷ r ∷ rs) c = subst (λ (parts : List Part). PartsGoOn (p ∷ parts) c) some.1.1 (subst (λ (parts : List Part). PartsGoOn parts c) is second) in
+    (later.0, (later.1.0, goes_trans (q ∷ ps) (r ∷ rs) later.0 (subst (λ (parts : List Part). PartsGoOn (q ∷ ps) parts) some.1.1 on) later.1.1))
 
 tells_refl : (told : Option (List Part)) → TellsOn told told
 tells_refl None = refl
 tells_refl (Some parts) = goes_refl parts
 
-tells_map : (f : List Part → List Part) → ((parts : List Part) → GoesOn parts (f parts)) → (old new : Option (List Part)) → new ≡ option_map f old → TellsOn old new
+tells_map : (f : List Part → List Part) → ((parts : List Part) → PartsGoOn parts (f parts)) → (old new : Option (List Part)) → new ≡ option_map f old → TellsOn old new
 tells_map f on None new is = is
 tells_map f on (Some parts) new is = subst (λ (told : Option (List Part)). TellsOn (Some parts) told) (sym is) (on parts)
 

@@ -2,7 +2,7 @@
 use Rattle.std.proofs.Common.{◌≡◌, ◌⊎◌, ◌++◌, inl, inr, ⊎_elim, ℕ, zero, suc, max, replicate, ◌+◌, ◌-◌, ◌<◌, ◌≤◌, List, length, get_or, take, drop, refl, sym, ◌∙◌, ap, arith, rules, length-append, length-take, length-drop, append_assoc, get_or-take, get_or-drop, zero-add}
 use Rattle.std.proofs.lemmas.List.{ext_get_or, get_or_past, take-take, take_at, drop_at, take-append-le, drop-drop, drop-take, drop_all, append-nil, replicate-append-replicate, places, length-replicate, get_or_append_left, get_or-append_right}
 use Rattle.std.proofs.lemmas.Bool.{cases_lt}
-use Rattle.sg_device.specs.DiskBytes.{part, SameIn, overlaid, overwritten, Torn, Written, IsRead}
+use Rattle.sg_device.specs.DiskBytes.{part, SameIn, overlaid, overwritten, Torn, Written, AreBytesRead}
 
 pub length-part : (at n : ℕ) (c : List ℕ) → at + n ≤ length c → length (part at n c) ≡ n
 length-part at n c le = simp (length-take, length-drop) (omega arith)
@@ -35,17 +35,17 @@ torn_elsewhere at n c d fits torn k where_ =
     ]
 
 -- what a read gives at each place of the buffer
-pub read_here : (at n : ℕ) (b before after : List ℕ) → IsRead at b before after n → (k : ℕ) → k < n → get_or after k 0 ≡ get_or b (at + k) 0
+pub read_here : (at n : ℕ) (b before after : List ℕ) → AreBytesRead at b before after n → (k : ℕ) → k < n → get_or after k 0 ≡ get_or b (at + k) 0
 read_here at n b before after r k lt = sym (get_or-take n after k 0 lt) ∙ ap (λ (l : List ℕ). get_or l k 0) r.front ∙ part_at at n b k lt
 
-pub read_rest : (at n : ℕ) (b before after : List ℕ) → IsRead at b before after n → (k : ℕ) → n ≤ k → get_or after k 0 ≡ get_or before k 0
+pub read_rest : (at n : ℕ) (b before after : List ℕ) → AreBytesRead at b before after n → (k : ℕ) → n ≤ k → get_or after k 0 ≡ get_or before k 0
 read_rest at n b before after r k le =
     let i = k - n in
     let is : k ≡ n + i = omega arith in
     rw is (sym (get_or-drop n after i 0) ∙ ap (λ (l : List ℕ). get_or l i 0) r.rest ∙ get_or-drop n before i 0)
 
 -- a read from 0 into a buffer of zeros: past the end the bytes count as zero
-pub read_zeros : (n : ℕ) (b before after : List ℕ) → IsRead 0 b before after n → ((k : ℕ) → get_or before k 0 ≡ 0) → (k : ℕ) → k < length before → get_or after k 0 ≡ get_or b k 0
+pub read_zeros : (n : ℕ) (b before after : List ℕ) → AreBytesRead 0 b before after n → ((k : ℕ) → get_or before k 0 ≡ 0) → (k : ℕ) → k < length before → get_or after k 0 ≡ get_or b k 0
 read_zeros n b before after r zeros k lt = elim (cases_lt k n) [
   | inl inside ↦ read_here 0 n b before after r k inside ∙ ap (λ (i : ℕ). get_or b i 0) (zero-add k)
   | inr past ↦ read_rest 0 n b before after r k past ∙ zeros k ∙ sym (get_or_past b k 0 (omega (arith, past, lt, r.filled)))
@@ -66,7 +66,7 @@ part_back at m n c xs ys is long rest =
     ap (λ (l : List ℕ). take n l) (sym (drop-drop m at c)) ∙ sym (drop-take m n (drop at c)) ∙ ap (λ (l : List ℕ). drop m l) is ∙ drop_at xs ys m long
 
 -- a part of what a read gave, within the file
-pub read_part : (at n : ℕ) (b before after : List ℕ) → IsRead at b before after n → (k m : ℕ) → k + m ≤ n → n ≤ length after → at + n ≤ length b → part k m after ≡ part (at + k) m b
+pub read_part : (at n : ℕ) (b before after : List ℕ) → AreBytesRead at b before after n → (k m : ℕ) → k + m ≤ n → n ≤ length after → at + n ≤ length b → part k m after ≡ part (at + k) m b
 read_part at n b before after r k m fits in_after in_b =
     let long = length-part k m after (omega arith) in
     ext_get_or 0 (part k m after) (part (at + k) m b) (long ∙ sym (length-part (at + k) m b (omega arith)))

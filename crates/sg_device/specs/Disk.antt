@@ -6,7 +6,7 @@
 -- Errors). POSIX.1-2017 (pwrite, fsync) promises no more; a gap before a write's place reads as zeros (lseek).
 use Rattle.std.specs.Prelude.{◌≡◌, ◌⊎◌, ℕ, ◌-◌, ◌<◌, ◌≤◌, ◌^◌, List, [], ◌∷◌, length, take, drop, Option, Some, None, is_some, Result, Ok, Err, OnOk, OnErr, IfOk}
 use Rattle.std.specs.Option.{option_map}
-use Rattle.sg_device.specs.DiskBytes.{overwritten, Torn, IsRead, Same}
+use Rattle.sg_device.specs.DiskBytes.{overwritten, Torn, AreBytesRead, Same}
 use Rattle.sg_device.specs.Faults.{Rose}
 use Rattle.sg_device.specs.declared.fault.DiskFault.{DiskFault}
 
@@ -48,19 +48,19 @@ bytes_after first (Lost left ∷ earlier) = left
 
 -- What a crash may leave after these events. What a failed sync leaves to be read is one of the images before it (Syncs), so
 -- none is added by it.
-abbrev pub IsLeft : List ℕ → List DiskEvent → List ℕ → Type 0
-IsLeft first [] bytes = bytes ≡ first
-IsLeft first (Wrote at written ∷ earlier) bytes = (before : List ℕ) × IsLeft first earlier before
+abbrev pub IsLeftByCrash : List ℕ → List DiskEvent → List ℕ → Type 0
+IsLeftByCrash first [] bytes = bytes ≡ first
+IsLeftByCrash first (Wrote at written ∷ earlier) bytes = (before : List ℕ) × IsLeftByCrash first earlier before
     × Torn at (length written) before bytes
-IsLeft first (Tore at n written ∷ earlier) bytes = (before : List ℕ) × IsLeft first earlier before
+IsLeftByCrash first (Tore at n written ∷ earlier) bytes = (before : List ℕ) × IsLeftByCrash first earlier before
     × Torn at n before bytes
-IsLeft first (Synced ∷ earlier) bytes = bytes ≡ bytes_after first earlier
-IsLeft first (Lost left ∷ earlier) bytes = IsLeft first earlier bytes ⊎ (bytes ≡ left)
+IsLeftByCrash first (Synced ∷ earlier) bytes = bytes ≡ bytes_after first earlier
+IsLeftByCrash first (Lost left ∷ earlier) bytes = IsLeftByCrash first earlier bytes ⊎ (bytes ≡ left)
 
 -- the same at a moment: after so many of the events
 abbrev pub IsLeftAt : Option DiskLog → ℕ → List ℕ → Type 0
 IsLeftAt None moment bytes = ⊥
-IsLeftAt (Some log) moment bytes = IsLeft log.first (drop (length log.events - moment) log.events)
+IsLeftAt (Some log) moment bytes = IsLeftByCrash log.first (drop (length log.events - moment) log.events)
     bytes
 
 -- the number of events, 0 where they aren't told
@@ -112,9 +112,9 @@ Measures disk result = IfOk result
     (λ count. WhereTold (content disk) (λ bytes. count ≡ length bytes))
 
 -- the bytes from this place on, where they are told
-abbrev pub Reads : DiskState → ℕ → List ℕ → List ℕ → Result ℕ DiskFault → Type 0
-Reads disk at before after result = IfOk result
-    (λ count. WhereTold (content disk) (λ bytes. IsRead at bytes before after count))
+abbrev pub ReadsDisk : DiskState → ℕ → List ℕ → List ℕ → Result ℕ DiskFault → Type 0
+ReadsDisk disk at before after result = IfOk result
+    (λ count. WhereTold (content disk) (λ bytes. AreBytesRead at bytes before after count))
 
 -- A write that succeeds is an event. One that fails is none, or a torn write.
 abbrev pub Writes : DiskState → DiskState → ℕ → List ℕ → Result Unit DiskFault → Type 0

@@ -33,7 +33,7 @@ pub record Torn (at n : ℕ) (old new : List ℕ) : Type 0 where
   pub no_longer : length new ≤ max (length old) (at + n)
 
 -- a read into a buffer from this place on: it is filled as far as there are bytes
-pub record IsRead (at : ℕ) (bytes before after : List ℕ) (count : ℕ) : Type 0 where
+pub record AreBytesRead (at : ℕ) (bytes before after : List ℕ) (count : ℕ) : Type 0 where
   pub filled : count ≡ min (length before) (length bytes - at)
   pub front : take count after ≡ part at count bytes
   pub rest : drop count after ≡ drop count before

@@ -143,12 +143,12 @@ abbrev pub HangsUp : InletState → InletState → Type 0
 HangsUp old new = new ≡ record old { hung = true }
 
 -- the parts go on: the earlier ones stay, the last one has more bytes or as many, and others may follow
-abbrev pub GoesOn : List Part → List Part → Type 0
-GoesOn [] later = Unit {0}
-GoesOn (part ∷ []) later = (more : List Stamped)
+abbrev pub PartsGoOn : List Part → List Part → Type 0
+PartsGoOn [] later = Unit {0}
+PartsGoOn (part ∷ []) later = (more : List Stamped)
     × ((rest : List Part) × (later ≡ (record part { given = part.given ++ more }) ∷ rest))
-GoesOn (part ∷ next ∷ parts) later = (rest : List Part)
-    × ((later ≡ part ∷ rest) × GoesOn (next ∷ parts) rest)
+PartsGoOn (part ∷ next ∷ parts) later = (rest : List Part)
+    × ((later ≡ part ∷ rest) × PartsGoOn (next ∷ parts) rest)
 
 -- the bytes of all the parts, one behind another
 abbrev pub bytes_of : List Part → List ℕ
@@ -156,14 +156,14 @@ bytes_of [] = []
 bytes_of (part ∷ parts) = map (λ b. b.0) part.given ++ bytes_of parts
 
 -- as many parts are told as were begun
-abbrev pub IsCounted : InletState → Type 0
-IsCounted inlet = IfSome inlet.told (λ parts. length parts ≡ inlet.parts)
+abbrev pub ArePartsCounted : InletState → Type 0
+ArePartsCounted inlet = IfSome inlet.told (λ parts. length parts ≡ inlet.parts)
 
 -- the same, where the parts are told; and an inlet that tells them goes on to
 abbrev pub TellsOn : Option (List Part) → Option (List Part) → Type 0
 TellsOn None later = later ≡ None
 TellsOn (Some parts) None = ⊥
-TellsOn (Some parts) (Some later) = GoesOn parts later
+TellsOn (Some parts) (Some later) = PartsGoOn parts later
 
 -- What any calls leave of an inlet's past: what was given only grows, and came off the front of what a file had left.
 pub record Advances (old new : InletState) : Type 0 where
@@ -175,7 +175,7 @@ pub record Advances (old new : InletState) : Type 0 where
   -- the parts that are told have those bytes behind what they had
   pub bytes_told : option_map bytes_of new.told
       ≡ option_map (λ parts. bytes_of parts ++ given) old.told
-  pub parts_told : IsCounted old → IsCounted new
+  pub parts_told : ArePartsCounted old → ArePartsCounted new
   pub from : new.from ≡ old.from
   pub parts : old.parts ≤ new.parts
   pub pulls : old.pulls ≤ new.pulls

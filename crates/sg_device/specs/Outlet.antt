@@ -22,7 +22,7 @@ pub record OutletState : Type 0 where
   pub laters : ℕ
 
 -- nothing was taken yet, and nothing failed
-pub record IsNew (outlet : OutletState) : Type 0 where
+pub record IsUnusedOutlet (outlet : OutletState) : Type 0 where
   pub taken : IfSome outlet.taken (λ frames. frames ≡ [])
   pub count : outlet.count ≡ 0
   pub failing : outlet.failing ≡ 0
@@ -68,9 +68,19 @@ Sends old new frames (Err NoMemory) = SendStarves old new frames
 abbrev pub count_of : {O : Type 0} → Taken O → ℕ
 count_of taken = taken.count
 
+-- a call failed that takes nothing
+abbrev pub FailsOnce : OutletState → OutletState → Type 0
+FailsOnce old new = TakesFirst 0 [] old new × (new.failing ≡ one_more old.failing)
+    × Rose old.faults new.faults
+
+-- what a refusal counts that took nothing
+abbrev pub Refuses : OutletState → OutletState → SendRefusal → Type 0
+Refuses old new Fault = FailsOnce old new
+Refuses old new SendLater = new ≡ record old { laters = old.laters + 1 }
+Refuses old new NoMemory = new ≡ old
+
 -- the list of frames stays
 abbrev pub Reopens : OutletState → OutletState → Result Reopened OutletFault → Type 0
 Reopens old new (Ok Ready) = TakesFirst 0 [] old new × (new.failing ≡ old.failing)
 Reopens old new (Ok Later) = new ≡ record old { laters = old.laters + 1 }
-Reopens old new (Err e) = TakesFirst 0 [] old new × (new.failing ≡ one_more old.failing)
-    × Rose old.faults new.faults
+Reopens old new (Err e) = FailsOnce old new

@@ -1,6 +1,6 @@
 // Where the daemon's own stores lie.
 ghost use Rattle.std.specs.Prelude.{◌≡◌, ◌+◌, ◌<◌, ◌≤◌, ◌^◌, length, is_some, IfOk, OnOk, IsErr};
-ghost use Rattle.sg_device.specs.Disk.{DiskState, content, Measures, Reads, Writes, Syncs, IsShort, HasCause, Changes, Elapses, Durable};
+ghost use Rattle.sg_device.specs.Disk.{DiskState, content, Measures, ReadsDisk, Writes, Syncs, IsShort, HasCause, Changes, Elapses, Durable};
 ghost use Rattle.sg_device.specs.DiskBytes.{Torn, Written};
 
 use crate::DiskFault;
@@ -22,7 +22,7 @@ pub trait Disk {
     /// it has filled. What a refusal leaves in the buffer isn't said.
     fn read_at(&mut self, at: u64, into: &mut [u8]) -> Result<usize, DiskFault>
         ensures told { (state self.new).told ≡ (state self.old).told }
-        ensures bytes { Reads (state self.old) at into.old into.new result }
+        ensures bytes { ReadsDisk (state self.old) at into.old into.new result }
         ensures bound { IfOk result (λ count. count ≤ length into.old) }
         ensures cause { HasCause (state self.old).faults (state self.new).faults result };
 

@@ -1,8 +1,9 @@
 // Where texts go whose files are named by the texts themselves.
+ghost use Rattle.std.specs.Prelude.{◌≡◌, ◌≢◌, []};
 ghost use Rattle.std.specs.List.{Contains};
 ghost use Rattle.sg_device.specs.Paths.{PathsState, PathOpens, PathSends, PathReopens, PathCloses};
 
-use crate::{OpenRefusal, OutletFault, Reopened, SendRefusal};
+use crate::{Frames, OutletFault, Reopened, SendRefusal};
 
 /// A taker of texts for files that are opened and closed by their paths.
 pub trait Opener {
@@ -10,20 +11,31 @@ pub trait Opener {
     ghost state: { Self → PathsState };
 
     /// Opens the file of a path that isn't open. A refusal leaves the open ones as they were.
-    fn open(&mut self, path: &[u8]) -> Result<(), OpenRefusal>
+    fn open(&mut self, path: &[u8]) -> Result<(), SendRefusal>
         requires { Contains (state self.old).opened path.now → ⊥ }
         ensures { PathOpens (state self.old) (state self.new) path.now result };
 
-    /// Takes a text whole for the file of an open path, or nothing that is claimed. It is never too
-    /// early for one.
-    fn send(&mut self, path: &[u8], text: &[u8]) -> Result<(), SendRefusal>
-        requires { Contains (state self.old).opened path.now }
-        ensures { PathSends (state self.old) (state self.new) path.now text.now result };
+    /// Takes the texts in order for the file of an open path. A refusal took the first ones of them,
+    /// fewer than all, perhaps none, and never a part of one. Where it is too early for the rest,
+    /// nothing failed.
+    fn send(&mut self, path: &[u8], texts: &Frames) -> Result<(), SendRefusal>
+        requires open { Contains (state self.old).opened path.now }
+        requires some { texts.now ≢ [] }
+        ensures { PathSends (state self.old) (state self.new) path.now texts.now result };
+
+    /// The number of texts taken since the opener was made.
+    fn taken(&self) -> u64
+        ensures { result ≡ (state self.now).count };
 
     /// Opens the file of an open path anew.
     fn reopen(&mut self, path: &[u8]) -> Result<Reopened, OutletFault>
         requires { Contains (state self.old).opened path.now }
         ensures { PathReopens (state self.old) (state self.new) result };
+
+    /// Whether the file of an open path has taken nothing for so long that it is to be closed.
+    fn is_unused(&mut self, path: &[u8]) -> bool
+        requires { Contains (state self.old).opened path.now }
+        ensures { (state self.new) ≡ (state self.old) };
 
     /// Closes the file of an open path. It takes no memory.
     fn close(&mut self, path: &[u8])

@@ -31,4 +31,10 @@ pub trait Outlet {
     /// Opens the file or the connection behind the outlet anew.
     fn reopen(&mut self) -> Result<Reopened, OutletFault>
         ensures { Reopens (state self.old) (state self.new) result };
+
+    /// Sends on what the outlet has taken and still holds, as far as that goes now. Most outlets hold
+    /// nothing.
+    fn flush(&mut self)
+        ensures { (state self.new) ≡ (state self.old) }
+    {}
 }

@@ -35,7 +35,7 @@ fn drill_files(alloc: Global, records: u64) -> Result<Vec<MemoryFile>, NoMemory>
 }
 
 // Runs the configuration over this machine, which ends clean or for lack of memory.
-fn run_clean<T: Threads + Wait + Sync>(
+fn run_clean<T: Threads + Wait + Eprint + Sync>(
     rt: &T,
     alloc: Global,
     machine: &mut MemoryMachine,
@@ -54,7 +54,7 @@ fn run_clean<T: Threads + Wait + Sync>(
 /// Makes the input of so many records, 1 to 100,000, runs the configuration of a drill on it over devices in
 /// memory, with `--once`, and answers the report. A machine in memory of which no call is to fail ends a
 /// run otherwise for lack of memory alone.
-pub fn drill<T: Threads + Wait + Sync>(
+pub fn drill<T: Threads + Wait + Eprint + Sync>(
     rt: &T,
     alloc: Global,
     records: u64,

@@ -10,7 +10,7 @@ use Rattle.sg_options.specs.Settings.{last_value}
 use Rattle.sg_options.specs.Values.{number_or, truth_or, zone_or, zone_or_none, mode_or, one_of_or}
 use Rattle.sg_options.specs.Checks.{bad_values}
 use Rattle.sg_driver.specs.declared.defaults.Defaults.{Defaults}
-use Rattle.sg_driver.specs.Limits.{fifo_size, message_size, fraction_digits, reopen_time}
+use Rattle.sg_driver.specs.Limits.{fifo_size, message_size, fraction_digits, reopen_time, reap_time}
 
 unfoldable pub global_checks : List (List ℕ × Check)
 global_checks =
@@ -20,13 +20,15 @@ global_checks =
     ∷ (codes "time-zone", Zone)
     ∷ (codes "frac-digits", Within fraction_digits)
     ∷ (codes "time-reopen", Within reopen_time)
+    ∷ (codes "time-reap", Within reap_time)
     ∷ (codes "perm", Mode)
+    ∷ (codes "dir-perm", Mode)
     ∷ []
 
 abbrev pub options_faults : List Call → List Placed
 options_faults calls = bad_values global_checks calls
 
--- without a global option; the mode is 0600
+-- without a global option; the mode of files is 0600, that of folders 0700
 abbrev pub no_options : Defaults
 no_options = record {
   fifo = 10000;
@@ -38,7 +40,10 @@ no_options = record {
   digits = 0;
   iso = false;
   reopen = 60;
+  reap = 60;
   mode = 384;
+  folders = false;
+  folder_mode = 448;
 }
 
 abbrev pub iso_or : Option Spot → Bool → Bool
@@ -56,20 +61,24 @@ with_options calls before = record {
   digits = number_or (last_value (codes "frac-digits" ∷ []) calls) fraction_digits before.digits;
   iso = iso_or (last_value (codes "ts-format" ∷ []) calls) before.iso;
   reopen = number_or (last_value (codes "time-reopen" ∷ []) calls) reopen_time before.reopen;
+  reap = number_or (last_value (codes "time-reap" ∷ []) calls) reap_time before.reap;
   mode = mode_or (last_value (codes "perm" ∷ []) calls) before.mode;
+  folders = truth_or (last_value (codes "create-dirs" ∷ []) calls) before.folders;
+  folder_mode = mode_or (last_value (codes "dir-perm" ∷ []) calls) before.folder_mode;
 }
 
-abbrev pub IsWithin : Range → ℕ → Type 0
-IsWithin range n = (range.low ≤ n) × (n ≤ range.high)
+abbrev pub IsWithinRange : Range → ℕ → Type 0
+IsWithinRange range n = (range.low ≤ n) × (n ≤ range.high)
 
 abbrev pub IsOffset : ℤ → Type 0
 IsOffset zone = (negsuc 1438 ≤ℤ zone) × (zone ≤ℤ pos 1439)
 
 -- each is in its range
 pub record AreDefaults (defaults : Defaults) : Type 0 where
-  pub fifo : IsWithin fifo_size defaults.fifo
-  pub message_size : IsWithin message_size defaults.message_size
+  pub fifo : IsWithinRange fifo_size defaults.fifo
+  pub message_size : IsWithinRange message_size defaults.message_size
   pub received_zone : IsOffset defaults.received_zone
   pub zone : IfSome defaults.zone IsOffset
-  pub digits : IsWithin fraction_digits defaults.digits
-  pub reopen : IsWithin reopen_time defaults.reopen
+  pub digits : IsWithinRange fraction_digits defaults.digits
+  pub reopen : IsWithinRange reopen_time defaults.reopen
+  pub reap : IsWithinRange reap_time defaults.reap

@@ -28,3 +28,7 @@ buffer_size = record { low = 1; high = 1073741824 }
 -- in seconds
 abbrev pub reopen_time : Range
 reopen_time = record { low = 1; high = 86400 }
+
+-- in seconds, 0 for never
+abbrev pub reap_time : Range
+reap_time = record { low = 0; high = 31536000 }

@@ -4,7 +4,7 @@ ghost use Rattle.std.specs.Option.{option_copied};
 ghost use Rattle.sg_fault.specs.Faults.{least};
 ghost use Rattle.sg_driver.specs.Defaults as spec;
 
-use crate::limits::{FIFO_SIZE, FRACTION_DIGITS, MESSAGE_SIZE, REOPEN_TIME};
+use crate::limits::{FIFO_SIZE, FRACTION_DIGITS, MESSAGE_SIZE, REAP_TIME, REOPEN_TIME};
 use sg_fault::Placed;
 use sg_options::{
     Check, first_bad_option, last_value, mode_or, number_or, one_of_or, truth_or, zone_or,
@@ -32,18 +32,26 @@ pub struct Defaults {
     pub iso: bool,
     /// `time-reopen`, in seconds.
     pub reopen: u32,
+    /// `time-reap`, in seconds.
+    pub reap: u32,
     /// `perm` of files that are made.
     pub mode: u16,
+    /// `create-dirs`: whether missing folders on the way to a file are made too.
+    pub folders: bool,
+    /// `dir-perm` of folders that are made.
+    pub folder_mode: u16,
 }
 
-const CHECKS: [(&[u8], Check); 7] = [
+const CHECKS: [(&[u8], Check); 9] = [
     (b"log-fifo-size", Check::Within(FIFO_SIZE)),
     (b"log-msg-size", Check::Within(MESSAGE_SIZE)),
     (b"recv-time-zone", Check::Zone),
     (b"time-zone", Check::Zone),
     (b"frac-digits", Check::Within(FRACTION_DIGITS)),
     (b"time-reopen", Check::Within(REOPEN_TIME)),
+    (b"time-reap", Check::Within(REAP_TIME)),
     (b"perm", Check::Mode),
+    (b"dir-perm", Check::Mode),
 ];
 
 /// The first fault of the options of a statement `options`: `BadValue` at a value.
@@ -76,7 +84,10 @@ impl Defaults {
             digits: 0,
             iso: false,
             reopen: 60,
+            reap: 60,
             mode: 0o600,
+            folders: false,
+            folder_mode: 0o700,
         }
     }
 
@@ -109,7 +120,10 @@ impl Defaults {
                 REOPEN_TIME,
                 self.reopen,
             ),
+            reap: number_or(last_value(&[b"time-reap"], calls), REAP_TIME, self.reap),
             mode: mode_or(last_value(&[b"perm"], calls), self.mode),
+            folders: truth_or(last_value(&[b"create-dirs"], calls), self.folders),
+            folder_mode: mode_or(last_value(&[b"dir-perm"], calls), self.folder_mode),
         }
     }
 }

@@ -42,5 +42,11 @@ pub const REOPEN_TIME: Range = Range {
     high: 86_400,
 };
 
+// In seconds, 0 for never.
+pub const REAP_TIME: Range = Range {
+    low: 0,
+    high: 31_536_000,
+};
+
 /// How many bytes the name of a store may have.
 pub const STORE_NAME_LIMIT: usize = 200;

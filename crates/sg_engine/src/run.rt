@@ -3,7 +3,7 @@ ghost use Rattle.std.specs.Prelude.{◌≡◌, ◌≤◌, ◌<◌, ◌^◌, leng
 ghost use Rattle.sg_standing.specs.States.{setup_of};
 ghost use Rattle.sg_core.specs.Calls.{Serves as CoreServes};
 ghost use Rattle.sg_turns.specs.Actors.{AreFewActors, AreSources, AreDests, SourceTook, DestTook};
-ghost use Rattle.sg_turns.specs.Serving.{Serves};
+ghost use Rattle.sg_turns.specs.Serving.{ServesRounds};
 
 use sg_actor::{DestActor, SourceActor};
 use sg_core::Core;
@@ -41,7 +41,7 @@ pub fn serve<T: Wait, R: Router, I: Inlet, O: Outlet, D: Disk>(
     requires few { AreFewActors (length sources.items) (length dests.items) }
     requires sources { AreSources I.state R.inlets R.dests (setup_of core) sources.items }
     requires dests { AreDests O.state (setup_of core) dests.items }
-    ensures serves { Serves (SourceTook I.state R.offers R.inlets R.dests) (DestTook O.state)
+    ensures serves { ServesRounds (SourceTook I.state R.offers R.inlets R.dests) (DestTook O.state)
         CoreServes core result.core sources.items result.sources.items dests.items
         result.dests.items rounds result.ended }
     ensures sources { AreSources I.state R.inlets R.dests (setup_of result.core)

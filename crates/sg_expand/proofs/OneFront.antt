@@ -2,7 +2,7 @@
 use Rattle.std.proofs.Common.{◌≡◌, ℕ, Bool, true, false, List, [], ◌∷◌, ◌++◌, Result, Ok, Err, Vec, refl, sym, subst}
 use Rattle.std.specs.FinMap as map
 use Rattle.std.specs.declared.alloc.Global.{Global}
-use Rattle.sg_outside.specs.World.{WorldState, Reads}
+use Rattle.sg_outside.specs.World.{WorldState, ReadsFile}
 use Rattle.sg_device.specs.declared.fault.FileRefusal.{FileRefusal}
 use Rattle.sg_device.specs.declared.fault.FileRefusal.TheVariants.{Failed, TooLong as FileTooLong, NoMemory as FileNoMemory}
 use Rattle.sg_lex.specs.declared.token.Token.{Token}
@@ -12,8 +12,8 @@ use Rattle.sg_block.specs.Arguments.{bindings}
 use Rattle.sg_block.specs.Trimmed.{trimmed}
 use Rattle.sg_block.specs.declared.token.FileLine.{FileLine}
 use Rattle.sg_expand.specs.declared.frame.Context.{Context}
-use Rattle.sg_expand.specs.Expansion.{State, Outcome, Goes, Stops, Faulty, Unread, Step, Ends, Moves, Faults, Includes, Uses, step, Job, Tokens, Binding, Runs, body_context, file_context, file_tokens, with_file, with_out}
-use Rattle.sg_expand.specs.Expansion.Runs.{ends, moves, faults, includes, included_stops, file_faults, file_too_long, file_unread, uses, use_stops, binds, value_stops, body_runs}
+use Rattle.sg_expand.specs.Expansion.{ExpansionState, ExpansionOutcome, Goes, Stops, Faulty, Unread, ExpansionStep, Ends, Moves, Faults, Includes, Uses, step, ExpansionJob, Tokens, Binding, RunsJob, body_context, file_context, file_tokens, with_file, with_out}
+use Rattle.sg_expand.specs.Expansion.RunsJob.{ends, moves, faults, includes, included_stops, file_faults, file_too_long, file_unread, uses, use_stops, binds, value_stops, body_runs}
 use Rattle.sg_expand.specs.Faults.{fault_at}
 use Rattle.sg_expand.specs.Pending.{RunsThen}
 
@@ -24,53 +24,53 @@ pub record Inclusion : Type 0 where
   pub line : FileLine
   pub name : List ℕ
   pub rest : List Token
-  pub next : State
+  pub next : ExpansionState
 
 -- the tokens of the file's text are expanded, and those behind it
-abbrev pub TakenThen : Inclusion → WorldState → List ℕ → Result (List Token) ConfigFault → Outcome → Type 0
+abbrev pub TakenThen : Inclusion → WorldState → List ℕ → Result (List Token) ConfigFault → ExpansionOutcome → Type 0
 TakenThen at read text (Ok found) outcome =
-    RunsThen (Tokens (file_context at.context) true found) (with_file at.name text at.next) read (Runs (Tokens at.context at.fresh at.rest)) outcome
+    RunsThen (Tokens (file_context at.context) true found) (with_file at.name text at.next) read (RunsJob (Tokens at.context at.fresh at.rest)) outcome
 TakenThen at read text (Err fault) outcome = outcome ≡ Stops (Faulty fault) (at.next.names ++ at.name ∷ []) read
 
 -- the file was read, or not
-abbrev pub ReadThen : Inclusion → WorldState → Result (Vec ℕ Global) FileRefusal → Outcome → Type 0
+abbrev pub ReadThen : Inclusion → WorldState → Result (Vec ℕ Global) FileRefusal → ExpansionOutcome → Type 0
 ReadThen at read (Ok bytes) outcome = TakenThen at read bytes.items (file_tokens at.line at.next bytes.items) outcome
 ReadThen at read (Err Failed) outcome = outcome ≡ Stops (Unread at.name) at.next.names read
 ReadThen at read (Err FileTooLong) outcome = outcome ≡ Stops (Faulty (fault_at TooLong at.line)) at.next.names read
 ReadThen at read (Err FileNoMemory) outcome = ⊥
 
-abbrev pub IncludesThen : Inclusion → WorldState → Outcome → Type 0
+abbrev pub IncludesThen : Inclusion → WorldState → ExpansionOutcome → Type 0
 IncludesThen at world outcome =
-    (read : WorldState) × ((answer : Result (Vec ℕ Global) FileRefusal) × (Reads world read at.name 1048576 answer × ReadThen at read answer outcome))
+    (read : WorldState) × ((answer : Result (Vec ℕ Global) FileRefusal) × (ReadsFile world read at.name 1048576 answer × ReadThen at read answer outcome))
 
 -- what the front asks for is done
-abbrev pub StepThen : Context → Bool → State → WorldState → Step → Outcome → Type 0
+abbrev pub StepThen : Context → Bool → ExpansionState → WorldState → ExpansionStep → ExpansionOutcome → Type 0
 StepThen context fresh state world Ends outcome = outcome ≡ Goes state world
-StepThen context fresh state world (Moves again rest next) outcome = Runs (Tokens context again rest) next world outcome
+StepThen context fresh state world (Moves again rest next) outcome = RunsJob (Tokens context again rest) next world outcome
 StepThen context fresh state world (Faults kind line) outcome = outcome ≡ Stops (Faulty (fault_at kind line)) state.names world
 StepThen context fresh state world (Includes line name rest next) outcome =
     IncludesThen (record { context = context; fresh = fresh; line = line; name = name; rest = rest; next = next }) world outcome
 StepThen context fresh state world (Uses block given rest next) outcome =
-    RunsThen (Binding context block.serial block.body (bindings block.parameters given) map.empty) next world (Runs (Tokens context false rest)) outcome
+    RunsThen (Binding context block.serial block.body (bindings block.parameters given) map.empty) next world (RunsJob (Tokens context false rest)) outcome
 
 -- the job's first part is done, and then the others
-abbrev pub JobThen : Job → State → WorldState → Outcome → Type 0
+abbrev pub JobThen : ExpansionJob → ExpansionState → WorldState → ExpansionOutcome → Type 0
 JobThen (Tokens context fresh tokens) state world outcome = StepThen context fresh state world (step context fresh tokens state) outcome
-JobThen (Binding context serial body [] bound) state world outcome = Runs (Tokens (body_context context bound serial) true (trimmed body)) state world outcome
+JobThen (Binding context serial body [] bound) state world outcome = RunsJob (Tokens (body_context context bound serial) true (trimmed body)) state world outcome
 JobThen (Binding context serial body (argument ∷ left) bound) state world outcome =
     RunsThen (Tokens context false argument.tokens) (with_out [] state) world
-    (λ whole. Runs (Binding context serial body left (map.insert bound argument.name whole.out)) (with_out state.out whole)) outcome
+    (λ whole. RunsJob (Binding context serial body left (map.insert bound argument.name whole.out)) (with_out state.out whole)) outcome
 
 -- by the step that the front asks for
-asked : (context : Context) (fresh : Bool) (tokens : List Token) (state : State) (world : WorldState) (found : Step) (outcome : Outcome) → step context fresh tokens state ≡ found → StepThen context fresh state world found outcome → JobThen (Tokens context fresh tokens) state world outcome
+asked : (context : Context) (fresh : Bool) (tokens : List Token) (state : ExpansionState) (world : WorldState) (found : ExpansionStep) (outcome : ExpansionOutcome) → step context fresh tokens state ≡ found → StepThen context fresh state world found outcome → JobThen (Tokens context fresh tokens) state world outcome
 asked context fresh tokens state world found outcome e h = subst (λ x. StepThen context fresh state world x outcome) (sym e) h
 
 -- by what the file's tokens are
-taken-by : (at : Inclusion) (read : WorldState) (text : List ℕ) (found : Result (List Token) ConfigFault) (outcome : Outcome) → file_tokens at.line at.next text ≡ found → TakenThen at read text found outcome → TakenThen at read text (file_tokens at.line at.next text) outcome
+taken-by : (at : Inclusion) (read : WorldState) (text : List ℕ) (found : Result (List Token) ConfigFault) (outcome : ExpansionOutcome) → file_tokens at.line at.next text ≡ found → TakenThen at read text found outcome → TakenThen at read text (file_tokens at.line at.next text) outcome
 taken-by at read text found outcome e h = subst (λ x. TakenThen at read text x outcome) (sym e) h
 
 -- a derivation does its job's first part, and then the others
-pub does-first : (job : Job) (state : State) (world : WorldState) (outcome : Outcome) → Runs job state world outcome → JobThen job state world outcome
+pub does-first : (job : ExpansionJob) (state : ExpansionState) (world : WorldState) (outcome : ExpansionOutcome) → RunsJob job state world outcome → JobThen job state world outcome
 does-first _ _ _ _ (ends context fresh tokens state world e) = asked context fresh tokens state world Ends (Goes state world) e refl
 does-first _ _ _ _ (moves context fresh tokens state world again rest next outcome e r) = asked context fresh tokens state world (Moves again rest next) outcome e r
 does-first _ _ _ _ (faults context fresh tokens state world kind line e) = asked context fresh tokens state world (Faults kind line) _ e refl

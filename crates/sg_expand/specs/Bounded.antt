@@ -4,17 +4,17 @@ use Rattle.sg_outside.specs.World.{WorldState}
 use Rattle.sg_expand.specs.declared.expander.Expander.{Expander}
 use Rattle.sg_expand.specs.declared.frame.ExpandFrame.{ExpandFrame}
 use Rattle.sg_expand.specs.declared.frame.ExpandFrame.TheVariants.{Expands, Binds}
-use Rattle.sg_expand.specs.Expansion.{State, Outcome, Job, Runs}
-use Rattle.sg_expand.specs.Expansion.Runs.{ends, moves, faults, includes, included_stops, file_faults, file_too_long, file_unread, uses, use_stops, binds, value_stops, body_runs}
+use Rattle.sg_expand.specs.Expansion.{ExpansionState, ExpansionOutcome, ExpansionJob, RunsJob}
+use Rattle.sg_expand.specs.Expansion.RunsJob.{ends, moves, faults, includes, included_stops, file_faults, file_too_long, file_unread, uses, use_stops, binds, value_stops, body_runs}
 
 -- with so many tokens held elsewhere, those that came out are within the limit
-abbrev pub HoldsWithin : ℕ → State → Type 0
+abbrev pub HoldsWithin : ℕ → ExpansionState → Type 0
 HoldsWithin held state = held + length state.out ≤ 1048576
 
 -- so it is in each state that the expansion comes by. A value that is expanded stands beside what came out before it, and
 -- a value that is bound is held until its use is done
-abbrev pub StaysWithin : ℕ → (job : Job) (state : State) (world : WorldState) (outcome : Outcome)
-    → Runs job state world outcome → Type 0
+abbrev pub StaysWithin : ℕ → (job : ExpansionJob) (state : ExpansionState) (world : WorldState)
+    (outcome : ExpansionOutcome) → RunsJob job state world outcome → Type 0
 StaysWithin held _ _ _ _ (ends context fresh tokens state world e) = HoldsWithin held state
 StaysWithin held _ _ _ _ (moves context fresh tokens state world again rest next outcome e r) =
     HoldsWithin held state × StaysWithin held _ _ _ _ r
@@ -49,6 +49,6 @@ waiting (Expands rest ∷ frames) = waiting frames
 waiting (Binds wait ∷ frames) = length wait.out + waiting frames
 
 -- what an expander holds of the list and of the values that are expanded, with these frames to be done, is no more than the total
-pub record IsBounded (frames : List ExpandFrame) (expander : Expander) : Type 0 where
+pub record IsExpanderBounded (frames : List ExpandFrame) (expander : Expander) : Type 0 where
   pub held : waiting frames + length expander.out ≤ expander.total
   pub limit : expander.total ≤ 1048576

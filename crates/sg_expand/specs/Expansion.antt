@@ -10,7 +10,7 @@ use Rattle.std.specs.Cmp.Lexicographic.{slice_cmp}
 use Rattle.std.specs.FinMap as map
 use Rattle.std.specs.declared.alloc.Global.{Global}
 use Rattle.sg_device.specs.Faults.{Rose}
-use Rattle.sg_outside.specs.World.{WorldState, Reads}
+use Rattle.sg_outside.specs.World.{WorldState, ReadsFile}
 use Rattle.sg_device.specs.declared.fault.FileRefusal.TheVariants.{Failed, TooLong as FileTooLong}
 use Rattle.sg_list.specs.Lists.{passes_at}
 use Rattle.sg_lex.specs.declared.token.Token.{Token}
@@ -23,7 +23,7 @@ use Rattle.sg_lex.specs.Tokens.{tokens_of, line_at as line_in}
 use Rattle.sg_block.specs.declared.token.FileLine.{FileLine}
 use Rattle.sg_block.specs.declared.argument.Argument.{Argument}
 use Rattle.sg_block.specs.declared.form.Definition.{Definition}
-use Rattle.sg_expand.specs.declared.block.Block.{Block}
+use Rattle.sg_expand.specs.declared.block.BlockDefinition.{BlockDefinition}
 use Rattle.sg_expand.specs.declared.frame.Context.{Context}
 use Rattle.sg_expand.specs.declared.fault.Expanded.{Expanded}
 use Rattle.sg_expand.specs.declared.fault.ExpandRefusal.{ExpandRefusal}
@@ -38,9 +38,9 @@ use Rattle.sg_expand.specs.Total.{counted}
 
 -- the blocks by name
 abbrev pub Blocks : Type 0
-Blocks = map.FinMap (slice_cmp nat_cmp) Block
+Blocks = map.FinMap (slice_cmp nat_cmp) BlockDefinition
 
-pub record State : Type 0 where
+pub record ExpansionState : Type 0 where
   pub variables : Values
   pub blocks : Blocks
   -- how many blocks were defined: the count stands still at 2 ^ 64 - 1
@@ -57,34 +57,36 @@ pub data Refusal : Type 0 where
   Unread : List ℕ → Refusal
 
 -- what an expansion comes to, and the machine then: a state, or why it stops, with the names of the files read until then
-pub data Outcome : Type 0 where
-  Goes : State → WorldState → Outcome
-  Stops : Refusal → List (List ℕ) → WorldState → Outcome
+pub data ExpansionOutcome : Type 0 where
+  Goes : ExpansionState → WorldState → ExpansionOutcome
+  Stops : Refusal → List (List ℕ) → WorldState → ExpansionOutcome
 
 -- what the front of a token list asks for
-pub data Step : Type 0 where
+pub data ExpansionStep : Type 0 where
   -- there is nothing left
-  Ends : Step
+  Ends : ExpansionStep
   -- to go on with these tokens, at whose front a use may stand or not
-  Moves : Bool → List Token → State → Step
+  Moves : Bool → List Token → ExpansionState → ExpansionStep
   -- a fault that stands at this line
-  Faults : ConfigKind → FileLine → Step
+  Faults : ConfigKind → FileLine → ExpansionStep
   -- the directive's line, the name of the file to be read, and the tokens behind it
-  Includes : FileLine → List ℕ → List Token → State → Step
+  Includes : FileLine → List ℕ → List Token → ExpansionState → ExpansionStep
   -- the block, what is given, and the tokens behind the use
-  Uses : Block → List Argument → List Token → State → Step
+  Uses : BlockDefinition → List Argument → List Token → ExpansionState → ExpansionStep
 
 -- the running total grows, or the fault stands at the line
-abbrev pub charged : ℕ → FileLine → State → (State → Step) → Step
+abbrev pub charged : ℕ → FileLine → ExpansionState → (ExpansionState → ExpansionStep)
+    → ExpansionStep
 charged size line state later = if nat_le (state.total + size) 1048576 then later (record state { total = state.total + size }) else Faults TooLong line
 
 -- tokens come out, each of which is counted
-abbrev pub emitted_by : Bool → List Token → List Token → State → Result ℕ FileLine → Step
+abbrev pub emitted_by : Bool → List Token → List Token → ExpansionState → Result ℕ FileLine
+    → ExpansionStep
 emitted_by fresh rest tokens state (Ok total) = Moves fresh rest
     (record state { total = total; out = state.out ++ tokens })
 emitted_by fresh rest tokens state (Err line) = Faults TooLong line
 
-abbrev pub emitted : Bool → List Token → List Token → State → Step
+abbrev pub emitted : Bool → List Token → List Token → ExpansionState → ExpansionStep
 emitted fresh rest tokens state = emitted_by fresh rest tokens state (counted state.total tokens)
 
 abbrev pub is_directive : List ℕ → List Token → Bool
@@ -95,7 +97,7 @@ abbrev pub text_in : Values → Values → List Token → ℕ → Option (List �
 text_in scope variables tokens place =
     if passes_at tokens place is_string then replaced scope variables 0 (text_at tokens place) else Some (text_at tokens place)
 
-abbrev pub text_of : Context → State → List Token → ℕ → Option (List ℕ)
+abbrev pub text_of : Context → ExpansionState → List Token → ℕ → Option (List ℕ)
 text_of context state tokens place = text_in context.scope state.variables tokens place
 
 -- the token of another text
@@ -107,56 +109,58 @@ abbrev pub retold : Option Token → List ℕ → List Token
 retold None text = []
 retold (Some token) text = with_text token text ∷ []
 
-abbrev pub plain_text : List Token → State → Option (List ℕ) → Step
+abbrev pub plain_text : List Token → ExpansionState → Option (List ℕ) → ExpansionStep
 plain_text tokens state None = Faults UnknownVariable (line_at tokens 0)
 plain_text tokens state (Some text) = emitted (passes_at tokens 0 is_front) (drop 1 tokens)
     (retold (slice_get tokens 0) text) state
 
-abbrev pub variable_tokens : List Token → State → Option (List Token) → Step
+abbrev pub variable_tokens : List Token → ExpansionState → Option (List Token) → ExpansionStep
 variable_tokens tokens state None = Faults UnknownVariable (line_at tokens 0)
 variable_tokens tokens state (Some value) = emitted false (drop 1 tokens) value state
 
 -- a token that is no directive, definition or use
-abbrev pub plain : Context → List Token → State → Step
+abbrev pub plain : Context → List Token → ExpansionState → ExpansionStep
 plain context tokens state =
     if passes_at tokens 0 is_tick then variable_tokens tokens state (reached context.scope state.variables (text_at tokens 0))
     else plain_text tokens state (text_of context state tokens 0)
 
 -- whether the block may be used: in a block's body only those may that were defined before it
-abbrev pub is_in_reach : Option ℕ → Block → Bool
+abbrev pub is_in_reach : Option ℕ → BlockDefinition → Bool
 is_in_reach None block = true
 is_in_reach (Some limit) block = nat_lt block.serial limit
 
 -- a use's word and its block's definition, as they are counted
-abbrev pub use_size : List Token → Block → ℕ
+abbrev pub use_size : List Token → BlockDefinition → ℕ
 use_size tokens block = length (text_at tokens 0) + 1 + size_of block.written + size_of block.body
 
-abbrev pub used : List Token → Block → Use → State → Step
+abbrev pub used : List Token → BlockDefinition → Use → ExpansionState → ExpansionStep
 used tokens block given state =
     if is_missing block.parameters given.0 then Faults MissingArgument (line_at tokens 0)
     else (if is_unknown block.parameters given.0 then Faults UnknownArgument (line_at tokens 0)
     else charged (use_size tokens block) (line_at tokens 0) state (Uses block given.0 given.1))
 
-abbrev pub use_of : Context → List Token → State → Option Block → Option Use → Step
+abbrev pub use_of : Context → List Token → ExpansionState → Option BlockDefinition → Option Use
+    → ExpansionStep
 use_of context tokens state None given = plain context tokens state
 use_of context tokens state (Some block) None = plain context tokens state
 use_of context tokens state (Some block) (Some given) =
     if is_in_reach context.limit block then used tokens block given state else plain context tokens state
 
 -- a word at which a use may stand, or another token
-abbrev pub word_or_use : Context → Bool → List Token → State → Step
+abbrev pub word_or_use : Context → Bool → List Token → ExpansionState → ExpansionStep
 word_or_use context fresh tokens state =
     if fresh && passes_at tokens 0 is_word then use_of context tokens state (map.get state.blocks (text_at tokens 0)) (use_form tokens)
     else plain context tokens state
 
-abbrev pub with_block : Definition → State → State
+abbrev pub with_block : Definition → ExpansionState → ExpansionState
 with_block defined state =
     record state {
       serial = min (state.serial + 1) (2 ^ 64 - 1);
       blocks = map.insert state.blocks defined.name (record { serial = state.serial; parameters = defined.parameters; written = defined.written; body = defined.body });
     }
 
-abbrev pub definition_or_word : Context → Bool → List Token → State → Option Definition → Step
+abbrev pub definition_or_word : Context → Bool → List Token → ExpansionState → Option Definition
+    → ExpansionStep
 definition_or_word context fresh tokens state None = word_or_use context fresh tokens state
 definition_or_word context fresh tokens state (Some defined) = Moves true defined.behind
     (with_block defined state)
@@ -180,15 +184,15 @@ begins_include tokens = is_directive (codes "include") tokens && passes_at token
 abbrev pub begins_ignored : List Token → Bool
 begins_ignored tokens = (is_directive (codes "module") tokens || is_directive (codes "requires") tokens) && passes_at tokens 1 is_word
 
-abbrev pub version_read : Bool → List Token → State → Step
+abbrev pub version_read : Bool → List Token → ExpansionState → ExpansionStep
 version_read fresh tokens state =
     if is_version (text_at tokens 2) || bytes_eq (text_at tokens 2) (codes "current") then Moves fresh (drop 3 tokens) state
     else Faults Version (line_at tokens 0)
 
-abbrev pub with_variable : List ℕ → List Token → State → State
+abbrev pub with_variable : List ℕ → List Token → ExpansionState → ExpansionState
 with_variable name value state = record state { variables = map.insert state.variables name value }
 
-abbrev pub define_read : Bool → List Token → State → Option (List ℕ) → Step
+abbrev pub define_read : Bool → List Token → ExpansionState → Option (List ℕ) → ExpansionStep
 define_read fresh tokens state None = Faults UnknownVariable (line_at tokens 2)
 define_read fresh tokens state (Some text) =
     charged (length text + 1) (line_at tokens 0) state (λ next. Moves fresh (drop 3 tokens)
@@ -201,24 +205,24 @@ has_wildcard name = list_any (λ b. (b == 42) || (b == 63)) name
 abbrev pub names_no_file : List ℕ → Bool
 names_no_file name = has_wildcard name || not (is_utf8 name)
 
-abbrev pub named_file : List Token → List ℕ → State → Step
+abbrev pub named_file : List Token → List ℕ → ExpansionState → ExpansionStep
 named_file tokens name state =
     if nat_le 65536 (length state.names) then Faults TooLong (line_at tokens 0)
     else (if names_no_file name then Faults Unsupported (line_at tokens 0)
     else Includes (line_at tokens 0) name (drop 2 tokens) state)
 
-abbrev pub included : List Token → State → Option (List ℕ) → Step
+abbrev pub included : List Token → ExpansionState → Option (List ℕ) → ExpansionStep
 included tokens state None = Faults UnknownVariable (line_at tokens 1)
 included tokens state (Some name) = charged (length name + 1) (line_at tokens 0) state
     (named_file tokens name)
 
-abbrev pub include_read : Context → List Token → State → Step
+abbrev pub include_read : Context → List Token → ExpansionState → ExpansionStep
 include_read context tokens state =
     if nat_le 15 context.depth then Faults IncludeDepth (line_at tokens 0)
     else included tokens state (replaced context.scope state.variables 0 (text_at tokens 1))
 
 -- what stands at the front: a directive that reads nothing, a definition, a use or a token
-abbrev pub front : Context → Bool → List Token → State → Step
+abbrev pub front : Context → Bool → List Token → ExpansionState → ExpansionStep
 front context fresh tokens state =
     if length tokens == 0 then Ends
     else (if begins_version tokens then version_read fresh tokens state
@@ -226,15 +230,15 @@ front context fresh tokens state =
     else (if begins_ignored tokens then Moves fresh (drop 2 tokens) state
     else definition_or_word context fresh tokens state (definition tokens))))
 
-abbrev pub step : Context → Bool → List Token → State → Step
+abbrev pub step : Context → Bool → List Token → ExpansionState → ExpansionStep
 step context fresh tokens state = if begins_include tokens then include_read context tokens state else front context fresh tokens state
 
 -- what is to be expanded
-pub data Job : Type 0 where
+pub data ExpansionJob : Type 0 where
   -- these tokens, at whose front a use may stand or not
-  Tokens : Context → Bool → List Token → Job
+  Tokens : Context → Bool → List Token → ExpansionJob
   -- a use in a context, of the block of this number and body: the arguments that are left, with the values that are bound
-  Binding : Context → ℕ → List Token → List Argument → Values → Job
+  Binding : Context → ℕ → List Token → List Argument → Values → ExpansionJob
 
 abbrev pub body_context : Context → Values → ℕ → Context
 body_context context bound serial = record context { scope = bound; limit = Some serial }
@@ -253,116 +257,119 @@ lexed file text (Ok tokens) = Ok tokens
 lexed file text (Err fault) = Err (fault_in file text fault)
 
 -- the tokens of the next file of this text, which an `@include` at this line asks for, once its bytes are counted
-abbrev pub file_tokens : FileLine → State → List ℕ → Result (List Token) ConfigFault
+abbrev pub file_tokens : FileLine → ExpansionState → List ℕ → Result (List Token) ConfigFault
 file_tokens line state text =
     if nat_le (state.total + (length text + 1)) 1048576 then lexed (length state.names) text (tokens_of (length state.names) text)
     else Err (fault_at TooLong line)
 
 -- a file was read, and its bytes were counted: it takes the next number
-abbrev pub with_file : List ℕ → List ℕ → State → State
+abbrev pub with_file : List ℕ → List ℕ → ExpansionState → ExpansionState
 with_file name text state = record state { names = state.names ++ name ∷ []; total = state.total + (length text + 1) }
 
 -- the state with nothing, or with these tokens, come out
-abbrev pub with_out : List Token → State → State
+abbrev pub with_out : List Token → ExpansionState → ExpansionState
 with_out out state = record state { out = out }
 
 -- the job, in a state of the expansion and of the machine, comes to this outcome
-pub data Runs : Job → State → WorldState → Outcome → Type 0 where
-  ends : (context : Context) (fresh : Bool) (tokens : List Token) (state : State)
+pub data RunsJob : ExpansionJob → ExpansionState → WorldState → ExpansionOutcome → Type 0 where
+  ends : (context : Context) (fresh : Bool) (tokens : List Token) (state : ExpansionState)
       (world : WorldState)
       → step context fresh tokens state ≡ Ends
-      → Runs (Tokens context fresh tokens) state world (Goes state world)
-  moves : (context : Context) (fresh : Bool) (tokens : List Token) (state : State)
-      (world : WorldState) (again : Bool) (rest : List Token) (next : State) (outcome : Outcome)
+      → RunsJob (Tokens context fresh tokens) state world (Goes state world)
+  moves : (context : Context) (fresh : Bool) (tokens : List Token) (state : ExpansionState)
+      (world : WorldState) (again : Bool) (rest : List Token) (next : ExpansionState)
+      (outcome : ExpansionOutcome)
       → step context fresh tokens state ≡ Moves again rest next
-      → Runs (Tokens context again rest) next world outcome
-      → Runs (Tokens context fresh tokens) state world outcome
-  faults : (context : Context) (fresh : Bool) (tokens : List Token) (state : State)
+      → RunsJob (Tokens context again rest) next world outcome
+      → RunsJob (Tokens context fresh tokens) state world outcome
+  faults : (context : Context) (fresh : Bool) (tokens : List Token) (state : ExpansionState)
       (world : WorldState) (kind : ConfigKind) (line : FileLine)
       → step context fresh tokens state ≡ Faults kind line
-      → Runs (Tokens context fresh tokens) state world
+      → RunsJob (Tokens context fresh tokens) state world
       (Stops (Faulty (fault_at kind line)) state.names world)
   -- a file is read, and its tokens are expanded before those behind the `@include`
-  includes : (context : Context) (fresh : Bool) (tokens : List Token) (state : State)
-      (world : WorldState) (line : FileLine) (name : List ℕ) (rest : List Token) (next : State)
-      (read : WorldState) (bytes : Vec ℕ Global) (found : List Token) (middle : State)
-      (later : WorldState) (outcome : Outcome)
+  includes : (context : Context) (fresh : Bool) (tokens : List Token) (state : ExpansionState)
+      (world : WorldState) (line : FileLine) (name : List ℕ) (rest : List Token)
+      (next : ExpansionState) (read : WorldState) (bytes : Vec ℕ Global)
+      (found : List Token) (middle : ExpansionState) (later : WorldState)
+      (outcome : ExpansionOutcome)
       → step context fresh tokens state ≡ Includes line name rest next
-      → Reads world read name 1048576 (Ok bytes)
+      → ReadsFile world read name 1048576 (Ok bytes)
       → file_tokens line next bytes.items ≡ Ok found
-      → Runs (Tokens (file_context context) true found) (with_file name bytes.items next) read
+      → RunsJob (Tokens (file_context context) true found) (with_file name bytes.items next) read
       (Goes middle later)
-      → Runs (Tokens context fresh rest) middle later outcome
-      → Runs (Tokens context fresh tokens) state world outcome
-  included_stops : (context : Context) (fresh : Bool) (tokens : List Token) (state : State)
-      (world : WorldState) (line : FileLine) (name : List ℕ) (rest : List Token) (next : State)
-      (read : WorldState) (bytes : Vec ℕ Global) (found : List Token) (refusal : Refusal)
-      (names : List (List ℕ)) (later : WorldState)
+      → RunsJob (Tokens context fresh rest) middle later outcome
+      → RunsJob (Tokens context fresh tokens) state world outcome
+  included_stops : (context : Context) (fresh : Bool) (tokens : List Token) (state : ExpansionState)
+      (world : WorldState) (line : FileLine) (name : List ℕ) (rest : List Token)
+      (next : ExpansionState) (read : WorldState) (bytes : Vec ℕ Global)
+      (found : List Token) (refusal : Refusal) (names : List (List ℕ)) (later : WorldState)
       → step context fresh tokens state ≡ Includes line name rest next
-      → Reads world read name 1048576 (Ok bytes)
+      → ReadsFile world read name 1048576 (Ok bytes)
       → file_tokens line next bytes.items ≡ Ok found
-      → Runs (Tokens (file_context context) true found) (with_file name bytes.items next) read
+      → RunsJob (Tokens (file_context context) true found) (with_file name bytes.items next) read
       (Stops refusal names later)
-      → Runs (Tokens context fresh tokens) state world (Stops refusal names later)
-  file_faults : (context : Context) (fresh : Bool) (tokens : List Token) (state : State)
-      (world : WorldState) (line : FileLine) (name : List ℕ) (rest : List Token) (next : State)
-      (read : WorldState) (bytes : Vec ℕ Global) (fault : ConfigFault)
+      → RunsJob (Tokens context fresh tokens) state world (Stops refusal names later)
+  file_faults : (context : Context) (fresh : Bool) (tokens : List Token) (state : ExpansionState)
+      (world : WorldState) (line : FileLine) (name : List ℕ) (rest : List Token)
+      (next : ExpansionState) (read : WorldState) (bytes : Vec ℕ Global) (fault : ConfigFault)
       → step context fresh tokens state ≡ Includes line name rest next
-      → Reads world read name 1048576 (Ok bytes)
+      → ReadsFile world read name 1048576 (Ok bytes)
       → file_tokens line next bytes.items ≡ Err fault
-      → Runs (Tokens context fresh tokens) state world
+      → RunsJob (Tokens context fresh tokens) state world
       (Stops (Faulty fault) (next.names ++ name ∷ []) read)
-  file_too_long : (context : Context) (fresh : Bool) (tokens : List Token) (state : State)
-      (world : WorldState) (line : FileLine) (name : List ℕ) (rest : List Token) (next : State)
-      (read : WorldState)
+  file_too_long : (context : Context) (fresh : Bool) (tokens : List Token) (state : ExpansionState)
+      (world : WorldState) (line : FileLine) (name : List ℕ) (rest : List Token)
+      (next : ExpansionState) (read : WorldState)
       → step context fresh tokens state ≡ Includes line name rest next
-      → Reads world read name 1048576 (Err FileTooLong)
-      → Runs (Tokens context fresh tokens) state world
+      → ReadsFile world read name 1048576 (Err FileTooLong)
+      → RunsJob (Tokens context fresh tokens) state world
       (Stops (Faulty (fault_at TooLong line)) next.names read)
-  file_unread : (context : Context) (fresh : Bool) (tokens : List Token) (state : State)
-      (world : WorldState) (line : FileLine) (name : List ℕ) (rest : List Token) (next : State)
-      (read : WorldState)
+  file_unread : (context : Context) (fresh : Bool) (tokens : List Token) (state : ExpansionState)
+      (world : WorldState) (line : FileLine) (name : List ℕ) (rest : List Token)
+      (next : ExpansionState) (read : WorldState)
       → step context fresh tokens state ≡ Includes line name rest next
-      → Reads world read name 1048576 (Err Failed)
-      → Runs (Tokens context fresh tokens) state world (Stops (Unread name) next.names read)
+      → ReadsFile world read name 1048576 (Err Failed)
+      → RunsJob (Tokens context fresh tokens) state world (Stops (Unread name) next.names read)
   -- a use's values and body are expanded before the tokens behind it
-  uses : (context : Context) (fresh : Bool) (tokens : List Token) (state : State)
-      (world : WorldState) (block : Block) (given : List Argument) (rest : List Token)
-      (next : State) (middle : State) (later : WorldState) (outcome : Outcome)
+  uses : (context : Context) (fresh : Bool) (tokens : List Token) (state : ExpansionState)
+      (world : WorldState) (block : BlockDefinition) (given : List Argument) (rest : List Token)
+      (next : ExpansionState) (middle : ExpansionState) (later : WorldState)
+      (outcome : ExpansionOutcome)
       → step context fresh tokens state ≡ Uses block given rest next
-      → Runs (Binding context block.serial block.body (bindings block.parameters given) map.empty)
-      next world (Goes middle later)
-      → Runs (Tokens context false rest) middle later outcome
-      → Runs (Tokens context fresh tokens) state world outcome
-  use_stops : (context : Context) (fresh : Bool) (tokens : List Token) (state : State)
-      (world : WorldState) (block : Block) (given : List Argument) (rest : List Token)
-      (next : State) (refusal : Refusal) (names : List (List ℕ)) (later : WorldState)
+      → RunsJob (Binding context block.serial block.body (bindings block.parameters given)
+      map.empty) next world (Goes middle later)
+      → RunsJob (Tokens context false rest) middle later outcome
+      → RunsJob (Tokens context fresh tokens) state world outcome
+  use_stops : (context : Context) (fresh : Bool) (tokens : List Token) (state : ExpansionState)
+      (world : WorldState) (block : BlockDefinition) (given : List Argument) (rest : List Token)
+      (next : ExpansionState) (refusal : Refusal) (names : List (List ℕ)) (later : WorldState)
       → step context fresh tokens state ≡ Uses block given rest next
-      → Runs (Binding context block.serial block.body (bindings block.parameters given) map.empty)
-      next world (Stops refusal names later)
-      → Runs (Tokens context fresh tokens) state world (Stops refusal names later)
+      → RunsJob (Binding context block.serial block.body (bindings block.parameters given)
+      map.empty) next world (Stops refusal names later)
+      → RunsJob (Tokens context fresh tokens) state world (Stops refusal names later)
   -- a value is expanded by itself, and bound
   binds : (context : Context) (serial : ℕ) (body : List Token) (argument : Argument)
-      (left : List Argument) (bound : Values) (state : State) (world : WorldState)
-      (whole : State) (later : WorldState) (outcome : Outcome)
-      → Runs (Tokens context false argument.tokens) (with_out [] state) world (Goes whole later)
-      → Runs (Binding context serial body left (map.insert bound argument.name whole.out))
+      (left : List Argument) (bound : Values) (state : ExpansionState) (world : WorldState)
+      (whole : ExpansionState) (later : WorldState) (outcome : ExpansionOutcome)
+      → RunsJob (Tokens context false argument.tokens) (with_out [] state) world (Goes whole later)
+      → RunsJob (Binding context serial body left (map.insert bound argument.name whole.out))
       (with_out state.out whole) later outcome
-      → Runs (Binding context serial body (argument ∷ left) bound) state world outcome
+      → RunsJob (Binding context serial body (argument ∷ left) bound) state world outcome
   value_stops : (context : Context) (serial : ℕ) (body : List Token) (argument : Argument)
-      (left : List Argument) (bound : Values) (state : State) (world : WorldState)
+      (left : List Argument) (bound : Values) (state : ExpansionState) (world : WorldState)
       (refusal : Refusal) (names : List (List ℕ)) (later : WorldState)
-      → Runs (Tokens context false argument.tokens) (with_out [] state) world
+      → RunsJob (Tokens context false argument.tokens) (with_out [] state) world
       (Stops refusal names later)
-      → Runs (Binding context serial body (argument ∷ left) bound) state world
+      → RunsJob (Binding context serial body (argument ∷ left) bound) state world
       (Stops refusal names later)
   -- then the body, in which the values are in reach
-  body_runs : (context : Context) (serial : ℕ) (body : List Token) (bound : Values) (state : State)
-      (world : WorldState) (outcome : Outcome)
-      → Runs (Tokens (body_context context bound serial) true (trimmed body)) state world outcome
-      → Runs (Binding context serial body [] bound) state world outcome
+  body_runs : (context : Context) (serial : ℕ) (body : List Token) (bound : Values)
+      (state : ExpansionState) (world : WorldState) (outcome : ExpansionOutcome)
+      → RunsJob (Tokens (body_context context bound serial) true (trimmed body)) state world outcome
+      → RunsJob (Binding context serial body [] bound) state world outcome
 
-abbrev pub first_state : List ℕ → State
+abbrev pub first_state : List ℕ → ExpansionState
 first_state name = record { variables = map.empty; blocks = map.empty; serial = 0; total = 0; names = name ∷ []; out = [] }
 
 abbrev pub first_context : Context
@@ -386,20 +393,21 @@ abbrev pub main_tokens : List ℕ → Result (List Token) ConfigFault
 main_tokens text =
     if nat_le (length text) 1048576 then versioned (lexed 0 text (tokens_of 0 text)) else Err (record { kind = TooLong; file = 0; line = 1 })
 
-abbrev pub RunsTokens : Result (List Token) ConfigFault → State → WorldState → Outcome → Type 0
-RunsTokens (Ok tokens) state world outcome = Runs (Tokens first_context true tokens) state world
+abbrev pub RunsTokens : Result (List Token) ConfigFault → ExpansionState → WorldState
+    → ExpansionOutcome → Type 0
+RunsTokens (Ok tokens) state world outcome = RunsJob (Tokens first_context true tokens) state world
     outcome
 RunsTokens (Err fault) state world outcome = outcome ≡ Stops (Faulty fault) state.names world
 
 -- the main file's text, of this name, comes to this outcome
-abbrev pub RunsMain : List ℕ → List ℕ → WorldState → Outcome → Type 0
+abbrev pub RunsMain : List ℕ → List ℕ → WorldState → ExpansionOutcome → Type 0
 RunsMain name text world outcome = RunsTokens (main_tokens text) (first_state name) world outcome
 
 -- what an expansion answers is what the text comes to, but for lack of memory. A file isn't read only where its reading failed
 abbrev pub IsExpanded : WorldState → WorldState → List ℕ → List ℕ → Result Expanded ExpandRefusal
     → Type 0
 IsExpanded old new name text (Ok expanded) =
-    (last : State) × (RunsMain name text old (Goes last new)
+    (last : ExpansionState) × (RunsMain name text old (Goes last new)
     × ((expanded.tokens ≡ last.out) × (expanded.names ≡ last.names)))
 IsExpanded old new name text (Err (Bad fault names)) = RunsMain name text old
     (Stops (Faulty fault) names new)

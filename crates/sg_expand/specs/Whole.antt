@@ -7,42 +7,46 @@ use Rattle.sg_expand.specs.declared.expander.Expander.{Expander}
 use Rattle.sg_expand.specs.declared.fault.ExpandStop.{ExpandStop}
 use Rattle.sg_expand.specs.declared.fault.ExpandStop.TheVariants.{Fault, ReadFault, NoMemory}
 use Rattle.sg_expand.specs.declared.frame.ExpandFrame.{ExpandFrame}
-use Rattle.sg_expand.specs.Expansion.{Outcome, Goes, Stops, Faulty, Unread, first_context, first_state, main_tokens, RunsTokens}
+use Rattle.sg_expand.specs.Expansion.{ExpansionOutcome, Goes, Stops, Faulty, Unread, first_context, first_state, main_tokens, RunsTokens}
 use Rattle.sg_expand.specs.Machine.{state_of, tokens_frame}
-use Rattle.sg_expand.specs.Pending.{Leads}
+use Rattle.sg_expand.specs.Pending.{FramesLead}
 
 -- nothing was done yet
-abbrev pub IsNew : List ℕ → Expander → Type 0
-IsNew name expander = (expander.frames.items ≡ []) × (state_of expander ≡ first_state name)
+abbrev pub IsNewExpander : List ℕ → Expander → Type 0
+IsNewExpander name expander = (expander.frames.items ≡ []) × (state_of expander ≡ first_state name)
 
 -- an answer is a list of tokens or a fault, but for lack of memory
-abbrev pub Gives : Result (List Token) ConfigFault → Result (List Token) ExpandStop → Type 0
-Gives wanted (Ok tokens) = wanted ≡ Ok tokens
-Gives wanted (Err (Fault fault)) = wanted ≡ Err fault
-Gives wanted (Err (ReadFault name)) = ⊥
-Gives wanted (Err NoMemory) = Unit {0}
+abbrev pub GivesTokens : Result (List Token) ConfigFault → Result (List Token) ExpandStop → Type 0
+GivesTokens wanted (Ok tokens) = wanted ≡ Ok tokens
+GivesTokens wanted (Err (Fault fault)) = wanted ≡ Err fault
+GivesTokens wanted (Err (ReadFault name)) = ⊥
+GivesTokens wanted (Err NoMemory) = Unit {0}
 
 -- the outcome to which an answer belongs, in the state that it leaves
-abbrev pub Answers : Expander → WorldState → Result Unit ExpandStop → (Outcome → Type 0) → Type 0
-Answers expander world (Ok done) comes = comes (Goes (state_of expander) world)
-Answers expander world (Err (Fault fault)) comes = comes (Stops (Faulty fault) expander.names world)
-Answers expander world (Err (ReadFault name)) comes = comes
+abbrev pub AnswersExpansion : Expander → WorldState → Result Unit ExpandStop
+    → (ExpansionOutcome → Type 0) → Type 0
+AnswersExpansion expander world (Ok done) comes = comes (Goes (state_of expander) world)
+AnswersExpansion expander world (Err (Fault fault)) comes = comes
+    (Stops (Faulty fault) expander.names world)
+AnswersExpansion expander world (Err (ReadFault name)) comes = comes
     (Stops (Unread name) expander.names world)
-Answers expander world (Err NoMemory) comes = Unit {0}
+AnswersExpansion expander world (Err NoMemory) comes = Unit {0}
 
 -- what was to be done first is done: what waits then leads to what it led to before
 abbrev pub DoesFrame : ExpandFrame → Expander → WorldState → Expander → WorldState
     → Result Unit ExpandStop → Type 0
 DoesFrame frame old world new world' (Ok done) =
-    (outcome : Outcome) → Leads (reverse new.frames.items) (state_of new) world' outcome
-    → Leads (frame ∷ reverse old.frames.items) (state_of old) world outcome
-DoesFrame frame old world new world' (Err stop) = Answers new world' (Err stop)
-    (Leads (frame ∷ reverse old.frames.items) (state_of old) world)
+    (outcome : ExpansionOutcome)
+    → FramesLead (reverse new.frames.items) (state_of new) world' outcome
+    → FramesLead (frame ∷ reverse old.frames.items) (state_of old) world outcome
+DoesFrame frame old world new world' (Err stop) = AnswersExpansion new world' (Err stop)
+    (FramesLead (frame ∷ reverse old.frames.items) (state_of old) world)
 
 -- what waits is done
-abbrev pub Works : Expander → WorldState → Expander → WorldState → Result Unit ExpandStop → Type 0
-Works old world new world' result = Answers new world' result
-    (Leads (reverse old.frames.items) (state_of old) world)
+abbrev pub WorksFrames : Expander → WorldState → Expander → WorldState → Result Unit ExpandStop
+    → Type 0
+WorksFrames old world new world' result = AnswersExpansion new world' result
+    (FramesLead (reverse old.frames.items) (state_of old) world)
 
 -- the main file's text is begun: its tokens are expanded next
 abbrev pub BeginsText : List ℕ → Expander → Expander → Result Unit ExpandStop → Type 0
@@ -58,5 +62,5 @@ BeginsText text old new (Err NoMemory) = Unit {0}
 -- the main file's text is expanded
 abbrev pub RunsWhole : List ℕ → Expander → WorldState → Expander → WorldState
     → Result Unit ExpandStop → Type 0
-RunsWhole text old world new world' result = Answers new world' result
+RunsWhole text old world new world' result = AnswersExpansion new world' result
     (RunsTokens (main_tokens text) (state_of old) world)

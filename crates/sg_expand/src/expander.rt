@@ -1,17 +1,17 @@
 // The state of an expansion, and its end.
 ghost use Rattle.std.specs.Prelude.{◌≡◌, ◌≤◌, [], ◌∷◌, length, IfOk, OnOk};
-ghost use Rattle.sg_expand.specs.Bounded.{IsBounded};
+ghost use Rattle.sg_expand.specs.Bounded.{IsExpanderBounded};
 ghost use Rattle.sg_lex.specs.Tokens.{tokens_of};
 ghost use Rattle.sg_expand.specs.Lexed.{PlaceWithin, FaultIn};
 ghost use Rattle.sg_expand.specs.Expansion.{lexed, first_line, behind_version, main_tokens, IsExpanded};
-ghost use Rattle.sg_expand.specs.Places.{IsPlaced};
-ghost use Rattle.sg_expand.specs.Whole.{IsNew, Gives, BeginsText, DoesFrame, Works, RunsWhole};
+ghost use Rattle.sg_expand.specs.Places.{AreFilesPlaced};
+ghost use Rattle.sg_expand.specs.Whole.{IsNewExpander, GivesTokens, BeginsText, DoesFrame, WorksFrames, RunsWhole};
 ghost use Rattle.sg_outside.specs.World.{OnlyReads};
 
-use crate::block::Block;
+use crate::block::BlockDefinition;
 use crate::directive::{begins_version, is_version};
 use crate::fault::{ExpandRefusal, ExpandStop, Expanded, fault_at};
-use crate::frame::{Context, ExpandFrame, Rest, empty_scope, push_frame};
+use crate::frame::{Context, ExpandFrame, RestTokens, empty_scope, push_frame};
 use crate::total::Total;
 use sg_block::{FileLine, NameMap, TokenSpan, Values};
 use sg_device::{Name, NoMemory};
@@ -26,7 +26,7 @@ pub struct Expander {
     /// What is to be done, the first last.
     pub frames: Vec<ExpandFrame>,
     pub variables: Values,
-    pub blocks: NameMap<Block>,
+    pub blocks: NameMap<BlockDefinition>,
     /// How many blocks were defined.
     pub serial: u64,
     pub total: Total,
@@ -59,7 +59,7 @@ fn fault_in(file: u32, text: &[u8], fault: LexFault) -> ExpandStop
 /// The tokens of a file.
 pub fn lex(alloc: Global, file: u32, text: &[u8]) -> Result<TokenSpan, ExpandStop>
     requires { length text.now ≤ TEXT_LIMIT }
-    ensures { Gives (lexed file text.now (tokens_of file text.now)) result }
+    ensures { GivesTokens (lexed file text.now (tokens_of file text.now)) result }
 {
     match tokens(alloc, file, text) {
         Ok(found) => Ok(TokenSpan::new(alloc, found)?),
@@ -79,7 +79,7 @@ fn first_line(tokens: &TokenSpan) -> FileLine
 
 /// The tokens behind the version with which a main file begins.
 fn behind_version(tokens: TokenSpan) -> Result<TokenSpan, ExpandStop>
-    ensures { Gives (behind_version tokens) result }
+    ensures { GivesTokens (behind_version tokens) result }
 {
     if begins_version(&tokens) && is_version(tokens.text(2)) {
         return Ok(tokens.behind(3));
@@ -89,7 +89,7 @@ fn behind_version(tokens: TokenSpan) -> Result<TokenSpan, ExpandStop>
 
 /// The tokens of a main file's text behind its version.
 fn main_tokens(alloc: Global, text: &[u8]) -> Result<TokenSpan, ExpandStop>
-    ensures { Gives (main_tokens text.now) result }
+    ensures { GivesTokens (main_tokens text.now) result }
 {
     if text.len() > TEXT_LIMIT {
         return Err(ExpandStop::Fault(fault_at(ConfigKind::TooLong, FileLine { file: 0, line: 1 })));
@@ -102,7 +102,7 @@ fn main_tokens(alloc: Global, text: &[u8]) -> Result<TokenSpan, ExpandStop>
 
 impl Expander {
     fn new(alloc: Global, name: Name) -> Result<Expander, NoMemory>
-        ensures { IfOk result (λ expander. IsNew name expander) }
+        ensures { IfOk result (λ expander. IsNewExpander name expander) }
     {
         let mut names = Seq::empty(alloc);
         names.push(name)?;
@@ -120,8 +120,9 @@ impl Expander {
 
     /// Does what is to be done until nothing is left.
     fn work<F: Files>(&mut self, files: &mut F) -> Result<(), ExpandStop>
-        requires bounded { IsBounded self.old.frames.items self.old }
-        ensures does { Works self.old (F.state files.old) self.new (F.state files.new) result }
+        requires bounded { IsExpanderBounded self.old.frames.items self.old }
+        ensures does { WorksFrames self.old (F.state files.old) self.new (F.state files.new)
+            result }
         ensures reads { OnlyReads (F.state files.old) (F.state files.new) }
     {
         'steps: for _ in 0..u64::MAX {
@@ -136,8 +137,8 @@ impl Expander {
     /// Does what was to be done first. The tokens of the list and of the values that are expanded are
     /// together at most 1,048,576 before and after it.
     fn do_frame<F: Files>(&mut self, files: &mut F, frame: ExpandFrame) -> Result<(), ExpandStop>
-        requires bounded { IsBounded (frame ∷ self.old.frames.items) self.old }
-        ensures bounded { OnOk result (IsBounded self.new.frames.items self.new) }
+        requires bounded { IsExpanderBounded (frame ∷ self.old.frames.items) self.old }
+        ensures bounded { OnOk result (IsExpanderBounded self.new.frames.items self.new) }
         ensures does { DoesFrame frame self.old (F.state files.old) self.new (F.state files.new)
             result }
         ensures reads { OnlyReads (F.state files.old) (F.state files.new) }
@@ -158,7 +159,7 @@ impl Expander {
             scope: empty_scope(self.alloc)?,
             limit: None,
         };
-        let rest = Rest {
+        let rest = RestTokens {
             context,
             fresh: true,
             tokens,
@@ -169,7 +170,7 @@ impl Expander {
 
     fn run<F: Files>(&mut self, files: &mut F, text: &[u8]) -> Result<(), ExpandStop>
         requires empty { self.old.frames.items ≡ [] }
-        requires bounded { IsBounded [] self.old }
+        requires bounded { IsExpanderBounded [] self.old }
         ensures does { RunsWhole text.now self.old (F.state files.old) self.new (F.state files.new)
             result }
         ensures reads { OnlyReads (F.state files.old) (F.state files.new) }
@@ -193,7 +194,7 @@ pub fn expand<F: Files>(
     files: &mut F,
 ) -> Result<Expanded, ExpandRefusal>
     ensures exact { IsExpanded (F.state files.old) (F.state files.new) name main.now result }
-    ensures place { IsPlaced result }
+    ensures place { AreFilesPlaced result }
     ensures reads { OnlyReads (F.state files.old) (F.state files.new) }
 {
     let mut expander = match Expander::new(alloc, name) {

@@ -43,7 +43,7 @@ impl Context {
 
 /// Tokens that are still to be expanded.
 #[derive(Drop)]
-pub struct Rest {
+pub struct RestTokens {
     pub context: Context,
     /// Whether a use may stand at the front.
     pub fresh: bool,
@@ -52,7 +52,7 @@ pub struct Rest {
 
 /// A use whose arguments are being bound.
 #[derive(Drop)]
-pub struct Call {
+pub struct BlockCall {
     /// Where the use stands.
     pub context: Context,
     /// The block's number, and its body.
@@ -65,8 +65,8 @@ pub struct Call {
 
 /// A use that waits for a value.
 #[derive(Drop)]
-pub struct Wait {
-    pub call: Call,
+pub struct WaitingUse {
+    pub call: BlockCall,
     /// The name to which the value is bound.
     pub name: Name,
     /// What came out before the value began.
@@ -75,8 +75,8 @@ pub struct Wait {
 
 #[derive(Drop)]
 pub enum ExpandFrame {
-    Expands(Rest),
-    Binds(Wait),
+    Expands(RestTokens),
+    Binds(WaitingUse),
 }
 
 /// Puts what is to be done first at the end.

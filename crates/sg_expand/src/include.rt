@@ -8,7 +8,7 @@ ghost use Rattle.sg_expand.specs.Machine.{DoesStep, TakesFile, NamesFile, Checks
 use crate::directive::names_no_file;
 use crate::expander::{Expander, lex};
 use crate::fault::{ExpandStop, fault_at};
-use crate::frame::{Context, Rest, empty_scope};
+use crate::frame::{Context, RestTokens, empty_scope};
 use sg_block::{FileLine, Replaced, replace};
 use sg_device::{FileRefusal, Name};
 use sg_lex::ConfigKind;
@@ -21,7 +21,7 @@ const FILE_LIMIT: usize = 65_536;
 
 impl Expander {
     /// The name of the file that an `@include` asks for, which is counted.
-    fn file_name(&mut self, rest: &Rest) -> Result<Name, ExpandStop>
+    fn file_name(&mut self, rest: &RestTokens) -> Result<Name, ExpandStop>
         requires { 1 < length rest.now.tokens }
         ensures depth { OnOk result (rest.now.context.depth < 15) }
         ensures names { OnOk result (length self.new.names < 65536) }
@@ -68,7 +68,7 @@ impl Expander {
     }
 
     /// Expands the file that an `@include` names, and what stands behind it later.
-    pub fn include<F: Files>(&mut self, files: &mut F, rest: Rest) -> Result<(), ExpandStop>
+    pub fn include<F: Files>(&mut self, files: &mut F, rest: RestTokens) -> Result<(), ExpandStop>
         requires { 1 < length rest.tokens }
         ensures does { DoesStep (include_read rest.context rest.tokens (state_of self.old))
             rest.context rest.fresh
@@ -92,7 +92,7 @@ impl Expander {
 
     fn take_file(
         &mut self,
-        rest: Rest,
+        rest: RestTokens,
         name: Name,
         line: FileLine,
         text: &[u8],

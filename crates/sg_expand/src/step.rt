@@ -7,13 +7,13 @@ ghost use Rattle.sg_list.specs.Lists.{passes_at};
 ghost use Rattle.sg_block.specs.Tokens.{is_front, is_tick, is_string, text_at, line_at};
 ghost use Rattle.sg_block.specs.Values.{reached, IsReplaced};
 ghost use Rattle.sg_expand.specs.Expansion.{Moves, retold, front, step, version_read, define_read, text_of, text_in, plain, with_block, with_variable};
-ghost use Rattle.sg_expand.specs.Machine.{Does, DoesStep, Pushes, tokens_frame, state_of, EmitsToken};
+ghost use Rattle.sg_expand.specs.Machine.{DoesAsked, DoesStep, PushesFrames, tokens_frame, state_of, EmitsToken};
 
-use crate::block::Block;
+use crate::block::BlockDefinition;
 use crate::directive::{begins_define, begins_ignored, begins_include, begins_version, is_version};
 use crate::expander::Expander;
 use crate::fault::{ExpandStop, fault_at};
-use crate::frame::{Context, ExpandFrame, Rest, push_frame};
+use crate::frame::{Context, ExpandFrame, RestTokens, push_frame};
 use crate::total::{put, put_all};
 use sg_block::{
     Definition, Replaced, TokenSpan, find, is_front, is_tick, read_definition, replace,
@@ -58,7 +58,7 @@ fn is_tick_at(tokens: &TokenSpan, place: usize) -> bool
 
 impl Expander {
     /// Does what the front of these tokens asks for.
-    pub fn step<F: Files>(&mut self, files: &mut F, rest: Rest) -> Result<(), ExpandStop>
+    pub fn step<F: Files>(&mut self, files: &mut F, rest: RestTokens) -> Result<(), ExpandStop>
         ensures does { DoesStep (step rest.context rest.fresh rest.tokens (state_of self.old))
             rest.context rest.fresh
             self.old (F.state files.old) self.new (F.state files.new) result }
@@ -70,9 +70,9 @@ impl Expander {
         self.step_without_files(rest)
     }
 
-    fn step_without_files(&mut self, rest: Rest) -> Result<(), ExpandStop>
-        ensures { Does (front rest.context rest.fresh rest.tokens (state_of self.old)) rest.context
-            self.old self.new result }
+    fn step_without_files(&mut self, rest: RestTokens) -> Result<(), ExpandStop>
+        ensures { DoesAsked (front rest.context rest.fresh rest.tokens (state_of self.old))
+            rest.context self.old self.new result }
     {
         if rest.tokens.is_empty() {
             return Ok(());
@@ -99,9 +99,9 @@ impl Expander {
         fresh: bool,
         tokens: TokenSpan,
     ) -> Result<(), ExpandStop>
-        ensures { Pushes (tokens_frame context fresh tokens ∷ []) self.old self.new result }
+        ensures { PushesFrames (tokens_frame context fresh tokens ∷ []) self.old self.new result }
     {
-        let rest = Rest {
+        let rest = RestTokens {
             context,
             fresh,
             tokens,
@@ -110,9 +110,9 @@ impl Expander {
         Ok(())
     }
 
-    fn read_version(&mut self, rest: Rest) -> Result<(), ExpandStop>
+    fn read_version(&mut self, rest: RestTokens) -> Result<(), ExpandStop>
         requires { 2 < length rest.tokens }
-        ensures { Does (version_read rest.fresh rest.tokens (state_of self.old)) rest.context
+        ensures { DoesAsked (version_read rest.fresh rest.tokens (state_of self.old)) rest.context
             self.old self.new result }
     {
         let word = rest.tokens.text(2);
@@ -150,9 +150,9 @@ impl Expander {
         Ok(Replaced::Text(Name::new(self.alloc, text)?))
     }
 
-    fn define(&mut self, rest: Rest) -> Result<(), ExpandStop>
+    fn define(&mut self, rest: RestTokens) -> Result<(), ExpandStop>
         requires { 2 < length rest.tokens }
-        ensures { Does
+        ensures { DoesAsked
             (define_read rest.fresh rest.tokens (state_of self.old)
             (text_of rest.context (state_of self.old) rest.tokens 2))
             rest.context self.old self.new result }
@@ -187,10 +187,10 @@ impl Expander {
     }
 
     fn define_block(&mut self, context: Context, defined: Definition) -> Result<(), ExpandStop>
-        ensures { Does (Moves true defined.behind (with_block defined (state_of self.old))) context
-            self.old self.new result }
+        ensures { DoesAsked (Moves true defined.behind (with_block defined (state_of self.old)))
+            context self.old self.new result }
     {
-        let block = Block {
+        let block = BlockDefinition {
             serial: self.serial,
             parameters: defined.parameters,
             written: defined.written,
@@ -202,10 +202,10 @@ impl Expander {
     }
 
     /// Puts out the token at the front, with variables replaced.
-    pub fn emit(&mut self, rest: Rest) -> Result<(), ExpandStop>
+    pub fn emit(&mut self, rest: RestTokens) -> Result<(), ExpandStop>
         requires { 0 < length rest.tokens }
-        ensures { Does (plain rest.context rest.tokens (state_of self.old)) rest.context self.old
-            self.new result }
+        ensures { DoesAsked (plain rest.context rest.tokens (state_of self.old)) rest.context
+            self.old self.new result }
     {
         if is_tick_at(&rest.tokens, 0) {
             self.emit_variable(&rest)?;
@@ -216,7 +216,7 @@ impl Expander {
         self.go_on(rest.context, fresh, rest.tokens.behind(1))
     }
 
-    fn emit_variable(&mut self, rest: &Rest) -> Result<(), ExpandStop>
+    fn emit_variable(&mut self, rest: &RestTokens) -> Result<(), ExpandStop>
         requires { 0 < length rest.now.tokens }
         ensures { EmitsToken (reached rest.now.context.scope self.old.variables
             (text_at rest.now.tokens 0))
@@ -235,7 +235,7 @@ impl Expander {
         }
     }
 
-    fn emit_text(&mut self, rest: &Rest) -> Result<(), ExpandStop>
+    fn emit_text(&mut self, rest: &RestTokens) -> Result<(), ExpandStop>
         requires { 0 < length rest.now.tokens }
         ensures { EmitsToken
             (option_map (retold (slice_get rest.now.tokens 0))

@@ -5,12 +5,12 @@ ghost use Rattle.sg_block.specs.Trimmed.{trimmed};
 ghost use Rattle.sg_block.specs.Tokens.{size_of, line_at};
 ghost use Rattle.sg_expand.specs.Total.{IsSize};
 ghost use Rattle.sg_expand.specs.Expansion.{is_in_reach, word_or_use, body_context};
-ghost use Rattle.sg_expand.specs.Machine.{IsAsked, FindsUse, BeginsUse, Does, DoesBind, Calls, Pushes, tokens_frame, state_of};
+ghost use Rattle.sg_expand.specs.Machine.{IsAsked, FindsUse, BeginsUse, DoesAsked, DoesBind, CallsBlock, PushesFrames, tokens_frame, state_of};
 
-use crate::block::Block;
+use crate::block::BlockDefinition;
 use crate::expander::Expander;
 use crate::fault::{ExpandStop, fault_at};
-use crate::frame::{Call, Context, ExpandFrame, Rest, Scope, Wait, push_frame};
+use crate::frame::{BlockCall, Context, ExpandFrame, RestTokens, Scope, WaitingUse, push_frame};
 use crate::total::TOTAL_LIMIT;
 use sg_block::{Arguments, TokenSpan, Values, token_size, use_form};
 use sg_device::NoMemory;
@@ -34,7 +34,7 @@ fn with_sizes(size: u64, tokens: &TokenSpan) -> u64
     whole
 }
 
-fn is_in_reach(limit: Option<u64>, block: &Block) -> bool
+fn is_in_reach(limit: Option<u64>, block: &BlockDefinition) -> bool
     ensures { result ≡ is_in_reach limit block.now }
 {
     match limit {
@@ -45,7 +45,7 @@ fn is_in_reach(limit: Option<u64>, block: &Block) -> bool
 
 /// What a use of a block asks for.
 #[derive(Drop)]
-struct Asked {
+struct BlockUse {
     size: u64,
     serial: u64,
     body: TokenSpan,
@@ -55,9 +55,9 @@ struct Asked {
 fn ask(
     alloc: Global,
     tokens: &TokenSpan,
-    block: &Block,
+    block: &BlockDefinition,
     given: Arguments,
-) -> Result<Asked, ExpandStop>
+) -> Result<BlockUse, ExpandStop>
     requires { 0 < length tokens.now }
     ensures { IsAsked tokens.now block.now given result }
 {
@@ -67,7 +67,7 @@ fn ask(
     if block.parameters.is_unknown(alloc, &given)? {
         return Err(ExpandStop::Fault(fault_at(ConfigKind::UnknownArgument, tokens.line(0))));
     }
-    Ok(Asked {
+    Ok(BlockUse {
         size: with_sizes(
             with_sizes(token_size(tokens.at(0)), &block.written),
             &block.body,
@@ -80,7 +80,7 @@ fn ask(
 
 impl Expander {
     /// What the use at the front asks for, and the tokens behind it: none where none stands there.
-    fn find_use(&self, rest: &Rest) -> Result<Option<(Asked, TokenSpan)>, ExpandStop>
+    fn find_use(&self, rest: &RestTokens) -> Result<Option<(BlockUse, TokenSpan)>, ExpandStop>
         requires { 0 < length rest.now.tokens }
         ensures { FindsUse rest.now.context rest.now.fresh rest.now.tokens (state_of self.now)
             result }
@@ -104,9 +104,9 @@ impl Expander {
     }
 
     /// Begins the use at the front, or puts out the token.
-    pub fn use_or_emit(&mut self, rest: Rest) -> Result<(), ExpandStop>
+    pub fn use_or_emit(&mut self, rest: RestTokens) -> Result<(), ExpandStop>
         requires { 0 < length rest.tokens }
-        ensures { Does (word_or_use rest.context rest.fresh rest.tokens (state_of self.old))
+        ensures { DoesAsked (word_or_use rest.context rest.fresh rest.tokens (state_of self.old))
             rest.context self.old self.new result }
     {
         match self.find_use(&rest)? {
@@ -115,14 +115,19 @@ impl Expander {
         }
     }
 
-    fn begin_use(&mut self, rest: Rest, asked: Asked, behind: TokenSpan) -> Result<(), ExpandStop>
+    fn begin_use(
+        &mut self,
+        rest: RestTokens,
+        asked: BlockUse,
+        behind: TokenSpan,
+    ) -> Result<(), ExpandStop>
         requires { 0 < length rest.tokens }
         ensures { BeginsUse rest.context (line_at rest.tokens 0) asked behind self.old self.new
             result }
     {
         let line = rest.tokens.line(0);
         self.total.charge(asked.size, line)?;
-        let call = Call {
+        let call = BlockCall {
             context: rest.context.share()?,
             serial: asked.serial,
             body: asked.body,
@@ -134,14 +139,14 @@ impl Expander {
     }
 
     /// Expands the next argument of a use, or its body where none is left.
-    fn bind_next(&mut self, mut call: Call) -> Result<(), ExpandStop>
-        ensures { Calls call self.old self.new result }
+    fn bind_next(&mut self, mut call: BlockCall) -> Result<(), ExpandStop>
+        ensures { CallsBlock call self.old self.new result }
     {
         match call.left.pop() {
             Some(argument) => {
                 let context = call.context.share()?;
                 let out = self.new_value();
-                let wait = Wait {
+                let wait = WaitingUse {
                     call,
                     name: argument.name,
                     out,
@@ -161,8 +166,8 @@ impl Expander {
         std::mem::replace(&mut self.out, Seq::empty(self.alloc))
     }
 
-    fn expand_body(&mut self, call: Call) -> Result<(), ExpandStop>
-        ensures { Pushes (tokens_frame (body_context call.context call.bound call.serial) true
+    fn expand_body(&mut self, call: BlockCall) -> Result<(), ExpandStop>
+        ensures { PushesFrames (tokens_frame (body_context call.context call.bound call.serial) true
             (trimmed call.body) ∷ [])
             self.old self.new result }
     {
@@ -175,7 +180,7 @@ impl Expander {
     }
 
     /// Binds the value that is whole now.
-    pub fn bind(&mut self, wait: Wait) -> Result<(), ExpandStop>
+    pub fn bind(&mut self, wait: WaitingUse) -> Result<(), ExpandStop>
         ensures { DoesBind wait self.old self.new result }
     {
         let value = std::mem::replace(&mut self.out, wait.out);

@@ -11,16 +11,16 @@ abbrev pub inlet_of : FileInlet → InletState
 inlet_of inlet = inlet_state inlet.counts
 
 -- a file that is read once isn't idle, and another one ends only where it was hung up
-abbrev pub EndsBy : FileInlet → Result Pull InletFault → Type 0
-EndsBy old (Ok (Bytes len at)) = Unit {0}
-EndsBy old (Ok Next) = ⊥
-EndsBy old (Ok Idle) = old.once ≡ false
-EndsBy old (Ok End) = IsTrue (old.once || old.counts.ended || old.counts.hung)
-EndsBy old (Err e) = Unit {0}
+abbrev pub PullEndsBy : FileInlet → Result Pull InletFault → Type 0
+PullEndsBy old (Ok (Bytes len at)) = Unit {0}
+PullEndsBy old (Ok Next) = ⊥
+PullEndsBy old (Ok Idle) = old.once ≡ false
+PullEndsBy old (Ok End) = IsTrue (old.once || old.counts.ended || old.counts.hung)
+PullEndsBy old (Err e) = Unit {0}
 
 -- it ends as it was opened to
 pub record EndsAsOpened (old new : FileInlet) (result : Result Pull InletFault) : Type 0 where
-  pub ends : EndsBy old result
+  pub ends : PullEndsBy old result
   pub once : new.once ≡ old.once
 
 -- it brought no bytes

@@ -14,13 +14,13 @@ const LOOKS: u32 = 5_000;
 // call waits for its other end and can't be broken off: so nobody joins the thread, which has nothing that
 // another needs.
 #[derive(Drop)]
-struct Job {
+struct OpenJob {
     rt: HostRuntime,
     path: String,
     place: Arc<OnceLock<io::Result<File>>>,
 }
 
-impl Job {
+impl OpenJob {
     fn run(self) {
         // Nobody else writes there.
         let _written = self
@@ -54,7 +54,7 @@ fn begin<T: Threads>(
     path: &str,
 ) -> Result<Arc<OnceLock<io::Result<File>>>, AllocError> {
     let place = Arc::new(alloc, OnceLock::new())?;
-    let job = Job {
+    let job = OpenJob {
         rt: *rt,
         path: String::from_str(alloc, path)?,
         place: Arc::try_clone(&place)?,

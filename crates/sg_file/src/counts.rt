@@ -1,9 +1,10 @@
 // What real devices count. They tell nothing of content.
-ghost use Rattle.std.specs.Prelude.{◌≡◌, ◌⊎◌, ◌↔◌, ◌+◌, ◌<◌, ◌≤◌, ◌^◌, ◌-◌, List, ℕ, length, Result, Ok, IfOk, IsOk, IsErr, IsTrue};
-ghost use Rattle.sg_device.specs.Outlet.{Sends, Reopens, one_more};
+ghost use Rattle.std.specs.Prelude.{◌≡◌, ◌⊎◌, ◌↔◌, ◌+◌, ◌<◌, ◌≤◌, ◌^◌, ◌-◌, List, ℕ, length, Result, Ok, IfOk, IsOk, IsErr, IsTrue, OnOk};
+ghost use Rattle.sg_device.specs.Outlet.{Sends, Reopens, Refuses, one_more};
 ghost use Rattle.sg_device.specs.declared.inlet.Pull.{Pull as AnyPull};
 ghost use Rattle.sg_device.specs.declared.inlet.Pull.TheVariants.{Bytes, Next, Idle};
 ghost use Rattle.sg_device.specs.declared.fault.InletFault.{InletFault as AnyFault};
+ghost use Rattle.sg_device.specs.declared.fault.SendRefusal.TheVariants.{Fault as SendFault};
 ghost use Rattle.sg_file.specs.Counts.{inlet_state, new_inlet, outlet_state, new_outlet, IsAnswered};
 
 use sg_device::{InletFault, NoMemory, OutletFault, Pull, Reopened, SendRefusal};
@@ -203,6 +204,7 @@ impl OutletCounts {
             → self.new.taken ≡ self.old.taken + whole }
         ensures counted { (frames : List (List ℕ)) → length frames ≡ all
             → Sends (outlet_state self.old) (outlet_state self.new) frames result }
+        ensures well { OnOk result (self.new.faults ≡ self.old.faults) }
     {
         if !self.has_room(all) {
             self.fail();
@@ -248,9 +250,29 @@ impl OutletCounts {
         }
     }
 
+    /// Counts a refusal that took nothing, and gives it. Where the calls for which it was too early
+    /// are too many to be counted, it is a fault.
+    pub fn refused(&mut self, refusal: SendRefusal) -> SendRefusal
+        ensures counted { Refuses (outlet_state self.old) (outlet_state self.new) result }
+        ensures same { (result ≡ refusal) ⊎ (result ≡ SendFault) }
+    {
+        match refusal {
+            SendRefusal::NoMemory => SendRefusal::NoMemory,
+            SendRefusal::Later if self.laters < u64::MAX => {
+                self.laters = self.laters.saturating_add(1);
+                SendRefusal::Later
+            }
+            _ => {
+                self.fail();
+                SendRefusal::Fault
+            }
+        }
+    }
+
     fn fail(&mut self)
-        ensures { self.new ≡ record self.old
+        ensures counted { self.new ≡ record self.old
             { faults = one_more self.old.faults; failing = one_more self.old.failing } }
+        ensures faults { self.old.faults ≤ self.new.faults }
     {
         self.faults = self.faults.saturating_add(1);
         self.failing = self.failing.saturating_add(1);

@@ -1,7 +1,7 @@
 // What the operator is told of a device.
 ghost use Rattle.std.specs.Prelude.{◌≡◌, true, false, IfOk};
 
-use crate::lines::Lines;
+use crate::lines::DeviceNotices;
 use std::alloc::{AllocError, Global};
 use std::io;
 
@@ -10,7 +10,7 @@ use std::io;
 #[derive(Drop)]
 pub struct Health {
     rt: HostRuntime,
-    lines: Lines,
+    lines: DeviceNotices,
     failing: bool,
 }
 
@@ -26,7 +26,7 @@ impl Health {
     {
         Ok(Health {
             rt,
-            lines: Lines::new(alloc, rt, kind, name)?,
+            lines: DeviceNotices::new(alloc, rt, kind, name)?,
             failing: false,
         })
     }

@@ -2,7 +2,7 @@
 ghost use Rattle.std.specs.Prelude.{◌≡◌, ◌≤◌, ◌<◌, length, codes, true, IfOk, IsErr};
 ghost use Rattle.sg_device.specs.Inlet.{PullIsWhole, PullFills, PullTells, PullMoves, PullLeaves, PullAdds};
 ghost use Rattle.sg_file.specs.Counts.{inlet_state, new_inlet};
-ghost use Rattle.sg_file.specs.Inlet.{inlet_of, EndsBy, EndsAsOpened, IsNoBytes};
+ghost use Rattle.sg_file.specs.Inlet.{inlet_of, PullEndsBy, EndsAsOpened, IsNoBytes};
 ghost use Rattle.sg_file.specs.Seeking.{StartsAt};
 
 use crate::beside::open_beside;
@@ -11,7 +11,7 @@ use crate::open::{is_same, path_text};
 use crate::place::seek_to;
 use crate::read::read_some;
 use crate::tail::Tail;
-use crate::{Health, InletCounts, Reservation, Rest};
+use crate::{Health, IdleWait, InletCounts, Reservation};
 use sg_device::{Inlet, InletFault, OpenRefusal, Pull};
 use std::alloc::Global;
 use std::fs::{self, File};
@@ -33,7 +33,7 @@ pub struct FileInlet {
     // The peer of a second part, of which a file has none.
     nobody: Vec<u8>,
     health: Health,
-    rest: Rest,
+    rest: IdleWait,
 }
 
 // What to do where a file that is followed has no more bytes for good.
@@ -48,7 +48,7 @@ const CHANGED: &str =
 
 // What has become of a file of which all bytes that there were have been read.
 #[derive(Drop)]
-enum Found {
+enum FileProgress {
     /// They are all at present.
     All,
     /// There are more by now.
@@ -88,7 +88,7 @@ impl FileInlet {
         once: bool,
         limit: u32,
         from: u64,
-        rest: Rest,
+        rest: IdleWait,
     ) -> Result<FileInlet, OpenRefusal>
         ensures opened { IfOk result
             (λ inlet. inlet_of inlet ≡ new_inlet (codes "localhost") (inlet_of inlet).from true) }
@@ -147,7 +147,7 @@ impl FileInlet {
         ensures whole { PullIsWhole (length into.old) result }
         ensures size { length into.new ≡ length into.old }
         ensures counts { self.new.counts ≡ self.old.counts }
-        ensures ends { EndsBy self.old result }
+        ensures ends { PullEndsBy self.old result }
         ensures once { self.new.once ≡ self.old.once }
     {
         if self.counts.ended || self.counts.hung {
@@ -178,7 +178,7 @@ impl FileInlet {
     // There are no more bytes at present.
     fn at_end(&mut self) -> Result<Pull, InletFault>
         ensures counts { self.new.counts ≡ self.old.counts }
-        ensures ends { EndsBy self.old result }
+        ensures ends { PullEndsBy self.old result }
         ensures once { self.new.once ≡ self.old.once }
         ensures idle { IsNoBytes result }
     {
@@ -186,16 +186,16 @@ impl FileInlet {
             return Ok(Pull::End);
         }
         match self.look() {
-            Ok(Found::All) => {
+            Ok(FileProgress::All) => {
                 self.health.works();
                 self.rest.wait();
                 Ok(Pull::Idle)
             }
-            Ok(Found::More) => {
+            Ok(FileProgress::More) => {
                 self.rest.happened();
                 Ok(Pull::Idle)
             }
-            Ok(Found::Over(words)) => self.fails("follow", words),
+            Ok(FileProgress::Over(words)) => self.fails("follow", words),
             Err(error) => {
                 self.health.fails("follow", &error);
                 Err(InletFault)
@@ -205,22 +205,22 @@ impl FileInlet {
 
     // What has become of the file. Its name is looked at first: what was written before another file got
     // the name is there when the open one is looked at then.
-    fn look(&self) -> io::Result<Found> {
+    fn look(&self) -> io::Result<FileProgress> {
         let replaced = self.is_replaced()?;
         let length = self.file.metadata()?.len();
         if length > self.counts.place {
-            return Ok(Found::More);
+            return Ok(FileProgress::More);
         }
         if length < self.counts.place {
-            return Ok(Found::Over(SHORTER));
+            return Ok(FileProgress::Over(SHORTER));
         }
         if !self.tail.stands(&self.file, self.counts.place) {
-            return Ok(Found::Over(CHANGED));
+            return Ok(FileProgress::Over(CHANGED));
         }
         if replaced {
-            return Ok(Found::Over(REPLACED));
+            return Ok(FileProgress::Over(REPLACED));
         }
-        Ok(Found::All)
+        Ok(FileProgress::All)
     }
 
     // Whether another file has the name.

@@ -40,7 +40,7 @@ pub use outlet::FileOutlet;
 pub use read::{read_file, read_some};
 pub use reminder::Reminder;
 pub use reserved::Reservation;
-pub use rest::Rest;
+pub use rest::IdleWait;
 pub use retry::Retry;
 pub use store::FileDisk;
 pub use target::{Appending, Target};

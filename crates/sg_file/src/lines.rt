@@ -18,7 +18,7 @@ const LONGEST: usize = 4_096;
 /// The lines on standard error about a device: the moment, the device, and words. One that a pipe or a
 /// socket has no room for is dropped, and the next one tells how many were.
 #[derive(Drop)]
-pub(crate) struct Lines {
+pub(crate) struct DeviceNotices {
     rt: HostRuntime,
     /// Its kind and its name, as bytes that can be printed.
     pub(crate) device: Vec<u8>,
@@ -26,14 +26,14 @@ pub(crate) struct Lines {
     dropped: u64,
 }
 
-impl Lines {
+impl DeviceNotices {
     /// About a device of this kind and name.
     pub(crate) fn new(
         alloc: Global,
         rt: HostRuntime,
         kind: &str,
         name: &[u8],
-    ) -> Result<Lines, AllocError> {
+    ) -> Result<DeviceNotices, AllocError> {
         let mut device = kind.as_bytes().to_vec(alloc)?;
         device.push(b' ')?;
         for byte in name {
@@ -44,7 +44,7 @@ impl Lines {
             };
             device.push(shown)?;
         }
-        Ok(Lines {
+        Ok(DeviceNotices {
             rt,
             device,
             dropped: 0,

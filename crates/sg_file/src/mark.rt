@@ -1,7 +1,7 @@
 // Which file it was whose position is stored.
 use crate::fresh::replace;
 use crate::identity::{FIRST, Identity};
-use crate::lines::Lines;
+use crate::lines::DeviceNotices;
 use crate::open::open_to_read;
 use crate::read::read_some;
 use crate::{FileInlet, Health};
@@ -23,7 +23,7 @@ pub struct Mark {
     // It says so of the file that is open.
     settled: bool,
     health: Health,
-    lines: Lines,
+    lines: DeviceNotices,
 }
 
 impl Mark {
@@ -45,7 +45,7 @@ impl Mark {
             known,
             settled: false,
             health,
-            lines: Lines::new(alloc, rt, "source", path)?,
+            lines: DeviceNotices::new(alloc, rt, "source", path)?,
         })
     }
 

@@ -1,5 +1,5 @@
 // What may happen again and again, and is told at most once a minute.
-use crate::lines::Lines;
+use crate::lines::DeviceNotices;
 use std::alloc::{AllocError, Global};
 use std::sync::Mutex;
 use std::sync::atomic::{AtomicU64, Ordering};
@@ -15,12 +15,12 @@ pub struct Notice {
     rt: HostRuntime,
     // The times that weren't told yet.
     untold: AtomicU64,
-    teller: Mutex<Teller>,
+    teller: Mutex<NoticeWriter>,
 }
 
 #[derive(Drop)]
-struct Teller {
-    lines: Lines,
+struct NoticeWriter {
+    lines: DeviceNotices,
     last: Option<Instant>,
 }
 
@@ -35,8 +35,8 @@ impl Notice {
         Ok(Notice {
             rt,
             untold: AtomicU64::new(0),
-            teller: Mutex::new(Teller {
-                lines: Lines::new(alloc, rt, kind, name)?,
+            teller: Mutex::new(NoticeWriter {
+                lines: DeviceNotices::new(alloc, rt, kind, name)?,
                 last: None,
             }),
         })
@@ -85,7 +85,7 @@ fn is_early(rt: &HostRuntime, last: Option<Instant>) -> bool {
 }
 
 // Words, and how often it has happened before.
-fn tell(rt: &HostRuntime, lines: &mut Lines, words: &[u8], before: u64) {
+fn tell(rt: &HostRuntime, lines: &mut DeviceNotices, words: &[u8], before: u64) {
     if before == 0 {
         lines.tell(words);
         return;

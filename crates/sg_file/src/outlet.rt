@@ -3,8 +3,7 @@ ghost use Rattle.std.specs.Prelude.{◌≡◌, IfOk};
 ghost use Rattle.sg_file.specs.Counts.{outlet_state, new_outlet};
 ghost use Rattle.sg_file.specs.Outlet.{outlet_of};
 
-use crate::piece::Piece;
-use crate::{Appending, OutletCounts, Rest, Target};
+use crate::{Appending, IdleWait, OutletCounts, Target};
 use sg_device::{Frames, OpenRefusal, Outlet, OutletFault, Reopened, SendRefusal};
 use std::alloc::Global;
 
@@ -33,7 +32,7 @@ impl FileOutlet {
         rt: HostRuntime,
         path: &[u8],
         how: Appending,
-        rest: Rest,
+        rest: IdleWait,
     ) -> Result<FileOutlet, OpenRefusal>
         ensures { IfOk result (λ outlet. outlet_of outlet ≡ new_outlet) }
     {
@@ -51,48 +50,13 @@ impl FileOutlet {
     }
 }
 
-// Appends the frames to a file, and tells how many of them count.
-fn put(target: &mut Target, frames: &Frames) -> usize {
-    let bytes = frames.bytes();
-    let mut piece = target.append(bytes);
-    if piece.count < bytes.len() {
-        return keep_whole(target, frames, &mut piece);
-    }
-    if target.settle() {
-        target.works();
-        return frames.len();
-    }
-    target.cut(&mut piece, 0);
-    0
-}
-
-// Of what was appended, keeps the whole frames, and tells how many of them count.
-fn keep_whole(target: &mut Target, frames: &Frames, piece: &mut Piece) -> usize {
-    let whole = frames.whole_within(piece.count);
-    target.cut(piece, bytes_of(frames, whole));
-    if whole == 0 || target.settle() {
-        return whole;
-    }
-    target.cut(piece, 0);
-    0
-}
-
-// The number of bytes of the first `whole` frames.
-fn bytes_of(frames: &Frames, whole: usize) -> usize {
-    let mut bytes = 0usize;
-    for size in frames.sizes().iter().take(whole) {
-        bytes = bytes.saturating_add(*size);
-    }
-    bytes
-}
-
 impl Outlet for FileOutlet {
     ghost state = { outlet_of };
 
     fn send(&mut self, frames: &Frames) -> Result<(), SendRefusal> {
         let all = frames.len();
         let whole = if self.counts.has_room(all) {
-            put(&mut self.target, frames)
+            self.target.put(frames)
         } else {
             0
         };

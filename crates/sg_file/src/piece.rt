@@ -4,7 +4,7 @@ ghost use Rattle.std.specs.Prelude.{◌≡◌, ◌+◌, ◌≤◌, ◌<◌, ◌^
 /// The bytes that the writes of one append have put into a file, and the place behind them. They are one
 /// piece where nobody else has appended between two of the writes.
 #[derive(Clone, Copy, Debug, Drop)]
-pub(crate) struct Piece {
+pub(crate) struct AppendedPiece {
     pub(crate) count: usize,
     /// The place behind the last write's bytes.
     pub(crate) end: u64,
@@ -12,12 +12,12 @@ pub(crate) struct Piece {
     single: bool,
 }
 
-impl Piece {
+impl AppendedPiece {
     /// No bytes yet.
-    pub(crate) fn new() -> Piece
+    pub(crate) fn new() -> AppendedPiece
         ensures { result.count ≡ 0 }
     {
-        Piece {
+        AppendedPiece {
             count: 0,
             end: 0,
             single: true,

@@ -1,5 +1,5 @@
 // What the operator is told once a minute, as long as it is so.
-use crate::lines::Lines;
+use crate::lines::DeviceNotices;
 use std::alloc::{AllocError, Global};
 use std::sync::Mutex;
 use std::sync::atomic::{AtomicU64, Ordering};
@@ -15,7 +15,7 @@ const TRIES: u32 = 1_000;
 /// A line on standard error about a device.
 #[derive(Drop)]
 pub struct Reminder {
-    lines: Lines,
+    lines: DeviceNotices,
     words: &'static str,
 }
 
@@ -29,7 +29,7 @@ impl Reminder {
         words: &'static str,
     ) -> Result<Reminder, AllocError> {
         Ok(Reminder {
-            lines: Lines::new(alloc, rt, kind, name)?,
+            lines: DeviceNotices::new(alloc, rt, kind, name)?,
             words,
         })
     }

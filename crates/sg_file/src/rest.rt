@@ -1,6 +1,6 @@
 // When an adapter waits that has nothing to give, and what ends the wait.
 ghost use Rattle.std.specs.Prelude.{◌≡◌, IfOk};
-ghost use Rattle.sg_file.specs.Waiting.{IsFirst, IsAnother};
+ghost use Rattle.sg_file.specs.Waiting.{IsNotIdleYet, IsAnother};
 
 use crate::locks::Locks;
 use crate::reminder::{Reminder, Reminders};
@@ -18,7 +18,7 @@ use std::time::Duration;
 const LONGEST: u64 = 100;
 
 #[derive(Drop)]
-struct Shared {
+struct SharedWaits {
     // The waits since anything happened last.
     streak: AtomicU64,
     // All waits.
@@ -39,19 +39,19 @@ struct Shared {
 /// of them waits: not at all after anything happened at any of them, then 1, 2, 4 .. 100
 /// milliseconds, or until one of the sockets that are watched is ready.
 #[derive(Drop)]
-pub struct Rest {
+pub struct IdleWait {
     rt: HostRuntime,
-    shared: Arc<Shared>,
+    shared: Arc<SharedWaits>,
     // The waits of all when this adapter was idle last.
     seen: u64,
 }
 
-impl Rest {
+impl IdleWait {
     /// Of the first adapter.
-    pub fn new(alloc: Global, rt: HostRuntime) -> Result<Rest, AllocError>
-        ensures { IfOk result IsFirst }
+    pub fn new(alloc: Global, rt: HostRuntime) -> Result<IdleWait, AllocError>
+        ensures { IfOk result IsNotIdleYet }
     {
-        let shared = Shared {
+        let shared = SharedWaits {
             streak: AtomicU64::new(0),
             waits: AtomicU64::new(0),
             waiting: AtomicBool::new(false),
@@ -60,7 +60,7 @@ impl Rest {
             reserved: Arc::new(alloc, Reserved::new(alloc)?)?,
             reminders: Reminders::new(alloc, rt),
         };
-        Ok(Rest {
+        Ok(IdleWait {
             rt,
             shared: Arc::new(alloc, shared)?,
             seen: u64::MAX,
@@ -68,10 +68,10 @@ impl Rest {
     }
 
     /// Of another adapter of the same machine.
-    pub fn share(&self) -> Result<Rest, AllocError>
+    pub fn share(&self) -> Result<IdleWait, AllocError>
         ensures { IfOk result (IsAnother self.now) }
     {
-        Ok(Rest {
+        Ok(IdleWait {
             rt: self.rt,
             shared: Arc::try_clone(&self.shared)?,
             seen: u64::MAX,

@@ -1,11 +1,11 @@
 // A real file that holds a store.
 ghost use Rattle.std.specs.Prelude.{◌≡◌, ◌≤◌, ◌<◌, ◌+◌, ◌^◌, length, IfOk, IsErr};
-ghost use Rattle.sg_device.specs.Disk.{Measures, Reads, Writes, Syncs, HasCause};
+ghost use Rattle.sg_device.specs.Disk.{Measures, ReadsDisk, Writes, Syncs, HasCause};
 ghost use Rattle.sg_device.specs.Faults.{Rose};
 ghost use Rattle.sg_file.specs.Store.{disk_of, new_disk, ReadsWhole, Lengthens};
 
 use crate::fresh::{Opened, open_store, take_away};
-use crate::{Health, Reservation, Rest};
+use crate::{Health, IdleWait, Reservation};
 use sg_device::{Disk, DiskFault, OpenRefusal};
 use std::alloc::{AllocError, Global};
 use std::fs::File;
@@ -60,7 +60,7 @@ impl FileDisk {
     }
 
     /// No destination of the same machine appends to it until the answer is dropped.
-    pub fn reserve(&self, rest: &Rest) -> Result<Reservation, AllocError> {
+    pub fn reserve(&self, rest: &IdleWait) -> Result<Reservation, AllocError> {
         rest.reserve(&self.file)
     }
 
@@ -126,7 +126,7 @@ impl Disk for FileDisk {
     /// It gives as many bytes as were asked for, or as the store was known to have from there on.
     fn read_at(&mut self, at: u64, into: &mut [u8]) -> Result<usize, DiskFault>
         ensures told { (disk_of self.new).told ≡ (disk_of self.old).told }
-        ensures bytes { Reads (disk_of self.old) at into.old into.new result }
+        ensures bytes { ReadsDisk (disk_of self.old) at into.old into.new result }
         ensures bound { IfOk result (λ count. count ≤ length into.old) }
         ensures cause { HasCause (disk_of self.old).faults (disk_of self.new).faults result }
         ensures whole { ReadsWhole self.old.length at (length into.old) result }

@@ -5,9 +5,9 @@ ghost use Rattle.sg_file.specs.Target.{IsFor, KeepsTarget, WaitsOnly};
 use crate::folders::make_folders;
 use crate::locks::number_of;
 use crate::open::{is_free, open_known, path_text, sync_folder};
-use crate::piece::Piece;
-use crate::{Health, Rest, Retry};
-use sg_device::{OpenRefusal, OutletFault, Reopened};
+use crate::piece::AppendedPiece;
+use crate::{Health, IdleWait, Retry};
+use sg_device::{Frames, OpenRefusal, OutletFault, Reopened};
 use std::alloc::Global;
 use std::fs::{File, OpenOptions, Permissions};
 use std::io::{self, ErrorKind, Seek, Write};
@@ -37,7 +37,7 @@ pub struct Target {
     lock: u64,
     retry: Retry,
     health: Health,
-    rest: Rest,
+    rest: IdleWait,
 }
 
 impl Target {
@@ -48,7 +48,7 @@ impl Target {
         rt: HostRuntime,
         path: &[u8],
         how: Appending,
-        rest: Rest,
+        rest: IdleWait,
     ) -> Result<Target, OpenRefusal>
         ensures { IfOk result (IsFor path.now how) }
     {
@@ -99,13 +99,13 @@ impl Target {
         }
     }
 
-    /// Appends the bytes, by one write where the system takes them so, and tells what of them is in the
-    /// file. A failure is told on standard error.
-    pub(crate) fn append(&mut self, bytes: &[u8]) -> Piece
+    // Appends the bytes, by one write where the system takes them so, and tells what of them is in the
+    // file. A failure is told on standard error.
+    fn append(&mut self, bytes: &[u8]) -> AppendedPiece
         ensures count { result.count ≤ length bytes.now }
         ensures keeps { KeepsTarget self.old self.new }
     {
-        let mut piece = Piece::new();
+        let mut piece = AppendedPiece::new();
         for _ in 0..u64::MAX {
             if piece.count >= bytes.len() {
                 return piece;
@@ -138,23 +138,40 @@ impl Target {
         written
     }
 
-    /// Appends a text whole, and tells whether it counts. What was appended of one that doesn't is
+    /// Appends the frames, and tells how many of them count. What was appended of one that doesn't is
     /// cut off again, where nothing stands behind it.
-    pub fn put(&mut self, text: &[u8]) -> bool
+    pub fn put(&mut self, frames: &Frames) -> usize
         ensures { KeepsTarget self.old self.new }
     {
-        let mut piece = self.append(text);
-        if piece.count == text.len() && self.settle() {
+        let bytes = frames.bytes();
+        let mut piece = self.append(bytes);
+        if piece.count < bytes.len() {
+            return self.keep_whole(frames, &mut piece);
+        }
+        if self.settle() {
             self.works();
-            return true;
+            return frames.len();
         }
         self.cut(&mut piece, 0);
-        false
+        0
     }
 
-    /// Makes what was appended stable, where that is asked, and tells whether it counts. A failure
-    /// is told on standard error.
-    pub(crate) fn settle(&mut self) -> bool
+    // Of what was appended, keeps the whole frames, and tells how many of them count.
+    fn keep_whole(&mut self, frames: &Frames, piece: &mut AppendedPiece) -> usize
+        ensures { KeepsTarget self.old self.new }
+    {
+        let whole = frames.whole_within(piece.count);
+        self.cut(piece, bytes_of(frames, whole));
+        if whole == 0 || self.settle() {
+            return whole;
+        }
+        self.cut(piece, 0);
+        0
+    }
+
+    // Makes what was appended stable, where that is asked, and tells whether it counts. A failure
+    // is told on standard error.
+    fn settle(&mut self) -> bool
         ensures keeps { KeepsTarget self.old self.new }
         ensures kernel { self.old.how.fsync ≡ false → result ≡ true }
     {
@@ -170,9 +187,9 @@ impl Target {
         }
     }
 
-    /// Cuts what was appended last to its first `keep` bytes. It is left as it is where it isn't one
-    /// piece at the file's end, or where another driver writes to the file just then.
-    pub(crate) fn cut(&mut self, piece: &mut Piece, keep: usize)
+    // Cuts what was appended last to its first `keep` bytes. It is left as it is where it isn't one
+    // piece at the file's end, or where another driver writes to the file just then.
+    fn cut(&mut self, piece: &mut AppendedPiece, keep: usize)
         ensures { KeepsTarget self.old self.new }
     {
         let Some(end) = piece.end_of(keep) else {
@@ -189,13 +206,22 @@ impl Target {
         }
     }
 
-    /// All that was appended counts.
-    pub(crate) fn works(&mut self)
+    // All that was appended counts.
+    fn works(&mut self)
         ensures { KeepsTarget self.old self.new }
     {
         self.health.works();
         self.rest.happened();
     }
+}
+
+// The number of bytes of the first `whole` frames.
+fn bytes_of(frames: &Frames, whole: usize) -> usize {
+    let mut bytes = 0usize;
+    for size in frames.sizes().iter().take(whole) {
+        bytes = bytes.saturating_add(*size);
+    }
+    bytes
 }
 
 // Cuts a file to this length where it has that one, and tells whether it did.
@@ -210,7 +236,7 @@ fn open_by_name<'a>(
     rt: &HostRuntime,
     path: &'a [u8],
     how: Appending,
-    rest: &Rest,
+    rest: &IdleWait,
 ) -> io::Result<(&'a str, File)>
     ensures { IfOk result (λ opened. opened.0.now ≡ path.now) }
 {
@@ -221,7 +247,12 @@ fn open_by_name<'a>(
 
 // Opens a file for appending, made where it is missing, where it is no source and no store. With `fsync` its
 // folder is made stable each time, since that may have failed when the file was made.
-fn open_to_append(rt: &HostRuntime, path: &str, how: Appending, rest: &Rest) -> io::Result<File> {
+fn open_to_append(
+    rt: &HostRuntime,
+    path: &str,
+    how: Appending,
+    rest: &IdleWait,
+) -> io::Result<File> {
     let mut options = OpenOptions::new();
     options.append(true);
     let file = match open_known(rt, path, &options, true) {

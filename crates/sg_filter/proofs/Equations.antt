@@ -4,8 +4,8 @@ use Rattle.std.specs.Prelude.{slice_get}
 use Rattle.sg_pattern.specs.Pattern.{pattern_of}
 use Rattle.sg_pattern.specs.declared.text.PatternText.{PatternText}
 use Rattle.sg_lex.specs.declared.place.Cmp.{Cmp}
-use Rattle.sg_macro.specs.declared.part.Part.{Part}
-use Rattle.sg_filter.specs.declared.check.Check.TheVariants as check
+use Rattle.sg_macro.specs.declared.part.TemplatePart.{TemplatePart}
+use Rattle.sg_filter.specs.declared.check.Predicate.TheVariants as check
 use Rattle.sg_filter.specs.declared.expr.Expr.{Expr}
 use Rattle.sg_filter.specs.declared.expr.Expr.TheOpen.{Expr-F}
 use Rattle.sg_filter.specs.declared.expr.Expr.TheFolds.{fold-roll-Expr}
@@ -44,11 +44,11 @@ module _ (depth : ℕ) (named : List Expr) where
   unfolding patterns_within
   patterns-Tags tags = ap (patterns_within depth named) (sym (rolls-Tags tags)) ∙ fold-roll-Expr (List PatternText) (patterns_step (name_patterns depth named)) (Expr-F.Tags tags)
 
-  pub forks-Compare : (left : List Part) (cmp : Cmp) (right : List Part) → forks depth named (e.Compare left cmp right) ≡ ask (check.Compare left cmp right)
+  pub forks-Compare : (left : List TemplatePart) (cmp : Cmp) (right : List TemplatePart) → forks depth named (e.Compare left cmp right) ≡ ask (check.Compare left cmp right)
   unfolding forks
   forks-Compare left cmp right = ap (forks depth named) (sym (rolls-Compare left cmp right)) ∙ fold-roll-Expr Fork (fork_step (name_fork depth named)) (Expr-F.Compare left cmp right)
 
-  pub patterns-Compare : (left : List Part) (cmp : Cmp) (right : List Part) → patterns_within depth named (e.Compare left cmp right) ≡ []
+  pub patterns-Compare : (left : List TemplatePart) (cmp : Cmp) (right : List TemplatePart) → patterns_within depth named (e.Compare left cmp right) ≡ []
   unfolding patterns_within
   patterns-Compare left cmp right = ap (patterns_within depth named) (sym (rolls-Compare left cmp right)) ∙ fold-roll-Expr (List PatternText) (patterns_step (name_patterns depth named)) (Expr-F.Compare left cmp right)
 

@@ -7,9 +7,9 @@ use Rattle.sg_device.proofs.name.Name.TheSendSync as name
 use Rattle.sg_template.proofs.template.Template.TheSendSync as template
 use Rattle.sqlite_items.proofs.items.Items.TheSendSync as items
 use Rattle.sg_pattern.proofs.SentHere.{matcher}
-use Rattle.sg_filter.proofs.check.Room.TheSendSync as room
-use Rattle.sg_filter.specs.contracts.check.Search as Search
-use Rattle.sg_filter.specs.contracts.check.Check as Check
+use Rattle.sg_filter.proofs.check.TextRoom.TheSendSync as room
+use Rattle.sg_filter.specs.contracts.check.FieldSearch as Search
+use Rattle.sg_filter.specs.contracts.check.Predicate as Check
 use Rattle.sg_filter.specs.contracts.node.Node as Node
 use Rattle.sg_filter.specs.contracts.filter.Filter as Filter
 use Rattle.sg_filter.specs.contracts.filter.Filter.TheInside as inside

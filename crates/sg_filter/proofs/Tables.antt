@@ -6,15 +6,15 @@ use Rattle.sg_msg.specs.Message.{Content}
 use Rattle.sg_filter.specs.declared.node.Node.{Node}
 use Rattle.sg_filter.specs.Checks.{check_holds}
 use Rattle.sg_filter.specs.Decisions.{Decision, answer, ask, decides}
-use Rattle.sg_filter.specs.Table.{place, node_means, read, answers, decision_at, AreBelow, IsTable, next_of}
-use Rattle.sg_filter.specs.Work.{Grows}
+use Rattle.sg_filter.specs.Table.{place, node_means, read, answers, decision_at, AreNodesBelow, IsNodeTable, next_of}
+use Rattle.sg_filter.specs.Work.{NodesGrow}
 
-get-before : {A : Type 0} (xs ys : List A) (i : ℕ) (d : A) → i < length xs → get_or (xs ++ ys) i d ≡ get_or xs i d
+pub get-before : {A : Type 0} (xs ys : List A) (i : ℕ) (d : A) → i < length xs → get_or (xs ++ ys) i d ≡ get_or xs i d
 get-before [] ys i d h = absurd (omega arith)
 get-before (x ∷ xs) ys zero d h = refl
 get-before (x ∷ xs) ys (suc i) d h = get-before xs ys i d (omega arith)
 
-get-after : {A : Type 0} (xs ys : List A) (y d : A) → get_or (xs ++ y ∷ ys) (length xs) d ≡ y
+pub get-after : {A : Type 0} (xs ys : List A) (y d : A) → get_or (xs ++ y ∷ ys) (length xs) d ≡ y
 get-after [] ys y d = refl
 get-after (x ∷ xs) ys y d = get-after xs ys y d
 
@@ -48,20 +48,20 @@ decision-pushed old one =
     ∙ get-after (read answers old) [] (node_means (decision_at old) one) (answer false)
 
 -- a table with one more
-below-append : (n : ℕ) (xs : List Node) (one : Node) (m : ℕ) → m ≡ n + length xs → AreBelow n xs → one.yes < m → one.no < m → AreBelow n (xs ++ one ∷ [])
+below-append : (n : ℕ) (xs : List Node) (one : Node) (m : ℕ) → m ≡ n + length xs → AreNodesBelow n xs → one.yes < m → one.no < m → AreNodesBelow n (xs ++ one ∷ [])
 below-append n [] one m e xs h k = (omega arith, omega arith, tt)
 below-append n (x ∷ xs) one m e all h k = (all.0, all.1, below-append (suc n) xs one m (omega arith) all.2 h k)
 
-table-pushed : (old : List Node) (one : Node) → one.yes < length old + 2 → one.no < length old + 2 → IsTable old → IsTable (old ++ one ∷ [])
-unfolding IsTable
+table-pushed : (old : List Node) (one : Node) → one.yes < length old + 2 → one.no < length old + 2 → IsNodeTable old → IsNodeTable (old ++ one ∷ [])
+unfolding IsNodeTable
 table-pushed old one h k all = below-append 2 old one (length old + 2) (omega arith) all h k
 
-pub table-none : (nodes : List Node) → nodes ≡ [] → IsTable nodes
-unfolding IsTable
-table-none nodes is = subst (AreBelow 2) (sym is) tt
+pub table-none : (nodes : List Node) → nodes ≡ [] → IsNodeTable nodes
+unfolding IsNodeTable
+table-none nodes is = subst (AreNodesBelow 2) (sym is) tt
 
 -- each node of a table stands for what its fields say
-split-at : (n : ℕ) (xs : List Node) (i : ℕ) (one : Node) → AreBelow n xs → slice_get xs i ≡ Some one
+split-at : (n : ℕ) (xs : List Node) (i : ℕ) (one : Node) → AreNodesBelow n xs → slice_get xs i ≡ Some one
     → (before : List Node) × (after : List Node) × (xs ≡ before ++ one ∷ after) × (length before ≡ i) × (one.yes < n + i) × (one.no < n + i)
 split-at n [] i one all h = absurd (cc)
 split-at n (x ∷ xs) zero one all h =
@@ -71,8 +71,8 @@ split-at n (x ∷ xs) (suc i) one all h =
     let rest = split-at (suc n) xs i one all.2 h in
     (x ∷ rest.0, rest.1, ap (λ (ys : List Node). x ∷ ys) rest.2, ap suc rest.3, omega (arith, rest.4), omega (arith, rest.5))
 
-node-read : (all : List Node) (i : ℕ) (one : Node) → IsTable all → slice_get all i ≡ Some one → decision_at all (i + 2) ≡ node_means (decision_at all) one
-unfolding IsTable
+node-read : (all : List Node) (i : ℕ) (one : Node) → IsNodeTable all → slice_get all i ≡ Some one → decision_at all (i + 2) ≡ node_means (decision_at all) one
+unfolding IsNodeTable
 node-read all i one table h =
     let s = split-at 2 all i one table h in
     let before = s.0 in
@@ -86,7 +86,7 @@ node-read all i one table h =
     ∙ ap₂ (ask one.check) (same one.yes s.4) (same one.no s.5)
 
 -- where a decision goes on
-follows : (all : List Node) (k : ℕ) (m : Content) (found : Option Node) → IsTable all → slice_get all k ≡ found
+follows : (all : List Node) (k : ℕ) (m : Content) (found : Option Node) → IsNodeTable all → slice_get all k ≡ found
     → decides (decision_at all (next_of found m)) m ≡ decides (decision_at all (k + 2)) m
 follows all k m (Some one) table h = go (check_holds one.check m) ∙ sym (ap (λ (d : Decision). decides d m) (node-read all k one table h))
   where
@@ -106,11 +106,11 @@ follows all k m None table h = ap (λ (d : Decision). decides d m) (zero-answer 
     past : (nodes : List Node) (i : ℕ) → slice_get nodes i ≡ None → decision_at nodes (i + 2) ≡ answer false
     past nodes i e = get_or_past (read answers nodes) (i + 2) (answer false) (omega (arith, long nodes, beyond nodes i e))
 
-pub goes-on : (all : List Node) (k : ℕ) (m : Content) → IsTable all → decides (decision_at all (next_of (slice_get all k) m)) m ≡ decides (decision_at all (k + 2)) m
+pub goes-on : (all : List Node) (k : ℕ) (m : Content) → IsNodeTable all → decides (decision_at all (next_of (slice_get all k) m)) m ≡ decides (decision_at all (k + 2)) m
 goes-on all k m table = follows all k m (slice_get all k) table refl
 
-lower : (all : List Node) (k : ℕ) (m : Content) (found : Option Node) → IsTable all → slice_get all k ≡ found → next_of found m < k + 2
-unfolding IsTable
+lower : (all : List Node) (k : ℕ) (m : Content) (found : Option Node) → IsNodeTable all → slice_get all k ≡ found → next_of found m < k + 2
+unfolding IsNodeTable
 lower all k m None table h = omega arith
 lower all k m (Some one) table h =
     let s = split-at 2 all k one table h in go (check_holds one.check m) (omega (arith, s.4)) (omega (arith, s.5))
@@ -119,7 +119,7 @@ lower all k m (Some one) table h =
     go true h k = h
     go false h k = k
 
-pub goes-down : (all : List Node) (k : ℕ) (m : Content) → IsTable all → next_of (slice_get all k) m < k + 2
+pub goes-down : (all : List Node) (k : ℕ) (m : Content) → IsNodeTable all → next_of (slice_get all k) m < k + 2
 goes-down all k m table = lower all k m (slice_get all k) table refl
 
 pub zero-means : (nodes : List Node) (m : Content) → decides (decision_at nodes 0) m ≡ false
@@ -128,14 +128,14 @@ zero-means nodes m = ap (λ (d : Decision). decides d m) (read-keeps answers nod
 pub one-means : (nodes : List Node) (m : Content) → decides (decision_at nodes 1) m ≡ true
 one-means nodes m = ap (λ (d : Decision). decides d m) (read-keeps answers nodes 1 (omega arith))
 
-module _ (first nodes : List Node) (at next : ℕ) (m : Content) (table : IsTable first) (same : nodes ≡ first) (some : 2 ≤ at) (is : next ≡ next_of (slice_get nodes (at - 2)) m) where
+module _ (first nodes : List Node) (at next : ℕ) (m : Content) (table : IsNodeTable first) (same : nodes ≡ first) (some : 2 ≤ at) (is : next ≡ next_of (slice_get nodes (at - 2)) m) where
   pub step-below : next < at
-  step-below = omega (arith, is, some, goes-down nodes (at - 2) m (subst IsTable (sym same) table))
+  step-below = omega (arith, is, some, goes-down nodes (at - 2) m (subst IsNodeTable (sym same) table))
 
   pub step-same : decides (decision_at nodes next) m ≡ decides (decision_at nodes at) m
   step-same =
       let whole : at - 2 + 2 ≡ at = omega arith in
-      ap (λ (k : ℕ). decides (decision_at nodes k) m) is ∙ goes-on nodes (at - 2) m (subst IsTable (sym same) table) ∙ ap (λ (k : ℕ). decides (decision_at nodes k) m) whole
+      ap (λ (k : ℕ). decides (decision_at nodes k) m) is ∙ goes-on nodes (at - 2) m (subst IsNodeTable (sym same) table) ∙ ap (λ (k : ℕ). decides (decision_at nodes k) m) whole
 
 pub answer-at : (nodes : List Node) (at : ℕ) (m : Content) → at < 2 → nat_eq at 1 ≡ decides (decision_at nodes at) m
 answer-at nodes zero m h = sym (zero-means nodes m)
@@ -143,14 +143,14 @@ answer-at nodes (suc zero) m h = sym (one-means nodes m)
 answer-at nodes (suc (suc at)) m h = absurd (omega arith)
 
 -- growing
-pub grows-none : (old : List Node) → Grows old old
+pub grows-none : (old : List Node) → NodesGrow old old
 grows-none old = record { more = []; is = sym (append-nil old); in_order = λ h. h }
 
-pub grows-one : (old new : List Node) (one : Node) → new ≡ old ++ one ∷ [] → one.yes < length old + 2 → one.no < length old + 2 → Grows old new
-grows-one old new one e h k = record { more = one ∷ []; is = e; in_order = λ t. subst IsTable (sym e) (table-pushed old one h k t) }
+pub grows-one : (old new : List Node) (one : Node) → new ≡ old ++ one ∷ [] → one.yes < length old + 2 → one.no < length old + 2 → NodesGrow old new
+grows-one old new one e h k = record { more = one ∷ []; is = e; in_order = λ t. subst IsNodeTable (sym e) (table-pushed old one h k t) }
 
-pub grows-kept : (a b : List Node) (i : ℕ) → Grows a b → i < length a + 2 → decision_at b i ≡ decision_at a i
+pub grows-kept : (a b : List Node) (i : ℕ) → NodesGrow a b → i < length a + 2 → decision_at b i ≡ decision_at a i
 grows-kept a b i g h = ap (λ (ns : List Node). decision_at ns i) g.is ∙ decision-kept a g.more i h
 
-pub grows-length : (a b : List Node) → Grows a b → length a ≤ length b
+pub grows-length : (a b : List Node) → NodesGrow a b → length a ≤ length b
 grows-length a b g = omega (arith, ap length g.is, length-append a g.more)

@@ -6,13 +6,13 @@ use Rattle.std.specs.Ordering.{is_eq, is_ne, is_lt, is_gt, is_le, is_ge}
 use Rattle.sg_lex.specs.declared.place.Cmp.{Cmp}
 use Rattle.sg_lex.specs.declared.place.Cmp.TheVariants as cmp
 use Rattle.sg_msg.specs.Message.{Content, byte_order, has_tag}
-use Rattle.sg_macro.specs.declared.part.Part.{Part}
+use Rattle.sg_macro.specs.declared.part.TemplatePart.{TemplatePart}
 use Rattle.sg_template.specs.Texts.{text_of}
 use Rattle.sg_template.specs.Render.{render_of}
 use Rattle.sg_template.specs.Own.{own_env}
 use Rattle.sg_pattern.specs.Pattern.{is_found}
-use Rattle.sg_filter.specs.declared.check.Check.{Check}
-use Rattle.sg_filter.specs.declared.check.Check.TheVariants.{Facility, Level, Field, Tags, Compare}
+use Rattle.sg_filter.specs.declared.check.Predicate.{Predicate}
+use Rattle.sg_filter.specs.declared.check.Predicate.TheVariants.{Facility, Level, Field, Tags, Compare}
 
 -- the number is in a closed range
 abbrev pub is_within : ℕ → ℕ × ℕ → Bool
@@ -34,12 +34,12 @@ is_so cmp.Le order = is_le order
 is_so cmp.Ge order = is_ge order
 
 -- the texts of two templates, compared byte by byte
-abbrev pub compares : List Part → Cmp → List Part → Content → Bool
+abbrev pub compares : List TemplatePart → Cmp → List TemplatePart → Content → Bool
 compares left cmp right m = is_so cmp
     (byte_order (render_of left m (own_env None)) (render_of right m (own_env None)))
 
 -- A range holds for the facility or severity of the PRI; a field without a value is the empty text.
-unfoldable pub check_holds : Check → Content → Bool
+unfoldable pub check_holds : Predicate → Content → Bool
 check_holds (Facility ranges) m = is_in_some ranges (m.pri / 8)
 check_holds (Level ranges) m = is_in_some ranges (m.pri % 8)
 check_holds (Field search) m = is_found search.matcher (text_of search.name m.pairs)

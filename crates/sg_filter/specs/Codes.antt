@@ -3,12 +3,12 @@ use Rattle.std.specs.Prelude.{◌≡◌, ◌⊎◌, Bool, false, List, [], ◌�
 use Rattle.std.specs.Coded.{Coded, code_by, coded_bool, coded_list, coded⊎}
 use mathlib.Core.Logic.{inl, inr}
 use mathlib.Core.Path.{ap, ◌∙◌}
-use Rattle.sg_filter.specs.contracts.check.Check as row
-use Rattle.sg_filter.specs.declared.check.Check.{Check}
+use Rattle.sg_filter.specs.contracts.check.Predicate as row
+use Rattle.sg_filter.specs.declared.check.Predicate.{Predicate}
 use Rattle.sg_filter.specs.Decisions.{Decision, answer, ask}
 
 abbrev Word : Type 0
-Word = Bool ⊎ Check
+Word = Bool ⊎ Predicate
 
 abbrev words : Decision → List Word
 words (answer b) = inl b ∷ []

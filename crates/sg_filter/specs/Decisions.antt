@@ -2,8 +2,8 @@
 use Rattle.std.specs.Prelude.{ℕ, zero, suc, Bool, true, false, if◌then◌else◌, List, [], ◌∷◌, length, slice_get}
 use Rattle.sg_msg.specs.Message.{Content}
 use Rattle.sg_pattern.specs.Pattern.{pattern_of}
-use Rattle.sg_filter.specs.declared.check.Check.{Check}
-use Rattle.sg_filter.specs.declared.check.Check.TheVariants as check
+use Rattle.sg_filter.specs.declared.check.Predicate.{Predicate}
+use Rattle.sg_filter.specs.declared.check.Predicate.TheVariants as check
 use Rattle.sg_filter.specs.declared.expr.Expr.{Expr}
 use Rattle.sg_filter.specs.declared.expr.Expr.TheOpen.{Expr-F}
 use Rattle.sg_filter.specs.declared.expr.Expr.TheFolds.{fold-Expr}
@@ -13,7 +13,7 @@ use Rattle.sg_filter.specs.Names.{of_named}
 pub data Decision : Type 0 where
   answer : Bool → Decision
   -- a check, what follows where it holds, and what follows where it doesn't
-  ask : Check → Decision → Decision → Decision
+  ask : Predicate → Decision → Decision → Decision
 
 abbrev pub decides : Decision → Content → Bool
 decides (answer b) m = b

@@ -3,7 +3,7 @@ use Rattle.std.specs.Prelude.{ℕ, zero, suc, Bool, false, not, List, length, sl
 use Rattle.std.specs.List.{list_all, list_any}
 use Rattle.sg_msg.specs.Message.{Content}
 use Rattle.sg_pattern.specs.Pattern.{pattern_of}
-use Rattle.sg_filter.specs.declared.check.Check.TheVariants as check
+use Rattle.sg_filter.specs.declared.check.Predicate.TheVariants as check
 use Rattle.sg_filter.specs.declared.expr.Expr.{Expr}
 use Rattle.sg_filter.specs.declared.expr.Expr.TheOpen.{Expr-F}
 use Rattle.sg_filter.specs.declared.expr.Expr.TheFolds.{fold-Expr}

@@ -3,7 +3,7 @@ use Rattle.std.specs.Prelude.{◌≡◌, ℕ, zero, suc, List, [], ◌∷◌, �
 use Rattle.std.specs.List.{AllByRecursion}
 use Rattle.sg_device.specs.Faults.{Rose}
 use Rattle.sg_outside.specs.World.{WorldState}
-use Rattle.sg_pattern.specs.Pattern.{pattern_of, IsValid, IsNoPattern}
+use Rattle.sg_pattern.specs.Pattern.{pattern_of, IsValidPattern, IsNoPattern}
 use Rattle.sg_pattern.specs.declared.pattern.Kind.TheVariants.{Regex}
 use Rattle.sg_pattern.specs.declared.text.PatternText.{PatternText}
 use Rattle.sg_lex.specs.declared.place.Line.{Line}
@@ -44,10 +44,10 @@ abbrev pub patterns_of : List Expr → Expr → List PatternText
 patterns_of named expr = patterns_within (length named) named expr
 
 abbrev pub AreValid : List PatternText → Type 0
-AreValid = AllByRecursion (λ p. IsValid (pattern_of p))
+AreValid = AllByRecursion (λ p. IsValidPattern (pattern_of p))
 
 -- the pattern is one of these
-pub record IsAmong (patterns : List PatternText) (one : PatternText) : Type 0 where
+pub record IsPatternAmong (patterns : List PatternText) (one : PatternText) : Type 0 where
   pub before : List PatternText
   pub after : List PatternText
   pub is : patterns ≡ before ++ one ∷ after
@@ -55,13 +55,13 @@ pub record IsAmong (patterns : List PatternText) (one : PatternText) : Type 0 wh
 -- the pattern of that line is no pattern; or the builder's count rose
 pub record IsBadAt (patterns : List PatternText) (line : Line) : Type 0 where
   pub one : PatternText
-  pub among : IsAmong patterns one
+  pub among : IsPatternAmong patterns one
   pub at : one.line ≡ line
   pub bad : IsNoPattern (pattern_of one)
 
 pub record IsLargeAt (patterns : List PatternText) (line : Line) (old new : WorldState) : Type 0 where
   pub one : PatternText
-  pub among : IsAmong patterns one
+  pub among : IsPatternAmong patterns one
   pub at : one.line ≡ line
   pub is_regex : one.kind ≡ Regex
   pub rose : Rose old.build_faults new.build_faults

@@ -24,13 +24,13 @@ answers = answer false ∷ answer true ∷ []
 abbrev pub decision_at : List Node → ℕ → Decision
 decision_at nodes i = place (read answers nodes) i
 
-abbrev pub AreBelow : ℕ → List Node → Type 0
-AreBelow n [] = Unit {0}
-AreBelow n (node ∷ more) = (node.yes < n) × (node.no < n) × AreBelow (suc n) more
+abbrev pub AreNodesBelow : ℕ → List Node → Type 0
+AreNodesBelow n [] = Unit {0}
+AreNodesBelow n (node ∷ more) = (node.yes < n) × (node.no < n) × AreNodesBelow (suc n) more
 
 -- each node refers to places below its own
-unfoldable pub IsTable : List Node → Type 0
-IsTable = AreBelow 2
+unfoldable pub IsNodeTable : List Node → Type 0
+IsNodeTable = AreNodesBelow 2
 
 -- the place to go on at, behind the node that was found
 abbrev pub next_of : Option Node → Content → ℕ

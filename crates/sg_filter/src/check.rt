@@ -17,16 +17,16 @@ use std::cmp::Ordering;
 
 /// A name, and what searches in its value.
 #[derive(Drop)]
-pub(crate) struct Search {
+pub(crate) struct FieldSearch {
     pub(crate) name: Name,
     pub(crate) matcher: Matcher,
 }
 
 /// A call or a comparison of an expression, with its matcher.
-pub(crate) enum Check {
+pub(crate) enum Predicate {
     Facility(Items<(u8, u8)>),
     Level(Items<(u8, u8)>),
-    Field(Search),
+    Field(FieldSearch),
     Tags(Items<Name>),
     Compare {
         left: Template,
@@ -35,14 +35,14 @@ pub(crate) enum Check {
     },
 }
 
-impl Drop for Check {
+impl Drop for Predicate {
     fn drop(self) {
         match self {
-            Check::Facility(_0) => {}
-            Check::Level(_0) => {}
-            Check::Field(_0) => {}
-            Check::Tags(_0) => {}
-            Check::Compare {
+            Predicate::Facility(_0) => {}
+            Predicate::Level(_0) => {}
+            Predicate::Field(_0) => {}
+            Predicate::Tags(_0) => {}
+            Predicate::Compare {
                 left: _left,
                 cmp: _cmp,
                 right: _right,
@@ -53,14 +53,14 @@ impl Drop for Check {
 
 /// Room for two texts that are compared.
 #[derive(Drop)]
-pub(crate) struct Room {
+pub(crate) struct TextRoom {
     left: Vec<u8>,
     right: Vec<u8>,
 }
 
-impl Room {
-    pub(crate) fn new(alloc: Global) -> Room {
-        Room {
+impl TextRoom {
+    pub(crate) fn new(alloc: Global) -> TextRoom {
+        TextRoom {
             left: Vec::new(alloc),
             right: Vec::new(alloc),
         }
@@ -120,7 +120,7 @@ fn compares(
     left: &Template,
     cmp: Cmp,
     right: &Template,
-    room: &mut Room,
+    room: &mut TextRoom,
     message: &Message,
 ) -> Result<bool, AllocError>
     ensures { IfOk result (λ b. b ≡ compares left.now cmp right.now message.now) }
@@ -133,7 +133,7 @@ fn compares(
     Ok(is_so(cmp, room.left.as_slice().cmp(room.right.as_slice())))
 }
 
-impl Search {
+impl FieldSearch {
     fn finds(&mut self, message: &Message) -> Result<bool, AllocError>
         ensures value { IfOk result
             (λ b. b ≡ is_found self.old.matcher (text_of self.old.name message.now.pairs)) }
@@ -142,42 +142,46 @@ impl Search {
         self.matcher.finds(text_of(message, self.name.bytes()))
     }
 
-    fn share(&self, alloc: Global) -> Result<Search, AllocError>
+    fn share(&self, alloc: Global) -> Result<FieldSearch, AllocError>
         ensures { IfOk result (λ search. search ≡ self.now) }
     {
-        Ok(Search {
+        Ok(FieldSearch {
             name: self.name.copy()?,
             matcher: self.matcher.share(alloc)?,
         })
     }
 }
 
-impl Check {
+impl Predicate {
     /// Whether it holds of the message.
     #[tactic(auto, unfolding(crate::specs::Checks::check_holds))]
-    pub(crate) fn holds(&mut self, room: &mut Room, message: &Message) -> Result<bool, AllocError>
+    pub(crate) fn holds(
+        &mut self,
+        room: &mut TextRoom,
+        message: &Message,
+    ) -> Result<bool, AllocError>
         ensures value { IfOk result (λ b. b ≡ check_holds self.old message.now) }
         ensures same { self.new ≡ self.old }
     {
         match self {
-            Check::Facility(ranges) => Ok(is_in_some(ranges.as_slice(), message.pri() / 8)),
-            Check::Level(ranges) => Ok(is_in_some(ranges.as_slice(), message.pri() % 8)),
-            Check::Field(search) => search.finds(message),
-            Check::Tags(tags) => has_any_tag(message, tags.as_slice()),
-            Check::Compare { left, cmp, right } => compares(left, *cmp, right, room, message),
+            Predicate::Facility(ranges) => Ok(is_in_some(ranges.as_slice(), message.pri() / 8)),
+            Predicate::Level(ranges) => Ok(is_in_some(ranges.as_slice(), message.pri() % 8)),
+            Predicate::Field(search) => search.finds(message),
+            Predicate::Tags(tags) => has_any_tag(message, tags.as_slice()),
+            Predicate::Compare { left, cmp, right } => compares(left, *cmp, right, room, message),
         }
     }
 
     /// An equal one, with caches of its own.
-    pub(crate) fn share(&self, alloc: Global) -> Result<Check, AllocError>
+    pub(crate) fn share(&self, alloc: Global) -> Result<Predicate, AllocError>
         ensures { IfOk result (λ check. check ≡ self.now) }
     {
         match self {
-            Check::Facility(ranges) => Ok(Check::Facility(copied_ranges(alloc, ranges)?)),
-            Check::Level(ranges) => Ok(Check::Level(copied_ranges(alloc, ranges)?)),
-            Check::Field(search) => Ok(Check::Field(search.share(alloc)?)),
-            Check::Tags(tags) => Ok(Check::Tags(copied_names(alloc, tags)?)),
-            Check::Compare { left, cmp, right } => Ok(Check::Compare {
+            Predicate::Facility(ranges) => Ok(Predicate::Facility(copied_ranges(alloc, ranges)?)),
+            Predicate::Level(ranges) => Ok(Predicate::Level(copied_ranges(alloc, ranges)?)),
+            Predicate::Field(search) => Ok(Predicate::Field(search.share(alloc)?)),
+            Predicate::Tags(tags) => Ok(Predicate::Tags(copied_names(alloc, tags)?)),
+            Predicate::Compare { left, cmp, right } => Ok(Predicate::Compare {
                 left: left.copy(alloc)?,
                 cmp: *cmp,
                 right: right.copy(alloc)?,

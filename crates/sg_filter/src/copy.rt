@@ -1,11 +1,11 @@
 // The checks of an expression's calls and comparisons.
 ghost use Rattle.std.specs.Prelude.{◌≡◌, IfOk, IfErr, OnOk};
 ghost use Rattle.sg_outside.specs.World.{OnlyBuilds};
-ghost use Rattle.sg_pattern.specs.Pattern.{IsValid, pattern_of};
+ghost use Rattle.sg_pattern.specs.Pattern.{IsValidPattern, pattern_of};
 ghost use Rattle.sg_pattern.specs.Builds.{RefusesNone, RefusesText};
-ghost use Rattle.sg_filter.specs.declared.check.Check.TheVariants as check;
+ghost use Rattle.sg_filter.specs.declared.check.Predicate.TheVariants as check;
 
-use crate::check::{Check, Search};
+use crate::check::{FieldSearch, Predicate};
 use sg_device::Name;
 use sg_lex::Cmp;
 use sg_pattern::{BuildRefusal, Builder, Matcher, PatternText};
@@ -37,10 +37,10 @@ pub(crate) fn field<B: Builder>(
     builder: &mut B,
     name: &Name,
     pattern: &PatternText,
-) -> Result<Check, BuildRefusal>
+) -> Result<Predicate, BuildRefusal>
     ensures ok { IfOk result (λ made. made
         ≡ check.Field (record { name = name.now; matcher = pattern_of pattern.now })) }
-    ensures valid { IfOk result (λ _. IsValid (pattern_of pattern.now)) }
+    ensures valid { IfOk result (λ _. IsValidPattern (pattern_of pattern.now)) }
     ensures stays { OnOk result (RefusesNone (B.state builder.old) (B.state builder.new)) }
     ensures refused { IfErr result
         (RefusesText (B.state builder.old) (B.state builder.new) pattern.now) }
@@ -48,7 +48,7 @@ pub(crate) fn field<B: Builder>(
 {
     let name = name.copy()?;
     match Matcher::of_text(alloc, builder, pattern) {
-        Ok(matcher) => Ok(Check::Field(Search { name, matcher })),
+        Ok(matcher) => Ok(Predicate::Field(FieldSearch { name, matcher })),
         Err(refusal) => Err(refusal),
     }
 }
@@ -58,10 +58,10 @@ pub(crate) fn comparison(
     left: &Template,
     cmp: Cmp,
     right: &Template,
-) -> Result<Check, AllocError>
+) -> Result<Predicate, AllocError>
     ensures { IfOk result (λ made. made ≡ check.Compare left.now cmp right.now) }
 {
-    Ok(Check::Compare {
+    Ok(Predicate::Compare {
         left: left.copy(alloc)?,
         cmp,
         right: right.copy(alloc)?,

@@ -6,7 +6,7 @@ ghost use Rattle.sg_filter.specs.Decisions.{decides, decision_of};
 ghost use Rattle.sg_filter.specs.Patterns.{AreValid, RefusesExpr, patterns_of};
 
 use crate::Expr;
-use crate::check::Room;
+use crate::check::TextRoom;
 use crate::node::{Node, decided, shared};
 use crate::work::made;
 use sg_msg::Message;
@@ -18,7 +18,7 @@ use std::marker::Model;
 pub struct Filter {
     nodes: Vec<Node>,
     start: u32,
-    room: Room,
+    room: TextRoom,
 }
 
 impl Drop for Filter {
@@ -39,11 +39,11 @@ impl Model for Filter {
 
     ghost coded = { decision_code };
 
-    ghost use Rattle.sg_filter.specs.Table.{IsTable, decision_at};
+    ghost use Rattle.sg_filter.specs.Table.{IsNodeTable, decision_at};
 
     ghost view = { λ f. decision_at f.nodes.items f.start };
 
-    ghost invariant = { λ f. IsTable f.nodes.items };
+    ghost invariant = { λ f. IsNodeTable f.nodes.items };
 }
 
 impl Filter {
@@ -69,7 +69,7 @@ impl Filter {
             Ok(work) => Ok(Filter {
                 nodes: work.nodes,
                 start: work.last,
-                room: Room::new(alloc),
+                room: TextRoom::new(alloc),
             }),
         }
     }
@@ -89,7 +89,7 @@ impl Filter {
         Ok(Filter {
             nodes: shared(alloc, &self.nodes)?,
             start: self.start,
-            room: Room::new(alloc),
+            room: TextRoom::new(alloc),
         })
     }
 }

@@ -2,9 +2,9 @@
 ghost use Rattle.std.specs.Prelude.{◌≡◌, if◌then◌else◌, IfOk, slice_get};
 ghost use Rattle.sg_filter.specs.Checks.{check_holds};
 ghost use Rattle.sg_filter.specs.Decisions.{decides};
-ghost use Rattle.sg_filter.specs.Table.{IsTable, decision_at, next_of};
+ghost use Rattle.sg_filter.specs.Table.{IsNodeTable, decision_at, next_of};
 
-use crate::check::{Check, Room};
+use crate::check::{Predicate, TextRoom};
 use sg_msg::Message;
 use std::alloc::{AllocError, Global};
 
@@ -12,13 +12,13 @@ use std::alloc::{AllocError, Global};
 /// place 1 true; the nodes stand from place 2 on, each behind those that it refers to.
 #[derive(Drop)]
 pub(crate) struct Node {
-    pub(crate) check: Check,
+    pub(crate) check: Predicate,
     pub(crate) yes: u32,
     pub(crate) no: u32,
 }
 
 impl Node {
-    fn next(&mut self, room: &mut Room, message: &Message) -> Result<u32, AllocError>
+    fn next(&mut self, room: &mut TextRoom, message: &Message) -> Result<u32, AllocError>
         ensures value { IfOk result (λ at. at
             ≡ (if check_holds self.old.check message.now then self.old.yes else self.old.no)) }
         ensures same { self.new ≡ self.old }
@@ -44,7 +44,7 @@ impl Node {
 fn next_place(
     nodes: &mut [Node],
     index: usize,
-    room: &mut Room,
+    room: &mut TextRoom,
     message: &Message,
 ) -> Result<u32, AllocError>
     ensures value { IfOk result (λ at. at ≡ next_of (slice_get nodes.old index) message.now) }
@@ -60,10 +60,10 @@ fn next_place(
 pub(crate) fn decided(
     nodes: &mut [Node],
     start: u32,
-    room: &mut Room,
+    room: &mut TextRoom,
     message: &Message,
 ) -> Result<bool, AllocError>
-    requires { IsTable nodes.old }
+    requires { IsNodeTable nodes.old }
     ensures value { IfOk result (λ b. b ≡ decides (decision_at nodes.old start) message.now) }
     ensures same { nodes.new ≡ nodes.old }
 {

@@ -2,12 +2,12 @@
 ghost use Rattle.std.specs.Prelude.{◌≡◌, ◌+◌, ◌<◌, [], ◌∷◌, ◌++◌, length, IfOk, IfErr, OnOk, MatchOption};
 ghost use Rattle.sg_outside.specs.World.{OnlyBuilds};
 ghost use Rattle.sg_pattern.specs.Builds.{RefusesNone};
-ghost use Rattle.sg_filter.specs.declared.work.Frame.TheVariants as frame;
+ghost use Rattle.sg_filter.specs.declared.work.CompileFrame.TheVariants as frame;
 ghost use Rattle.sg_filter.specs.declared.node.Node.{Node as ANode};
 ghost use Rattle.sg_filter.specs.Patterns.{RefusesAny, RefusesExpr};
-ghost use Rattle.sg_filter.specs.Work.{Turns, Leads, frame_patterns};
+ghost use Rattle.sg_filter.specs.Work.{TurnsFrame, WorkLeads, frame_patterns};
 
-use crate::check::Check;
+use crate::check::Predicate;
 use crate::copy::{comparison, copied_names, copied_ranges, field};
 use crate::expr::Expr;
 use crate::node::Node;
@@ -17,7 +17,7 @@ use std::alloc::{AllocError, Global};
 
 /// What waits. `depth` says how many names deep it may still go.
 #[derive(Drop)]
-pub(crate) enum Frame<'e> {
+pub(crate) enum CompileFrame<'e> {
     /// An expression, and what follows it.
     One {
         expr: &'e Expr,
@@ -40,16 +40,16 @@ pub(crate) enum Frame<'e> {
 }
 
 #[derive(Drop)]
-pub(crate) struct Work<'e> {
+pub(crate) struct CompileWork<'e> {
     pub(crate) nodes: Vec<Node>,
     /// The place of what was made last.
     pub(crate) last: u32,
     /// What is to be done, the first last.
-    pub(crate) frames: Vec<Frame<'e>>,
+    pub(crate) frames: Vec<CompileFrame<'e>>,
 }
 
-impl<'e> Work<'e> {
-    fn push(&mut self, frame: Frame<'e>) -> Result<(), AllocError>
+impl<'e> CompileWork<'e> {
+    fn push(&mut self, frame: CompileFrame<'e>) -> Result<(), AllocError>
         ensures { OnOk result ((self.new.frames.items ≡ self.old.frames.items ++ frame.entry ∷ [])
             × (self.new.nodes ≡ self.old.nodes) × (self.new.last ≡ self.old.last)) }
     {
@@ -57,7 +57,11 @@ impl<'e> Work<'e> {
         Ok(())
     }
 
-    fn push_both(&mut self, below: Frame<'e>, frame: Frame<'e>) -> Result<(), AllocError>
+    fn push_both(
+        &mut self,
+        below: CompileFrame<'e>,
+        frame: CompileFrame<'e>,
+    ) -> Result<(), AllocError>
         ensures { OnOk result (
             (self.new.frames.items ≡ self.old.frames.items ++ below.entry ∷ frame.entry ∷ [])
             × (self.new.nodes ≡ self.old.nodes) × (self.new.last ≡ self.old.last)) }
@@ -67,7 +71,7 @@ impl<'e> Work<'e> {
         Ok(())
     }
 
-    fn ask(&mut self, check: Check, yes: u32, no: u32) -> Result<(), AllocError>
+    fn ask(&mut self, check: Predicate, yes: u32, no: u32) -> Result<(), AllocError>
         ensures { OnOk result ((self.new.nodes.items
             ≡ self.old.nodes.items ++ (record { check = check; yes = yes; no = no }) ∷ [])
             × (self.new.last ≡ length self.old.nodes.items + 2)
@@ -87,33 +91,33 @@ impl<'e> Work<'e> {
         alloc: Global,
         builder: &mut B,
         named: &'e [Expr],
-        frame: Frame<'e>,
+        frame: CompileFrame<'e>,
     ) -> Result<(), BuildRefusal>
-        ensures turns { OnOk result (Turns named.now frame.entry self.old self.new) }
+        ensures turns { OnOk result (TurnsFrame named.now frame.entry self.old self.new) }
         ensures stays { OnOk result (RefusesNone (B.state builder.old) (B.state builder.new)) }
         ensures refused { IfErr result (RefusesAny (B.state builder.old) (B.state builder.new)
             (frame_patterns named.now frame.entry)) }
         ensures only { OnlyBuilds (B.state builder.old) (B.state builder.new) }
     {
         match frame {
-            Frame::One {
+            CompileFrame::One {
                 expr,
                 depth,
                 yes,
                 no,
             } => match expr {
                 Expr::Facility(ranges) => {
-                    let check = Check::Facility(copied_ranges(alloc, ranges)?);
+                    let check = Predicate::Facility(copied_ranges(alloc, ranges)?);
                     self.ask(check, yes, no)?;
                     Ok(())
                 }
                 Expr::Level(ranges) => {
-                    let check = Check::Level(copied_ranges(alloc, ranges)?);
+                    let check = Predicate::Level(copied_ranges(alloc, ranges)?);
                     self.ask(check, yes, no)?;
                     Ok(())
                 }
                 Expr::Tags(tags) => {
-                    let check = Check::Tags(copied_names(alloc, tags)?);
+                    let check = Predicate::Tags(copied_names(alloc, tags)?);
                     self.ask(check, yes, no)?;
                     Ok(())
                 }
@@ -137,7 +141,7 @@ impl<'e> Work<'e> {
                     match at(named, *place as usize) {
                         None => Ok(()),
                         Some(expr) => {
-                            self.push(Frame::One {
+                            self.push(CompileFrame::One {
                                 expr,
                                 depth: depth - 1,
                                 yes,
@@ -149,7 +153,7 @@ impl<'e> Work<'e> {
                 }
                 Expr::And(terms) => {
                     self.last = yes;
-                    self.push(Frame::All {
+                    self.push(CompileFrame::All {
                         terms: terms.as_slice(),
                         depth,
                         no,
@@ -158,7 +162,7 @@ impl<'e> Work<'e> {
                 }
                 Expr::Or(terms) => {
                     self.last = no;
-                    self.push(Frame::Any {
+                    self.push(CompileFrame::Any {
                         terms: terms.as_slice(),
                         depth,
                         yes,
@@ -166,7 +170,7 @@ impl<'e> Work<'e> {
                     Ok(())
                 }
                 Expr::Not(term) => {
-                    self.push(Frame::One {
+                    self.push(CompileFrame::One {
                         expr: term.get(),
                         depth,
                         yes: no,
@@ -175,13 +179,13 @@ impl<'e> Work<'e> {
                     Ok(())
                 }
             },
-            Frame::All { terms, depth, no } => match last_of(terms) {
+            CompileFrame::All { terms, depth, no } => match last_of(terms) {
                 None => Ok(()),
                 Some((terms, expr)) => {
                     let yes = self.last;
                     self.push_both(
-                        Frame::All { terms, depth, no },
-                        Frame::One {
+                        CompileFrame::All { terms, depth, no },
+                        CompileFrame::One {
                             expr,
                             depth,
                             yes,
@@ -191,13 +195,13 @@ impl<'e> Work<'e> {
                     Ok(())
                 }
             },
-            Frame::Any { terms, depth, yes } => match last_of(terms) {
+            CompileFrame::Any { terms, depth, yes } => match last_of(terms) {
                 None => Ok(()),
                 Some((terms, expr)) => {
                     let no = self.last;
                     self.push_both(
-                        Frame::Any { terms, depth, yes },
-                        Frame::One {
+                        CompileFrame::Any { terms, depth, yes },
+                        CompileFrame::One {
                             expr,
                             depth,
                             yes,
@@ -228,19 +232,19 @@ pub(crate) fn made<'e, B: Builder>(
     builder: &mut B,
     expr: &'e Expr,
     named: &'e [Expr],
-) -> Result<Work<'e>, BuildRefusal>
-    ensures leads { IfOk result (λ work. Leads named.now expr.now work × (work.frames.items ≡ [])) }
+) -> Result<CompileWork<'e>, BuildRefusal>
+    ensures leads { IfOk result (λ work. WorkLeads named.now expr.now work × (work.frames.items ≡ [])) }
     ensures stays { OnOk result (RefusesNone (B.state builder.old) (B.state builder.new)) }
     ensures refused { IfErr result
         (RefusesExpr (B.state builder.old) (B.state builder.new) named.now expr.now) }
     ensures only { OnlyBuilds (B.state builder.old) (B.state builder.new) }
 {
-    let mut work = Work {
+    let mut work = CompileWork {
         nodes: Vec::new(alloc),
         last: 0,
         frames: Vec::new(alloc),
     };
-    work.push(Frame::One {
+    work.push(CompileFrame::One {
         expr,
         depth: named.len(),
         yes: 1,

@@ -4,7 +4,7 @@ use Rattle.std.specs.Prelude.{cond, not, codes, bytes_eq, ◌&&◌, ◌||◌, �
 use Rattle.std.specs.List.{flat_map}
 use Rattle.std.proofs.lemmas.Bool.Decides.{nat_tests}
 use Rattle.sg_macro.specs.Macros.{pair_name}
-use Rattle.sg_macro.specs.declared.part.Part.{Part}
+use Rattle.sg_macro.specs.declared.part.TemplatePart.{TemplatePart}
 use Rattle.sg_msg.specs.Macros.{is_hard, other_macros, date_macros}
 use Rattle.sg_parse_base.specs.declared.spot.Spot.{Spot}
 use Rattle.sg_parse_base.specs.Tokens.{same_keyword}
@@ -20,10 +20,10 @@ use Rattle.sg_values.specs.Settings.{missing_if, missing, name_faults_of, hard_f
 use Rattle.sg_values.specs.Calls.{named_faults, own_faults}
 use Rattle.sg_values.specs.Conditions.{condition_faults, rewrite_faults}
 use Rattle.sg_values.specs.Patterns.{pattern_faults}
-use Rattle.sg_forest.specs.Written.{Written, is_sound}
+use Rattle.sg_forest.specs.Written.{WrittenRule, is_sound}
 use Rattle.sg_forest.specs.Kept.{HasValue, RewritesAreKept}
 
-both-empty : {A : Type 0} (xs ys : List A) → xs ++ ys ≡ [] → (xs ≡ []) × (ys ≡ [])
+pub both-empty : {A : Type 0} (xs ys : List A) → xs ++ ys ≡ [] → (xs ≡ []) × (ys ≡ [])
 both-empty [] ys h = (refl, h)
 both-empty (x ∷ xs) ys h = let no : ⊥ = cc in absurd no
 
@@ -56,11 +56,11 @@ there : (word : Spot) (found : Option Call) → missing_if word found ≡ [] →
 there word None h = let no : ⊥ = cc in absurd no
 there word (Some call) h = (call, refl)
 
-or-right : (a b : Bool) → (a || b) ≡ false → b ≡ false
+pub or-right : (a b : Bool) → (a || b) ≡ false → b ≡ false
 or-right true b h = let no : ⊥ = cc in absurd no
 or-right false b h = h
 
-at-most : (n : ℕ) → nat_lt 255 n ≡ false → nat_le n 255 ≡ true
+pub at-most : (n : ℕ) → nat_lt 255 n ≡ false → nat_le n 255 ≡ true
 at-most n h = grind (arith, nat_tests)
 
 -- a text that is as long as a name may be, and no macro's
@@ -108,7 +108,7 @@ named-sound call has clean =
     (subst (λ (v : Option Spot). name_faults_of v ≡ []) value.1 long)
     (subst (λ (v : Option Spot). hard_faults_of word v ≡ []) value.1 hard)
 
-rest-sound : (g a b : Bool) (globs : List (List ℕ)) (text : List Part) (tag : List ℕ)
+rest-sound : (g a b : Bool) (globs : List (List ℕ)) (text : List TemplatePart) (tag : List ℕ)
     → is_sound (cond g (cond a (group_set globs text) (group_unset globs)) (cond b (set_tag tag) (clear_tag tag))) ≡ true
 rest-sound true true b globs text tag = refl
 rest-sound true false b globs text tag = refl
@@ -140,5 +140,5 @@ pub are-kept : RewritesAreKept
 unfolding rewrite_faults
 are-kept names call has clean =
     let own = both-empty (own_faults call) (flat_map condition_faults (args_of call)) clean in
-    let written : Written = record { condition = condition names (args_of call); operation = meant_by call } in
+    let written : WrittenRule = record { condition = condition names (args_of call); operation = meant_by call } in
     ap (λ (b : Bool). cond b (written ∷ []) []) (call-sound call has own.0)

@@ -2,7 +2,9 @@ pub mod PathEquations
 pub mod Adding
 pub mod Mapping
 pub mod Rules
+pub mod Parsers
 pub mod Keeping
+pub mod KeepingParsers
 pub mod Within
 pub mod Making
 pub mod Whole

@@ -23,7 +23,7 @@ use Rattle.sg_tree.proofs.Views.{view-Filter, view-Deliver, view-Junction, view-
 use Rattle.sg_table.specs.Table.{siblings_of, choice_of}
 use Rattle.sg_table.specs.Compiled.{own, other_steps}
 use Rattle.sg_table.specs.Patterns as table
-use Rattle.sg_table.specs.Patterns.{Patterns}
+use Rattle.sg_table.specs.Patterns.{PatternTexts}
 use Rattle.sg_table.proofs.Parts.{siblings-own, choices-own}
 use Rattle.sg_table.proofs.Patterned.{patterns-Filter, patterns-Deliver, patterns-Junction, patterns-If, patterns-Path}
 use Rattle.sg_names.specs.declared.names.Names.{Names}
@@ -33,12 +33,12 @@ use Rattle.sg_options.specs.Settings.{has_word}
 use Rattle.sg_parse_base.specs.Input.{spot_line}
 use Rattle.sg_forest.specs.Statements.{line_in}
 use Rattle.sg_lower.specs.Expressions.{expression}
-use Rattle.sg_forest.specs.References.{filter_meant, calls_meant, flags_of}
-use Rattle.sg_forest.specs.Steps.{rewrite_steps, embedded_logs, marks_of, element_steps, elements_steps}
+use Rattle.sg_forest.specs.References.{filter_meant, calls_meant, parsers_meant, flags_of}
+use Rattle.sg_forest.specs.Steps.{rewrite_steps, parsers_steps, embedded_logs, marks_of, element_steps, elements_steps}
 use Rattle.sg_forest.specs.Patterns.{rewrite_patterns, element_patterns}
-use Rattle.sg_forest.specs.Adds.{Adds, AddsElement, AreElements, IsBranch, AreBranches, IsLog, AreLogs}
+use Rattle.sg_forest.specs.Adds.{AddsElements, AddsElement, AreElements, IsBranch, AreBranches, IsLoweredLog, AreLogs}
 use Rattle.sg_forest.proofs.Adding.{adds-none, adds-one, adds-same}
-use Rattle.sg_forest.proofs.PathEquations.{other_steps_in, other_patterns_in, steps_source, steps_destination, steps_filter, steps_rewrite, steps_junction, steps_if, steps_branch, steps_log, patterns_source, patterns_destination, patterns_filter, patterns_rewrite, patterns_junction, patterns_if, patterns_branch, patterns_log}
+use Rattle.sg_forest.proofs.PathEquations.{other_steps_in, other_patterns_in, steps_source, steps_destination, steps_filter, steps_rewrite, steps_parser, steps_junction, steps_if, steps_branch, steps_log, patterns_source, patterns_destination, patterns_filter, patterns_rewrite, patterns_parser, patterns_junction, patterns_if, patterns_branch, patterns_log}
 
 abbrev pub marks_by : Bool → Bool → Bool → Bool → Marks
 marks_by is_final fallback flow drop_unmatched = record { is_final = is_final; fallback = fallback; flow = flow; drop_unmatched = drop_unmatched }
@@ -76,7 +76,7 @@ module _ (names : Names) (outlets : List Owner) (rewrites : List (List Call)) wh
   pub log-made : (path : Path) (log : RawLog) → marks path ≡ marks_of (flags_of log)
       → AreElements names outlets rewrites (out-RawLog log).elements (out-Path path).elements.items
       → AreLogs names outlets rewrites (out-RawLog log).embedded (out-Path path).embedded.items
-      → IsLog names outlets rewrites log path
+      → IsLoweredLog names outlets rewrites log path
   log-made path log marked els logs named =
       let rest : Steps = behind (map (path_view named) (out-Path path).embedded.items) in
       let after : rest ≡ _ = behind-own named (out-Path path).embedded.items ∙ ap embedded_logs (logs named).0 in
@@ -88,7 +88,7 @@ module _ (names : Names) (outlets : List Owner) (rewrites : List (List Call)) wh
   pub log-rolled : (layer : Path-F Element Path) (log : RawLog) → plain.marks_of layer ≡ marks_of (flags_of log)
       → AreElements names outlets rewrites (out-RawLog log).elements layer.elements.items
       → AreLogs names outlets rewrites (out-RawLog log).embedded layer.embedded.items
-      → IsLog names outlets rewrites log (roll-Path layer)
+      → IsLoweredLog names outlets rewrites log (roll-Path layer)
   log-rolled layer log marked els logs =
       let opened : out-Path (roll-Path layer) ≡ layer = out-roll-Path layer in
       log-made (roll-Path layer) log (ap plain.marks_of opened ∙ marked)
@@ -122,11 +122,18 @@ module _ (names : Names) (outlets : List Owner) (rewrites : List (List Call)) wh
           (patterns-Filter named expr ∙ ap (patterns_of named) meant ∙ sym patterns)
 
       pub rewrite-adds : (ref : RawRef) (calls : List Call) → element ≡ e.Rewrite ref → calls ≡ calls_meant names rewrites ref
-          → ((named : List Expr) → Adds named old new (rewrite_steps names named calls) (rewrite_patterns names named calls)) → AddsElement names outlets rewrites element old new
+          → ((named : List Expr) → AddsElements named old new (rewrite_steps names named calls) (rewrite_patterns names named calls)) → AddsElement names outlets rewrites element old new
       rewrite-adds ref calls is meant adds named =
           let whole = ap (element_steps names outlets rewrites named) is ∙ steps_rewrite names outlets rewrites named ref in
           let patterns = ap (element_patterns names rewrites named) is ∙ patterns_rewrite names outlets rewrites named ref in
           adds-same named old new _ _ _ _ (ap (rewrite_steps names named) meant ∙ sym whole) (ap (rewrite_patterns names named) meant ∙ sym patterns) (adds named)
+
+      pub parser-adds : (ref : RawRef) (calls : List Call) → element ≡ e.Parser ref → calls ≡ parsers_meant names rewrites ref
+          → ((named : List Expr) → AddsElements named old new (parsers_steps calls) []) → AddsElement names outlets rewrites element old new
+      parser-adds ref calls is meant adds named =
+          let whole = ap (element_steps names outlets rewrites named) is ∙ steps_parser names outlets rewrites named ref in
+          let patterns = ap (element_patterns names rewrites named) is ∙ patterns_parser names outlets rewrites named ref in
+          adds-same named old new _ _ _ _ (ap parsers_steps meant ∙ sym whole) (sym patterns) (adds named)
 
       pub junction-adds : (channels : List RawLog) (paths : Vec Path Global) → element ≡ e.Junction channels → AreLogs names outlets rewrites channels paths.items
           → new ≡ old ++ Junction paths ∷ [] → AddsElement names outlets rewrites element old new

@@ -16,15 +16,15 @@ use Rattle.sg_tree.specs.Plain.{in_front}
 use Rattle.sg_tree.specs.declared.sound.RewriteRule.{RewriteRule}
 use Rattle.sg_tree.specs.declared.tree.Element.{Element, Rewrite}
 use Rattle.sg_tree.proofs.Views.{view-Rewrite}
-use Rattle.sg_table.specs.Patterns.{Patterns, condition_patterns, op_patterns, rule_patterns, rules_patterns}
+use Rattle.sg_table.specs.Patterns.{PatternTexts, condition_patterns, op_patterns, rule_patterns, rules_patterns}
 use Rattle.sg_table.proofs.Patterned.{patterns-Rewrite}
 use Rattle.sg_names.specs.declared.names.Names.{Names}
 use Rattle.sg_options.specs.Settings.{args_of}
 use Rattle.sg_lower.specs.Rewrites.{Meant, meant, meant_by, condition}
-use Rattle.sg_forest.specs.Written.{Written, written_of, is_sound, written_in, change_by, rule_by, pattern_in, written_patterns}
+use Rattle.sg_forest.specs.Written.{WrittenRule, written_of, is_sound, written_in, change_by, rule_by, pattern_in, written_patterns}
 use Rattle.sg_forest.specs.Steps.{call_steps}
 use Rattle.sg_forest.specs.Patterns.{call_patterns}
-use Rattle.sg_forest.specs.Adds.{Adds}
+use Rattle.sg_forest.specs.Adds.{AddsElements}
 use Rattle.sg_forest.proofs.Adding.{adds-none, adds-one}
 
 change-same : (op : Op) → change_of op ≡ change_by (meant op)
@@ -58,13 +58,13 @@ rule-same : (named : List Expr) (rule : RewriteRule) → rule_of named rule ≡ 
 rule-same named rule = ap (λ c. record { condition = condition_of named rule.condition; change = c }) (change-same rule.op)
 
 patterns-same : (named : List Expr) (rule : RewriteRule) → rule_patterns named rule ≡ written_patterns named (written_of rule)
-patterns-same named rule = ap (λ (q : Patterns). condition_patterns named rule.condition ++ q) (pattern-same rule.op)
+patterns-same named rule = ap (λ (q : PatternTexts). condition_patterns named rule.condition ++ q) (pattern-same rule.op)
 
 pub rules-written : (named : List Expr) (rules : List RewriteRule) → rules_patterns named rules ≡ joined (map (written_patterns named) (map written_of rules))
 rules-written named [] = refl
 rules-written named (r ∷ rs) = λ i. patterns-same named r i ++ rules-written named rs i
 
-abbrev written : Option Expr → Meant → Written
+abbrev written : Option Expr → Meant → WrittenRule
 written test operation = record { condition = test; operation = operation }
 
 chosen : (names : Names) (call : Call) (op : Op) (b : Bool) → meant op ≡ meant_by call → op_sound op ≡ b
@@ -82,20 +82,20 @@ rule-lost names call op same sound = sym (chosen names call op false same sound)
 
 module _ (names : Names) (named : List Expr) (call : Call) where
   pub call-made : (rule : RewriteRule) (old new : List Element) → written_of rule ∷ [] ≡ written_in names call → new ≡ old ++ Rewrite rule ∷ []
-      → Adds named old new (call_steps names named call) (call_patterns names named call)
+      → AddsElements named old new (call_steps names named call) (call_patterns names named call)
   call-made rule old new here is =
       adds-one named old new (Rewrite rule) (call_steps names named call) (call_patterns names named call) is
       (λ rest.
       view-Rewrite named rule rest
       ∙ ap (λ (r : Rule). walk.rewrite r rest) (rule-same named rule)
-      ∙ ap (λ (ws : List Written). in_front (map (λ (w : Written). walk.rewrite (rule_by named w)) ws) rest) here)
+      ∙ ap (λ (ws : List WrittenRule). in_front (map (λ (w : WrittenRule). walk.rewrite (rule_by named w)) ws) rest) here)
       (patterns-Rewrite named rule
       ∙ patterns-same named rule
       ∙ sym (append-nil (written_patterns named (written_of rule)))
-      ∙ ap (λ (ws : List Written). joined (map (written_patterns named) ws)) here)
+      ∙ ap (λ (ws : List WrittenRule). joined (map (written_patterns named) ws)) here)
 
-  pub call-lost : (old : List Element) → [] ≡ written_in names call → Adds named old old (call_steps names named call) (call_patterns names named call)
+  pub call-lost : (old : List Element) → [] ≡ written_in names call → AddsElements named old old (call_steps names named call) (call_patterns names named call)
   call-lost old here =
       adds-none named old (call_steps names named call) (call_patterns names named call)
-      (ap (λ (ws : List Written). in_front (map (λ (w : Written). walk.rewrite (rule_by named w)) ws)) (sym here))
-      (ap (λ (ws : List Written). joined (map (written_patterns named) ws)) (sym here))
+      (ap (λ (ws : List WrittenRule). in_front (map (λ (w : WrittenRule). walk.rewrite (rule_by named w)) ws)) (sym here))
+      (ap (λ (ws : List WrittenRule). joined (map (written_patterns named) ws)) (sym here))

@@ -1,5 +1,6 @@
 -- Destinations that log statements name are there.
-use Rattle.std.proofs.Common.{ℕ, ◌<◌, List, [], ◌∷◌, map, length, Some, None, sym, subst}
+use Rattle.std.proofs.Common.{ℕ, ◌<◌, List, [], ◌∷◌, map, length, Option, Some, None, sym, subst}
+use Rattle.std.specs.Option.{option_to_list}
 use Rattle.std.specs.List.{AllByRecursion}
 use Rattle.sg_parse_expr.specs.declared.tree.Call.{Call}
 use Rattle.sg_parse_path.specs.declared.tree.RawElement.{RawElement, roll-RawElement, fold-roll-RawElement}
@@ -9,21 +10,23 @@ use Rattle.sg_parse_path.specs.declared.tree.RawLog.{RawLog, roll-RawLog, fold-r
 use Rattle.sg_parse_path.specs.declared.tree.RawBranch.{RawBranch, roll-RawBranch, fold-roll-RawBranch, map-RawBranch}
 use Rattle.sg_filter.specs.Decisions.{Decision}
 use Rattle.sg_filter.specs.declared.expr.Expr.{Expr}
+use Rattle.sg_parsers.specs.declared.rule.ParserRule.{ParserRule}
 use Rattle.sg_tree.specs.Walk as walk
 use Rattle.sg_tree.specs.Walk.{Marks, Steps, none_left}
 use Rattle.sg_tree.specs.Plain.{in_front}
-use Rattle.sg_tree.specs.Laws.{AreDests, StaysWithin, AllStayWithin, EachStaysWithin, TopsStayWithin}
+use Rattle.sg_tree.specs.Laws.{AreDestNumbers, StaysWithin, AllStayWithin, EachStaysWithin, TopsStayWithin}
 use Rattle.sg_table.specs.Table.{siblings_of, choice_of}
 use Rattle.sg_names.specs.declared.names.Names.{Names}
 use Rattle.sg_plan.specs.declared.owner.Owner.{Owner}
 use Rattle.sg_plan.specs.declared.ends.Endpoints.{Endpoints}
 use Rattle.sg_plan.specs.Owners.{owner_of, numbers_of}
 use Rattle.sg_plan.proofs.Numbers.{are-within}
-use Rattle.sg_forest.specs.Written.{Written, written_in, rule_by}
-use Rattle.sg_forest.specs.Steps.{Onward, rewrite_steps, embedded_logs, element_step, branch_step, log_step, element_steps, branch_steps, log_steps}
+use Rattle.sg_lower.specs.Parsers.{rule_by as parser_by}
+use Rattle.sg_forest.specs.Written.{WrittenRule, written_in, rule_by}
+use Rattle.sg_forest.specs.Steps.{Onward, rewrite_steps, parsers_steps, embedded_logs, element_step, branch_step, log_step, element_steps, branch_steps, log_steps}
 use Rattle.sg_forest.specs.Statements.{top_in}
 
-to-dests : (d : ℕ) (ns : List ℕ) → AllByRecursion (λ n. n < d) ns → AreDests d ns
+to-dests : (d : ℕ) (ns : List ℕ) → AllByRecursion (λ n. n < d) ns → AreDestNumbers d ns
 to-dests d [] h = tt
 to-dests d (n ∷ ns) h = (h.0, to-dests d ns h.1)
 
@@ -31,11 +34,11 @@ module _ (names : Names) (outlets : List Owner) (rewrites : List (List Call)) (n
   abbrev d : ℕ
   d = length outlets
 
-  abbrev Choices : Type 0
-  Choices = Decision × Steps
+  abbrev ChoicesWithin : Type 0
+  ChoicesWithin = Decision × Steps
 
-  abbrev Own : Type 0
-  Own = Marks × Steps
+  abbrev OwnSteps : Type 0
+  OwnSteps = Marks × Steps
 
   abbrev StaysElement : RawElement → Type 0
   StaysElement e = (rest : Steps) → StaysWithin d rest → StaysWithin d (element_steps names outlets rewrites named e rest)
@@ -55,13 +58,21 @@ module _ (names : Names) (outlets : List Owner) (rewrites : List (List Call)) (n
   abbrev SomeLog : Type 0
   SomeLog = (l : RawLog) × StaysLog l
 
-  written-stay : (ws : List Written) (rest : Steps) → StaysWithin d rest → StaysWithin d (in_front (map (λ (w : Written). walk.rewrite (rule_by named w)) ws) rest)
+  written-stay : (ws : List WrittenRule) (rest : Steps) → StaysWithin d rest → StaysWithin d (in_front (map (λ (w : WrittenRule). walk.rewrite (rule_by named w)) ws) rest)
   written-stay [] rest h = h
   written-stay (w ∷ ws) rest h = written-stay ws rest h
 
   calls-stay : (calls : List Call) (rest : Steps) → StaysWithin d rest → StaysWithin d (rewrite_steps names named calls rest)
   calls-stay [] rest h = h
   calls-stay (call ∷ calls) rest h = written-stay (written_in names call) (rewrite_steps names named calls rest) (calls-stay calls rest h)
+
+  parser-stays : (rule : Option ParserRule) (rest : Steps) → StaysWithin d rest → StaysWithin d (in_front (map (λ (r : ParserRule). walk.parse r) (option_to_list rule)) rest)
+  parser-stays None rest h = h
+  parser-stays (Some rule) rest h = h
+
+  parsers-stay : (calls : List Call) (rest : Steps) → StaysWithin d rest → StaysWithin d (parsers_steps calls rest)
+  parsers-stay [] rest h = h
+  parsers-stay (call ∷ calls) rest h = parser-stays (parser_by call) (parsers_steps calls rest) (parsers-stay calls rest h)
 
   elements-stay : (es : List SomeElement) (rest : Steps) → StaysWithin d rest → StaysWithin d (in_front (map (element_steps names outlets rewrites named) (map (λ e. e.0) es)) rest)
   elements-stay [] rest h = h
@@ -82,12 +93,13 @@ module _ (names : Names) (outlets : List Owner) (rewrites : List (List Call)) (n
   -- one layer
   element-layer : (y : RawElement-F SomeElement SomeBranch SomeLog) (rest : Steps) → StaysWithin d rest
       → StaysWithin d (element_step names outlets rewrites named
-      (map-RawElement RawElement RawBranch RawLog Onward Choices Own (element_steps names outlets rewrites named) (branch_steps names outlets rewrites named) (log_steps names outlets rewrites named)
+      (map-RawElement RawElement RawBranch RawLog Onward ChoicesWithin OwnSteps (element_steps names outlets rewrites named) (branch_steps names outlets rewrites named) (log_steps names outlets rewrites named)
       (map-RawElement SomeElement SomeBranch SomeLog RawElement RawBranch RawLog (λ e. e.0) (λ e. e.0) (λ e. e.0) y)) rest)
   element-layer (RawElement-F.Source word source) rest h = h
   element-layer (RawElement-F.Destination ref) rest h = (to-dests d (numbers_of outlets (owner_of ref)) (are-within outlets (owner_of ref)), h)
   element-layer (RawElement-F.Filter ref) rest h = h
   element-layer (RawElement-F.Rewrite ref) rest h = calls-stay _ rest h
+  element-layer (RawElement-F.Parser ref) rest h = parsers-stay _ rest h
   element-layer (RawElement-F.Junction channels) rest h = (logs-stay channels, h)
   element-layer (RawElement-F.If branches None) rest h = (choices-stay branches none_left tt, h)
   element-layer (RawElement-F.If branches (Some other)) rest h = (choices-stay branches _ (elements-stay other none_left tt), h)
@@ -97,7 +109,7 @@ module _ (names : Names) (outlets : List Owner) (rewrites : List (List Call)) (n
   unfolding element_steps branch_steps log_steps
   element-whole y rest h =
       subst (λ (f : Onward). StaysWithin d (f rest))
-      (sym (fold-roll-RawElement Onward Choices Own (element_step names outlets rewrites named) (branch_step names named) log_step
+      (sym (fold-roll-RawElement Onward ChoicesWithin OwnSteps (element_step names outlets rewrites named) (branch_step names named) log_step
       (map-RawElement SomeElement SomeBranch SomeLog RawElement RawBranch RawLog (λ e. e.0) (λ e. e.0) (λ e. e.0) y)))
       (element-layer y rest h)
 
@@ -105,8 +117,8 @@ module _ (names : Names) (outlets : List Owner) (rewrites : List (List Call)) (n
       → StaysBranch (roll-RawBranch (map-RawBranch SomeElement SomeBranch SomeLog RawElement RawBranch RawLog (λ e. e.0) (λ e. e.0) (λ e. e.0) y))
   unfolding element_steps branch_steps log_steps
   branch-whole y =
-      subst (λ (c : Choices). StaysWithin d c.1)
-      (sym (fold-roll-RawBranch Onward Choices Own (element_step names outlets rewrites named) (branch_step names named) log_step
+      subst (λ (c : ChoicesWithin). StaysWithin d c.1)
+      (sym (fold-roll-RawBranch Onward ChoicesWithin OwnSteps (element_step names outlets rewrites named) (branch_step names named) log_step
       (map-RawBranch SomeElement SomeBranch SomeLog RawElement RawBranch RawLog (λ e. e.0) (λ e. e.0) (λ e. e.0) y)))
       (elements-stay y.elements none_left tt)
 
@@ -114,8 +126,8 @@ module _ (names : Names) (outlets : List Owner) (rewrites : List (List Call)) (n
       → StaysLog (roll-RawLog (map-RawLog SomeElement SomeBranch SomeLog RawElement RawBranch RawLog (λ e. e.0) (λ e. e.0) (λ e. e.0) y))
   unfolding element_steps branch_steps log_steps
   log-whole y =
-      subst (λ (c : Own). StaysWithin d c.1)
-      (sym (fold-roll-RawLog Onward Choices Own (element_step names outlets rewrites named) (branch_step names named) log_step
+      subst (λ (c : OwnSteps). StaysWithin d c.1)
+      (sym (fold-roll-RawLog Onward ChoicesWithin OwnSteps (element_step names outlets rewrites named) (branch_step names named) log_step
       (map-RawLog SomeElement SomeBranch SomeLog RawElement RawBranch RawLog (λ e. e.0) (λ e. e.0) (λ e. e.0) y)))
       (elements-stay y.elements _ (embedded-stay y.embedded))
 

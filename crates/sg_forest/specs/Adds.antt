@@ -13,7 +13,7 @@ use Rattle.sg_tree.specs.Offers.{top_view}
 use Rattle.sg_tree.specs.Walk.{Steps}
 use Rattle.sg_tree.specs.Plain.{in_front, element_view, steps_view}
 use Rattle.sg_table.specs.Patterns as table
-use Rattle.sg_table.specs.Patterns.{Patterns}
+use Rattle.sg_table.specs.Patterns.{PatternTexts}
 use Rattle.sg_table.specs.Compiled.{own, choices}
 use Rattle.sg_names.specs.declared.names.Names.{Names}
 use Rattle.sg_plan.specs.declared.owner.Owner.{Owner}
@@ -23,7 +23,7 @@ use Rattle.sg_forest.specs.Steps.{element_steps, branch_steps, log_steps, elemen
 use Rattle.sg_forest.specs.Patterns.{element_patterns, branch_patterns, log_patterns, elements_patterns, branches_patterns, logs_patterns}
 
 -- behind the old elements stand those that mean these steps and have these patterns
-pub record Adds (named : List Expr) (old new : List Element) (steps : Steps → Steps) (patterns : Patterns) : Type 0 where
+pub record AddsElements (named : List Expr) (old new : List Element) (steps : Steps → Steps) (patterns : PatternTexts) : Type 0 where
   pub steps_are : (rest : Steps) → in_front (map (element_view named) new) rest
       ≡ in_front (map (element_view named) old) (steps rest)
   pub patterns_are : table.list_patterns named new ≡ table.list_patterns named old ++ patterns
@@ -32,13 +32,13 @@ pub record Adds (named : List Expr) (old new : List Element) (steps : Steps → 
 abbrev pub AddsElement : Names → List Owner → List (List Call) → RawElement → List Element
     → List Element → Type 0
 AddsElement names outlets rewrites element old new =
-    (named : List Expr) → Adds named old new (element_steps names outlets rewrites named element)
+    (named : List Expr) → AddsElements named old new (element_steps names outlets rewrites named element)
     (element_patterns names rewrites named element)
 
 abbrev pub AreElements : Names → List Owner → List (List Call) → List RawElement → List Element
     → Type 0
 AreElements names outlets rewrites elements made =
-    (named : List Expr) → Adds named [] made (elements_steps names outlets rewrites named elements)
+    (named : List Expr) → AddsElements named [] made (elements_steps names outlets rewrites named elements)
     (elements_patterns names rewrites named elements)
 
 abbrev pub IsBranch : Names → List Owner → List (List Call) → RawBranch → Expr × Vec Element Global
@@ -56,8 +56,8 @@ AreBranches names outlets rewrites branches made =
     → (choices named made ≡ map (branch_steps names outlets rewrites named) branches)
     × (table.choices_patterns named made ≡ branches_patterns names rewrites named branches)
 
-abbrev pub IsLog : Names → List Owner → List (List Call) → RawLog → Path → Type 0
-IsLog names outlets rewrites log made =
+abbrev pub IsLoweredLog : Names → List Owner → List (List Call) → RawLog → Path → Type 0
+IsLoweredLog names outlets rewrites log made =
     (named : List Expr)
     → (own named made ≡ log_steps names outlets rewrites named log)
     × (table.path_patterns named made ≡ log_patterns names rewrites named log)

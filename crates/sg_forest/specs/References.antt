@@ -1,5 +1,5 @@
 -- What names, and what stands in the place of names, mean in log statements.
-use Rattle.std.specs.Prelude.{ℕ, List, [], Option, Some, None, unwrap_or, slice_get}
+use Rattle.std.specs.Prelude.{ℕ, ◌+◌, List, [], Option, Some, None, unwrap_or, slice_get}
 use Rattle.sg_parse_base.specs.declared.spot.Spot.{Spot}
 use Rattle.sg_parse_expr.specs.declared.tree.Call.{Call}
 use Rattle.sg_parse_obj.specs.declared.object.Object.{Object}
@@ -43,6 +43,21 @@ abbrev pub calls_meant : Names → List (List Call) → RawRef → List Call
 calls_meant names rewrites (ref.Named spot) = calls_at rewrites
     (place_in names kind.Rewrite spot.token.text)
 calls_meant names rewrites (ref.Inline object) = rewrite_calls object
+
+abbrev pub parser_calls : Object → List Call
+parser_calls (object.Parser name calls) = calls
+parser_calls _ = []
+
+-- the calls of the parser statement of that number, which stand behind those of the rewrite statements
+abbrev pub parsers_at : Names → List (List Call) → Option ℕ → List Call
+parsers_at names calls None = []
+parsers_at names calls (Some place) = unwrap_or (slice_get calls (names.rewrites.count + place)) []
+
+-- the same of the parser statements
+abbrev pub parsers_meant : Names → List (List Call) → RawRef → List Call
+parsers_meant names calls (ref.Named spot) = parsers_at names calls
+    (place_in names kind.Parser spot.token.text)
+parsers_meant names calls (ref.Inline object) = parser_calls object
 
 abbrev pub source_at : List Owner → RawElement-F RawElement RawBranch RawLog → List ℕ
 source_at inlets (RawElement-F.Source word source) = numbers_of inlets (owner_of source)

@@ -14,13 +14,13 @@ use Rattle.sg_filter.specs.Patterns.{joined}
 use Rattle.sg_tree.specs.declared.forest.InletRule.{InletRule}
 use Rattle.sg_tree.specs.declared.tree.Path.{Path, out-Path}
 use Rattle.sg_tree.specs.Readings.{inlet_of}
-use Rattle.sg_tree.specs.Offers.{Top, Woods}
-use Rattle.sg_table.specs.Patterns.{Patterns, filters_patterns}
+use Rattle.sg_tree.specs.Offers.{TopStatement, Woods}
+use Rattle.sg_table.specs.Patterns.{PatternTexts, filters_patterns}
 use Rattle.sg_names.specs.declared.names.Names.{Names}
 use Rattle.sg_plan.specs.declared.ends.Endpoints.{Endpoints}
 use Rattle.sg_options.specs.Settings.{has_word}
 use Rattle.sg_lower.specs.Expressions.{expression}
-use Rattle.sg_forest.specs.Written.{Written, written_in, written_patterns}
+use Rattle.sg_forest.specs.Written.{WrittenRule, written_in, written_patterns}
 use Rattle.sg_forest.specs.References.{source_in, flags_of}
 use Rattle.sg_forest.specs.Steps.{log_steps}
 use Rattle.sg_forest.specs.Patterns.{log_patterns}
@@ -49,11 +49,27 @@ rewrites_at (statement.Log log) = []
 abbrev pub rewrites_of : List Statement → List (List Call)
 rewrites_of statements = flat_map rewrites_at statements
 
-abbrev pub written_at : Names → List Call → List Written
+abbrev pub object_parsers : Object → List (List Call)
+object_parsers (object.Parser name calls) = calls ∷ []
+object_parsers _ = []
+
+abbrev pub parsers_at : Statement → List (List Call)
+parsers_at (statement.Object object) = object_parsers object
+parsers_at (statement.Log log) = []
+
+-- the calls of each parser statement
+abbrev pub parsers_of : List Statement → List (List Call)
+parsers_of statements = flat_map parsers_at statements
+
+-- the calls of each rewrite statement, and behind them those of each parser statement
+abbrev pub calls_of : List Statement → List (List Call)
+calls_of statements = rewrites_of statements ++ parsers_of statements
+
+abbrev pub written_at : Names → List Call → List WrittenRule
 written_at names calls = flat_map (written_in names) calls
 
 -- what they come to, used or not
-abbrev pub rewrites_in : Names → List Statement → List Written
+abbrev pub rewrites_in : Names → List Statement → List WrittenRule
 rewrites_in names statements = flat_map (written_at names) (rewrites_of statements)
 
 abbrev pub logs_at : Statement → List RawLog
@@ -75,7 +91,7 @@ abbrev pub lines_in : List Statement → List Line
 lines_in statements = map line_in (logs_of statements)
 
 -- a top-level log statement: the inlets of the sources among its elements, its flags, and what it does
-unfoldable pub top_in : Names → Endpoints → List (List Call) → List Expr → RawLog → Top
+unfoldable pub top_in : Names → Endpoints → List (List Call) → List Expr → RawLog → TopStatement
 top_in names ends rewrites named log = record {
   sources = flat_map (source_in ends.inlets) (out-RawLog log).elements;
   catchall = has_word (codes "catchall") (flags_of log);
@@ -83,9 +99,9 @@ top_in names ends rewrites named log = record {
   steps = (log_steps names ends.outlets rewrites named log).1;
 }
 
-abbrev pub tops_in : Names → Endpoints → List Statement → List Top
+abbrev pub tops_in : Names → Endpoints → List Statement → List TopStatement
 tops_in names ends statements =
-    map (top_in names ends (rewrites_of statements) (filters_in names statements))
+    map (top_in names ends (calls_of statements) (filters_in names statements))
     (logs_of statements)
 
 -- what all of them mean over these inlets
@@ -96,12 +112,12 @@ woods_in names ends inlets statements = record {
   tops = tops_in names ends statements;
 }
 
-abbrev pub patterns_with : Names → List Statement → List Expr → Patterns
+abbrev pub patterns_with : Names → List Statement → List Expr → PatternTexts
 patterns_with names statements named =
     filters_patterns named named
     ++ joined (map (written_patterns named) (rewrites_in names statements))
-    ++ joined (map (log_patterns names (rewrites_of statements) named) (logs_of statements))
+    ++ joined (map (log_patterns names (calls_of statements) named) (logs_of statements))
 
 -- all their patterns, those of filters and rewrites that nothing uses too
-abbrev pub patterns_of_text : Names → List Statement → Patterns
+abbrev pub patterns_of_text : Names → List Statement → PatternTexts
 patterns_of_text names statements = patterns_with names statements (filters_in names statements)

@@ -1,5 +1,6 @@
 -- What log statements mean (syslog-ng's administration guide, "Log paths").
 use Rattle.std.specs.Prelude.{List, [], ◌∷◌, map, Option, Some, None, codes}
+use Rattle.std.specs.Option.{option_to_list}
 use Rattle.sg_parse_base.specs.declared.spot.Spot.{Spot}
 use Rattle.sg_parse_expr.specs.declared.tree.Call.{Call}
 use Rattle.sg_parse_path.specs.declared.tree.RawElement.{RawElement, fold-RawElement}
@@ -18,7 +19,8 @@ use Rattle.sg_plan.specs.Owners.{owner_of, numbers_of}
 use Rattle.sg_options.specs.Settings.{has_word}
 use Rattle.sg_lower.specs.Expressions.{expression}
 use Rattle.sg_forest.specs.Written.{written_in, rule_by}
-use Rattle.sg_forest.specs.References.{filter_meant, calls_meant}
+use Rattle.sg_lower.specs.Parsers.{rule_by as parser_by}
+use Rattle.sg_forest.specs.References.{filter_meant, calls_meant, parsers_meant}
 
 -- what stands in front of other elements
 abbrev pub Onward : Type 0
@@ -32,6 +34,14 @@ call_steps names named call = in_front
 -- those of a statement or an element, one after another
 abbrev pub rewrite_steps : Names → List Expr → List Call → Onward
 rewrite_steps names named calls = in_front (map (call_steps names named) calls)
+
+-- a parser, where it stands for one
+abbrev pub parser_steps : Call → Onward
+parser_steps call = in_front (map (λ rule. walk.parse rule) (option_to_list (parser_by call)))
+
+-- those of a statement or an element, one after another
+abbrev pub parsers_steps : List Call → Onward
+parsers_steps calls = in_front (map parser_steps calls)
 
 abbrev pub other_branch : Option (List Onward) → Steps
 other_branch None = none_left
@@ -61,6 +71,8 @@ element_step names outlets rewrites named (RawElement-F.Filter reference) rest =
     walk.filter (decision_of named (filter_meant names reference)) rest
 element_step names outlets rewrites named (RawElement-F.Rewrite reference) rest =
     rewrite_steps names named (calls_meant names rewrites reference) rest
+element_step names outlets rewrites named (RawElement-F.Parser reference) rest =
+    parsers_steps (parsers_meant names rewrites reference) rest
 element_step names outlets rewrites named (RawElement-F.Junction channels) rest =
     walk.junction (siblings_of channels) rest
 element_step names outlets rewrites named (RawElement-F.If branches other) rest =

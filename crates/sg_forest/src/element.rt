@@ -4,11 +4,11 @@ ghost use Rattle.sg_tree.specs.declared.tree.Path.{out-Path};
 ghost use Rattle.sg_options.specs.Settings.{has_word};
 ghost use Rattle.sg_forest.specs.References.{flags_of};
 ghost use Rattle.sg_forest.specs.Statements.{line_in};
-ghost use Rattle.sg_forest.specs.Adds.{AddsElement, AreElements, IsBranch, AreBranches, IsLog, AreLogs};
+ghost use Rattle.sg_forest.specs.Adds.{AddsElement, AreElements, IsBranch, AreBranches, IsLoweredLog, AreLogs};
 
 use crate::flag::has_flag;
-use crate::reference::{calls_meant, filter_meant};
-use crate::rule::{append, push_calls};
+use crate::reference::{calls_meant, filter_meant, parsers_meant};
+use crate::rule::{append, push_calls, push_parsers};
 use sg_device::NoMemory;
 use sg_filter::Expr;
 use sg_lower::lower_expression;
@@ -47,6 +47,10 @@ fn push_element(
         }
         RawElement::Rewrite(rewrite) => {
             push_calls(alloc, names, calls_meant(names, &*rewrites, rewrite), found)?;
+            Ok(())
+        }
+        RawElement::Parser(parser) => {
+            push_parsers(alloc, parsers_meant(names, &*rewrites, parser), found)?;
             Ok(())
         }
         RawElement::Junction(channels) => {
@@ -177,7 +181,8 @@ pub fn lower_log(
 ) -> Result<Path, NoMemory>
     requires { length outlets.now < 2 ^ 32 }
     ensures means { IfOk result
-        (λ path. IsLog names.now outlets.now (map (λ calls. calls.now) rewrites.now) log.now path) }
+        (λ path. IsLoweredLog names.now outlets.now (map (λ calls. calls.now) rewrites.now)
+        log.now path) }
     ensures sources { IfOk result (λ path. (out-Path path).sources.items ≡ sources.items) }
     ensures catchall { IfOk result
         (λ path. (out-Path path).catchall ≡ has_word (codes "catchall") (flags_of log.now)) }

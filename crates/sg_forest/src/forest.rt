@@ -2,7 +2,7 @@
 ghost use Rattle.std.specs.Prelude.{◌≡◌, ◌<◌, ◌^◌, length, IfOk};
 ghost use Rattle.sg_forest.specs.Forests.{IsForest};
 
-use crate::statement::{calls_by_place, filters_of, rules_of, tops_of};
+use crate::statement::{calls_by_place, filters_of, push_parsers_by_place, rules_of, tops_of};
 use sg_device::NoMemory;
 use sg_names::Names;
 use sg_parse_text::Statement;
@@ -29,9 +29,10 @@ pub fn forest_of(
     requires outlets { length ends.now.outlets < 2 ^ 32 }
     ensures { IfOk result (IsForest names.now ends.now inlets.items statements.now) }
 {
-    let calls = calls_by_place(alloc, statements)?;
+    let mut calls = calls_by_place(alloc, statements)?;
     let filters = filters_of(alloc, names, statements)?;
     let rewrites = rules_of(alloc, names, &calls)?;
+    push_parsers_by_place(statements, &mut calls)?;
     let paths = tops_of(alloc, names, ends, &calls, statements)?;
     let dests = dests_of(alloc, ends.outlets.len())?;
     Ok(Forest {

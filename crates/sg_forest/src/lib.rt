@@ -1,4 +1,4 @@
-//! The log paths of a configuration's statements: filters and rewrites by their numbers, statements, channels
+//! The log paths of a configuration's statements: filters, rewrites and parsers by their numbers, statements, channels
 //! and branches as a tree.
 #![tactic(auto)]
 
@@ -12,4 +12,4 @@ mod source;
 mod statement;
 
 pub use forest::forest_of;
-pub use laws::rewrites_are_kept;
+pub use laws::{parsers_are_kept, rewrites_are_kept};

@@ -1,7 +1,7 @@
 // What names, and what stands in their place, mean.
 ghost use Rattle.std.specs.Prelude.{◌≡◌, [], map, IfOk};
 ghost use Rattle.sg_lower.specs.Filters.{named_if};
-ghost use Rattle.sg_forest.specs.References.{inline_filter, filter_meant, rewrite_calls, calls_at, calls_meant};
+ghost use Rattle.sg_forest.specs.References.{inline_filter, filter_meant, rewrite_calls, calls_at, calls_meant, parser_calls, parsers_at, parsers_meant};
 
 use sg_device::NoMemory;
 use sg_filter::Expr;
@@ -57,6 +57,45 @@ pub fn rewrite_calls(object: &Object) -> &[Call]
     match object {
         Object::Rewrite { calls, .. } => calls.as_slice(),
         _ => &[],
+    }
+}
+
+/// The calls of a parser statement.
+fn parser_calls(object: &Object) -> &[Call]
+    ensures { result.now ≡ parser_calls object.now }
+{
+    match object {
+        Object::Parser { calls, .. } => calls.as_slice(),
+        _ => &[],
+    }
+}
+
+fn parsers_at<'a>(names: &Names, calls: &[&'a [Call]], place: Option<u32>) -> &'a [Call]
+    ensures { result.now
+        ≡ parsers_at names.now (map (λ calls. calls.now) calls.now) place }
+{
+    match place {
+        Some(place) => match calls.get(names.rewrites.count as usize + place as usize) {
+            Some(calls) => *calls,
+            None => &[],
+        },
+        None => &[],
+    }
+}
+
+/// The calls that a parser element means. Those of the parser statements stand at their numbers behind those
+/// of the rewrite statements.
+pub fn parsers_meant<'a>(names: &Names, calls: &[&'a [Call]], reference: &'a RawRef) -> &'a [Call]
+    ensures { result.now
+        ≡ parsers_meant names.now (map (λ calls. calls.now) calls.now) reference.now }
+{
+    match reference {
+        RawRef::Named(spot) => parsers_at(
+            names,
+            calls,
+            names.place(NameKind::Parser, spot.token.text.bytes()),
+        ),
+        RawRef::Inline(object) => parser_calls(object),
     }
 }
 

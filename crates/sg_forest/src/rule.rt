@@ -4,12 +4,12 @@ ghost use Rattle.std.specs.List.{flat_map};
 ghost use Rattle.std.specs.Option.{option_to_list};
 ghost use Rattle.sg_filter.specs.declared.expr.Expr.{Expr as Filter};
 ghost use Rattle.sg_forest.specs.Written.{written_of, written_in};
-ghost use Rattle.sg_forest.specs.Steps.{call_steps, rewrite_steps};
+ghost use Rattle.sg_forest.specs.Steps.{call_steps, rewrite_steps, parser_steps, parsers_steps};
 ghost use Rattle.sg_forest.specs.Patterns.{call_patterns, rewrite_patterns};
-ghost use Rattle.sg_forest.specs.Adds.{Adds};
+ghost use Rattle.sg_forest.specs.Adds.{AddsElements};
 
 use sg_device::NoMemory;
-use sg_lower::lower_rewrite;
+use sg_lower::{lower_parser, lower_rewrite};
 use sg_names::Names;
 use sg_parse_expr::Call;
 use sg_tree::{Element, RewriteRule, is_sound};
@@ -76,7 +76,8 @@ fn push_call(
     call: &Call,
     elements: &mut Vec<Element>,
 ) -> Result<(), NoMemory>
-    ensures { OnOk result ((named : List Filter) → Adds named elements.old.items elements.new.items
+    ensures { OnOk result ((named : List Filter)
+        → AddsElements named elements.old.items elements.new.items
         (call_steps names.now named call.now) (call_patterns names.now named call.now)) }
 {
     match rule_of(alloc, names, call)? {
@@ -86,6 +87,36 @@ fn push_call(
         }
         None => Ok(()),
     }
+}
+
+fn push_parser(alloc: Global, call: &Call, elements: &mut Vec<Element>) -> Result<(), NoMemory>
+    ensures { OnOk result ((named : List Filter)
+        → AddsElements named elements.old.items elements.new.items
+        (parser_steps call.now) []) }
+{
+    match lower_parser(alloc, call)? {
+        Some(rule) => {
+            append(elements, Element::Parse(rule))?;
+            Ok(())
+        }
+        None => Ok(()),
+    }
+}
+
+/// Adds the elements that calls of parsers stand for.
+pub fn push_parsers(
+    alloc: Global,
+    calls: &[Call],
+    elements: &mut Vec<Element>,
+) -> Result<(), NoMemory>
+    ensures { OnOk result ((named : List Filter)
+        → AddsElements named elements.old.items elements.new.items
+        (parsers_steps calls.now) []) }
+{
+    for call in calls {
+        push_parser(alloc, call, elements)?;
+    }
+    Ok(())
 }
 
 /// Adds an item.
@@ -103,7 +134,8 @@ pub fn push_calls(
     calls: &[Call],
     elements: &mut Vec<Element>,
 ) -> Result<(), NoMemory>
-    ensures { OnOk result ((named : List Filter) → Adds named elements.old.items elements.new.items
+    ensures { OnOk result ((named : List Filter)
+        → AddsElements named elements.old.items elements.new.items
         (rewrite_steps names.now named calls.now) (rewrite_patterns names.now named calls.now)) }
 {
     for call in calls {

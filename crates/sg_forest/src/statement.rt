@@ -2,7 +2,7 @@
 ghost use Rattle.std.specs.Prelude.{◌≡◌, ◌<◌, ◌^◌, ◌++◌, [], length, map, IfOk, OnOk};
 ghost use Rattle.std.specs.List.{flat_map};
 ghost use Rattle.sg_forest.specs.Written.{written_of};
-ghost use Rattle.sg_forest.specs.Statements.{filters_at, filters_in, rewrites_at, rewrites_of, written_at, logs_at, logs_of};
+ghost use Rattle.sg_forest.specs.Statements.{filters_at, filters_in, rewrites_at, rewrites_of, parsers_at, parsers_of, written_at, logs_at, logs_of};
 ghost use Rattle.sg_forest.specs.Adds.{IsTop, AddsTops};
 
 use crate::element::lower_log;
@@ -80,6 +80,36 @@ pub fn calls_by_place<'a>(
         push_calls(statement, &mut found)?;
     }
     Ok(found)
+}
+
+fn push_parser_calls<'a>(
+    statement: &'a Statement,
+    found: &mut Vec<&'a [Call]>,
+) -> Result<(), NoMemory>
+    ensures { OnOk result (map (λ calls. calls.now) found.new.items
+        ≡ map (λ calls. calls.now) found.old.items ++ parsers_at statement.now) }
+{
+    match statement {
+        Statement::Object(Object::Parser { calls, .. }) => {
+            found.push(calls.as_slice())?;
+            Ok(())
+        }
+        _ => Ok(()),
+    }
+}
+
+/// Adds the calls of each parser statement.
+pub fn push_parsers_by_place<'a>(
+    statements: &'a [Statement],
+    found: &mut Vec<&'a [Call]>,
+) -> Result<(), NoMemory>
+    ensures { OnOk result (map (λ calls. calls.now) found.new.items
+        ≡ map (λ calls. calls.now) found.old.items ++ parsers_of statements.now) }
+{
+    for statement in statements {
+        push_parser_calls(statement, found)?;
+    }
+    Ok(())
 }
 
 /// The rewrites that the calls of all rewrite statements stand for.

@@ -6,7 +6,7 @@ use Rattle.std.proofs.lemmas.List.{take_more, get_or-drop, length-drop}
 use Rattle.sg_device.specs.Inlet.{Stamped}
 use Rattle.sg_frame.specs.declared.kind.FrameKind.TheVariants.{Counted}
 use Rattle.sg_frame.specs.Items.{Count, Body, Bad, is_digit, count_of, item_of}
-use Rattle.sg_frame.specs.Scans.{plain, Continues, Reaches, HasNone, HasBad, HasCount, IsItem}
+use Rattle.sg_frame.specs.Scans.{plain, Continues, ReachesForm, HasNone, HasBad, HasCount, IsItem}
 use Rattle.sg_frame.proofs.ScanLemmas.{reach_more, none_whole, bad_next, whole_next}
 
 digit-yes : (b : ℕ) → 48 ≤ b → b ≤ 57 → is_digit b ≡ true
@@ -27,15 +27,15 @@ count-bad : (limit place value : ℕ) → (value ≡ 0) ⊎ (limit < value) → 
 count-bad limit place value (inl none) = rw (le-ltb 0 value (omega arith)) refl
 count-bad limit place value (inr much) = rw (lt-ltb 0 value (omega arith), lt-leb value limit much) refl
 
-pub digit_next : (limit : ℕ) (bytes : List ℕ) (i value next : ℕ) → Reaches Counted limit bytes i (Count value) → i < length bytes
+pub digit_next : (limit : ℕ) (bytes : List ℕ) (i value next : ℕ) → ReachesForm Counted limit bytes i (Count value) → i < length bytes
     → 48 ≤ get_or bytes i 0 → get_or bytes i 0 ≤ 57 → next ≡ value * 10 + (get_or bytes i 0 - 48) → 0 < next → next ≤ limit
-    → Reaches Counted limit bytes (i + 1) (Count next)
+    → ReachesForm Counted limit bytes (i + 1) (Count next)
 digit_next limit bytes i value next reaches within low high is some most =
     let digit : is_digit (get_or bytes i 0) ≡ true = digit-yes (get_or bytes i 0) low high in
     reach_more Counted limit bytes i (Count value) (Count next) reaches within (λ place at. refl)
     (λ place. rw digit (ap (count_of limit place) (sym is) ∙ count-good limit place next some most))
 
-pub digit_bad : (limit : ℕ) (bytes : List ℕ) (i value next : ℕ) → Reaches Counted limit bytes i (Count value) → i < length bytes
+pub digit_bad : (limit : ℕ) (bytes : List ℕ) (i value next : ℕ) → ReachesForm Counted limit bytes i (Count value) → i < length bytes
     → 48 ≤ get_or bytes i 0 → get_or bytes i 0 ≤ 57 → next ≡ value * 10 + (get_or bytes i 0 - 48) → (next ≡ 0) ⊎ (limit < next)
     → HasBad Counted limit bytes i
 digit_bad limit bytes i value next reaches within low high is wrong =
@@ -43,7 +43,7 @@ digit_bad limit bytes i value next reaches within low high is wrong =
     bad_next Counted limit bytes i (Count value) reaches within (λ place at. refl)
     (λ place. rw digit (ap (count_of limit place) (sym is) ∙ count-bad limit place next wrong))
 
-pub space_next : (limit : ℕ) (bytes : List ℕ) (i value : ℕ) → Reaches Counted limit bytes i (Count value) → i < length bytes
+pub space_next : (limit : ℕ) (bytes : List ℕ) (i value : ℕ) → ReachesForm Counted limit bytes i (Count value) → i < length bytes
     → get_or bytes i 0 ≡ 32 → 0 < value → value ≤ limit → HasCount limit bytes value (i + 1)
 space_next limit bytes i value reaches within space some most =
     let no_digit : is_digit (get_or bytes i 0) ≡ false = digit-no (get_or bytes i 0) (inl (omega arith)) in
@@ -56,7 +56,7 @@ space_next limit bytes i value reaches within space some most =
           (λ place. rw (no_digit, is, lt-ltb 0 value some) refl);
     }
 
-pub other_bad : (limit : ℕ) (bytes : List ℕ) (i value : ℕ) → Reaches Counted limit bytes i (Count value) → i < length bytes
+pub other_bad : (limit : ℕ) (bytes : List ℕ) (i value : ℕ) → ReachesForm Counted limit bytes i (Count value) → i < length bytes
     → (get_or bytes i 0 < 48) ⊎ (57 < get_or bytes i 0) → (get_or bytes i 0 ≢ 32) ⊎ (value ≡ 0) → HasBad Counted limit bytes i
 other_bad limit bytes i value reaches within other wrong =
     let no_digit : is_digit (get_or bytes i 0) ≡ false = digit-no (get_or bytes i 0) other in
@@ -72,11 +72,11 @@ other_bad limit bytes i value reaches within other wrong =
 
 -- the text behind a count, as far as it has come
 pub reach_body : (limit : ℕ) (bytes : List ℕ) (count from : ℕ) → HasCount limit bytes count from
-    → (j : ℕ) → j < count → from + j ≤ length bytes → Reaches Counted limit bytes (from + j) (Body (count - j) (take j (drop from bytes)))
+    → (j : ℕ) → j < count → from + j ≤ length bytes → ReachesForm Counted limit bytes (from + j) (Body (count - j) (take j (drop from bytes)))
 reach_body limit bytes count from read zero some within =
     let same : from ≡ from + 0 = omega arith in
     let all : count ≡ count - 0 = omega arith in
-    subst (λ n. Reaches Counted limit bytes n (Body (count - 0) [])) same (subst (λ n. Reaches Counted limit bytes from (Body n [])) all read.reaches)
+    subst (λ n. ReachesForm Counted limit bytes n (Body (count - 0) [])) same (subst (λ n. ReachesForm Counted limit bytes from (Body n [])) all read.reaches)
 reach_body limit bytes count from read (suc j) some within =
     let earlier = reach_body limit bytes count from read j (omega arith) (omega arith) in
     let here : from + j < length bytes = omega arith in
@@ -86,7 +86,7 @@ reach_body limit bytes count from read (suc j) some within =
     ap (λ b. take j (drop from bytes) ++ b ∷ []) (sym (get_or-drop from bytes j 0)) ∙ sym (take_more (drop from bytes) j 0 inside) ∙ ap (λ n. take n (drop from bytes)) (add-one j) in
     let left : count - j - 1 ≡ count - suc j = omega arith in
     let next : from + j + 1 ≡ from + suc j = omega arith in
-    subst (λ n. Reaches Counted limit bytes n (Body (count - suc j) (take (suc j) (drop from bytes)))) next
+    subst (λ n. ReachesForm Counted limit bytes n (Body (count - suc j) (take (suc j) (drop from bytes)))) next
     (reach_more Counted limit bytes (from + j) (Body (count - j) (take j (drop from bytes))) (Body (count - suc j) (take (suc j) (drop from bytes))) earlier here
     (λ place at. rw not_last refl)
     (λ place. rw not_last (ap (λ n. Body n (take j (drop from bytes) ++ get_or bytes (from + j) 0 ∷ [])) left ∙ ap (Body (count - suc j)) more)))
@@ -97,7 +97,7 @@ counted_open limit bytes count from read short =
     let all : from + (length bytes - from) ≡ length bytes = omega arith in
     let form = Body (count - (length bytes - from)) (take (length bytes - from) (drop from bytes)) in
     none_whole Counted limit bytes form
-    (subst (λ n. Reaches Counted limit bytes n form) all (reach_body limit bytes count from read (length bytes - from) short (omega arith))) tt
+    (subst (λ n. ReachesForm Counted limit bytes n form) all (reach_body limit bytes count from read (length bytes - from) short (omega arith))) tt
 
 pub counted_item : (limit : ℕ) (bytes : List ℕ) (count from to last : ℕ) → HasCount limit bytes count from → count ≤ length bytes - from
     → to ≡ from + count → last + 1 ≡ to → IsItem Counted limit bytes (record { from = from; to = to; taken = to; last = last })

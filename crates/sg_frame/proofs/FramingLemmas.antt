@@ -6,17 +6,17 @@ use Rattle.std.proofs.lemmas.List.{append-nil, length-map, get_or_append_left, l
 use Rattle.std.proofs.lemmas.Slice.Zip.{firsts-zip, length-zip}
 use Rattle.sg_device.specs.Inlet.{Stamped, stamped}
 use Rattle.sg_frame.specs.declared.kind.FrameKind.{FrameKind}
-use Rattle.sg_frame.specs.declared.moments.Run.{Run}
+use Rattle.sg_frame.specs.declared.moments.TimedRun.{TimedRun}
 use Rattle.sg_frame.specs.Items.{Item, beginning, items, open_after, items_of, open_of}
-use Rattle.sg_frame.specs.Framing.{Framing, items_left, open_left, fed, with_bytes, behind, Goes, Gives}
-use Rattle.sg_frame.specs.Kept.{moments, runs_end, IsKept, Cuts}
-use Rattle.sg_frame.specs.declared.scan.Span.{Span}
+use Rattle.sg_frame.specs.Framing.{Framing, items_left, open_left, fed, with_bytes, behind, GoesOnFraming, GivesItem}
+use Rattle.sg_frame.specs.Kept.{moments, runs_end, AreRunsKept, Cuts}
+use Rattle.sg_frame.specs.declared.scan.ItemSpan.{ItemSpan}
 use Rattle.sg_frame.specs.Scans.{plain, IsItem}
 use Rattle.sg_frame.proofs.ItemLemmas.{items-append, open_after-append}
 use Rattle.sg_frame.proofs.MomentLemmas.{length-moments, moments-push, runs_end-push}
 
 -- what a framer with these fields is seen as
-abbrev pub framing_of : FrameKind → (limit place : ℕ) → List ℕ → List Run → Framing
+abbrev pub framing_of : FrameKind → (limit place : ℕ) → List ℕ → List TimedRun → Framing
 framing_of kind limit place bytes runs = record { kind = kind; limit = limit; place = place; held = zip bytes (moments place runs) }
 
 zip-append : (xs ys : List ℕ) (ms ns : List ℤ) → length xs ≡ length ms → zip (xs ++ ys) (ms ++ ns) ≡ zip xs ms ++ zip ys ns
@@ -36,17 +36,17 @@ zip-drop [] (m ∷ ms) (suc n) e = absurd (omega arith)
 zip-drop (b ∷ bytes) [] (suc n) e = absurd (omega arith)
 zip-drop (b ∷ bytes) (m ∷ ms) (suc n) e = zip-drop bytes ms n (omega arith)
 
-pub moments-cover : (place : ℕ) (bytes : List ℕ) (runs : List Run) → runs_end place runs ≡ place + length bytes → length (moments place runs) ≡ length bytes
+pub moments-cover : (place : ℕ) (bytes : List ℕ) (runs : List TimedRun) → runs_end place runs ≡ place + length bytes → length (moments place runs) ≡ length bytes
 moments-cover place bytes runs covers = omega (arith, length-moments place runs)
 
-pub length-held : (place : ℕ) (bytes : List ℕ) (runs : List Run) → runs_end place runs ≡ place + length bytes → length (zip bytes (moments place runs)) ≡ length bytes
+pub length-held : (place : ℕ) (bytes : List ℕ) (runs : List TimedRun) → runs_end place runs ≡ place + length bytes → length (zip bytes (moments place runs)) ≡ length bytes
 length-held place bytes runs covers = omega (arith, length-zip bytes (moments place runs), moments-cover place bytes runs covers)
 
-pub plain-held : (place : ℕ) (bytes : List ℕ) (runs : List Run) → runs_end place runs ≡ place + length bytes → plain (zip bytes (moments place runs)) ≡ bytes
+pub plain-held : (place : ℕ) (bytes : List ℕ) (runs : List TimedRun) → runs_end place runs ≡ place + length bytes → plain (zip bytes (moments place runs)) ≡ bytes
 plain-held place bytes runs covers = firsts-zip bytes (moments place runs) (moments-cover place bytes runs covers)
 
 -- bytes fed stand behind the others, with their moment
-pub held-feed : (place : ℕ) (bytes : List ℕ) (runs : List Run) (piece : List ℕ) (end : ℕ) (at : ℤ) → runs_end place runs ≡ place + length bytes
+pub held-feed : (place : ℕ) (bytes : List ℕ) (runs : List TimedRun) (piece : List ℕ) (end : ℕ) (at : ℤ) → runs_end place runs ≡ place + length bytes
     → end ≡ place + (length bytes + length piece)
     → zip (bytes ++ piece) (moments place (runs ++ (record { end = end; at = at }) ∷ [])) ≡ zip bytes (moments place runs) ++ stamped piece at
 held-feed place bytes runs piece end at covers is =
@@ -56,9 +56,9 @@ held-feed place bytes runs piece end at covers is =
     ∙ zip-append bytes piece (moments place runs) (replicate (length piece) at) (sym (moments-cover place bytes runs covers))
     ∙ ap (λ r. zip bytes (moments place runs) ++ r) (zip-stamped piece at)
 
-pub kept-feed : (limit place scanned : ℕ) (bytes : List ℕ) (runs : List Run) (piece : List ℕ) (end : ℕ) (at : ℤ) → IsKept limit place scanned bytes runs
+pub kept-feed : (limit place scanned : ℕ) (bytes : List ℕ) (runs : List TimedRun) (piece : List ℕ) (end : ℕ) (at : ℤ) → AreRunsKept limit place scanned bytes runs
     → end ≡ place + (length bytes + length piece) → end < 2 ^ 63
-    → IsKept limit place scanned (bytes ++ piece) (runs ++ (record { end = end; at = at }) ∷ [])
+    → AreRunsKept limit place scanned (bytes ++ piece) (runs ++ (record { end = end; at = at }) ∷ [])
 kept-feed limit place scanned bytes runs piece end at kept is range =
     let covers : runs_end place runs ≡ place + length bytes = kept.covers in
     let within : scanned ≤ length bytes = kept.scan.within in
@@ -74,7 +74,7 @@ kept-feed limit place scanned bytes runs piece end at kept is range =
       };
     }
 
-pub goes-feed : (old : Framing) (more : List Stamped) → Goes old (with_bytes old more) more []
+pub goes-feed : (old : Framing) (more : List Stamped) → GoesOnFraming old (with_bytes old more) more []
 goes-feed old more bytes given so =
     let place : 0 + length bytes ≡ fed old = omega (arith, so.fed) in
     record {
@@ -93,7 +93,7 @@ goes-feed old more bytes given so =
     }
 
 pub goes-item : (old new : Framing) (item : Item) → new ≡ behind old item.end → items_left old ≡ item ∷ items_left new → open_left old ≡ open_left new
-    → old.place ≤ item.end → item.end ≤ fed old → Goes old new [] (item ∷ [])
+    → old.place ≤ item.end → item.end ≤ fed old → GoesOnFraming old new [] (item ∷ [])
 goes-item old new item rest first still_open from to bytes given so =
     let kind : new.kind ≡ old.kind = ap (λ f. f.kind) rest in
     let limit : new.limit ≡ old.limit = ap (λ f. f.limit) rest in
@@ -116,9 +116,9 @@ moment-held (b ∷ bytes) (m ∷ ms) zero e = refl
 moment-held (b ∷ bytes) (m ∷ ms) (suc i) e = moment-held bytes ms i (omega arith)
 
 -- an item cut off the front is the first one left, and the others stay
-pub gives_item : (kind : FrameKind) (limit place : ℕ) (bytes rest : List ℕ) (runs left : List Run) (span : Span) (text : List ℕ) (at : ℤ)
+pub gives_item : (kind : FrameKind) (limit place : ℕ) (bytes rest : List ℕ) (runs left : List TimedRun) (span : ItemSpan) (text : List ℕ) (at : ℤ)
     → runs_end place runs ≡ place + length bytes → IsItem kind limit bytes span → Cuts place span bytes rest runs left text at
-    → Gives (framing_of kind limit place bytes runs) (framing_of kind limit (place + span.taken) rest left) (record { text = text; at = at; end = place + span.taken })
+    → GivesItem (framing_of kind limit place bytes runs) (framing_of kind limit (place + span.taken) rest left) (record { text = text; at = at; end = place + span.taken })
 gives_item kind limit place bytes rest runs left span text at covers item cuts =
     let old = framing_of kind limit place bytes runs in
     let new = framing_of kind limit (place + span.taken) rest left in

@@ -4,3 +4,4 @@ pub mod ItemLemmas
 pub mod MomentLemmas
 pub mod RecordLemmas
 pub mod ScanLemmas
+pub mod TimelyLemmas

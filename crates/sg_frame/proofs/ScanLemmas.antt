@@ -7,8 +7,8 @@ use Rattle.std.proofs.lemmas.List.{take_more, drop-take, take-take, length-take-
 use Rattle.sg_device.specs.Inlet.{Stamped}
 use Rattle.sg_frame.specs.declared.kind.FrameKind.{FrameKind}
 use Rattle.sg_frame.specs.declared.kind.FrameKind.TheVariants.{Lines}
-use Rattle.sg_frame.specs.Items.{Item, Form, Text, Bad, IsSound, trimmed, item_of, item_at, open_at, items, open_after, beginning}
-use Rattle.sg_frame.specs.Scans.{plain, Continues, Reaches, HasNone, HasBad, IsItem}
+use Rattle.sg_frame.specs.Items.{Item, Form, Text, Bad, IsSoundForm, trimmed, item_of, item_at, open_at, items, open_after, beginning}
+use Rattle.sg_frame.specs.Scans.{plain, Continues, ReachesForm, HasNone, HasBad, IsItem}
 use Rattle.sg_frame.specs.Kept.{IsScanned}
 use Rattle.sg_frame.proofs.ItemLemmas.{items-bad, open_after-bad, take-trimmed, length-trimmed-le}
 
@@ -39,13 +39,13 @@ items-whole : (limit place : ℕ) (form next : Form) (b : ℕ) (at : ℤ) (rest 
 items-whole limit place form next b at rest item whole opens =
     ap (λ r. r ++ items limit (place + 1) (open_at limit place form b) rest) whole ∙ ap (λ f. item ∷ items limit (place + 1) f rest) opens
 
-pub reach_none : (kind : FrameKind) (limit : ℕ) (bytes : List ℕ) → Reaches kind limit bytes 0 (beginning kind)
+pub reach_none : (kind : FrameKind) (limit : ℕ) (bytes : List ℕ) → ReachesForm kind limit bytes 0 (beginning kind)
 reach_none kind limit bytes place held e =
     let same : place ≡ place + 0 = omega arith in
     record { items = ap (λ n. items limit n (beginning kind) held) same; still_open = ap (λ n. open_after limit n (beginning kind) held) same }
 
 -- what stands behind the bytes reached, the next one apart
-ahead : (kind : FrameKind) (limit : ℕ) (bytes : List ℕ) (i : ℕ) (form : Form) → Reaches kind limit bytes i form → i < length bytes
+ahead : (kind : FrameKind) (limit : ℕ) (bytes : List ℕ) (i : ℕ) (form : Form) → ReachesForm kind limit bytes i form → i < length bytes
     → (place : ℕ) (held : List Stamped) → plain held ≡ bytes
     → Continues kind limit place held [] (place + i) form ((get_or bytes i 0, (get_or held i (0, pos 0)).1) ∷ drop (i + 1) held)
 ahead kind limit bytes i form reaches within place held e =
@@ -59,10 +59,10 @@ ahead kind limit bytes i form reaches within place held e =
     }
 
 pub reach_more : (kind : FrameKind) (limit : ℕ) (bytes : List ℕ) (i : ℕ) (form next : Form)
-    → Reaches kind limit bytes i form → i < length bytes
+    → ReachesForm kind limit bytes i form → i < length bytes
     → ((place : ℕ) (at : ℤ) → item_at limit place form (get_or bytes i 0, at) ≡ [])
     → ((place : ℕ) → open_at limit place form (get_or bytes i 0) ≡ next)
-    → Reaches kind limit bytes (i + 1) next
+    → ReachesForm kind limit bytes (i + 1) next
 reach_more kind limit bytes i form next reaches within none opens place held e =
     let so = ahead kind limit bytes i form reaches within place held e in
     let at = (get_or held i (0, pos 0)).1 in
@@ -75,17 +75,17 @@ reach_more kind limit bytes i form next reaches within none opens place held e =
     }
 
 -- the bytes reached are all there are
-pub none_whole : (kind : FrameKind) (limit : ℕ) (bytes : List ℕ) (form : Form) → Reaches kind limit bytes (length bytes) form → IsSound form → HasNone kind limit bytes
+pub none_whole : (kind : FrameKind) (limit : ℕ) (bytes : List ℕ) (form : Form) → ReachesForm kind limit bytes (length bytes) form → IsSoundForm form → HasNone kind limit bytes
 none_whole kind limit bytes form reaches sound place held e =
     let so = reaches place held e in
     let all : drop (length bytes) held ≡ [] = ap (λ n. drop n held) (sym (length-plain held bytes e)) ∙ drop-length held in (
       so.items ∙ ap (λ rest. items limit (place + length bytes) form rest) all,
-      subst IsSound (sym (so.still_open ∙ ap (λ rest. open_after limit (place + length bytes) form rest) all)) sound,
+      subst IsSoundForm (sym (so.still_open ∙ ap (λ rest. open_after limit (place + length bytes) form rest) all)) sound,
     )
 
 -- the next byte is bad
 pub bad_next : (kind : FrameKind) (limit : ℕ) (bytes : List ℕ) (i : ℕ) (form : Form)
-    → Reaches kind limit bytes i form → i < length bytes
+    → ReachesForm kind limit bytes i form → i < length bytes
     → ((place : ℕ) (at : ℤ) → item_at limit place form (get_or bytes i 0, at) ≡ [])
     → ((place : ℕ) → open_at limit place form (get_or bytes i 0) ≡ Bad place)
     → HasBad kind limit bytes i
@@ -103,7 +103,7 @@ bad_next kind limit bytes i form reaches within none opens = (
 
 -- the next byte makes an item whole, with which everything up to it is taken
 pub whole_next : (kind : FrameKind) (limit : ℕ) (bytes : List ℕ) (i : ℕ) (form : Form) (text : List ℕ)
-    → Reaches kind limit bytes i form → i < length bytes
+    → ReachesForm kind limit bytes i form → i < length bytes
     → ((place : ℕ) (at : ℤ) → item_at limit place form (get_or bytes i 0, at) ≡ item_of text at (place + 1))
     → ((place : ℕ) → open_at limit place form (get_or bytes i 0) ≡ beginning kind)
     → (place : ℕ) (held : List Stamped) → plain held ≡ bytes
@@ -122,7 +122,7 @@ whole_next kind limit bytes i form text reaches within whole opens place held e 
 
 -- the next byte makes an item of those before it whole, and begins the next
 pub cut_next : (limit : ℕ) (bytes : List ℕ) (i : ℕ) (line : List ℕ)
-    → 0 < limit → Reaches Lines limit bytes i (Text line) → i < length bytes → length line ≡ limit → get_or bytes i 0 ≢ 10
+    → 0 < limit → ReachesForm Lines limit bytes i (Text line) → i < length bytes → length line ≡ limit → get_or bytes i 0 ≢ 10
     → (place : ℕ) (held : List Stamped) → plain held ≡ bytes
     → Continues Lines limit place held (item_of (trimmed line) ((get_or held i (0, pos 0)).1) (place + i)) (place + i) (Text []) (drop i held)
 cut_next limit bytes i line some reaches within full no_feed place held e =
@@ -150,7 +150,7 @@ cut_next limit bytes i line some reaches within full no_feed place held e =
 
 -- bytes without LF, no more than the limit, are an open line
 pub reach_line : (limit : ℕ) (bytes : List ℕ) (k : ℕ) → k ≤ length bytes → k ≤ limit
-    → ((j : ℕ) → j < k → get_or bytes j 0 ≢ 10) → Reaches Lines limit bytes k (Text (take k bytes))
+    → ((j : ℕ) → j < k → get_or bytes j 0 ≢ 10) → ReachesForm Lines limit bytes k (Text (take k bytes))
 reach_line limit bytes zero within most no_feed = reach_none Lines limit bytes
 reach_line limit bytes (suc k) within most no_feed =
     let before : k < length bytes = omega arith in
@@ -158,8 +158,8 @@ reach_line limit bytes (suc k) within most no_feed =
     let plain_byte : (get_or bytes k 0 == 10) ≡ false = ne_eqb (get_or bytes k 0) 10 (no_feed k last) in
     let room : (length (take k bytes) == limit) ≡ false = ne_eqb (length (take k bytes)) limit (λ h. omega (arith, length-take-le k bytes (omega arith))) in
     let more : take k bytes ++ get_or bytes k 0 ∷ [] ≡ take (suc k) bytes = sym (take_more bytes k 0 before) ∙ ap (λ n. take n bytes) (add-one k) in
-    let earlier : Reaches Lines limit bytes k (Text (take k bytes)) = reach_line limit bytes k (omega arith) (omega arith) (λ j h. no_feed j (omega arith)) in
-    subst (λ n. Reaches Lines limit bytes n (Text (take (suc k) bytes))) (add-one k)
+    let earlier : ReachesForm Lines limit bytes k (Text (take k bytes)) = reach_line limit bytes k (omega arith) (omega arith) (λ j h. no_feed j (omega arith)) in
+    subst (λ n. ReachesForm Lines limit bytes n (Text (take (suc k) bytes))) (add-one k)
     (reach_more Lines limit bytes k (Text (take k bytes)) (Text (take (suc k) bytes)) earlier before
     (λ place at. rw (plain_byte, room) refl)
     (λ place. rw (plain_byte, room) (ap Text more)))

@@ -5,7 +5,7 @@ use Rattle.sg_device.specs.Inlet.{Stamped}
 use Rattle.sg_frame.specs.declared.kind.FrameKind.{FrameKind}
 use Rattle.sg_frame.specs.declared.framer.Framed.{Framed}
 use Rattle.sg_frame.specs.declared.framer.Framed.TheVariants.{Item as Given, More, BadFrame}
-use Rattle.sg_frame.specs.Items.{Item, Form, Bad, IsSound, beginning, items, open_after, items_of, open_of}
+use Rattle.sg_frame.specs.Items.{Item, Form, Bad, IsSoundForm, beginning, items, open_after, items_of, open_of}
 
 pub record Framing : Type 0 where
   pub kind : FrameKind
@@ -45,13 +45,13 @@ pub record HasFramed (bytes : List Stamped) (given : List Item) (f : Framing) : 
   pub fed : length bytes ≡ fed f
 
 -- a call that took these bytes and gave these items
-abbrev pub Goes : Framing → Framing → List Stamped → List Item → Type 0
-Goes old new more taken =
+abbrev pub GoesOnFraming : Framing → Framing → List Stamped → List Item → Type 0
+GoesOnFraming old new more taken =
     (bytes : List Stamped) (given : List Item) → HasFramed bytes given old
     → HasFramed (bytes ++ more) (given ++ taken) new
 
 -- the first item left is given, and the rest is left
-pub record Gives (old new : Framing) (item : Item) : Type 0 where
+pub record GivesItem (old new : Framing) (item : Item) : Type 0 where
   pub rest : new ≡ behind old item.end
   pub first : items_left old ≡ item ∷ items_left new
   pub still_open : open_left old ≡ open_left new
@@ -59,12 +59,12 @@ pub record Gives (old new : Framing) (item : Item) : Type 0 where
   pub later : old.place < item.end
   pub shorter : length new.held < length old.held
   pub all_fed : fed new ≡ fed old
-  pub history : Goes old new [] (item ∷ [])
+  pub history : GoesOnFraming old new [] (item ∷ [])
 
 abbrev pub NextTells : Framing → Framing → Result Framed AllocError → Type 0
-NextTells old new (Ok (Given bytes end at)) = Gives old new
+NextTells old new (Ok (Given bytes end at)) = GivesItem old new
     (record { text = bytes; at = at; end = end })
-NextTells old new (Ok More) = (new ≡ old) × (items_left old ≡ []) × IsSound (open_left old)
+NextTells old new (Ok More) = (new ≡ old) × (items_left old ≡ []) × IsSoundForm (open_left old)
 NextTells old new (Ok (BadFrame place)) = (new ≡ old) × (items_left old ≡ [])
     × (open_left old ≡ Bad place)
 NextTells old new (Err e) = new ≡ old

@@ -22,11 +22,11 @@ pub data Form : Type 0 where
   Bad : (place : ℕ) → Form
 
 -- no bad byte stands open
-abbrev pub IsSound : Form → Type 0
-IsSound (Text line) = Unit {0}
-IsSound (Count value) = Unit {0}
-IsSound (Body missing text) = Unit {0}
-IsSound (Bad place) = ⊥
+abbrev pub IsSoundForm : Form → Type 0
+IsSoundForm (Text line) = Unit {0}
+IsSoundForm (Count value) = Unit {0}
+IsSoundForm (Body missing text) = Unit {0}
+IsSoundForm (Bad place) = ⊥
 
 -- CR and NUL don't count at the end of a line
 abbrev pub is_trailing : ℕ → Bool

@@ -3,3 +3,4 @@ pub mod Items
 pub mod Kept
 pub mod Records
 pub mod Scans
+pub mod Timely

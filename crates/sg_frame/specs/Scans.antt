@@ -3,13 +3,13 @@ use Rattle.std.specs.Prelude.{◌≡◌, ℕ, pos, ◌+◌, ◌<◌, ◌≤◌, 
 use Rattle.sg_device.specs.Inlet.{Stamped}
 use Rattle.sg_frame.specs.declared.kind.FrameKind.{FrameKind}
 use Rattle.sg_frame.specs.declared.kind.FrameKind.TheVariants.{Counted}
-use Rattle.sg_frame.specs.declared.scan.Span.{Span}
+use Rattle.sg_frame.specs.declared.scan.ItemSpan.{ItemSpan}
 use Rattle.sg_frame.specs.declared.scan.Seen.{Seen}
 use Rattle.sg_frame.specs.declared.scan.Seen.TheVariants.{Whole, Open, Bad}
 use Rattle.sg_frame.specs.declared.scan.Count.{Count}
 use Rattle.sg_frame.specs.declared.scan.Count.TheVariants.{Read, Open as CountOpen, Bad as CountBad}
 use Rattle.sg_frame.specs.Kept.{IsScanned}
-use Rattle.sg_frame.specs.Items.{Item, Form, Body, Bad as BadForm, IsSound, beginning, items, open_after}
+use Rattle.sg_frame.specs.Items.{Item, Form, Body, Bad as BadForm, IsSoundForm, beginning, items, open_after}
 
 abbrev pub plain : List Stamped → List ℕ
 plain bytes = map (λ b. b.0) bytes
@@ -20,13 +20,13 @@ pub record Continues (kind : FrameKind) (limit place : ℕ) (held : List Stamped
   pub still_open : open_after limit place (beginning kind) held ≡ open_after limit next form rest
 
 -- whatever their moments and place, so many of these bytes are no item, and leave this form open
-abbrev pub Reaches : FrameKind → (limit : ℕ) → List ℕ → (count : ℕ) → Form → Type 0
-Reaches kind limit bytes count form =
+abbrev pub ReachesForm : FrameKind → (limit : ℕ) → List ℕ → (count : ℕ) → Form → Type 0
+ReachesForm kind limit bytes count form =
     (place : ℕ) (held : List Stamped) → plain held ≡ bytes
     → Continues kind limit place held [] (place + count) form (drop count held)
 
 -- a span of these bytes is their first item
-pub record IsItem (kind : FrameKind) (limit : ℕ) (bytes : List ℕ) (span : Span) : Type 0 where
+pub record IsItem (kind : FrameKind) (limit : ℕ) (bytes : List ℕ) (span : ItemSpan) : Type 0 where
   pub from : span.from ≤ span.to
   pub to : span.to ≤ span.taken
   pub last : span.last < length bytes
@@ -44,7 +44,7 @@ abbrev pub HasNone : FrameKind → (limit : ℕ) → List ℕ → Type 0
 HasNone kind limit bytes =
     (place : ℕ) (held : List Stamped) → plain held ≡ bytes
     → (items limit place (beginning kind) held ≡ [])
-    × IsSound (open_after limit place (beginning kind) held)
+    × IsSoundForm (open_after limit place (beginning kind) held)
 
 -- they have no whole item, and the byte so far ahead is bad
 abbrev pub HasBad : FrameKind → (limit : ℕ) → List ℕ → ℕ → Type 0
@@ -62,9 +62,9 @@ pub record HasCount (limit : ℕ) (bytes : List ℕ) (count from : ℕ) : Type 0
   pub some : 0 < count
   pub most : count ≤ limit
   pub within : from ≤ length bytes
-  pub reaches : Reaches Counted limit bytes from (Body count [])
+  pub reaches : ReachesForm Counted limit bytes from (Body count [])
 
-abbrev pub Counts : (limit : ℕ) → List ℕ → Count → Type 0
-Counts limit bytes (Read count from) = HasCount limit bytes count from
-Counts limit bytes CountOpen = HasNone Counted limit bytes
-Counts limit bytes (CountBad ahead) = HasBad Counted limit bytes ahead
+abbrev pub ReadsCount : (limit : ℕ) → List ℕ → Count → Type 0
+ReadsCount limit bytes (Read count from) = HasCount limit bytes count from
+ReadsCount limit bytes CountOpen = HasNone Counted limit bytes
+ReadsCount limit bytes (CountBad ahead) = HasBad Counted limit bytes ahead

@@ -2,12 +2,12 @@
 ghost use Rattle.std.specs.Prelude.{◌≡◌, ◌<◌, ◌≤◌, ◌+◌, ◌^◌, ℕ, ℤ, List, [], ◌∷◌, ◌++◌, length, drop, slice_range, OnOk, OnErr, IfOk};
 ghost use Rattle.sg_device.specs.Inlet.{Stamped, stamped};
 ghost use Rattle.sg_frame.specs.Items.{Item};
-ghost use Rattle.sg_frame.specs.Framing.{fresh, with_bytes, fed, HasFramed, NextTells, Goes};
+ghost use Rattle.sg_frame.specs.Framing.{fresh, with_bytes, fed, HasFramed, NextTells, GoesOnFraming};
 ghost use Rattle.sg_frame.specs.Kept.{moments, runs_end, Cuts};
 
 use crate::FrameKind;
-use crate::moments::{Run, moment_at};
-use crate::scan::{Seen, Span, find_item};
+use crate::moments::{TimedRun, moment_at};
+use crate::scan::{ItemSpan, Seen, find_item};
 use bytes::{Bytes, BytesMut};
 use sg_device::NoMemory;
 use std::alloc::Global;
@@ -36,7 +36,7 @@ pub struct Framer {
     /// So many bytes from it on have no line feed.
     scanned: usize,
     kept: BytesMut,
-    runs: VecDeque<Run>,
+    runs: VecDeque<TimedRun>,
 }
 
 impl Drop for Framer {
@@ -54,7 +54,7 @@ impl Drop for Framer {
 
 impl Model for Framer {
     ghost use Rattle.sg_frame.specs.Framing.{Framing};
-    ghost use Rattle.sg_frame.specs.Kept.{IsKept, moments};
+    ghost use Rattle.sg_frame.specs.Kept.{AreRunsKept, moments};
     ghost use Rattle.std.specs.List.{zip};
 
     ghost Value = { Framing };
@@ -66,15 +66,15 @@ impl Model for Framer {
       held = zip f.kept.items (moments f.place f.runs.items);
     } };
 
-    ghost invariant = { λ f. IsKept f.limit f.place f.scanned f.kept.items f.runs.items };
+    ghost invariant = { λ f. AreRunsKept f.limit f.place f.scanned f.kept.items f.runs.items };
 }
 
 /// Takes an item off the front of the bytes kept: its text and moment. `NoMemory` leaves both.
 fn cut(
     kept: &mut BytesMut,
-    runs: &mut VecDeque<Run>,
+    runs: &mut VecDeque<TimedRun>,
     place: u64,
-    span: Span,
+    span: ItemSpan,
 ) -> Result<(Bytes, i64), NoMemory>
     requires range { place + length kept.old.items < 2 ^ 63 }
     requires covers { runs_end place runs.old.items ≡ place + length kept.old.items }
@@ -114,11 +114,11 @@ impl Framer {
     pub fn feed(&mut self, piece: &[u8], at: i64) -> Result<(), NoMemory>
         requires { fed self.old + length piece.now < 2 ^ 63 }
         ensures fed { OnOk result (self.new ≡ with_bytes self.old (stamped piece.now at)) }
-        ensures history { OnOk result (Goes self.old self.new (stamped piece.now at) []) }
+        ensures history { OnOk result (GoesOnFraming self.old self.new (stamped piece.now at) []) }
         ensures refused { OnErr result (self.new ≡ self.old) }
     {
         let end = self.place + (self.kept.len() + piece.len()) as u64;
-        self.runs.push_back(Run { end, at })?;
+        self.runs.push_back(TimedRun { end, at })?;
         if let Err(e) = self.kept.extend_from_slice(piece) {
             self.runs.pop_back();
             return Err(e);

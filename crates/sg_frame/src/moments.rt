@@ -6,7 +6,7 @@ use std::collections::VecDeque;
 
 /// Bytes that came at one moment: those up to a place.
 #[derive(Clone, Copy, Debug, Drop)]
-pub struct Run {
+pub struct TimedRun {
     /// The place behind the last of them.
     pub end: u64,
     /// Microseconds since 1970-01-01T00:00:00Z.
@@ -14,7 +14,7 @@ pub struct Run {
 }
 
 /// The moment of the byte at a place. The runs that end there or before are let go.
-pub fn moment_at(runs: &mut VecDeque<Run>, place: u64) -> i64
+pub fn moment_at(runs: &mut VecDeque<TimedRun>, place: u64) -> i64
     requires { place < runs_end place runs.old.items }
     ensures moment { (rest : List ℤ) × (moments place runs.old.items ≡ result ∷ rest) }
     ensures moments { (from : ℕ) → place ≤ from
@@ -22,7 +22,7 @@ pub fn moment_at(runs: &mut VecDeque<Run>, place: u64) -> i64
     ensures end { (from : ℕ) → place ≤ from
         → runs_end from runs.new.items ≡ runs_end from runs.old.items }
 {
-    while let Some(&Run { end, at }) = runs.front() {
+    while let Some(&TimedRun { end, at }) = runs.front() {
         if place < end {
             return at;
         }

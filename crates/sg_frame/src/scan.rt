@@ -1,7 +1,7 @@
 // Where the first item of the bytes kept ends.
 ghost use Rattle.std.specs.Prelude.{◌≡◌, ◌<◌};
 ghost use Rattle.sg_frame.specs.Items.{trimmed};
-ghost use Rattle.sg_frame.specs.Scans.{Sees, Counts};
+ghost use Rattle.sg_frame.specs.Scans.{Sees, ReadsCount};
 ghost use Rattle.sg_frame.specs.Kept.{IsScanned};
 ghost use Rattle.sg_frame.specs.declared.kind.FrameKind.TheVariants.{Lines, Counted};
 
@@ -10,7 +10,7 @@ use memchr::memchr;
 
 /// Where an item stands in the bytes kept.
 #[derive(Clone, Copy, Debug, Drop)]
-pub struct Span {
+pub struct ItemSpan {
     /// Its text begins here.
     pub from: usize,
     /// The place behind its text.
@@ -24,7 +24,7 @@ pub struct Span {
 /// What stands at the front of the bytes kept.
 #[derive(Clone, Copy, Debug, Drop)]
 pub enum Seen {
-    Whole(Span),
+    Whole(ItemSpan),
     /// No item is whole, and so many bytes have no line feed.
     Open(usize),
     /// The byte there can't stand in a count or behind it.
@@ -65,7 +65,7 @@ fn find_line(bytes: &[u8], limit: u32, scanned: usize) -> Seen
     let window = &bytes[scanned..bytes.len().min(limit + 1)];
     if let Some(ahead) = memchr(b'\n', window) {
         let end = scanned + ahead;
-        return Seen::Whole(Span {
+        return Seen::Whole(ItemSpan {
             from: 0,
             to: trim(&bytes[..end]).len(),
             taken: end + 1,
@@ -75,7 +75,7 @@ fn find_line(bytes: &[u8], limit: u32, scanned: usize) -> Seen
     if bytes.len() <= limit {
         return Seen::Open(bytes.len());
     }
-    Seen::Whole(Span {
+    Seen::Whole(ItemSpan {
         from: 0,
         to: trim(&bytes[..limit]).len(),
         taken: limit,
@@ -85,7 +85,7 @@ fn find_line(bytes: &[u8], limit: u32, scanned: usize) -> Seen
 
 /// Reads a count and the space behind it.
 fn read_count(bytes: &[u8], limit: u32) -> Count
-    ensures { Counts limit bytes.now result }
+    ensures { ReadsCount limit bytes.now result }
 {
     let limit = limit as usize;
     let mut value = 0;
@@ -116,7 +116,7 @@ fn find_counted(bytes: &[u8], limit: u32) -> Seen
                 return Seen::Open(0);
             }
             let to = from + count;
-            Seen::Whole(Span {
+            Seen::Whole(ItemSpan {
                 from,
                 to,
                 taken: to,

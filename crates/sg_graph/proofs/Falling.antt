@@ -3,7 +3,7 @@ use Rattle.std.proofs.Common.{◌≡◌, ℕ, ◌<◌, ◌≤◌, ◌+◌, List,
 use Rattle.std.proofs.lemmas.Bool.{cases_lt}
 use Rattle.std.proofs.lemmas.List.{get_or_past}
 use Rattle.std.specs.List.{Contains}
-use Rattle.sg_graph.specs.Graph.{row_of, Reaches, direct, through, IsOnCycle}
+use Rattle.sg_graph.specs.Graph.{row_of, ReachesNode, direct, through, IsOnCycle}
 use Rattle.sg_graph.proofs.Visiting.{contains-none}
 
 abbrev pub NeverRises : List (List ℕ) → List ℕ → Type 0
@@ -12,11 +12,11 @@ NeverRises links ranks = (i j : ℕ) → Contains (row_of links i) j → get_or 
 abbrev pub FallsAt : List (List ℕ) → List ℕ → ℕ → Type 0
 FallsAt links ranks i = (j : ℕ) → Contains (row_of links i) j → get_or ranks j 0 < get_or ranks i 0
 
-reaches-below : (links : List (List ℕ)) (ranks : List ℕ) → NeverRises links ranks → (i j : ℕ) → Reaches links i j → get_or ranks j 0 ≤ get_or ranks i 0
+reaches-below : (links : List (List ℕ)) (ranks : List ℕ) → NeverRises links ranks → (i j : ℕ) → ReachesNode links i j → get_or ranks j 0 ≤ get_or ranks i 0
 reaches-below links ranks falls i j (direct _ _ has) = falls i j has
 reaches-below links ranks falls i j (through _ m _ has rest) = omega (arith, falls i m has, reaches-below links ranks falls m j rest)
 
-falls-first : (links : List (List ℕ)) (ranks : List ℕ) (top i j : ℕ) → NeverRises links ranks → ((k : ℕ) → Contains (row_of links i) k → get_or ranks k 0 < top) → Reaches links i j → get_or ranks j 0 < top
+falls-first : (links : List (List ℕ)) (ranks : List ℕ) (top i j : ℕ) → NeverRises links ranks → ((k : ℕ) → Contains (row_of links i) k → get_or ranks k 0 < top) → ReachesNode links i j → get_or ranks j 0 < top
 falls-first links ranks top i j never falls (direct _ _ has) = falls j has
 falls-first links ranks top i j never falls (through _ m _ has rest) = omega (arith, falls m has, reaches-below links ranks never m j rest)
 
@@ -30,7 +30,7 @@ NoneBefore links k = (j : ℕ) → j < k → IsOnCycle links j → ⊥
 pub falls-here : (links : List (List ℕ)) (ranks : List ℕ) (k : ℕ) → NeverRises links ranks → ((j : ℕ) → Contains (row_of links k) j → get_or ranks j 0 < get_or ranks k 0) → NoneBefore links k → NoneBefore links (k + 1)
 falls-here links ranks k never falls before = below_more (λ j. IsOnCycle links j → ⊥) k before (falls-apart links ranks k never falls)
 
-no-row : (links : List (List ℕ)) (i j : ℕ) → length links ≤ i → Reaches links i j → ⊥
+no-row : (links : List (List ℕ)) (i j : ℕ) → length links ≤ i → ReachesNode links i j → ⊥
 no-row links i j past (direct _ _ has) = let P : List ℕ → Type 0 = λ row. Contains row j in contains-none j (subst P (get_or_past links i [] past) has)
 no-row links i j past (through _ m _ has rest) = let P : List ℕ → Type 0 = λ row. Contains row m in contains-none m (subst P (get_or_past links i [] past) has)
 

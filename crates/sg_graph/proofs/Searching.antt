@@ -5,18 +5,18 @@ use Rattle.std.specs.List.{Contains}
 use Rattle.std.proofs.lemmas.Bool.{false≢true, cases_lt}
 use Rattle.std.proofs.lemmas.List.{length_push, length-replicate, get_or_past, get_or-replicate}
 use Rattle.std.proofs.lemmas.List.Elements.{Contains-push, Contains-push_cases, Contains-append_left}
-use Rattle.sg_graph.specs.Graph.{row_of, Reaches, direct, through}
-use Rattle.sg_graph.specs.Visits.{Visits, unseen}
+use Rattle.sg_graph.specs.Graph.{row_of, ReachesNode, direct, through}
+use Rattle.sg_graph.specs.Visits.{VisitsNodes, unseen}
 use Rattle.sg_graph.proofs.Visiting.{contains-none, contains-one}
 
 -- what is seen is reached, and what it names is seen, or it waits
 pub record IsSearch (links : List (List ℕ)) (from : ℕ) (seen : List Bool) (waiting : List ℕ) : Type 0 where
   pub size : length seen ≡ length links
-  pub found : (i : ℕ) → i < length links → get_or seen i true ≡ true → Reaches links from i
-  pub waits : (i : ℕ) → Contains waiting i → (from ≡ i) ⊎ Reaches links from i
+  pub found : (i : ℕ) → i < length links → get_or seen i true ≡ true → ReachesNode links from i
+  pub waits : (i : ℕ) → Contains waiting i → (from ≡ i) ⊎ ReachesNode links from i
   pub closed : (i : ℕ) → (from ≡ i) ⊎ (get_or seen i true ≡ true) → Contains waiting i ⊎ ((j : ℕ) → Contains (row_of links i) j → get_or seen j true ≡ true)
 
-pub reaches-then : (links : List (List ℕ)) (i j k : ℕ) → Reaches links i j → Contains (row_of links j) k → Reaches links i k
+pub reaches-then : (links : List (List ℕ)) (i j k : ℕ) → ReachesNode links i j → Contains (row_of links j) k → ReachesNode links i k
 reaches-then links i j k (direct _ _ has) more = through i j k has (direct j k more)
 reaches-then links i j k (through _ m _ has rest) more = through i m k has (reaches-then links m j k rest more)
 
@@ -34,15 +34,15 @@ search-start links from = record {
       which;
 }
 
-reaches-row : (links : List (List ℕ)) (from node i : ℕ) → (from ≡ node) ⊎ Reaches links from node → Contains (row_of links node) i → Reaches links from i
+reaches-row : (links : List (List ℕ)) (from node i : ℕ) → (from ≡ node) ⊎ ReachesNode links from node → Contains (row_of links node) i → ReachesNode links from i
 reaches-row links from node i which has =
-    ⊎_elim (λ same. let P : ℕ → Type 0 = λ k. Reaches links k i in subst P (sym same) (direct node i has)) (λ reaches. reaches-then links from node i reaches has) which
+    ⊎_elim (λ same. let P : ℕ → Type 0 = λ k. ReachesNode links k i in subst P (sym same) (direct node i has)) (λ reaches. reaches-then links from node i reaches has) which
 
-pub search-step : (links : List (List ℕ)) (from : ℕ) (seen : List Bool) (waiting left : List ℕ) (node : ℕ) (after : List Bool) (waits : List ℕ) → waiting ≡ left ++ node ∷ [] → IsSearch links from seen waiting → Visits (row_of links node) seen left after waits → IsSearch links from after waits
+pub search-step : (links : List (List ℕ)) (from : ℕ) (seen : List Bool) (waiting left : List ℕ) (node : ℕ) (after : List Bool) (waits : List ℕ) → waiting ≡ left ++ node ∷ [] → IsSearch links from seen waiting → VisitsNodes (row_of links node) seen left after waits → IsSearch links from after waits
 search-step links from seen waiting left node after waits popped s v =
     let holds : (i : ℕ) → Contains (left ++ node ∷ []) i → Contains waiting i = λ i has. (let Q : List ℕ → Type 0 = λ w. Contains w i in subst Q (sym popped) has) in
     let splits : (i : ℕ) → Contains waiting i → Contains left i ⊎ (node ≡ i) = λ i has. (let Q : List ℕ → Type 0 = λ w. Contains w i in Contains-push_cases left node i (subst Q popped has)) in
-    let here : (from ≡ node) ⊎ Reaches links from node = s.waits node (holds node (Contains-push left node)) in
+    let here : (from ≡ node) ⊎ ReachesNode links from node = s.waits node (holds node (Contains-push left node)) in
     let older : (i : ℕ) → (from ≡ i) ⊎ (get_or seen i true ≡ true) → Contains waits i ⊎ ((j : ℕ) → Contains (row_of links i) j → get_or after j true ≡ true) =
     λ i which. ⊎_elim
     (λ waited. ⊎_elim
@@ -64,13 +64,13 @@ search-step links from seen waiting left node after waits popped s v =
           which;
     }
 
-seen-all : (links : List (List ℕ)) (from : ℕ) (seen : List Bool) → IsSearch links from seen [] → (i j : ℕ) → (from ≡ i) ⊎ (get_or seen i true ≡ true) → Reaches links i j → get_or seen j true ≡ true
+seen-all : (links : List (List ℕ)) (from : ℕ) (seen : List Bool) → IsSearch links from seen [] → (i j : ℕ) → (from ≡ i) ⊎ (get_or seen i true ≡ true) → ReachesNode links i j → get_or seen j true ≡ true
 seen-all links from seen s i j which (direct _ _ has) =
     ⊎_elim (λ none. absurd (contains-none i none)) (λ all. all j has) (s.closed i which)
 seen-all links from seen s i j which (through _ m _ has rest) =
     ⊎_elim (λ none. absurd (contains-none i none)) (λ all. seen-all links from seen s m j (inr (all m has)) rest) (s.closed i which)
 
-pub search-end : (links : List (List ℕ)) (from : ℕ) (seen : List Bool) (waiting : List ℕ) → length waiting ≡ 0 → IsSearch links from seen waiting → (i : ℕ) → Reaches links from i → get_or seen i true ≡ true
+pub search-end : (links : List (List ℕ)) (from : ℕ) (seen : List Bool) (waiting : List ℕ) → length waiting ≡ 0 → IsSearch links from seen waiting → (i : ℕ) → ReachesNode links from i → get_or seen i true ≡ true
 search-end links from seen [] none s i reaches = seen-all links from seen s from i (inl refl) reaches
 search-end links from seen (x ∷ waiting) none s i reaches = absurd (omega (arith, none))
 
@@ -80,10 +80,10 @@ search-begun links from seen waiting none one =
     let Q : List ℕ → Type 0 = λ w. IsSearch links from (replicate (length links) false) w in
     subst P (sym none) (subst Q (sym one) (search-start links from))
 
-pub search-on : (links : List (List ℕ)) (from : ℕ) (seen : List Bool) (waiting left : List ℕ) (node : ℕ) (row : List ℕ) (after : List Bool) (waits : List ℕ) → waiting ≡ left ++ node ∷ [] → row ≡ row_of links node → IsSearch links from seen waiting → Visits row seen left after waits → IsSearch links from after waits
+pub search-on : (links : List (List ℕ)) (from : ℕ) (seen : List Bool) (waiting left : List ℕ) (node : ℕ) (row : List ℕ) (after : List Bool) (waits : List ℕ) → waiting ≡ left ++ node ∷ [] → row ≡ row_of links node → IsSearch links from seen waiting → VisitsNodes row seen left after waits → IsSearch links from after waits
 search-on links from seen waiting left node row after waits popped is s v =
-    let P : List ℕ → Type 0 = λ r. Visits r seen left after waits in
+    let P : List ℕ → Type 0 = λ r. VisitsNodes r seen left after waits in
     search-step links from seen waiting left node after waits popped s (subst P is v)
 
-pub search-smaller : (row : List ℕ) (seen after : List Bool) (waiting left waits : List ℕ) (node : ℕ) → waiting ≡ left ++ node ∷ [] → Visits row seen left after waits → unseen after + length waits < unseen seen + length waiting
+pub search-smaller : (row : List ℕ) (seen after : List Bool) (waiting left waits : List ℕ) (node : ℕ) → waiting ≡ left ++ node ∷ [] → VisitsNodes row seen left after waits → unseen after + length waits < unseen seen + length waiting
 search-smaller row seen after waiting left waits node popped v = omega (arith, v.count, ap length popped, length_push left node)

@@ -6,8 +6,8 @@ use Rattle.std.proofs.lemmas.Bool.{true≢false, false≢true, cases_eq, cases_l
 use Rattle.std.proofs.lemmas.List.{length-replicate, get_or_past, get_or-replicate}
 use Rattle.std.proofs.lemmas.List.Elements.{Contains-push, Contains-append_right, Contains-append_left}
 use Rattle.std.proofs.lemmas.List.Sums.{sum_by-cons, sum_by-set, count_by-le-length}
-use Rattle.sg_graph.specs.Graph.{row_of, Reaches, direct, HasNoCycle}
-use Rattle.sg_graph.specs.Sizes.{size_within, AreSizes, IsReady, IsHeld}
+use Rattle.sg_graph.specs.Graph.{row_of, ReachesNode, direct, HasNoCycle}
+use Rattle.sg_graph.specs.Sizes.{size_within, AreSizes, IsNodeReady, IsNodeHeld}
 use Rattle.sg_graph.proofs.Visiting.{marked-past, contains-none}
 use Rattle.sg_graph.proofs.Searching.{reaches-then}
 use Rattle.sg_graph.proofs.Holes.{two-alike}
@@ -27,13 +27,13 @@ more done node e =
     let none : f (get_or done node true) ≡ 0 = ap f e in
     omega (arith, h, none)
 
-size-more : (links : List (List ℕ)) (own : List ℕ) (most node depth : ℕ) (done : List Bool) (sizes : List ℕ) → IsReady links done node → AreSizes links own most done sizes → count_by (λ mark. mark) done + 1 ≤ depth → min most (get_or own node 0 + sum_by (λ j. get_or sizes j 0) (row_of links node)) ≡ min most (size_within depth links own node)
+size-more : (links : List (List ℕ)) (own : List ℕ) (most node depth : ℕ) (done : List Bool) (sizes : List ℕ) → IsNodeReady links done node → AreSizes links own most done sizes → count_by (λ mark. mark) done + 1 ≤ depth → min most (get_or own node 0 + sum_by (λ j. get_or sizes j 0) (row_of links node)) ≡ min most (size_within depth links own node)
 unfolding size_within
 size-more links own most node zero done sizes ready known deep = absurd (omega (arith, deep))
 size-more links own most node (suc depth) done sizes ready known deep =
     capped-sums most (get_or own node 0) (λ j. get_or sizes j 0) (size_within depth links own) (row_of links node) (λ j has. known j depth (ready.1 j has) (omega (arith, deep)))
 
-pub settles : (links : List (List ℕ)) (own : List ℕ) (most node size : ℕ) (done : List Bool) (sizes : List ℕ) → length sizes ≡ length done → IsReady links done node → size ≡ min most (get_or own node 0 + sum_by (λ j. get_or sizes j 0) (row_of links node)) → AreSizes links own most done sizes → AreSizes links own most (set done node true) (set sizes node size)
+pub settles : (links : List (List ℕ)) (own : List ℕ) (most node size : ℕ) (done : List Bool) (sizes : List ℕ) → length sizes ≡ length done → IsNodeReady links done node → size ≡ min most (get_or own node 0 + sum_by (λ j. get_or sizes j 0) (row_of links node)) → AreSizes links own most done sizes → AreSizes links own most (set done node true) (set sizes node size)
 settles links own most node size done sizes sized ready is known i depth e deep =
     let within : node < length sizes = omega (arith, marked-past done node ready.0, sized) in
     let count = more done node ready.0 in
@@ -42,7 +42,7 @@ settles links own most node size done sizes sized ready is known i depth e deep 
     (λ other. get_or-set_other sizes node i size 0 other ∙ known i depth (sym (get_or-set_other done node i true true other) ∙ e) (omega (arith, count, deep)))
     (cases_eq i node)
 
-pub settled : (links : List (List ℕ)) (own : List ℕ) (most node size : ℕ) (done after : List Bool) (sizes known : List ℕ) → length sizes ≡ length done → IsReady links done node → size ≡ min most (get_or own node 0 + sum_by (λ j. get_or sizes j 0) (row_of links node)) → after ≡ set done node true → known ≡ set sizes node size → AreSizes links own most done sizes → AreSizes links own most after known
+pub settled : (links : List (List ℕ)) (own : List ℕ) (most node size : ℕ) (done after : List Bool) (sizes known : List ℕ) → length sizes ≡ length done → IsNodeReady links done node → size ≡ min most (get_or own node 0 + sum_by (λ j. get_or sizes j 0) (row_of links node)) → after ≡ set done node true → known ≡ set sizes node size → AreSizes links own most done sizes → AreSizes links own most after known
 settled links own most node size done after sizes known sized ready is marks numbers before =
     let P : List Bool → Type 0 = λ d. AreSizes links own most d known in
     let Q : List ℕ → Type 0 = λ s. AreSizes links own most (set done node true) s in
@@ -76,7 +76,7 @@ abbrev Undone : List Bool → Type 0
 Undone done = (i : ℕ) × (get_or done i true ≡ false)
 
 abbrev AllHeld : List (List ℕ) → List Bool → Type 0
-AllHeld links done = (i : ℕ) → i < length links → IsHeld links done i
+AllHeld links done = (i : ℕ) → i < length links → IsNodeHeld links done i
 
 onward : (links : List (List ℕ)) (done : List Bool) → length done ≡ length links → AllHeld links done → (i : ℕ) → get_or done i true ≡ false → (j : ℕ) × Contains (row_of links i) j × (get_or done j true ≡ false)
 onward links done sized held i e =
@@ -94,27 +94,27 @@ walk-edge links done sized held start k =
     let here = walk links done sized held start k in
     (onward links done sized held here.0 here.1).1
 
-walk-reaches : (links : List (List ℕ)) (done : List Bool) (sized : length done ≡ length links) (held : AllHeld links done) (start : Undone done) (a b : ℕ) → a < b → Reaches links (walk links done sized held start a).0 (walk links done sized held start b).0
+walk-reaches : (links : List (List ℕ)) (done : List Bool) (sized : length done ≡ length links) (held : AllHeld links done) (start : Undone done) (a b : ℕ) → a < b → ReachesNode links (walk links done sized held start a).0 (walk links done sized held start b).0
 walk-reaches links done sized held start a zero below = absurd (omega (arith, below))
 walk-reaches links done sized held start a (suc b) below =
     let at : ℕ → ℕ = λ k. (walk links done sized held start k).0 in
     ⊎_elim
     (λ lower. reaches-then links (at a) (at b) (at (suc b)) (walk-reaches links done sized held start a b lower) (walk-edge links done sized held start b))
-    (λ above. let same : b ≡ a = omega (arith, below, above) in let P : ℕ → Type 0 = λ k. Reaches links (at k) (at (suc b)) in subst P same (direct (at b) (at (suc b)) (walk-edge links done sized held start b)))
+    (λ above. let same : b ≡ a = omega (arith, below, above) in let P : ℕ → Type 0 = λ k. ReachesNode links (at k) (at (suc b)) in subst P same (direct (at b) (at (suc b)) (walk-edge links done sized held start b)))
     (cases_lt a b)
 
 comes-round : (links : List (List ℕ)) (done : List Bool) → HasNoCycle links → length done ≡ length links → AllHeld links done → Undone done → ⊥
 comes-round links done acyclic sized held start =
     let at : ℕ → ℕ = λ k. (walk links done sized held start k).0 in
     let two = two-alike (length links) at (λ k _. omega (arith, marked-past done (at k) (walk links done sized held start k).1, sized)) in
-    let P : ℕ → Type 0 = λ k. Reaches links (at two.0) k in
+    let P : ℕ → Type 0 = λ k. ReachesNode links (at two.0) k in
     acyclic (at two.0) (subst P (sym two.4) (walk-reaches links done sized held start two.0 two.1 two.2))
 
 -- So without a cycle all are done.
-pub all-done : (links : List (List ℕ)) (done : List Bool) → HasNoCycle links → length done ≡ length links → ((i : ℕ) → i < length links → IsHeld links done i) → (i : ℕ) → get_or done i true ≡ true
+pub all-done : (links : List (List ℕ)) (done : List Bool) → HasNoCycle links → length done ≡ length links → ((i : ℕ) → i < length links → IsNodeHeld links done i) → (i : ℕ) → get_or done i true ≡ true
 all-done links done acyclic sized held i =
     ⊎_elim (λ yes. yes) (λ no. absurd (comes-round links done acyclic sized held (i, no))) (cases_Bool (get_or done i true))
 
-pub sizes-known : (links : List (List ℕ)) (own : List ℕ) (most : ℕ) (done : List Bool) (sizes : List ℕ) → HasNoCycle links → length done ≡ length links → ((i : ℕ) → i < length links → IsHeld links done i) → AreSizes links own most done sizes → (i : ℕ) → get_or sizes i 0 ≡ min most (size_within (length links) links own i)
+pub sizes-known : (links : List (List ℕ)) (own : List ℕ) (most : ℕ) (done : List Bool) (sizes : List ℕ) → HasNoCycle links → length done ≡ length links → ((i : ℕ) → i < length links → IsNodeHeld links done i) → AreSizes links own most done sizes → (i : ℕ) → get_or sizes i 0 ≡ min most (size_within (length links) links own i)
 sizes-known links own most done sizes acyclic sized held known i =
     known i (length links) (all-done links done acyclic sized held i) (omega (arith, count_by-le-length (λ (mark : Bool). mark) done, sized))

@@ -5,7 +5,7 @@ use Rattle.std.proofs.lemmas.Bool.{true≢false, cases_eq, cases_lt}
 use Rattle.std.proofs.lemmas.List.{length-set, length_push, get_or_past, take_more}
 use Rattle.std.proofs.lemmas.List.Elements.{Contains-push, Contains-push_cases, Contains-append_left, Contains-append_right, Contains-append_cases}
 use Rattle.std.proofs.lemmas.List.Sums.{sum_by-set}
-use Rattle.sg_graph.specs.Visits.{Visits, unseen}
+use Rattle.sg_graph.specs.Visits.{VisitsNodes, unseen}
 
 pub contains-none : {X : Type 0} (x : X) → Contains [] x → ⊥
 contains-none x h = omega (arith, h.1)
@@ -17,7 +17,7 @@ pub marked-past : (seen : List Bool) (i : ℕ) → get_or seen i true ≡ false 
 marked-past seen i e =
     ⊎_elim (λ below. below) (λ past. absurd (true≢false (sym (get_or_past seen i true past) ∙ e))) (cases_lt i (length seen))
 
-pub visits-none : (seen : List Bool) (waiting : List ℕ) → Visits [] seen waiting seen waiting
+pub visits-none : (seen : List Bool) (waiting : List ℕ) → VisitsNodes [] seen waiting seen waiting
 visits-none seen waiting = record {
   size = refl;
   all = λ i has. absurd (contains-none i has);
@@ -28,7 +28,7 @@ visits-none seen waiting = record {
   count = refl;
 }
 
-pub visits-marked : (seen : List Bool) (waiting : List ℕ) (node : ℕ) → get_or seen node true ≡ true → Visits (node ∷ []) seen waiting seen waiting
+pub visits-marked : (seen : List Bool) (waiting : List ℕ) (node : ℕ) → get_or seen node true ≡ true → VisitsNodes (node ∷ []) seen waiting seen waiting
 visits-marked seen waiting node e = record {
   size = refl;
   all = λ i has. ap (λ k. get_or seen k true) (sym (contains-one node i has)) ∙ e;
@@ -60,7 +60,7 @@ fewer seen node e =
     let one : f (get_or seen node true) ≡ 1 = ap f e in
     omega (arith, h, one)
 
-pub visits-new : (seen : List Bool) (waiting : List ℕ) (node : ℕ) → get_or seen node true ≡ false → Visits (node ∷ []) seen waiting (set seen node true) (waiting ++ node ∷ [])
+pub visits-new : (seen : List Bool) (waiting : List ℕ) (node : ℕ) → get_or seen node true ≡ false → VisitsNodes (node ∷ []) seen waiting (set seen node true) (waiting ++ node ∷ [])
 visits-new seen waiting node e = record {
   size = length-set seen node true;
   all = λ i has. ap (λ k. get_or (set seen node true) k true) (sym (contains-one node i has)) ∙ get_or-set_same seen node true true (marked-past seen node e);
@@ -71,14 +71,14 @@ visits-new seen waiting node e = record {
   count = omega (arith, fewer seen node e, length_push waiting node);
 }
 
-pub visits-pushed : (seen after : List Bool) (waiting waits : List ℕ) (node : ℕ) → get_or seen node true ≡ false → after ≡ set seen node true → waits ≡ waiting ++ node ∷ [] → Visits (node ∷ []) seen waiting after waits
+pub visits-pushed : (seen after : List Bool) (waiting waits : List ℕ) (node : ℕ) → get_or seen node true ≡ false → after ≡ set seen node true → waits ≡ waiting ++ node ∷ [] → VisitsNodes (node ∷ []) seen waiting after waits
 visits-pushed seen after waiting waits node e marks pushes =
-    let P : List Bool → Type 0 = λ s. Visits (node ∷ []) seen waiting s waits in
-    let Q : List ℕ → Type 0 = λ w. Visits (node ∷ []) seen waiting (set seen node true) w in
+    let P : List Bool → Type 0 = λ s. VisitsNodes (node ∷ []) seen waiting s waits in
+    let Q : List ℕ → Type 0 = λ w. VisitsNodes (node ∷ []) seen waiting (set seen node true) w in
     subst P (sym marks) (subst Q (sym pushes) (visits-new seen waiting node e))
 
 -- some nodes, then some more
-pub visits-join : (xs ys : List ℕ) (a b c : List Bool) (v w x : List ℕ) → Visits xs a v b w → Visits ys b w c x → Visits (xs ++ ys) a v c x
+pub visits-join : (xs ys : List ℕ) (a b c : List Bool) (v w x : List ℕ) → VisitsNodes xs a v b w → VisitsNodes ys b w c x → VisitsNodes (xs ++ ys) a v c x
 visits-join xs ys a b c v w x first second = record {
   size = second.size ∙ first.size;
   all = λ i has. ⊎_elim (λ left. second.stays i (first.all i left)) (λ right. second.all i right) (Contains-append_cases xs ys i has);
@@ -95,7 +95,7 @@ visits-join xs ys a b c v w x first second = record {
   count = second.count ∙ first.count;
 }
 
-pub visits-more : (row : List ℕ) (k : ℕ) (a b c : List Bool) (v w x : List ℕ) → k < length row → Visits (take k row) a v b w → Visits (get_or row k 0 ∷ []) b w c x → Visits (take (k + 1) row) a v c x
+pub visits-more : (row : List ℕ) (k : ℕ) (a b c : List Bool) (v w x : List ℕ) → k < length row → VisitsNodes (take k row) a v b w → VisitsNodes (get_or row k 0 ∷ []) b w c x → VisitsNodes (take (k + 1) row) a v c x
 visits-more row k a b c v w x within first second =
-    let P : List ℕ → Type 0 = λ nodes. Visits nodes a v c x in
+    let P : List ℕ → Type 0 = λ nodes. VisitsNodes nodes a v c x in
     subst P (sym (take_more row k 0 within)) (visits-join (take k row) (get_or row k 0 ∷ []) a b c v w x first second)

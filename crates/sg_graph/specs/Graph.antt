@@ -7,12 +7,12 @@ abbrev pub row_of : List (List ℕ) → ℕ → List ℕ
 row_of links i = slice_index_or links i []
 
 -- by one name or by several in a row
-pub data Reaches (links : List (List ℕ)) : ℕ → ℕ → Type 0 where
-  direct : (i j : ℕ) → Contains (row_of links i) j → Reaches links i j
-  through : (i j k : ℕ) → Contains (row_of links i) j → Reaches links j k → Reaches links i k
+pub data ReachesNode (links : List (List ℕ)) : ℕ → ℕ → Type 0 where
+  direct : (i j : ℕ) → Contains (row_of links i) j → ReachesNode links i j
+  through : (i j k : ℕ) → Contains (row_of links i) j → ReachesNode links j k → ReachesNode links i k
 
 abbrev pub IsOnCycle : List (List ℕ) → ℕ → Type 0
-IsOnCycle links i = Reaches links i i
+IsOnCycle links i = ReachesNode links i i
 
 -- no node names itself through others
 abbrev pub HasNoCycle : List (List ℕ) → Type 0

@@ -20,11 +20,11 @@ AreSizes links own most done sizes = (i depth : ℕ) → slice_index_or done i t
     → slice_index sizes i ≡ min most (size_within depth links own i)
 
 -- all that it names is done, and it isn't
-abbrev pub IsReady : List (List ℕ) → List Bool → ℕ → Type 0
-IsReady links done i = (slice_index_or done i true ≡ false)
+abbrev pub IsNodeReady : List (List ℕ) → List Bool → ℕ → Type 0
+IsNodeReady links done i = (slice_index_or done i true ≡ false)
     × ((j : ℕ) → Contains (row_of links i) j → slice_index_or done j true ≡ true)
 
 -- it is done, or names one that isn't
-abbrev pub IsHeld : List (List ℕ) → List Bool → ℕ → Type 0
-IsHeld links done i = (slice_index_or done i true ≡ true)
+abbrev pub IsNodeHeld : List (List ℕ) → List Bool → ℕ → Type 0
+IsNodeHeld links done i = (slice_index_or done i true ≡ true)
     ⊎ ((j : ℕ) × Contains (row_of links i) j × (slice_index_or done j true ≡ false))

@@ -7,7 +7,7 @@ use std::alloc::{AllocError, Global};
 
 /// What is to be done, in a walk from node to node.
 #[derive(Clone, Copy, Drop)]
-enum Step {
+enum NodeStep {
     Enter(u32),
     Leave(u32),
 }
@@ -17,13 +17,13 @@ fn enter(
     links: &[Items<u32>],
     node: u32,
     seen: &mut [bool],
-    steps: &mut Vec<Step>,
+    steps: &mut Vec<NodeStep>,
 ) -> Result<(), AllocError> {
     mark(seen, node);
-    steps.push(Step::Leave(node))?;
+    steps.push(NodeStep::Leave(node))?;
     for next in row(links, node) {
         if !is_marked(seen, *next) {
-            steps.push(Step::Enter(*next))?;
+            steps.push(NodeStep::Enter(*next))?;
         }
     }
     Ok(())
@@ -32,13 +32,13 @@ fn enter(
 /// One step: the node that it leaves, if any.
 fn take_step(
     links: &[Items<u32>],
-    step: Step,
+    step: NodeStep,
     seen: &mut [bool],
-    steps: &mut Vec<Step>,
+    steps: &mut Vec<NodeStep>,
 ) -> Result<Option<u32>, AllocError> {
     match step {
-        Step::Leave(node) => Ok(Some(node)),
-        Step::Enter(node) => {
+        NodeStep::Leave(node) => Ok(Some(node)),
+        NodeStep::Enter(node) => {
             if !is_marked(seen, node) {
                 enter(links, node, seen, steps)?;
             }
@@ -52,10 +52,10 @@ fn walk(
     links: &[Items<u32>],
     root: u32,
     seen: &mut [bool],
-    steps: &mut Vec<Step>,
+    steps: &mut Vec<NodeStep>,
     order: &mut Vec<u32>,
 ) -> Result<(), AllocError> {
-    steps.push(Step::Enter(root))?;
+    steps.push(NodeStep::Enter(root))?;
     for _turn in 0..u64::MAX {
         let Some(step) = steps.pop() else {
             return Ok(());

@@ -1,7 +1,7 @@
 // All nodes that a node reaches.
 ghost use Rattle.std.specs.Prelude.{◌≡◌, ◌<◌, ℕ, true, false, [], ◌∷◌, replicate, length, slice_index_or, IfOk, OnOk};
-ghost use Rattle.sg_graph.specs.Graph.{Reaches};
-ghost use Rattle.sg_graph.specs.Visits.{Visits};
+ghost use Rattle.sg_graph.specs.Graph.{ReachesNode};
+ghost use Rattle.sg_graph.specs.Visits.{VisitsNodes};
 
 use crate::row::{is_marked, mark, no_marks, row};
 use sqlite_items::Items;
@@ -10,7 +10,7 @@ use std::alloc::{AllocError, Global};
 /// Marks a node where it isn't marked yet, and puts it behind those that wait.
 pub fn visit_one(seen: &mut [bool], waiting: &mut Vec<u32>, node: u32) -> Result<(), AllocError>
     ensures { OnOk result
-        (Visits (node ∷ []) seen.old waiting.old.items seen.new waiting.new.items) }
+        (VisitsNodes (node ∷ []) seen.old waiting.old.items seen.new waiting.new.items) }
 {
     if !is_marked(seen, node) {
         mark(seen, node);
@@ -21,7 +21,7 @@ pub fn visit_one(seen: &mut [bool], waiting: &mut Vec<u32>, node: u32) -> Result
 
 /// The same with each of these.
 pub fn visit(seen: &mut [bool], waiting: &mut Vec<u32>, nodes: &[u32]) -> Result<(), AllocError>
-    ensures { OnOk result (Visits nodes.now seen.old waiting.old.items seen.new waiting.new.items) }
+    ensures { OnOk result (VisitsNodes nodes.now seen.old waiting.old.items seen.new waiting.new.items) }
 {
     for node in nodes {
         visit_one(seen, waiting, *node)?;
@@ -39,9 +39,9 @@ fn search(
     requires none { seen.old ≡ replicate (length links.now) false }
     requires one { waiting.old.items ≡ from ∷ [] }
     ensures found { OnOk result ((node : ℕ) → node < length links.now
-        → slice_index_or seen.new node true ≡ true → Reaches links.now from node) }
+        → slice_index_or seen.new node true ≡ true → ReachesNode links.now from node) }
     ensures all { OnOk result
-        ((node : ℕ) → Reaches links.now from node → slice_index_or seen.new node true ≡ true) }
+        ((node : ℕ) → ReachesNode links.now from node → slice_index_or seen.new node true ≡ true) }
 {
     while let Some(node) = waiting.pop() {
         visit(seen, waiting, row(links, node))?;
@@ -52,8 +52,8 @@ fn search(
 /// A mark at each node that this one reaches, itself where it names itself through others.
 pub fn reached(alloc: Global, links: &[Items<u32>], from: u32) -> Result<Vec<bool>, AllocError>
     ensures found { IfOk result (λ seen. (node : ℕ) → node < length links.now
-        → slice_index_or seen.items node true ≡ true → Reaches links.now from node) }
-    ensures all { IfOk result (λ seen. (node : ℕ) → Reaches links.now from node
+        → slice_index_or seen.items node true ≡ true → ReachesNode links.now from node) }
+    ensures all { IfOk result (λ seen. (node : ℕ) → ReachesNode links.now from node
         → slice_index_or seen.items node true ≡ true) }
 {
     let mut seen = no_marks(alloc, links.len())?;

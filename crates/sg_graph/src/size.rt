@@ -2,7 +2,7 @@
 ghost use Rattle.std.specs.Prelude.{◌≡◌, ◌<◌, ◌≤◌, ◌+◌, ◌^◌, ℕ, true, false, min, length, slice_index, slice_index_or, slice_set, replicate, IfOk, MatchBool, MatchOption};
 ghost use Rattle.std.specs.List.{Contains, sum_by};
 ghost use Rattle.sg_graph.specs.Graph.{row_of, HasNoCycle};
-ghost use Rattle.sg_graph.specs.Sizes.{size_of, AreSizes, IsReady, IsHeld};
+ghost use Rattle.sg_graph.specs.Sizes.{size_of, AreSizes, IsNodeReady, IsNodeHeld};
 ghost use Rattle.sg_graph.specs.Visits.{unseen};
 
 use crate::order::finishing_order;
@@ -55,7 +55,7 @@ fn are_marked(marks: &[bool], nodes: &[u32]) -> bool
 
 /// Whether a node's size isn't known, but the sizes of all that it names are.
 fn is_ready(links: &[Items<u32>], done: &[bool], node: u32) -> bool
-    ensures { MatchBool result (IsReady links.now done.now node) (IsHeld links.now done.now node) }
+    ensures { MatchBool result (IsNodeReady links.now done.now node) (IsNodeHeld links.now done.now node) }
 {
     if is_marked(done, node) {
         return false;
@@ -65,8 +65,8 @@ fn is_ready(links: &[Items<u32>], done: &[bool], node: u32) -> bool
 
 fn next_ready(links: &[Items<u32>], done: &[bool]) -> Option<u32>
     requires { length links.now < 2 ^ 32 }
-    ensures { MatchOption result ((i : ℕ) → i < length links.now → IsHeld links.now done.now i)
-        (IsReady links.now done.now) }
+    ensures { MatchOption result ((i : ℕ) → i < length links.now → IsNodeHeld links.now done.now i)
+        (IsNodeReady links.now done.now) }
 {
     for node in 0..links.len() {
         if is_ready(links, done, node as u32) {
@@ -85,7 +85,7 @@ fn settle(
     done: &mut [bool],
     sizes: &mut [u64],
 )
-    requires ready { IsReady links.now done.old node }
+    requires ready { IsNodeReady links.now done.old node }
     requires sized { length sizes.old ≡ length done.old }
     ensures known { AreSizes links.now own.now most done.old sizes.old
         → AreSizes links.now own.now most done.new sizes.new }

@@ -7,7 +7,7 @@ use Rattle.sg_report.specs.Fault.{name_at}
 use Rattle.sg_hint.specs.Lines.{numbered_line}
 use Rattle.sg_hint.specs.Spots.{IsSpot}
 use Rattle.sg_hint.specs.Text.{hint_text, IsAbove}
-use Rattle.sg_hint.specs.Hint.{HasForm, IsHintOf, Hints, HintsAgain, HintsOf}
+use Rattle.sg_hint.specs.Hint.{HasHintForm, IsHintOf, Hints, HintsAgain, HintsOf}
 use Rattle.sg_hint.specs.declared.written.Spotted.{Spotted}
 use Rattle.sg_hint.proofs.Under.{above}
 
@@ -17,7 +17,7 @@ all-above line (Some token) = above line (token.column - 1)
 
 pub hint-of : (read new : WorldState) (fault : ConfigFault) (names : List (List ℕ)) (content text line : List ℕ)
     (spotted : Option Spotted) → Some line ≡ numbered_line content fault.line → IsSpot read new fault names content spotted
-    → text ≡ hint_text fault names line spotted → HasForm fault names text → IsHintOf read new fault names content text
+    → text ≡ hint_text fault names line spotted → HasHintForm fault names text → IsHintOf read new fault names content text
 hint-of read new fault names content text line spotted stands spot is form = record {
   line = line;
   spotted = spotted;

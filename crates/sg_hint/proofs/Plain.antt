@@ -4,7 +4,7 @@ use Rattle.std.proofs.lemmas.Fmt.{decimal_by_steps, length-decimal-le}
 use Rattle.std.proofs.lemmas.List.{length-map, length-replicate}
 use Rattle.std.proofs.lemmas.List.Folds.{list_all-append}
 use Rattle.std.specs.List.{list_all}
-use Rattle.sg_hint.specs.Shown.{is_printable, is_told, shown_byte, IsTold}
+use Rattle.sg_hint.specs.Shown.{is_printable, is_told, shown_byte, IsTellable}
 
 and-true : (a b : Bool) → a ≡ true → b ≡ true → (a && b) ≡ true
 and-true a b e f = grind (arith, common_steps, e, f)
@@ -31,23 +31,23 @@ blanks-told (suc n) = blanks-told n
 
 -- ---- texts that may be told, and are no longer than so many bytes
 
-pub told-both : (a b : List ℕ) (m n most : ℕ) → IsTold m a → IsTold n b → m + n ≤ most → IsTold most (a ++ b)
+pub told-both : (a b : List ℕ) (m n most : ℕ) → IsTellable m a → IsTellable n b → m + n ≤ most → IsTellable most (a ++ b)
 told-both a b m n most h k le = (
   list_all-append is_told a b ∙ and-true (list_all is_told a) (list_all is_told b) h.0 k.0,
   (let sum = length-append a b in omega (arith, sum, h.1, k.1, le)),
 )
 
-pub told-bytes : (text : List ℕ) (most : ℕ) → length text ≤ most → IsTold most (map shown_byte text)
+pub told-bytes : (text : List ℕ) (most : ℕ) → length text ≤ most → IsTellable most (map shown_byte text)
 told-bytes text most le = (bytes-told text, (let same = length-map text shown_byte in omega (arith, same, le)))
 
-pub told-blanks : (count most : ℕ) → count ≤ most → IsTold most (replicate count 32)
+pub told-blanks : (count most : ℕ) → count ≤ most → IsTellable most (replicate count 32)
 told-blanks count most le = (blanks-told count, (let same = length-replicate {A = ℕ} count 32 in omega (arith, same, le)))
 
-pub told-decimal : (n : ℕ) → n < 2 ^ 32 → IsTold 10 (decimal n)
+pub told-decimal : (n : ℕ) → n < 2 ^ 32 → IsTellable 10 (decimal n)
 told-decimal n small = (
   decimal-told n (omega (arith, small)),
   length-decimal-le 10 n (omega arith) (omega (arith, small)) (omega (arith, small)),
 )
 
-pub told-more : (text : List ℕ) (less most : ℕ) → less ≤ most → IsTold less text → IsTold most text
+pub told-more : (text : List ℕ) (less most : ℕ) → less ≤ most → IsTellable less text → IsTellable most text
 told-more text less most le h = (h.0, (let few = h.1 in omega (arith, le, few)))

@@ -9,30 +9,30 @@ use Rattle.sg_config.specs.Means.{Means}
 use Rattle.sg_config.specs.declared.config.Config.{Config}
 use Rattle.sg_filter.specs.Patterns.{AreValid}
 use Rattle.sg_table.specs.Patterns.{patterns_in}
-use Rattle.sg_table.specs.Refused.{IsBounded, RefusesForest}
+use Rattle.sg_table.specs.Refused.{AreOffersBounded, RefusesForest}
 use Rattle.sg_tree.specs.Offers.{woods_of}
 use Rattle.sg_tree.specs.declared.refusal.PathRefusal.{PathRefusal}
 use Rattle.sg_hint.specs.Lines.{more}
 use Rattle.sg_hint.specs.Meanings.{name_of, IsNameOf}
-use Rattle.sg_hint.specs.Listed.{column_at, column_of, lines_of, numbered, IsAgain, IsCompiled, IsFirst, IsInList, IsListed, IsPathFault, IsPathsFirst, IsRefused, IsSpotOf, IsSpotted}
+use Rattle.sg_hint.specs.Listed.{column_at, column_of, lines_of, numbered, IsAgain, IsCompiled, IsFirstWrong, IsInList, IsListed, IsPathFault, IsPathsFirst, ArePathsRefused, IsSpotOf, IsSpotted}
 use Rattle.sg_hint.specs.declared.written.Spotted.{Spotted}
 use Rattle.sg_hint.proofs.Briefs.{name-is}
 
 -- ---- what is wrong with tokens
 
 pub compiled-by : {T : Type 0} (config : Config) (old new : WorldState) (result : Result T PathRefusal)
-    → IfOk result (λ _. AreValid (patterns_in config.forest)) → IfOk result (λ _. IsBounded (woods_of config.forest).tops)
+    → IfOk result (λ _. AreValid (patterns_in config.forest)) → IfOk result (λ _. AreOffersBounded (woods_of config.forest).tops)
     → IfErr result (λ refusal. RefusesForest old new config.forest refusal) → IsCompiled config (result_err result)
 compiled-by config old new (Ok table) valid bound h = (valid, bound)
 compiled-by config old new (Err refusal) valid bound h = record { old = old; new = new; refuses = h }
 
-pub paths-refused : (config : Config) (refusal : PathRefusal) (fault : ConfigFault) → IsRefused config refusal
+pub paths-refused : (config : Config) (refusal : PathRefusal) (fault : ConfigFault) → ArePathsRefused config refusal
     → IsPathFault refusal fault → IsPathsFirst config (Some fault)
 paths-refused config refusal fault refused is = record { refusal = refusal; refused = refused; is = is }
 
 -- the fault of the log paths is one of the tokens
 pub first-of-paths : {E : Type 0} (tokens : List Token) (config : Config) (result : Result (Option ConfigFault) E)
-    → Means tokens config → IfOk result (λ fault. IsPathsFirst config fault) → IfOk result (λ fault. IsFirst tokens fault)
+    → Means tokens config → IfOk result (λ fault. IsPathsFirst config fault) → IfOk result (λ fault. IsFirstWrong tokens fault)
 first-of-paths tokens config (Ok None) means h = (config, (means, h))
 first-of-paths tokens config (Ok (Some fault)) means h = inr (config, (means, h))
 first-of-paths tokens config (Err e) means h = tt
@@ -83,7 +83,7 @@ spot-found tokens column fault again (Ok spotted) is h = inl (is, h)
 spot-found tokens column fault again (Err e) is h = tt
 
 pub in-list : {E : Type 0} (tokens : List Token) (column : ℕ → Option ℕ) (fault : ConfigFault) (first : Option ConfigFault)
-    (result : Result (Option Spotted) E) → IsFirst tokens first
+    (result : Result (Option Spotted) E) → IsFirstWrong tokens first
     → IfOk result (λ spotted. IsSpotOf tokens column fault first spotted)
     → IfOk result (λ spotted. IsInList tokens column fault spotted)
 in-list tokens column fault first (Ok spotted) wrong h = record { first = first; wrong = wrong; spot = h }

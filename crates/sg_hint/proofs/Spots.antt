@@ -11,13 +11,13 @@ use Rattle.sg_expand.specs.declared.fault.ExpandRefusal.TheVariants.{Bad, ReadFa
 use Rattle.sg_report.specs.Fault.{name_at}
 use Rattle.sg_hint.specs.Expansions.{column_by}
 use Rattle.sg_hint.specs.Listed.{column_of, numbered, IsInList, IsListed, IsSpotOf, IsSpotted}
-use Rattle.sg_hint.specs.Spots.{plain_spot, IsSpot, IsStopped, IsUnread, Spots, SpotsAgain, SpotsBy}
+use Rattle.sg_hint.specs.Spots.{plain_spot, IsSpot, IsStoppedExpansion, FailsToRead, Spots, SpotsAgain, SpotsBy}
 use Rattle.sg_hint.specs.declared.written.Spotted.{Spotted}
-use Rattle.sg_hint.proofs.Briefs.{IsShort, name-short}
+use Rattle.sg_hint.proofs.Briefs.{IsShortText, name-short}
 
 pub stopped-by : (fault again : ConfigFault) (text : List ℕ) (column : Option ℕ) (spotted : Option Spotted) → again ≡ fault
     → column ≡ column_by fault text (tokens_of fault.file text) → spotted ≡ option_map plain_spot column
-    → IsStopped fault again text spotted
+    → IsStoppedExpansion fault again text spotted
 stopped-by fault again text column spotted same found is = inl (same, is ∙ ap (option_map plain_spot) found)
 
 pub spots-again : {E : Type 0} (old new : WorldState) (name main : List ℕ) (fault : ConfigFault) (text : List ℕ)
@@ -38,7 +38,7 @@ spots-main read start new fault names text main (Err e) content reads h = tt
 -- ---- what was meant isn't long
 
 abbrev pub IsBrief : Option Spotted → Type 0
-IsBrief spotted = IfSome spotted (λ token. IsShort token.meant)
+IsBrief spotted = IfSome spotted (λ token. IsShortText token.meant)
 
 none-brief : (spotted : Option Spotted) → spotted ≡ None → IsBrief spotted
 none-brief spotted e = subst IsBrief (sym e) tt
@@ -59,7 +59,7 @@ spot-brief tokens column fault None spotted h = none-brief spotted h
 spot-brief tokens column fault (Some again) spotted (inl (is, h)) = spotted-brief fault tokens _ _ spotted h
 spot-brief tokens column fault (Some again) spotted (inr (not, none)) = none-brief spotted none
 
-stopped-brief : (fault again : ConfigFault) (text : List ℕ) (spotted : Option Spotted) → IsStopped fault again text spotted
+stopped-brief : (fault again : ConfigFault) (text : List ℕ) (spotted : Option Spotted) → IsStoppedExpansion fault again text spotted
     → IsBrief spotted
 stopped-brief fault again text spotted (inl (same, is)) =
     subst IsBrief (sym is) (plain-brief (column_by fault text (tokens_of fault.file text)))

@@ -11,7 +11,7 @@ use Rattle.sg_lex.specs.declared.token.TokenKind.{TokenKind}
 use Rattle.sg_lex.specs.declared.token.TokenKind.TheVariants.{Str, At, Tick}
 use Rattle.sg_parse_base.specs.Tokens.{is_word}
 use Rattle.sg_hint.specs.Lines.{behind_bytes, first_place}
-use Rattle.sg_hint.specs.declared.line.Place.{Place}
+use Rattle.sg_hint.specs.declared.line.TextPlace.{TextPlace}
 
 -- A variable is in backticks, alone or within a string.
 abbrev pub has_variable : TokenKind → List ℕ → Bool
@@ -54,7 +54,7 @@ only (column ∷ []) = Some column
 only (column ∷ another ∷ columns) = None
 
 -- the column of a place, if it is in this line
-abbrev pub column_in : ℕ → Place → Option ℕ
+abbrev pub column_in : ℕ → TextPlace → Option ℕ
 column_in line place = if place.line == line then Some place.column else None
 
 -- The column of the fault, by the tokens of its file: that of the only token at which it can stand, or of the byte at which

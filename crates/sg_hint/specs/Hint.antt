@@ -7,12 +7,12 @@ use Rattle.sg_outside.specs.World.{WorldState, OnlyReads, IsContent}
 use Rattle.sg_report.specs.Fault.{name_at}
 use Rattle.sg_hint.specs.Lines.{numbered_line}
 use Rattle.sg_hint.specs.Shown.{is_told}
-use Rattle.sg_hint.specs.Spots.{IsSpot, IsUnread}
+use Rattle.sg_hint.specs.Spots.{IsSpot, FailsToRead}
 use Rattle.sg_hint.specs.Text.{place_text, hint_text, IsAbove}
 use Rattle.sg_hint.specs.declared.written.Spotted.{Spotted}
 
 -- The text begins with the fault's file and line, and has at most so many bytes behind them. All of it is printable, or an LF.
-pub record HasForm (fault : ConfigFault) (names : List (List ℕ)) (text : List ℕ) : Type 0 where
+pub record HasHintForm (fault : ConfigFault) (names : List (List ℕ)) (text : List ℕ) : Type 0 where
   pub begins : (rest : List ℕ) × ((text ≡ place_text fault names ++ rest) × (length rest ≤ 400))
   pub plain : list_all is_told text ≡ true
 
@@ -25,7 +25,7 @@ pub record IsHintOf (read new : WorldState) (fault : ConfigFault) (names : List 
   pub spot : IsSpot read new fault names content spotted
   pub above : IfSome spotted (λ token. IsAbove line (token.column - 1))
   pub is : text ≡ hint_text fault names line spotted
-  pub form : HasForm fault names text
+  pub form : HasHintForm fault names text
 
 -- there is a hint, or no such line
 abbrev pub HintsOf : WorldState → WorldState → ConfigFault → List (List ℕ) → List ℕ
@@ -45,4 +45,4 @@ pub record HintsAgain (old new : WorldState) (fault : ConfigFault) (names : List
 abbrev pub Hints : WorldState → WorldState → ConfigFault → List (List ℕ) → Option (Vec ℕ Global)
     → Type 0
 Hints old new fault names text = HintsAgain old new fault names text
-    ⊎ ((text ≡ None) × ((length names ≤ fault.file) ⊎ IsUnread old new (name_at names fault.file)))
+    ⊎ ((text ≡ None) × ((length names ≤ fault.file) ⊎ FailsToRead old new (name_at names fault.file)))

@@ -3,6 +3,7 @@ pub mod Lines
 pub mod Nearest
 pub mod Nearer
 pub mod Names
+pub mod Contexts
 pub mod Words
 pub mod Text
 pub mod Meanings

@@ -6,11 +6,11 @@ use Rattle.sg_lex.specs.declared.fault.ConfigKind.{ConfigKind}
 use Rattle.sg_lex.specs.declared.fault.ConfigKind.TheVariants as kind
 use Rattle.sg_lex.specs.declared.place.Line.{Line}
 use Rattle.sg_lex.specs.declared.token.Token.{Token}
-use Rattle.sg_config.specs.Means.{Means, IsFirstFault}
+use Rattle.sg_config.specs.Means.{Means, IsFaultOfTokens}
 use Rattle.sg_config.specs.declared.config.Config.{Config}
 use Rattle.sg_filter.specs.Patterns.{AreValid}
 use Rattle.sg_table.specs.Patterns.{patterns_in}
-use Rattle.sg_table.specs.Refused.{IsBounded, RefusesForest}
+use Rattle.sg_table.specs.Refused.{AreOffersBounded, RefusesForest}
 use Rattle.sg_tree.specs.Offers.{woods_of}
 use Rattle.sg_tree.specs.declared.refusal.PathRefusal.{PathRefusal}
 use Rattle.sg_tree.specs.declared.refusal.PathRefusal.TheVariants.{BadPattern, PatternTooLarge, TooManyOffers, NoMemory}
@@ -31,7 +31,7 @@ IsPathFault (TooManyOffers line) fault = fault ≡ fault_of kind.TooManyOffers l
 IsPathFault NoMemory fault = ⊥
 
 -- The log paths of a configuration are refused.
-pub record IsRefused (config : Config) (refusal : PathRefusal) : Type 0 where
+pub record ArePathsRefused (config : Config) (refusal : PathRefusal) : Type 0 where
   pub old : WorldState
   pub new : WorldState
   pub refuses : RefusesForest old new config.forest refusal
@@ -39,24 +39,24 @@ pub record IsRefused (config : Config) (refusal : PathRefusal) : Type 0 where
 -- They can be compiled, or are refused.
 abbrev pub IsCompiled : Config → Option PathRefusal → Type 0
 IsCompiled config None = AreValid (patterns_in config.forest)
-    × IsBounded (woods_of config.forest).tops
-IsCompiled config (Some refusal) = IsRefused config refusal
+    × AreOffersBounded (woods_of config.forest).tops
+IsCompiled config (Some refusal) = ArePathsRefused config refusal
 
 -- the fault of a configuration whose log paths are refused
-pub record IsUncompiled (config : Config) (fault : ConfigFault) : Type 0 where
+pub record IsUncompiledConfig (config : Config) (fault : ConfigFault) : Type 0 where
   pub refusal : PathRefusal
-  pub refused : IsRefused config refusal
+  pub refused : ArePathsRefused config refusal
   pub is : IsPathFault refusal fault
 
 -- what is wrong with log paths, if anything is
 abbrev pub IsPathsFirst : Config → Option ConfigFault → Type 0
 IsPathsFirst config None = IsCompiled config None
-IsPathsFirst config (Some fault) = IsUncompiled config fault
+IsPathsFirst config (Some fault) = IsUncompiledConfig config fault
 
 -- What is wrong with tokens first, if anything is: they mean no configuration, or one whose log paths are refused.
-abbrev pub IsFirst : List Token → Option ConfigFault → Type 0
-IsFirst tokens None = (config : Config) × (Means tokens config × IsPathsFirst config None)
-IsFirst tokens (Some fault) = IsFirstFault tokens fault
+abbrev pub IsFirstWrong : List Token → Option ConfigFault → Type 0
+IsFirstWrong tokens None = (config : Config) × (Means tokens config × IsPathsFirst config None)
+IsFirstWrong tokens (Some fault) = IsFaultOfTokens tokens fault
     ⊎ ((config : Config) × (Means tokens config × IsPathsFirst config (Some fault)))
 
 -- ---- where it stands
@@ -95,7 +95,7 @@ IsSpotOf tokens column fault (Some again) spotted = (IsAgain fault again
 
 pub record IsInList (tokens : List Token) (column : ℕ → Option ℕ) (fault : ConfigFault) (spotted : Option Spotted) : Type 0 where
   pub first : Option ConfigFault
-  pub wrong : IsFirst tokens first
+  pub wrong : IsFirstWrong tokens first
   pub spot : IsSpotOf tokens column fault first spotted
 
 -- The token of the fault among the tokens of an expansion: the one at whose place the same fault stands in the numbered list,

@@ -15,5 +15,5 @@ abbrev pub is_told : ℕ → Bool
 is_told byte = (byte == 10) || is_printable byte
 
 -- all of a text may be told, and it has at most so many bytes
-abbrev pub IsTold : ℕ → List ℕ → Type 0
-IsTold most text = (list_all is_told text ≡ true) × (length text ≤ most)
+abbrev pub IsTellable : ℕ → List ℕ → Type 0
+IsTellable most text = (list_all is_told text ≡ true) × (length text ≤ most)

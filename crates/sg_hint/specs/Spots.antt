@@ -2,7 +2,7 @@
 use Rattle.std.specs.Prelude.{◌≡◌, ◌⊎◌, ℕ, List, Option, Some, None, Result, Ok, Err, Vec, option_map}
 use Rattle.std.specs.declared.alloc.Global.{Global}
 use Rattle.sg_device.specs.declared.fault.FileRefusal.TheVariants.{Failed, TooLong}
-use Rattle.sg_outside.specs.World.{WorldState, OnlyReads, IsContent, Reads}
+use Rattle.sg_outside.specs.World.{WorldState, OnlyReads, IsContent, ReadsFile}
 use Rattle.sg_lex.specs.Tokens.{tokens_of}
 use Rattle.sg_lex.specs.declared.fault.ConfigFault.{ConfigFault}
 use Rattle.sg_expand.specs.Expansion.{IsExpanded}
@@ -15,29 +15,29 @@ use Rattle.sg_hint.specs.Listed.{IsListed}
 use Rattle.sg_hint.specs.declared.written.Spotted.{Spotted}
 
 -- The file isn't read: its reading fails, or it is too long.
-abbrev pub IsUnread : WorldState → WorldState → List ℕ → Type 0
-IsUnread old new name = Reads old new name 1048576 (Err Failed)
-    ⊎ Reads old new name 1048576 (Err TooLong)
+abbrev pub FailsToRead : WorldState → WorldState → List ℕ → Type 0
+FailsToRead old new name = ReadsFile old new name 1048576 (Err Failed)
+    ⊎ ReadsFile old new name 1048576 (Err TooLong)
 
 -- what a file holds, if it is read
-abbrev pub IsReading : WorldState → WorldState → List ℕ → Option (Vec ℕ Global) → Type 0
-IsReading old new name None = IsUnread old new name
-IsReading old new name (Some text) = IsContent old.files name text.items
+abbrev pub IsFileReading : WorldState → WorldState → List ℕ → Option (Vec ℕ Global) → Type 0
+IsFileReading old new name None = FailsToRead old new name
+IsFileReading old new name (Some text) = IsContent old.files name text.items
 
 -- a token by which nothing may have been meant
 abbrev pub plain_spot : ℕ → Spotted
 plain_spot column = record { column = column; meant = None }
 
 -- the token in that text of the fault's file, where the same fault stops the expansion
-abbrev pub IsStopped : ConfigFault → ConfigFault → List ℕ → Option Spotted → Type 0
-IsStopped fault again text spotted = ((again ≡ fault)
+abbrev pub IsStoppedExpansion : ConfigFault → ConfigFault → List ℕ → Option Spotted → Type 0
+IsStoppedExpansion fault again text spotted = ((again ≡ fault)
     × (spotted ≡ option_map plain_spot (column_by fault text (tokens_of fault.file text))))
     ⊎ ((again ≡ fault → ⊥) × (spotted ≡ None))
 
 -- the token by what the configuration is expanded to now
 abbrev pub SpotsBy : ConfigFault → List ℕ → Result Expanded ExpandRefusal → Option Spotted → Type 0
 SpotsBy fault text (Ok expanded) spotted = IsListed expanded.tokens fault spotted
-SpotsBy fault text (Err (Bad again names)) spotted = IsStopped fault again text spotted
+SpotsBy fault text (Err (Bad again names)) spotted = IsStoppedExpansion fault again text spotted
 SpotsBy fault text (Err (ReadFault name)) spotted = spotted ≡ None
 SpotsBy fault text (Err NoMemory) spotted = ⊥
 
@@ -57,5 +57,5 @@ pub record Spots (read new : WorldState) (fault : ConfigFault) (names : List (Li
 -- the token of the fault, with that text of its file; none where the main file can't be read again
 abbrev pub IsSpot : WorldState → WorldState → ConfigFault → List (List ℕ) → List ℕ
     → Option Spotted → Type 0
-IsSpot read new fault names text spotted = (IsUnread read new (name_at names 0)
+IsSpot read new fault names text spotted = (FailsToRead read new (name_at names 0)
     × (spotted ≡ None)) ⊎ Spots read new fault names text spotted

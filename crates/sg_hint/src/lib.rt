@@ -2,6 +2,8 @@
 //! meant.
 #![tactic(auto)]
 
+mod context;
+mod fitting;
 mod line;
 mod listed;
 mod names;
@@ -13,4 +15,12 @@ mod telling;
 mod words;
 mod written;
 
+pub use line::line_of;
+pub use listed::{Numbered, fault_again, number_tokens};
+pub use nearest::{Near, meant, nearer};
+pub use shown::append_shown;
+pub use spot::{expand_again, read};
 pub use telling::{hint, tell_hint};
+pub use written::{
+    Spotted, append_caret, append_line, append_number, hidden_before, name_at, write_hint,
+};

@@ -6,19 +6,19 @@ ghost use Rattle.sg_hint.specs.Lines.{behind_bytes, first_place, numbered_line};
 
 /// A place in a text: its line and the byte of that line, both counted from 1.
 #[derive(Clone, Copy, Debug, PartialEq, Eq, Drop)]
-pub struct Place {
+pub struct TextPlace {
     pub line: u32,
     pub column: u32,
 }
 
 /// The place behind these bytes.
-pub fn place_behind(text: &[u8]) -> Place
+pub fn place_behind(text: &[u8]) -> TextPlace
     ensures { result ≡ behind_bytes first_place text.now }
 {
-    let mut place = Place { line: 1, column: 1 };
+    let mut place = TextPlace { line: 1, column: 1 };
     for byte in text {
         if *byte == b'\n' {
-            place = Place {
+            place = TextPlace {
                 line: place.line.saturating_add(1),
                 column: 1,
             };

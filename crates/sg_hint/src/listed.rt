@@ -1,11 +1,12 @@
 // The token of a fault behind the expansion.
 ghost use Rattle.std.specs.Prelude.{◌≡◌, ◌++◌, ◌∷◌, [], ◌<◌, ◌^◌, length, IfOk, OnOk, Some, option_copied, slice_get, Decides};
 ghost use Rattle.sg_hint.specs.Lines.{more};
-ghost use Rattle.sg_hint.specs.Meanings.{name_of, word_of};
-ghost use Rattle.sg_hint.specs.Listed.{column_at, fault_of, lines_of, listed_column, numbered, IsAgain, IsCompiled, IsFirst, IsInList, IsListed, IsPathFault, IsPathsFirst, IsSpotOf, IsSpotted};
+ghost use Rattle.sg_hint.specs.Meanings.{name_in, name_of, word_of};
+ghost use Rattle.sg_hint.specs.Listed.{column_at, fault_of, lines_of, listed_column, numbered, IsAgain, IsCompiled, IsFirstWrong, IsInList, IsListed, IsPathFault, IsPathsFirst, IsSpotOf, IsSpotted};
 
+use crate::context::{Context, context_of};
+use crate::fitting::fitting_meant;
 use crate::names::{name_meant, token_at};
-use crate::words::word_meant;
 use crate::written::Spotted;
 use sg_config::{Config, LoadRefusal, load};
 use sg_device::{Name, NoMemory};
@@ -18,11 +19,12 @@ use std::alloc::{AllocError, Global};
 
 /// Expanded tokens, each with its place in the list, from 1 on, as its line.
 #[derive(Drop)]
-struct Numbered {
-    tokens: Vec<Token>,
+pub struct Numbered {
+    pub tokens: Vec<Token>,
     /// The lines in the files.
-    lines: Vec<u32>,
-    count: u32,
+    pub lines: Vec<u32>,
+    /// How many there are.
+    pub count: u32,
 }
 
 impl Numbered {
@@ -46,7 +48,8 @@ impl Numbered {
     }
 }
 
-fn number_tokens(alloc: Global, tokens: Vec<Token>) -> Result<Numbered, NoMemory>
+/// These tokens, numbered.
+pub fn number_tokens(alloc: Global, tokens: Vec<Token>) -> Result<Numbered, NoMemory>
     ensures tokens { IfOk result (λ list. list.tokens.items ≡ numbered 0 tokens.items) }
     ensures lines { IfOk result (λ list. list.lines.items ≡ lines_of tokens.items) }
 {
@@ -102,9 +105,9 @@ fn path_fault(alloc: Global, config: &Config) -> Result<Option<ConfigFault>, NoM
 }
 
 /// What is wrong with these tokens first, if anything is.
-fn fault_again(alloc: Global, tokens: &[Token]) -> Result<Option<ConfigFault>, NoMemory>
+pub fn fault_again(alloc: Global, tokens: &[Token]) -> Result<Option<ConfigFault>, NoMemory>
     requires { length tokens.now < 2 ^ 32 }
-    ensures { IfOk result (λ fault. IsFirst tokens.now fault) }
+    ensures { IfOk result (λ fault. IsFirstWrong tokens.now fault) }
 {
     match load(alloc, tokens) {
         Ok(config) => path_fault(alloc, &config),
@@ -139,13 +142,13 @@ pub fn is_same(fault: &ConfigFault, other: &ConfigFault) -> bool
     is_kind(fault.kind, other.kind)
 }
 
-/// The word of the language that was meant by the token, if it is a word.
-fn word_of(token: Option<&Token>) -> Option<&'static [u8]>
-    ensures { option_copied result ≡ word_of (option_copied token.entry) }
+/// The word of those that fit its place that was meant by the token, if it is a word.
+fn word_of(context: Context, token: Option<&Token>) -> Option<&'static [u8]>
+    ensures { option_copied result ≡ word_of context (option_copied token.entry) }
 {
     match token {
         Some(token) => if is_word(token) {
-            word_meant(token.text.bytes())
+            fitting_meant(context, token.text.bytes())
         } else {
             None
         },
@@ -154,12 +157,18 @@ fn word_of(token: Option<&Token>) -> Option<&'static [u8]>
 }
 
 /// What was meant by the token of this place.
-fn name_of<'a>(kind: ConfigKind, tokens: &'a [Token], at: usize) -> Option<&'a [u8]>
-    ensures { option_copied result ≡ name_of kind tokens.now at }
+fn name_in<'a>(
+    kind: ConfigKind,
+    context: Context,
+    tokens: &'a [Token],
+    at: usize,
+) -> Option<&'a [u8]>
+    ensures { option_copied result ≡ name_in kind context tokens.now at }
 {
     match kind {
         ConfigKind::UnknownName => name_meant(tokens, at),
-        ConfigKind::Unsupported => word_of(token_at(tokens, at)),
+        ConfigKind::Unsupported => word_of(context, token_at(tokens, at)),
+        ConfigKind::Unexpected => word_of(context, token_at(tokens, at)),
         _ => None,
     }
 }
@@ -172,7 +181,8 @@ fn meant(
 ) -> Result<Option<Name>, NoMemory>
     ensures { IfOk result (λ meant. meant ≡ name_of kind tokens.now at) }
 {
-    match name_of(kind, tokens, at) {
+    let context = context_of(alloc, tokens, at)?;
+    match name_in(kind, context, tokens, at) {
         Some(name) => Ok(Some(Name::new(alloc, name)?)),
         None => Ok(None),
     }

@@ -3,7 +3,7 @@ ghost use Rattle.std.specs.Prelude.{◌≡◌, ◌≤◌, ◌<◌, ◌^◌, leng
 ghost use Rattle.sg_outside.specs.World.{OnlyReads, IsContent};
 ghost use Rattle.sg_expand.specs.Expansion.{IsExpanded};
 ghost use Rattle.sg_report.specs.Fault.{name_at};
-ghost use Rattle.sg_hint.specs.Spots.{plain_spot, IsReading, IsSpot, IsStopped, SpotsAgain, SpotsBy};
+ghost use Rattle.sg_hint.specs.Spots.{plain_spot, IsFileReading, IsSpot, IsStoppedExpansion, SpotsAgain, SpotsBy};
 ghost use Rattle.sg_hint.specs.Listed.{IsListed};
 
 use crate::listed::{is_same, listed_spot};
@@ -47,7 +47,7 @@ fn stopped_spot(
     text: &[u8],
 ) -> Result<Option<Spotted>, NoMemory>
     requires { length text.now ≤ TEXT_LIMIT }
-    ensures { IfOk result (λ spotted. IsStopped fault.now again.now text.now spotted) }
+    ensures { IfOk result (λ spotted. IsStoppedExpansion fault.now again.now text.now spotted) }
 {
     if !is_same(again, fault) {
         return Ok(None);
@@ -76,7 +76,7 @@ fn refused_spot(
 }
 
 /// The expansion of the main file of this name and text again.
-fn expand_again<F: Files>(
+pub fn expand_again<F: Files>(
     alloc: Global,
     files: &mut F,
     name: &[u8],
@@ -120,7 +120,7 @@ pub fn read<F: Files>(
     name: &[u8],
 ) -> Result<Option<Vec<u8>>, NoMemory>
     ensures is { IfOk result
-        (λ text. IsReading (F.state files.old) (F.state files.new) name.now text) }
+        (λ text. IsFileReading (F.state files.old) (F.state files.new) name.now text) }
     ensures short { IfOk result (λ text. IfSome text (λ bytes. length bytes.items ≤ TEXT_LIMIT)) }
     ensures only { OnlyReads (F.state files.old) (F.state files.new) }
 {
@@ -148,7 +148,7 @@ fn main_text<F: Files>(
 ) -> Result<Option<Vec<u8>>, NoMemory>
     requires { IsContent (F.state files.old).files (name_at names.now fault.now.file) text.now }
     ensures is { IfOk result (λ main.
-        IsReading (F.state files.old) (F.state files.new) (name_at names.now 0) main) }
+        IsFileReading (F.state files.old) (F.state files.new) (name_at names.now 0) main) }
     ensures only { OnlyReads (F.state files.old) (F.state files.new) }
 {
     if fault.file == 0 {

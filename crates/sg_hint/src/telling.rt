@@ -6,7 +6,7 @@ ghost use Rattle.sg_hint.specs.Hint.{Hints, HintsOf};
 
 use crate::line::line_of;
 use crate::spot::{read, spot};
-use crate::written::{name_at, written};
+use crate::written::{name_at, write_hint};
 use sg_device::{Name, NoMemory};
 use sg_lex::{ConfigFault, TEXT_LIMIT};
 use sg_outside::Files;
@@ -31,7 +31,7 @@ fn text_hint<F: Files>(
         return Ok(None);
     };
     let spotted = spot(alloc, files, fault, names, text)?;
-    Ok(Some(written(alloc, fault, names, line, &spotted)?))
+    Ok(Some(write_hint(alloc, fault, names, line, &spotted)?))
 }
 
 /// A hint beside the fault of a configuration: its file and line, and the column of its token where that is

@@ -1,7 +1,7 @@
 // The text of a hint.
 ghost use Rattle.std.specs.Prelude.{◌≡◌, ◌++◌, ◌≤◌, ◌<◌, ◌^◌, IfOk, IfSome, OnOk, Some, codes, decimal, drop, length, replicate};
 ghost use Rattle.sg_report.specs.Fault.{name_at};
-ghost use Rattle.sg_hint.specs.Hint.{HasForm};
+ghost use Rattle.sg_hint.specs.Hint.{HasHintForm};
 ghost use Rattle.sg_hint.specs.Text.{behind_place, caret, excerpt, hidden_before, hint_text, kind_line, place_text, shown_part, suggestion};
 
 use crate::shown::append_shown;
@@ -32,7 +32,7 @@ pub fn name_at(names: &[Name], file: u32) -> &[u8]
 }
 
 /// Appends a number, as it stands behind the file's name: `:N`.
-fn append_number(alloc: Global, number: u32, out: &mut Vec<u8>) -> Result<(), NoMemory>
+pub fn append_number(alloc: Global, number: u32, out: &mut Vec<u8>) -> Result<(), NoMemory>
     ensures is { OnOk result (out.new.items ≡ out.old.items ++ (codes ":" ++ decimal number)) }
     ensures small { number < 2 ^ 32 }
 {
@@ -75,7 +75,7 @@ fn append_kind(alloc: Global, fault: &ConfigFault, out: &mut Vec<u8>) -> Result<
 }
 
 /// How many bytes of a line of that length stand before what is shown, with the token at this byte of it.
-fn hidden_before(total: usize, at: usize) -> usize
+pub fn hidden_before(total: usize, at: usize) -> usize
     ensures { result ≡ hidden_before total at }
 {
     if total <= WIDTH {
@@ -95,7 +95,8 @@ fn shown_part(line: &[u8], hidden: usize) -> &[u8]
     &rest[..WIDTH]
 }
 
-fn append_line(line: &[u8], hidden: usize, out: &mut Vec<u8>) -> Result<(), NoMemory>
+/// Appends what is shown of a line behind so many of its bytes.
+pub fn append_line(line: &[u8], hidden: usize, out: &mut Vec<u8>) -> Result<(), NoMemory>
     ensures { OnOk result (out.new.items ≡ out.old.items ++ excerpt line.now hidden) }
 {
     out.extend_from_slice(b"    ")?;
@@ -138,7 +139,8 @@ fn append_suggestion(meant: &Option<Name>, out: &mut Vec<u8>) -> Result<(), NoMe
     Ok(())
 }
 
-fn append_caret(before: usize, meant: &Option<Name>, out: &mut Vec<u8>) -> Result<(), NoMemory>
+/// Appends a caret below what is shown, behind so many blanks, and what may have been meant.
+pub fn append_caret(before: usize, meant: &Option<Name>, out: &mut Vec<u8>) -> Result<(), NoMemory>
     ensures { OnOk result (out.new.items ≡ out.old.items ++ caret before meant.now) }
 {
     out.extend_from_slice(b"    ")?;
@@ -191,7 +193,7 @@ fn behind_place(
 }
 
 /// The hint of a fault at that line of its file.
-pub fn written(
+pub fn write_hint(
     alloc: Global,
     fault: &ConfigFault,
     names: &[Name],
@@ -199,7 +201,7 @@ pub fn written(
     spotted: &Option<Spotted>,
 ) -> Result<Vec<u8>, NoMemory>
     requires { IfSome spotted.now (λ token. IfSome token.meant (λ name. length name ≤ 64)) }
-    ensures form { IfOk result (λ text. HasForm fault.now names.now text.items) }
+    ensures form { IfOk result (λ text. HasHintForm fault.now names.now text.items) }
     ensures is { IfOk result
         (λ text. text.items ≡ hint_text fault.now names.now line.now spotted.now) }
 {

@@ -11,11 +11,11 @@ use Rattle.sg_host.specs.Cells.{inlet_states}
 use Rattle.sg_host.specs.Marked.{marked_of}
 use Rattle.sg_host.specs.declared.inlets.HostFeed.{HostFeed}
 use Rattle.sg_host.specs.declared.inlets.HostInlets.{HostInlets}
-use Rattle.sg_host.specs.declared.inlets.OpenedInlet.{OpenedInlet}
-use Rattle.sg_host.specs.declared.inlets.Source.{Source}
-use Rattle.sg_host.specs.declared.inlets.Source.TheVariants.{File, Slot}
+use Rattle.sg_host.specs.declared.inlets.HostOpenedInlet.{HostOpenedInlet}
+use Rattle.sg_host.specs.declared.inlets.InletDevice.{InletDevice}
+use Rattle.sg_host.specs.declared.inlets.InletDevice.TheVariants.{File, Slot}
 
-abbrev pub source_of : Source → InletState
+abbrev pub source_of : InletDevice → InletState
 source_of (File marked) = marked_of marked
 source_of (Slot slot) = slot_of slot
 
@@ -23,7 +23,7 @@ abbrev pub feed_of : HostFeed → InletState
 feed_of feed = source_of feed.source
 
 -- an inlet at its opening
-abbrev pub opened_inlet : OpenedInlet → Opened InletSpec InletState
+abbrev pub opened_inlet : HostOpenedInlet → Opened InletSpec InletState
 opened_inlet opened = record { spec = opened.spec; state = inlet_state opened.counts }
 
 -- those opened and those closed
@@ -31,8 +31,8 @@ abbrev pub inlets_of : HostInlets → Ledger InletSpec InletState
 inlets_of inlets = record { opened = map opened_inlet inlets.opened.items; closed = inlet_states inlets.closed }
 
 -- it stands at its place, and nothing was given yet
-abbrev pub IsOpenedFor : InletSpec → ℕ → InletState → Type 0
-IsOpenedFor spec from inlet = IsFresh inlet × StandsIn None spec from inlet
+abbrev pub IsHostOpenedFor : InletSpec → ℕ → InletState → Type 0
+IsHostOpenedFor spec from inlet = IsFresh inlet × StandsIn None spec from inlet
 
 -- the inlet stands at its place, and nothing was given yet
 abbrev pub InletsOpen : HostInlets → HostInlets → InletSpec → ℕ → InletState → ℕ → Type 0

@@ -1,6 +1,6 @@
 -- The outlets that a real machine opens and closes.
 use Rattle.std.specs.Prelude.{map}
-use Rattle.sg_device.specs.Outlet.{OutletState, IsNew}
+use Rattle.sg_device.specs.Outlet.{OutletState, IsUnusedOutlet}
 use Rattle.sg_outside.specs.World.{Ledger, Opened}
 use Rattle.sg_device.specs.declared.fault.OpenRefusal.{OpenRefusal}
 use Rattle.sg_outside.specs.declared.request.OutletSpec.{OutletSpec}
@@ -33,7 +33,7 @@ module _ {T : Type 0} where
   -- the outlet took nothing yet
   abbrev pub OutletsOpen : HostOutlets T → HostOutlets T → OutletSpec → OutletState → Type 0
   OutletsOpen old new spec drain =
-      LedgerOpens (outlets_of old) (outlets_of new) old.faults new.faults spec drain × IsNew drain
+      LedgerOpens (outlets_of old) (outlets_of new) old.faults new.faults spec drain × IsUnusedOutlet drain
 
   abbrev pub OutletsRefuse : HostOutlets T → HostOutlets T → OpenRefusal → Type 0
   OutletsRefuse old new refusal = LedgerRefuses (outlets_of old) (outlets_of new) old.faults

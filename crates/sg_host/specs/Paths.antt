@@ -22,8 +22,8 @@ abbrev pub paths_of : HostPaths → Ledger OutletSpec PathsState
 paths_of paths = record { opened = map opened_paths paths.opened.items; closed = paths_states paths.closed }
 
 -- the opener has opened nothing yet
-abbrev pub PathsOpen : HostPaths → HostPaths → OutletSpec → PathsState → Type 0
-PathsOpen old new spec opener =
+abbrev pub HostPathsOpen : HostPaths → HostPaths → OutletSpec → PathsState → Type 0
+HostPathsOpen old new spec opener =
     LedgerOpens (paths_of old) (paths_of new) old.faults new.faults spec opener × IsNewOpener opener
 
 abbrev pub PathsRefuse : HostPaths → HostPaths → OpenRefusal → Type 0

@@ -21,10 +21,10 @@ opened_store spec = record { spec = spec; state = new_disk }
 abbrev pub stores_of : HostStores → Ledger StoreSpec DiskState
 stores_of stores = record { opened = map opened_store stores.opened.items; closed = store_states stores.closed }
 
-abbrev pub StoresOpen : HostStores → HostStores → StoreSpec → DiskState → Type 0
-StoresOpen old new spec store = LedgerOpens (stores_of old) (stores_of new) old.faults new.faults
+abbrev pub HostStoresOpen : HostStores → HostStores → StoreSpec → DiskState → Type 0
+HostStoresOpen old new spec store = LedgerOpens (stores_of old) (stores_of new) old.faults new.faults
     spec store
 
-abbrev pub StoresRefuse : HostStores → HostStores → OpenRefusal → Type 0
-StoresRefuse old new refusal = LedgerRefuses (stores_of old) (stores_of new) old.faults new.faults
+abbrev pub HostStoresRefuse : HostStores → HostStores → OpenRefusal → Type 0
+HostStoresRefuse old new refusal = LedgerRefuses (stores_of old) (stores_of new) old.faults new.faults
     refusal

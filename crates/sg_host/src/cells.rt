@@ -11,37 +11,37 @@ use std::alloc::{AllocError, Global};
 
 /// An inlet that was closed, and the one closed before it.
 #[derive(Drop)]
-pub struct InletCell {
+pub struct HostInletCell {
     counts: InletCounts,
-    before: Option<Box<InletCell>>,
+    before: Option<Box<HostInletCell>>,
 }
 
 /// An outlet that was closed, and the one closed before it.
 #[derive(Drop)]
-pub struct OutletCell {
+pub struct HostOutletCell {
     counts: OutletCounts,
-    before: Option<Box<OutletCell>>,
+    before: Option<Box<HostOutletCell>>,
 }
 
 /// A store that was closed, and the one closed before it.
 #[derive(Drop)]
-pub struct StoreCell {
+pub struct HostStoreCell {
     faults: u64,
-    before: Option<Box<StoreCell>>,
+    before: Option<Box<HostStoreCell>>,
 }
 
 /// An opener that was closed, and the one closed before it.
 #[derive(Drop)]
-pub struct PathsCell {
+pub struct HostPathsCell {
     counts: PathCounts,
-    before: Option<Box<PathsCell>>,
+    before: Option<Box<HostPathsCell>>,
 }
 
 /// Memory for an inlet's closing.
-pub(crate) fn inlet_cell(alloc: Global) -> Result<Box<InletCell>, AllocError> {
+pub(crate) fn inlet_cell(alloc: Global) -> Result<Box<HostInletCell>, AllocError> {
     Ok(Box::new(
         alloc,
-        InletCell {
+        HostInletCell {
             counts: InletCounts::new(Vec::new(alloc), 0, false),
             before: None,
         },
@@ -49,7 +49,11 @@ pub(crate) fn inlet_cell(alloc: Global) -> Result<Box<InletCell>, AllocError> {
 }
 
 /// Puts an inlet behind those that were closed before. It takes no memory.
-pub fn add_inlet(last: &mut Option<Box<InletCell>>, mut cell: Box<InletCell>, counts: InletCounts)
+pub fn add_inlet(
+    last: &mut Option<Box<HostInletCell>>,
+    mut cell: Box<HostInletCell>,
+    counts: InletCounts,
+)
     ensures { inlet_states last.new ≡ inlet_states last.old ++ inlet_state counts ∷ [] }
 {
     cell.counts = counts;
@@ -58,10 +62,10 @@ pub fn add_inlet(last: &mut Option<Box<InletCell>>, mut cell: Box<InletCell>, co
 }
 
 /// Memory for an outlet's closing.
-pub(crate) fn outlet_cell(alloc: Global) -> Result<Box<OutletCell>, AllocError> {
+pub(crate) fn outlet_cell(alloc: Global) -> Result<Box<HostOutletCell>, AllocError> {
     Ok(Box::new(
         alloc,
-        OutletCell {
+        HostOutletCell {
             counts: OutletCounts::new(),
             before: None,
         },
@@ -70,8 +74,8 @@ pub(crate) fn outlet_cell(alloc: Global) -> Result<Box<OutletCell>, AllocError> 
 
 /// Puts an outlet behind those that were closed before. It takes no memory.
 pub fn add_outlet(
-    last: &mut Option<Box<OutletCell>>,
-    mut cell: Box<OutletCell>,
+    last: &mut Option<Box<HostOutletCell>>,
+    mut cell: Box<HostOutletCell>,
     counts: OutletCounts,
 )
     ensures { outlet_states last.new ≡ outlet_states last.old ++ outlet_state counts ∷ [] }
@@ -82,10 +86,10 @@ pub fn add_outlet(
 }
 
 /// Memory for a store's closing.
-pub(crate) fn store_cell(alloc: Global) -> Result<Box<StoreCell>, AllocError> {
+pub(crate) fn store_cell(alloc: Global) -> Result<Box<HostStoreCell>, AllocError> {
     Ok(Box::new(
         alloc,
-        StoreCell {
+        HostStoreCell {
             faults: 0,
             before: None,
         },
@@ -93,7 +97,7 @@ pub(crate) fn store_cell(alloc: Global) -> Result<Box<StoreCell>, AllocError> {
 }
 
 /// Puts a store behind those that were closed before. It takes no memory.
-pub fn add_store(last: &mut Option<Box<StoreCell>>, mut cell: Box<StoreCell>, faults: u64)
+pub fn add_store(last: &mut Option<Box<HostStoreCell>>, mut cell: Box<HostStoreCell>, faults: u64)
     ensures { store_states last.new ≡ store_states last.old ++ disk_state faults ∷ [] }
 {
     cell.faults = faults;
@@ -102,10 +106,10 @@ pub fn add_store(last: &mut Option<Box<StoreCell>>, mut cell: Box<StoreCell>, fa
 }
 
 /// Memory for an opener's closing.
-pub(crate) fn paths_cell(alloc: Global) -> Result<Box<PathsCell>, AllocError> {
+pub(crate) fn paths_cell(alloc: Global) -> Result<Box<HostPathsCell>, AllocError> {
     Ok(Box::new(
         alloc,
-        PathsCell {
+        HostPathsCell {
             counts: PathCounts::new(alloc),
             before: None,
         },
@@ -113,7 +117,11 @@ pub(crate) fn paths_cell(alloc: Global) -> Result<Box<PathsCell>, AllocError> {
 }
 
 /// Puts an opener behind those that were closed before. It takes no memory.
-pub fn add_paths(last: &mut Option<Box<PathsCell>>, mut cell: Box<PathsCell>, counts: PathCounts)
+pub fn add_paths(
+    last: &mut Option<Box<HostPathsCell>>,
+    mut cell: Box<HostPathsCell>,
+    counts: PathCounts,
+)
     ensures { paths_states last.new ≡ paths_states last.old ++ paths_state counts ∷ [] }
 {
     cell.counts = counts;

@@ -2,12 +2,12 @@
 ghost use Rattle.std.specs.Prelude.{◌≡◌, [], MatchResult};
 ghost use Rattle.sg_outside.specs.World.{with_closed};
 ghost use Rattle.sg_file.specs.Counts.{inlet_state};
-ghost use Rattle.sg_host.specs.Inlets.{source_of, feed_of, inlets_of, InletsOpen, InletsRefuse, IsOpenedFor};
+ghost use Rattle.sg_host.specs.Inlets.{source_of, feed_of, inlets_of, InletsOpen, InletsRefuse, IsHostOpenedFor};
 
-use crate::cells::{InletCell, add_inlet, inlet_cell};
+use crate::cells::{HostInletCell, add_inlet, inlet_cell};
 use crate::marked::MarkedFile;
 use sg_device::{Inlet, InletFault, Name, NoMemory, OpenRefusal, Pull};
-use sg_file::{Health, InletCounts, Rest};
+use sg_file::{Health, IdleWait, InletCounts};
 use sg_net::{Acceptor, Listener, SlotInlet};
 use sg_outside::InletSpec;
 use std::alloc::Global;
@@ -17,19 +17,19 @@ use std::thread::Threads;
 
 /// A file, or a slot of a listener.
 #[derive(Drop)]
-pub enum Source {
+pub enum InletDevice {
     File(MarkedFile),
     Slot(SlotInlet),
 }
 
-impl Source {
+impl InletDevice {
     /// What was counted so far.
     pub fn counts(&self) -> &InletCounts
         ensures { inlet_state result.now ≡ source_of self.now }
     {
         match self {
-            Source::File(file) => file.counts(),
-            Source::Slot(slot) => slot.counts(),
+            InletDevice::File(file) => file.counts(),
+            InletDevice::Slot(slot) => slot.counts(),
         }
     }
 
@@ -38,8 +38,8 @@ impl Source {
         ensures { inlet_state result ≡ source_of self }
     {
         match self {
-            Source::File(file) => file.into_counts(),
-            Source::Slot(slot) => slot.into_counts(),
+            InletDevice::File(file) => file.into_counts(),
+            InletDevice::Slot(slot) => slot.into_counts(),
         }
     }
 }
@@ -47,8 +47,8 @@ impl Source {
 /// An open inlet, with the memory for its closing.
 #[derive(Drop)]
 pub struct HostFeed {
-    source: Source,
-    cell: Box<InletCell>,
+    source: InletDevice,
+    cell: Box<HostInletCell>,
 }
 
 impl HostFeed {
@@ -65,8 +65,8 @@ impl Inlet for HostFeed {
 
     fn pull(&mut self, into: &mut [u8]) -> Result<Pull, InletFault> {
         match &mut self.source {
-            Source::File(file) => file.pull(into),
-            Source::Slot(slot) => slot.pull(into),
+            InletDevice::File(file) => file.pull(into),
+            InletDevice::Slot(slot) => slot.pull(into),
         }
     }
 
@@ -76,15 +76,15 @@ impl Inlet for HostFeed {
 
     fn hangup(&mut self) {
         match &mut self.source {
-            Source::File(file) => file.hangup(),
-            Source::Slot(slot) => slot.hangup(),
+            InletDevice::File(file) => file.hangup(),
+            InletDevice::Slot(slot) => slot.hangup(),
         }
     }
 }
 
 /// What an inlet was opened for, and what it had counted then.
 #[derive(Drop)]
-pub struct OpenedInlet {
+pub struct HostOpenedInlet {
     spec: InletSpec,
     counts: InletCounts,
 }
@@ -92,12 +92,12 @@ pub struct OpenedInlet {
 /// The inlets opened, those closed, and the number of openings that failed.
 pub struct HostInlets {
     rt: HostRuntime,
-    rest: Rest,
+    rest: IdleWait,
     // The listeners of all slots, as long as an inlet is open, and the number of those.
     listeners: Vec<Listener>,
     alive: usize,
-    opened: Vec<OpenedInlet>,
-    closed: Option<Box<InletCell>>,
+    opened: Vec<HostOpenedInlet>,
+    closed: Option<Box<HostInletCell>>,
     pub faults: u64,
 }
 
@@ -117,7 +117,7 @@ impl Drop for HostInlets {
 
 impl HostInlets {
     /// None was opened yet.
-    pub fn new(alloc: Global, rt: HostRuntime, rest: Rest) -> HostInlets
+    pub fn new(alloc: Global, rt: HostRuntime, rest: IdleWait) -> HostInlets
         ensures none { inlets_of result ≡ record { opened = []; closed = [] } }
         ensures faults { result.faults ≡ 0 }
     {
@@ -174,10 +174,10 @@ impl HostInlets {
         spec: &InletSpec,
         from: u64,
         marked: bool,
-    ) -> Result<Source, OpenRefusal>
+    ) -> Result<InletDevice, OpenRefusal>
         ensures lists { inlets_of self.new ≡ inlets_of self.old }
         ensures faults { self.new.faults ≡ self.old.faults }
-        ensures opened { MatchResult result (λ source. IsOpenedFor spec.now from (source_of source))
+        ensures opened { MatchResult result (λ source. IsHostOpenedFor spec.now from (source_of source))
             (λ _. Unit {0}) }
     {
         let rest = self.rest.share()?;
@@ -187,14 +187,14 @@ impl HostInlets {
                 let file = MarkedFile::open(
                     threads, alloc, self.rt, path, *once, *limit, from, marked, &rest,
                 )?;
-                Ok(Source::File(file))
+                Ok(InletDevice::File(file))
             }
             InletSpec::Slot { ip, port, once, .. } => {
                 let ip = ip.bytes();
                 let name = address(alloc, ip, *port)?;
                 let acceptor = self.acceptor(alloc, ip, *port, &name)?;
                 let slot = SlotInlet::open(alloc, self.rt, acceptor, &name, *once, rest)?;
-                Ok(Source::Slot(slot))
+                Ok(InletDevice::Slot(slot))
             }
         }
     }
@@ -259,13 +259,13 @@ fn remember(
     alloc: Global,
     spec: &InletSpec,
     counts: &InletCounts,
-) -> Result<(OpenedInlet, u64), NoMemory>
+) -> Result<(HostOpenedInlet, u64), NoMemory>
     ensures { MatchResult result (λ kept. (kept.0.spec ≡ spec.now)
         × (inlet_state kept.0.counts ≡ inlet_state counts.now) × (kept.1 ≡ counts.now.place))
         (λ _. Unit {0}) }
 {
     Ok((
-        OpenedInlet {
+        HostOpenedInlet {
             spec: spec.copy()?,
             counts: counts.copy()?,
         },

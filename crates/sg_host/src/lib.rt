@@ -12,12 +12,12 @@ mod streams;
 mod threads;
 mod timer;
 
-pub use cells::{InletCell, OutletCell, PathsCell, StoreCell};
-pub use inlets::{HostFeed, HostInlets, OpenedInlet, Source};
+pub use cells::{HostInletCell, HostOutletCell, HostPathsCell, HostStoreCell};
+pub use inlets::{HostFeed, HostInlets, HostOpenedInlet, InletDevice};
 pub use marked::MarkedFile;
 pub use outlets::{HostDrain, HostOutlets, RealOutlet};
 pub use paths::{HostOpener, HostPaths, PathCounts};
-pub use sg_file::{FileDisk, Rest, read_file};
+pub use sg_file::{FileDisk, IdleWait, read_file};
 pub use stores::{HostStore, HostStores};
 pub use streams::{Streams, say, tell};
 pub use timer::Timer;

@@ -5,7 +5,7 @@ ghost use Rattle.sg_file.specs.Seeking.{StartsAt};
 ghost use Rattle.sg_host.specs.Marked.{marked_of};
 
 use sg_device::{Inlet, InletFault, OpenRefusal, Pull};
-use sg_file::{FileInlet, InletCounts, Mark, Rest};
+use sg_file::{FileInlet, IdleWait, InletCounts, Mark};
 use std::alloc::Global;
 use std::thread::Threads;
 
@@ -29,7 +29,7 @@ impl MarkedFile {
         limit: u32,
         from: u64,
         marked: bool,
-        rest: &Rest,
+        rest: &IdleWait,
     ) -> Result<MarkedFile, OpenRefusal>
         ensures opened { IfOk result (λ marked. marked_of marked
             ≡ new_inlet (codes "localhost") (marked_of marked).from true) }

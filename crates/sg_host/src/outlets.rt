@@ -4,9 +4,9 @@ ghost use Rattle.sg_outside.specs.World.{IsByPath, with_closed};
 ghost use Rattle.sg_file.specs.Counts.{outlet_state, new_outlet};
 ghost use Rattle.sg_host.specs.Outlets.{real_of, drain_of, outlets_of, OutletsOpen, OutletsRefuse};
 
-use crate::cells::{OutletCell, add_outlet, outlet_cell};
+use crate::cells::{HostOutletCell, add_outlet, outlet_cell};
 use sg_device::{Frames, OpenRefusal, Outlet, OutletFault, Reopened, SendRefusal};
-use sg_file::{Appending, FileOutlet, OutletCounts, Rest};
+use sg_file::{Appending, FileOutlet, IdleWait, OutletCounts};
 use sg_net::TcpOutlet;
 use sg_outside::OutletSpec;
 use std::alloc::Global;
@@ -23,7 +23,7 @@ pub enum RealOutlet<T: Threads + Copy> {
 #[derive(Drop)]
 pub struct HostDrain<T: Threads + Copy> {
     real: RealOutlet<T>,
-    cell: Box<OutletCell>,
+    cell: Box<HostOutletCell>,
 }
 
 impl<T: Threads + Copy> HostDrain<T> {
@@ -65,9 +65,9 @@ impl<T: Threads + Copy> Outlet for HostDrain<T> {
 pub struct HostOutlets<T: Threads + Copy> {
     threads: T,
     rt: HostRuntime,
-    rest: Rest,
+    rest: IdleWait,
     opened: Vec<OutletSpec>,
-    closed: Option<Box<OutletCell>>,
+    closed: Option<Box<HostOutletCell>>,
     pub faults: u64,
 }
 
@@ -86,7 +86,7 @@ impl<T: Threads + Copy> Drop for HostOutlets<T> {
 
 impl<T: Threads + Copy> HostOutlets<T> {
     /// None was opened yet. `threads` is the runtime again, as what starts look-ups of names.
-    pub fn new(threads: T, alloc: Global, rt: HostRuntime, rest: Rest) -> HostOutlets<T>
+    pub fn new(threads: T, alloc: Global, rt: HostRuntime, rest: IdleWait) -> HostOutlets<T>
         ensures none { outlets_of result ≡ record { opened = []; closed = [] } }
         ensures faults { result.faults ≡ 0 }
     {

@@ -1,24 +1,25 @@
 // Files that are opened and closed by their paths.
-ghost use Rattle.std.specs.Prelude.{◌≡◌, ◌<◌, ◌+◌, [], ◌++◌, length, take, drop, IfOk, MatchOption, MatchResult};
+ghost use Rattle.std.specs.Prelude.{◌≡◌, ◌<◌, ◌+◌, [], ◌++◌, length, take, drop, IfOk, OnOk, OnErr, MatchOption, MatchResult};
 ghost use Rattle.sg_outside.specs.World.{with_closed, IsByPath};
-ghost use Rattle.sg_device.specs.Faults.{Rose};
-ghost use Rattle.sg_device.specs.Paths.{KeepsPaths, without_path};
-ghost use Rattle.sg_host.specs.Counts.{paths_state, new_paths};
-ghost use Rattle.sg_host.specs.Paths.{opener_of, paths_of, PathsOpen, PathsRefuse};
+ghost use Rattle.sg_device.specs.Outlet.{Refuses};
+ghost use Rattle.sg_device.specs.Paths.{KeepsPaths, counts_of, without_path};
+ghost use Rattle.sg_host.specs.Counts.{paths_state, new_paths, OpensToo, SameCounts};
+ghost use Rattle.sg_host.specs.Paths.{opener_of, paths_of, HostPathsOpen, PathsRefuse};
 
-use crate::cells::{PathsCell, add_paths, paths_cell};
-use sg_device::{Name, OpenRefusal, Opener, OutletFault, Reopened, SendRefusal};
-use sg_file::{Appending, Rest, Target};
+use crate::cells::{HostPathsCell, add_paths, paths_cell};
+use sg_device::{Frames, Name, OpenRefusal, Opener, OutletFault, Reopened, SendRefusal};
+use sg_file::{Appending, IdleWait, OutletCounts, Retry, Target};
 use sg_outside::OutletSpec;
 use std::alloc::Global;
+use std::time::Instant;
 
 /// What an opener counts, and the paths that are open.
 #[derive(Drop)]
 pub struct PathCounts {
     /// The paths of the open files, in the order in which they were opened.
     pub opened: Vec<Name>,
-    pub faults: u64,
-    pub laters: u64,
+    /// The texts taken, and the calls that failed or for which it was too early.
+    pub calls: OutletCounts,
 }
 
 impl PathCounts {
@@ -28,37 +29,68 @@ impl PathCounts {
     {
         PathCounts {
             opened: Vec::new(alloc),
-            faults: 0,
-            laters: 0,
+            calls: OutletCounts::new(),
         }
     }
 
-    // One fault more.
-    fn fail(&mut self)
+    // Counts a refusal to open a file, and gives it.
+    fn refused(&mut self, refusal: SendRefusal) -> SendRefusal
         ensures keeps { KeepsPaths (paths_state self.old) (paths_state self.new) }
-        ensures rose { Rose self.old.faults self.new.faults }
+        ensures counted { Refuses (counts_of (paths_state self.old))
+            (counts_of (paths_state self.new)) result }
     {
-        self.faults = self.faults.saturating_add(1);
+        self.calls.refused(refusal)
     }
 }
 
-/// The files that an opener has open. Each file is appended to by one write for a text.
+// An open file, and when it was opened or took something last.
+#[derive(Drop)]
+struct OpenFile {
+    target: Target,
+    used: Option<Instant>,
+}
+
+impl OpenFile {
+    // Whether it took nothing for so many seconds.
+    fn is_unused(&self, rt: HostRuntime, seconds: u32) -> bool {
+        let Some(used) = self.used else {
+            return false;
+        };
+        match used.elapsed(&rt) {
+            Ok(since) => since.as_secs() >= u64::from(seconds),
+            Err(_) => false,
+        }
+    }
+}
+
+// The path that couldn't be opened last.
+#[derive(Drop)]
+struct Missed {
+    path: Name,
+    retry: Retry,
+}
+
+/// The files that an opener has open. Each file is appended to by one write for the texts of a send. A
+/// path that can't be opened is tried again once in `time-reopen()` seconds.
 #[derive(Drop)]
 pub struct OpenedFiles {
     alloc: Global,
     rt: HostRuntime,
-    rest: Rest,
+    rest: IdleWait,
     how: Appending,
+    // The seconds after which a file is closed that took nothing, 0 where none is.
+    reap: u32,
     counts: PathCounts,
     // The files, in the order of their paths.
-    files: Vec<Target>,
+    files: Vec<OpenFile>,
+    missed: Option<Missed>,
 }
 
 /// An opener of files, with the memory for its closing.
 #[derive(Drop)]
 pub struct HostOpener {
     opened: OpenedFiles,
-    cell: Box<PathsCell>,
+    cell: Box<HostPathsCell>,
 }
 
 // The number of the first of the paths that is this one.
@@ -95,15 +127,93 @@ impl HostOpener {
 }
 
 impl OpenedFiles {
-    // Whether a text was taken whole for the file of a path.
-    fn put(&mut self, path: &[u8], text: &[u8]) -> bool
+    // Whether it is too early for another try to open the file of a path.
+    fn is_early(&self, path: &[u8]) -> bool {
+        match &self.missed {
+            Some(missed) => missed.path.bytes() == path && missed.retry.is_early(),
+            None => false,
+        }
+    }
+
+    // The file of this path couldn't be opened now.
+    fn miss(&mut self, path: Name)
         ensures { self.new.counts ≡ self.old.counts }
     {
+        let mut retry = Retry::new(self.rt, self.how.reopen);
+        retry.begin();
+        self.missed = Some(Missed { path, retry });
+    }
+
+    // Opens the file of a path, and puts it behind the others.
+    fn add(&mut self, path: &[u8]) -> Result<(), SendRefusal>
+        ensures ok { OnOk result (OpensToo self.old.counts self.new.counts path.now) }
+        ensures err { OnErr result (SameCounts self.old.counts self.new.counts) }
+    {
+        if self.is_early(path) {
+            self.rest.wait();
+            return Err(SendRefusal::Later);
+        }
+        let name = Name::new(self.alloc, path)?;
+        let rest = self.rest.share()?;
+        match Target::open(self.alloc, self.rt, path, self.how, rest) {
+            Ok(target) => self.push(name, target),
+            Err(OpenRefusal::NoMemory) => Err(SendRefusal::NoMemory),
+            Err(OpenRefusal::Failed) => {
+                self.miss(name);
+                Err(SendRefusal::Fault)
+            }
+        }
+    }
+
+    fn push(&mut self, name: Name, target: Target) -> Result<(), SendRefusal>
+        ensures ok { OnOk result (OpensToo self.old.counts self.new.counts name) }
+        ensures err { OnErr result (SameCounts self.old.counts self.new.counts) }
+    {
+        let file = OpenFile {
+            target,
+            used: Instant::now(&self.rt).ok(),
+        };
+        if self.files.push(file).is_err() {
+            return Err(SendRefusal::NoMemory);
+        }
+        if self.counts.opened.push(name).is_err() {
+            drop(self.files.pop());
+            return Err(SendRefusal::NoMemory);
+        }
+        Ok(())
+    }
+
+    // Appends the texts to the file of a path, where so many can be counted, and tells how many of them
+    // count.
+    fn put(&mut self, path: &[u8], texts: &Frames) -> usize
+        ensures { self.new.counts ≡ self.old.counts }
+    {
+        if !self.counts.calls.has_room(texts.len()) {
+            return 0;
+        }
+        let Some(i) = find(&self.counts.opened, path) else {
+            return 0;
+        };
+        let Some(file) = self.files.get_mut(i) else {
+            return 0;
+        };
+        let whole = file.target.put(texts);
+        if whole > 0 {
+            file.used = Instant::now(&self.rt).ok();
+        }
+        whole
+    }
+
+    // Whether the file of a path is one to be closed, since it took nothing for so long.
+    fn is_unused(&self, path: &[u8]) -> bool {
+        if self.reap == 0 {
+            return false;
+        }
         let Some(i) = find(&self.counts.opened, path) else {
             return false;
         };
-        match self.files.get_mut(i) {
-            Some(file) => file.put(text),
+        match self.files.get(i) {
+            Some(file) => file.is_unused(self.rt, self.reap),
             None => false,
         }
     }
@@ -115,7 +225,7 @@ impl OpenedFiles {
             return Err(OutletFault);
         };
         match self.files.get_mut(i) {
-            Some(file) => file.reopen(),
+            Some(file) => file.target.reopen(),
             None => Err(OutletFault),
         }
     }
@@ -124,54 +234,32 @@ impl OpenedFiles {
 impl Opener for HostOpener {
     ghost state = { opener_of };
 
-    fn open(&mut self, path: &[u8]) -> Result<(), OpenRefusal> {
-        let name = Name::new(self.opened.alloc, path)?;
-        let rest = self.opened.rest.share()?;
-        match Target::open(
-            self.opened.alloc,
-            self.opened.rt,
-            path,
-            self.opened.how,
-            rest,
-        ) {
-            Ok(file) => {
-                if self.opened.files.push(file).is_err() {
-                    return Err(OpenRefusal::NoMemory);
-                }
-                if self.opened.counts.opened.push(name).is_err() {
-                    drop(self.opened.files.pop());
-                    return Err(OpenRefusal::NoMemory);
-                }
-                Ok(())
-            }
-            Err(OpenRefusal::NoMemory) => Err(OpenRefusal::NoMemory),
-            Err(OpenRefusal::Failed) => {
-                self.opened.counts.fail();
-                Err(OpenRefusal::Failed)
-            }
+    fn open(&mut self, path: &[u8]) -> Result<(), SendRefusal> {
+        match self.opened.add(path) {
+            Ok(()) => Ok(()),
+            Err(refusal) => Err(self.opened.counts.refused(refusal)),
         }
     }
 
-    fn send(&mut self, path: &[u8], text: &[u8]) -> Result<(), SendRefusal> {
-        if self.opened.put(path, text) {
-            return Ok(());
-        }
-        self.opened.counts.fail();
-        Err(SendRefusal::Fault)
+    fn send(&mut self, path: &[u8], texts: &Frames) -> Result<(), SendRefusal> {
+        let whole = self.opened.put(path, texts);
+        self.opened
+            .counts
+            .calls
+            .sent(whole, texts.len(), SendRefusal::Fault)
+    }
+
+    fn taken(&self) -> u64 {
+        self.opened.counts.calls.taken
     }
 
     fn reopen(&mut self, path: &[u8]) -> Result<Reopened, OutletFault> {
-        match self.opened.open_anew(path) {
-            Ok(Reopened::Ready) => Ok(Reopened::Ready),
-            Ok(Reopened::Later) if self.opened.counts.laters < u64::MAX => {
-                self.opened.counts.laters += 1;
-                Ok(Reopened::Later)
-            }
-            _ => {
-                self.opened.counts.fail();
-                Err(OutletFault)
-            }
-        }
+        let got = self.opened.open_anew(path);
+        self.opened.counts.calls.reopened(got)
+    }
+
+    fn is_unused(&mut self, path: &[u8]) -> bool {
+        self.opened.is_unused(path)
     }
 
     fn close(&mut self, path: &[u8]) {
@@ -186,9 +274,9 @@ impl Opener for HostOpener {
 /// The openers opened, those closed, and the number of openings that failed.
 pub struct HostPaths {
     rt: HostRuntime,
-    rest: Rest,
+    rest: IdleWait,
     opened: Vec<OutletSpec>,
-    closed: Option<Box<PathsCell>>,
+    closed: Option<Box<HostPathsCell>>,
     pub faults: u64,
 }
 
@@ -206,7 +294,7 @@ impl Drop for HostPaths {
 
 impl HostPaths {
     /// None was opened yet.
-    pub fn new(alloc: Global, rt: HostRuntime, rest: Rest) -> HostPaths
+    pub fn new(alloc: Global, rt: HostRuntime, rest: IdleWait) -> HostPaths
         ensures none { paths_of result ≡ record { opened = []; closed = [] } }
         ensures faults { result.faults ≡ 0 }
     {
@@ -222,7 +310,7 @@ impl HostPaths {
     /// Opens an opener of files by their paths.
     pub fn open(&mut self, alloc: Global, spec: &OutletSpec) -> Result<HostOpener, OpenRefusal>
         ensures { MatchResult result
-            (λ opener. PathsOpen self.old self.new spec.now (opener_of opener))
+            (λ opener. HostPathsOpen self.old self.new spec.now (opener_of opener))
             (λ refusal. PathsRefuse self.old self.new refusal) }
     {
         let OutletSpec::ByPath {
@@ -230,6 +318,7 @@ impl HostPaths {
             mode,
             folders,
             reopen,
+            reap,
         } = spec
         else {
             self.faults = self.faults.saturating_add(1);
@@ -245,8 +334,10 @@ impl HostPaths {
                 folders: *folders,
                 reopen: *reopen,
             },
+            reap: *reap,
             counts: PathCounts::new(alloc),
             files: Vec::new(alloc),
+            missed: None,
         };
         let opener = HostOpener {
             opened,

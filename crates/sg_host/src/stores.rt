@@ -2,11 +2,11 @@
 ghost use Rattle.std.specs.Prelude.{◌≡◌, [], IfOk, MatchResult};
 ghost use Rattle.sg_outside.specs.World.{with_closed};
 ghost use Rattle.sg_file.specs.Store.{disk_of};
-ghost use Rattle.sg_host.specs.Stores.{store_of, stores_of, StoresOpen, StoresRefuse};
+ghost use Rattle.sg_host.specs.Stores.{store_of, stores_of, HostStoresOpen, HostStoresRefuse};
 
-use crate::cells::{StoreCell, add_store, store_cell};
+use crate::cells::{HostStoreCell, add_store, store_cell};
 use sg_device::{Disk, DiskFault, NoMemory, OpenRefusal};
-use sg_file::{FileDisk, Reminder, Reservation, Rest};
+use sg_file::{FileDisk, IdleWait, Reminder, Reservation};
 use sg_outside::StoreSpec;
 use std::alloc::Global;
 
@@ -18,7 +18,7 @@ const FAILED: &str = "it has failed, and is not used until the next start";
 pub struct OpenedStore {
     disk: FileDisk,
     reservation: Reservation,
-    rest: Rest,
+    rest: IdleWait,
     // Until a call has failed.
     reminder: Option<Reminder>,
 }
@@ -27,7 +27,7 @@ pub struct OpenedStore {
 #[derive(Drop)]
 pub struct HostStore {
     opened: OpenedStore,
-    cell: Box<StoreCell>,
+    cell: Box<HostStoreCell>,
 }
 
 impl HostStore {
@@ -88,15 +88,15 @@ impl Disk for HostStore {
 #[derive(Drop)]
 pub struct HostStores {
     rt: HostRuntime,
-    rest: Rest,
+    rest: IdleWait,
     opened: Vec<StoreSpec>,
-    closed: Option<Box<StoreCell>>,
+    closed: Option<Box<HostStoreCell>>,
     pub faults: u64,
 }
 
 impl HostStores {
     /// None was opened yet.
-    pub fn new(alloc: Global, rt: HostRuntime, rest: Rest) -> HostStores
+    pub fn new(alloc: Global, rt: HostRuntime, rest: IdleWait) -> HostStores
         ensures none { stores_of result ≡ record { opened = []; closed = [] } }
         ensures faults { result.faults ≡ 0 }
     {
@@ -117,8 +117,8 @@ impl HostStores {
     /// Opens a store, and makes its file where that is missing and is to be made.
     pub fn open(&mut self, alloc: Global, spec: &StoreSpec) -> Result<HostStore, OpenRefusal>
         ensures { MatchResult result
-            (λ store. StoresOpen self.old self.new spec.now (store_of store))
-            (λ refusal. StoresRefuse self.old self.new refusal) }
+            (λ store. HostStoresOpen self.old self.new spec.now (store_of store))
+            (λ refusal. HostStoresRefuse self.old self.new refusal) }
     {
         let disk = match FileDisk::open(alloc, self.rt, spec.name.bytes(), size_for(spec)) {
             Ok(disk) => disk,

@@ -5,11 +5,11 @@ use Rattle.sg_booth.specs.Lists.{entries_at}
 use Rattle.sg_counter.specs.Exchanges.{Exchange, Makes}
 use Rattle.sg_counter.specs.declared.calls.CoreCall.{CoreCall}
 use Rattle.sg_counter.specs.declared.calls.CoreReply.{CoreReply}
-use Rattle.sg_hub.specs.Histories.{Called, exchange_of, exchanges_of}
-use Rattle.sg_hub.specs.Laws.{GoesOn}
+use Rattle.sg_hub.specs.Histories.{ToldCall, exchange_of, exchanges_of}
+use Rattle.sg_hub.specs.Laws.{SeatGoesOn}
 use Rattle.sg_hub.specs.Seats.{HubState, SeatState, SeatStep}
 
-stays : (hub : HubState) (seat : SeatState) → GoesOn hub seat [] seat
+stays : (hub : HubState) (seat : SeatState) → SeatGoesOn hub seat [] seat
 stays hub seat = record {
   of_hub = λ h. h;
   left = omega arith;
@@ -18,10 +18,10 @@ stays hub seat = record {
   joined = refl;
 }
 
-goes-one : (hub : HubState) (old mid new : SeatState) (call : CoreCall) (reply : CoreReply) (made : List Exchange) → SeatStep hub old call reply mid → GoesOn hub mid made new
-    → GoesOn hub old (record { call = call; reply = reply } ∷ made) new
+goes-one : (hub : HubState) (old mid new : SeatState) (call : CoreCall) (reply : CoreReply) (made : List Exchange) → SeatStep hub old call reply mid → SeatGoesOn hub mid made new
+    → SeatGoesOn hub old (record { call = call; reply = reply } ∷ made) new
 goes-one hub old mid new call reply made t g =
-    let e : Called = record { call = call; reply = reply } in
+    let e : ToldCall = record { call = call; reply = reply } in
     let x : Exchange = record { call = call; reply = reply } in
     let seen : mid.seen ≡ (old.seen ++ t.between) ++ e ∷ [] = ap (λ (d : SeatState). d.seen) t.desk in
     let left : mid.left ≡ old.left - 1 = ap (λ (d : SeatState). d.left) t.desk in
@@ -32,14 +32,14 @@ goes-one hub old mid new call reply made t g =
       left = omega (arith, g.left, left);
       seen = (
         t.between ++ e ∷ g.seen.0,
-        g.seen.1 ∙ (ap (λ (s : List Called). s ++ g.seen.0) seen ∙ (append_assoc (old.seen ++ t.between) (e ∷ []) g.seen.0 ∙ append_assoc old.seen t.between (e ∷ g.seen.0))),
+        g.seen.1 ∙ (ap (λ (s : List ToldCall). s ++ g.seen.0) seen ∙ (append_assoc (old.seen ++ t.between) (e ∷ []) g.seen.0 ∙ append_assoc old.seen t.between (e ∷ g.seen.0))),
       );
       calls = g.calls ∙ (ap (λ (xs : List Exchange). xs ++ made) one ∙ append_assoc (exchanges_of (entries_at old.seen old.own)) (x ∷ []) made);
       joined = g.joined ∙ ap (λ (d : SeatState). d.joined) t.desk;
     }
 
-pub goes-on : (hub : HubState) (old new : SeatState) (made : List Exchange) → Makes (SeatStep hub) old made new → GoesOn hub old made new
-goes-on hub old new [] m = subst (GoesOn hub old []) (sym m) (stays hub old)
+pub goes-on : (hub : HubState) (old new : SeatState) (made : List Exchange) → Makes (SeatStep hub) old made new → SeatGoesOn hub old made new
+goes-on hub old new [] m = subst (SeatGoesOn hub old []) (sym m) (stays hub old)
 goes-on hub old new (x ∷ made) m = goes-one hub old m.0 new x.call x.reply made m.1 (goes-on hub m.0 new made m.2)
 
 -- calls at a seat that is lent leave what is lent, of that hub

@@ -6,11 +6,11 @@ use Rattle.sg_counter.specs.declared.calls.CoreCall.{CoreCall}
 use Rattle.sg_counter.specs.declared.calls.CoreReply.{CoreReply}
 
 -- an entry of the history: a call and its reply
-abbrev pub Called : Type 0
-Called = Told CoreCall CoreReply
+abbrev pub ToldCall : Type 0
+ToldCall = Told CoreCall CoreReply
 
-abbrev pub exchange_of : Called → Exchange
+abbrev pub exchange_of : ToldCall → Exchange
 exchange_of told = record { call = told.call; reply = told.reply }
 
-abbrev pub exchanges_of : List Called → List Exchange
+abbrev pub exchanges_of : List ToldCall → List Exchange
 exchanges_of history = map exchange_of history

@@ -1,6 +1,6 @@
 // The hub.
 ghost use Rattle.std.specs.Prelude.{◌≡◌, ◌<◌, ◌-◌, ◌^◌, IfOk, IfErr};
-ghost use Rattle.sg_booth.specs.Desks.{IsDeskOf, AreOrdered, first_desk, HasTurned, fresh_desk, receipt_of, without_calls, HasJoined, HasClosed};
+ghost use Rattle.sg_booth.specs.Desks.{IsDeskOf, ArePlacesOrdered, first_desk, HasTurned, fresh_desk, receipt_of, without_calls, HasJoined, HasClosed};
 ghost use Rattle.sg_core.specs.Calls.{Serves};
 ghost use Rattle.sg_hub.specs.Offices.{MayServe};
 
@@ -64,7 +64,7 @@ impl<D: Disk> Hub<D> {
         requires seat { IsDeskOf self.now seat.old }
         ensures old { seat.new ≡ without_calls seat.old }
         ensures new { result ≡ receipt_of seat.old }
-        ensures ordered { AreOrdered result }
+        ensures ordered { ArePlacesOrdered result }
     {
         self.booth.receipt(seat)
     }

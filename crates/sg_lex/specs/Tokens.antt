@@ -7,9 +7,9 @@ use Rattle.std.specs.Char.{is_ascii_alphanumeric, is_digit, digit_value}
 use Rattle.std.specs.declared.alloc.Global.{Global}
 use Rattle.sg_lex.specs.declared.quoted.Escape.{Escape}
 use Rattle.sg_lex.specs.declared.quoted.Quoted.{Quoted}
-use Rattle.sg_lex.specs.declared.piece.Piece.{Piece}
-use Rattle.sg_lex.specs.declared.piece.Piece.TheVariants.{Gap, Spelled, OpenString, BadByte}
-use Rattle.sg_lex.specs.declared.lexer.Spot.{Spot}
+use Rattle.sg_lex.specs.declared.piece.Lexeme.{Lexeme}
+use Rattle.sg_lex.specs.declared.piece.Lexeme.TheVariants.{Gap, Spelled, OpenString, BadByte}
+use Rattle.sg_lex.specs.declared.lexer.TextPosition.{TextPosition}
 use Rattle.sg_lex.specs.declared.token.Token.{Token}
 use Rattle.sg_lex.specs.declared.token.TokenKind.{TokenKind}
 use Rattle.sg_lex.specs.declared.token.TokenKind.TheVariants.{Word, Str, Sym, Op, At, Tick}
@@ -91,16 +91,16 @@ single_quoted bytes =
     let count = length_before 39 bytes in
     if nat_lt count (length bytes) then Some (record { text = take count bytes; count = count + 1 }) else None
 
-abbrev pub string : Option Quoted → Piece
+abbrev pub string : Option Quoted → Lexeme
 string None = OpenString
 string (Some quoted) = Spelled Str quoted.text (1 + quoted.count)
 
 -- `@` and a word
-abbrev pub directive : ℕ → List ℕ → Piece
+abbrev pub directive : ℕ → List ℕ → Lexeme
 directive count bytes = if count == 0 then BadByte else Spelled At (take count bytes) (1 + count)
 
 -- a name of so many bytes between backticks
-abbrev pub variable : ℕ → List ℕ → Piece
+abbrev pub variable : ℕ → List ℕ → Lexeme
 variable count bytes =
     if not (count == 0) && begins_with 96 (drop count bytes) then Spelled Tick (take count bytes) (2 + count) else BadByte
 
@@ -110,7 +110,7 @@ is_symbol b = ((b == 123) || (b == 125)) || ((b == 40) || (b == 41))
     || ((b == 59) || (b == 44) || (b == 58))
 
 -- `..` and the operators, which may be one byte, or two where `=` stands behind
-abbrev pub operator : ℕ → List ℕ → Piece
+abbrev pub operator : ℕ → List ℕ → Lexeme
 operator b bytes =
     if (b == 46) && begins_with 46 bytes then Spelled Sym (46 ∷ 46 ∷ []) 2
     else (if ((b == 60) || (b == 62)) || ((b == 61) || (b == 33)) then
@@ -119,7 +119,7 @@ operator b bytes =
     else BadByte)
 
 -- what begins at a byte that stands in no word
-abbrev pub mark : ℕ → List ℕ → Piece
+abbrev pub mark : ℕ → List ℕ → Lexeme
 mark b bytes =
     if is_blank b then Gap 1
     else (if b == 35 then Gap (1 + length_before 10 bytes)
@@ -131,28 +131,28 @@ mark b bytes =
     else operator b bytes))))))
 
 -- what begins at the first byte, behind the byte before
-abbrev pub piece : ℕ → List ℕ → Piece
+abbrev pub piece : ℕ → List ℕ → Lexeme
 piece before [] = BadByte
 piece before (b ∷ bytes) =
     if is_word_at before b bytes then Spelled Word (take (word_length before (b ∷ bytes)) (b ∷ bytes)) (word_length before (b ∷ bytes))
     else mark b bytes
 
-abbrev pub piece_length : Piece → ℕ
+abbrev pub piece_length : Lexeme → ℕ
 piece_length (Gap count) = count
 piece_length (Spelled kind text count) = count
 piece_length OpenString = 1
 piece_length BadByte = 1
 
-abbrev pub first_spot : Spot
+abbrev pub first_spot : TextPosition
 first_spot = record { place = 0; line = 1; column = 1; before = 10 }
 
 -- the place behind a byte: LF ends a line
-abbrev pub spot_behind : Spot → ℕ → Spot
+abbrev pub spot_behind : TextPosition → ℕ → TextPosition
 spot_behind spot b =
     if b == 10 then (record { place = spot.place + 1; line = spot.line + 1; column = 1; before = b })
     else (record { place = spot.place + 1; line = spot.line; column = spot.column + 1; before = b })
 
-abbrev pub token : ℕ → Spot → TokenKind → List ℕ → Token
+abbrev pub token : ℕ → TextPosition → TokenKind → List ℕ → Token
 token file spot kind text = record { kind = kind; file = file; line = spot.line; column = spot.column; text = text }
 
 abbrev pub Lexed : Type 0
@@ -163,14 +163,14 @@ lexed_behind first (Ok tokens) = Ok (first ∷ tokens)
 lexed_behind first (Err fault) = Err fault
 
 -- a piece at a place, and the tokens behind it
-abbrev pub with_piece : ℕ → Spot → Piece → Lexed → Lexed
+abbrev pub with_piece : ℕ → TextPosition → Lexeme → Lexed → Lexed
 with_piece file spot (Gap count) rest = rest
 with_piece file spot (Spelled kind text count) rest = lexed_behind (token file spot kind text) rest
 with_piece file spot OpenString rest = Err (OpenStringAt spot.place)
 with_piece file spot BadByte rest = Err (BadByteAt spot.place)
 
 -- the tokens from a place on, once so many bytes more of a piece are passed over
-abbrev pub tokens_from : ℕ → Spot → ℕ → List ℕ → Lexed
+abbrev pub tokens_from : ℕ → TextPosition → ℕ → List ℕ → Lexed
 tokens_from file spot skip [] = Ok []
 tokens_from file spot (suc skip) (b ∷ bytes) = tokens_from file (spot_behind spot b) skip bytes
 tokens_from file spot zero (b ∷ bytes) =

@@ -1,9 +1,9 @@
 // The tokens of a text, piece by piece.
 ghost use Rattle.std.specs.Prelude.{◌≡◌, ◌+◌, ◌<◌, ◌≤◌, ◌^◌, [], ◌∷◌, ◌++◌, ◌==◌, count_by, length, OnOk};
 ghost use Rattle.sg_lex.specs.Tokens.{tokens_of, line_at, IsLexed, first_spot, spot_behind};
-ghost use Rattle.sg_lex.specs.Pieces.{IsWithin, spot_after, TakesPiece};
+ghost use Rattle.sg_lex.specs.Pieces.{IsLexemeWithin, spot_after, TakesPiece};
 
-use crate::piece::{Piece, read_piece};
+use crate::piece::{Lexeme, read_piece};
 use crate::token::{LexFault, Token};
 use sg_device::NoMemory;
 use std::alloc::Global;
@@ -13,7 +13,7 @@ pub const TEXT_LIMIT: usize = 1_048_576;
 
 /// A place in a text.
 #[derive(Clone, Copy)]
-pub struct Spot {
+pub struct TextPosition {
     /// The bytes before it.
     pub place: usize,
     /// Counted from 1, as the column.
@@ -23,10 +23,10 @@ pub struct Spot {
     pub before: u8,
 }
 
-fn first_spot() -> Spot
+fn first_spot() -> TextPosition
     ensures { result ≡ first_spot }
 {
-    Spot {
+    TextPosition {
         place: 0,
         line: 1,
         column: 1,
@@ -34,7 +34,7 @@ fn first_spot() -> Spot
     }
 }
 
-fn spot_behind(spot: Spot, byte: u8) -> Spot
+fn spot_behind(spot: TextPosition, byte: u8) -> TextPosition
     requires place { spot.place < TEXT_LIMIT }
     requires line { spot.line ≤ spot.place + 1 }
     requires column { spot.column ≤ spot.place + 1 }
@@ -44,14 +44,14 @@ fn spot_behind(spot: Spot, byte: u8) -> Spot
     ensures column { result.column ≤ spot.column + 1 }
 {
     if byte == b'\n' {
-        Spot {
+        TextPosition {
             place: spot.place + 1,
             line: spot.line + 1,
             column: 1,
             before: byte,
         }
     } else {
-        Spot {
+        TextPosition {
             place: spot.place + 1,
             line: spot.line,
             column: spot.column + 1,
@@ -61,7 +61,7 @@ fn spot_behind(spot: Spot, byte: u8) -> Spot
 }
 
 /// The place behind these bytes.
-fn spot_after(spot: Spot, bytes: &[u8]) -> Spot
+fn spot_after(spot: TextPosition, bytes: &[u8]) -> TextPosition
     requires place { spot.place + length bytes.now ≤ TEXT_LIMIT }
     requires line { spot.line ≤ spot.place + 1 }
     requires column { spot.column ≤ spot.place + 1 }
@@ -88,15 +88,15 @@ fn push_token(tokens: &mut Vec<Token>, token: Token) -> Result<(), NoMemory>
 fn take_piece(
     tokens: &mut Vec<Token>,
     file: u32,
-    spot: Spot,
-    piece: Piece,
+    spot: TextPosition,
+    piece: Lexeme,
 ) -> Result<usize, LexFault>
-    requires { IsWithin (2 ^ 63) piece }
+    requires { IsLexemeWithin (2 ^ 63) piece }
     ensures { TakesPiece file spot piece tokens.old.items tokens.new.items result }
 {
     match piece {
-        Piece::Gap(count) => Ok(count),
-        Piece::Spelled(kind, text, count) => {
+        Lexeme::Gap(count) => Ok(count),
+        Lexeme::Spelled(kind, text, count) => {
             let token = Token {
                 kind,
                 file,
@@ -107,8 +107,8 @@ fn take_piece(
             push_token(tokens, token)?;
             Ok(count)
         }
-        Piece::OpenString => Err(LexFault::OpenString(spot.place)),
-        Piece::BadByte => Err(LexFault::BadByte(spot.place)),
+        Lexeme::OpenString => Err(LexFault::OpenString(spot.place)),
+        Lexeme::BadByte => Err(LexFault::BadByte(spot.place)),
     }
 }
 

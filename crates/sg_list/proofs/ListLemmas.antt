@@ -1,5 +1,5 @@
 -- Changes of an item of a list, and look-ups.
-use Rattle.std.proofs.Common.{◌≡◌, ◌≢◌, ℕ, ◌+◌, ◌<◌, ◌≤◌, List, [], ◌∷◌, length, get_or, set, drop, Some, None, refl, ap, arith, suc, zero, add-one, Bool, true, false, slice_get, map}
+use Rattle.std.proofs.Common.{◌≡◌, ◌≢◌, ℕ, ◌+◌, ◌<◌, ◌≤◌, List, [], ◌∷◌, length, get_or, set, drop, Some, None, refl, ap, arith, suc, zero, add-one, Bool, true, false, slice_get, map, ◌++◌, inl, inr, sym, ◌⊎◌}
 use Rattle.std.proofs.lemmas.List.{drop_all}
 use Rattle.sg_list.specs.Lists.{change, passes_at}
 
@@ -86,3 +86,30 @@ pub slice_get-all : {A : Type 0} (xs : List A) (k : ℕ) → slice_get xs k ≡ 
 slice_get-all [] k e = drop_all k [] (omega arith)
 slice_get-all (x ∷ xs) zero e = let wrong : Some x ≡ None = e in cc
 slice_get-all (x ∷ xs) (suc k) e = let rest = slice_get-all xs k e in grind (arith, rest)
+
+pub drop-front : {A : Type 0} (xs ys : List A) → drop (length xs) (xs ++ ys) ≡ ys
+drop-front [] ys = refl
+drop-front (x ∷ xs) ys = drop-front xs ys
+
+-- an item of a changed list was there, as it is or changed
+pub get-change : {A : Type 0} (xs : List A) (k j : ℕ) (f : A → A) (y : A) → slice_get (change xs k f) j ≡ Some y
+    → (x : A) × (slice_get xs j ≡ Some x) × (((j ≡ k) × (y ≡ f x)) ⊎ ((j ≢ k) × (y ≡ x)))
+get-change [] k j f y h = let wrong : None ≡ Some y = h in cc
+get-change (x ∷ xs) zero zero f y h = (x, refl, inl (refl, sym (some-same (f x) y h)))
+get-change (x ∷ xs) zero (suc j) f y h = (y, h, inr ((λ e. omega arith), refl))
+get-change (x ∷ xs) (suc k) zero f y h = (x, refl, inr ((λ e. omega arith), sym (some-same x y h)))
+get-change (x ∷ xs) (suc k) (suc j) f y h =
+    let r = get-change xs k j f y h in (
+      r.0,
+      r.1,
+      elim r.2 [
+        | inl p ↦ inl (ap suc p.0, p.1)
+        | inr p ↦ inr ((λ e. p.0 (omega arith)), p.1)
+      ],
+    )
+
+-- a change that keeps a part of each item
+pub map-kept : {A B : Type 0} (g : A → B) (f : A → A) (xs : List A) (k : ℕ) → ((x : A) → g (f x) ≡ g x) → map g (change xs k f) ≡ map g xs
+map-kept g f [] k h = refl
+map-kept g f (x ∷ xs) zero h = ap (λ y. y ∷ map g xs) (h x)
+map-kept g f (x ∷ xs) (suc k) h = ap (λ ys. g x ∷ ys) (map-kept g f xs k h)

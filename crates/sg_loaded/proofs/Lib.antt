@@ -1,3 +1,3 @@
 mod Loads
 mod Refusing
-mod Complete
+pub mod Complete

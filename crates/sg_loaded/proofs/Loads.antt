@@ -4,7 +4,7 @@ use Rattle.sg_device.specs.Faults.{Rose}
 use Rattle.sg_outside.specs.World.{WorldState, OnlyReads, OnlyBuilds, IsContent, IsBeyond}
 use Rattle.sg_lex.specs.declared.fault.ConfigFault.{ConfigFault}
 use Rattle.sg_lex.specs.declared.token.Token.{Token}
-use Rattle.sg_expand.specs.Expansion.{State, Outcome, Goes, Stops, Faulty, Unread as UnreadFile, RunsMain}
+use Rattle.sg_expand.specs.Expansion.{ExpansionState, ExpansionOutcome, Goes, Stops, Faulty, Unread as UnreadFile, RunsMain}
 use Rattle.sg_config.specs.declared.config.Config.{Config}
 use Rattle.sg_config.specs.Means.{Means}
 use Rattle.sg_loaded.specs.declared.loaded.Loaded.{Loaded}
@@ -12,7 +12,7 @@ use Rattle.sg_loaded.specs.declared.loaded.Unloaded.{Unloaded}
 use Rattle.sg_loaded.specs.declared.loaded.Unloaded.TheVariants.{Bad, Unread, NoMemory}
 use Rattle.sg_loaded.specs.Compiling.{Compiles, BuildsTable}
 use Rattle.sg_loaded.specs.Loading.{OnlyLoads, LoadsTokens, LoadsFile, IsLeftTooLong, IsLeftUnread}
-use Rattle.sg_loaded.specs.Reading.{ComesTo, Expands}
+use Rattle.sg_loaded.specs.Reading.{FileComesTo, Expands}
 
 -- ---- what changes
 
@@ -30,10 +30,10 @@ reads-on old w new first more = (grind arith, grind arith)
 
 -- ---- what the text comes to
 
-comes-to : (old w : WorldState) (file name text : List ℕ) (outcome : Outcome) → OnlyReads old w → IsContent old.files file text → name ≡ file → RunsMain name text w outcome → ComesTo old file outcome
+comes-to : (old w : WorldState) (file name text : List ℕ) (outcome : ExpansionOutcome) → OnlyReads old w → IsContent old.files file text → name ≡ file → RunsMain name text w outcome → FileComesTo old file outcome
 comes-to old w file name text outcome reads is named runs = (text, (is, (w, (reads, subst (λ n. RunsMain n text w outcome) named runs))))
 
-expands : (old w read : WorldState) (file name text : List ℕ) (tokens : List Token) (names : List (List ℕ)) (last : State)
+expands : (old w read : WorldState) (file name text : List ℕ) (tokens : List Token) (names : List (List ℕ)) (last : ExpansionState)
     → OnlyReads old w → OnlyReads w read → IsContent old.files file text → name ≡ file → RunsMain name text w (Goes last read) → tokens ≡ last.out → names ≡ last.names
     → Expands old file tokens names read
 expands old w read file name text tokens names last reads more is named runs out files = record {
@@ -56,7 +56,7 @@ tokens-load old read new file tokens names (Err (Bad fault files)) found (same, 
 tokens-load old read new file tokens names (Err (Unread name)) found loads = absurd loads
 tokens-load old read new file tokens names (Err NoMemory) found loads = tt
 
-pub text-loads : (old w read new : WorldState) (file name text : List ℕ) (tokens : List Token) (names : List (List ℕ)) (last : State) (result : Result Loaded Unloaded)
+pub text-loads : (old w read new : WorldState) (file name text : List ℕ) (tokens : List Token) (names : List (List ℕ)) (last : ExpansionState) (result : Result Loaded Unloaded)
     → OnlyReads old w → OnlyReads w read → IsContent old.files file text → name ≡ file → RunsMain name text w (Goes last read) → tokens ≡ last.out → names ≡ last.names
     → LoadsTokens read new tokens names result → LoadsFile old new file result
 text-loads old w read new file name text tokens names last result reads more is named runs out files loads =

@@ -9,7 +9,7 @@ use Rattle.sg_fault.specs.Faults.{fault_at}
 use Rattle.sg_filter.specs.Patterns.{AreValid}
 use Rattle.sg_table.specs.Forest.{forest_of}
 use Rattle.sg_table.specs.Patterns.{patterns_in}
-use Rattle.sg_table.specs.Refused.{IsBounded, RefusesForest}
+use Rattle.sg_table.specs.Refused.{AreOffersBounded, RefusesForest}
 use Rattle.sg_table.specs.declared.table.Table.{Table}
 use Rattle.sg_tree.specs.Offers.{woods_of}
 use Rattle.sg_tree.specs.declared.refusal.PathRefusal.{PathRefusal}
@@ -22,7 +22,7 @@ use Rattle.sg_loaded.specs.declared.loaded.Unloaded.TheVariants.{Bad, Unread, No
 -- each pattern is one, and a record has no more offers than it may
 pub record CanBeCompiled (config : Config) : Type 0 where
   pub patterns : AreValid (patterns_in config.forest)
-  pub bounded : IsBounded (woods_of config.forest).tops
+  pub bounded : AreOffersBounded (woods_of config.forest).tops
 
 -- the table is that of the log paths
 pub record Compiles (config : Config) (table : Table) : Type 0 where

@@ -7,13 +7,13 @@ use Rattle.sg_loaded.specs.declared.loaded.Unloaded.{Unloaded}
 use Rattle.sg_loaded.specs.declared.loaded.Unloaded.TheVariants.{Bad, Unread, NoMemory}
 
 -- no reading failed, and no pattern was too large
-pub record IsUntroubled (old new : WorldState) : Type 0 where
+pub record LoadsUntroubled (old new : WorldState) : Type 0 where
   pub read : ¬ Rose old.read_faults new.read_faults
   pub build : ¬ Rose old.build_faults new.build_faults
 
 -- it was loaded, or memory ran out
-abbrev pub IsComplete : Result Loaded Unloaded → Type 0
-IsComplete (Ok loaded) = Unit {0}
-IsComplete (Err (Bad fault names)) = ⊥
-IsComplete (Err (Unread name)) = ⊥
-IsComplete (Err NoMemory) = Unit {0}
+abbrev pub WasLoaded : Result Loaded Unloaded → Type 0
+WasLoaded (Ok loaded) = Unit {0}
+WasLoaded (Err (Bad fault names)) = ⊥
+WasLoaded (Err (Unread name)) = ⊥
+WasLoaded (Err NoMemory) = Unit {0}

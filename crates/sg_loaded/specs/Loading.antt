@@ -6,7 +6,7 @@ use Rattle.sg_lex.specs.declared.fault.ConfigKind.TheVariants.{TooLong}
 use Rattle.sg_lex.specs.declared.token.Token.{Token}
 use Rattle.sg_outside.specs.World.{WorldState}
 use Rattle.sg_config.specs.declared.config.Config.{Config}
-use Rattle.sg_config.specs.Means.{Means, IsFirstFault}
+use Rattle.sg_config.specs.Means.{Means, IsFaultOfTokens}
 use Rattle.sg_loaded.specs.declared.loaded.Loaded.{Loaded}
 use Rattle.sg_loaded.specs.declared.loaded.Unloaded.{Unloaded}
 use Rattle.sg_loaded.specs.declared.loaded.Unloaded.TheVariants.{Bad, Unread, NoMemory}
@@ -39,10 +39,10 @@ pub record IsMeaningless (world : WorldState) (file : List ℕ) (fault : ConfigF
   pub tokens : List Token
   pub read : WorldState
   pub expands : Expands world file tokens names read
-  pub is : IsFirstFault tokens fault
+  pub is : IsFaultOfTokens tokens fault
 
 -- it is expanded to a configuration whose log paths are refused, as the machine comes to be
-pub record IsRefused (world new : WorldState) (file : List ℕ) (fault : ConfigFault) (names : List (List ℕ)) : Type 0 where
+pub record IsLoadRefused (world new : WorldState) (file : List ℕ) (fault : ConfigFault) (names : List (List ℕ)) : Type 0 where
   pub tokens : List Token
   pub read : WorldState
   pub config : Config
@@ -54,7 +54,7 @@ pub record IsRefused (world new : WorldState) (file : List ℕ) (fault : ConfigF
 abbrev pub IsFaultOf : WorldState → WorldState → List ℕ → ConfigFault → List (List ℕ) → Type 0
 IsFaultOf world new file fault names =
     IsTooLong world file fault names ⊎ (IsFaulty world file fault names
-    ⊎ (IsMeaningless world file fault names ⊎ IsRefused world new file fault names))
+    ⊎ (IsMeaningless world file fault names ⊎ IsLoadRefused world new file fault names))
 
 -- the file that couldn't be read: the main one, or one that was asked for by `@include`
 abbrev pub IsUnread : WorldState → WorldState → List ℕ → List ℕ → Type 0
@@ -76,7 +76,7 @@ abbrev pub LoadsTokens : WorldState → WorldState → List Token → List (List
 LoadsTokens old new tokens names (Ok loaded) = Means tokens loaded.config
     × Compiles loaded.config loaded.table
 LoadsTokens old new tokens names (Err (Bad fault files)) =
-    (files ≡ names) × (IsFirstFault tokens fault
+    (files ≡ names) × (IsFaultOfTokens tokens fault
     ⊎ ((config : Config) × Means tokens config × IsUncompiled old new config fault))
 LoadsTokens old new tokens names (Err (Unread name)) = ⊥
 LoadsTokens old new tokens names (Err NoMemory) = Unit {0}

@@ -5,18 +5,18 @@ use Rattle.sg_lex.specs.declared.fault.ConfigFault.{ConfigFault}
 use Rattle.sg_lex.specs.declared.fault.ConfigKind.{ConfigKind}
 use Rattle.sg_lex.specs.declared.fault.ConfigKind.TheVariants.{TooLong}
 use Rattle.sg_lex.specs.declared.token.Token.{Token}
-use Rattle.sg_expand.specs.Expansion.{State, Outcome, Goes, Stops, Faulty, Unread, RunsMain}
+use Rattle.sg_expand.specs.Expansion.{ExpansionState, ExpansionOutcome, Goes, Stops, Faulty, Unread, RunsMain}
 
 -- The text of the file of this name comes to this outcome. It is the file's content, where the machine tells it; and the
 -- included files are read once it was read.
-abbrev pub ComesTo : WorldState → List ℕ → Outcome → Type 0
-ComesTo world file outcome = (text : List ℕ) × (IsContent world.files file text
+abbrev pub FileComesTo : WorldState → List ℕ → ExpansionOutcome → Type 0
+FileComesTo world file outcome = (text : List ℕ) × (IsContent world.files file text
     × ((start : WorldState) × (OnlyReads world start × RunsMain file text start outcome)))
 
 -- it is expanded to these tokens, of files of these names; then the machine is this one, of which nothing but readings was asked
 pub record Expands (world : WorldState) (file : List ℕ) (tokens : List Token) (names : List (List ℕ)) (read : WorldState) : Type 0 where
-  pub last : State
-  pub comes : ComesTo world file (Goes last read)
+  pub last : ExpansionState
+  pub comes : FileComesTo world file (Goes last read)
   pub out : tokens ≡ last.out
   pub files : names ≡ last.names
   pub reads : OnlyReads world read
@@ -33,9 +33,9 @@ IsTooLong world file fault names = IsBeyond world.files file 1048576 × (fault �
 -- it isn't expanded
 abbrev pub IsFaulty : WorldState → List ℕ → ConfigFault → List (List ℕ) → Type 0
 IsFaulty world file fault names = (read : WorldState)
-    × ComesTo world file (Stops (Faulty fault) names read)
+    × FileComesTo world file (Stops (Faulty fault) names read)
 
 -- the file that couldn't be read is one that was asked for by `@include`
 abbrev pub IsUnreadFile : WorldState → List ℕ → List ℕ → Type 0
 IsUnreadFile world file name = (names : List (List ℕ))
-    × ((read : WorldState) × ComesTo world file (Stops (Unread name) names read))
+    × ((read : WorldState) × FileComesTo world file (Stops (Unread name) names read))

@@ -3,7 +3,7 @@ ghost use Rattle.std.specs.Prelude.{◌≡◌, ◌∷◌, [], ◌<◌, ◌^◌, 
 ghost use Rattle.sg_outside.specs.World.{Files as Content, WorldState, OnlyReads, OnlyBuilds, IsContent};
 ghost use Rattle.sg_config.specs.declared.config.Config.{Config as Meant};
 ghost use Rattle.sg_loaded.specs.Compiling.{CanBeCompiled};
-ghost use Rattle.sg_loaded.specs.Completeness.{IsUntroubled, IsComplete};
+ghost use Rattle.sg_loaded.specs.Completeness.{LoadsUntroubled, WasLoaded};
 ghost use Rattle.sg_loaded.specs.Loading.{OnlyLoads, Configures, LoadsTokens, LoadsFile, IsLeftUnread, IsLeftTooLong};
 
 use crate::compiling::compile_config;
@@ -127,7 +127,7 @@ pub fn load_file<W: Files + Builder>(
     // What is a configuration is loaded, where nothing fails and memory is there.
     ensures complete { (files : Content) (config : Meant) → (W.state world.old).files ≡ Some files
         → Configures (W.state world.old) file.now config → CanBeCompiled config
-        → IsUntroubled (W.state world.old) (W.state world.new) → IsComplete result }
+        → LoadsUntroubled (W.state world.old) (W.state world.new) → WasLoaded result }
 {
     expansions_are_one();
     texts_mean_one();

@@ -12,10 +12,10 @@ use Rattle.sg_lower.specs.Values.{template_of}
 use Rattle.sg_lower.specs.Filters.{filter_expr}
 
 -- one layer, with each part beside what it stands for
-abbrev pub Layer : Type 0
-Layer = RawExpr-F (Arg × Unit {0}) (RawExpr × Expr) (Call × Unit {0})
+abbrev pub LoweredLayer : Type 0
+LoweredLayer = RawExpr-F (Arg × Unit {0}) (RawExpr × Expr) (Call × Unit {0})
 
-abbrev pub expr_step : Names → Layer → Expr
+abbrev pub expr_step : Names → LoweredLayer → Expr
 expr_step names (RawExpr-F.Call call) = filter_expr names call.0
 expr_step names (RawExpr-F.Compare left cmp right) = x.Compare (template_of left.token.text) cmp
     (template_of right.token.text)

@@ -4,3 +4,4 @@ pub mod Patterns
 pub mod Filters
 pub mod Expressions
 pub mod Rewrites
+pub mod Parsers

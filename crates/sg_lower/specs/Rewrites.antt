@@ -1,7 +1,7 @@
 -- What rewrites do (syslog-ng's administration guide, "Modifying messages using rewrite rules").
 use Rattle.std.specs.Prelude.{ℕ, if◌then◌else◌, List, [], ◌∷◌, Option, Some, None, option_map, codes}
 use Rattle.std.specs.List.{flat_map}
-use Rattle.sg_macro.specs.declared.part.Part.{Part}
+use Rattle.sg_macro.specs.declared.part.TemplatePart.{TemplatePart}
 use Rattle.sg_pattern.specs.declared.text.PatternText.{PatternText}
 use Rattle.sg_parse_base.specs.declared.spot.Spot.{Spot}
 use Rattle.sg_parse_expr.specs.declared.tree.Arg.{Arg, out-Arg}
@@ -20,10 +20,10 @@ use Rattle.sg_lower.specs.Expressions.{expression}
 
 -- an operation, its globs as a list
 pub data Meant : Type 0 where
-  set : List ℕ → List Part → Meant
+  set : List ℕ → List TemplatePart → Meant
   unset : List ℕ → Meant
-  subst_by : List ℕ → PatternText → List Part → Meant
-  group_set : List (List ℕ) → List Part → Meant
+  subst_by : List ℕ → PatternText → List TemplatePart → Meant
+  group_set : List (List ℕ) → List TemplatePart → Meant
   group_unset : List (List ℕ) → Meant
   set_tag : List ℕ → Meant
   clear_tag : List ℕ → Meant
@@ -41,10 +41,10 @@ abbrev pub second_item : List Arg → Option Spot
 second_item [] = None
 second_item (arg ∷ args) = first_item args
 
-abbrev pub first_template : List Arg → List Part
+abbrev pub first_template : List Arg → List TemplatePart
 first_template args = template_of (text_of (first_item args))
 
-abbrev pub second_template : List Arg → List Part
+abbrev pub second_template : List Arg → List TemplatePart
 second_template args = template_of (text_of (second_item args))
 
 abbrev pub globs_behind : Option Call → List (List ℕ)

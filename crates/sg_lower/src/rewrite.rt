@@ -53,7 +53,8 @@ fn push_text(texts: &mut Vec<Name>, arg: &Arg) -> Result<(), NoMemory>
     }
 }
 
-fn texts_in(alloc: Global, args: &[Arg]) -> Result<Vec<Name>, NoMemory>
+/// The texts of the values among arguments.
+pub fn texts_in(alloc: Global, args: &[Arg]) -> Result<Vec<Name>, NoMemory>
     ensures { IfOk result
         (λ texts. texts.items ≡ flat_map (λ arg. text_if (item_of arg)) args.now) }
 {

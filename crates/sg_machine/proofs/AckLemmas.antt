@@ -14,9 +14,9 @@ use Rattle.sg_machine.specs.declared.event.Verdict.TheVariants.{Queued, Spooled,
 use Rattle.sg_machine.specs.declared.event.Act.{Act}
 use Rattle.sg_machine.specs.declared.event.Act.TheVariants.{Admit, Settle, Refill, Store, Rewind, Look}
 use Rattle.sg_machine.specs.declared.event.Event.{Event}
-use Rattle.sg_machine.specs.declared.state.Inlet.{Inlet}
+use Rattle.sg_machine.specs.declared.state.InletRecords.{InletRecords}
 use Rattle.sg_machine.specs.declared.state.Dest.{Dest}
-use Rattle.sg_machine.specs.declared.state.Entry.{Entry}
+use Rattle.sg_machine.specs.declared.state.DestEntry.{DestEntry}
 use Rattle.sg_machine.specs.declared.state.Origin.{Origin}
 use Rattle.sg_machine.specs.declared.state.State.{State}
 use Rattle.sg_machine.specs.Verdicts.{Claim, claims_of, origin_of, entry_from, take_offer, take_claim, take_claims}
@@ -30,7 +30,7 @@ use Rattle.sg_machine.proofs.RunLemmas.{both-true}
 use Rattle.sg_machine.proofs.CountLemmas.{take-drop, counts-dest}
 use Rattle.sg_machine.proofs.InletLemmas.{counts-inlet}
 
-abbrev all_of : Dest → List Entry
+abbrev all_of : Dest → List DestEntry
 all_of dest = dest.settled ++ dest.left
 
 abbrev claimed_in : Dest → List Claimed
@@ -41,7 +41,7 @@ claimed_in dest = map claimed_by (all_of dest)
 abbrev claimed_if : Bool → Origin → Offer → Verdict → List Claimed
 claimed_if b origin o v = if b && not (is_dropped v) then record { inlet = origin.inlet; number = Some origin.number; flow = o.flow } ∷ [] else []
 
-claimed-push : (dest : Dest) (e : Entry) → claimed_in (record dest { left = dest.left ++ e ∷ [] }) ≡ claimed_in dest ++ claimed_by e ∷ []
+claimed-push : (dest : Dest) (e : DestEntry) → claimed_in (record dest { left = dest.left ++ e ∷ [] }) ≡ claimed_in dest ++ claimed_by e ∷ []
 claimed-push dest e = ap (map claimed_by) (sym (append_assoc dest.settled dest.left (e ∷ []))) ∙ map_push claimed_by (all_of dest) e
 
 claimed-offer : (origin : Origin) (o : Offer) (v : Verdict) (dest : Dest) → claimed_in (take_offer origin o v dest) ≡ claimed_in dest ++ claimed_if true origin o v
@@ -85,15 +85,15 @@ claimed-claims i next ds (c ∷ cs) (v ∷ vs) d old h =
 
 -- Acts.
 
-spool-if : (e : Entry) (es rest : List Entry) (b : Bool) → map claimed_by rest ≡ map claimed_by es → map claimed_by (if b then e ∷ rest else record e { spooled = true } ∷ es) ≡ claimed_by e ∷ map claimed_by es
+spool-if : (e : DestEntry) (es rest : List DestEntry) (b : Bool) → map claimed_by rest ≡ map claimed_by es → map claimed_by (if b then e ∷ rest else record e { spooled = true } ∷ es) ≡ claimed_by e ∷ map claimed_by es
 spool-if e es rest true h = ap (λ ks. claimed_by e ∷ ks) h
 spool-if e es rest false h = refl
 
-claimed-spool : (es : List Entry) → map claimed_by (spool_first es) ≡ map claimed_by es
+claimed-spool : (es : List DestEntry) → map claimed_by (spool_first es) ≡ map claimed_by es
 claimed-spool [] = refl
 claimed-spool (e ∷ es) = spool-if e es (spool_first es) e.spooled (claimed-spool es)
 
-claimed-spool-some : (n : ℕ) (es : List Entry) → map claimed_by (spool_some n es) ≡ map claimed_by es
+claimed-spool-some : (n : ℕ) (es : List DestEntry) → map claimed_by (spool_some n es) ≡ map claimed_by es
 claimed-spool-some zero es = refl
 claimed-spool-some (suc n) es = claimed-spool-some n (spool_first es) ∙ claimed-spool es
 
@@ -126,16 +126,16 @@ claimed-act s (Rewind i) failed next d old same h = (old, h, sym (append-nil (cl
 claimed-act s Look failed next d old same h = (old, h, sym (append-nil (claimed_in old)))
 
 -- the number of the next record of each inlet
-next-kept : (xs : List Inlet) (k j : ℕ) (f : Inlet → Inlet) → ((x : Inlet) → length (f x).ends ≡ length x.ends)
-    → option_map_or (λ (x : Inlet). length x.ends) (slice_get (change xs k f) j) 0 ≡ option_map_or (λ (x : Inlet). length x.ends) (slice_get xs j) 0
+next-kept : (xs : List InletRecords) (k j : ℕ) (f : InletRecords → InletRecords) → ((x : InletRecords) → length (f x).ends ≡ length x.ends)
+    → option_map_or (λ (x : InletRecords). length x.ends) (slice_get (change xs k f) j) 0 ≡ option_map_or (λ (x : InletRecords). length x.ends) (slice_get xs j) 0
 next-kept [] k j f same = refl
 next-kept (x ∷ xs) zero zero f same = same x
 next-kept (x ∷ xs) zero (suc j) f same = refl
 next-kept (x ∷ xs) (suc k) zero f same = refl
 next-kept (x ∷ xs) (suc k) (suc j) f same = next-kept xs k j f same
 
-next-more : (xs : List Inlet) (k : ℕ) (records : List Admission) (inlet : Inlet) → slice_get xs k ≡ Some inlet
-    → option_map_or (λ (x : Inlet). length x.ends) (slice_get (change xs k (admitted records)) k) 0 ≡ option_map_or (λ (x : Inlet). length x.ends) (slice_get xs k) 0 + length (ends_of records)
+next-more : (xs : List InletRecords) (k : ℕ) (records : List Admission) (inlet : InletRecords) → slice_get xs k ≡ Some inlet
+    → option_map_or (λ (x : InletRecords). length x.ends) (slice_get (change xs k (admitted records)) k) 0 ≡ option_map_or (λ (x : InletRecords). length x.ends) (slice_get xs k) 0 + length (ends_of records)
 next-more [] k records inlet h = let wrong : None ≡ Some inlet = h in cc
 next-more (x ∷ xs) zero records inlet h = length-append x.ends (ends_of records)
 next-more (x ∷ xs) (suc k) records inlet h = next-more xs k records inlet h
@@ -181,7 +181,7 @@ drop-behind : {A B : Type 0} (f : A → B) (xs ys : List A) → drop (length xs)
 drop-behind f [] ys = refl
 drop-behind f (x ∷ xs) ys = drop-behind f xs ys
 
-any-owed : (i n : ℕ) (es : List Entry) → list_any (is_owed_to i n) es ≡ any_owing i n (map claimed_by es) (map is_spooled es)
+any-owed : (i n : ℕ) (es : List DestEntry) → list_any (is_owed_to i n) es ≡ any_owing i n (map claimed_by es) (map is_spooled es)
 any-owed i n [] = refl
 any-owed i n (e ∷ es) = ap (λ b. is_owed_to i n e || b) (any-owed i n es)
 
@@ -214,7 +214,7 @@ acked-from s es i n d (x ∷ ds) (f ∷ fs) len each =
     (r.0, r.1, r.2 ∙ ap (λ j. owes_none i n s es j old) (omega arith)))) in
     rw (here, rest) refl
 
-length-claims : (i next : ℕ) (ds : List Dest) (cs : List Claim) (vs : List Verdict) → length (take_claims i next ds cs vs) ≡ length ds
+pub length-claims : (i next : ℕ) (ds : List Dest) (cs : List Claim) (vs : List Verdict) → length (take_claims i next ds cs vs) ≡ length ds
 length-claims i next ds [] vs = refl
 length-claims i next ds (c ∷ cs) [] = refl
 length-claims i next ds (c ∷ cs) (v ∷ vs) = length-claims i next (take_claim i next ds c v) cs vs ∙ length-change ds c.offer.dest (take_offer (origin_of i next c) c.offer v)
@@ -247,8 +247,8 @@ outstanding-read : (ds : List Dest) (acked : ℕ → Bool) (i n : ℕ) (ends : L
 outstanding-read ds acked i n [] same = refl
 outstanding-read ds acked i n (x ∷ ends) same = rw (same n) (ap (λ m. if acked n then m else suc (length ends)) (outstanding-read ds acked i (n + 1) ends same))
 
-pub counts-mark : (s : State) (es : List Event) (i : ℕ) (old : Inlet) → are_legal s es ≡ true → slice_get s.inlets i ≡ Some old
-    → (new : Inlet) × (slice_get (after_all s es).inlets i ≡ Some new) × CountsMark s old new i es
+pub counts-mark : (s : State) (es : List Event) (i : ℕ) (old : InletRecords) → are_legal s es ≡ true → slice_get s.inlets i ≡ Some old
+    → (new : InletRecords) × (slice_get (after_all s es).inlets i ≡ Some new) × CountsMark s old new i es
 counts-mark s es i old l h =
     let c = counts-inlet s es i old l h in
     let ds = (after_all s es).dests in

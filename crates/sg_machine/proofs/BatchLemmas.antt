@@ -13,13 +13,13 @@ use Rattle.sg_machine.specs.declared.event.Act.TheVariants.{Admit}
 use Rattle.sg_machine.specs.declared.setup.BufferSetup.{BufferSetup}
 use Rattle.sg_machine.specs.declared.setup.DestSetup.{DestSetup}
 use Rattle.sg_machine.specs.declared.state.Dest.{Dest}
-use Rattle.sg_machine.specs.declared.state.Entry.{Entry}
+use Rattle.sg_machine.specs.declared.state.DestEntry.{DestEntry}
 use Rattle.sg_machine.specs.declared.state.Origin.{Origin}
 use Rattle.sg_machine.specs.declared.state.State.{State}
 use Rattle.sg_machine.specs.Verdicts.{Claim, claims_of, origin_of, is_listed, same_verdict, queue_verdict, disk_verdict, judged_by, judged_at, judged, take_offer, take_claim}
 use Rattle.sg_machine.specs.Legal.{is_same_list, may_admit, is_legal_act}
 use Rattle.sg_machine.specs.Effects.{next_of}
-use Rattle.sg_machine.specs.Runs.{Kept}
+use Rattle.sg_machine.specs.Runs.{BufferedEntry}
 use Rattle.sg_machine.specs.Safe.{kept_from, spooled_offers, would_spool, appends, tried_by}
 use Rattle.sg_machine.proofs.RunLemmas.{both-true}
 use Rattle.sg_machine.proofs.FlowLemmas.{mapped-some, then-some}
@@ -42,11 +42,11 @@ none-when : (p : Bool) (y z : List ℕ) → (if true && p then (if false then So
 none-when true y z = refl
 none-when false y z = refl
 
-none-is : (x : List ℕ) → None ≡ Some x → ⊥
+pub none-is : (x : List ℕ) → None ≡ Some x → ⊥
 none-is x h = cc
 
 -- a store that fails within the event spools nothing in it
-failing-spools : (b : BufferSetup) (fifo : ℕ) (left : List Entry) (failing failed : List ℕ) (o : Offer) (v : Verdict) (x : List ℕ) → is_listed b.store failing ≡ true → judged_by (Some b) fifo left failing failed o v ≡ Some x
+failing-spools : (b : BufferSetup) (fifo : ℕ) (left : List DestEntry) (failing failed : List ℕ) (o : Offer) (v : Verdict) (x : List ℕ) → is_listed b.store failing ≡ true → judged_by (Some b) fifo left failing failed o v ≡ Some x
     → same_verdict Spooled v ≡ false
 failing-spools b fifo left failing failed o Queued x l j = refl
 failing-spools b fifo left failing failed o Spooled x l j =
@@ -65,7 +65,7 @@ judged-here ds k d dest b failing failed o v x e h q j =
     let Q : Option BufferSetup → Type 0 = λ y. judged_by y dest.setup.fifo dest.left failing failed o v ≡ Some x in
     subst Q q (subst P at j)
 
-skip-if : (p q : Bool) (k : Kept) (ks : List Kept) → (p && q) ≡ false → (if p && q then k ∷ ks else ks) ≡ ks
+skip-if : (p q : Bool) (k : BufferedEntry) (ks : List BufferedEntry) → (p && q) ≡ false → (if p && q then k ∷ ks else ks) ≡ ks
 skip-if p q k ks h = rw h refl
 
 and-right : (p q : Bool) → q ≡ false → (p && q) ≡ false
@@ -106,7 +106,7 @@ failing-appends s i records vs failed d dest b l h q f =
 
 -- where the store works
 
-same-is : (v w : Verdict) → same_verdict v w ≡ true → v ≡ w
+pub same-is : (v w : Verdict) → same_verdict v w ≡ true → v ≡ w
 same-is Queued Queued h = refl
 same-is Queued Spooled h = let wrong : false ≡ true = h in cc
 same-is Queued Waits h = let wrong : false ≡ true = h in cc
@@ -167,7 +167,7 @@ failed-if n m failing failed x true true q r l k f j =
 failed-if n m failing failed x true false q r l k f j = let P : List ℕ → Type 0 = λ y. is_listed n y ≡ false in subst P (list-same failed x (kept-if r failed x j).1) f
 failed-if n m failing failed x false p q r l k f j = let P : List ℕ → Type 0 = λ y. is_listed n y ≡ false in subst P (list-same failed x (kept-if r failed x j).1) f
 
-works-on : (n : ℕ) (buffer : Option BufferSetup) (fifo : ℕ) (left : List Entry) (failing failed : List ℕ) (o : Offer) (v : Verdict) (x : List ℕ) → is_listed n failing ≡ false → is_listed n failed ≡ false
+works-on : (n : ℕ) (buffer : Option BufferSetup) (fifo : ℕ) (left : List DestEntry) (failing failed : List ℕ) (o : Offer) (v : Verdict) (x : List ℕ) → is_listed n failing ≡ false → is_listed n failed ≡ false
     → judged_by buffer fifo left failing failed o v ≡ Some x → is_listed n x ≡ false
 works-on n None fifo left failing failed o v x k f j = let P : List ℕ → Type 0 = λ y. is_listed n y ≡ false in subst P (list-same failed x (kept-if (same_verdict v (queue_verdict fifo left o)) failed x j).1) f
 works-on n (Some b) fifo left failing failed o v x k f j =
@@ -177,14 +177,14 @@ works-at : (n : ℕ) (dest : Option Dest) (failing failed : List ℕ) (o : Offer
 works-at n None failing failed o v x k f j = absurd (none-is x j)
 works-at n (Some dest) failing failed o v x k f j = works-on n dest.setup.buffer dest.setup.fifo dest.left failing failed o v x k f j
 
-working-verdict : (b : BufferSetup) (fifo : ℕ) (left : List Entry) (failing failed : List ℕ) (o : Offer) (v : Verdict) (x : List ℕ) → is_listed b.store failing ≡ false → is_listed b.store failed ≡ false
+working-verdict : (b : BufferSetup) (fifo : ℕ) (left : List DestEntry) (failing failed : List ℕ) (o : Offer) (v : Verdict) (x : List ℕ) → is_listed b.store failing ≡ false → is_listed b.store failed ≡ false
     → judged_by (Some b) fifo left failing failed o v ≡ Some x → v ≡ disk_verdict b left false o
 working-verdict b fifo left failing failed o v x k f j =
     let w = disk_verdict b left false o in
     let plain : judged_by (Some b) fifo left failing failed o v ≡ (if same_verdict v w then Some failed else None) = rw (k, f) refl in
     same-is v w (kept-if (same_verdict v w) failed x (sym plain ∙ j)).0
 
-spool-if : (p q : Bool) (k : Kept) (ks ls : List Kept) → p ≡ true → ks ≡ ls → (if p && q then k ∷ ks else ks) ≡ (if q then k ∷ ls else ls)
+spool-if : (p q : Bool) (k : BufferedEntry) (ks ls : List BufferedEntry) → p ≡ true → ks ≡ ls → (if p && q then k ∷ ks else ks) ≡ (if q then k ∷ ls else ls)
 spool-if p q k ks ls h e = rw (h, e) refl
 
 would-here : (d i next : ℕ) (b : BufferSetup) (dest : Dest) (c : Claim) (cs : List Claim) (v : Verdict) → (c.offer.dest == d) ≡ true → v ≡ disk_verdict b dest.left false c.offer

@@ -51,7 +51,7 @@ unfailed-offered failed i number o v (d ∷ ds) (suc k) = ap (λ n. one_if (work
 
 -- one more store has failed
 
-or-assoc : (a b c : Bool) → (a || (b || c)) ≡ ((a || b) || c)
+pub or-assoc : (a b c : Bool) → (a || (b || c)) ≡ ((a || b) || c)
 or-assoc true b c = refl
 or-assoc false b c = refl
 

@@ -6,17 +6,17 @@ use Rattle.std.proofs.lemmas.Bool.{cases_Bool}
 use Rattle.std.proofs.lemmas.List.{append-nil}
 use Rattle.sg_list.specs.Lists.{change}
 use Rattle.sg_list.proofs.ListLemmas.{some-same, slice_get-map, get-change-same}
-use Rattle.sg_machine.specs.declared.state.Entry.{Entry}
+use Rattle.sg_machine.specs.declared.state.DestEntry.{DestEntry}
 use Rattle.sg_machine.specs.declared.state.Dest.{Dest}
 use Rattle.sg_machine.specs.declared.state.State.{State}
 use Rattle.sg_machine.specs.declared.running.Run.{Run}
 use Rattle.sg_machine.specs.Legal.{first_fits, fit_in_turn}
 use Rattle.sg_machine.specs.Effects.{settled_some, spool_first, refilled_some}
-use Rattle.sg_machine.specs.Running.{slip_of, spooled_in, dest_run, source_runs, run_of, is_split, are_split, IsSound}
+use Rattle.sg_machine.specs.Running.{slip_of, spooled_in, dest_run, source_runs, run_of, is_split, are_split, IsSoundReplay}
 use Rattle.sg_machine.specs.Turns.{settled_run, settle_acks, settle_turn, settle_turns, moved_run, can_move, move_turn, move_turns}
 use Rattle.sg_machine.proofs.RunLemmas.{both-true}
 use Rattle.sg_machine.proofs.OwedLemmas.{Lessens, sources-ack, sources-spooled, admitted-less}
-use Rattle.sg_machine.proofs.SplitLemmas.{get-behind, split-tail, spooled-cons, waiting-cons, dest-settled, settle-lessens, Spools, spools-at, can-move, dest-moved, first-fits}
+use Rattle.sg_machine.proofs.SplitLemmas.{get-behind, split-tail, spooled-cons, waiting-cons, dest-settled, settle-lessens, SpoolsEntry, spools-at, can-move, dest-moved, first-fits}
 
 -- Changes of one item.
 
@@ -65,8 +65,8 @@ with_dests ds s = record s { dests = ds }
 
 -- One entry is settled.
 
-record Settles (s : State) (d : ℕ) : Type 0 where
-  sound : IsSound (with_dests (change s.dests d (settled_some 1)) s)
+record SettlesEntries (s : State) (d : ℕ) : Type 0 where
+  sound : IsSoundReplay (with_dests (change s.dests d (settled_some 1)) s)
   at : settle_turn d (run_of s) ≡ run_of (with_dests (change s.dests d (settled_some 1)) s)
 
 lt-self : (n : ℕ) → nat_lt n (n + 0) ≡ false
@@ -75,7 +75,7 @@ lt-self n = grind arith
 lt-more : (n k : ℕ) → nat_lt n (n + suc k) ≡ true
 lt-more n k = grind arith
 
-settle-sources : (s : State) (d : ℕ) (dest : Dest) (e : Entry) (es : List Entry) → IsSound s → slice_get s.dests d ≡ Some dest → dest.left ≡ e ∷ es → is_split (e ∷ es) ≡ true → (b : Bool) → e.spooled ≡ b
+settle-sources : (s : State) (d : ℕ) (dest : Dest) (e : DestEntry) (es : List DestEntry) → IsSoundReplay s → slice_get s.dests d ≡ Some dest → dest.left ≡ e ∷ es → is_split (e ∷ es) ≡ true → (b : Bool) → e.spooled ≡ b
     → settle_acks (source_runs s.dests 0 s.inlets) (dest_run dest) ≡ source_runs (change s.dests d (settled_some 1)) 0 s.inlets
 settle-sources s d dest e es sound g h split true spooled =
     let more : nat_lt (length dest.settled) (length dest.settled + spooled_in dest.left) ≡ true = rw (h, spooled-cons e es spooled) (lt-more (length dest.settled) (spooled_in es)) in
@@ -86,7 +86,7 @@ settle-sources s d dest e es sound g h split false spooled =
     let at : slice_get (map slip_of (dest.settled ++ dest.left)) n ≡ Some (slip_of e) = rw h (get-behind dest.settled (e ∷ es) 0 n (omega arith)) in
     rw (none, at) (sym (sources-ack s d (settled_some 1) dest e sound g spooled (settle-lessens dest e es h)))
 
-settle-one : (s : State) (d : ℕ) (dest : Dest) (e : Entry) (es : List Entry) → IsSound s → slice_get s.dests d ≡ Some dest → dest.left ≡ e ∷ es → Settles s d
+settle-one : (s : State) (d : ℕ) (dest : Dest) (e : DestEntry) (es : List DestEntry) → IsSoundReplay s → slice_get s.dests d ≡ Some dest → dest.left ≡ e ∷ es → SettlesEntries s d
 settle-one s d dest e es sound g h =
     let split = split-at s.dests d dest sound.split g in
     let parts : is_split (e ∷ es) ≡ true = rw h at split in
@@ -104,21 +104,21 @@ settle-one s d dest e es sound g h =
 
 -- So many entries are settled.
 
-pub record SettlesSome (s : State) (d n : ℕ) : Type 0 where
-  pub sound : IsSound (with_dests (change s.dests d (settled_some n)) s)
+pub record SettlesSomeEntries (s : State) (d n : ℕ) : Type 0 where
+  pub sound : IsSoundReplay (with_dests (change s.dests d (settled_some n)) s)
   pub at : settle_turns n d (run_of s) ≡ run_of (with_dests (change s.dests d (settled_some n)) s)
 
-settle-zero : (dest : Dest) → settled_some 0 dest ≡ dest
+pub settle-zero : (dest : Dest) → settled_some 0 dest ≡ dest
 settle-zero dest = rw (append-nil dest.settled) refl
 
-settle-more : (n : ℕ) (dest : Dest) (e : Entry) (es : List Entry) → dest.left ≡ e ∷ es → settled_some n (settled_some 1 dest) ≡ settled_some (suc n) dest
-settle-more n dest e es h = rw h (ap (λ (xs : List Entry). record dest { settled = xs; left = drop n es }) (append_assoc dest.settled (e ∷ []) (take n es)))
+pub settle-more : (n : ℕ) (dest : Dest) (e : DestEntry) (es : List DestEntry) → dest.left ≡ e ∷ es → settled_some n (settled_some 1 dest) ≡ settled_some (suc n) dest
+settle-more n dest e es h = rw h (ap (λ (xs : List DestEntry). record dest { settled = xs; left = drop n es }) (append_assoc dest.settled (e ∷ []) (take n es)))
 
-first-of : (left : List Entry) (n : ℕ) → suc n ≤ length left → (e : Entry) × (es : List Entry) × (left ≡ e ∷ es)
+first-of : (left : List DestEntry) (n : ℕ) → suc n ≤ length left → (e : DestEntry) × (es : List DestEntry) × (left ≡ e ∷ es)
 first-of [] n h = absurd (omega arith)
 first-of (e ∷ es) n h = (e, es, refl)
 
-pub settle-some : (s : State) (d n : ℕ) (dest : Dest) → IsSound s → slice_get s.dests d ≡ Some dest → n ≤ length dest.left → SettlesSome s d n
+pub settle-some : (s : State) (d n : ℕ) (dest : Dest) → IsSoundReplay s → slice_get s.dests d ≡ Some dest → n ≤ length dest.left → SettlesSomeEntries s d n
 settle-some s d zero dest sound g h =
     let same : change s.dests d (settled_some 0) ≡ s.dests = change-self s.dests d (settled_some 0) dest g (settle-zero dest) in
     record { sound = rw same sound; at = rw same refl }
@@ -131,20 +131,20 @@ settle-some s d (suc n) dest sound g h =
     let same : change (change s.dests d (settled_some 1)) d (settled_some n) ≡ change s.dests d (settled_some (suc n)) =
     change-twice s.dests d (settled_some 1) (settled_some n) ∙ change-agree s.dests d (λ x. settled_some n (settled_some 1 x)) (settled_some (suc n)) dest g (settle-more n dest f.0 f.1 f.2) in
     record {
-      sound = subst (λ ds. IsSound (with_dests ds s)) same rest.sound;
+      sound = subst (λ ds. IsSoundReplay (with_dests ds s)) same rest.sound;
       at = ap (settle_turns n d) one.at ∙ rest.at ∙ ap (λ ds. run_of (with_dests ds s)) same;
     }
 
 -- One entry is moved.
 
-record Moves (s : State) (d : ℕ) : Type 0 where
-  sound : IsSound (with_dests (change s.dests d (refilled_some 1)) s)
+record MovesEntries (s : State) (d : ℕ) : Type 0 where
+  sound : IsSoundReplay (with_dests (change s.dests d (refilled_some 1)) s)
   at : move_turn d (run_of s) ≡ run_of (with_dests (change s.dests d (refilled_some 1)) s)
 
-move-lessens : (dest : Dest) (e : Entry) → Spools dest.left (spool_first dest.left) e → Lessens dest (refilled_some 1 dest) e
+move-lessens : (dest : Dest) (e : DestEntry) → SpoolsEntry dest.left (spool_first dest.left) e → Lessens dest (refilled_some 1 dest) e
 move-lessens dest e s i n = s.owes i n
 
-move-one : (s : State) (d : ℕ) (dest : Dest) (e : Entry) → IsSound s → slice_get s.dests d ≡ Some dest → slice_get dest.left (spooled_in dest.left) ≡ Some e → Moves s d
+move-one : (s : State) (d : ℕ) (dest : Dest) (e : DestEntry) → IsSoundReplay s → slice_get s.dests d ≡ Some dest → slice_get dest.left (spooled_in dest.left) ≡ Some e → MovesEntries s d
 move-one s d dest e sound g h =
     let split = split-at s.dests d dest sound.split g in
     let spools = spools-at dest.left e split h in
@@ -164,10 +164,10 @@ move-one s d dest e sound g h =
 -- So many entries are moved, as far as they fit.
 
 pub record MovesSome (s : State) (d n capacity : ℕ) (dest : Dest) : Type 0 where
-  pub sound : fit_in_turn n capacity dest.left ≡ true → IsSound (with_dests (change s.dests d (refilled_some n)) s)
+  pub sound : fit_in_turn n capacity dest.left ≡ true → IsSoundReplay (with_dests (change s.dests d (refilled_some n)) s)
   pub at : move_turns n capacity d (run_of s) ≡ (if fit_in_turn n capacity dest.left then Some (run_of (with_dests (change s.dests d (refilled_some n)) s)) else None)
 
-fits-some : (o : Option Entry) (p : Entry → Bool) → option_map_or p o false ≡ true → (e : Entry) × (o ≡ Some e)
+fits-some : (o : Option DestEntry) (p : DestEntry → Bool) → option_map_or p o false ≡ true → (e : DestEntry) × (o ≡ Some e)
 fits-some None p h = let wrong : false ≡ true = h in cc
 fits-some (Some e) p h = (e, refl)
 
@@ -177,7 +177,7 @@ none-moves b x y h = rw h refl
 move-step : (n capacity d : ℕ) (run : Run) (b : Bool) → option_map_or (can_move capacity) (slice_get run.dests d) false ≡ b → move_turns (suc n) capacity d run ≡ (if b then move_turns n capacity d (move_turn d run) else None)
 move-step n capacity d run b h = rw h refl
 
-pub move-some : (s : State) (d n capacity : ℕ) (dest : Dest) → IsSound s → slice_get s.dests d ≡ Some dest → MovesSome s d n capacity dest
+pub move-some : (s : State) (d n capacity : ℕ) (dest : Dest) → IsSoundReplay s → slice_get s.dests d ≡ Some dest → MovesSome s d n capacity dest
 move-some s d zero capacity dest sound g =
     let same : change s.dests d (refilled_some 0) ≡ s.dests = change-self s.dests d (refilled_some 0) dest g refl in
     record { sound = λ h. rw same sound; at = rw same refl }
@@ -193,7 +193,7 @@ move-some s d (suc n) capacity dest sound g =
           let next = get-change-same s.dests d (refilled_some 1) dest g in
           let rest = move-some (with_dests (change s.dests d (refilled_some 1)) s) d n capacity (refilled_some 1 dest) one.sound next in
           let same : change (change s.dests d (refilled_some 1)) d (refilled_some n) ≡ change s.dests d (refilled_some (suc n)) = change-twice s.dests d (refilled_some 1) (refilled_some n) in
-          let sound_then : fit_in_turn n capacity (spool_first dest.left) ≡ true → IsSound (with_dests (change s.dests d (refilled_some (suc n))) s) = λ h. subst (λ ds. IsSound (with_dests ds s)) same (rest.sound h) in
+          let sound_then : fit_in_turn n capacity (spool_first dest.left) ≡ true → IsSoundReplay (with_dests (change s.dests d (refilled_some (suc n))) s) = λ h. subst (λ ds. IsSoundReplay (with_dests ds s)) same (rest.sound h) in
           let done : move_turns n capacity d (move_turn d (run_of s)) ≡ (if fit_in_turn n capacity (spool_first dest.left) then Some (run_of (with_dests (change s.dests d (refilled_some (suc n))) s)) else None) =
           ap (move_turns n capacity d) one.at ∙ rest.at ∙ ap (λ ds. if fit_in_turn n capacity (spool_first dest.left) then Some (run_of (with_dests ds s)) else None) same in
           record { sound = rw fitting sound_then; at = move-step n capacity d (run_of s) true (can ∙ fitting) ∙ rw fitting done })

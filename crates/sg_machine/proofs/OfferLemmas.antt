@@ -8,7 +8,7 @@ use Rattle.sg_machine.specs.declared.state.Dest.{Dest}
 use Rattle.sg_list.specs.Lists.{change}
 use Rattle.sg_machine.specs.Verdicts.{take_offer}
 use Rattle.sg_machine.specs.Legal.{is_same_list}
-use Rattle.sg_machine.specs.Runs.{Kept, opened_dests}
+use Rattle.sg_machine.specs.Runs.{BufferedEntry, opened_dests}
 use Rattle.sg_machine.specs.Effects.{settled_some, refilled_some}
 use Rattle.sg_machine.specs.declared.setup.DestSetup.{DestSetup}
 
@@ -40,7 +40,7 @@ most_dropped-settle ds k n = most_dropped-same (settled_some n) (λ d. refl) (λ
 pub most_dropped-refill : (ds : List Dest) (k n : ℕ) → most_dropped (change ds k (refilled_some n)) ≡ most_dropped ds
 most_dropped-refill ds k n = most_dropped-same (refilled_some n) (λ d. refl) (λ d. refl) ds k
 
-pub most_dropped-opened : (setups : List DestSetup) (entries : List (List Kept)) → most_dropped (opened_dests setups entries) ≡ 0
+pub most_dropped-opened : (setups : List DestSetup) (entries : List (List BufferedEntry)) → most_dropped (opened_dests setups entries) ≡ 0
 most_dropped-opened [] es = refl
 most_dropped-opened (s ∷ ss) [] = omega (arith, most_dropped-opened ss [])
 most_dropped-opened (s ∷ ss) (e ∷ es) = omega (arith, most_dropped-opened ss es)

@@ -7,19 +7,19 @@ use Rattle.std.proofs.lemmas.List.{append-nil, length_push}
 use Rattle.sg_list.specs.Lists.{change}
 use Rattle.sg_list.proofs.ListLemmas.{get-change-same}
 use Rattle.sg_msg.specs.declared.offer.Offer.{Offer}
-use Rattle.sg_window.specs.declared.tracker.Record.{Record}
+use Rattle.sg_window.specs.declared.tracker.BegunRecord.{BegunRecord}
 use Rattle.sg_machine.specs.declared.event.Admission.{Admission}
 use Rattle.sg_machine.specs.declared.event.Verdict.{Verdict}
-use Rattle.sg_machine.specs.declared.state.Inlet.{Inlet}
+use Rattle.sg_machine.specs.declared.state.InletRecords.{InletRecords}
 use Rattle.sg_machine.specs.declared.state.Dest.{Dest}
 use Rattle.sg_machine.specs.declared.state.State.{State}
 use Rattle.sg_machine.specs.Verdicts.{Claim, claims_in, claims_from, judged_at, judged, take_claim, take_claims}
 use Rattle.sg_machine.specs.Effects.{ends_of, admitted}
-use Rattle.sg_machine.specs.Running.{owed, records_from, source_run, source_runs, run_of, ends_at, IsSound}
+use Rattle.sg_machine.specs.Running.{owed, records_from, source_run, source_runs, run_of, ends_at, IsSoundReplay}
 use Rattle.sg_machine.specs.Turns.{begun_one, begun_in, owing, record_taken, record_turn, record_turns}
 use Rattle.sg_machine.proofs.OwedLemmas.{acked-behind, mark-behind, records-same, records-length, sources-above}
 use Rattle.sg_machine.proofs.MoveLemmas.{change-twice, change-self}
-use Rattle.sg_machine.proofs.TakeLemmas.{is_at, Takes, judged-same, takes-all}
+use Rattle.sg_machine.proofs.TakeLemmas.{is_at, TakesEntry, judged-same, takes-all}
 
 -- One more record.
 
@@ -27,31 +27,31 @@ records-push : (ds : List Dest) (i n : ℕ) (ends : List ℕ) (end m : ℕ) → 
 records-push ds i n [] end m h = let e : n ≡ m = omega arith in rw e refl
 records-push ds i n (x ∷ ends) end m h = ap (λ rs. record { end = x; left = owed ds i n } ∷ rs) (records-push ds i (n + 1) ends end m (omega arith))
 
-records-below : (ds fs : List Dest) (i n : ℕ) (ends : List ℕ) → ((j : ℕ) → j < n + length ends → owed fs i j ≡ owed ds i j) → records_from fs i n ends ≡ records_from ds i n ends
+pub records-below : (ds fs : List Dest) (i n : ℕ) (ends : List ℕ) → ((j : ℕ) → j < n + length ends → owed fs i j ≡ owed ds i j) → records_from fs i n ends ≡ records_from ds i n ends
 records-below ds fs i n [] h = refl
 records-below ds fs i n (x ∷ ends) h =
     let here : owed fs i n ≡ owed ds i n = h n (omega arith) in
     let rest = records-below ds fs i (n + 1) ends (λ j l. h j (omega arith)) in
     rw (here, rest) refl
 
-abbrev one_record : ℕ → Inlet → Inlet
+abbrev one_record : ℕ → InletRecords → InletRecords
 one_record end inlet = record inlet { ends = inlet.ends ++ end ∷ [] }
 
-source-more : (ds fs : List Dest) (i : ℕ) (x : Inlet) (end left : ℕ) → ((j : ℕ) → j < length x.ends → owed fs i j ≡ owed ds i j) → owed fs i (length x.ends) ≡ left
+source-more : (ds fs : List Dest) (i : ℕ) (x : InletRecords) (end left : ℕ) → ((j : ℕ) → j < length x.ends → owed fs i j ≡ owed ds i j) → owed fs i (length x.ends) ≡ left
     → source_run fs i (one_record end x) ≡ begun_one end left (source_run ds i x)
 source-more ds fs i x end left same new =
     let rs = records_from ds i 0 x.ends in
-    let r : Record = record { end = end; left = left } in
+    let r : BegunRecord = record { end = end; left = left } in
     let push = records-push fs i 0 x.ends end (length x.ends) (omega arith) in
     let old = records-below ds fs i 0 x.ends (λ j l. same j (omega arith)) in
     rw (push, old, new, acked-behind rs (r ∷ []), mark-behind x.opening rs (r ∷ [])) refl
 
-pub number-ends : (inlets : List Inlet) (i : ℕ) → option_map_or (λ (x : Inlet). length x.ends) (slice_get inlets i) 0 ≡ length (ends_at inlets i)
+pub number-ends : (inlets : List InletRecords) (i : ℕ) → option_map_or (λ (x : InletRecords). length x.ends) (slice_get inlets i) 0 ≡ length (ends_at inlets i)
 number-ends [] i = refl
 number-ends (x ∷ inlets) zero = refl
 number-ends (x ∷ inlets) (suc i) = number-ends inlets i
 
-sources-more : (ds fs : List Dest) (i k m end left : ℕ) (inlets : List Inlet) → i + k ≡ m
+sources-more : (ds fs : List Dest) (i k m end left : ℕ) (inlets : List InletRecords) → i + k ≡ m
     → ((j n : ℕ) → j ≢ m → owed fs j n ≡ owed ds j n) → ((n : ℕ) → n < length (ends_at inlets k) → owed fs m n ≡ owed ds m n)
     → owed fs m (length (ends_at inlets k)) ≡ left
     → source_runs fs i (change inlets k (one_record end)) ≡ change (source_runs ds i inlets) k (begun_one end left)
@@ -67,14 +67,14 @@ sources-more ds fs i (suc k) m end left (x ∷ inlets) at others same new =
     let rest = sources-more ds fs (i + 1) k m end left inlets (omega arith) others same new in
     rw (here, rest) refl
 
-ends-longer : (inlets : List Inlet) (i end j : ℕ) → length (ends_at inlets j) ≤ length (ends_at (change inlets i (one_record end)) j)
+ends-longer : (inlets : List InletRecords) (i end j : ℕ) → length (ends_at inlets j) ≤ length (ends_at (change inlets i (one_record end)) j)
 ends-longer [] i end j = omega arith
 ends-longer (x ∷ inlets) zero end zero = let l = length_push x.ends end in omega arith
 ends-longer (x ∷ inlets) zero end (suc j) = omega arith
 ends-longer (x ∷ inlets) (suc i) end zero = omega arith
 ends-longer (x ∷ inlets) (suc i) end (suc j) = ends-longer inlets i end j
 
-ends-itself : (inlets : List Inlet) (i end : ℕ) (inlet : Inlet) → slice_get inlets i ≡ Some inlet → length (ends_at (change inlets i (one_record end)) i) ≡ length (ends_at inlets i) + 1
+ends-itself : (inlets : List InletRecords) (i end : ℕ) (inlet : InletRecords) → slice_get inlets i ≡ Some inlet → length (ends_at (change inlets i (one_record end)) i) ≡ length (ends_at inlets i) + 1
 ends-itself [] i end inlet h = let wrong : None ≡ Some inlet = h in cc
 ends-itself (x ∷ inlets) zero end inlet h = length_push x.ends end
 ends-itself (x ∷ inlets) (suc i) end inlet h = ends-itself inlets i end inlet h
@@ -89,17 +89,17 @@ apart-number i number j n h = grind arith
 abbrev pub with_record : State → ℕ → ℕ → List Dest → List ℕ → State
 with_record s i end fs failed = record s { inlets = change s.inlets i (one_record end); dests = fs; failed = failed }
 
-record Begins (s : State) (i : ℕ) (r : Admission) (vs : List Verdict) (fs : List Dest) (failed : List ℕ) : Type 0 where
-  sound : IsSound (with_record s i r.end fs failed)
+record BeginsRecord (s : State) (i : ℕ) (r : Admission) (vs : List Verdict) (fs : List Dest) (failed : List ℕ) : Type 0 where
+  sound : IsSoundReplay (with_record s i r.end fs failed)
   at : record_taken i (run_of s) r vs failed ≡ run_of (with_record s i r.end fs failed)
 
-begun-same : (ds : List Dest) (i k : ℕ) (inlets : List Inlet) → begun_in (source_runs ds i inlets) k ≡ length (ends_at inlets k)
+begun-same : (ds : List Dest) (i k : ℕ) (inlets : List InletRecords) → begun_in (source_runs ds i inlets) k ≡ length (ends_at inlets k)
 begun-same ds i k [] = refl
 begun-same ds i zero (x ∷ inlets) = records-length ds i 0 x.ends
 begun-same ds i (suc k) (x ∷ inlets) = begun-same ds (i + 1) k inlets
 
-begins : (s : State) (i : ℕ) (inlet : Inlet) (r : Admission) (vs : List Verdict) (fs : List Dest) (failed : List ℕ) (number : ℕ) → IsSound s → slice_get s.inlets i ≡ Some inlet → number ≡ length (ends_at s.inlets i)
-    → Takes i number s.dests fs r.offers vs → Begins s i r vs fs failed
+begins : (s : State) (i : ℕ) (inlet : InletRecords) (r : Admission) (vs : List Verdict) (fs : List Dest) (failed : List ℕ) (number : ℕ) → IsSoundReplay s → slice_get s.inlets i ≡ Some inlet → number ≡ length (ends_at s.inlets i)
+    → TakesEntry i number s.dests fs r.offers vs → BeginsRecord s i r vs fs failed
 begins s i inlet r vs fs failed number sound there num takes =
     let none : owed s.dests i number ≡ 0 = sound.admitted i number (omega arith) in
     let filled : owed fs i number ≡ owing r.offers vs = (let a = takes.itself in omega arith) in
@@ -162,14 +162,14 @@ takes-append i next ds place end (o ∷ os) cs (v ∷ vs) h =
 abbrev pub with_records : State → ℕ → ℕ → ℕ → List Admission → List Verdict → List ℕ → State
 with_records s i next place records vs failed = record s { inlets = change s.inlets i (admitted records); dests = take_claims i next s.dests (claims_from place records) vs; failed = failed }
 
-pub record Admits (s : State) (i next place : ℕ) (failing : List ℕ) (records : List Admission) (vs : List Verdict) : Type 0 where
+pub record AdmitsRecords (s : State) (i next place : ℕ) (failing : List ℕ) (records : List Admission) (vs : List Verdict) : Type 0 where
   pub at : record_turns i failing (run_of s) records vs ≡ option_map (λ f. run_of (with_records s i next place records vs f)) (judged i next failing s.dests s.failed (claims_from place records) vs)
-  pub sound : (z : List ℕ) → judged i next failing s.dests s.failed (claims_from place records) vs ≡ Some z → IsSound (with_records s i next place records vs z)
+  pub sound : (z : List ℕ) → judged i next failing s.dests s.failed (claims_from place records) vs ≡ Some z → IsSoundReplay (with_records s i next place records vs z)
 
-admit-none : (inlet : Inlet) → admitted [] inlet ≡ inlet
+admit-none : (inlet : InletRecords) → admitted [] inlet ≡ inlet
 admit-none inlet = rw (append-nil inlet.ends) refl
 
-admit-more : (r : Admission) (rs : List Admission) (inlet : Inlet) → admitted rs (one_record r.end inlet) ≡ admitted (r ∷ rs) inlet
+admit-more : (r : Admission) (rs : List Admission) (inlet : InletRecords) → admitted rs (one_record r.end inlet) ≡ admitted (r ∷ rs) inlet
 admit-more r rs inlet = ap (λ (xs : List ℕ). record inlet { ends = xs }) (append_assoc inlet.ends (r.end ∷ []) (ends_of rs))
 
 change-ext : {A : Type 0} (xs : List A) (k : ℕ) (f g : A → A) → ((x : A) → f x ≡ g x) → change xs k f ≡ change xs k g
@@ -177,13 +177,13 @@ change-ext [] k f g h = refl
 change-ext (x ∷ xs) zero f g h = ap (λ y. y ∷ xs) (h x)
 change-ext (x ∷ xs) (suc k) f g h = ap (λ ys. x ∷ ys) (change-ext xs k f g h)
 
-inlets-more : (inlets : List Inlet) (i : ℕ) (r : Admission) (rs : List Admission) → change (change inlets i (one_record r.end)) i (admitted rs) ≡ change inlets i (admitted (r ∷ rs))
+inlets-more : (inlets : List InletRecords) (i : ℕ) (r : Admission) (rs : List Admission) → change (change inlets i (one_record r.end)) i (admitted rs) ≡ change inlets i (admitted (r ∷ rs))
 inlets-more inlets i r rs = change-twice inlets i (one_record r.end) (admitted rs) ∙ change-ext inlets i (λ x. admitted rs (one_record r.end x)) (admitted (r ∷ rs)) (admit-more r rs)
 
 some-is : {A : Type 0} (x y : A) → Some x ≡ Some y → x ≡ y
 some-is x y h = cc
 
-admits-none : (s : State) (i next place : ℕ) (failing : List ℕ) (inlet : Inlet) (vs : List Verdict) → IsSound s → slice_get s.inlets i ≡ Some inlet → Admits s i next place failing [] vs
+admits-none : (s : State) (i next place : ℕ) (failing : List ℕ) (inlet : InletRecords) (vs : List Verdict) → IsSoundReplay s → slice_get s.inlets i ≡ Some inlet → AdmitsRecords s i next place failing [] vs
 admits-none s i next place failing inlet [] sound there =
     let same = change-self s.inlets i (admitted []) inlet there (admit-none inlet) in
     record { at = rw same refl; sound = λ z j. rw (same, ← some-is s.failed z j) sound }
@@ -194,11 +194,11 @@ mapped : {A B : Type 0} {f g : A → B} (o : Option A) → ((x : A) → f x ≡ 
 mapped None h = refl
 mapped (Some x) h = ap Some (h x)
 
-abbrev Others : ℕ → ℕ → List ℕ → List Admission → Type 0
-Others i next failing rs = (t : State) (place : ℕ) (inlet : Inlet) (vs : List Verdict) → IsSound t → slice_get t.inlets i ≡ Some inlet → next + place ≡ length (ends_at t.inlets i) → Admits t i next place failing rs vs
+abbrev OtherInlets : ℕ → ℕ → List ℕ → List Admission → Type 0
+OtherInlets i next failing rs = (t : State) (place : ℕ) (inlet : InletRecords) (vs : List Verdict) → IsSoundReplay t → slice_get t.inlets i ≡ Some inlet → next + place ≡ length (ends_at t.inlets i) → AdmitsRecords t i next place failing rs vs
 
-admits-by : (s : State) (i next place : ℕ) (failing : List ℕ) (inlet : Inlet) (r : Admission) (rs : List Admission) (vs : List Verdict) (first : Option (List ℕ)) → Others i next failing rs → IsSound s → slice_get s.inlets i ≡ Some inlet
-    → next + place ≡ length (ends_at s.inlets i) → judged i next failing s.dests s.failed (claims_in place r.end r.offers) (take (length r.offers) vs) ≡ first → Admits s i next place failing (r ∷ rs) vs
+admits-by : (s : State) (i next place : ℕ) (failing : List ℕ) (inlet : InletRecords) (r : Admission) (rs : List Admission) (vs : List Verdict) (first : Option (List ℕ)) → OtherInlets i next failing rs → IsSoundReplay s → slice_get s.inlets i ≡ Some inlet
+    → next + place ≡ length (ends_at s.inlets i) → judged i next failing s.dests s.failed (claims_in place r.end r.offers) (take (length r.offers) vs) ≡ first → AdmitsRecords s i next place failing (r ∷ rs) vs
 admits-by s i next place failing inlet r rs vs None others sound there num j =
     let n = length r.offers in
     let begun = begun-same s.dests 0 i s.inlets ∙ sym num in
@@ -227,11 +227,11 @@ admits-by s i next place failing inlet r rs vs (Some f) others sound there num j
     let first : record_turn i failing (run_of s) r (take n vs) ≡ Some (run_of s1) = rw (begun, same, j) (ap Some one.at) in
     record {
       at = rw (first, whole) (rest.at ∙ mapped (judged i next failing fs f (claims_from (place + 1) rs) (drop n vs)) (λ z. ap run_of (state z)));
-      sound = λ z w. subst IsSound (state z) (rest.sound z (sym whole ∙ w));
+      sound = λ z w. subst IsSoundReplay (state z) (rest.sound z (sym whole ∙ w));
     }
 
-pub admits : (s : State) (i next place : ℕ) (failing : List ℕ) (inlet : Inlet) (records : List Admission) (vs : List Verdict) → IsSound s → slice_get s.inlets i ≡ Some inlet
-    → next + place ≡ length (ends_at s.inlets i) → Admits s i next place failing records vs
+pub admits : (s : State) (i next place : ℕ) (failing : List ℕ) (inlet : InletRecords) (records : List Admission) (vs : List Verdict) → IsSoundReplay s → slice_get s.inlets i ≡ Some inlet
+    → next + place ≡ length (ends_at s.inlets i) → AdmitsRecords s i next place failing records vs
 admits s i next place failing inlet [] vs sound there num = admits-none s i next place failing inlet vs sound there
 admits s i next place failing inlet (r ∷ rs) vs sound there num =
     admits-by s i next place failing inlet r rs vs (judged i next failing s.dests s.failed (claims_in place r.end r.offers) (take (length r.offers) vs))

@@ -14,7 +14,7 @@ use Rattle.sg_machine.specs.declared.event.Event.{Event}
 use Rattle.sg_machine.specs.declared.setup.SourceSetup.{SourceSetup}
 use Rattle.sg_machine.specs.declared.setup.DestSetup.{DestSetup}
 use Rattle.sg_machine.specs.declared.setup.Setup.{Setup}
-use Rattle.sg_machine.specs.declared.state.Inlet.{Inlet}
+use Rattle.sg_machine.specs.declared.state.InletRecords.{InletRecords}
 use Rattle.sg_machine.specs.declared.state.Dest.{Dest}
 use Rattle.sg_machine.specs.declared.state.State.{State}
 use Rattle.sg_machine.specs.declared.running.Run.{Run}
@@ -23,7 +23,7 @@ use Rattle.sg_machine.specs.Legal.{is_admissible, may_admit, is_legal_act, is_le
 use Rattle.sg_machine.specs.Effects.{next_of, after_act, after}
 use Rattle.sg_machine.specs.Runs.{opened_inlets, opened_dests, fresh, after_all, are_legal}
 use Rattle.sg_machine.specs.Tallies.{source_tallies, dest_tally, tally_of}
-use Rattle.sg_machine.specs.Running.{owed, source_runs, dest_run, run_of, are_split, IsSound}
+use Rattle.sg_machine.specs.Running.{owed, source_runs, dest_run, run_of, are_split, IsSoundReplay}
 use Rattle.sg_machine.specs.Turns.{most_run}
 use Rattle.sg_machine.specs.Steps.{act_step}
 use Rattle.sg_machine.specs.Fresh.{fresh_source, fresh_dest, fresh_run_of, source_sum, dest_sum, sum_of}
@@ -53,16 +53,16 @@ split-fresh : (ss : List DestSetup) → are_split (opened_dests ss []) ≡ true
 split-fresh [] = refl
 split-fresh (s ∷ ss) = split-fresh ss
 
-sound-fresh : (setup : Setup) → IsSound (fresh setup)
+sound-fresh : (setup : Setup) → IsSoundReplay (fresh setup)
 sound-fresh setup = record { admitted = λ i n l. owed-fresh setup.dests i n; split = split-fresh setup.dests }
 
-pub sound-all : (s : State) (es : List Event) → IsSound s → are_legal s es ≡ true → IsSound (after_all s es)
+pub sound-all : (s : State) (es : List Event) → IsSoundReplay s → are_legal s es ≡ true → IsSoundReplay (after_all s es)
 sound-all s [] sound l = sound
 sound-all s (e ∷ es) sound l =
     let p = both-true (is_legal s e) (are_legal (after s e) es) l in
     sound-all (after s e) es ((step-same s e.act e.failed sound).sound p.0) p.1
 
-pub sound-at : (setup : Setup) (es : List Event) → are_legal (fresh setup) es ≡ true → IsSound (after_all (fresh setup) es)
+pub sound-at : (setup : Setup) (es : List Event) → are_legal (fresh setup) es ≡ true → IsSoundReplay (after_all (fresh setup) es)
 sound-at setup es l = sound-all (fresh setup) es (sound-fresh setup) l
 
 -- How many offers may be dropped.
@@ -138,7 +138,7 @@ sum-dests : (ds : List Dest) → map dest_sum (map dest_run ds) ≡ map dest_tal
 sum-dests [] = refl
 sum-dests (d ∷ ds) = rw (sum-dest d, sum-dests ds) refl
 
-sum-sources : (ds : List Dest) (i : ℕ) (inlets : List Inlet) → map source_sum (source_runs ds i inlets) ≡ source_tallies ds i inlets
+sum-sources : (ds : List Dest) (i : ℕ) (inlets : List InletRecords) → map source_sum (source_runs ds i inlets) ≡ source_tallies ds i inlets
 sum-sources ds i [] = refl
 sum-sources ds i (x ∷ inlets) = rw (records-length ds i 0 x.ends, sym (mark-same ds i 0 x.opening x.ends), sum-sources ds (i + 1) inlets) refl
 
@@ -162,7 +162,7 @@ agree true false x y h = absurd (let wrong : Some x ≡ None = h in cc)
 agree false true x y h = absurd (let wrong : None ≡ Some y = h in cc)
 agree false false x y h = (refl, λ w. absurd (let wrong : false ≡ true = w in cc))
 
-pub step-agrees : (s : State) (e : Event) (run new : Run) (ok : Bool) → IsSound s → run ≡ run_of s → act_step e.act e.failed run ≡ (if ok then Some new else None)
+pub step-agrees : (s : State) (e : Event) (run new : Run) (ok : Bool) → IsSoundReplay s → run ≡ run_of s → act_step e.act e.failed run ≡ (if ok then Some new else None)
     → (ok ≡ is_legal s e) × (ok ≡ true → new ≡ run_of (after s e))
 step-agrees s e run new ok sound at h =
     let same : act_step e.act e.failed run ≡ (if is_legal s e then Some (run_of (after s e)) else None) = rw at (step-same s e.act e.failed sound).at in

@@ -6,7 +6,7 @@ use Rattle.std.proofs.lemmas.Bool.{cases_Bool}
 use Rattle.std.proofs.lemmas.List.{length_push, length-map, length-append, map-append}
 use Rattle.sg_msg.specs.Length.{encoded_len}
 use Rattle.sg_machine.specs.declared.setup.DestSetup.{DestSetup}
-use Rattle.sg_machine.specs.declared.state.Entry.{Entry}
+use Rattle.sg_machine.specs.declared.state.DestEntry.{DestEntry}
 use Rattle.sg_machine.specs.declared.state.Dest.{Dest}
 use Rattle.sg_machine.specs.declared.running.Slip.{Slip}
 use Rattle.sg_machine.specs.declared.running.DestRun.{DestRun}
@@ -19,55 +19,55 @@ use Rattle.sg_machine.specs.Turns.{settled_run, moved_run, can_move}
 use Rattle.sg_machine.proofs.OwedLemmas.{one_if, count_by-cons, Lessens}
 
 -- the entry at a place behind others
-pub get-behind : (xs ys : List Entry) (k n : ℕ) → n ≡ length xs + k → slice_get (map slip_of (xs ++ ys)) n ≡ option_map slip_of (slice_get ys k)
+pub get-behind : (xs ys : List DestEntry) (k n : ℕ) → n ≡ length xs + k → slice_get (map slip_of (xs ++ ys)) n ≡ option_map slip_of (slice_get ys k)
 get-behind [] [] k n e = refl
 get-behind [] (y ∷ ys) zero n e = let z : n ≡ 0 = omega arith in rw z refl
 get-behind [] (y ∷ ys) (suc k) n e = let z : n ≡ suc k = omega arith in rw z (get-behind [] ys k k (omega arith))
 get-behind (x ∷ xs) ys k zero e = absurd (omega arith)
 get-behind (x ∷ xs) ys k (suc n) e = get-behind xs ys k n (omega arith)
 
-pub wait-none : (es : List Entry) → all_wait es ≡ true → spooled_in es ≡ 0
+pub wait-none : (es : List DestEntry) → all_wait es ≡ true → spooled_in es ≡ 0
 wait-none [] h = refl
 wait-none (e ∷ es) h = grind (arith, wait-none es)
 
-wait-split-if : (e : Entry) (es : List Entry) (b : Bool) → e.spooled ≡ b → (not e.spooled && all_wait es) ≡ true → is_split (e ∷ es) ≡ true
+wait-split-if : (e : DestEntry) (es : List DestEntry) (b : Bool) → e.spooled ≡ b → (not e.spooled && all_wait es) ≡ true → is_split (e ∷ es) ≡ true
 wait-split-if e es true s h = let wrong : false ≡ true = rw s at h in cc
 wait-split-if e es false s h = rw s (rw s at h)
 
-pub wait-split : (es : List Entry) → all_wait es ≡ true → is_split es ≡ true
+pub wait-split : (es : List DestEntry) → all_wait es ≡ true → is_split es ≡ true
 wait-split [] h = refl
 wait-split (e ∷ es) h = wait-split-if e es e.spooled refl h
 
-pub split-spooled : (e : Entry) (es : List Entry) → e.spooled ≡ true → is_split (e ∷ es) ≡ true → is_split es ≡ true
+pub split-spooled : (e : DestEntry) (es : List DestEntry) → e.spooled ≡ true → is_split (e ∷ es) ≡ true → is_split es ≡ true
 split-spooled e es s h = rw s at h
 
-pub split-waits : (e : Entry) (es : List Entry) → e.spooled ≡ false → is_split (e ∷ es) ≡ true → all_wait es ≡ true
+pub split-waits : (e : DestEntry) (es : List DestEntry) → e.spooled ≡ false → is_split (e ∷ es) ≡ true → all_wait es ≡ true
 split-waits e es s h = rw s at h
 
-split-tail-if : (e : Entry) (es : List Entry) (b : Bool) → e.spooled ≡ b → is_split (e ∷ es) ≡ true → is_split es ≡ true
+split-tail-if : (e : DestEntry) (es : List DestEntry) (b : Bool) → e.spooled ≡ b → is_split (e ∷ es) ≡ true → is_split es ≡ true
 split-tail-if e es true s h = split-spooled e es s h
 split-tail-if e es false s h = wait-split es (split-waits e es s h)
 
-pub split-tail : (e : Entry) (es : List Entry) → is_split (e ∷ es) ≡ true → is_split es ≡ true
+pub split-tail : (e : DestEntry) (es : List DestEntry) → is_split (e ∷ es) ≡ true → is_split es ≡ true
 split-tail e es h = split-tail-if e es e.spooled refl h
 
-pub spooled-cons : (e : Entry) (es : List Entry) → e.spooled ≡ true → spooled_in (e ∷ es) ≡ suc (spooled_in es)
+pub spooled-cons : (e : DestEntry) (es : List DestEntry) → e.spooled ≡ true → spooled_in (e ∷ es) ≡ suc (spooled_in es)
 spooled-cons e es s = rw s refl
 
-pub waiting-cons : (e : Entry) (es : List Entry) → e.spooled ≡ false → is_split (e ∷ es) ≡ true → spooled_in (e ∷ es) ≡ 0
+pub waiting-cons : (e : DestEntry) (es : List DestEntry) → e.spooled ≡ false → is_split (e ∷ es) ≡ true → spooled_in (e ∷ es) ≡ 0
 waiting-cons e es s h = rw s (wait-none es (split-waits e es s h))
 
 -- The first entry is settled.
 
-flow-less : (e : Entry) (es : List Entry) (b : Bool) → e.flow ≡ b → unflowed es ≡ (if b then unflowed (e ∷ es) else unflowed (e ∷ es) - 1)
+flow-less : (e : DestEntry) (es : List DestEntry) (b : Bool) → e.flow ≡ b → unflowed es ≡ (if b then unflowed (e ∷ es) else unflowed (e ∷ es) - 1)
 flow-less e es true h = let c = count_by-cons (λ x. not x.flow) e es in let z : one_if (not e.flow) ≡ 0 = rw h refl in omega arith
 flow-less e es false h = let c = count_by-cons (λ x. not x.flow) e es in let z : one_if (not e.flow) ≡ 1 = rw h refl in omega arith
 
-moved-less-if : (n s m : ℕ) (e : Entry) (es : List Entry) (b : Bool) → e.spooled ≡ b → is_split (e ∷ es) ≡ true → n + spooled_in es ≡ s → n ≡ suc m → s ≡ max (m + spooled_in (e ∷ es)) n
+moved-less-if : (n s m : ℕ) (e : DestEntry) (es : List DestEntry) (b : Bool) → e.spooled ≡ b → is_split (e ∷ es) ≡ true → n + spooled_in es ≡ s → n ≡ suc m → s ≡ max (m + spooled_in (e ∷ es)) n
 moved-less-if n s m e es true h split a at = let c = spooled-cons e es h in omega arith
 moved-less-if n s m e es false h split a at = let c = waiting-cons e es h split in let z = wait-none es (split-waits e es h split) in omega arith
 
-used-less-if : (n : ℕ) (e : Entry) (es : List Entry) (b : Bool) → e.spooled ≡ b → is_split (e ∷ es) ≡ true → used es ≡ (if nat_lt n (n + spooled_in (e ∷ es)) then used (e ∷ es) - (5 + encoded_len e.message) else used (e ∷ es))
+used-less-if : (n : ℕ) (e : DestEntry) (es : List DestEntry) (b : Bool) → e.spooled ≡ b → is_split (e ∷ es) ≡ true → used es ≡ (if nat_lt n (n + spooled_in (e ∷ es)) then used (e ∷ es) - (5 + encoded_len e.message) else used (e ∷ es))
 used-less-if n e es true h split =
     let c = spooled-cons e es h in
     let l : nat_lt n (n + suc (spooled_in es)) ≡ true = grind arith in
@@ -91,7 +91,7 @@ same-dest x y a b c d e f g h =
     ∙ ap (λ u. mk y.setup y.kept y.taken y.moved y.unflowed y.used u x.dropped_disk) g
     ∙ ap (λ u. mk y.setup y.kept y.taken y.moved y.unflowed y.used y.dropped_full u) h
 
-pub dest-settled : (dest : Dest) (e : Entry) (es : List Entry) → dest.left ≡ e ∷ es → is_split dest.left ≡ true → dest_run (settled_some 1 dest) ≡ settled_run (dest_run dest)
+pub dest-settled : (dest : Dest) (e : DestEntry) (es : List DestEntry) → dest.left ≡ e ∷ es → is_split dest.left ≡ true → dest_run (settled_some 1 dest) ≡ settled_run (dest_run dest)
 dest-settled dest e es h split =
     let n = length dest.settled in
     let one = length_push dest.settled e in
@@ -103,19 +103,19 @@ dest-settled dest e es h split =
     let bytes = used-less-if n e es e.spooled refl parts in
     rw (h, at) (same-dest _ _ refl kept one (moved ∙ ap (λ k. max (n + spooled_in (e ∷ es)) k) one) flow bytes refl refl)
 
-pub settle-lessens : (dest : Dest) (e : Entry) (es : List Entry) → dest.left ≡ e ∷ es → Lessens dest (settled_some 1 dest) e
+pub settle-lessens : (dest : Dest) (e : DestEntry) (es : List DestEntry) → dest.left ≡ e ∷ es → Lessens dest (settled_some 1 dest) e
 settle-lessens dest e es h i n = rw h (count_by-cons (is_owed_to i n) e es)
 
 -- The first entry that waits is spooled.
 
-spool-spooled : (x : Entry) (xs : List Entry) → x.spooled ≡ true → spool_first (x ∷ xs) ≡ x ∷ spool_first xs
+spool-spooled : (x : DestEntry) (xs : List DestEntry) → x.spooled ≡ true → spool_first (x ∷ xs) ≡ x ∷ spool_first xs
 spool-spooled x xs h = grind arith
 
-spool-waits : (x : Entry) (xs : List Entry) → x.spooled ≡ false → spool_first (x ∷ xs) ≡ record x { spooled = true } ∷ xs
+spool-waits : (x : DestEntry) (xs : List DestEntry) → x.spooled ≡ false → spool_first (x ∷ xs) ≡ record x { spooled = true } ∷ xs
 spool-waits x xs h = grind arith
 
 -- all that the spooling of the first entry that waits changes
-pub record Spools (left new : List Entry) (e : Entry) : Type 0 where
+pub record SpoolsEntry (left new : List DestEntry) (e : DestEntry) : Type 0 where
   pub waits : e.spooled ≡ false
   pub slips : map slip_of new ≡ map slip_of left
   pub spooled : spooled_in new ≡ suc (spooled_in left)
@@ -124,9 +124,9 @@ pub record Spools (left new : List Entry) (e : Entry) : Type 0 where
   pub split : is_split new ≡ true
   pub owes : (i n : ℕ) → count_by (is_owed_to i n) left ≡ one_if (is_owed_to i n e) + count_by (is_owed_to i n) new
 
-spools-here : (x : Entry) (xs : List Entry) → x.spooled ≡ false → is_split (x ∷ xs) ≡ true → Spools (x ∷ xs) (record x { spooled = true } ∷ xs) x
+spools-here : (x : DestEntry) (xs : List DestEntry) → x.spooled ≡ false → is_split (x ∷ xs) ≡ true → SpoolsEntry (x ∷ xs) (record x { spooled = true } ∷ xs) x
 spools-here x xs s split =
-    let y : Entry = record x { spooled = true } in
+    let y : DestEntry = record x { spooled = true } in
     let none = wait-none xs (split-waits x xs s split) in
     record {
       waits = s;
@@ -143,7 +143,7 @@ spools-here x xs s split =
           omega arith;
     }
 
-spools-behind : (x : Entry) (xs ys : List Entry) (e : Entry) → x.spooled ≡ true → Spools xs ys e → Spools (x ∷ xs) (x ∷ ys) e
+spools-behind : (x : DestEntry) (xs ys : List DestEntry) (e : DestEntry) → x.spooled ≡ true → SpoolsEntry xs ys e → SpoolsEntry (x ∷ xs) (x ∷ ys) e
 spools-behind x xs ys e s p = record {
   waits = p.waits;
   slips = ap (λ zs. slip_of x ∷ zs) p.slips;
@@ -158,7 +158,7 @@ spools-behind x xs ys e s p = record {
       omega arith;
 }
 
-pub spools-at : (left : List Entry) (e : Entry) → is_split left ≡ true → slice_get left (spooled_in left) ≡ Some e → Spools left (spool_first left) e
+pub spools-at : (left : List DestEntry) (e : DestEntry) → is_split left ≡ true → slice_get left (spooled_in left) ≡ Some e → SpoolsEntry left (spool_first left) e
 spools-at [] e split h = let wrong : None ≡ Some e = h in cc
 spools-at (x ∷ xs) e split h =
     elim (cases_Bool x.spooled) [
@@ -172,7 +172,7 @@ spools-at (x ∷ xs) e split h =
     ]
 
 -- the first entry that waits fits
-pub first-fits : (capacity : ℕ) (left rest : List Entry) → is_split rest ≡ true → first_fits capacity left rest ≡ option_map_or (λ (e : Entry). fits capacity left e.message) (slice_get rest (spooled_in rest)) false
+pub first-fits : (capacity : ℕ) (left rest : List DestEntry) → is_split rest ≡ true → first_fits capacity left rest ≡ option_map_or (λ (e : DestEntry). fits capacity left e.message) (slice_get rest (spooled_in rest)) false
 first-fits capacity left [] split = refl
 first-fits capacity left (x ∷ xs) split =
     elim (cases_Bool x.spooled) [
@@ -180,7 +180,7 @@ first-fits capacity left (x ∷ xs) split =
       | inr s ↦ rw (waiting-cons x xs s split, s) refl
     ]
 
-option-map-or : (o : Option Entry) (p : Slip → Bool) → option_map_or p (option_map slip_of o) false ≡ option_map_or (λ (e : Entry). p (slip_of e)) o false
+option-map-or : (o : Option DestEntry) (p : Slip → Bool) → option_map_or p (option_map slip_of o) false ≡ option_map_or (λ (e : DestEntry). p (slip_of e)) o false
 option-map-or None p = refl
 option-map-or (Some e) p = refl
 
@@ -189,7 +189,7 @@ can-move capacity dest split =
     let at = get-behind dest.settled dest.left (spooled_in dest.left) (length dest.settled + spooled_in dest.left) refl in
     rw at (option-map-or (slice_get dest.left (spooled_in dest.left)) _ ∙ sym (first-fits capacity dest.left dest.left split))
 
-pub dest-moved : (dest : Dest) (e : Entry) → is_split dest.left ≡ true → slice_get dest.left (spooled_in dest.left) ≡ Some e → dest_run (refilled_some 1 dest) ≡ moved_run (dest_run dest)
+pub dest-moved : (dest : Dest) (e : DestEntry) → is_split dest.left ≡ true → slice_get dest.left (spooled_in dest.left) ≡ Some e → dest_run (refilled_some 1 dest) ≡ moved_run (dest_run dest)
 dest-moved dest e split h =
     let n = length dest.settled in
     let s = spools-at dest.left e split h in
@@ -200,7 +200,7 @@ dest-moved dest e split h =
     rw (at, h) (same-dest _ _ refl kept refl moved s.unflowed s.used refl refl)
 
 -- an entry waits
-waits-if : (xs : List Entry) → is_split xs ≡ true → any_waits xs ≡ nat_lt (spooled_in xs) (length xs)
+waits-if : (xs : List DestEntry) → is_split xs ≡ true → any_waits xs ≡ nat_lt (spooled_in xs) (length xs)
 waits-if [] split = refl
 waits-if (x ∷ xs) split =
     elim (cases_Bool x.spooled) [

@@ -10,7 +10,7 @@ use Rattle.sg_machine.specs.declared.event.Verdict.{Verdict}
 use Rattle.sg_machine.specs.declared.event.Verdict.TheVariants.{Queued, Spooled, Waits, DroppedFull, DroppedDisk}
 use Rattle.sg_machine.specs.declared.setup.BufferSetup.{BufferSetup}
 use Rattle.sg_machine.specs.declared.state.Origin.{Origin}
-use Rattle.sg_machine.specs.declared.state.Entry.{Entry}
+use Rattle.sg_machine.specs.declared.state.DestEntry.{DestEntry}
 use Rattle.sg_machine.specs.declared.state.Dest.{Dest}
 use Rattle.sg_machine.specs.Entries.{used, unflowed, fits, any_waits}
 use Rattle.sg_machine.specs.Marks.{is_owed_to}
@@ -24,25 +24,25 @@ use Rattle.sg_machine.proofs.MoveLemmas.{map-change-at, split-at, split-change}
 
 -- One more entry.
 
-unflowed-push : (es : List Entry) (e : Entry) → unflowed (es ++ e ∷ []) ≡ unflowed es + one_if (not e.flow)
+unflowed-push : (es : List DestEntry) (e : DestEntry) → unflowed (es ++ e ∷ []) ≡ unflowed es + one_if (not e.flow)
 unflowed-push es e = sum_by-append (λ x. if not x.flow then 1 else 0) es (e ∷ []) ∙ grind arith
 
 flow-more : (n m : ℕ) (b : Bool) → m ≡ n + one_if (not b) → m ≡ (if b then n else n + 1)
 flow-more n m true h = h ∙ omega arith
 flow-more n m false h = h
 
-used-waits : (es : List Entry) (e : Entry) → e.spooled ≡ false → used (es ++ e ∷ []) ≡ used es
+used-waits : (es : List DestEntry) (e : DestEntry) → e.spooled ≡ false → used (es ++ e ∷ []) ≡ used es
 used-waits [] e h = rw h refl
 used-waits (x ∷ es) e h = ap (λ n. (if x.spooled then 5 + encoded_len x.message else 0) + n) (used-waits es e h)
 
-used-spooled : (es : List Entry) (e : Entry) → e.spooled ≡ true → used (es ++ e ∷ []) ≡ used es + (5 + encoded_len e.message)
+used-spooled : (es : List DestEntry) (e : DestEntry) → e.spooled ≡ true → used (es ++ e ∷ []) ≡ used es + (5 + encoded_len e.message)
 used-spooled [] e h = rw h (omega arith)
 used-spooled (x ∷ es) e h = let rest = used-spooled es e h in omega arith
 
 spooled-push-if : (b : Bool) (n m : ℕ) → n ≡ m → (if b then suc n else n) ≡ (if b then suc m else m)
 spooled-push-if b n m h = rw h refl
 
-spooled-waits : (es : List Entry) (e : Entry) → e.spooled ≡ false → spooled_in (es ++ e ∷ []) ≡ spooled_in es
+spooled-waits : (es : List DestEntry) (e : DestEntry) → e.spooled ≡ false → spooled_in (es ++ e ∷ []) ≡ spooled_in es
 spooled-waits [] e h = rw h refl
 spooled-waits (x ∷ es) e h = spooled-push-if x.spooled (spooled_in (es ++ e ∷ [])) (spooled_in es) (spooled-waits es e h)
 
@@ -50,11 +50,11 @@ spooled-more-if : (b : Bool) (n m : ℕ) → n ≡ m + 1 → (if b then suc n el
 spooled-more-if true n m h = omega arith
 spooled-more-if false n m h = h
 
-spooled-more : (es : List Entry) (e : Entry) → e.spooled ≡ true → spooled_in (es ++ e ∷ []) ≡ spooled_in es + 1
+spooled-more : (es : List DestEntry) (e : DestEntry) → e.spooled ≡ true → spooled_in (es ++ e ∷ []) ≡ spooled_in es + 1
 spooled-more [] e h = rw h refl
 spooled-more (x ∷ es) e h = spooled-more-if x.spooled (spooled_in (es ++ e ∷ [])) (spooled_in es) (spooled-more es e h)
 
-kept-push : (settled left : List Entry) (e : Entry) → map slip_of (settled ++ (left ++ e ∷ [])) ≡ map slip_of (settled ++ left) ++ slip_of e ∷ []
+kept-push : (settled left : List DestEntry) (e : DestEntry) → map slip_of (settled ++ (left ++ e ∷ [])) ≡ map slip_of (settled ++ left) ++ slip_of e ∷ []
 kept-push settled left e = ap (map slip_of) (sym (append_assoc settled left (e ∷ []))) ∙ map_push slip_of (settled ++ left) e
 
 keeps-waiting : (i number end : ℕ) (o : Offer) (d : Dest) (v : Verdict) → offered_run i number o v (dest_run d) ≡ offered_run i number o Queued (dest_run d)
@@ -99,19 +99,19 @@ judged-at-same (d ∷ ds) (suc k) failing failed o v split = judged-at-same ds k
 
 -- The spooled entries stand first, also behind an offer.
 
-push-waits-if : (x e : Entry) (es : List Entry) (b : Bool) → x.spooled ≡ b → e.spooled ≡ false → (all_wait es ≡ true → all_wait (es ++ e ∷ []) ≡ true) → (is_split es ≡ true → is_split (es ++ e ∷ []) ≡ true)
+push-waits-if : (x e : DestEntry) (es : List DestEntry) (b : Bool) → x.spooled ≡ b → e.spooled ≡ false → (all_wait es ≡ true → all_wait (es ++ e ∷ []) ≡ true) → (is_split es ≡ true → is_split (es ++ e ∷ []) ≡ true)
     → is_split (x ∷ es) ≡ true → is_split (x ∷ (es ++ e ∷ [])) ≡ true
 push-waits-if x e es true s h a r split = rw s (r (rw s at split))
 push-waits-if x e es false s h a r split = rw s (a (rw s at split))
 
-wait-push : (es : List Entry) (e : Entry) → e.spooled ≡ false → all_wait es ≡ true → all_wait (es ++ e ∷ []) ≡ true
+wait-push : (es : List DestEntry) (e : DestEntry) → e.spooled ≡ false → all_wait es ≡ true → all_wait (es ++ e ∷ []) ≡ true
 wait-push [] e h a = rw h refl
 wait-push (x ∷ es) e h a =
     let p = both-true (not x.spooled) (all_wait es) a in
     let rest = wait-push es e h p.1 in
     rw (p.0, rest) refl
 
-split-push-waits : (es : List Entry) (e : Entry) → e.spooled ≡ false → is_split es ≡ true → is_split (es ++ e ∷ []) ≡ true
+split-push-waits : (es : List DestEntry) (e : DestEntry) → e.spooled ≡ false → is_split es ≡ true → is_split (es ++ e ∷ []) ≡ true
 split-push-waits [] e h split = rw h refl
 split-push-waits (x ∷ es) e h split = push-waits-if x e es x.spooled refl h (wait-push es e h) (split-push-waits es e h) split
 
@@ -123,7 +123,7 @@ not-waits : (b : Bool) → not b ≡ false → b ≡ true
 not-waits true h = refl
 not-waits false h = let wrong : true ≡ false = h in cc
 
-split-push-spooled : (es : List Entry) (e : Entry) → e.spooled ≡ true → any_waits es ≡ false → is_split (es ++ e ∷ []) ≡ true
+split-push-spooled : (es : List DestEntry) (e : DestEntry) → e.spooled ≡ true → any_waits es ≡ false → is_split (es ++ e ∷ []) ≡ true
 split-push-spooled [] e h none = rw h refl
 split-push-spooled (x ∷ es) e h none =
     let p = or-none (not x.spooled) (any_waits es) none in
@@ -156,7 +156,7 @@ right-of true false b x y z h = absurd (none-is-some z h)
 right-of false a true x y z h = inr refl
 right-of false a false x y z h = absurd (none-is-some z h)
 
-spooled-none-by : (buffer : Option BufferSetup) (fifo : ℕ) (left : List Entry) (failing failed : List ℕ) (o : Offer) (z : List ℕ) → judged_by buffer fifo left failing failed o Spooled ≡ Some z → any_waits left ≡ false
+spooled-none-by : (buffer : Option BufferSetup) (fifo : ℕ) (left : List DestEntry) (failing failed : List ℕ) (o : Offer) (z : List ℕ) → judged_by buffer fifo left failing failed o Spooled ≡ Some z → any_waits left ≡ false
 spooled-none-by None fifo left failing failed o z h =
     let no = not-queue (o.flow || nat_lt (unflowed left) fifo) in
     let wrong : None ≡ Some z = rw no at h in
@@ -185,7 +185,7 @@ judged-dest (Some d) failing failed offer v z h = (d, refl, h)
 abbrev pub is_at : ℕ → ℕ → ℕ → ℕ → Bool
 is_at i number j n = (i == j) && (number == n)
 
-count-push : (p : Entry → Bool) (es : List Entry) (e : Entry) → count_by p (es ++ e ∷ []) ≡ count_by p es + one_if (p e)
+count-push : (p : DestEntry → Bool) (es : List DestEntry) (e : DestEntry) → count_by p (es ++ e ∷ []) ≡ count_by p es + one_if (p e)
 count-push p es e = sum_by-append (λ x. if p x then 1 else 0) es (e ∷ []) ∙ grind arith
 
 none-more : (b : Bool) (n : ℕ) → n ≡ n + one_if (b && false)
@@ -209,7 +209,7 @@ owed-take i number end o v (d ∷ ds) (suc k) j n dest g = let a = owed-take i n
 -- The offers of one record.
 
 -- all that the offers of a record change, where their verdicts are right
-pub record Takes (i number : ℕ) (ds fs : List Dest) (os : List Offer) (vs : List Verdict) : Type 0 where
+pub record TakesEntry (i number : ℕ) (ds fs : List Dest) (os : List Offer) (vs : List Verdict) : Type 0 where
   pub runs : map dest_run fs ≡ offered_runs i number (map dest_run ds) os vs
   pub split : are_split fs ≡ true
   pub itself : owed fs i number ≡ owed ds i number + owing os vs
@@ -260,7 +260,7 @@ then-some-of None f y h = let wrong : None ≡ Some y = h in cc
 then-some-of (Some x) f y h = (x, refl, h)
 
 pub takes-all : (i next place number end : ℕ) (failing : List ℕ) (ds : List Dest) (failed : List ℕ) (os : List Offer) (vs : List Verdict) (z : List ℕ) → next + place ≡ number → are_split ds ≡ true
-    → judged i next failing ds failed (claims_in place end os) vs ≡ Some z → Takes i number ds (take_claims i next ds (claims_in place end os) vs) os vs
+    → judged i next failing ds failed (claims_in place end os) vs ≡ Some z → TakesEntry i number ds (take_claims i next ds (claims_in place end os) vs) os vs
 takes-all i next place number end failing ds failed [] [] z at split j = record { runs = refl; split = split; itself = omega arith; others = λ j n h. refl; verdicts = refl }
 takes-all i next place number end failing ds failed [] (v ∷ vs) z at split j = absurd (none-is-some z j)
 takes-all i next place number end failing ds failed (o ∷ os) [] z at split j = absurd (none-is-some z j)

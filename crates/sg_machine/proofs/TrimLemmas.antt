@@ -4,13 +4,13 @@ use Rattle.std.specs.Prelude.{◌==◌}
 use Rattle.std.proofs.lemmas.List.{drop_all}
 use Rattle.sg_list.proofs.ListLemmas.{drop-get}
 use Rattle.sg_window.specs.Window.{mark_from}
-use Rattle.sg_window.specs.declared.tracker.Record.{Record}
+use Rattle.sg_window.specs.declared.tracker.BegunRecord.{BegunRecord}
 use Rattle.sg_machine.specs.declared.setup.SourceSetup.{SourceSetup}
 use Rattle.sg_machine.specs.declared.running.SourceRun.{SourceRun}
 use Rattle.sg_machine.specs.Running.{acked_in}
 use Rattle.sg_machine.specs.Turns.{trimmed}
 
-abbrev mk : SourceSetup → ℕ → List Record → ℕ → ℕ → SourceRun
+abbrev mk : SourceSetup → ℕ → List BegunRecord → ℕ → ℕ → SourceRun
 mk u v w a m = record { setup = u; stored = v; records = w; acked = a; mark = m }
 
 same-source : (x y : SourceRun) → x.setup ≡ y.setup → x.stored ≡ y.stored → x.records ≡ y.records → x.acked ≡ y.acked → x.mark ≡ y.mark → x ≡ y
@@ -21,16 +21,16 @@ same-source x y a b c d e =
     ∙ ap (λ u. mk y.setup y.stored y.records u x.mark) d
     ∙ ap (λ u. mk y.setup y.stored y.records y.acked u) e
 
-acked-first : (r : Record) (rs : List Record) → r.left ≡ 0 → acked_in (r ∷ rs) ≡ suc (acked_in rs)
+acked-first : (r : BegunRecord) (rs : List BegunRecord) → r.left ≡ 0 → acked_in (r ∷ rs) ≡ suc (acked_in rs)
 acked-first r rs h = rw h refl
 
-mark-first : (from : ℕ) (r : Record) (rs : List Record) → r.left ≡ 0 → mark_from from (r ∷ rs) ≡ mark_from r.end rs
+mark-first : (from : ℕ) (r : BegunRecord) (rs : List BegunRecord) → r.left ≡ 0 → mark_from from (r ∷ rs) ≡ mark_from r.end rs
 mark-first from r rs h = rw h refl
 
 owes-if : (n : ℕ) → n ≢ 0 → (n == 0) ≡ false
 owes-if n h = grind arith
 
-pub trimmed-more : (s : SourceRun) (r : Record) → slice_get s.records s.acked ≡ Some r → r.left ≡ 0 → trimmed (record s { acked = s.acked + 1; mark = r.end }) ≡ trimmed s
+pub trimmed-more : (s : SourceRun) (r : BegunRecord) → slice_get s.records s.acked ≡ Some r → r.left ≡ 0 → trimmed (record s { acked = s.acked + 1; mark = r.end }) ≡ trimmed s
 trimmed-more s r g h =
     let rs = drop (s.acked + 1) s.records in
     let parts = drop-get s.records s.acked r g in
@@ -38,7 +38,7 @@ trimmed-more s r g h =
     let b : mark_from s.mark (drop s.acked s.records) ≡ mark_from r.end rs = rw parts (mark-first s.mark r rs h) in
     same-source _ _ refl refl refl (omega arith) (sym b)
 
-pub trimmed-stop : (s : SourceRun) (r : Record) → slice_get s.records s.acked ≡ Some r → r.left ≢ 0 → trimmed s ≡ s
+pub trimmed-stop : (s : SourceRun) (r : BegunRecord) → slice_get s.records s.acked ≡ Some r → r.left ≢ 0 → trimmed s ≡ s
 trimmed-stop s r g h =
     let rs = drop (s.acked + 1) s.records in
     let parts = drop-get s.records s.acked r g in
@@ -54,5 +54,5 @@ trimmed-all s h =
     let b : mark_from s.mark (drop s.acked s.records) ≡ s.mark = rw none refl in
     same-source _ _ refl refl refl (omega arith) b
 
-pub trimmed-at : (s : SourceRun) (k : ℕ) (r : Record) → s.acked ≡ k → slice_get s.records k ≡ Some r → r.left ≡ 0 → trimmed (record s { acked = k + 1; mark = r.end }) ≡ trimmed s
+pub trimmed-at : (s : SourceRun) (k : ℕ) (r : BegunRecord) → s.acked ≡ k → slice_get s.records k ≡ Some r → r.left ≡ 0 → trimmed (record s { acked = k + 1; mark = r.end }) ≡ trimmed s
 trimmed-at s k r e g h = ap (λ n. trimmed (record s { acked = n + 1; mark = r.end })) (sym e) ∙ trimmed-more s r (rw e g) h

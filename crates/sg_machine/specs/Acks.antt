@@ -5,8 +5,8 @@ use Rattle.sg_machine.specs.declared.event.Verdict.{Verdict}
 use Rattle.sg_machine.specs.declared.event.Act.{Act}
 use Rattle.sg_machine.specs.declared.event.Act.TheVariants.{Admit}
 use Rattle.sg_machine.specs.declared.event.Event.{Event}
-use Rattle.sg_machine.specs.declared.state.Entry.{Entry}
-use Rattle.sg_machine.specs.declared.state.Inlet.{Inlet}
+use Rattle.sg_machine.specs.declared.state.DestEntry.{DestEntry}
+use Rattle.sg_machine.specs.declared.state.InletRecords.{InletRecords}
 use Rattle.sg_machine.specs.declared.state.Dest.{Dest}
 use Rattle.sg_machine.specs.declared.state.State.{State}
 use Rattle.sg_machine.specs.Verdicts.{Claim, claims_of}
@@ -21,7 +21,7 @@ pub record Claimed : Type 0 where
   pub number : Option ℕ
   pub flow : Bool
 
-abbrev pub claimed_by : Entry → Claimed
+abbrev pub claimed_by : DestEntry → Claimed
 claimed_by e = record { inlet = e.inlet; number = e.number; flow = e.flow }
 
 -- of the offers of i to d without a Dropped verdict, in order, where the next record of i has this number
@@ -87,7 +87,7 @@ marked_by acked number from [] = from
 marked_by acked number from (end ∷ ends) = if acked number then marked_by acked (number + 1) end ends else from
 
 -- an inlet before and after events, which read this of it
-pub record CountsMark (start : State) (old new : Inlet) (i : ℕ) (events : List Event) : Type 0 where
+pub record CountsMark (start : State) (old new : InletRecords) (i : ℕ) (events : List Event) : Type 0 where
   pub mark : mark_of (after_all start events).dests i new ≡ marked_by (is_acked_by start events i) 0
       (opening_from i old.opening events) (old.ends ++ ends_admitted i events)
   pub outstanding : outstanding_of (after_all start events).dests i new

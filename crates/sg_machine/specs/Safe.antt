@@ -7,22 +7,22 @@ use Rattle.sg_machine.specs.declared.event.Act.{Act}
 use Rattle.sg_machine.specs.declared.event.Act.TheVariants.{Admit, Settle, Refill, Store, Rewind, Look}
 use Rattle.sg_machine.specs.declared.event.Event.{Event}
 use Rattle.sg_machine.specs.declared.setup.BufferSetup.{BufferSetup}
-use Rattle.sg_machine.specs.declared.state.Entry.{Entry}
-use Rattle.sg_machine.specs.declared.state.Inlet.{Inlet}
+use Rattle.sg_machine.specs.declared.state.DestEntry.{DestEntry}
+use Rattle.sg_machine.specs.declared.state.InletRecords.{InletRecords}
 use Rattle.sg_machine.specs.declared.state.Dest.{Dest}
 use Rattle.sg_machine.specs.declared.state.State.{State}
 use Rattle.sg_machine.specs.Verdicts.{Claim, claims_of, origin_of, is_listed, disk_verdict, same_verdict, take_offer}
 use Rattle.sg_machine.specs.Marks.{mark_of}
 use Rattle.sg_machine.specs.Legal.{store_of, is_nil}
 use Rattle.sg_machine.specs.Effects.{next_of, after}
-use Rattle.sg_machine.specs.Runs.{Kept, after_all}
+use Rattle.sg_machine.specs.Runs.{BufferedEntry, after_all}
 use Rattle.sg_machine.specs.Counts.{as_kept, is_spooled}
 
 -- what the stores hold: a position for each inlet, and a list for each destination; of one without a
 -- store it says nothing
 pub record Images : Type 0 where
   pub positions : List ℕ
-  pub lists : List (List Kept)
+  pub lists : List (List BufferedEntry)
 
 -- one of these stores is that one
 abbrev pub has_failed : List ℕ → Option ℕ → Bool
@@ -37,7 +37,7 @@ first_of (Some x) second = Some x
 
 -- the position that an event in which the inlet's store fails may have written: the mark, or 0 where
 -- no record was admitted before
-abbrev pub failing_position : State → Event → ℕ → Inlet → Option ℕ
+abbrev pub failing_position : State → Event → ℕ → InletRecords → Option ℕ
 failing_position state event i inlet =
     if has_failed event.failed inlet.setup.store then Some (if is_nil inlet.ends then 0 else mark_of state.dests i inlet) else None
 
@@ -57,32 +57,32 @@ running_position _ i = None
 -- Lists.
 
 -- the entries of Spooled(d), in order
-abbrev pub spooled_of : List Entry → List Kept
+abbrev pub spooled_of : List DestEntry → List BufferedEntry
 spooled_of entries = map as_kept (filter is_spooled entries)
 
-abbrev pub kept_from : ℕ → Claim → Kept
+abbrev pub kept_from : ℕ → Claim → BufferedEntry
 kept_from i c = record { inlet = i; end = c.end; flow = c.offer.flow; message = c.offer.message }
 
 -- the offers to d that an Admit spools, in order
-abbrev pub spooled_offers : ℕ → ℕ → List Claim → List Verdict → List Kept
+abbrev pub spooled_offers : ℕ → ℕ → List Claim → List Verdict → List BufferedEntry
 spooled_offers d i [] vs = []
 spooled_offers d i (c ∷ cs) [] = []
 spooled_offers d i (c ∷ cs) (v ∷ vs) =
     if c.offer.dest == d && same_verdict Spooled v then kept_from i c ∷ spooled_offers d i cs vs else spooled_offers d i cs vs
 
 -- the entries that wait, in order
-abbrev pub waiting : List Entry → List Kept
+abbrev pub waiting : List DestEntry → List BufferedEntry
 waiting left = map as_kept (filter (λ e. not e.spooled) left)
 
 -- what an act appends at d
-abbrev pub appends : Act → ℕ → Dest → List Kept
+abbrev pub appends : Act → ℕ → Dest → List BufferedEntry
 appends (Admit i records verdicts) d dest = spooled_offers d i (claims_of records) verdicts
 appends (Refill e n) d dest = if e == d then take n (waiting dest.left) else []
 appends _ d dest = []
 
 -- The offers to d, which is this, that would be spooled if its store worked, in order: each is judged
 -- after the ones before, as they would then have been.
-abbrev pub would_spool : ℕ → ℕ → ℕ → BufferSetup → Dest → List Claim → List Kept
+abbrev pub would_spool : ℕ → ℕ → ℕ → BufferSetup → Dest → List Claim → List BufferedEntry
 would_spool d i next buffer dest [] = []
 would_spool d i next buffer dest (c ∷ cs) =
     if c.offer.dest == d
@@ -93,33 +93,33 @@ would_spool d i next buffer dest (c ∷ cs) =
 
 -- the entries that an act in which the store of d fails tried to append: an Admit's offers that would
 -- be spooled if it worked, and at a Look all that waited
-abbrev pub tried_by : State → Act → ℕ → Dest → List Kept
+abbrev pub tried_by : State → Act → ℕ → Dest → List BufferedEntry
 tried_by state (Admit i records verdicts) d dest =
     option_map_or (λ buffer. would_spool d i (next_of state i) buffer dest (claims_of records))
     dest.setup.buffer []
 tried_by state Look d dest = waiting dest.left
 tried_by state _ d dest = []
 
-abbrev pub failing_entries : State → Event → ℕ → Dest → Option (List Kept)
+abbrev pub failing_entries : State → Event → ℕ → Dest → Option (List BufferedEntry)
 failing_entries state event d dest = if has_failed event.failed (store_of dest) then Some (tried_by state event.act d dest) else None
 
 -- the same of the first event in which the store of d fails
-abbrev pub failed_append : State → List Event → ℕ → Option (List Kept)
+abbrev pub failed_append : State → List Event → ℕ → Option (List BufferedEntry)
 failed_append state [] d = None
 failed_append state (e ∷ es) d =
     first_of (option_and_then (failing_entries state e d) (slice_get state.dests d))
     (failed_append (after state e) es d)
 
-abbrev pub failed_entries : State → List Event → ℕ → List Kept
+abbrev pub failed_entries : State → List Event → ℕ → List BufferedEntry
 failed_entries state events d = option_map_or (λ ks. ks) (failed_append state events d) []
 
 -- the settled entries, those of a Settle(d, n) included
-abbrev pub settled_by : Act → ℕ → Dest → List Entry
+abbrev pub settled_by : Act → ℕ → Dest → List DestEntry
 settled_by (Settle e n) d dest = if e == d then dest.settled ++ take n dest.left else dest.settled
 settled_by _ d dest = dest.settled
 
 -- the entries that are left then
-abbrev pub left_by : Act → ℕ → Dest → List Entry
+abbrev pub left_by : Act → ℕ → Dest → List DestEntry
 left_by (Settle e n) d dest = if e == d then drop n dest.left else dest.left
 left_by _ d dest = dest.left
 
@@ -130,7 +130,7 @@ is_settle _ d = false
 -- The list is Spooled(d) less its first entries, and behind them the first of what the act appends, or
 -- of what the append that failed tried to. Those taken away are settled, and they are all the settled
 -- ones where the store works and no Settle(d, n) is on.
-pub record IsSafeList (dest : Dest) (d : ℕ) (act : Act) (failed : List ℕ) (tried : List Kept) (list : List Kept) : Type 0 where
+pub record IsSafeList (dest : Dest) (d : ℕ) (act : Act) (failed : List ℕ) (tried : List BufferedEntry) (list : List BufferedEntry) : Type 0 where
   pub gone : ℕ
   pub added : ℕ
   pub parts : list ≡ drop gone (spooled_of (dest.settled ++ dest.left))
@@ -147,29 +147,29 @@ rises from [] = true
 rises from (end ∷ ends) = nat_lt from end && rises end ends
 
 -- the entry is of an offer with flow-control of a record of i, which ends at or below the position
-abbrev pub is_below : ℕ → ℕ → Entry → Bool
+abbrev pub is_below : ℕ → ℕ → DestEntry → Bool
 is_below i position e = e.inlet == i && is_some e.number && e.flow && nat_le e.end position
 
 -- each such entry that is left is in the list
-abbrev pub AreHeld : ℕ → ℕ → List Entry → List Kept → Type 0
-AreHeld i position [] list = Unit {0}
-AreHeld i position (e ∷ es) list = (is_below i position e ≡ true → Contains list (as_kept e))
-    × AreHeld i position es list
+abbrev pub AreEntriesHeld : ℕ → ℕ → List DestEntry → List BufferedEntry → Type 0
+AreEntriesHeld i position [] list = Unit {0}
+AreEntriesHeld i position (e ∷ es) list = (is_below i position e ≡ true → Contains list (as_kept e))
+    × AreEntriesHeld i position es list
 
 -- what a list holds of a destination: nothing where there is no disk-buffer
-abbrev pub held_in : List Kept → Dest → List Kept
+abbrev pub held_in : List BufferedEntry → Dest → List BufferedEntry
 held_in list dest = if is_some dest.setup.buffer then list else []
 
 -- The images are of these stores: an inlet's has its stored position, the one that the act is
 -- writing or one that failed, and a disk-buffer's is a safe list.
-pub record AreImages (state : State) (event : Event) (tried_positions : ℕ → Option ℕ) (tried_entries : ℕ → List Kept) (images : Images) : Type 0 where
+pub record AreSafeImages (state : State) (event : Event) (tried_positions : ℕ → Option ℕ) (tried_entries : ℕ → List BufferedEntry) (images : Images) : Type 0 where
   pub every_position : length images.positions ≡ length state.inlets
   pub every_list : length images.lists ≡ length state.dests
-  pub stored : (i : ℕ) (inlet : Inlet) (position : ℕ) → slice_get state.inlets i ≡ Some inlet
+  pub stored : (i : ℕ) (inlet : InletRecords) (position : ℕ) → slice_get state.inlets i ≡ Some inlet
       → is_some inlet.setup.store ≡ true → slice_get images.positions i ≡ Some position
       → is_listed position (inlet.stored ∷ option_to_list (running_position event.act i)
       ++ option_to_list (tried_positions i)) ≡ true
-  pub safe_lists : (d : ℕ) (dest : Dest) (list : List Kept) → slice_get state.dests d ≡ Some dest
+  pub safe_lists : (d : ℕ) (dest : Dest) (list : List BufferedEntry) → slice_get state.dests d ≡ Some dest
       → is_some dest.setup.buffer ≡ true → slice_get images.lists d ≡ Some list
       → IsSafeList dest d event.act (state.failed ++ event.failed) (tried_entries d) list
 
@@ -177,17 +177,17 @@ pub record AreImages (state : State) (event : Event) (tried_positions : ℕ → 
 -- records that end at or below the image's position are settled, or stand in the images
 abbrev pub CoversRecords : State → Event → Images → Type 0
 CoversRecords state event images =
-    (i : ℕ) (inlet : Inlet) (position d : ℕ) (dest : Dest) (list : List Kept)
+    (i : ℕ) (inlet : InletRecords) (position d : ℕ) (dest : Dest) (list : List BufferedEntry)
     → slice_get state.inlets i ≡ Some inlet → is_some inlet.setup.store ≡ true
     → rises inlet.opening inlet.ends ≡ true
     → slice_get images.positions i ≡ Some position → slice_get state.dests d ≡ Some dest
     → slice_get images.lists d ≡ Some list
-    → AreHeld i position (left_by event.act d dest) (held_in list dest)
+    → AreEntriesHeld i position (left_by event.act d dest) (held_in list dest)
 
 -- the images after these events, with the one that follows on
 abbrev pub ImagesAt : State → List Event → Event → Images → Type 0
 ImagesAt start events event images =
-    AreImages (after_all start events) event (failed_position start (events ++ event ∷ []))
+    AreSafeImages (after_all start events) event (failed_position start (events ++ event ∷ []))
     (failed_entries start (events ++ event ∷ [])) images
 
 -- they are safe

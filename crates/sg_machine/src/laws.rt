@@ -10,7 +10,7 @@ ghost use Rattle.sg_machine.specs.Safe.{appends, tried_by};
 ghost use Rattle.sg_machine.specs.declared.event.Event.{Event};
 ghost use Rattle.sg_machine.specs.declared.setup.Setup.{Setup};
 ghost use Rattle.sg_machine.specs.declared.state.Dest.{Dest};
-ghost use Rattle.sg_machine.specs.declared.state.Inlet.{Inlet};
+ghost use Rattle.sg_machine.specs.declared.state.InletRecords.{InletRecords};
 ghost use Rattle.sg_machine.specs.declared.state.State.{State};
 ghost use Rattle.sg_machine.specs.Runs.{Opening, opened, after_all, are_legal};
 ghost use Rattle.sg_machine.specs.Safe.{Images, ImagesAt, Safe};
@@ -24,9 +24,9 @@ pub fn counts_hold()
         → are_legal start events ≡ true → slice_get start.dests d ≡ Some old
         → (new : Dest) × (slice_get (after_all start events).dests d ≡ Some new)
         × CountsDest old new d events }
-    ensures inlets { (start : State) (events : List Event) (i : ℕ) (old : Inlet)
+    ensures inlets { (start : State) (events : List Event) (i : ℕ) (old : InletRecords)
         → are_legal start events ≡ true → slice_get start.inlets i ≡ Some old
-        → (new : Inlet) × (slice_get (after_all start events).inlets i ≡ Some new)
+        → (new : InletRecords) × (slice_get (after_all start events).inlets i ≡ Some new)
         × CountsInlet start old new i events }
 {}
 
@@ -56,9 +56,9 @@ pub fn windows_hold()
 /// The mark and the outstanding records of each inlet are what the events say: a record is
 /// acknowledged where each of its offers with flow-control is settled or spooled.
 pub fn marks_hold()
-    ensures { (start : State) (events : List Event) (i : ℕ) (old : Inlet)
+    ensures { (start : State) (events : List Event) (i : ℕ) (old : InletRecords)
         → are_legal start events ≡ true → slice_get start.inlets i ≡ Some old
-        → (new : Inlet) × (slice_get (after_all start events).inlets i ≡ Some new)
+        → (new : InletRecords) × (slice_get (after_all start events).inlets i ≡ Some new)
         × CountsMark start old new i events }
 {}
 

@@ -22,5 +22,5 @@ pub use laws::{
 };
 pub use replays::replay;
 pub use setup::{BufferSetup, DestSetup, Setup, SourceSetup};
-pub use state::{Dest, Entry, Inlet, Origin, State};
+pub use state::{Dest, DestEntry, InletRecords, Origin, State};
 pub use tally::{DestTally, SourceTally, Tally};

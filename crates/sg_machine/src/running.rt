@@ -3,7 +3,7 @@
 use crate::{DestSetup, SourceSetup};
 use sg_list::Seq;
 use sg_msg::Message;
-use sg_window::Record;
+use sg_window::BegunRecord;
 
 // An entry of a destination, but for its end and whether it is spooled.
 #[derive(Debug, Drop)]
@@ -22,7 +22,7 @@ pub struct SourceRun {
     pub setup: SourceSetup,
     /// A byte offset in what the inlet gives.
     pub stored: u64,
-    pub records: Seq<Record>,
+    pub records: Seq<BegunRecord>,
     pub acked: usize,
     /// A byte offset in what the inlet gives.
     pub mark: u64,

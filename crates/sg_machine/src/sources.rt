@@ -6,7 +6,7 @@ ghost use Rattle.sg_machine.specs.Turns.{trimmed, acked_one, begun_one, acks};
 
 use crate::running::{Slip, SourceRun};
 use sg_list::Seq;
-use sg_window::Record;
+use sg_window::BegunRecord;
 use std::alloc::AllocError;
 
 // Counts the records that have been acknowledged since, in time in proportion to their number.
@@ -23,7 +23,7 @@ fn trim(source: &mut SourceRun)
     }
 }
 
-fn lessen(records: &mut Seq<Record>, number: u64)
+fn lessen(records: &mut Seq<BegunRecord>, number: u64)
     ensures { records.new ≡ change records.old number one_less }
 {
     if number < records.len() as u64 {
@@ -65,7 +65,7 @@ pub(crate) fn acknowledge(sources: &mut Seq<SourceRun>, slip: &Slip)
 pub(crate) fn begin(source: &mut SourceRun, end: u64, left: u32) -> Result<(), AllocError>
     ensures { OnOk result (source.new ≡ begun_one end left source.old) }
 {
-    source.records.push(Record { end, left })?;
+    source.records.push(BegunRecord { end, left })?;
     trim(source);
     Ok(())
 }

@@ -1,15 +1,15 @@
 // Reading the first part of a template's text.
 ghost use Rattle.std.specs.Prelude.{◌≡◌, ◌+◌, ◌≤◌, ◌<◌, length, drop, IfOk, IfErr, IsTrue, Ok};
 ghost use Rattle.std.specs.List.{prefix_len};
-ghost use Rattle.sg_macro.specs.Reading.{is_name_byte, length_before, begins_with, length_before_default, brace_cut, word_cut, dollar_cut, first_cut, Refuses};
+ghost use Rattle.sg_macro.specs.Reading.{is_name_byte, length_before, begins_with, length_before_default, brace_cut, word_cut, dollar_cut, first_cut, RefusesTemplate};
 
-use crate::{Part, TemplateFault};
+use crate::{TemplateFault, TemplatePart};
 use std::alloc::Global;
 
 // A part, and how many bytes of the text spell it.
 #[derive(Debug, Drop)]
-pub(crate) struct Cut {
-    pub(crate) part: Part,
+pub(crate) struct CutPart {
+    pub(crate) part: TemplatePart,
     pub(crate) len: usize,
 }
 
@@ -67,10 +67,10 @@ pub(crate) fn behind(count: usize, text: &[u8]) -> &[u8]
 }
 
 // What `${` begins, behind it.
-fn brace_cut(alloc: Global, text: &[u8]) -> Result<Cut, TemplateFault>
+fn brace_cut(alloc: Global, text: &[u8]) -> Result<CutPart, TemplateFault>
     ensures ok { IfOk result (λ found. brace_cut text.now ≡ Ok found) }
     ensures len { IfOk result (λ found. (2 < found.len) × (found.len ≤ length text.now + 2)) }
-    ensures err { IfErr result (Refuses (brace_cut text.now)) }
+    ensures err { IfErr result (RefusesTemplate (brace_cut text.now)) }
 {
     let len = length_before(b'}', text);
     if len == text.len() {
@@ -78,36 +78,36 @@ fn brace_cut(alloc: Global, text: &[u8]) -> Result<Cut, TemplateFault>
     }
     let inner = &text[..len];
     let name = length_before_default(inner);
-    Ok(Cut {
-        part: Part::named(alloc, &inner[..name], behind(name + 2, inner))?,
+    Ok(CutPart {
+        part: TemplatePart::named(alloc, &inner[..name], behind(name + 2, inner))?,
         len: len + 3,
     })
 }
 
 // What a dollar begins where neither a dollar nor a brace follows, behind it.
-fn word_cut(alloc: Global, text: &[u8]) -> Result<Cut, TemplateFault>
+fn word_cut(alloc: Global, text: &[u8]) -> Result<CutPart, TemplateFault>
     ensures ok { IfOk result (λ found. word_cut text.now ≡ Ok found) }
     ensures len { IfOk result (λ found. (0 < found.len) × (found.len ≤ length text.now + 1)) }
-    ensures err { IfErr result (Refuses (word_cut text.now)) }
+    ensures err { IfErr result (RefusesTemplate (word_cut text.now)) }
 {
     let len = name_len(text);
     let part = if len == 0 {
-        Part::literal(alloc, b"$")?
+        TemplatePart::literal(alloc, b"$")?
     } else {
-        Part::named(alloc, &text[..len], b"")?
+        TemplatePart::named(alloc, &text[..len], b"")?
     };
-    Ok(Cut { part, len: len + 1 })
+    Ok(CutPart { part, len: len + 1 })
 }
 
 // What a dollar begins, behind it.
-fn dollar_cut(alloc: Global, text: &[u8]) -> Result<Cut, TemplateFault>
+fn dollar_cut(alloc: Global, text: &[u8]) -> Result<CutPart, TemplateFault>
     ensures ok { IfOk result (λ found. dollar_cut text.now ≡ Ok found) }
     ensures len { IfOk result (λ found. (0 < found.len) × (found.len ≤ length text.now + 1)) }
-    ensures err { IfErr result (Refuses (dollar_cut text.now)) }
+    ensures err { IfErr result (RefusesTemplate (dollar_cut text.now)) }
 {
     match text {
-        [b'$', ..] => Ok(Cut {
-            part: Part::literal(alloc, b"$")?,
+        [b'$', ..] => Ok(CutPart {
+            part: TemplatePart::literal(alloc, b"$")?,
             len: 2,
         }),
         [b'{', rest @ ..] => brace_cut(alloc, rest),
@@ -117,18 +117,18 @@ fn dollar_cut(alloc: Global, text: &[u8]) -> Result<Cut, TemplateFault>
 }
 
 // The part that begins at the first byte of the text.
-pub(crate) fn first_cut(alloc: Global, text: &[u8]) -> Result<Cut, TemplateFault>
+pub(crate) fn first_cut(alloc: Global, text: &[u8]) -> Result<CutPart, TemplateFault>
     requires { 0 < length text.now }
     ensures ok { IfOk result (λ found. first_cut text.now ≡ Ok found) }
     ensures len { IfOk result (λ found. (0 < found.len) × (found.len ≤ length text.now)) }
-    ensures err { IfErr result (Refuses (first_cut text.now)) }
+    ensures err { IfErr result (RefusesTemplate (first_cut text.now)) }
 {
     let len = length_before(b'$', text);
     if len == 0 {
         return dollar_cut(alloc, behind(1, text));
     }
-    Ok(Cut {
-        part: Part::literal(alloc, &text[..len])?,
+    Ok(CutPart {
+        part: TemplatePart::literal(alloc, &text[..len])?,
         len,
     })
 }

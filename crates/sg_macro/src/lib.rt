@@ -9,5 +9,5 @@ mod reading;
 
 pub use fault::TemplateFault;
 pub use macros::{DatePart, Macro, StampKind, macro_of, pair_name};
-pub use part::Part;
+pub use part::TemplatePart;
 pub use reading::read_parts;

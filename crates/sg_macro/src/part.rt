@@ -7,7 +7,7 @@ use std::alloc::{AllocError, Global};
 
 /// A part of a template.
 #[derive(Debug)]
-pub enum Part {
+pub enum TemplatePart {
     /// A text that stands for itself.
     Literal(Name),
     /// A macro, and the text that stands in place of an empty one.
@@ -16,15 +16,15 @@ pub enum Part {
     Pair { name: Name, default: Name },
 }
 
-impl Drop for Part {
+impl Drop for TemplatePart {
     fn drop(self) {
         match self {
-            Part::Literal(_0) => {}
-            Part::Macro {
+            TemplatePart::Literal(_0) => {}
+            TemplatePart::Macro {
                 kind: _kind,
                 default: _default,
             } => {}
-            Part::Pair {
+            TemplatePart::Pair {
                 name: _name,
                 default: _default,
             } => {}
@@ -32,26 +32,30 @@ impl Drop for Part {
     }
 }
 
-impl Part {
+impl TemplatePart {
     ghost use Rattle.sg_macro.specs.Reading.{named};
 
     // What `${NAME:-default}` stands for.
-    pub(crate) fn named(alloc: Global, name: &[u8], default: &[u8]) -> Result<Part, AllocError>
+    pub(crate) fn named(
+        alloc: Global,
+        name: &[u8],
+        default: &[u8],
+    ) -> Result<TemplatePart, AllocError>
         ensures { IfOk result (λ part. part ≡ named name.now default.now) }
     {
         let default = Name::new(alloc, default)?;
         match macro_of(name) {
-            Some(kind) => Ok(Part::Macro { kind, default }),
-            None => Ok(Part::Pair {
+            Some(kind) => Ok(TemplatePart::Macro { kind, default }),
+            None => Ok(TemplatePart::Pair {
                 name: Name::new(alloc, pair_name(name))?,
                 default,
             }),
         }
     }
 
-    pub(crate) fn literal(alloc: Global, text: &[u8]) -> Result<Part, AllocError>
-        ensures { IfOk result (λ part. part ≡ Part.Literal text.now) }
+    pub(crate) fn literal(alloc: Global, text: &[u8]) -> Result<TemplatePart, AllocError>
+        ensures { IfOk result (λ part. part ≡ TemplatePart.Literal text.now) }
     {
-        Ok(Part::Literal(Name::new(alloc, text)?))
+        Ok(TemplatePart::Literal(Name::new(alloc, text)?))
     }
 }

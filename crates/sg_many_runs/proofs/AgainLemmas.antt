@@ -4,7 +4,7 @@ use Rattle.std.proofs.lemmas.List.{length-map}
 use Rattle.sg_list.proofs.ListLemmas.{some-same, slice_get-map, slice_get-some}
 use Rattle.sg_device.specs.Disk.{DiskState}
 use Rattle.sg_buffer.specs.Entries.{IsListOf}
-use Rattle.sg_machine.specs.Runs.{Kept}
+use Rattle.sg_machine.specs.Runs.{BufferedEntry}
 use Rattle.sg_machine.specs.Safe.{Safe}
 use Rattle.sg_machine.specs.declared.event.Event.{Event}
 use Rattle.sg_machine.specs.declared.state.State.{State}
@@ -22,8 +22,9 @@ use Rattle.sg_standing.specs.Images.{position_in, positions_in, AreStores}
 use Rattle.sg_standing.specs.States.{CoreState, setup_of}
 use Rattle.sg_standing.specs.declared.source.Source.{Source}
 use Rattle.sg_core.specs.Opening.{NumberStores, buffer_store_in, kind_of, IsOpen, IsUnopened}
-use Rattle.sg_many_runs.specs.Reopening.{TellImages, IsUsed, BeginsWith, OpensAgain}
+use Rattle.sg_many_runs.specs.Reopening.{TellImages, OpensWithImages, OpensAgain}
 use Rattle.sg_many_runs.proofs.KindLemmas.{kind-has, kind-lacks, source-with, sink-with, store-whole}
+use Rattle.sg_one_run.specs.Failing.{IsUsed}
 
 store-of : (core : CoreState) (i s : ℕ) (source : Source) → slice_get core.sources i ≡ Some source → source.setup.store ≡ Some s → store_in (setup_of core).sources i ≡ Some s
 store-of core i s source h is = rw (slice_get-map (λ (x : Source). x.setup) core.sources i source h) is
@@ -75,7 +76,7 @@ module _ (core : CoreState) (images : List (List ℕ)) (disks : List DiskState) 
         let told = tell s disk.0 disk.1 in
         rw (store.1, told.1) (sym (one.0.position told.0 told.2).holds)
 
-    begins : BeginsWith core images opens.opening
+    begins : OpensWithImages core images opens.opening
     begins = record {
       positions = opens.places ∙ places-agree again.stores images core.sources (λ i source h. source-place i source source.setup.store h refl);
       lists = record {
@@ -94,5 +95,5 @@ module _ (core : CoreState) (images : List (List ℕ)) (disks : List DiskState) 
   opens-again = record { begins = begins; whole = whole }
 
 -- the same with the opening's positions
-pub safe-at : (start : State) (events : List Event) (event : Event) (a b : List ℕ) (lists : List (List Kept)) → a ≡ b → Safe start events event (record { positions = b; lists = lists }) → Safe start events event (record { positions = a; lists = lists })
+pub safe-at : (start : State) (events : List Event) (event : Event) (a b : List ℕ) (lists : List (List BufferedEntry)) → a ≡ b → Safe start events event (record { positions = b; lists = lists }) → Safe start events event (record { positions = a; lists = lists })
 safe-at start events event a b lists same h = subst (λ (ps : List ℕ). Safe start events event (record { positions = ps; lists = lists })) (sym same) h

@@ -15,7 +15,7 @@ use Rattle.sg_machine.specs.declared.setup.BufferSetup.{BufferSetup}
 use Rattle.sg_machine.specs.declared.setup.DestSetup.{DestSetup}
 use Rattle.sg_machine.specs.declared.setup.Setup.{Setup}
 use Rattle.sg_machine.specs.declared.setup.SourceSetup.{SourceSetup}
-use Rattle.sg_machine.specs.Runs.{Kept, opened, after_all}
+use Rattle.sg_machine.specs.Runs.{BufferedEntry, opened, after_all}
 use Rattle.sg_machine.specs.Safe.{Images}
 use Rattle.sg_standing.specs.Images.{position_in as position_at_store}
 use Rattle.sg_standing.specs.Standing.{IsAt}
@@ -31,24 +31,24 @@ use Rattle.sg_serve.specs.declared.ending.PlanEnded.{PlanEnded}
 use Rattle.sg_serve.specs.declared.ending.PlanEnded.TheVariants.{Ran as RanSo}
 use Rattle.sg_run_plan.specs.declared.plan.RunPlan.{RunPlan}
 use Rattle.sg_one_run.specs.Ending.{CleanRunsEnd}
-use Rattle.sg_many_runs.specs.Resuming.{IsBegun}
+use Rattle.sg_many_runs.specs.Resuming.{IsReadingBegun}
 use Rattle.sg_many_runs.specs.Pieces.{Piece, pieces}
 use Rattle.sg_many_runs.proofs.ItemRestLemmas.{pieces-grow}
 use Rattle.sg_many_runs.specs.Covered.{Pass, Delivery, IsFile, Covered}
-use Rattle.sg_many_runs.specs.Passes.{AreAdmitted, Stopped, IsStopped, taken_in}
+use Rattle.sg_many_runs.specs.Passes.{AreAdmitted, Stopped, IsStoppedRun, taken_in}
 use Rattle.sg_many_runs.specs.Adding.{offers_in, Grow, Follow, all_taken, all_passes, EndsClean, position_in}
 use Rattle.sg_many_runs.specs.Once.{EndsWhole, AllEndWhole, ExactlyOnce}
 use Rattle.sg_many_runs.proofs.OnceLemmas.{take-once}
 use Rattle.sg_many_runs.proofs.RangeLemmas.{AreInRange, range-left, range-opened}
 use Rattle.sg_many_runs.proofs.StopLemmas.{add-up}
 use Rattle.sg_many_runs.specs.Happened.{AreListsBy, AllTell, AreOfFiles, held_by, files_of, stopped_with}
-use Rattle.sg_many_runs.specs.Clean.{AreLines}
+use Rattle.sg_many_runs.specs.Clean.{AreFilesByLines}
 use Rattle.sg_many_runs.specs.PlanRuns.{asked, PlanRun, IsPlanRun, IsStopOf, EndsWell, TellThese, RunOf, Opened, Unopened, Lengthen, PlanRunsFollow, opened_among, AreStopsOf, PlanRunsAddUp}
 use Rattle.sg_many_runs.specs.Fresh.{new_stores, images_left, bytes_left, PlanRunsStayCovered, HaveLimits, AllEndWell, PlanRunsTakeOnce}
 use Rattle.sg_many_runs.proofs.FreshLemmas.{new-fresh, new-range, new-covered}
 use Rattle.sg_many_runs.proofs.ResumedLemmas.{place-opened, place-stored, resumed-held}
 use Rattle.sg_many_runs.proofs.OpenLemmas.{bytes_of, contents, contents-lists, told-bytes}
-use Rattle.sg_many_runs.proofs.RunLemmas.{Laws, held-of, stop-of, ends-grown, begun-first}
+use Rattle.sg_many_runs.proofs.RunLemmas.{LawsOfImages, held-of, stop-of, ends-grown, begun-first}
 use Rattle.sg_many_runs.proofs.CleanLemmas.{ListsAreOne, Cleaned, clean-by, no_lists}
 use Rattle.sg_many_runs.proofs.RestLemmas.{same-positions}
 use Rattle.sg_many_runs.proofs.UnopenedLemmas.{stands-as-before}
@@ -67,7 +67,7 @@ same-position disks before tells None low = refl
 same-position disks before tells (Some s) low = ap (λ (x : Option (List ℕ)). option_map_or cell_value x 0) (same-here disks before tells s (low s refl))
 
 -- so they stand for the same
-same-held : (setup : Setup) (disks : List DiskState) (before : List (List ℕ)) (lists : List (List Kept)) → NumberStores setup (length disks) → TellThese disks before → held_by setup before lists ≡ held_by setup (contents disks) lists
+same-held : (setup : Setup) (disks : List DiskState) (before : List (List ℕ)) (lists : List (List BufferedEntry)) → NumberStores setup (length disks) → TellThese disks before → held_by setup before lists ≡ held_by setup (contents disks) lists
 same-held setup disks before lists numbers tells =
     let F : List ℕ → Images = λ ps. record { positions = ps; lists = lists } in
     ap F (same-positions setup.sources before (contents disks)
@@ -75,7 +75,7 @@ same-held setup disks before lists numbers tells =
     same-position disks before tells source.store
     (λ s has. numbers.positions i s (ap (λ (x : Option SourceSetup). option_and_then (λ (y : SourceSetup). y.store) x) at ∙ has))))
 
-lists-same : (setup : Setup) (disks : List DiskState) (before : List (List ℕ)) (lists : List (List Kept)) → NumberStores setup (length disks) → TellThese disks before → AreListsBy setup.dests (contents disks) lists → AreListsBy setup.dests before lists
+lists-same : (setup : Setup) (disks : List DiskState) (before : List (List ℕ)) (lists : List (List BufferedEntry)) → NumberStores setup (length disks) → TellThese disks before → AreListsBy setup.dests (contents disks) lists → AreListsBy setup.dests before lists
 lists-same setup disks before lists numbers tells are = record {
   every = are.every;
   each = λ d dest buffer list bytes here has there at.
@@ -108,38 +108,37 @@ asked-runnable plan once can = record {
   few_outlets = can.few_outlets;
   few_stores = can.few_stores;
   fetches = can.fetches;
-  paths = can.paths;
 }
 
-module _ {R I O : Type 0} (feed : I → InletState) (drain : O → OutletState) (offers : R → ℕ → Record → List Offer → Type 0) (inlets dests : R → ℕ) (plan : RunPlan) (by : List R) (can : IsRunnable plan) (of_files : AreOfFiles plan) (lines : AreLines plan)
-    (laws : Laws) (one : ListsAreOne) (clean : CleanRunsEnd feed drain offers inlets dests) (old : ℕ → ℕ) where
+module _ {R I O : Type 0} (feed : I → InletState) (drain : O → OutletState) (offers : R → ℕ → Record → List Offer → Type 0) (inlets dests : R → ℕ) (plan : RunPlan) (by : List R) (can : IsRunnable plan) (of_files : AreOfFiles plan) (lines : AreFilesByLines plan)
+    (laws : LawsOfImages) (one : ListsAreOne) (clean : CleanRunsEnd feed drain offers inlets dests) (old : ℕ → ℕ) where
   -- One run.
 
   -- whatever lists stand in these images, they are covered
   abbrev IsCoveredAt : (ℕ → List Piece) → List Delivery → List Pass → List (List ℕ) → Type 0
-  IsCoveredAt items taken passes before = (lists : List (List Kept)) → AreListsBy plan.setup.dests before lists → Covered plan.setup (offers_in offers by) items taken passes old (held_by plan.setup before lists)
+  IsCoveredAt items taken passes before = (lists : List (List BufferedEntry)) → AreListsBy plan.setup.dests before lists → Covered plan.setup (offers_in offers by) items taken passes old (held_by plan.setup before lists)
 
   -- the run as one that was stopped, where these records had come in and these lists stand in what it left
-  abbrev stop_with : PlanRun offers plan by → List Pass → List (List Kept) → Stopped
+  abbrev stop_with : PlanRun offers plan by → List Pass → List (List BufferedEntry) → Stopped
   stop_with run came lists = stopped_with (asked plan run.once) run.bytes ((run.happened).opens).opening run.events run.event came (held_by plan.setup run.images lists)
 
   -- It began with these lists, and what it left is covered, whatever lists stand there.
-  record Step (items : ℕ → List Piece) (taken : List Delivery) (passes : List Pass) (before : List (List ℕ)) (run : PlanRun offers plan by) : Type 0 where
-    lists : List (List Kept)
+  record StepOfAll (items : ℕ → List Piece) (taken : List Delivery) (passes : List Pass) (before : List (List ℕ)) (run : PlanRun offers plan by) : Type 0 where
+    lists : List (List BufferedEntry)
     lists_are : AreListsBy plan.setup.dests before lists
     came : List Pass
     rest : List Pass
     came_are : (run.happened).came ≡ came ++ rest
     admits : AreAdmitted (offers_in offers by) (run.events ++ run.event ∷ []) came
     grow : Grow items (files_of plan.inlets.items run.bytes)
-    stopped : (ls : List (List Kept)) → AreListsBy plan.setup.dests run.images ls → IsStopped plan.setup (offers_in offers by) (held_by plan.setup before lists) (stop_with run came ls)
-    covered : (ls : List (List Kept)) → AreListsBy plan.setup.dests run.images ls
+    stopped : (ls : List (List BufferedEntry)) → AreListsBy plan.setup.dests run.images ls → IsStoppedRun plan.setup (offers_in offers by) (held_by plan.setup before lists) (stop_with run came ls)
+    covered : (ls : List (List BufferedEntry)) → AreListsBy plan.setup.dests run.images ls
         → Covered plan.setup (offers_in offers by) (files_of plan.inlets.items run.bytes) (taken ++ taken_in plan.setup (stop_with run came [])) (passes ++ came) old (held_by plan.setup run.images ls)
-    begun : (i : ℕ) (inlet : InletPlan) → IsFile plan.setup i → slice_get plan.inlets.items i ≡ Some inlet → IsBegun inlet.kind inlet.limit (run.bytes i) (position_at (run.run).first i)
+    begun : (i : ℕ) (inlet : InletPlan) → IsFile plan.setup i → slice_get plan.inlets.items i ≡ Some inlet → IsReadingBegun inlet.kind inlet.limit (run.bytes i) (position_at (run.run).first i)
     ends : (counts : Counts) → run.ending ≡ RanSo Quiet (Some counts) → first_fault counts.sinks counts.stores counts.inlets ≡ None → Cleaned (asked plan run.once) run.reached run.bytes
 
   step : (bytes : ℕ → List ℕ) (taken : List Delivery) (passes : List Pass) (before : List (List ℕ)) (run : PlanRun offers plan by) → IsCoveredAt (files_of plan.inlets.items bytes) taken passes before → Lengthen bytes run.bytes
-      → IsPlanRun feed drain offers inlets dests plan by before run → Step (files_of plan.inlets.items bytes) taken passes before run
+      → IsPlanRun feed drain offers inlets dests plan by before run → StepOfAll (files_of plan.inlets.items bytes) taken passes before run
   step bytes taken passes before run covered longer is =
       let asks = asked plan run.once in
       let runnable = asked-runnable plan run.once can in
@@ -168,7 +167,7 @@ module _ {R I O : Type 0} (feed : I → InletState) (drain : O → OutletState) 
         came_are = s.came_are;
         admits = s.admits;
         grow = grow;
-        stopped = λ ls ls_are. (let S : Images → Type 0 = λ images. IsStopped plan.setup os images (stop_with run s.came ls) in subst S (sym same) (s.each ls ls_are).stopped);
+        stopped = λ ls ls_are. (let S : Images → Type 0 = λ images. IsStoppedRun plan.setup os images (stop_with run s.came ls) in subst S (sym same) (s.each ls ls_are).stopped);
         covered = λ ls ls_are. (s.each ls ls_are).covered;
         begun = λ i inlet file at. begun-first asks run.reached run.run o run.bytes lists runnable numbers tells ends_are i inlet (position_at (run.run).first i) file at (inl refl);
         ends = λ counts ending well.
@@ -176,7 +175,7 @@ module _ {R I O : Type 0} (feed : I → InletState) (drain : O → OutletState) 
             clean-by feed drain offers inlets dests one clean run.old run.new asks run.routers run.rounds counts run.reached run.run run.bytes lists runnable of_files lines (subst E ending is.runs) is.core well tells is.files ends_are);
       }
 
-  stop-is : (run : PlanRun offers plan by) (came rest : List Pass) → (run.happened).came ≡ came ++ rest → AreAdmitted (offers_in offers by) (run.events ++ run.event ∷ []) came → (lists : List (List Kept)) → AreListsBy plan.setup.dests run.images lists
+  stop-is : (run : PlanRun offers plan by) (came rest : List Pass) → (run.happened).came ≡ came ++ rest → AreAdmitted (offers_in offers by) (run.events ++ run.event ∷ []) came → (lists : List (List BufferedEntry)) → AreListsBy plan.setup.dests run.images lists
       → IsStopOf run (stop_with run came lists)
   stop-is run came rest came_are admits lists are = record {
     came = came;
@@ -190,8 +189,8 @@ module _ {R I O : Type 0} (feed : I → InletState) (drain : O → OutletState) 
 
   -- All runs.
 
-  record Chain (items : ℕ → List Piece) (before : List (List ℕ)) (runs : List (RunOf offers plan by)) (last : PlanRun offers plan by) : Type 0 where
-    lists : List (List Kept)
+  record RunChain (items : ℕ → List Piece) (before : List (List ℕ)) (runs : List (RunOf offers plan by)) (last : PlanRun offers plan by) : Type 0 where
+    lists : List (List BufferedEntry)
     lists_are : AreListsBy plan.setup.dests before lists
     stopped : List Stopped
     stopped_last : Stopped
@@ -200,7 +199,7 @@ module _ {R I O : Type 0} (feed : I → InletState) (drain : O → OutletState) 
     ends : EndsClean plan.setup stopped_last.files stopped_last.images
 
   chain : (bytes : ℕ → List ℕ) (taken : List Delivery) (passes : List Pass) (before : List (List ℕ)) (runs : List (RunOf offers plan by)) (last : PlanRun offers plan by) → IsCoveredAt (files_of plan.inlets.items bytes) taken passes before
-      → PlanRunsFollow feed drain offers inlets dests plan by bytes before (runs ++ Opened last ∷ []) → EndsWell last → Chain (files_of plan.inlets.items bytes) before runs last
+      → PlanRunsFollow feed drain offers inlets dests plan by bytes before (runs ++ Opened last ∷ []) → EndsWell last → RunChain (files_of plan.inlets.items bytes) before runs last
   chain bytes taken passes before [] last covered follow well =
       let s = step bytes taken passes before last covered follow.0 follow.1 in
       let e = s.ends well.counts well.ending_is well.well in
@@ -248,15 +247,15 @@ module _ {R I O : Type 0} (feed : I → InletState) (drain : O → OutletState) 
   -- What is left.
 
   -- these lists stand in the images at the start, and what the runs left is covered, where the given ones stand there
-  record Left (bytes : ℕ → List ℕ) (taken : List Delivery) (passes : List Pass) (before : List (List ℕ)) (runs : List (RunOf offers plan by)) (ends_with : List (List Kept)) : Type 0 where
-    lists : List (List Kept)
+  record LeftOfAll (bytes : ℕ → List ℕ) (taken : List Delivery) (passes : List Pass) (before : List (List ℕ)) (runs : List (RunOf offers plan by)) (ends_with : List (List BufferedEntry)) : Type 0 where
+    lists : List (List BufferedEntry)
     lists_are : AreListsBy plan.setup.dests before lists
     stopped : List Stopped
     stops : AreStopsOf (opened_among runs) stopped
     covered : Covered plan.setup (offers_in offers by) (files_of plan.inlets.items (bytes_left bytes runs)) (taken ++ all_taken plan.setup stopped) (passes ++ all_passes stopped) old (held_by plan.setup (images_left before runs) ends_with)
 
-  left-of : (bytes : ℕ → List ℕ) (taken : List Delivery) (passes : List Pass) (before : List (List ℕ)) (runs : List (RunOf offers plan by)) (ends_with : List (List Kept)) → IsCoveredAt (files_of plan.inlets.items bytes) taken passes before
-      → PlanRunsFollow feed drain offers inlets dests plan by bytes before runs → AreListsBy plan.setup.dests (images_left before runs) ends_with → Left bytes taken passes before runs ends_with
+  left-of : (bytes : ℕ → List ℕ) (taken : List Delivery) (passes : List Pass) (before : List (List ℕ)) (runs : List (RunOf offers plan by)) (ends_with : List (List BufferedEntry)) → IsCoveredAt (files_of plan.inlets.items bytes) taken passes before
+      → PlanRunsFollow feed drain offers inlets dests plan by bytes before runs → AreListsBy plan.setup.dests (images_left before runs) ends_with → LeftOfAll bytes taken passes before runs ends_with
   left-of bytes taken passes before [] ends_with covered follow are =
       let items = files_of plan.inlets.items bytes in
       let held = held_by plan.setup before ends_with in
@@ -294,7 +293,7 @@ module _ {R I O : Type 0} (feed : I → InletState) (drain : O → OutletState) 
   -- Runs that each ended clean.
 
   -- where the places before are in range
-  ends-whole : HaveLimits plan → (items : ℕ → List Piece) (taken : List Delivery) (passes : List Pass) (before : List (List ℕ)) (run : PlanRun offers plan by) (s : Step items taken passes before run) (lists : List (List Kept))
+  ends-whole : HaveLimits plan → (items : ℕ → List Piece) (taken : List Delivery) (passes : List Pass) (before : List (List ℕ)) (run : PlanRun offers plan by) (s : StepOfAll items taken passes before run) (lists : List (List BufferedEntry))
       → IsPlanRun feed drain offers inlets dests plan by before run → EndsWell run → Cleaned (asked plan run.once) run.reached run.bytes → AreInRange plan.setup (held_by plan.setup before []) → AreListsBy plan.setup.dests run.images lists
       → EndsWhole plan.setup (stop_with run s.came lists)
   ends-whole limits items taken passes before run s lists is well cleaned low are =
@@ -322,8 +321,8 @@ module _ {R I O : Type 0} (feed : I → InletState) (drain : O → OutletState) 
             (run.reached).core (Some well.counts) run.run runs.holds is.core o (after_all start run.events) at i file (λ mine there. s.begun i mine file there) (position_low i file) inlet here;
       }
 
-  record Whole (items : ℕ → List Piece) (before : List (List ℕ)) (runs : List (PlanRun offers plan by)) (last : PlanRun offers plan by) : Type 0 where
-    lists : List (List Kept)
+  record WholeOfAll (items : ℕ → List Piece) (before : List (List ℕ)) (runs : List (PlanRun offers plan by)) (last : PlanRun offers plan by) : Type 0 where
+    lists : List (List BufferedEntry)
     lists_are : AreListsBy plan.setup.dests before lists
     stopped : List Stopped
     stopped_last : Stopped
@@ -333,7 +332,7 @@ module _ {R I O : Type 0} (feed : I → InletState) (drain : O → OutletState) 
     whole : AllEndWhole plan.setup (stopped ++ stopped_last ∷ [])
 
   all-whole : HaveLimits plan → (bytes : ℕ → List ℕ) (taken : List Delivery) (passes : List Pass) (before : List (List ℕ)) (runs : List (PlanRun offers plan by)) (last : PlanRun offers plan by) → IsCoveredAt (files_of plan.inlets.items bytes) taken passes before
-      → AreInRange plan.setup (held_by plan.setup before []) → PlanRunsFollow feed drain offers inlets dests plan by bytes before (map Opened (runs ++ last ∷ [])) → AllEndWell (runs ++ last ∷ []) → Whole (files_of plan.inlets.items bytes) before runs last
+      → AreInRange plan.setup (held_by plan.setup before []) → PlanRunsFollow feed drain offers inlets dests plan by bytes before (map Opened (runs ++ last ∷ [])) → AllEndWell (runs ++ last ∷ []) → WholeOfAll (files_of plan.inlets.items bytes) before runs last
   all-whole limits bytes taken passes before [] last covered low follow all =
       let s = step bytes taken passes before last covered follow.0 follow.1 in
       let well = all.0 in
@@ -369,7 +368,7 @@ module _ {R I O : Type 0} (feed : I → InletState) (drain : O → OutletState) 
         whole = (ends-whole limits (files_of plan.inlets.items bytes) taken passes before run s r.lists follow.1 well e low r.lists_are, r.whole);
       }
 
-pub plan-runs-add-up : {R I O : Type 0} (feed : I → InletState) (drain : O → OutletState) (offers : R → ℕ → Record → List Offer → Type 0) (inlets dests : R → ℕ) → Laws → ListsAreOne → CleanRunsEnd feed drain offers inlets dests → PlanRunsAddUp feed drain offers inlets dests
+pub plan-runs-add-up : {R I O : Type 0} (feed : I → InletState) (drain : O → OutletState) (offers : R → ℕ → Record → List Offer → Type 0) (inlets dests : R → ℕ) → LawsOfImages → ListsAreOne → CleanRunsEnd feed drain offers inlets dests → PlanRunsAddUp feed drain offers inlets dests
 plan-runs-add-up feed drain offers inlets dests laws one clean plan by bytes taken passes before runs last can of_files lines covered follow well =
     let old = position_in (held_by plan.setup before []) in
     let c = chain feed drain offers inlets dests plan by can of_files lines laws one clean old bytes taken passes before runs last covered follow well in
@@ -382,14 +381,14 @@ plan-runs-add-up feed drain offers inlets dests laws one clean plan by bytes tak
       sum = add-up plan.setup (offers_in offers by) (files_of plan.inlets.items bytes) taken passes (held_by plan.setup before c.lists) c.stopped c.stopped_last (covered c.lists c.lists_are) c.follow c.ends;
     }
 
-pub plan-runs-stay-covered : {R I O : Type 0} (feed : I → InletState) (drain : O → OutletState) (offers : R → ℕ → Record → List Offer → Type 0) (inlets dests : R → ℕ) → Laws → ListsAreOne → CleanRunsEnd feed drain offers inlets dests
+pub plan-runs-stay-covered : {R I O : Type 0} (feed : I → InletState) (drain : O → OutletState) (offers : R → ℕ → Record → List Offer → Type 0) (inlets dests : R → ℕ) → LawsOfImages → ListsAreOne → CleanRunsEnd feed drain offers inlets dests
     → PlanRunsStayCovered feed drain offers inlets dests
 plan-runs-stay-covered feed drain offers inlets dests laws one clean plan by bytes runs lists can of_files lines follow are =
     let old : ℕ → ℕ = λ i. 0 in
     let r = left-of feed drain offers inlets dests plan by can of_files lines laws one clean old bytes [] [] (new_stores plan) runs lists (λ ls is. new-covered offers one plan by bytes old ls can is) follow are in
     record { stopped = r.stopped; stops = r.stops; covered = r.covered }
 
-pub plan-runs-take-once : {R I O : Type 0} (feed : I → InletState) (drain : O → OutletState) (offers : R → ℕ → Record → List Offer → Type 0) (inlets dests : R → ℕ) → Laws → ListsAreOne → CleanRunsEnd feed drain offers inlets dests
+pub plan-runs-take-once : {R I O : Type 0} (feed : I → InletState) (drain : O → OutletState) (offers : R → ℕ → Record → List Offer → Type 0) (inlets dests : R → ℕ) → LawsOfImages → ListsAreOne → CleanRunsEnd feed drain offers inlets dests
     → PlanRunsTakeOnce feed drain offers inlets dests
 plan-runs-take-once feed drain offers inlets dests laws one clean plan by bytes runs last can of_files lines limits follow ends =
     let old : ℕ → ℕ = λ i. 0 in

@@ -24,11 +24,11 @@ use Rattle.sg_machine.specs.declared.setup.DestSetup.{DestSetup}
 use Rattle.sg_machine.specs.declared.setup.Setup.{Setup}
 use Rattle.sg_machine.specs.declared.setup.SourceSetup.{SourceSetup}
 use Rattle.sg_machine.specs.declared.state.Dest.{Dest}
-use Rattle.sg_machine.specs.declared.state.Inlet.{Inlet}
+use Rattle.sg_machine.specs.declared.state.InletRecords.{InletRecords}
 use Rattle.sg_machine.specs.declared.state.State.{State}
 use Rattle.sg_machine.specs.Counts.{ends_by, ends_admitted, opening_from}
 use Rattle.sg_machine.specs.Effects.{ends_of}
-use Rattle.sg_machine.specs.Runs.{Kept, opened_inlet, opened, after_all}
+use Rattle.sg_machine.specs.Runs.{BufferedEntry, opened_inlet, opened, after_all}
 use Rattle.sg_machine.specs.Safe.{rises}
 use Rattle.sg_machine.proofs.InletLemmas.{counts-inlet}
 use Rattle.sg_machine.proofs.RunLemmas.{both-true}
@@ -38,7 +38,7 @@ use Rattle.sg_sinks.specs.States.{SinkState}
 use Rattle.sg_stores.specs.Positions.{stored_in, position_of}
 use Rattle.sg_stores.specs.Stores.{StoreState, coded}
 use Rattle.sg_standing.specs.Images.{position_in}
-use Rattle.sg_standing.specs.Standing.{IsAt, HoldsPosition, IsStored, is_broken}
+use Rattle.sg_standing.specs.Standing.{IsAt, HoldsPosition, IsStoredPosition, is_broken}
 use Rattle.sg_standing.specs.States.{CoreState, setup_of}
 use Rattle.sg_core.specs.Opening.{NumberStores}
 use Rattle.sg_actor.specs.Bringing.{last_end}
@@ -56,18 +56,18 @@ use Rattle.sg_serve.specs.Counts.{first_fault}
 use Rattle.sg_serve.specs.Devices.{inlet_asked}
 use Rattle.sg_serve.specs.Plan.{IsRunnable}
 use Rattle.sg_serve.specs.Rewinds.{position_at, places_of, rewinds_from}
-use Rattle.sg_serve.specs.Run.{CoreRun, Reached, HoldsRun, IsServed, Holds, RunsWith}
+use Rattle.sg_serve.specs.Run.{CoreRun, Reached, HoldsRun, IsServed, PlanRunHolds, RunsWith}
 use Rattle.sg_serve.specs.declared.counts.Counts.{Counts}
 use Rattle.sg_serve.specs.declared.ending.PlanEnded.TheVariants.{Ran as RanSo}
 use Rattle.sg_run_plan.specs.declared.plan.RunPlan.{RunPlan}
 use Rattle.sg_serve.proofs.ActorLemmas.{store-by-setup}
 use Rattle.sg_one_run.proofs.PreludeLemmas.{get-back, still-rewinds}
 use Rattle.sg_one_run.proofs.SourceLemmas.{nothing-read}
-use Rattle.sg_one_run.specs.Ending.{Ends, IsEnded, CleanRunsEnd}
+use Rattle.sg_one_run.specs.Ending.{EndsRounds, IsEnded, CleanRunsEnd}
 use Rattle.sg_one_run.specs.Resting.{brought_by, spec_for}
 use Rattle.sg_one_run.proofs.RoundLemmas.{inlet-of-setup}
 use Rattle.sg_many_runs.specs.Pieces.{Piece, behind}
-use Rattle.sg_many_runs.specs.Resuming.{IsBegun}
+use Rattle.sg_many_runs.specs.Resuming.{IsReadingBegun}
 use Rattle.sg_many_runs.proofs.ItemRestLemmas.{reading-ends}
 use Rattle.sg_many_runs.specs.Covered.{IsFile, listed, list_at}
 use Rattle.sg_many_runs.specs.Adding.{EndsClean}
@@ -75,7 +75,7 @@ use Rattle.sg_many_runs.proofs.HasLemmas.{has-nil, has-cons, has-map}
 use Rattle.sg_many_runs.proofs.BeginLemmas.{opened-inlet-at}
 use Rattle.sg_many_runs.proofs.PieceLemmas.{ends, last_of, behind-has, behind-rises, rising}
 use Rattle.sg_many_runs.specs.Happened.{AreImagesOf, AreListsBy, held_by, positions_by, EachChoice, AllTell, AreOfFiles, TellFiles, files_of}
-use Rattle.sg_many_runs.specs.Clean.{AreLines, PlanRunsEndClean}
+use Rattle.sg_many_runs.specs.Clean.{AreFilesByLines, PlanRunsEndClean}
 use Rattle.sg_many_runs.proofs.GaveLemmas.{Gave, gave-file}
 use Rattle.sg_many_runs.proofs.HappenedLemmas.{given-pieces, files-here, fetch-some, happens}
 use Rattle.sg_many_runs.proofs.MergeLemmas.{record_piece}
@@ -199,11 +199,11 @@ held-store stores failed s place None broken q h = absurd h
 held-store stores failed s place (Some store) broken q h = (store, (q, h.position_is))
 
 stored-at : (core : CoreState) (t : State) (setup : Setup) (i s : ℕ) (source : SourceSetup) → IsAt core t → setup_of core ≡ setup → slice_get setup.sources i ≡ Some source → source.store ≡ Some s
-    → (x : Inlet) × ((slice_get t.inlets i ≡ Some x) × ((store : StoreState) × ((slice_get core.stores s ≡ Some store) × (store.position ≡ x.stored))))
+    → (x : InletRecords) × ((slice_get t.inlets i ≡ Some x) × ((store : StoreState) × ((slice_get core.stores s ≡ Some store) × (store.position ≡ x.stored))))
 stored-at core t setup i s source at same here has =
     let x = inlet-of-setup core t setup i source at same here in
     let store : (x.0).setup.store ≡ Some s = ap (λ (y : SourceSetup). y.store) x.1.1 ∙ has in
-    let P : Option ℕ → Type 0 = λ o. IsStored core.stores t.failed o (x.0).stored in
+    let P : Option ℕ → Type 0 = λ o. IsStoredPosition core.stores t.failed o (x.0).stored in
     let held = subst P store (at.stores i x.0 x.1.0) in
     (x.0, (x.1.0, held-store core.stores t.failed s (x.0).stored (slice_get core.stores s) _ refl held))
 
@@ -224,12 +224,12 @@ begun-place files plan reached run i s source closed holds rewinds fed here has 
     let c = counts-inlet start run.prelude i (opened_inlet source (f source)) stands.legal (opened-inlet-at plan.setup.sources (o.opening).places i source (f source) here place_at) in
     let is : c.0 ≡ x.0 = some-same c.0 x.0 (sym c.1 ∙ x.1.0) in
     let still = still-rewinds (position_at run.first) (places_of reached.inlets) run.prelude rewinds in
-    let unbegun : (x.0).ends ≡ [] = sym (ap (λ (y : Inlet). y.ends) is) ∙ c.2.ends ∙ ends-none i run.prelude (still.admits i) in
+    let unbegun : (x.0).ends ≡ [] = sym (ap (λ (y : InletRecords). y.ends) is) ∙ c.2.ends ∙ ends-none i run.prelude (still.admits i) in
     let unmoved : (x.0).stored ≡ (x.0).opening = (stands.at.sound).unmoved i x.0 x.1.0 unbegun in
     let places : slice_get (places_of reached.inlets) i ≡ Some (fed.feed).place = slice_get-map (λ (y : InletState). y.place) reached.inlets i fed.feed fed.at in
     let either : ((fed.feed).place ≡ f source) ⊎ ((fed.feed).place ≡ 0) = elim fed.place [ inl e ↦ inl (e ∙ sym first_is) | inr e ↦ inr e ] in
     let opening : (x.0).opening ≡ (fed.feed).place =
-    sym (ap (λ (y : Inlet). y.opening) is) ∙ c.2.opening ∙ ap (opening_from i (f source)) rewinds ∙ rewinds-here i (f source) (position_at run.first) 0 i (places_of reached.inlets) (fed.feed).place (omega arith) places first_is either in
+    sym (ap (λ (y : InletRecords). y.opening) is) ∙ c.2.opening ∙ ap (opening_from i (f source)) rewinds ∙ rewinds-here i (f source) (position_at run.first) 0 i (places_of reached.inlets) (fed.feed).place (omega arith) places first_is either in
     let store = x.1.1 in
     ap (λ (y : Option ℕ). stored_in run.begun.stores y) (store-by-setup run.begun plan.setup.sources i source begun_sources here ∙ has)
     ∙ ap position_of store.1.0 ∙ store.1.1 ∙ unmoved ∙ opening ∙ sym fed.from
@@ -244,21 +244,21 @@ disk-closed reached run s store disks at = ap (λ (ds : List DiskState). slice_g
 
 -- Lists.
 
-pub no-coded : (list : List Kept) → map coded list ≡ [] → list ≡ []
+pub no-coded : (list : List BufferedEntry) → map coded list ≡ [] → list ≡ []
 no-coded [] h = refl
 no-coded (k ∷ list) h = absurd (omega (arith, ap length h))
 
-listed-none-if : (list : List Kept) (b : Bool) → (b ≡ true → list ≡ []) → (let none : List Kept = [] in (if b then list else []) ≡ none)
+listed-none-if : (list : List BufferedEntry) (b : Bool) → (b ≡ true → list ≡ []) → (let none : List BufferedEntry = [] in (if b then list else []) ≡ none)
 listed-none-if list true h = h refl
 listed-none-if list false h = refl
 
-pub listed-none : (a : Option DestSetup) (l : Option (List Kept)) → ((s : DestSetup) (list : List Kept) → a ≡ Some s → l ≡ Some list → is_some s.buffer ≡ true → list ≡ []) → listed a l ≡ []
+pub listed-none : (a : Option DestSetup) (l : Option (List BufferedEntry)) → ((s : DestSetup) (list : List BufferedEntry) → a ≡ Some s → l ≡ Some list → is_some s.buffer ≡ true → list ≡ []) → listed a l ≡ []
 listed-none None l h = refl
 listed-none (Some s) None h = refl
 listed-none (Some s) (Some list) h = listed-none-if list (is_some s.buffer) (λ b. h s list refl refl b)
 
-clean-list : {R : Type 0} (offers : R → ℕ → Record → List Offer → Type 0) (plan : RunPlan) (routers : List R) (reached : Reached) (run : CoreRun) (made : List Exchange) → ListsAreOne → Ends offers plan routers reached run made → (t : State) → IsAt run.last t → setup_of run.last ≡ plan.setup
-    → reached.stores_closed ≡ map (λ (x : StoreState). x.disk) run.last.stores → (images : List (List ℕ)) (lists : List (List Kept)) → AreImagesOf reached.stores_closed images → AreListsBy plan.setup.dests images lists
+clean-list : {R : Type 0} (offers : R → ℕ → Record → List Offer → Type 0) (plan : RunPlan) (routers : List R) (reached : Reached) (run : CoreRun) (made : List Exchange) → ListsAreOne → EndsRounds offers plan routers reached run made → (t : State) → IsAt run.last t → setup_of run.last ≡ plan.setup
+    → reached.stores_closed ≡ map (λ (x : StoreState). x.disk) run.last.stores → (images : List (List ℕ)) (lists : List (List BufferedEntry)) → AreImagesOf reached.stores_closed images → AreListsBy plan.setup.dests images lists
     → (d : ℕ) → list_at plan.setup (held_by plan.setup images lists) d ≡ []
 clean-list offers plan routers reached run made one e t at same disks images lists are in_lists d =
     listed-none (slice_get plan.setup.dests d) (slice_get lists d)
@@ -277,9 +277,9 @@ clean-list offers plan routers reached run made one e t at same disks images lis
 -- Positions.
 
 clean-position : {R I O : Type 0} (feed : I → InletState) (drain : O → OutletState) (offers : R → ℕ → Record → List Offer → Type 0) (inlets dests : R → ℕ) (files : Option Files) (plan : RunPlan) (routers : List R) (rounds : ℕ) (reached : Reached)
-    (run : CoreRun) (counts : Option Counts) (bytes : ℕ → List ℕ) (made : List Exchange) → IsRunnable plan → AreOfFiles plan → AreLines plan → TellFiles files plan reached.inlets bytes → (holds : HoldsRun files plan reached run)
-    → IsServed feed drain offers inlets dests plan routers rounds reached run Quiet counts → Ends offers plan routers reached run made → (t : State) → IsAt run.last t → setup_of run.last ≡ plan.setup
-    → ((i : ℕ) (inlet : InletPlan) (from : ℕ) → IsFile plan.setup i → slice_get plan.inlets.items i ≡ Some inlet → (from ≡ position_at run.first i) ⊎ (from ≡ 0) → IsBegun inlet.kind inlet.limit (bytes i) from)
+    (run : CoreRun) (counts : Option Counts) (bytes : ℕ → List ℕ) (made : List Exchange) → IsRunnable plan → AreOfFiles plan → AreFilesByLines plan → TellFiles files plan reached.inlets bytes → (holds : HoldsRun files plan reached run)
+    → IsServed feed drain offers inlets dests plan routers rounds reached run Quiet counts → EndsRounds offers plan routers reached run made → (t : State) → IsAt run.last t → setup_of run.last ≡ plan.setup
+    → ((i : ℕ) (inlet : InletPlan) (from : ℕ) → IsFile plan.setup i → slice_get plan.inlets.items i ≡ Some inlet → (from ≡ position_at run.first i) ⊎ (from ≡ 0) → IsReadingBegun inlet.kind inlet.limit (bytes i) from)
     → (images : List (List ℕ)) → AreImagesOf reached.stores_closed images → (i position : ℕ) (x : Piece) → IsFile plan.setup i → slice_get (positions_by plan.setup.sources images) i ≡ Some position → Contains (files_of plan.inlets.items bytes i) x → x.end ≤ position
 clean-position {R} {I} {O} feed drain offers inlets dests files plan routers rounds reached run counts bytes made runnable of_files lines tell holds served e t at same begun images are i position x file now c =
     let runs = served.runs in
@@ -334,11 +334,11 @@ clean-position {R} {I} {O} feed drain offers inlets dests files plan routers rou
 
 -- No entries.
 
-abbrev pub no_lists : List DestSetup → List (List Kept)
-no_lists dests = map (λ (d : DestSetup). let none : List Kept = [] in none) dests
+abbrev pub no_lists : List DestSetup → List (List BufferedEntry)
+no_lists dests = map (λ (d : DestSetup). let none : List BufferedEntry = [] in none) dests
 
-no-list : (dests : List DestSetup) (d : ℕ) (list : List Kept) → slice_get (no_lists dests) d ≡ Some list → list ≡ []
-no-list dests d list h = let x = get-back (λ (y : DestSetup). let none : List Kept = [] in none) dests d list h in sym x.1.1
+no-list : (dests : List DestSetup) (d : ℕ) (list : List BufferedEntry) → slice_get (no_lists dests) d ≡ Some list → list ≡ []
+no-list dests d list h = let x = get-back (λ (y : DestSetup). let none : List BufferedEntry = [] in none) dests d list h in sym x.1.1
 
 -- of each disk-buffer there is a disk at the return
 closed-disk : (plan : RunPlan) (reached : Reached) (run : CoreRun) (t : State) → IsAt run.last t → setup_of run.last ≡ plan.setup → reached.stores_closed ≡ map (λ (x : StoreState). x.disk) run.last.stores → (d : ℕ) (s : DestSetup) (b : BufferSetup)
@@ -352,17 +352,17 @@ closed-disk plan reached run t at same disks d s b here has =
     ((backed.store).disk, disk-closed reached run b.store backed.store disks backed.there)
 
 -- lists without entries are those of the images at the return
-no-entries : {R : Type 0} (offers : R → ℕ → Record → List Offer → Type 0) (plan : RunPlan) (routers : List R) (reached : Reached) (run : CoreRun) (made : List Exchange) → Ends offers plan routers reached run made → (t : State) → IsAt run.last t → setup_of run.last ≡ plan.setup
+no-entries : {R : Type 0} (offers : R → ℕ → Record → List Offer → Type 0) (plan : RunPlan) (routers : List R) (reached : Reached) (run : CoreRun) (made : List Exchange) → EndsRounds offers plan routers reached run made → (t : State) → IsAt run.last t → setup_of run.last ≡ plan.setup
     → reached.stores_closed ≡ map (λ (x : StoreState). x.disk) run.last.stores → (images : List (List ℕ)) → AreImagesOf reached.stores_closed images → AreListsBy plan.setup.dests images (no_lists plan.setup.dests)
 no-entries offers plan routers reached run made e t at same disks images are = record {
-  every = length-map plan.setup.dests (λ (d : DestSetup). let none : List Kept = [] in none);
+  every = length-map plan.setup.dests (λ (d : DestSetup). let none : List BufferedEntry = [] in none);
   each = λ d dest buffer list bytes here has there chosen.
       (let disk = closed-disk plan reached run t at same disks d dest buffer here has in
       let image = are buffer.store disk.0 disk.1 in
       let is : image.0 ≡ bytes = some-same image.0 bytes (sym image.1.0 ∙ chosen) in
       let P : List ℕ → Type 0 = λ bs. IsListOf [] bs in
       let none = subst P is (e.lists d dest buffer disk.0 here has disk.1 image.0 image.1.1) in
-      let Q : List Kept → Type 0 = λ ks. IsListOf (map coded ks) bytes in
+      let Q : List BufferedEntry → Type 0 = λ ks. IsListOf (map coded ks) bytes in
       subst Q (sym (no-list plan.setup.dests d list there)) none);
 }
 
@@ -374,9 +374,9 @@ pub record Cleaned (plan : RunPlan) (reached : Reached) (bytes : ℕ → List �
   pub lists : (images : List (List ℕ)) → AreImagesOf reached.stores_closed images → AreListsBy plan.setup.dests images (no_lists plan.setup.dests)
 
 clean-held : {R I O : Type 0} (feed : I → InletState) (drain : O → OutletState) (offers : R → ℕ → Record → List Offer → Type 0) (inlets dests : R → ℕ) (files : Option Files) (plan : RunPlan) (routers : List R) (rounds : ℕ) (reached : Reached)
-    (core : Option CoreRun) (counts : Option Counts) (run : CoreRun) (bytes : ℕ → List ℕ) (made : List Exchange) → ListsAreOne → IsRunnable plan → AreOfFiles plan → AreLines plan → TellFiles files plan reached.inlets bytes
-    → Holds feed drain offers inlets dests files plan routers rounds reached core (RanSo Quiet counts) → core ≡ Some run → Held files plan reached run → Ends offers plan routers reached run made → (t : State) → IsAt run.last t
-    → ((i : ℕ) (inlet : InletPlan) (from : ℕ) → IsFile plan.setup i → slice_get plan.inlets.items i ≡ Some inlet → (from ≡ position_at run.first i) ⊎ (from ≡ 0) → IsBegun inlet.kind inlet.limit (bytes i) from) → Cleaned plan reached bytes
+    (core : Option CoreRun) (counts : Option Counts) (run : CoreRun) (bytes : ℕ → List ℕ) (made : List Exchange) → ListsAreOne → IsRunnable plan → AreOfFiles plan → AreFilesByLines plan → TellFiles files plan reached.inlets bytes
+    → PlanRunHolds feed drain offers inlets dests files plan routers rounds reached core (RanSo Quiet counts) → core ≡ Some run → Held files plan reached run → EndsRounds offers plan routers reached run made → (t : State) → IsAt run.last t
+    → ((i : ℕ) (inlet : InletPlan) (from : ℕ) → IsFile plan.setup i → slice_get plan.inlets.items i ≡ Some inlet → (from ≡ position_at run.first i) ⊎ (from ≡ 0) → IsReadingBegun inlet.kind inlet.limit (bytes i) from) → Cleaned plan reached bytes
 clean-held feed drain offers inlets dests files plan routers rounds reached None counts run bytes made one runnable of_files lines tell h q held e t at begun = absurd h
 clean-held {R} {I} {O} feed drain offers inlets dests files plan routers rounds reached (Some core) counts run bytes made one runnable of_files lines tell (holds, served) q held e t at begun =
     let S : CoreRun → Type 0 = λ r. IsServed feed drain offers inlets dests plan routers rounds reached r Quiet counts in
@@ -393,7 +393,7 @@ clean-held {R} {I} {O} feed drain offers inlets dests files plan routers rounds 
 
 -- whatever the contents of the stores have for positions are ends of items
 pub clean-by : {R I O : Type 0} (feed : I → InletState) (drain : O → OutletState) (offers : R → ℕ → Record → List Offer → Type 0) (inlets dests : R → ℕ) → ListsAreOne → CleanRunsEnd feed drain offers inlets dests → (old new : WorldState) (plan : RunPlan) (routers : List R)
-    (rounds : ℕ) (counts : Counts) (reached : Reached) (run : CoreRun) (bytes : ℕ → List ℕ) (lists : List (List Kept)) → IsRunnable plan → AreOfFiles plan → AreLines plan
+    (rounds : ℕ) (counts : Counts) (reached : Reached) (run : CoreRun) (bytes : ℕ → List ℕ) (lists : List (List BufferedEntry)) → IsRunnable plan → AreOfFiles plan → AreFilesByLines plan
     → RunsWith feed drain offers inlets dests old new plan routers rounds (RanSo Quiet (Some counts)) reached → reached.core ≡ Some run → first_fault counts.sinks counts.stores counts.inlets ≡ None → AllTell reached.stores → TellFiles old.files plan reached.inlets bytes
     → AreEnds plan.setup (files_of plan.inlets.items bytes) (held_by plan.setup (contents reached.stores) lists) → Cleaned plan reached bytes
 clean-by feed drain offers inlets dests one clean old new plan routers rounds counts reached run bytes lists runnable of_files lines runs core well tells tell are =

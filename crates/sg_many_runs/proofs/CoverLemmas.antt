@@ -9,22 +9,21 @@ use Rattle.sg_machine.specs.declared.setup.DestSetup.{DestSetup}
 use Rattle.sg_machine.specs.declared.setup.Setup.{Setup}
 use Rattle.sg_machine.specs.declared.setup.SourceSetup.{SourceSetup}
 use Rattle.sg_machine.specs.declared.state.Dest.{Dest}
-use Rattle.sg_machine.specs.declared.state.Entry.{Entry}
-use Rattle.sg_machine.specs.declared.state.Inlet.{Inlet}
+use Rattle.sg_machine.specs.declared.state.DestEntry.{DestEntry}
+use Rattle.sg_machine.specs.declared.state.InletRecords.{InletRecords}
 use Rattle.sg_machine.specs.declared.state.State.{State}
 use Rattle.sg_machine.specs.Verdicts.{is_listed}
 use Rattle.sg_machine.specs.Legal.{is_legal}
-use Rattle.sg_machine.specs.Effects.{after}
-use Rattle.sg_machine.specs.Runs.{Kept, opened_inlet, opened_dest, opened, after_all, are_legal}
+use Rattle.sg_machine.specs.Runs.{BufferedEntry, opened_inlet, opened_dest, opened, are_legal}
 use Rattle.sg_machine.specs.Counts.{as_kept, kept_of, kept_entries, ends_by, ends_admitted, opening_from}
 use Rattle.sg_machine.specs.Safe.{Images, first_of, failing_position, failed_position, failed_entries, running_position, rises, settled_by, left_by, held_in}
 use Rattle.sg_machine.proofs.RunLemmas.{are_legal-parts, both-true}
 use Rattle.sg_machine.proofs.CountLemmas.{counts-dest}
 use Rattle.sg_machine.proofs.InletLemmas.{counts-inlet}
-use Rattle.sg_machine.proofs.PositionLemmas.{Keeps, keeps-all, keeps-opened, position-reached}
+use Rattle.sg_machine.proofs.PositionLemmas.{KeepsPosition, keeps-all, keeps-opened, position-reached}
 use Rattle.sg_many_runs.specs.Pieces.{Piece, behind}
-use Rattle.sg_many_runs.specs.Covered.{Pass, Delivery, Offers, IsFile, as_stored, entry_of, taking_of, list_at, IsHeld, IsKeptSafe, IsPassed, IsOffered, Covered}
-use Rattle.sg_many_runs.specs.Passes.{AreAdmitted, pieces_of, Stopped, state_at, taken_in, IsStopped}
+use Rattle.sg_many_runs.specs.Covered.{Pass, Delivery, Offers, IsFile, as_stored, entry_of, taking_of, list_at, IsOfferHeld, IsKeptSafe, IsPassed, IsOffered, Covered}
+use Rattle.sg_many_runs.specs.Passes.{AreAdmitted, pieces_of, Stopped, state_at, taken_in, IsStoppedRun}
 use Rattle.sg_many_runs.specs.Adding.{Grow}
 use Rattle.sg_many_runs.proofs.HasLemmas.{has-nil, has-map, has-mapped}
 use Rattle.sg_many_runs.proofs.PieceLemmas.{last_of, ends, ends-append, behind-has, behind-in, behind-rises, rising, rises-first, above-zero, among-first, among-old}
@@ -32,23 +31,11 @@ use Rattle.sg_one_run.proofs.BoundEventLemmas.{dests-all}
 use Rattle.sg_many_runs.proofs.PassLemmas.{admitted-split, pieces-append, admitted-ends, piece-pass, admitted-kept}
 use Rattle.sg_many_runs.proofs.EntryLemmas.{EventsHold, state-holds, failed-hold, safe-holds}
 use Rattle.sg_many_runs.proofs.PassPlaceLemmas.{InletHolds, places-hold, running-holds, position-holds, opening-or-zero}
-use Rattle.sg_many_runs.proofs.LeftLemmas.{earlier-all, was-settled, split-by, kept-safe}
+use Rattle.sg_many_runs.proofs.LeftLemmas.{earlier-all, was-settled, kept-safe}
 use Rattle.sg_many_runs.proofs.BeginLemmas.{opened-inlet-at, opens-dest, kept-opened, length-opened, opened-earlier, list-here, is-listed, begins-hold}
-use Rattle.sg_many_runs.proofs.OfferLemmas.{offered-more, IsGiven, events-given, events-weaken, events-split}
-
-first_of-assoc : (a b c : Option ℕ) → first_of a (first_of b c) ≡ first_of (first_of a b) c
-first_of-assoc None b c = refl
-first_of-assoc (Some x) b c = refl
-
-first_of-none : (a : Option ℕ) → first_of a None ≡ a
-first_of-none None = refl
-first_of-none (Some x) = refl
-
-failed_position-push : (s : State) (es : List Event) (e : Event) (i : ℕ) → failed_position s (es ++ e ∷ []) i ≡ first_of (failed_position s es i) (option_and_then (failing_position (after_all s es) e i) (slice_get (after_all s es).inlets i))
-failed_position-push s [] e i = first_of-none (option_and_then (failing_position s e i) (slice_get s.inlets i))
-failed_position-push s (x ∷ es) e i =
-    let now = option_and_then (failing_position s x i) (slice_get s.inlets i) in
-    ap (first_of now) (failed_position-push (after s x) es e i) ∙ first_of-assoc now (failed_position (after s x) es i) (option_and_then (failing_position (after_all (after s x) es) e i) (slice_get (after_all (after s x) es).inlets i))
+use Rattle.sg_many_runs.proofs.OfferLemmas.{offered-more, IsOfferGiven, events-given, events-weaken, events-split}
+use Rattle.sg_machine.proofs.SafeLemmas.{failed_position-push}
+use Rattle.sg_machine.proofs.HeldLemmas.{split-by}
 
 abbrev pub start_of : Setup → Stopped → State
 start_of setup run = opened setup run.opening
@@ -57,12 +44,12 @@ start_of setup run = opened setup run.opening
 pub record FileAt (setup : Setup) (before : Images) (run : Stopped) (i : ℕ) : Type 0 where
   pub place : ℕ
   pub was : slice_get before.positions i ≡ Some place
-  pub first : Inlet
+  pub first : InletRecords
   pub at_first : slice_get (start_of setup run).inlets i ≡ Some first
   pub begins : first.opening ≡ place
   pub stands : first.stored ≡ place
   pub none : first.ends ≡ []
-  pub inlet : Inlet
+  pub inlet : InletRecords
   pub at : slice_get (state_at setup run).inlets i ≡ Some inlet
   pub store : is_some inlet.setup.store ≡ true
   pub ends : inlet.ends ≡ ends_admitted i run.events
@@ -72,22 +59,22 @@ pub record FileAt (setup : Setup) (before : Images) (run : Stopped) (i : ℕ) : 
 pub record DestAt (setup : Setup) (before : Images) (run : Stopped) (d : ℕ) (s : DestSetup) : Type 0 where
   pub first : Dest
   pub at_first : slice_get (start_of setup run).dests d ≡ Some first
-  pub was : (k : Kept) → Contains (list_at setup before d) k → Contains (kept_of first) k
+  pub was : (k : BufferedEntry) → Contains (list_at setup before d) k → Contains (kept_of first) k
   pub dest : Dest
   pub at : slice_get (state_at setup run).dests d ≡ Some dest
   pub stays : dest.setup ≡ s
   pub kept : kept_of dest ≡ kept_of first ++ kept_entries d run.events
-  pub list : List Kept
+  pub list : List BufferedEntry
   pub image : slice_get run.images.lists d ≡ Some list
   pub held : held_in list dest ≡ list_at setup run.images d
 
-legal-events : (setup : Setup) (offers : Offers) (before : Images) (run : Stopped) → IsStopped setup offers before run → are_legal (start_of setup run) run.events ≡ true
+legal-events : (setup : Setup) (offers : Offers) (before : Images) (run : Stopped) → IsStoppedRun setup offers before run → are_legal (start_of setup run) run.events ≡ true
 legal-events setup offers before run h = (are_legal-parts (start_of setup run) run.events (run.event ∷ []) h.legal).0
 
-legal-event : (setup : Setup) (offers : Offers) (before : Images) (run : Stopped) → IsStopped setup offers before run → is_legal (state_at setup run) run.event ≡ true
+legal-event : (setup : Setup) (offers : Offers) (before : Images) (run : Stopped) → IsStoppedRun setup offers before run → is_legal (state_at setup run) run.event ≡ true
 legal-event setup offers before run h = (both-true (is_legal (state_at setup run) run.event) true (are_legal-parts (start_of setup run) run.events (run.event ∷ []) h.legal).1).0
 
-pub file-at : (setup : Setup) (offers : Offers) (before : Images) (run : Stopped) (i : ℕ) → IsStopped setup offers before run → IsFile setup i → FileAt setup before run i
+pub file-at : (setup : Setup) (offers : Offers) (before : Images) (run : Stopped) (i : ℕ) → IsStoppedRun setup offers before run → IsFile setup i → FileAt setup before run i
 file-at setup offers before run i h f =
     let many = h.begins.every_position in
     let below = slice_get-below setup.sources i f.source f.at in
@@ -110,7 +97,7 @@ file-at setup offers before run i h f =
       opening = c.2.opening;
     }
 
-dest-at : (setup : Setup) (offers : Offers) (before : Images) (run : Stopped) (d : ℕ) (s : DestSetup) → IsStopped setup offers before run → slice_get setup.dests d ≡ Some s → DestAt setup before run d s
+dest-at : (setup : Setup) (offers : Offers) (before : Images) (run : Stopped) (d : ℕ) (s : DestSetup) → IsStoppedRun setup offers before run → slice_get setup.dests d ≡ Some s → DestAt setup before run d s
 dest-at setup offers before run d s h q =
     let o = opens-dest setup.dests run.opening.entries d s q in
     let first = opened_dest s o.list in
@@ -128,7 +115,7 @@ dest-at setup offers before run d s h q =
           let same : x.s ≡ s = some-same x.s s (sym x.is ∙ q) in
           let buffer : is_some s.buffer ≡ true = sym (ap (λ (y : DestSetup). is_some y.buffer) same) ∙ x.buffer in
           let list : x.list ≡ o.list = o.is x.list (h.begins.lists d s x.list q buffer x.here) in
-          let P : List Kept → Type 0 = λ ks. Contains ks k in
+          let P : List BufferedEntry → Type 0 = λ ks. Contains ks k in
           subst P (list ∙ sym (kept-opened s o.list)) x.has);
       dest = c.0;
       at = c.1;
@@ -136,7 +123,7 @@ dest-at setup offers before run d s h q =
       kept = c.2.kept;
       list = l.0;
       image = l.1;
-      held = ap (λ (y : DestSetup). let ks : List Kept = (if is_some y.buffer then l.0 else []) in ks) c.2.setup ∙ sym (list-here setup run.images d s l.0 q l.1);
+      held = ap (λ (y : DestSetup). let ks : List BufferedEntry = (if is_some y.buffer then l.0 else []) in ks) c.2.setup ∙ sym (list-here setup run.images d s l.0 q l.1);
     }
 
 -- the passes of the events, and those of the one that was on
@@ -146,20 +133,20 @@ pub record Halves (offers : Offers) (run : Stopped) : Type 0 where
   pub are : run.passes ≡ done ++ on
   pub admitted : AreAdmitted offers run.events done
 
-halves : (setup : Setup) (offers : Offers) (before : Images) (run : Stopped) → IsStopped setup offers before run → Halves offers run
+halves : (setup : Setup) (offers : Offers) (before : Images) (run : Stopped) → IsStoppedRun setup offers before run → Halves offers run
 halves setup offers before run h =
     let r = admitted-split offers run.events (run.event ∷ []) run.passes h.admits in
     record { done = r.0; on = r.1.0; are = r.1.1.0; admitted = r.1.1.1 }
 
 -- Of a file: the ends of what came in are those of the first items behind its opening place.
-pub record ReadsOf (setup : Setup) (offers : Offers) (run : Stopped) (i : ℕ) (inlet : Inlet) (done : List Pass) : Type 0 where
+pub record ReadsOf (setup : Setup) (offers : Offers) (run : Stopped) (i : ℕ) (inlet : InletRecords) (done : List Pass) : Type 0 where
   pub later : List Piece
   pub are : behind inlet.opening (run.files i) ≡ pieces_of i done ++ later
   pub ends_are : inlet.ends ≡ ends (pieces_of i done)
   pub rise : rises inlet.opening (ends (pieces_of i done ++ later)) ≡ true
   pub rising : rises inlet.opening inlet.ends ≡ true
 
-reads-of : (setup : Setup) (offers : Offers) (before : Images) (run : Stopped) (i : ℕ) (h : IsStopped setup offers before run) → IsFile setup i → (f : FileAt setup before run i) → (p : Halves offers run) → ReadsOf setup offers run i f.inlet p.done
+reads-of : (setup : Setup) (offers : Offers) (before : Images) (run : Stopped) (i : ℕ) (h : IsStoppedRun setup offers before run) → IsFile setup i → (f : FileAt setup before run i) → (p : Halves offers run) → ReadsOf setup offers run i f.inlet p.done
 reads-of setup offers before run i h file f p =
     let r = h.reads i f.inlet file f.at in
     let later = pieces_of i p.on ++ r.0 in
@@ -173,7 +160,7 @@ reads-of setup offers before run i h file f p =
     record { later = later; are = are; ends_are = ends_are; rise = rise; rising = subst Q (sym ends_are) first }
 
 -- A kept entry with flow-control of a record that the position has passed is held.
-held : (setup : Setup) (offers : Offers) (before : Images) (run : Stopped) (i position d : ℕ) (s : DestSetup) (k : Kept) → IsStopped setup offers before run → IsFile setup i → slice_get run.images.positions i ≡ Some position → slice_get setup.dests d ≡ Some s
+held : (setup : Setup) (offers : Offers) (before : Images) (run : Stopped) (i position d : ℕ) (s : DestSetup) (k : BufferedEntry) → IsStoppedRun setup offers before run → IsFile setup i → slice_get run.images.positions i ≡ Some position → slice_get setup.dests d ≡ Some s
     → (at : DestAt setup before run d s) → Contains (kept_of at.dest) k → k.inlet ≡ i → k.flow ≡ true → k.end ≤ position
     → Contains (taken_in setup run) (record { dest = d; message = k.message }) ⊎ Contains (list_at setup run.images d) k
 held setup offers before run i position d s k h file hp hd at c inlet flow end =
@@ -182,12 +169,12 @@ held setup offers before run i position d s k h file hp hd at c inlet flow end =
     let early = earlier-all (start_of setup run) run.events (opened-earlier setup.dests run.opening.entries (λ e x l a b g. h.begins.bare e x l a b g)) in
     let held = h.safe.covers i f.inlet position d at.dest at.list f.at f.store r.rising hp at.at at.image in
     let safe = kept-safe i position run.event.act (state_at setup run).dests d at.dest _ _ at.list k at.at early c held (λ b. h.safe.images_at.safe_lists d at.dest at.list at.at b at.image) inlet flow end in
-    let P : List Kept → Type 0 = λ ks. Contains ks k in
+    let P : List BufferedEntry → Type 0 = λ ks. Contains ks k in
     elim safe [ inl t ↦ inl t | inr m ↦ inr (subst P at.held m) ]
 
 -- as an offer of a pass
-offer-held : (setup : Setup) (offers : Offers) (before : Images) (run : Stopped) (taken : List Delivery) (i position : ℕ) (s : DestSetup) (p : Pass) (o : Offer) → IsStopped setup offers before run → IsFile setup i → slice_get run.images.positions i ≡ Some position
-    → slice_get setup.dests o.dest ≡ Some s → (at : DestAt setup before run o.dest s) → Contains (kept_of at.dest) (entry_of p o) → p.inlet ≡ i → o.flow ≡ true → p.end ≤ position → IsHeld setup (taken ++ taken_in setup run) run.images p o
+offer-held : (setup : Setup) (offers : Offers) (before : Images) (run : Stopped) (taken : List Delivery) (i position : ℕ) (s : DestSetup) (p : Pass) (o : Offer) → IsStoppedRun setup offers before run → IsFile setup i → slice_get run.images.positions i ≡ Some position
+    → slice_get setup.dests o.dest ≡ Some s → (at : DestAt setup before run o.dest s) → Contains (kept_of at.dest) (entry_of p o) → p.inlet ≡ i → o.flow ≡ true → p.end ≤ position → IsOfferHeld setup (taken ++ taken_in setup run) run.images p o
 offer-held setup offers before run taken i position s p o h file hp hd at c inlet flow end =
     elim (held setup offers before run i position o.dest s (entry_of p o) h file hp hd at c inlet flow end) [
       | inl t ↦ inl (Contains-append_right taken (taken_in setup run) (taking_of o) t)
@@ -195,17 +182,17 @@ offer-held setup offers before run taken i position s p o h file hp hd at c inle
     ]
 
 -- what was held before the run is held behind it
-was-held : (setup : Setup) (offers : Offers) (before : Images) (run : Stopped) (taken : List Delivery) (i position : ℕ) (p : Pass) (o : Offer) → IsStopped setup offers before run → IsFile setup i → slice_get run.images.positions i ≡ Some position
-    → p.inlet ≡ i → o.flow ≡ true → p.end ≤ position → IsHeld setup taken before p o → IsHeld setup (taken ++ taken_in setup run) run.images p o
+was-held : (setup : Setup) (offers : Offers) (before : Images) (run : Stopped) (taken : List Delivery) (i position : ℕ) (p : Pass) (o : Offer) → IsStoppedRun setup offers before run → IsFile setup i → slice_get run.images.positions i ≡ Some position
+    → p.inlet ≡ i → o.flow ≡ true → p.end ≤ position → IsOfferHeld setup taken before p o → IsOfferHeld setup (taken ++ taken_in setup run) run.images p o
 was-held setup offers before run taken i position p o h file hp inlet flow end (inl t) = inl (Contains-append_left taken (taken_in setup run) (taking_of o) t)
 was-held setup offers before run taken i position p o h file hp inlet flow end (inr m) =
     let x = is-listed (slice_get setup.dests o.dest) (slice_get before.lists o.dest) (entry_of p o) m in
     let at = dest-at setup offers before run o.dest x.s h x.is in
-    let P : List Kept → Type 0 = λ ks. Contains ks (entry_of p o) in
+    let P : List BufferedEntry → Type 0 = λ ks. Contains ks (entry_of p o) in
     let c = subst P (sym at.kept) (Contains-append_left (kept_of at.first) (kept_entries o.dest run.events) (entry_of p o) (at.was (entry_of p o) m)) in
     offer-held setup offers before run taken i position x.s p o h file hp x.is at c inlet flow end
 
-was-safe : (setup : Setup) (offers : Offers) (before : Images) (run : Stopped) (taken : List Delivery) (i position old : ℕ) (p : Pass) (o : Offer) → IsStopped setup offers before run → IsFile setup i → slice_get run.images.positions i ≡ Some position
+was-safe : (setup : Setup) (offers : Offers) (before : Images) (run : Stopped) (taken : List Delivery) (i position old : ℕ) (p : Pass) (o : Offer) → IsStoppedRun setup offers before run → IsFile setup i → slice_get run.images.positions i ≡ Some position
     → p.inlet ≡ i → o.flow ≡ true → p.end ≤ position → IsKeptSafe setup taken before old p o → IsKeptSafe setup (taken ++ taken_in setup run) run.images old p o
 was-safe setup offers before run taken i position old p o h file hp inlet flow end (inl a) = inl (was-held setup offers before run taken i position p o h file hp inlet flow end a)
 was-safe setup offers before run taken i position old p o h file hp inlet flow end (inr b) = inr (b.0, was-held setup offers before run taken i position p (as_stored o) h file hp inlet flow end b.1)
@@ -214,7 +201,7 @@ was-safe setup offers before run taken i position old p o h file hp inlet flow e
 
 -- those that the position before had passed
 old-items : (setup : Setup) (offers : Offers) (files : ℕ → List Piece) (taken : List Delivery) (passes : List Pass) (old : ℕ → ℕ) (before : Images) (run : Stopped) (i position place : ℕ) (x : Piece) → Covered setup offers files taken passes old before → Grow files run.files
-    → IsStopped setup offers before run → IsFile setup i → slice_get before.positions i ≡ Some place → slice_get run.images.positions i ≡ Some position → Contains (run.files i) x → x.end ≤ place → x.end ≤ position
+    → IsStoppedRun setup offers before run → IsFile setup i → slice_get before.positions i ≡ Some place → slice_get run.images.positions i ≡ Some position → Contains (run.files i) x → x.end ≤ place → x.end ≤ position
     → IsPassed offers (IsKeptSafe setup (taken ++ taken_in setup run) run.images (old i)) (passes ++ run.passes) i x
 old-items setup offers files taken passes old before run i position place x covered grow h file was now c low high =
     let g = grow i in
@@ -240,7 +227,7 @@ old-items setup offers files taken passes old before run i position place x cove
     }
 
 -- those behind it
-new-items : (setup : Setup) (offers : Offers) (taken : List Delivery) (passes : List Pass) (old : ℕ → ℕ) (before : Images) (run : Stopped) (i position place : ℕ) (x : Piece) → IsStopped setup offers before run → IsFile setup i → slice_get before.positions i ≡ Some place
+new-items : (setup : Setup) (offers : Offers) (taken : List Delivery) (passes : List Pass) (old : ℕ → ℕ) (before : Images) (run : Stopped) (i position place : ℕ) (x : Piece) → IsStoppedRun setup offers before run → IsFile setup i → slice_get before.positions i ≡ Some place
     → slice_get run.images.positions i ≡ Some position → Contains (run.files i) x → place < x.end → x.end ≤ position → IsPassed offers (IsKeptSafe setup (taken ++ taken_in setup run) run.images (old i)) (passes ++ run.passes) i x
 new-items setup offers taken passes old before run i position place x h file was now c low high =
     let start = start_of setup run in
@@ -258,10 +245,10 @@ new-items setup offers taken passes old before run i position place x h file was
     let behind_it = subst P r.are (behind-has f.inlet.opening (run.files i) x below c) in
     let kept = keeps-all start run.events None i f.first (legal-events setup offers before run h) f.at_first (keeps-opened setup run.opening i f.first f.at_first) in
     let same : kept.0 ≡ f.inlet = some-same kept.0 f.inlet (sym kept.1 ∙ f.at) in
-    let K : Inlet → Type 0 = λ y. Keeps (state_at setup run) (failed_position start run.events i) i y in
+    let K : InletRecords → Type 0 = λ y. KeepsPosition (state_at setup run) (failed_position start run.events i) i y in
     let keeps = subst K same kept.2 in
     let pushed : failed_position start (run.events ++ run.event ∷ []) i ≡ first_of (failed_position start run.events i) (failing_position (state_at setup run) run.event i f.inlet) =
-    failed_position-push start run.events run.event i ∙ ap (λ (o : Option Inlet). first_of (failed_position start run.events i) (option_and_then (failing_position (state_at setup run) run.event i) o)) f.at in
+    failed_position-push start run.events run.event i ∙ ap (λ (o : Option InletRecords). first_of (failed_position start run.events i) (option_and_then (failing_position (state_at setup run) run.event i) o)) f.at in
     let L : Option ℕ → Type 0 = λ o. is_listed position (f.inlet.stored ∷ option_to_list (running_position run.event.act i) ++ option_to_list o) ≡ true in
     let listed = subst L pushed (h.safe.images_at.stored i f.inlet position f.at f.store now) in
     let reached = position-reached (state_at setup run) run.event (failed_position start run.events i) i f.inlet position (legal-event setup offers before run h) f.at keeps listed r.rising in
@@ -285,7 +272,7 @@ new-items setup offers taken passes old before run i position place x h file was
           let at_most = k.1 in
           let s = slice_get-some setup.dests o.dest (omega (arith, many, at_most)) in
           let at = dest-at setup offers before run o.dest s.0 h s.1 in
-          let S : List Kept → Type 0 = λ ks. Contains ks (entry_of q.0 o) in
+          let S : List BufferedEntry → Type 0 = λ ks. Contains ks (entry_of q.0 o) in
           let c = subst S (sym at.kept) (Contains-append_right (kept_of at.first) (kept_entries o.dest run.events) (entry_of q.0 o) k.0) in
           inl (offer-held setup offers before run taken i position s.0 q.0 o h file now s.1 at c q.1.1.0 flow (omega (arith, end, high))));
     }
@@ -297,7 +284,7 @@ le-false : (a b : ℕ) → nat_le a b ≡ false → b < a
 le-false a b h = grind (arith, h)
 
 items-if : (setup : Setup) (offers : Offers) (files : ℕ → List Piece) (taken : List Delivery) (passes : List Pass) (old : ℕ → ℕ) (before : Images) (run : Stopped) (i position place : ℕ) (x : Piece) (b : Bool) → nat_le x.end place ≡ b → Covered setup offers files taken passes old before
-    → Grow files run.files → IsStopped setup offers before run → IsFile setup i → slice_get before.positions i ≡ Some place → slice_get run.images.positions i ≡ Some position → Contains (run.files i) x → x.end ≤ position
+    → Grow files run.files → IsStoppedRun setup offers before run → IsFile setup i → slice_get before.positions i ≡ Some place → slice_get run.images.positions i ≡ Some position → Contains (run.files i) x → x.end ≤ position
     → IsPassed offers (IsKeptSafe setup (taken ++ taken_in setup run) run.images (old i)) (passes ++ run.passes) i x
 items-if setup offers files taken passes old before run i position place x true q covered grow h file was now c high = old-items setup offers files taken passes old before run i position place x covered grow h file was now c (le-true x.end place q) high
 items-if setup offers files taken passes old before run i position place x false q covered grow h file was now c high = new-items setup offers taken passes old before run i position place x h file was now c (le-false x.end place q) high
@@ -320,7 +307,7 @@ ends-among i (e ∷ es) fs x m =
     ]
 
 -- what holds of 0, of the position before, and of each end that came in holds of the position
-pub place-by : (Q : ℕ → Type 0) (setup : Setup) (offers : Offers) (before : Images) (run : Stopped) (i position : ℕ) → IsStopped setup offers before run → IsFile setup i → slice_get run.images.positions i ≡ Some position → Q 0
+pub place-by : (Q : ℕ → Type 0) (setup : Setup) (offers : Offers) (before : Images) (run : Stopped) (i position : ℕ) → IsStoppedRun setup offers before run → IsFile setup i → slice_get run.images.positions i ≡ Some position → Q 0
     → ((place : ℕ) → slice_get before.positions i ≡ Some place → Q place) → ((x : ℕ) → Contains (ends_admitted i (run.events ++ run.event ∷ [])) x → Q x) → Q position
 place-by Q setup offers before run i position h file now none was ended =
     let start = start_of setup run in
@@ -333,7 +320,7 @@ place-by Q setup offers before run i position h file now none was ended =
     } in
     let now_at = places-hold Q start run.events i f.first none (legal-events setup offers before run h) f.at_first holds (λ x m. ended x (ends-among i run.events (run.event ∷ []) x m)) in
     let same : now_at.new ≡ f.inlet = some-same now_at.new f.inlet (sym now_at.at ∙ f.at) in
-    let H : Inlet → Type 0 = λ y. InletHolds Q y in
+    let H : InletRecords → Type 0 = λ y. InletHolds Q y in
     let at_stop = subst H same now_at.holds in
     let whole = places-hold Q start (run.events ++ run.event ∷ []) i f.first none h.legal f.at_first holds ended in
     position-holds Q f.inlet.stored position (running_position run.event.act i) (failed_position start (run.events ++ run.event ∷ []) i) at_stop.stored
@@ -341,7 +328,7 @@ place-by Q setup offers before run i position h file now none was ended =
     (h.safe.images_at.stored i f.inlet position f.at f.store now)
 
 place-new : (setup : Setup) (offers : Offers) (files : ℕ → List Piece) (before : Images) (run : Stopped) (i position : ℕ) → ((place : ℕ) → slice_get before.positions i ≡ Some place → IsPlace (files i) place) → Grow files run.files
-    → IsStopped setup offers before run → IsFile setup i → slice_get run.images.positions i ≡ Some position → IsPlace (run.files i) position
+    → IsStoppedRun setup offers before run → IsFile setup i → slice_get run.images.positions i ≡ Some position → IsPlace (run.files i) position
 place-new setup offers files before run i position covered grow h file now =
     let f = file-at setup offers before run i h file in
     let Q : ℕ → Type 0 = IsPlace (run.files i) in
@@ -360,11 +347,11 @@ place-new setup offers files before run i position covered grow h file now =
 -- Entries.
 
 -- what holds of the entries in the stores at first and of each offer that came in holds of the entries left, and of what was taken
-pub record RunHolds (P : ℕ → Kept → Type 0) (setup : Setup) (run : Stopped) : Type 0 where
-  pub lists : (d : ℕ) (k : Kept) → Contains (list_at setup run.images d) k → P d k
-  pub taken : (t : Delivery) → Contains (taken_in setup run) t → (k : Kept) × (P t.dest k × (t ≡ record { dest = t.dest; message = k.message }))
+pub record RunHolds (P : ℕ → BufferedEntry → Type 0) (setup : Setup) (run : Stopped) : Type 0 where
+  pub lists : (d : ℕ) (k : BufferedEntry) → Contains (list_at setup run.images d) k → P d k
+  pub taken : (t : Delivery) → Contains (taken_in setup run) t → (k : BufferedEntry) × (P t.dest k × (t ≡ record { dest = t.dest; message = k.message }))
 
-pub run-holds : (P : ℕ → Kept → Type 0) (setup : Setup) (offers : Offers) (before : Images) (run : Stopped) → IsStopped setup offers before run → ((d : ℕ) (k : Kept) → Contains (list_at setup before d) k → P d k)
+pub run-holds : (P : ℕ → BufferedEntry → Type 0) (setup : Setup) (offers : Offers) (before : Images) (run : Stopped) → IsStoppedRun setup offers before run → ((d : ℕ) (k : BufferedEntry) → Contains (list_at setup before d) k → P d k)
     → EventsHold P (run.events ++ run.event ∷ []) → RunHolds P setup run
 run-holds P setup offers before run h first events =
     let start = start_of setup run in
@@ -382,7 +369,7 @@ run-holds P setup offers before run h first events =
           (let w = was-settled run.event.act 0 (state_at setup run).dests t c in
           let kept = state w.k w.dest w.at in
           let e = as_kept w.e in
-          let A : List Entry → Type 0 = λ es. Contains (map as_kept es) e in
+          let A : List DestEntry → Type 0 = λ es. Contains (map as_kept es) e in
           let among : Contains (map as_kept (settled_by run.event.act (0 + w.k) w.dest ++ left_by run.event.act (0 + w.k) w.dest)) e =
           has-map as_kept (settled_by run.event.act (0 + w.k) w.dest ++ left_by run.event.act (0 + w.k) w.dest) w.e (Contains-append_left (settled_by run.event.act (0 + w.k) w.dest) (left_by run.event.act (0 + w.k) w.dest) w.e w.settled) in
           let holds : P w.k e = kept e (subst A (split-by run.event.act (0 + w.k) w.dest) among) in
@@ -393,13 +380,13 @@ run-holds P setup offers before run h first events =
 
 -- The whole.
 
-pub covers-run : (setup : Setup) (offers : Offers) (files : ℕ → List Piece) (taken : List Delivery) (passes : List Pass) (old : ℕ → ℕ) (before : Images) (run : Stopped) → Covered setup offers files taken passes old before → Grow files run.files → IsStopped setup offers before run
+pub covers-run : (setup : Setup) (offers : Offers) (files : ℕ → List Piece) (taken : List Delivery) (passes : List Pass) (old : ℕ → ℕ) (before : Images) (run : Stopped) → Covered setup offers files taken passes old before → Grow files run.files → IsStoppedRun setup offers before run
     → Covered setup offers run.files (taken ++ taken_in setup run) (passes ++ run.passes) old run.images
 covers-run setup offers files taken passes old before run covered grow h =
-    let P : ℕ → Kept → Type 0 = λ d k. IsOffered offers (passes ++ run.passes) d k in
+    let P : ℕ → BufferedEntry → Type 0 = λ d k. IsOffered offers (passes ++ run.passes) d k in
     let given = events-given offers (run.events ++ run.event ∷ []) (passes ++ run.passes) run.passes (λ p c. Contains-append_right passes run.passes p c) h.admits in
-    let events = events-weaken (IsGiven offers (passes ++ run.passes)) P (run.events ++ run.event ∷ []) (λ d k o. inl o) given in
-    let first : (d : ℕ) (k : Kept) → Contains (list_at setup before d) k → P d k = λ d k c. offered-more offers passes (passes ++ run.passes) d k (λ p m. Contains-append_left passes run.passes p m) (covered.entries d k c) in
+    let events = events-weaken (IsOfferGiven offers (passes ++ run.passes)) P (run.events ++ run.event ∷ []) (λ d k o. inl o) given in
+    let first : (d : ℕ) (k : BufferedEntry) → Contains (list_at setup before d) k → P d k = λ d k c. offered-more offers passes (passes ++ run.passes) d k (λ p m. Contains-append_left passes run.passes p m) (covered.entries d k c) in
     let entries = run-holds P setup offers before run h first events in
     record {
       positions = λ i position file now. place-new setup offers files before run i position (λ place was. covered.positions i place file was) grow h file now;

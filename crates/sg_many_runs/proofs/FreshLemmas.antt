@@ -11,7 +11,7 @@ use Rattle.sg_machine.specs.declared.setup.BufferSetup.{BufferSetup}
 use Rattle.sg_machine.specs.declared.setup.DestSetup.{DestSetup}
 use Rattle.sg_machine.specs.declared.setup.Setup.{Setup}
 use Rattle.sg_machine.specs.declared.setup.SourceSetup.{SourceSetup}
-use Rattle.sg_machine.specs.Runs.{Kept}
+use Rattle.sg_machine.specs.Runs.{BufferedEntry}
 use Rattle.sg_stores.specs.Stores.{coded}
 use Rattle.sg_standing.specs.Images.{position_in}
 use Rattle.sg_core.specs.Opening.{NumberStores, buffer_store_in}
@@ -63,15 +63,15 @@ position-new : (n : ℕ) (o : Option ℕ) → position_in (replicate n (replicat
 position-new n None = refl
 position-new n (Some s) = value-new n s
 
-position-here : (setup : Setup) (n : ℕ) (lists : List (List Kept)) (i position : ℕ) → slice_get (held_by setup (replicate n (replicate 128 0)) lists).positions i ≡ Some position → position ≡ 0
+position-here : (setup : Setup) (n : ℕ) (lists : List (List BufferedEntry)) (i position : ℕ) → slice_get (held_by setup (replicate n (replicate 128 0)) lists).positions i ≡ Some position → position ≡ 0
 position-here setup n lists i position at =
     let x = get-back (λ (source : SourceSetup). position_in (replicate n (replicate 128 0)) source.store) setup.sources i position at in
     sym x.1.1 ∙ position-new n (x.0).store
 
-pub new-range : (setup : Setup) (n : ℕ) (lists : List (List Kept)) → AreInRange setup (held_by setup (replicate n (replicate 128 0)) lists)
+pub new-range : (setup : Setup) (n : ℕ) (lists : List (List BufferedEntry)) → AreInRange setup (held_by setup (replicate n (replicate 128 0)) lists)
 new-range setup n lists i position file at = let none = position-here setup n lists i position at in omega (arith, none)
 
-pub new-fresh : ListsAreOne → (setup : Setup) (n : ℕ) (lists : List (List Kept)) → NumberStores setup n → AreListsBy setup.dests (replicate n (replicate 128 0)) lists → AreFresh setup (held_by setup (replicate n (replicate 128 0)) lists)
+pub new-fresh : ListsAreOne → (setup : Setup) (n : ℕ) (lists : List (List BufferedEntry)) → NumberStores setup n → AreListsBy setup.dests (replicate n (replicate 128 0)) lists → AreFresh setup (held_by setup (replicate n (replicate 128 0)) lists)
 new-fresh one setup n lists numbers are =
     record {
       positions = λ i position at. position-here setup n lists i position at;

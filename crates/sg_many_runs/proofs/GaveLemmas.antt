@@ -4,7 +4,7 @@ use Rattle.std.specs.Prelude.{max, is_some, IfSome}
 use Rattle.std.specs.Option.{option_map}
 use Rattle.std.proofs.lemmas.List.{append-nil}
 use Rattle.sg_list.proofs.ListLemmas.{some-same}
-use Rattle.sg_device.specs.Inlet.{InletState, Part, IsFresh, IsCounted, Advances, bytes_of, empty_parts}
+use Rattle.sg_device.specs.Inlet.{InletState, Part, IsFresh, ArePartsCounted, Advances, bytes_of, empty_parts}
 use Rattle.sg_outside.specs.World.{Files, LeavesFile, StandsIn}
 use Rattle.sg_outside.specs.declared.request.InletSpec.{InletSpec}
 use Rattle.sg_outside.specs.declared.request.InletSpec.TheVariants.{File, Slot}
@@ -31,7 +31,7 @@ fresh-parts feed parts fresh one told =
     let are : parts ≡ empty_parts feed.parts feed.peer = subst P told fresh.told in
     are ∙ ap (λ (n : ℕ). empty_parts n feed.peer) one
 
-fresh-counted : (feed : InletState) (parts : List Part) → IsFresh feed → feed.parts ≡ 1 → feed.told ≡ Some parts → IsCounted feed
+fresh-counted : (feed : InletState) (parts : List Part) → IsFresh feed → feed.parts ≡ 1 → feed.told ≡ Some parts → ArePartsCounted feed
 fresh-counted feed parts fresh one told =
     let P : Option (List Part) → Type 0 = λ o. IfSome o (λ ps. length ps ≡ feed.parts) in
     let count : length parts ≡ feed.parts = ap length (fresh-parts feed parts fresh one told) ∙ sym one in

@@ -17,7 +17,7 @@ use Rattle.sg_machine.specs.declared.event.Admission.{Admission}
 use Rattle.sg_machine.specs.declared.event.Event.{Event}
 use Rattle.sg_machine.specs.declared.setup.Setup.{Setup}
 use Rattle.sg_machine.specs.declared.setup.SourceSetup.{SourceSetup}
-use Rattle.sg_machine.specs.declared.state.Inlet.{Inlet}
+use Rattle.sg_machine.specs.declared.state.InletRecords.{InletRecords}
 use Rattle.sg_machine.specs.declared.state.State.{State}
 use Rattle.sg_machine.specs.Runs.{opened_inlet, opened, after_all, are_legal}
 use Rattle.sg_machine.specs.Counts.{opening_from}
@@ -49,7 +49,7 @@ use Rattle.sg_serve.specs.Actors.{SourceView, source_view}
 use Rattle.sg_serve.specs.Devices.{inlet_asked, AreFetching}
 use Rattle.sg_serve.specs.Plan.{IsRunnable}
 use Rattle.sg_serve.specs.Rewinds.{position_at, places_of}
-use Rattle.sg_serve.specs.Run.{CoreRun, Reached, HoldsRun, IsServed, Holds}
+use Rattle.sg_serve.specs.Run.{CoreRun, Reached, HoldsRun, IsServed, PlanRunHolds}
 use Rattle.sg_serve.specs.declared.counts.Counts.{Counts}
 use Rattle.sg_serve.specs.declared.ending.PlanEnded.{PlanEnded}
 use Rattle.sg_serve.specs.declared.ending.PlanEnded.TheVariants.{Before, Ran as RanSo}
@@ -60,10 +60,10 @@ use Rattle.sg_one_run.proofs.PreludeLemmas.{AreStill, still-rewinds, still-eithe
 use Rattle.sg_one_run.proofs.SourceLemmas.{nothing-read}
 use Rattle.sg_one_run.proofs.HeadlineLemmas.{run-taken, stayed-taken}
 use Rattle.sg_many_runs.specs.Pieces.{Piece, piece_of, pieces, behind}
-use Rattle.sg_many_runs.specs.Resuming.{IsBegun}
+use Rattle.sg_many_runs.specs.Resuming.{IsReadingBegun}
 use Rattle.sg_many_runs.proofs.ItemRestLemmas.{reading-resumes}
 use Rattle.sg_many_runs.specs.Covered.{Pass, Offers, IsFile}
-use Rattle.sg_many_runs.specs.Passes.{AreRead, ReadsBy, AreAdmitted, pass_piece, pieces_of}
+use Rattle.sg_many_runs.specs.Passes.{AreRecordsRead, ReadsByAct, AreAdmitted, pass_piece, pieces_of}
 use Rattle.sg_many_runs.specs.Adding.{offers_in}
 use Rattle.sg_many_runs.proofs.BeginLemmas.{opened-inlet-at}
 use Rattle.sg_many_runs.specs.Happened.{AreOfFiles, TellFiles, files_of, Happened, PlanRunsHappen}
@@ -103,7 +103,7 @@ files-here plans bytes i plan h = ap (λ (o : Option InletPlan). option_map_or (
 -- What a source read.
 
 -- Of an inlet with a position store: its passes are of these records, the first that the inlet gave from the place on at which it began.
-pub record Reading (files : Option Files) (plan : RunPlan) (reached : Reached) (run : CoreRun) (events : List Event) (i : ℕ) (inlet : InletPlan) (passes : List Pass) : Type 0 where
+pub record ReadingSo (files : Option Files) (plan : RunPlan) (reached : Reached) (run : CoreRun) (events : List Event) (i : ℕ) (inlet : InletPlan) (passes : List Pass) : Type 0 where
   pub done : List Record
   pub are : passes ≡ map (pass_of i true) done
   pub closed : InletState
@@ -113,12 +113,12 @@ pub record Reading (files : Option Files) (plan : RunPlan) (reached : Reached) (
 
 pub record CameOf (offers : Offers) (files : Option Files) (plan : RunPlan) (reached : Reached) (run : CoreRun) (events : List Event) (i : ℕ) : Type 0 where
   pub passes : List Pass
-  pub are : AreRead offers i (admissions_of i events) passes
-  pub reading : (inlet : InletPlan) → IsFile plan.setup i → slice_get plan.inlets.items i ≡ Some inlet → (passes ≡ []) ⊎ Reading files plan reached run events i inlet passes
+  pub are : AreRecordsRead offers i (admissions_of i events) passes
+  pub reading : (inlet : InletPlan) → IsFile plan.setup i → slice_get plan.inlets.items i ≡ Some inlet → (passes ≡ []) ⊎ ReadingSo files plan reached run events i inlet passes
 
 none-came : (offers : Offers) (files : Option Files) (plan : RunPlan) (reached : Reached) (run : CoreRun) (events : List Event) (i : ℕ) → admissions_of i events ≡ [] → CameOf offers files plan reached run events i
 none-came offers files plan reached run events i h =
-    let P : List Admission → Type 0 = λ xs. AreRead offers i xs [] in
+    let P : List Admission → Type 0 = λ xs. AreRecordsRead offers i xs [] in
     record { passes = []; are = subst P (sym h) tt; reading = λ inlet file at. inl refl }
 
 -- a source that took its turns
@@ -160,16 +160,16 @@ came-at {R} {I} {O} feed drain offers inlets dests files plan routers rounds rea
     let passes = map (pass_of i a.spec.stored) reads.taken in
     let from : closed.from ≡ (feed a.inlet).place = (reads.advances).from ∙ sym (begins.fresh).at_from in
     let stands = stands-place files (inlet_asked plan.once (inlet.0).spec) (position_at run.first i) (feed a.inlet) begins.stands in
-    let P : List Admission → Type 0 = λ xs. AreRead (offers_in offers routers) i xs passes in
+    let P : List Admission → Type 0 = λ xs. AreRecordsRead (offers_in offers routers) i xs passes in
     record {
       passes = passes;
       are = subst P (sym came) (read-of offers routers a.router a.spec i number router reads.taken (admitted_in (calls_of turns)) reads.offered);
       reading = λ other file at_other.
           (let same : inlet.0 ≡ other = some-same inlet.0 other (sym inlet.1 ∙ at_other) in
-          let Q : InletPlan → Type 0 = λ p. Reading files plan reached run events i p passes in
+          let Q : InletPlan → Type 0 = λ p. ReadingSo files plan reached run events i p passes in
           let source : setup.0 ≡ file.source = some-same setup.0 file.source (sym setup.1 ∙ file.at) in
           let is : a.spec.stored ≡ true = stored ∙ ap (λ (s : SourceSetup). is_some s.store) source ∙ file.stored in
-          let reading : Reading files plan reached run events i inlet.0 passes = record {
+          let reading : ReadingSo files plan reached run events i inlet.0 passes = record {
             done = reads.taken;
             are = ap (λ (t : Bool). map (pass_of i t) reads.taken) is;
             closed = closed;
@@ -211,8 +211,8 @@ came-by {R} {I} {O} feed drain offers inlets dests files plan routers rounds rea
     none-came (offers_in offers routers) files plan reached run (run.prelude ++ later) i (admitted-later i run.prelude later still ∙ own.admits i ∙ ap admitted_in calls)
 
 -- what was read of a file are the first of its items behind the place at which the inlet began
-reads-file : (files : Option Files) (plan : RunPlan) (reached : Reached) (run : CoreRun) (events : List Event) (i : ℕ) (inlet : InletPlan) (passes now : List Pass) (bytes : List ℕ) → 0 < inlet.limit → (r : Reading files plan reached run events i inlet passes) → Gave bytes r.closed
-    → filter (is_of i) now ≡ passes → IsBegun inlet.kind inlet.limit bytes (r.closed).from → (later : List Piece) × (behind (r.closed).from (pieces inlet.kind inlet.limit bytes) ≡ pieces_of i now ++ later)
+reads-file : (files : Option Files) (plan : RunPlan) (reached : Reached) (run : CoreRun) (events : List Event) (i : ℕ) (inlet : InletPlan) (passes now : List Pass) (bytes : List ℕ) → 0 < inlet.limit → (r : ReadingSo files plan reached run events i inlet passes) → Gave bytes r.closed
+    → filter (is_of i) now ≡ passes → IsReadingBegun inlet.kind inlet.limit bytes (r.closed).from → (later : List Piece) × (behind (r.closed).from (pieces inlet.kind inlet.limit bytes) ≡ pieces_of i now ++ later)
 reads-file files plan reached run events i inlet passes now bytes some r g own begun =
     let place = (r.closed).from in
     let resumes = reading-resumes inlet.kind inlet.limit place bytes g.left (g.part).given some begun g.are in
@@ -233,8 +233,8 @@ reads-file files plan reached run events i inlet passes now bytes some r g own b
 
 -- at the return each file's records are its first items behind the place at which its inlet began
 reads-return : (offers : Offers) (files : Option Files) (plan : RunPlan) (reached : Reached) (run : CoreRun) (events : List Event) (o : IsOpen plan.setup reached.stores run.first) → IsRunnable plan → are_legal (opened plan.setup o.opening) events ≡ true
-    → (came : (i : ℕ) → CameOf offers files plan reached run events i) → (m : Merged offers events (λ i. (came i).passes)) → (bytes : ℕ → List ℕ) (i : ℕ) (source : InletPlan) (inlet : Inlet) → TellFiles files plan reached.inlets bytes → IsFile plan.setup i
-    → slice_get plan.inlets.items i ≡ Some source → slice_get (after_all (opened plan.setup o.opening) events).inlets i ≡ Some inlet → IsBegun source.kind source.limit (bytes i) inlet.opening
+    → (came : (i : ℕ) → CameOf offers files plan reached run events i) → (m : Merged offers events (λ i. (came i).passes)) → (bytes : ℕ → List ℕ) (i : ℕ) (source : InletPlan) (inlet : InletRecords) → TellFiles files plan reached.inlets bytes → IsFile plan.setup i
+    → slice_get plan.inlets.items i ≡ Some source → slice_get (after_all (opened plan.setup o.opening) events).inlets i ≡ Some inlet → IsReadingBegun source.kind source.limit (bytes i) inlet.opening
     → (later : List Piece) × (behind inlet.opening (files_of plan.inlets.items bytes i) ≡ pieces_of i m.now ++ later)
 reads-return offers files plan reached run events o runnable legal came m bytes i source inlet tell file mine at begun =
     elim ((came i).reading source file mine) [
@@ -250,8 +250,8 @@ reads-return offers files plan reached run events o runnable legal came m bytes 
           let is : c.0 ≡ inlet = some-same c.0 inlet (sym c.1 ∙ at) in
           let sources : (setup_of run.first).sources ≡ plan.setup.sources = ap (λ (s : Setup). s.sources) o.setups in
           let stored : position ≡ position_at run.first i = ap (λ (x : Option ℕ). stored_in run.first.stores x) (sym (store-by-setup run.first plan.setup.sources i file.source sources file.at)) in
-          let began : inlet.opening ≡ (r.closed).from = sym (ap (λ (x : Inlet). x.opening) is) ∙ c.2.opening ∙ r.opening position stored in
-          let B : ℕ → Type 0 = λ n. IsBegun source.kind source.limit (bytes i) n in
+          let began : inlet.opening ≡ (r.closed).from = sym (ap (λ (x : InletRecords). x.opening) is) ∙ c.2.opening ∙ r.opening position stored in
+          let B : ℕ → Type 0 = λ n. IsReadingBegun source.kind source.limit (bytes i) n in
           let read = reads-file files plan reached run events i source (came i).passes m.now (bytes i) (fetch-some plan.inlets.items i source runnable.fetches mine) r (r.gave bytes tell) (m.each i) (subst B began begun) in
           let P : ℕ → Type 0 = λ n. (later : List Piece) × (behind n (files_of plan.inlets.items bytes i) ≡ pieces_of i m.now ++ later) in
           subst P (sym began) (read.0, ap (behind (r.closed).from) (files-here plan.inlets.items bytes i source mine) ∙ read.1))
@@ -282,7 +282,7 @@ happened-by offers files plan reached run runnable holds makes came took =
     }
 
 happened-held : {R I O : Type 0} (feed : I → InletState) (drain : O → OutletState) (offers : R → ℕ → Record → List Offer → Type 0) (inlets dests : R → ℕ) (files : Option Files) (plan : RunPlan) (routers : List R) (rounds : ℕ) (reached : Reached)
-    (core : Option CoreRun) (ending : PlanEnded) (run : CoreRun) → IsRunnable plan → AreOfFiles plan → Holds feed drain offers inlets dests files plan routers rounds reached core ending → core ≡ Some run → Happened (offers_in offers routers) files plan reached run
+    (core : Option CoreRun) (ending : PlanEnded) (run : CoreRun) → IsRunnable plan → AreOfFiles plan → PlanRunHolds feed drain offers inlets dests files plan routers rounds reached core ending → core ≡ Some run → Happened (offers_in offers routers) files plan reached run
 happened-held feed drain offers inlets dests files plan routers rounds reached None ending run runnable of_files h q = absurd (let wrong : None ≡ Some run = q in cc)
 happened-held {R} {I} {O} feed drain offers inlets dests files plan routers rounds reached (Some core) (Before early) run runnable of_files (holds, stays) q =
     let still = still-either core.first reached.inlets core.prelude stays.rewinds in
@@ -311,13 +311,13 @@ happens feed drain offers inlets dests old new plan routers rounds ending reache
 
 -- By other offers.
 
-read-map : (os other : Offers) → ((p : Pass) (given : List Offer) → os p given → other p given) → (i : ℕ) (rs : List Admission) (ps : List Pass) → AreRead os i rs ps → AreRead other i rs ps
+read-map : (os other : Offers) → ((p : Pass) (given : List Offer) → os p given → other p given) → (i : ℕ) (rs : List Admission) (ps : List Pass) → AreRecordsRead os i rs ps → AreRecordsRead other i rs ps
 read-map os other f i [] [] h = tt
 read-map os other f i [] (p ∷ ps) h = absurd h
 read-map os other f i (r ∷ rs) [] h = absurd h
 read-map os other f i (r ∷ rs) (p ∷ ps) h = (h.0, h.1, f p r.offers h.2, read-map os other f i rs ps h.3)
 
-reads-map : (os other : Offers) → ((p : Pass) (given : List Offer) → os p given → other p given) → (act : Act) (ps : List Pass) → ReadsBy os act ps → ReadsBy other act ps
+reads-map : (os other : Offers) → ((p : Pass) (given : List Offer) → os p given → other p given) → (act : Act) (ps : List Pass) → ReadsByAct os act ps → ReadsByAct other act ps
 reads-map os other f (Admit i rs vs) ps h = read-map os other f i rs ps h
 reads-map os other f (Settle d n) ps h = h
 reads-map os other f (Refill d n) ps h = h

@@ -10,7 +10,7 @@ use Rattle.sg_frame.specs.Records.{moved}
 use Rattle.sg_frame.specs.Scans.{plain}
 use Rattle.sg_frame.proofs.ItemLemmas.{items-append, items-bad}
 use Rattle.sg_many_runs.specs.Pieces.{Piece, piece_of, pieces, Rise, behind}
-use Rattle.sg_many_runs.specs.Resuming.{IsBegun}
+use Rattle.sg_many_runs.specs.Resuming.{IsReadingBegun}
 
 -- Where reading began doesn't count, but for the places of ends.
 
@@ -116,25 +116,25 @@ moments-free kind limit bytes others h = same-pieces limit 0 (beginning kind) by
 -- One byte on.
 
 -- the form is one of this framing, and what stands open of a line began at `base`
-abbrev Stands : FrameKind → ℕ → ℕ → Form → Type 0
-Stands Lines base place (Text line) = base + length line ≡ place
-Stands Counted base place (Count value) = base ≤ place
-Stands Counted base place (Body missing text) = base ≤ place
-Stands Counted base place (Bad bad) = base ≤ place
-Stands _ base place _ = ⊥
+abbrev StandsItem : FrameKind → ℕ → ℕ → Form → Type 0
+StandsItem Lines base place (Text line) = base + length line ≡ place
+StandsItem Counted base place (Count value) = base ≤ place
+StandsItem Counted base place (Body missing text) = base ≤ place
+StandsItem Counted base place (Bad bad) = base ≤ place
+StandsItem _ base place _ = ⊥
 
 -- the byte makes no item whole
 record MakesNone (kind : FrameKind) (limit base place : ℕ) (form : Form) (b : Stamped) : Type 0 where
   none : item_at limit place form b ≡ []
-  stands : Stands kind base (place + 1) (open_at limit place form b.0)
+  stands : StandsItem kind base (place + 1) (open_at limit place form b.0)
 
 -- it makes one whole, behind which all is as if the bytes began there
-record MakesOne (kind : FrameKind) (limit base place : ℕ) (form : Form) (b : Stamped) : Type 0 where
+record MakesOneItem (kind : FrameKind) (limit base place : ℕ) (form : Form) (b : Stamped) : Type 0 where
   item : Item
   one : item_at limit place form b ≡ item ∷ []
   above : base < item.end
   from : place ≤ item.end
-  stands : Stands kind item.end (place + 1) (open_at limit place form b.0)
+  stands : StandsItem kind item.end (place + 1) (open_at limit place form b.0)
   rest : (bytes : List Stamped) → items limit (place + 1) (open_at limit place form b.0) bytes ≡ items limit item.end (beginning kind) (drop (item.end - place) (b ∷ bytes))
 
 drop-one : (place : ℕ) (b : Stamped) (bytes : List Stamped) → drop (place + 1 - place) (b ∷ bytes) ≡ bytes
@@ -144,11 +144,11 @@ drop-none : (place : ℕ) (b : Stamped) (bytes : List Stamped) → drop (place -
 drop-none place b bytes = let none : place - place ≡ 0 = omega arith in ap (λ (n : ℕ). drop n (b ∷ bytes)) none
 
 line-step : (limit base place : ℕ) (line : List ℕ) (b : Stamped) (a c : Bool) → (b.0 == 10) ≡ a → (length line == limit) ≡ c → 0 < limit → base + length line ≡ place
-    → MakesNone Lines limit base place (Text line) b ⊎ MakesOne Lines limit base place (Text line) b
+    → MakesNone Lines limit base place (Text line) b ⊎ MakesOneItem Lines limit base place (Text line) b
 line-step limit base place line b true c q r some h =
     let item : Item = record { text = trimmed line; at = b.1; end = place + 1 } in
     let opens : open_at limit place (Text line) b.0 ≡ Text [] = rw q refl in
-    let P : Form → Type 0 = λ f. Stands Lines (place + 1) (place + 1) f in
+    let P : Form → Type 0 = λ f. StandsItem Lines (place + 1) (place + 1) f in
     let zero_is : place + 1 + length {A = ℕ} [] ≡ place + 1 = omega arith in
     inr (record {
       item = item;
@@ -162,7 +162,7 @@ line-step limit base place line b false true q r some h =
     let full : length line ≡ limit = grind (arith, r) in
     let item : Item = record { text = trimmed line; at = b.1; end = place } in
     let opens : open_at limit place (Text line) b.0 ≡ Text (b.0 ∷ []) = rw (q, r) refl in
-    let P : Form → Type 0 = λ f. Stands Lines place (place + 1) f in
+    let P : Form → Type 0 = λ f. StandsItem Lines place (place + 1) f in
     let one_is : place + length (b.0 ∷ []) ≡ place + 1 = omega arith in
     let miss : (0 == limit) ≡ false = grind (arith, some) in
     let first : (bytes : List Stamped) → items limit place (Text []) (b ∷ bytes) ≡ items limit (place + 1) (Text (b.0 ∷ [])) bytes = λ bytes. rw (q, miss) refl in
@@ -176,25 +176,25 @@ line-step limit base place line b false true q r some h =
     })
 line-step limit base place line b false false q r some h =
     let opens : open_at limit place (Text line) b.0 ≡ Text (line ++ b.0 ∷ []) = rw (q, r) refl in
-    let P : Form → Type 0 = λ f. Stands Lines base (place + 1) f in
+    let P : Form → Type 0 = λ f. StandsItem Lines base (place + 1) f in
     let long : length (line ++ b.0 ∷ []) ≡ length line + 1 = length_push line b.0 in
     let is : base + length (line ++ b.0 ∷ []) ≡ place + 1 = omega (arith, long, h) in
     inl (record { none = rw (q, r) refl; stands = subst P (sym opens) is })
 
-count-stands-if : (base place value : ℕ) (b : Bool) (bad : ℕ) → base ≤ place → Stands Counted base place (if b then Count value else Bad bad)
+count-stands-if : (base place value : ℕ) (b : Bool) (bad : ℕ) → base ≤ place → StandsItem Counted base place (if b then Count value else Bad bad)
 count-stands-if base place value true bad h = h
 count-stands-if base place value false bad h = h
 
-count-stands : (base place limit value value' : ℕ) (a c : Bool) (bad : ℕ) → base ≤ place → Stands Counted base place (if a then count_of limit bad value' else (if c then Body value [] else Bad bad))
+count-stands : (base place limit value value' : ℕ) (a c : Bool) (bad : ℕ) → base ≤ place → StandsItem Counted base place (if a then count_of limit bad value' else (if c then Body value [] else Bad bad))
 count-stands base place limit value value' true c bad h = count-stands-if base place value' (nat_lt 0 value' && nat_le value' limit) bad h
 count-stands base place limit value value' false true bad h = h
 count-stands base place limit value value' false false bad h = h
 
-body-step : (limit base place missing : ℕ) (text : List ℕ) (b : Stamped) (a : Bool) → (missing == 1) ≡ a → base ≤ place → MakesNone Counted limit base place (Body missing text) b ⊎ MakesOne Counted limit base place (Body missing text) b
+body-step : (limit base place missing : ℕ) (text : List ℕ) (b : Stamped) (a : Bool) → (missing == 1) ≡ a → base ≤ place → MakesNone Counted limit base place (Body missing text) b ⊎ MakesOneItem Counted limit base place (Body missing text) b
 body-step limit base place missing text b true q h =
     let item : Item = record { text = text ++ b.0 ∷ []; at = b.1; end = place + 1 } in
     let opens : open_at limit place (Body missing text) b.0 ≡ Count 0 = rw q refl in
-    let P : Form → Type 0 = λ f. Stands Counted (place + 1) (place + 1) f in
+    let P : Form → Type 0 = λ f. StandsItem Counted (place + 1) (place + 1) f in
     let at_most : place + 1 ≤ place + 1 = omega arith in
     inr (record {
       item = item;
@@ -206,11 +206,11 @@ body-step limit base place missing text b true q h =
     })
 body-step limit base place missing text b false q h =
     let opens : open_at limit place (Body missing text) b.0 ≡ Body (missing - 1) (text ++ b.0 ∷ []) = rw q refl in
-    let P : Form → Type 0 = λ f. Stands Counted base (place + 1) f in
+    let P : Form → Type 0 = λ f. StandsItem Counted base (place + 1) f in
     let at_most : base ≤ place + 1 = omega (arith, h) in
     inl (record { none = rw q refl; stands = subst P (sym opens) at_most })
 
-step : (kind : FrameKind) (limit base place : ℕ) (form : Form) (b : Stamped) → 0 < limit → Stands kind base place form → MakesNone kind limit base place form b ⊎ MakesOne kind limit base place form b
+step : (kind : FrameKind) (limit base place : ℕ) (form : Form) (b : Stamped) → 0 < limit → StandsItem kind base place form → MakesNone kind limit base place form b ⊎ MakesOneItem kind limit base place form b
 step Lines limit base place (Text line) b some h = line-step limit base place line b (b.0 == 10) (length line == limit) refl refl some h
 step Lines limit base place (Count value) b some h = absurd h
 step Lines limit base place (Body missing text) b some h = absurd h
@@ -226,7 +226,7 @@ step Counted limit base place (Bad bad) b some h =
     let none : MakesNone Counted limit base place (Bad bad) b = record { none = refl; stands = at_most } in
     inl none
 
-begins : (kind : FrameKind) (place : ℕ) → Stands kind place place (beginning kind)
+begins : (kind : FrameKind) (place : ℕ) → StandsItem kind place place (beginning kind)
 begins Lines place = omega arith
 begins Counted place = omega arith
 
@@ -259,7 +259,7 @@ rest-split kind limit place b bytes it rest [] item after h from is later =
 rest-split kind limit place b bytes it rest (x ∷ before) item after h from is later =
     rest-later kind limit place b bytes item after (later before ((cons-parts it x rest (before ++ item ∷ after) h).1))
 
-rest-at : (kind : FrameKind) (limit base place : ℕ) (form : Form) (bytes : List Stamped) (before : List Item) (item : Item) (after : List Item) → 0 < limit → Stands kind base place form → items limit place form bytes ≡ before ++ item ∷ after
+rest-at : (kind : FrameKind) (limit base place : ℕ) (form : Form) (bytes : List Stamped) (before : List Item) (item : Item) (after : List Item) → 0 < limit → StandsItem kind base place form → items limit place form bytes ≡ before ++ item ∷ after
     → IsRest kind limit place bytes item after
 rest-at kind limit base place form [] before item after some h e = absurd (nil-cons before item after e)
 rest-at kind limit base place form (b ∷ bytes) before item after some h e =
@@ -288,7 +288,7 @@ rest-follows kind limit bytes before item after some e =
 
 -- Ends rise.
 
-rise-at : (kind : FrameKind) (limit base place : ℕ) (form : Form) (bytes : List Stamped) → 0 < limit → Stands kind base place form → Rise base (map piece_of (items limit place form bytes))
+rise-at : (kind : FrameKind) (limit base place : ℕ) (form : Form) (bytes : List Stamped) → 0 < limit → StandsItem kind base place form → Rise base (map piece_of (items limit place form bytes))
 rise-at kind limit base place form [] some h = tt
 rise-at kind limit base place form (b ∷ bytes) some h =
     let f = open_at limit place form b.0 in
@@ -355,14 +355,14 @@ behind-split from (y ∷ before) x after r =
     rw hit (behind-split y.end before x after r.1)
 
 -- an item among others parts them
-record Parts (xs : List Item) (piece : Piece) : Type 0 where
+record RestParts (xs : List Item) (piece : Piece) : Type 0 where
   before : List Item
   item : Item
   after : List Item
   are : xs ≡ before ++ item ∷ after
   is : piece_of item ≡ piece
 
-parts-at : (xs : List Item) (piece : Piece) (k : ℕ) → k < length (map piece_of xs) → slice_index_or (map piece_of xs) k piece ≡ piece → Parts xs piece
+parts-at : (xs : List Item) (piece : Piece) (k : ℕ) → k < length (map piece_of xs) → slice_index_or (map piece_of xs) k piece ≡ piece → RestParts xs piece
 parts-at [] piece k l h = absurd (omega (arith, l))
 parts-at (x ∷ xs) piece zero l h = record { before = []; item = x; after = xs; are = refl; is = h }
 parts-at (x ∷ xs) piece (suc k) l h =
@@ -376,7 +376,7 @@ moved-none (x ∷ xs) =
     ap (λ (n : ℕ). let y : Piece = record { text = x.text; end = n } in y ∷ map piece_of (map (moved 0) xs)) same ∙ ap (λ (ys : List Piece). piece_of x ∷ ys) (moved-none xs)
 
 -- the items behind a place where reading may begin
-behind-place : (kind : FrameKind) (limit place : ℕ) (bytes : List ℕ) → 0 < limit → IsBegun kind limit bytes place
+behind-place : (kind : FrameKind) (limit place : ℕ) (bytes : List ℕ) → 0 < limit → IsReadingBegun kind limit bytes place
     → behind place (pieces kind limit bytes) ≡ map piece_of (map (moved place) (items_of kind limit (drop place (stamped bytes (pos 0)))))
 behind-place kind limit place bytes some (inl none) =
     let all = items_of kind limit (stamped bytes (pos 0)) in
@@ -403,7 +403,7 @@ mapped-moved n (x ∷ xs) = ap (λ (ys : List Piece). piece_of (moved n x) ∷ y
 moved-pieces : (n : ℕ) (xs ys : List Item) → map piece_of xs ≡ map piece_of ys → map piece_of (map (moved n) xs) ≡ map piece_of (map (moved n) ys)
 moved-pieces n xs ys h = mapped-moved n xs ∙ ap (map (λ (x : Piece). let y : Piece = record { text = x.text; end = n + x.end } in y)) h ∙ sym (mapped-moved n ys)
 
-pub reading-resumes : (kind : FrameKind) (limit place : ℕ) (bytes left : List ℕ) (given : List Stamped) → 0 < limit → IsBegun kind limit bytes place → plain given ++ left ≡ drop place bytes
+pub reading-resumes : (kind : FrameKind) (limit place : ℕ) (bytes left : List ℕ) (given : List Stamped) → 0 < limit → IsReadingBegun kind limit bytes place → plain given ++ left ≡ drop place bytes
     → (later : List Piece) × (behind place (pieces kind limit bytes) ≡ map piece_of (map (moved place) (items_of kind limit given)) ++ later)
 reading-resumes kind limit place bytes left given some begun h =
     let rest = drop place (stamped bytes (pos 0)) in
@@ -419,7 +419,7 @@ reading-resumes kind limit place bytes left given some begun h =
           ∙ map-append piece_of (map (moved place) (items_of kind limit given)) (map (moved place) m.0),
     )
 
-pub reading-ends : (kind : FrameKind) (limit place : ℕ) (bytes : List ℕ) (given : List Stamped) → 0 < limit → IsBegun kind limit bytes place → plain given ≡ drop place bytes
+pub reading-ends : (kind : FrameKind) (limit place : ℕ) (bytes : List ℕ) (given : List Stamped) → 0 < limit → IsReadingBegun kind limit bytes place → plain given ≡ drop place bytes
     → behind place (pieces kind limit bytes) ≡ map piece_of (map (moved place) (items_of kind limit given))
 reading-ends kind limit place bytes given some begun h =
     let rest = drop place (stamped bytes (pos 0)) in

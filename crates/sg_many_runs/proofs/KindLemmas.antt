@@ -5,7 +5,7 @@ use Rattle.std.specs.Option.{option_map_or}
 use Rattle.std.proofs.lemmas.Bool.{cases_eq}
 use Rattle.sg_list.proofs.ListLemmas.{some-same}
 use Rattle.sg_codec.specs.declared.kept.Kept.{Kept as Coded}
-use Rattle.sg_stable.specs.Position.{IsPosition, IsDamagedAt}
+use Rattle.sg_stable.specs.Position.{IsPosition, IsPositionDamagedAt}
 use Rattle.sg_spool.specs.Ring.{Entries}
 use Rattle.sg_spool.proofs.Damages.{no_damage}
 use Rattle.sg_spool.proofs.Unique.{list_unique}
@@ -68,7 +68,7 @@ source-with [] i s h = absurd (let wrong : None ≡ Some s = h in cc)
 source-with (x ∷ sources) zero s h = (x, refl, h)
 source-with (x ∷ sources) (suc i) s h = source-with sources i s h
 
-pub record HasBuffer (sinks : List SinkState) (d s : ℕ) : Type 0 where
+pub record HasBufferKind (sinks : List SinkState) (d s : ℕ) : Type 0 where
   pub sink : SinkState
   pub buffer : BufferSetup
   pub at : slice_get sinks d ≡ Some sink
@@ -79,14 +79,14 @@ buffer-with : (o : Option BufferSetup) (s : ℕ) → option_map_or (λ (b : Buff
 buffer-with None s h = absurd (let wrong : None ≡ Some s = h in cc)
 buffer-with (Some b) s h = (b, refl, some-same b.store s h)
 
-pub sink-with : (sinks : List SinkState) (d s : ℕ) → buffer_store_in (map (λ (x : SinkState). x.setup) sinks) d ≡ Some s → HasBuffer sinks d s
+pub sink-with : (sinks : List SinkState) (d s : ℕ) → buffer_store_in (map (λ (x : SinkState). x.setup) sinks) d ≡ Some s → HasBufferKind sinks d s
 sink-with [] d s h = absurd (let wrong : None ≡ Some s = h in cc)
 sink-with (x ∷ sinks) zero s h = let b = buffer-with x.setup.buffer s h in record { sink = x; buffer = b.0; at = refl; has = b.1; store = b.2 }
 sink-with (x ∷ sinks) (suc d) s h = let r = sink-with sinks d s h in record { sink = r.sink; buffer = r.buffer; at = r.at; has = r.has; store = r.store }
 
 -- Damage.
 
-position-whole : (value at : ℕ) (bytes : List ℕ) → IsPosition value bytes → IsDamagedAt at bytes → ⊥
+position-whole : (value at : ℕ) (bytes : List ℕ) → IsPosition value bytes → IsPositionDamagedAt at bytes → ⊥
 position-whole value at bytes is (inl first) = first.nonzero (is.shape.zeros at first.inside first.outside)
 position-whole value at bytes is (inr behind) = behind.1 is.shape.size
 

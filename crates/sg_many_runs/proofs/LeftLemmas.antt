@@ -1,8 +1,8 @@
 -- What of a destination's entries a stop leaves: those that are left and that a position has passed, or that an earlier run left, stand in its image.
-use Rattle.std.proofs.Common.{◌≡◌, ℕ, suc, zero, ◌+◌, ◌≤◌, List, [], ◌∷◌, ◌++◌, map, take, drop, Some, None, Option, Bool, true, false, ◌&&◌, refl, sym, ap, ◌∙◌, subst, arith, inl, inr, ◌⊎◌, if◌then◌else◌, slice_get, append_assoc}
+use Rattle.std.proofs.Common.{◌≡◌, ℕ, suc, zero, ◌+◌, ◌≤◌, List, [], ◌∷◌, ◌++◌, map, take, drop, Some, None, Option, Bool, true, false, ◌&&◌, refl, sym, ap, ◌∙◌, subst, arith, inl, inr, ◌⊎◌, if◌then◌else◌, slice_get}
 use Rattle.std.specs.Prelude.{Contains, ◌==◌, nat_le, filter, is_some}
-use Rattle.std.proofs.lemmas.List.{map-append, drop-append-le}
-use Rattle.std.proofs.lemmas.List.Elements.{filter-append, Contains-append_left, Contains-append_right, Contains-append_cases}
+use Rattle.std.proofs.lemmas.List.{drop-append-le}
+use Rattle.std.proofs.lemmas.List.Elements.{Contains-append_left, Contains-append_right, Contains-append_cases}
 use Rattle.sg_list.specs.Lists.{change}
 use Rattle.sg_list.proofs.ListLemmas.{some-same}
 use Rattle.sg_msg.specs.declared.offer.Offer.{Offer}
@@ -13,26 +13,26 @@ use Rattle.sg_machine.specs.declared.event.Verdict.{Verdict}
 use Rattle.sg_machine.specs.declared.event.Verdict.TheVariants.{Queued, Spooled, Waits, DroppedFull, DroppedDisk}
 use Rattle.sg_machine.specs.declared.setup.BufferSetup.{BufferSetup}
 use Rattle.sg_machine.specs.declared.state.Dest.{Dest}
-use Rattle.sg_machine.specs.declared.state.Entry.{Entry}
+use Rattle.sg_machine.specs.declared.state.DestEntry.{DestEntry}
 use Rattle.sg_machine.specs.declared.state.Origin.{Origin}
 use Rattle.sg_machine.specs.declared.state.State.{State}
 use Rattle.sg_machine.specs.Verdicts.{Claim, claims_of, origin_of, entry_from, take_offer, take_claim, take_claims}
 use Rattle.sg_machine.specs.Legal.{store_of}
 use Rattle.sg_machine.specs.Effects.{next_of, settled_some, spool_first, spool_some, refilled_some, after, after_act}
-use Rattle.sg_machine.specs.Runs.{Kept, after_all}
+use Rattle.sg_machine.specs.Runs.{BufferedEntry, after_all}
 use Rattle.sg_machine.specs.Counts.{as_kept, is_spooled, kept_of}
-use Rattle.sg_machine.specs.Safe.{has_failed, spooled_of, appends, settled_by, left_by, IsSafeList, is_below, AreHeld, held_in}
-use Rattle.sg_machine.proofs.CountLemmas.{take-drop}
+use Rattle.sg_machine.specs.Safe.{has_failed, spooled_of, appends, settled_by, left_by, IsSafeList, is_below, AreEntriesHeld, held_in}
 use Rattle.sg_many_runs.specs.Covered.{Delivery}
 use Rattle.sg_many_runs.specs.Passes.{taken_at}
 use Rattle.sg_many_runs.proofs.HasLemmas.{has-nil, has-cons, has-map, has-mapped, has-filter, has-drop}
+use Rattle.sg_machine.proofs.HeldLemmas.{split-by, spooled-append}
 
 -- Entries that an earlier run left are spooled, and there is a disk-buffer.
 
-abbrev pub IsEarlier : Option BufferSetup → Entry → Type 0
+abbrev pub IsEarlier : Option BufferSetup → DestEntry → Type 0
 IsEarlier buffer e = e.number ≡ None → (e.spooled ≡ true) × (is_some buffer ≡ true)
 
-abbrev pub AllEarlier : Option BufferSetup → List Entry → Type 0
+abbrev pub AllEarlier : Option BufferSetup → List DestEntry → Type 0
 AllEarlier buffer [] = Unit {0}
 AllEarlier buffer (e ∷ es) = IsEarlier buffer e × AllEarlier buffer es
 
@@ -45,7 +45,7 @@ earlier-change [] d g keeps f = f
 earlier-change (x ∷ ds) zero g keeps f = (keeps x f.0, f.1)
 earlier-change (x ∷ ds) (suc d) g keeps f = (f.0, earlier-change ds d g keeps f.1)
 
-earlier-push : (buffer : Option BufferSetup) (es : List Entry) (e : Entry) → IsEarlier buffer e → AllEarlier buffer es → AllEarlier buffer (es ++ e ∷ [])
+earlier-push : (buffer : Option BufferSetup) (es : List DestEntry) (e : DestEntry) → IsEarlier buffer e → AllEarlier buffer es → AllEarlier buffer (es ++ e ∷ [])
 earlier-push buffer [] e h f = (h, tt)
 earlier-push buffer (x ∷ es) e h f = (f.0, earlier-push buffer es e h f.1)
 
@@ -64,20 +64,20 @@ earlier-claims i next ds [] vs f = f
 earlier-claims i next ds (c ∷ cs) [] f = f
 earlier-claims i next ds (c ∷ cs) (v ∷ vs) f = earlier-claims i next (take_claim i next ds c v) cs vs (earlier-change ds c.offer.dest (take_offer (origin_of i next c) c.offer v) (earlier-offer (origin_of i next c) c.offer v) f)
 
-earlier-drop : (buffer : Option BufferSetup) (n : ℕ) (es : List Entry) → AllEarlier buffer es → AllEarlier buffer (drop n es)
+earlier-drop : (buffer : Option BufferSetup) (n : ℕ) (es : List DestEntry) → AllEarlier buffer es → AllEarlier buffer (drop n es)
 earlier-drop buffer zero es f = f
 earlier-drop buffer (suc n) [] f = f
 earlier-drop buffer (suc n) (e ∷ es) f = earlier-drop buffer n es f.1
 
-earlier-spool-if : (buffer : Option BufferSetup) (e : Entry) (es rest : List Entry) (b : Bool) → IsEarlier buffer e → AllEarlier buffer es → AllEarlier buffer rest → AllEarlier buffer (if b then e ∷ rest else record e { spooled = true } ∷ es)
+earlier-spool-if : (buffer : Option BufferSetup) (e : DestEntry) (es rest : List DestEntry) (b : Bool) → IsEarlier buffer e → AllEarlier buffer es → AllEarlier buffer rest → AllEarlier buffer (if b then e ∷ rest else record e { spooled = true } ∷ es)
 earlier-spool-if buffer e es rest true h f r = (h, r)
 earlier-spool-if buffer e es rest false h f r = (λ q. (refl, (h q).1), f)
 
-earlier-spool : (buffer : Option BufferSetup) (es : List Entry) → AllEarlier buffer es → AllEarlier buffer (spool_first es)
+earlier-spool : (buffer : Option BufferSetup) (es : List DestEntry) → AllEarlier buffer es → AllEarlier buffer (spool_first es)
 earlier-spool buffer [] f = f
 earlier-spool buffer (e ∷ es) f = earlier-spool-if buffer e es (spool_first es) e.spooled f.0 f.1 (earlier-spool buffer es f.1)
 
-earlier-spools : (buffer : Option BufferSetup) (n : ℕ) (es : List Entry) → AllEarlier buffer es → AllEarlier buffer (spool_some n es)
+earlier-spools : (buffer : Option BufferSetup) (n : ℕ) (es : List DestEntry) → AllEarlier buffer es → AllEarlier buffer (spool_some n es)
 earlier-spools buffer zero es f = f
 earlier-spools buffer (suc n) es f = earlier-spools buffer n (spool_first es) (earlier-spool buffer es f)
 
@@ -98,46 +98,31 @@ earlier-at [] d dest h f = let wrong : None ≡ Some dest = h in cc
 earlier-at (x ∷ ds) zero dest h f = let same = some-same x dest h in let P : Dest → Type 0 = λ y. AllEarlier y.setup.buffer y.left in subst P same f.0
 earlier-at (x ∷ ds) (suc d) dest h f = earlier-at ds d dest h f.1
 
-earlier-has : (buffer : Option BufferSetup) (es : List Entry) (e : Entry) → AllEarlier buffer es → Contains es e → IsEarlier buffer e
+earlier-has : (buffer : Option BufferSetup) (es : List DestEntry) (e : DestEntry) → AllEarlier buffer es → Contains es e → IsEarlier buffer e
 earlier-has buffer [] e f c = absurd (has-nil e c)
 earlier-has buffer (x ∷ es) e f c =
     elim (has-cons x es e c) [
-      | inl q ↦ (let P : Entry → Type 0 = λ y. IsEarlier buffer y in subst P q f.0)
+      | inl q ↦ (let P : DestEntry → Type 0 = λ y. IsEarlier buffer y in subst P q f.0)
       | inr t ↦ earlier-has buffer es e f.1 t
     ]
 
 -- What stands in a safe list.
 
-split-if : (b : Bool) (n : ℕ) (dest : Dest) → (if b then dest.settled ++ take n dest.left else dest.settled) ++ (if b then drop n dest.left else dest.left) ≡ dest.settled ++ dest.left
-split-if true n dest = append_assoc dest.settled (take n dest.left) (drop n dest.left) ∙ ap (λ (es : List Entry). dest.settled ++ es) (take-drop n dest.left)
-split-if false n dest = refl
-
-pub split-by : (act : Act) (d : ℕ) (dest : Dest) → settled_by act d dest ++ left_by act d dest ≡ dest.settled ++ dest.left
-split-by (Admit i records vs) d dest = refl
-split-by (Settle e n) d dest = split-if (e == d) n dest
-split-by (Refill e n) d dest = refl
-split-by (Store i w) d dest = refl
-split-by (Rewind i) d dest = refl
-split-by Look d dest = refl
-
-spooled-append : (es fs : List Entry) → spooled_of (es ++ fs) ≡ spooled_of es ++ spooled_of fs
-spooled-append es fs = ap (map as_kept) (filter-append is_spooled es fs) ∙ map-append as_kept (filter is_spooled es) (filter is_spooled fs)
-
-safe-has : (dest : Dest) (d : ℕ) (act : Act) (failed : List ℕ) (tried list : List Kept) → IsSafeList dest d act failed tried list → (k : Kept) → Contains (spooled_of (left_by act d dest)) k → Contains list k
+safe-has : (dest : Dest) (d : ℕ) (act : Act) (failed : List ℕ) (tried list : List BufferedEntry) → IsSafeList dest d act failed tried list → (k : BufferedEntry) → Contains (spooled_of (left_by act d dest)) k → Contains list k
 safe-has dest d act failed tried list safe k c =
     let gone = spooled_of (settled_by act d dest) in
     let left = spooled_of (left_by act d dest) in
     let tail = take safe.added (if has_failed failed (store_of dest) then tried else appends act d dest) in
     let split : spooled_of (dest.settled ++ dest.left) ≡ gone ++ left = ap spooled_of (sym (split-by act d dest)) ∙ spooled-append (settled_by act d dest) (left_by act d dest) in
-    let whole : list ≡ (drop safe.gone gone ++ left) ++ tail = safe.parts ∙ ap (λ (xs : List Kept). drop safe.gone xs ++ tail) split ∙ ap (λ (xs : List Kept). xs ++ tail) (drop-append-le safe.gone gone left safe.settled) in
-    let P : List Kept → Type 0 = λ xs. Contains xs k in
+    let whole : list ≡ (drop safe.gone gone ++ left) ++ tail = safe.parts ∙ ap (λ (xs : List BufferedEntry). drop safe.gone xs ++ tail) split ∙ ap (λ (xs : List BufferedEntry). xs ++ tail) (drop-append-le safe.gone gone left safe.settled) in
+    let P : List BufferedEntry → Type 0 = λ xs. Contains xs k in
     subst P (sym whole) (Contains-append_left (drop safe.gone gone ++ left) tail k (Contains-append_right (drop safe.gone gone) left k c))
 
-drop-if : (b : Bool) (n : ℕ) (es : List Entry) (e : Entry) → Contains (if b then drop n es else es) e → Contains es e
+drop-if : (b : Bool) (n : ℕ) (es : List DestEntry) (e : DestEntry) → Contains (if b then drop n es else es) e → Contains es e
 drop-if true n es e c = has-drop n es e c
 drop-if false n es e c = c
 
-left-by-in : (act : Act) (d : ℕ) (dest : Dest) (e : Entry) → Contains (left_by act d dest) e → Contains dest.left e
+left-by-in : (act : Act) (d : ℕ) (dest : Dest) (e : DestEntry) → Contains (left_by act d dest) e → Contains dest.left e
 left-by-in (Admit i records vs) d dest e c = c
 left-by-in (Settle x n) d dest e c = drop-if (x == d) n dest.left e c
 left-by-in (Refill x n) d dest e c = c
@@ -145,11 +130,11 @@ left-by-in (Store i w) d dest e c = c
 left-by-in (Rewind i) d dest e c = c
 left-by-in Look d dest e c = c
 
-held-has : (i position : ℕ) (es : List Entry) (list : List Kept) (e : Entry) → AreHeld i position es list → Contains es e → is_below i position e ≡ true → Contains list (as_kept e)
+held-has : (i position : ℕ) (es : List DestEntry) (list : List BufferedEntry) (e : DestEntry) → AreEntriesHeld i position es list → Contains es e → is_below i position e ≡ true → Contains list (as_kept e)
 held-has i position [] list e h c b = absurd (has-nil e c)
 held-has i position (x ∷ es) list e h c b =
     elim (has-cons x es e c) [
-      | inl q ↦ (let P : Entry → Type 0 = λ y. is_below i position y ≡ true → Contains list (as_kept y) in subst P q h.0 b)
+      | inl q ↦ (let P : DestEntry → Type 0 = λ y. is_below i position y ≡ true → Contains list (as_kept y) in subst P q h.0 b)
       | inr t ↦ held-has i position es list e h.1 t b
     ]
 
@@ -161,26 +146,26 @@ below-true i position inlet end number n flow q s f l =
     rw (a, b, f, c) refl
 
 -- one that is left, by whether it came in in this run
-left-held-if : (i position d : ℕ) (act : Act) (dest : Dest) (failed : List ℕ) (tried list : List Kept) (e : Entry) (o : Option ℕ) → e.number ≡ o → AllEarlier dest.setup.buffer dest.left → Contains (left_by act d dest) e
-    → AreHeld i position (left_by act d dest) (held_in list dest) → (is_some dest.setup.buffer ≡ true → IsSafeList dest d act failed tried list) → e.inlet ≡ i → e.flow ≡ true → e.end ≤ position
+left-held-if : (i position d : ℕ) (act : Act) (dest : Dest) (failed : List ℕ) (tried list : List BufferedEntry) (e : DestEntry) (o : Option ℕ) → e.number ≡ o → AllEarlier dest.setup.buffer dest.left → Contains (left_by act d dest) e
+    → AreEntriesHeld i position (left_by act d dest) (held_in list dest) → (is_some dest.setup.buffer ≡ true → IsSafeList dest d act failed tried list) → e.inlet ≡ i → e.flow ≡ true → e.end ≤ position
     → Contains (held_in list dest) (as_kept e)
 left-held-if i position d act dest failed tried list e None q early c held safe s f l =
     let was = earlier-has dest.setup.buffer dest.left e early (left-by-in act d dest e c) q in
     let spooled = has-map as_kept (filter is_spooled (left_by act d dest)) e (has-filter is_spooled (left_by act d dest) e was.0 c) in
     let here : held_in list dest ≡ list = (let some = was.1 in rw some refl) in
-    let P : List Kept → Type 0 = λ xs. Contains xs (as_kept e) in
+    let P : List BufferedEntry → Type 0 = λ xs. Contains xs (as_kept e) in
     subst P (sym here) (safe-has dest d act failed tried list (safe was.1) (as_kept e) spooled)
 left-held-if i position d act dest failed tried list e (Some n) q early c held safe s f l =
     held-has i position (left_by act d dest) (held_in list dest) e held c (below-true i position e.inlet e.end e.number n e.flow q s f l)
 
 -- What was taken.
 
-taken-first : (act : Act) (d : ℕ) (dest : Dest) (ds : List Dest) (e : Entry) → Contains (settled_by act d dest) e → Contains (taken_at act d (dest ∷ ds)) (record { dest = d; message = e.message })
+taken-first : (act : Act) (d : ℕ) (dest : Dest) (ds : List Dest) (e : DestEntry) → Contains (settled_by act d dest) e → Contains (taken_at act d (dest ∷ ds)) (record { dest = d; message = e.message })
 taken-first act d dest ds e c =
-    let f : Entry → Delivery = λ x. record { dest = d; message = x.message } in
+    let f : DestEntry → Delivery = λ x. record { dest = d; message = x.message } in
     Contains-append_left (map f (settled_by act d dest)) (taken_at act (d + 1) ds) (f e) (has-map f (settled_by act d dest) e c)
 
-taken-from : (act : Act) (from : ℕ) (ds : List Dest) (k : ℕ) (dest : Dest) (e : Entry) → slice_get ds k ≡ Some dest → Contains (settled_by act (from + k) dest) e → Contains (taken_at act from ds) (record { dest = from + k; message = e.message })
+taken-from : (act : Act) (from : ℕ) (ds : List Dest) (k : ℕ) (dest : Dest) (e : DestEntry) → slice_get ds k ≡ Some dest → Contains (settled_by act (from + k) dest) e → Contains (taken_at act from ds) (record { dest = from + k; message = e.message })
 taken-from act from [] k dest e h c = let wrong : None ≡ Some dest = h in cc
 taken-from act from (x ∷ ds) zero dest e h c =
     let same : x ≡ dest = some-same x dest h in
@@ -195,11 +180,11 @@ taken-from act from (x ∷ ds) (suc k) dest e h c =
     let at : from + suc k ≡ from + 1 + k = omega arith in
     let S : ℕ → Type 0 = λ n. Contains (settled_by act n dest) e in
     let R : ℕ → Type 0 = λ n. Contains (taken_at act from (x ∷ ds)) (record { dest = n; message = e.message }) in
-    let f : Entry → Delivery = λ y. record { dest = from; message = y.message } in
+    let f : DestEntry → Delivery = λ y. record { dest = from; message = y.message } in
     let t : Delivery = record { dest = from + 1 + k; message = e.message } in
     subst R (sym at) (Contains-append_right (map f (settled_by act from x)) (taken_at act (from + 1) ds) t (taken-from act (from + 1) ds k dest e h (subst S at c)))
 
-pub taken-has : (act : Act) (ds : List Dest) (d : ℕ) (dest : Dest) (e : Entry) → slice_get ds d ≡ Some dest → Contains (settled_by act d dest) e → Contains (taken_at act 0 ds) (record { dest = d; message = e.message })
+pub taken-has : (act : Act) (ds : List Dest) (d : ℕ) (dest : Dest) (e : DestEntry) → slice_get ds d ≡ Some dest → Contains (settled_by act d dest) e → Contains (taken_at act 0 ds) (record { dest = d; message = e.message })
 taken-has act ds d dest e h c =
     let at : 0 + d ≡ d = omega arith in
     let S : ℕ → Type 0 = λ n. Contains (settled_by act n dest) e in
@@ -211,14 +196,14 @@ pub record WasSettled (act : Act) (from : ℕ) (ds : List Dest) (t : Delivery) :
   pub k : ℕ
   pub dest : Dest
   pub at : slice_get ds k ≡ Some dest
-  pub e : Entry
+  pub e : DestEntry
   pub settled : Contains (settled_by act (from + k) dest) e
   pub is : t ≡ record { dest = from + k; message = e.message }
 
 pub was-settled : (act : Act) (from : ℕ) (ds : List Dest) (t : Delivery) → Contains (taken_at act from ds) t → WasSettled act from ds t
 was-settled act from [] t c = absurd (has-nil t c)
 was-settled act from (x ∷ ds) t c =
-    let f : Entry → Delivery = λ y. record { dest = from; message = y.message } in
+    let f : DestEntry → Delivery = λ y. record { dest = from; message = y.message } in
     elim (Contains-append_cases (map f (settled_by act from x)) (taken_at act (from + 1) ds) t c) [
       | inl a ↦ (
           let m = has-mapped f (settled_by act from x) t a in
@@ -247,23 +232,23 @@ was-settled act from (x ∷ ds) t c =
     ]
 
 -- A kept entry with flow-control of a record that the position has passed was taken, or stands in the image.
-pub kept-safe : (i position : ℕ) (act : Act) (ds : List Dest) (d : ℕ) (dest : Dest) (failed : List ℕ) (tried list : List Kept) (k : Kept) → slice_get ds d ≡ Some dest → DestsEarlier ds → Contains (kept_of dest) k
-    → AreHeld i position (left_by act d dest) (held_in list dest) → (is_some dest.setup.buffer ≡ true → IsSafeList dest d act failed tried list) → k.inlet ≡ i → k.flow ≡ true → k.end ≤ position
+pub kept-safe : (i position : ℕ) (act : Act) (ds : List Dest) (d : ℕ) (dest : Dest) (failed : List ℕ) (tried list : List BufferedEntry) (k : BufferedEntry) → slice_get ds d ≡ Some dest → DestsEarlier ds → Contains (kept_of dest) k
+    → AreEntriesHeld i position (left_by act d dest) (held_in list dest) → (is_some dest.setup.buffer ≡ true → IsSafeList dest d act failed tried list) → k.inlet ≡ i → k.flow ≡ true → k.end ≤ position
     → Contains (taken_at act 0 ds) (record { dest = d; message = k.message }) ⊎ Contains (held_in list dest) k
 kept-safe i position act ds d dest failed tried list k at early c held safe s f l =
-    let P : List Entry → Type 0 = λ es. Contains (map as_kept es) k in
+    let P : List DestEntry → Type 0 = λ es. Contains (map as_kept es) k in
     let m = has-mapped as_kept (settled_by act d dest ++ left_by act d dest) k (subst P (sym (split-by act d dest)) c) in
     let e = m.0 in
     let same : as_kept e ≡ k = m.1.1 in
     elim (Contains-append_cases (settled_by act d dest) (left_by act d dest) e m.1.0) [
       | inl a ↦ (
-          let Q : Kept → Type 0 = λ x. Contains (taken_at act 0 ds) (record { dest = d; message = x.message }) in
+          let Q : BufferedEntry → Type 0 = λ x. Contains (taken_at act 0 ds) (record { dest = d; message = x.message }) in
           inl (subst Q same (taken-has act ds d dest e at a)))
       | inr b ↦ (
-          let Q : Kept → Type 0 = λ x. Contains (held_in list dest) x in
-          let inlet : e.inlet ≡ i = ap (λ (x : Kept). x.inlet) same ∙ s in
-          let flow : e.flow ≡ true = ap (λ (x : Kept). x.flow) same ∙ f in
-          let R : Kept → Type 0 = λ x. x.end ≤ position in
+          let Q : BufferedEntry → Type 0 = λ x. Contains (held_in list dest) x in
+          let inlet : e.inlet ≡ i = ap (λ (x : BufferedEntry). x.inlet) same ∙ s in
+          let flow : e.flow ≡ true = ap (λ (x : BufferedEntry). x.flow) same ∙ f in
+          let R : BufferedEntry → Type 0 = λ x. x.end ≤ position in
           let end : e.end ≤ position = subst R (sym same) l in
           inr (subst Q same (left-held-if i position d act dest failed tried list e e.number refl (earlier-at ds d dest at early) b held safe inlet flow end)))
     ]

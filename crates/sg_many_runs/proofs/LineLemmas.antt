@@ -11,14 +11,14 @@ use Rattle.sg_frame.specs.Items.{Item, Text, trimmed, items}
 use Rattle.sg_frame.specs.Scans.{plain}
 use Rattle.sg_machine.proofs.RunLemmas.{both-true}
 use Rattle.sg_many_runs.specs.Pieces.{Piece, piece_of}
-use Rattle.sg_many_runs.specs.Resuming.{IsBegun}
-use Rattle.sg_one_run.proofs.OwedLemmas.{both-join}
+use Rattle.sg_many_runs.specs.Resuming.{IsReadingBegun}
 use Rattle.sg_many_runs.proofs.HasLemmas.{has-nil, has-cons}
 use Rattle.sg_many_runs.proofs.PieceLemmas.{true-lt}
+use Rattle.sg_machine.proofs.WindowLaws.{both-join}
 
 -- a record of the file may end at this place
-abbrev IsEnd : ℕ → List ℕ → ℕ → Type 0
-IsEnd limit bytes place = (is_record_end limit bytes place ≡ true) × (place ≤ length bytes)
+abbrev IsLineEnd : ℕ → List ℕ → ℕ → Type 0
+IsLineEnd limit bytes place = (is_record_end limit bytes place ≡ true) × (place ≤ length bytes)
 
 abbrev is_text : ℕ → Bool
 is_text byte = not (byte == 10)
@@ -36,7 +36,7 @@ index-behind : (seen : List ℕ) (b : ℕ) (rest : List ℕ) → slice_index (se
 index-behind [] b rest = refl
 index-behind (x ∷ seen) b rest = index-behind seen b rest
 
-end-lf : (limit : ℕ) (seen : List ℕ) (b : ℕ) (rest : List ℕ) → (b == 10) ≡ true → IsEnd limit (seen ++ b ∷ rest) (length seen + 1)
+end-lf : (limit : ℕ) (seen : List ℕ) (b : ℕ) (rest : List ℕ) → (b == 10) ≡ true → IsLineEnd limit (seen ++ b ∷ rest) (length seen + 1)
 end-lf limit seen b rest q =
     let bytes = seen ++ b ∷ rest in
     let n = length seen + 1 in
@@ -60,7 +60,7 @@ take-first : (xs ys : List ℕ) → take (length xs) (xs ++ ys) ≡ xs
 take-first [] ys = refl
 take-first (x ∷ xs) ys = ap (λ (zs : List ℕ). x ∷ zs) (take-first xs ys)
 
-end-cut : (limit : ℕ) (before line rest : List ℕ) → length line ≡ limit → list_all is_text line ≡ true → IsEnd limit ((before ++ line) ++ rest) (length (before ++ line))
+end-cut : (limit : ℕ) (before line rest : List ℕ) → length line ≡ limit → list_all is_text line ≡ true → IsLineEnd limit ((before ++ line) ++ rest) (length (before ++ line))
 end-cut limit before line rest full clear =
     let bytes = (before ++ line) ++ rest in
     let n = length (before ++ line) in
@@ -86,19 +86,19 @@ clear-push (x ∷ line) b h q =
 
 -- so it is of an item behind the next byte, whatever stands open of a line then
 abbrev EndsLater : ℕ → List ℕ → ℕ → List Stamped → Piece → Type 0
-EndsLater limit bytes place rest x = (before line : List ℕ) → (before ++ line) ++ plain rest ≡ bytes → length (before ++ line) ≡ place → list_all is_text line ≡ true → Contains (map piece_of (items limit place (Text line) rest)) x → IsEnd limit bytes x.end
+EndsLater limit bytes place rest x = (before line : List ℕ) → (before ++ line) ++ plain rest ≡ bytes → length (before ++ line) ≡ place → list_all is_text line ≡ true → Contains (map piece_of (items limit place (Text line) rest)) x → IsLineEnd limit bytes x.end
 
 -- one byte on, by whether it is an LF, and whether the line is as long as it may be
 line-ends-if : (limit : ℕ) (bytes before line : List ℕ) (place : ℕ) (b : Stamped) (rest : List Stamped) (x : Piece) (lf full : Bool) → (b.0 == 10) ≡ lf → (length line == limit) ≡ full → (before ++ line) ++ plain (b ∷ rest) ≡ bytes → length (before ++ line) ≡ place
-    → list_all is_text line ≡ true → Contains (map piece_of (items limit place (Text line) (b ∷ rest))) x → EndsLater limit bytes (place + 1) rest x → IsEnd limit bytes x.end
+    → list_all is_text line ≡ true → Contains (map piece_of (items limit place (Text line) (b ∷ rest))) x → EndsLater limit bytes (place + 1) rest x → IsLineEnd limit bytes x.end
 line-ends-if limit bytes before line place b rest x true full q r are at clear c later =
     let seen = before ++ line in
     let item : Item = record { text = trimmed line; at = b.1; end = place + 1 } in
     let others = items limit (place + 1) (Text []) rest in
     let one : items limit place (Text line) (b ∷ rest) ≡ item ∷ others = rw q refl in
     let P : List Item → Type 0 = λ xs. Contains (map piece_of xs) x in
-    let E : ℕ → Type 0 = λ n. IsEnd limit bytes n in
-    let B : List ℕ → Type 0 = λ bs. IsEnd limit bs (length seen + 1) in
+    let E : ℕ → Type 0 = λ n. IsLineEnd limit bytes n in
+    let B : List ℕ → Type 0 = λ bs. IsLineEnd limit bs (length seen + 1) in
     let more : length (seen ++ b.0 ∷ []) ≡ place + 1 = length_push seen b.0 ∙ ap (λ (n : ℕ). n + 1) at in
     let whole = append-nil (seen ++ b.0 ∷ []) in
     elim (has-cons (piece_of item) (map piece_of others) x (subst P one c)) [
@@ -114,8 +114,8 @@ line-ends-if limit bytes before line place b rest x false true q r are at clear 
     let others = items limit (place + 1) (Text (b.0 ∷ [])) rest in
     let one : items limit place (Text line) (b ∷ rest) ≡ item ∷ others = rw (q, r) refl in
     let P : List Item → Type 0 = λ xs. Contains (map piece_of xs) x in
-    let E : ℕ → Type 0 = λ n. IsEnd limit bytes n in
-    let B : List ℕ → Type 0 = λ bs. IsEnd limit bs (length seen) in
+    let E : ℕ → Type 0 = λ n. IsLineEnd limit bytes n in
+    let B : List ℕ → Type 0 = λ bs. IsLineEnd limit bs (length seen) in
     let more : length (seen ++ b.0 ∷ []) ≡ place + 1 = length_push seen b.0 ∙ ap (λ (n : ℕ). n + 1) at in
     elim (has-cons (piece_of item) (map piece_of others) x (subst P one c)) [
       | inl e ↦ (
@@ -140,15 +140,15 @@ plain-stamped : (xs : List ℕ) (at : ℤ) → plain (stamped xs at) ≡ xs
 plain-stamped [] at = refl
 plain-stamped (x ∷ xs) at = ap (λ (ys : List ℕ). x ∷ ys) (plain-stamped xs at)
 
-begun-end : (limit : ℕ) (bytes : List ℕ) (place : ℕ) → IsBegun Lines limit bytes place → IsEnd limit bytes place
-begun-end limit bytes place (inl none) = let E : ℕ → Type 0 = λ n. IsEnd limit bytes n in let first : E 0 = (refl, omega arith) in subst E (sym none) first
-begun-end limit bytes place (inr y) = let E : ℕ → Type 0 = λ n. IsEnd limit bytes n in subst E y.1.1 (line-ends limit bytes 0 (stamped bytes (pos 0)) y.0 [] [] (plain-stamped bytes (pos 0)) refl refl y.1.0)
+begun-end : (limit : ℕ) (bytes : List ℕ) (place : ℕ) → IsReadingBegun Lines limit bytes place → IsLineEnd limit bytes place
+begun-end limit bytes place (inl none) = let E : ℕ → Type 0 = λ n. IsLineEnd limit bytes n in let first : E 0 = (refl, omega arith) in subst E (sym none) first
+begun-end limit bytes place (inr y) = let E : ℕ → Type 0 = λ n. IsLineEnd limit bytes n in subst E y.1.1 (line-ends limit bytes 0 (stamped bytes (pos 0)) y.0 [] [] (plain-stamped bytes (pos 0)) refl refl y.1.0)
 
 place-if : (a b c : Bool) (n : ℕ) → a ≡ true → b ≡ true → c ≡ true → (let at : ℕ = (if a && (b && c) then n else 0) in at ≡ n)
 place-if a b c n h k l = rw (h, k, l) refl
 
 -- so that the file is read on from there
-pub read-on-from : (limit : ℕ) (bytes : List ℕ) (place : ℕ) → IsBegun Lines limit bytes place → place < 2 ^ 63 → place_in limit bytes place ≡ place
+pub read-on-from : (limit : ℕ) (bytes : List ℕ) (place : ℕ) → IsReadingBegun Lines limit bytes place → place < 2 ^ 63 → place_in limit bytes place ≡ place
 read-on-from limit bytes place begun low =
     let e = begun-end limit bytes place begun in
     place-if (nat_le place (length bytes)) (nat_lt place (2 ^ 63)) (is_record_end limit bytes place) place (le-true place (length bytes) e.1) (true-lt place (2 ^ 63) low) e.0

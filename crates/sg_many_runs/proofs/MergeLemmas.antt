@@ -16,7 +16,7 @@ use Rattle.sg_actor.specs.declared.settings.SourceSpec.{SourceSpec}
 use Rattle.sg_one_run.specs.Texts.{admissions_by, admissions_of}
 use Rattle.sg_many_runs.specs.Pieces.{Piece}
 use Rattle.sg_many_runs.specs.Covered.{Pass, Offers}
-use Rattle.sg_many_runs.specs.Passes.{AreRead, ReadsBy, AreAdmitted, pass_piece, pieces_of}
+use Rattle.sg_many_runs.specs.Passes.{AreRecordsRead, ReadsByAct, AreAdmitted, pass_piece, pieces_of}
 use Rattle.sg_many_runs.specs.Adding.{offers_in}
 
 -- Of one inlet.
@@ -26,7 +26,7 @@ abbrev pub pass_of : ℕ → Bool → Record → Pass
 pass_of i stored r = record { inlet = i; end = end_of stored r; text = r.item.text; at = r.item.at; peer = r.peer }
 
 pub read-of : {R : Type 0} (offers : R → ℕ → Record → List Offer → Type 0) (routers : List R) (router : R) (spec : SourceSpec) (i : ℕ) → spec.inlet ≡ i → slice_get routers i ≡ Some router → (rs : List Record) (as' : List Admission)
-    → AreOf (offers router) spec rs as' → AreRead (offers_in offers routers) i as' (map (pass_of i spec.stored) rs)
+    → AreOf (offers router) spec rs as' → AreRecordsRead (offers_in offers routers) i as' (map (pass_of i spec.stored) rs)
 read-of offers routers router spec i number at [] [] h = tt
 read-of offers routers router spec i number at [] (a ∷ as') h = absurd h
 read-of offers routers router spec i number at (r ∷ rs) [] h = absurd h
@@ -34,18 +34,18 @@ read-of offers routers router spec i number at (r ∷ rs) (a ∷ as') h =
     let P : ℕ → Type 0 = λ j. offers router j (record_at r.peer r.item.text r.item.at) a.offers in
     (refl, sym h.0.ends, (router, (at, subst P number h.0.offered)), read-of offers routers router spec i number at rs as' h.1)
 
-pub read-none : (offers : Offers) (i : ℕ) (ps : List Pass) → AreRead offers i [] ps → ps ≡ []
+pub read-none : (offers : Offers) (i : ℕ) (ps : List Pass) → AreRecordsRead offers i [] ps → ps ≡ []
 read-none offers i [] h = refl
 read-none offers i (p ∷ ps) h = absurd h
 
-record Split (offers : Offers) (i : ℕ) (xs ys : List Admission) (ps : List Pass) : Type 0 where
+record SplitMerge (offers : Offers) (i : ℕ) (xs ys : List Admission) (ps : List Pass) : Type 0 where
   a : List Pass
   b : List Pass
   are : ps ≡ a ++ b
-  first : AreRead offers i xs a
-  rest : AreRead offers i ys b
+  first : AreRecordsRead offers i xs a
+  rest : AreRecordsRead offers i ys b
 
-read-split : (offers : Offers) (i : ℕ) (xs ys : List Admission) (ps : List Pass) → AreRead offers i (xs ++ ys) ps → Split offers i xs ys ps
+read-split : (offers : Offers) (i : ℕ) (xs ys : List Admission) (ps : List Pass) → AreRecordsRead offers i (xs ++ ys) ps → SplitMerge offers i xs ys ps
 read-split offers i [] ys ps h = record { a = []; b = ps; are = refl; first = tt; rest = h }
 read-split offers i (x ∷ xs) ys [] h = absurd h
 read-split offers i (x ∷ xs) ys (p ∷ ps) h =
@@ -55,7 +55,7 @@ read-split offers i (x ∷ xs) ys (p ∷ ps) h =
 abbrev pub is_of : ℕ → Pass → Bool
 is_of i p = p.inlet == i
 
-read-all : (offers : Offers) (i : ℕ) (xs : List Admission) (ps : List Pass) → AreRead offers i xs ps → filter (is_of i) ps ≡ ps
+read-all : (offers : Offers) (i : ℕ) (xs : List Admission) (ps : List Pass) → AreRecordsRead offers i xs ps → filter (is_of i) ps ≡ ps
 read-all offers i [] [] h = refl
 read-all offers i [] (p ∷ ps) h = absurd h
 read-all offers i (x ∷ xs) [] h = absurd h
@@ -65,7 +65,7 @@ read-all offers i (x ∷ xs) (p ∷ ps) h =
     let here : filter (is_of i) (p ∷ ps) ≡ p ∷ filter (is_of i) ps = rw hit refl in
     here ∙ ap (λ (qs : List Pass). p ∷ qs) (read-all offers i xs ps h.3)
 
-read-other : (offers : Offers) (i j : ℕ) → i ≢ j → (xs : List Admission) (ps : List Pass) → AreRead offers j xs ps → filter (is_of i) ps ≡ []
+read-other : (offers : Offers) (i j : ℕ) → i ≢ j → (xs : List Admission) (ps : List Pass) → AreRecordsRead offers j xs ps → filter (is_of i) ps ≡ []
 read-other offers i j other [] [] h = refl
 read-other offers i j other [] (p ∷ ps) h = absurd h
 read-other offers i j other (x ∷ xs) [] h = absurd h
@@ -83,7 +83,7 @@ pub record Merged (offers : Offers) (es : List Event) (own : ℕ → List Pass) 
   pub each : (i : ℕ) → filter (is_of i) now ≡ own i
 
 -- an event that brings none
-merge-none : (offers : Offers) (act : Act) (failed : List ℕ) (es : List Event) (own : ℕ → List Pass) → ((ps : List Pass) → ps ≡ [] → ReadsBy offers act ps) → Merged offers es own → Merged offers (record { act = act; failed = failed } ∷ es) own
+merge-none : (offers : Offers) (act : Act) (failed : List ℕ) (es : List Event) (own : ℕ → List Pass) → ((ps : List Pass) → ps ≡ [] → ReadsByAct offers act ps) → Merged offers es own → Merged offers (record { act = act; failed = failed } ∷ es) own
 merge-none offers act failed es own reads m = record { now = m.now; admitted = ([], (m.now, (refl, reads [] refl, m.admitted))); each = m.each }
 
 abbrev own-later : ℕ → List Pass → (ℕ → List Pass) → ℕ → List Pass
@@ -102,21 +102,21 @@ admits-other : (i j : ℕ) (rs : List Admission) (vs : List Verdict) → i ≢ j
 admits-other i j rs vs other = let miss : (j == i) ≡ false = grind (arith, other) in rw miss refl
 
 merge-admit : (offers : Offers) (j : ℕ) (rs : List Admission) (vs : List Verdict) (failed : List ℕ) (es : List Event) (own : ℕ → List Pass)
-    → ((i : ℕ) → AreRead offers i (admissions_of i (record { act = Admit j rs vs; failed = failed } ∷ es)) (own i)) → ((next : ℕ → List Pass) → ((i : ℕ) → AreRead offers i (admissions_of i es) (next i)) → Merged offers es next)
+    → ((i : ℕ) → AreRecordsRead offers i (admissions_of i (record { act = Admit j rs vs; failed = failed } ∷ es)) (own i)) → ((next : ℕ → List Pass) → ((i : ℕ) → AreRecordsRead offers i (admissions_of i es) (next i)) → Merged offers es next)
     → Merged offers (record { act = Admit j rs vs; failed = failed } ∷ es) own
 merge-admit offers j rs vs failed es own reads rest =
-    let P : List Admission → Type 0 = λ xs. AreRead offers j (xs ++ admissions_of j es) (own j) in
+    let P : List Admission → Type 0 = λ xs. AreRecordsRead offers j (xs ++ admissions_of j es) (own j) in
     let s = read-split offers j rs (admissions_of j es) (own j) (subst P (admits-here j rs vs) (reads j)) in
     let next = own-later j s.b own in
-    let nexts : (i : ℕ) → AreRead offers i (admissions_of i es) (next i) =
+    let nexts : (i : ℕ) → AreRecordsRead offers i (admissions_of i es) (next i) =
     λ i. elim (cases_eq i j) [
       | inl e ↦ (
-          let Q : ℕ → Type 0 = λ k. AreRead offers k (admissions_of k es) (next k) in
-          let S : List Pass → Type 0 = λ ps. AreRead offers j (admissions_of j es) ps in
+          let Q : ℕ → Type 0 = λ k. AreRecordsRead offers k (admissions_of k es) (next k) in
+          let S : List Pass → Type 0 = λ ps. AreRecordsRead offers j (admissions_of j es) ps in
           subst Q (sym e) (subst S (sym (later-here j s.b own)) s.rest))
       | inr ne ↦ (
-          let Q : List Admission → Type 0 = λ xs. AreRead offers i (xs ++ admissions_of i es) (own i) in
-          let S : List Pass → Type 0 = λ ps. AreRead offers i (admissions_of i es) ps in
+          let Q : List Admission → Type 0 = λ xs. AreRecordsRead offers i (xs ++ admissions_of i es) (own i) in
+          let S : List Pass → Type 0 = λ ps. AreRecordsRead offers i (admissions_of i es) ps in
           subst S (sym (later-other j i s.b own ne)) (subst Q (admits-other i j rs vs ne) (reads i)))
     ] in
     let m = rest next nexts in
@@ -135,8 +135,8 @@ merge-admit offers j rs vs failed es own reads rest =
       ];
     }
 
-merge-by : (offers : Offers) (act : Act) (failed : List ℕ) (es : List Event) (own : ℕ → List Pass) → ((i : ℕ) → AreRead offers i (admissions_of i (record { act = act; failed = failed } ∷ es)) (own i))
-    → ((next : ℕ → List Pass) → ((i : ℕ) → AreRead offers i (admissions_of i es) (next i)) → Merged offers es next) → Merged offers (record { act = act; failed = failed } ∷ es) own
+merge-by : (offers : Offers) (act : Act) (failed : List ℕ) (es : List Event) (own : ℕ → List Pass) → ((i : ℕ) → AreRecordsRead offers i (admissions_of i (record { act = act; failed = failed } ∷ es)) (own i))
+    → ((next : ℕ → List Pass) → ((i : ℕ) → AreRecordsRead offers i (admissions_of i es) (next i)) → Merged offers es next) → Merged offers (record { act = act; failed = failed } ∷ es) own
 merge-by offers (Admit j rs vs) failed es own reads rest = merge-admit offers j rs vs failed es own reads rest
 merge-by offers (Settle d n) failed es own reads rest = merge-none offers (Settle d n) failed es own (λ ps h. h) (rest own reads)
 merge-by offers (Refill d n) failed es own reads rest = merge-none offers (Refill d n) failed es own (λ ps h. h) (rest own reads)
@@ -144,7 +144,7 @@ merge-by offers (Store j w) failed es own reads rest = merge-none offers (Store 
 merge-by offers (Rewind j) failed es own reads rest = merge-none offers (Rewind j) failed es own (λ ps h. h) (rest own reads)
 merge-by offers Look failed es own reads rest = merge-none offers Look failed es own (λ ps h. h) (rest own reads)
 
-pub merge : (offers : Offers) (es : List Event) (own : ℕ → List Pass) → ((i : ℕ) → AreRead offers i (admissions_of i es) (own i)) → Merged offers es own
+pub merge : (offers : Offers) (es : List Event) (own : ℕ → List Pass) → ((i : ℕ) → AreRecordsRead offers i (admissions_of i es) (own i)) → Merged offers es own
 merge offers [] own reads = record { now = []; admitted = refl; each = λ i. sym (read-none offers i (own i) (reads i)) }
 merge offers (e ∷ es) own reads = merge-by offers e.act e.failed es own reads (λ next h. merge offers es next h)
 

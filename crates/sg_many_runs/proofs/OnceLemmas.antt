@@ -10,17 +10,17 @@ use Rattle.sg_machine.specs.declared.setup.BufferSetup.{BufferSetup}
 use Rattle.sg_machine.specs.declared.setup.DestSetup.{DestSetup}
 use Rattle.sg_machine.specs.declared.setup.Setup.{Setup}
 use Rattle.sg_machine.specs.declared.state.Dest.{Dest}
-use Rattle.sg_machine.specs.declared.state.Entry.{Entry}
+use Rattle.sg_machine.specs.declared.state.DestEntry.{DestEntry}
 use Rattle.sg_machine.specs.Counts.{as_kept, kept_of, kept_of_inlet, ends_admitted}
-use Rattle.sg_machine.specs.Runs.{Kept, opened_dest, are_legal}
+use Rattle.sg_machine.specs.Runs.{BufferedEntry, opened_dest, are_legal}
 use Rattle.sg_machine.specs.Safe.{Images, rises, settled_by, nothing}
 use Rattle.sg_machine.proofs.RunLemmas.{are_legal-parts, length-inlets, length-opened_inlets}
 use Rattle.sg_machine.proofs.CountLemmas.{keeps-order}
 use Rattle.sg_many_runs.specs.Pieces.{Piece, Rise, behind}
 use Rattle.sg_many_runs.specs.Covered.{Pass, Delivery, Offers, IsFile, list_at, Covered}
-use Rattle.sg_many_runs.specs.Passes.{AreAdmitted, pieces_of, Stopped, state_at, taken_in, IsStopped}
+use Rattle.sg_many_runs.specs.Passes.{AreAdmitted, pieces_of, Stopped, state_at, taken_in, IsStoppedRun}
 use Rattle.sg_many_runs.specs.Adding.{Follow, all_taken, all_passes, AreFresh}
-use Rattle.sg_many_runs.specs.Once.{EndsWhole, AllEndWhole, settled_in, all_settled, Given, AreGiven, owed_to, dropped_in, all_dropped, less, AreUnflowed, TakesOnce, TakesEach, ExactlyOnce}
+use Rattle.sg_many_runs.specs.Once.{EndsWhole, AllEndWhole, settled_in, all_settled, Given, AreGiven, owed_to, dropped_in, all_dropped, less, AreEntriesUnflowed, TakesOnce, TakesEach, ExactlyOnce}
 use Rattle.sg_many_runs.proofs.HasLemmas.{has-nil, has-here, has-there, has-mapped}
 use Rattle.sg_many_runs.proofs.PieceLemmas.{ends, behind-in, behind-rises, rises-above, rises-apart, behind-rest, above-zero, rising}
 use Rattle.sg_one_run.proofs.BoundEventLemmas.{dests-all}
@@ -37,10 +37,10 @@ abbrev ReadSo : Setup → Images → (ℕ → List Piece) → Type 0
 ReadSo setup images read = (i position : ℕ) (x : Piece) → IsFile setup i → slice_get images.positions i ≡ Some position → Contains (read i) x → x.end ≤ position
 
 -- an end that a position is at, or that it is past
-abbrev IsReached : ℕ → List Piece → ℕ → Type 0
-IsReached place pieces x = (x ≤ place) ⊎ Contains (ends pieces) x
+abbrev IsOnceReached : ℕ → List Piece → ℕ → Type 0
+IsOnceReached place pieces x = (x ≤ place) ⊎ Contains (ends pieces) x
 
-none-later : (place position : ℕ) (pieces later : List Piece) → rises place (ends (pieces ++ later)) ≡ true → ((y : Piece) → Contains later y → y.end ≤ position) → IsReached place pieces position → later ≡ []
+none-later : (place position : ℕ) (pieces later : List Piece) → rises place (ends (pieces ++ later)) ≡ true → ((y : Piece) → Contains later y → y.end ≤ position) → IsOnceReached place pieces position → later ≡ []
 none-later place position pieces [] r low q = refl
 none-later place position pieces (y ∷ ys) r low q =
     let here = has-here y ys in
@@ -55,7 +55,7 @@ none-later place position pieces (y ∷ ys) r low q =
     ]
 
 -- what came in of a file are all items behind the position at which it was opened
-came-all : (setup : Setup) (offers : Offers) (before : Images) (run : Stopped) (place : ℕ) → IsStopped setup offers before run → EndsWhole setup run → (i : ℕ) → IsFile setup i → slice_get before.positions i ≡ Some place → behind place (run.files i) ≡ pieces_of i run.passes
+came-all : (setup : Setup) (offers : Offers) (before : Images) (run : Stopped) (place : ℕ) → IsStoppedRun setup offers before run → EndsWhole setup run → (i : ℕ) → IsFile setup i → slice_get before.positions i ≡ Some place → behind place (run.files i) ≡ pieces_of i run.passes
 came-all setup offers before run place h w i file was =
     let f = file-at setup offers before run i h file in
     let came = pieces_of i run.passes in
@@ -69,7 +69,7 @@ came-all setup offers before run place h w i file was =
     let wide = length-opened_inlets setup.sources run.opening.places in
     let below = slice_get-below setup.sources i file.source file.at in
     let p = slice_get-some run.images.positions i (omega (arith, many, long, wide, below)) in
-    let Q : ℕ → Type 0 = IsReached place came in
+    let Q : ℕ → Type 0 = IsOnceReached place came in
     let same : (n : ℕ) → slice_get before.positions i ≡ Some n → Q n = λ n at. (let e = some-same n place (sym at ∙ was) in inl (omega (arith, e))) in
     let ended : (x : ℕ) → Contains (ends_admitted i (run.events ++ run.event ∷ [])) x → Q x =
     λ x m. (let A : List ℕ → Type 0 = λ xs. Contains xs x in inr (subst A (sym (admitted-ends offers i (run.events ++ run.event ∷ []) run.passes h.admits)) m)) in
@@ -82,7 +82,7 @@ came-all setup offers before run place h w i file was =
 
 -- of a file of which these items were read before, they are the others
 came-in : (setup : Setup) (offers : Offers) (read : ℕ → List Piece) (taken : List Delivery) (passes : List Pass) (old : ℕ → ℕ) (before : Images) (run : Stopped) (more : List Piece) → Covered setup offers read taken passes old before → ReadSo setup before read
-    → IsStopped setup offers before run → EndsWhole setup run → (i : ℕ) → IsFile setup i → run.files i ≡ read i ++ more → pieces_of i run.passes ≡ more
+    → IsStoppedRun setup offers before run → EndsWhole setup run → (i : ℕ) → IsFile setup i → run.files i ≡ read i ++ more → pieces_of i run.passes ≡ more
 came-in setup offers read taken passes old before run more covered so h w i file grow =
     let many = h.begins.every_position in
     let below = slice_get-below setup.sources i file.source file.at in
@@ -114,7 +114,7 @@ all-read setup offers read taken passes old before (run ∷ runs) covered so f w
 -- Destinations.
 
 -- the list that a run opens a destination with has no entry
-opens-none : (setup : Setup) (offers : Offers) (before : Images) (run : Stopped) → IsStopped setup offers before run → ((d : ℕ) → list_at setup before d ≡ []) → (d : ℕ) (s : DestSetup) (list : List Kept) (buffer : Option BufferSetup) → s.buffer ≡ buffer
+opens-none : (setup : Setup) (offers : Offers) (before : Images) (run : Stopped) → IsStoppedRun setup offers before run → ((d : ℕ) → list_at setup before d ≡ []) → (d : ℕ) (s : DestSetup) (list : List BufferedEntry) (buffer : Option BufferSetup) → s.buffer ≡ buffer
     → slice_get setup.dests d ≡ Some s → slice_get run.opening.entries d ≡ Some list → list ≡ []
 opens-none setup offers before run h none d s list None q here at = h.begins.bare d s list here q at
 opens-none setup offers before run h none d s list (Some b) q here at =
@@ -127,21 +127,21 @@ opens-none setup offers before run h none d s list (Some b) q here at =
     same ∙ sym shown ∙ none d
 
 settles-nothing : (i d : ℕ) (o : Option Dest) (event : Event) → event ≡ nothing
-    → option_map_or (λ (x : Dest). filter (λ (k : Kept). k.inlet == i) (map as_kept (settled_by event.act d x))) o [] ≡ option_map_or (λ (x : Dest). filter (λ (k : Kept). k.inlet == i) (map as_kept x.settled)) o []
-settles-nothing i d o event h = ap (λ (e : Event). option_map_or (λ (x : Dest). filter (λ (k : Kept). k.inlet == i) (map as_kept (settled_by e.act d x))) o []) h
+    → option_map_or (λ (x : Dest). filter (λ (k : BufferedEntry). k.inlet == i) (map as_kept (settled_by event.act d x))) o [] ≡ option_map_or (λ (x : Dest). filter (λ (k : BufferedEntry). k.inlet == i) (map as_kept x.settled)) o []
+settles-nothing i d o event h = ap (λ (e : Event). option_map_or (λ (x : Dest). filter (λ (k : BufferedEntry). k.inlet == i) (map as_kept (settled_by e.act d x))) o []) h
 
 -- what was settled are the offers of the events
-settled-some : (setup : Setup) (offers : Offers) (before : Images) (run : Stopped) → IsStopped setup offers before run → EndsWhole setup run → ((d : ℕ) → list_at setup before d ≡ []) → are_legal (start_of setup run) run.events ≡ true
+settled-some : (setup : Setup) (offers : Offers) (before : Images) (run : Stopped) → IsStoppedRun setup offers before run → EndsWhole setup run → ((d : ℕ) → list_at setup before d ≡ []) → are_legal (start_of setup run) run.events ≡ true
     → (i d : ℕ) (s : DestSetup) → slice_get setup.dests d ≡ Some s → kept_of_inlet i d run.events ≡ settled_in setup i d run
 settled-some setup offers before run h w none legal i d s here =
     let o = opens-dest setup.dests run.opening.entries d s here in
     let bare : o.list ≡ [] = elim o.from [ inl e ↦ e | inr g ↦ opens-none setup offers before run h none d s o.list s.buffer refl here g ] in
-    let opened_so : slice_get (start_of setup run).dests d ≡ Some (opened_dest s []) = o.at ∙ ap (λ (ks : List Kept). Some (opened_dest s ks)) bare in
+    let opened_so : slice_get (start_of setup run).dests d ≡ Some (opened_dest s []) = o.at ∙ ap (λ (ks : List BufferedEntry). Some (opened_dest s ks)) bare in
     let r = keeps-order (start_of setup run) run.events d (opened_dest s []) legal opened_so in
     let new = r.0 in
-    let F : List Kept → List Kept = λ ks. filter (λ (k : Kept). k.inlet == i) ks in
+    let F : List BufferedEntry → List BufferedEntry = λ ks. filter (λ (k : BufferedEntry). k.inlet == i) ks in
     let left : new.left ≡ [] = w.settled d new r.1 in
-    let kept : kept_of new ≡ map as_kept new.settled = ap (λ (es : List Entry). map as_kept (new.settled ++ es)) left ∙ ap (map as_kept) (append-nil new.settled) in
+    let kept : kept_of new ≡ map as_kept new.settled = ap (λ (es : List DestEntry). map as_kept (new.settled ++ es)) left ∙ ap (map as_kept) (append-nil new.settled) in
     let shown : option_map_or (λ (x : Dest). F (map as_kept x.settled)) (slice_get (state_at setup run).dests d) [] ≡ F (map as_kept new.settled) = ap (λ (x : Option Dest). option_map_or (λ (y : Dest). F (map as_kept y.settled)) x []) r.1 in
     sym (r.2.in_order i) ∙ ap F (sym r.2.behind) ∙ ap F kept ∙ sym shown ∙ sym (settles-nothing i d (slice_get (state_at setup run).dests d) run.event w.none)
 
@@ -150,10 +150,10 @@ settled-nowhere setup run legal i d low =
     let long = length-opened setup.dests run.opening.entries in
     let same = dests-all run.events (start_of setup run) in
     let gone : slice_get (state_at setup run).dests d ≡ None = slice_get-none (state_at setup run).dests d (omega (arith, long, same, low)) in
-    let shown : settled_in setup i d run ≡ [] = ap (λ (x : Option Dest). option_map_or (λ (y : Dest). filter (λ (k : Kept). k.inlet == i) (map as_kept (settled_by run.event.act d y))) x []) gone in
+    let shown : settled_in setup i d run ≡ [] = ap (λ (x : Option Dest). option_map_or (λ (y : Dest). filter (λ (k : BufferedEntry). k.inlet == i) (map as_kept (settled_by run.event.act d y))) x []) gone in
     events-nowhere (start_of setup run) run.events i d legal (omega (arith, long, low)) ∙ sym shown
 
-settled-if : (setup : Setup) (offers : Offers) (before : Images) (run : Stopped) → IsStopped setup offers before run → EndsWhole setup run → ((d : ℕ) → list_at setup before d ≡ []) → are_legal (start_of setup run) run.events ≡ true → (i d : ℕ) (b : Bool)
+settled-if : (setup : Setup) (offers : Offers) (before : Images) (run : Stopped) → IsStoppedRun setup offers before run → EndsWhole setup run → ((d : ℕ) → list_at setup before d ≡ []) → are_legal (start_of setup run) run.events ≡ true → (i d : ℕ) (b : Bool)
     → nat_lt d (length setup.dests) ≡ b → kept_of_inlet i d run.events ≡ settled_in setup i d run
 settled-if setup offers before run h w none legal i d true q = let s = slice_get-some setup.dests d (grind (arith, q)) in settled-some setup offers before run h w none legal i d s.0 s.1
 settled-if setup offers before run h w none legal i d false q = settled-nowhere setup run legal i d (grind (arith, q))
@@ -171,7 +171,7 @@ nothing-came offers event ps e h =
     let k : AreAdmitted offers (nothing ∷ []) ps = subst A e h in
     k.1.1.0 ∙ ap (λ (qs : List Pass). qs ++ k.1.0) k.1.1.1 ∙ k.1.1.2
 
-run-takes : (setup : Setup) (offers : Offers) (before : Images) (run : Stopped) → IsStopped setup offers before run → EndsWhole setup run → ((d : ℕ) → list_at setup before d ≡ []) → RunTakes setup offers run
+run-takes : (setup : Setup) (offers : Offers) (before : Images) (run : Stopped) → IsStoppedRun setup offers before run → EndsWhole setup run → ((d : ℕ) → list_at setup before d ≡ []) → RunTakes setup offers run
 run-takes setup offers before run h w none =
     let start = start_of setup run in
     let legal = (are_legal-parts start run.events (run.event ∷ []) h.legal).0 in
@@ -207,8 +207,8 @@ all-take setup offers files before (run ∷ runs) none f w =
 
 -- Each offer.
 
-abbrev with_flow : List Kept → List Kept
-with_flow ks = filter (λ (k : Kept). k.flow) ks
+abbrev with_flow : List BufferedEntry → List BufferedEntry
+with_flow ks = filter (λ (k : BufferedEntry). k.flow) ks
 
 filter-here : {A : Type 0} (p : A → Bool) (x : A) (xs : List A) → p x ≡ true → filter p (x ∷ xs) ≡ x ∷ filter p xs
 filter-here p x xs q = rw q refl
@@ -216,24 +216,24 @@ filter-here p x xs q = rw q refl
 filter-gone : {A : Type 0} (p : A → Bool) (x : A) (xs : List A) → p x ≡ false → filter p (x ∷ xs) ≡ filter p xs
 filter-gone p x xs q = rw q refl
 
-flowed-less-if : (m b : Bool) (k : Kept) (xs ys : List Kept) → k.flow ≡ b → (m ≡ true → k.flow ≡ false) → with_flow xs ≡ with_flow ys → with_flow (if m then xs else k ∷ xs) ≡ with_flow (k ∷ ys)
+flowed-less-if : (m b : Bool) (k : BufferedEntry) (xs ys : List BufferedEntry) → k.flow ≡ b → (m ≡ true → k.flow ≡ false) → with_flow xs ≡ with_flow ys → with_flow (if m then xs else k ∷ xs) ≡ with_flow (k ∷ ys)
 flowed-less-if true true k xs ys q u e = let wrong : true ≡ false = sym q ∙ u refl in cc
-flowed-less-if true false k xs ys q u e = e ∙ sym (filter-gone (λ (x : Kept). x.flow) k ys q)
-flowed-less-if false true k xs ys q u e = filter-here (λ (x : Kept). x.flow) k xs q ∙ ap (λ (ks : List Kept). k ∷ ks) e ∙ sym (filter-here (λ (x : Kept). x.flow) k ys q)
-flowed-less-if false false k xs ys q u e = filter-gone (λ (x : Kept). x.flow) k xs q ∙ e ∙ sym (filter-gone (λ (x : Kept). x.flow) k ys q)
+flowed-less-if true false k xs ys q u e = e ∙ sym (filter-gone (λ (x : BufferedEntry). x.flow) k ys q)
+flowed-less-if false true k xs ys q u e = filter-here (λ (x : BufferedEntry). x.flow) k xs q ∙ ap (λ (ks : List BufferedEntry). k ∷ ks) e ∙ sym (filter-here (λ (x : BufferedEntry). x.flow) k ys q)
+flowed-less-if false false k xs ys q u e = filter-gone (λ (x : BufferedEntry). x.flow) k xs q ∙ e ∙ sym (filter-gone (λ (x : BufferedEntry). x.flow) k ys q)
 
-flowed-less : (ms : List Bool) (ks : List Kept) → AreUnflowed ms ks → with_flow (less ms ks) ≡ with_flow ks
+flowed-less : (ms : List Bool) (ks : List BufferedEntry) → AreEntriesUnflowed ms ks → with_flow (less ms ks) ≡ with_flow ks
 flowed-less [] ks u = refl
 flowed-less (m ∷ ms) [] u = refl
 flowed-less (m ∷ ms) (k ∷ ks) u = flowed-less-if m k.flow k (less ms ks) ks refl u.0 (flowed-less ms ks u.1)
 
-whole-less : (ms : List Bool) (ks : List Kept) → (Contains ms true → ⊥) → less ms ks ≡ ks
+whole-less : (ms : List Bool) (ks : List BufferedEntry) → (Contains ms true → ⊥) → less ms ks ≡ ks
 whole-less [] ks h = refl
 whole-less (m ∷ ms) [] h = refl
 whole-less (true ∷ ms) (k ∷ ks) h = absurd (h (has-here true ms))
-whole-less (false ∷ ms) (k ∷ ks) h = ap (λ (xs : List Kept). k ∷ xs) (whole-less ms ks (λ c. h (has-there false ms true c)))
+whole-less (false ∷ ms) (k ∷ ks) h = ap (λ (xs : List BufferedEntry). k ∷ xs) (whole-less ms ks (λ c. h (has-there false ms true c)))
 
-takes-each : (dropped : List Bool) (owed taken : List Kept) → TakesOnce dropped owed taken → TakesEach dropped owed taken
+takes-each : (dropped : List Bool) (owed taken : List BufferedEntry) → TakesOnce dropped owed taken → TakesEach dropped owed taken
 takes-each dropped owed taken t = record { flowed = ap with_flow t.all ∙ flowed-less dropped owed t.unflowed; whole = λ h. t.all ∙ whole-less dropped owed h }
 
 -- The whole.

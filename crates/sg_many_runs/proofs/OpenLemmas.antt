@@ -8,14 +8,14 @@ use Rattle.sg_device.specs.Disk.{DiskState, content}
 use Rattle.sg_device.proofs.DiskCalls.{reads_as_image}
 use Rattle.sg_stable.specs.Cell.{cell_value}
 use Rattle.sg_buffer.specs.Entries.{IsListOf}
-use Rattle.sg_buffer.specs.declared.found.Found.{Found}
+use Rattle.sg_buffer.specs.declared.found.BufferEntries.{BufferEntries}
 use Rattle.sg_machine.specs.declared.setup.BufferSetup.{BufferSetup}
 use Rattle.sg_machine.specs.declared.setup.Setup.{Setup}
 use Rattle.sg_machine.specs.declared.setup.SourceSetup.{SourceSetup}
-use Rattle.sg_machine.specs.Runs.{Kept, recovered, opened_dest}
+use Rattle.sg_machine.specs.Runs.{BufferedEntry, recovered, opened_dest}
 use Rattle.sg_counter.specs.Bringing.{store_in}
 use Rattle.sg_sinks.specs.Standing.{are_waiting, is_split_by}
-use Rattle.sg_stores.specs.Opening.{IsOpened, IsOpenedAs}
+use Rattle.sg_stores.specs.Opening.{IsOpenedPosition, IsOpenedAs}
 use Rattle.sg_stores.specs.Positions.{stored_in}
 use Rattle.sg_stores.specs.Stores.{StoreState, coded}
 use Rattle.sg_stores.specs.declared.kind.StoreKind.{StoreKind}
@@ -24,7 +24,7 @@ use Rattle.sg_standing.specs.Images.{position_in}
 use Rattle.sg_core.specs.Opening.{IsOpen, NumberStores}
 use Rattle.sg_core.proofs.OpenState.{kind-none}
 use Rattle.sg_standing.specs.States.{CoreState}
-use Rattle.sg_many_runs.specs.Passes.{BeginsWith}
+use Rattle.sg_many_runs.specs.Passes.{BeginsWithImages}
 use Rattle.sg_many_runs.proofs.BeginLemmas.{opens-dest}
 use Rattle.sg_one_run.proofs.PreludeLemmas.{get-back}
 use Rattle.sg_many_runs.specs.Happened.{AreImagesOf, positions_by, AreListsBy, AllTell}
@@ -57,7 +57,7 @@ contents-lists setup disks core o tell = record {
 
 -- The kinds of stores.
 
-as-position : (kind : StoreKind) (disk : DiskState) (found : Found) (store : StoreState) → kind ≡ Position → IsOpenedAs kind disk found store → IsOpened disk store
+as-position : (kind : StoreKind) (disk : DiskState) (found : BufferEntries) (store : StoreState) → kind ≡ Position → IsOpenedAs kind disk found store → IsOpenedPosition disk store
 as-position Position disk found store h o = o.0
 as-position (Buffer capacity) disk found store h o = absurd (let wrong : Buffer capacity ≡ Position = h in cc)
 
@@ -90,17 +90,17 @@ some-is (Some s) h = (s, refl)
 
 -- Destinations without a disk-buffer.
 
-waiting-none : (ks : List Kept) → are_waiting (map recovered ks) ≡ true → ks ≡ []
+waiting-none : (ks : List BufferedEntry) → are_waiting (map recovered ks) ≡ true → ks ≡ []
 waiting-none [] h = refl
 waiting-none (k ∷ ks) h = absurd (let wrong : false ≡ true = h in cc)
 
-bare-by : (buffer : Option BufferSetup) (ks : List Kept) → buffer ≡ None → is_split_by buffer (map recovered ks) ≡ true → ks ≡ []
+bare-by : (buffer : Option BufferSetup) (ks : List BufferedEntry) → buffer ≡ None → is_split_by buffer (map recovered ks) ≡ true → ks ≡ []
 bare-by None ks q h = waiting-none ks h
 bare-by (Some b) ks q h = absurd (let wrong : Some b ≡ None = q in cc)
 
 -- the run begins with what the contents hold
 pub begins-with : (setup : Setup) (disks : List DiskState) (core : CoreState) (o : IsOpen setup disks core) → NumberStores setup (length disks) → AllTell disks
-    → BeginsWith setup (record { positions = positions_by setup.sources (contents disks); lists = (o.opening).entries }) o.opening
+    → BeginsWithImages setup (record { positions = positions_by setup.sources (contents disks); lists = (o.opening).entries }) o.opening
 begins-with setup disks core o numbers tell = record {
   every_position = length-map setup.sources (λ (source : SourceSetup). position_in (contents disks) source.store);
   every_list = o.every_list;

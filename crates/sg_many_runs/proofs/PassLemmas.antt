@@ -17,14 +17,14 @@ use Rattle.sg_machine.specs.declared.state.State.{State}
 use Rattle.sg_machine.specs.Verdicts.{Claim, claims_in, claims_from, claims_of, origin_of, judged_at, judged, take_claim, take_offer}
 use Rattle.sg_machine.specs.Legal.{is_same_list, may_admit, is_legal, is_legal_act}
 use Rattle.sg_machine.specs.Effects.{next_of, ends_of, after}
-use Rattle.sg_machine.specs.Runs.{Kept, are_legal}
+use Rattle.sg_machine.specs.Runs.{BufferedEntry, are_legal}
 use Rattle.sg_machine.specs.Counts.{is_dropped, is_kept_at, kept_offers, keeps, kept_entries, ends_by, ends_admitted, flow_drops_of, flow_drops_by}
 use Rattle.sg_machine.specs.Safe.{kept_from}
 use Rattle.sg_machine.proofs.RunLemmas.{both-true}
 use Rattle.sg_machine.proofs.FlowLemmas.{flow_drops-none, mapped-some, then-some}
 use Rattle.sg_many_runs.specs.Pieces.{Piece}
 use Rattle.sg_many_runs.specs.Covered.{Pass, Offers, entry_of}
-use Rattle.sg_many_runs.specs.Passes.{AreRead, ReadsBy, AreAdmitted, pass_piece, pieces_of}
+use Rattle.sg_many_runs.specs.Passes.{AreRecordsRead, ReadsByAct, AreAdmitted, pass_piece, pieces_of}
 use Rattle.sg_standing.proofs.Frozen.{length-dests}
 use Rattle.sg_many_runs.proofs.HasLemmas.{has-nil, has-here, has-there, has-cons, has-mapped, has-filtered}
 use Rattle.sg_many_runs.proofs.PieceLemmas.{ends, ends-append}
@@ -53,7 +53,7 @@ admitted-split offers (e ∷ es) fs passes h =
 pub pieces-append : (i : ℕ) (a b : List Pass) → pieces_of i (a ++ b) ≡ pieces_of i a ++ pieces_of i b
 pieces-append i a b = ap (map pass_piece) (filter-append (λ (p : Pass). p.inlet == i) a b) ∙ map-append pass_piece (filter (λ (p : Pass). p.inlet == i) a) (filter (λ (p : Pass). p.inlet == i) b)
 
-read-ends-if : (offers : Offers) (i j : ℕ) (b : Bool) → (j == i) ≡ b → (rs : List Admission) (ps : List Pass) → AreRead offers j rs ps → ends (pieces_of i ps) ≡ (if b then ends_of rs else [])
+read-ends-if : (offers : Offers) (i j : ℕ) (b : Bool) → (j == i) ≡ b → (rs : List Admission) (ps : List Pass) → AreRecordsRead offers j rs ps → ends (pieces_of i ps) ≡ (if b then ends_of rs else [])
 read-ends-if offers i j true q [] [] h = refl
 read-ends-if offers i j false q [] [] h = refl
 read-ends-if offers i j b q [] (p ∷ ps) h = absurd h
@@ -70,7 +70,7 @@ read-ends-if offers i j false q (r ∷ rs) (p ∷ ps) h =
 none-ends : (i : ℕ) (ps : List Pass) → ps ≡ [] → ends (pieces_of i ps) ≡ []
 none-ends i ps h = ap (λ (qs : List Pass). ends (pieces_of i qs)) h
 
-reads-ends : (offers : Offers) (i : ℕ) (act : Act) (ps : List Pass) → ReadsBy offers act ps → ends (pieces_of i ps) ≡ ends_by i act
+reads-ends : (offers : Offers) (i : ℕ) (act : Act) (ps : List Pass) → ReadsByAct offers act ps → ends (pieces_of i ps) ≡ ends_by i act
 reads-ends offers i (Admit j records vs) ps h = read-ends-if offers i j (j == i) refl records ps h
 reads-ends offers i (Settle d n) ps h = none-ends i ps h
 reads-ends offers i (Refill d n) ps h = none-ends i ps h
@@ -108,7 +108,7 @@ record OfRecord (offers : Offers) (j : ℕ) (rs : List Admission) (p : Pass) : T
   end : p.end ≡ r.end
   gives : offers p r.offers
 
-read-record : (offers : Offers) (j : ℕ) (rs : List Admission) (ps : List Pass) (p : Pass) → AreRead offers j rs ps → Contains ps p → OfRecord offers j rs p
+read-record : (offers : Offers) (j : ℕ) (rs : List Admission) (ps : List Pass) (p : Pass) → AreRecordsRead offers j rs ps → Contains ps p → OfRecord offers j rs p
 read-record offers j [] [] p h c = absurd (has-nil p c)
 read-record offers j [] (q ∷ ps) p h c = absurd h
 read-record offers j (r ∷ rs) [] p h c = absurd h
@@ -180,7 +180,7 @@ claim-record place (r ∷ rs) c h =
     ]
 
 -- a record's pass is among the passes
-pub record-pass : (offers : Offers) (j : ℕ) (rs : List Admission) (ps : List Pass) (r : Admission) → AreRead offers j rs ps → Contains rs r → (p : Pass) × (Contains ps p × ((p.inlet ≡ j) × ((p.end ≡ r.end) × offers p r.offers)))
+pub record-pass : (offers : Offers) (j : ℕ) (rs : List Admission) (ps : List Pass) (r : Admission) → AreRecordsRead offers j rs ps → Contains rs r → (p : Pass) × (Contains ps p × ((p.inlet ≡ j) × ((p.end ≡ r.end) × offers p r.offers)))
 record-pass offers j [] ps r h c = absurd (has-nil r c)
 record-pass offers j (x ∷ rs) [] r h c = absurd h
 record-pass offers j (x ∷ rs) (p ∷ ps) r h c =
@@ -201,10 +201,10 @@ judged-there (Some dest) failing failed offer v z h = (dest, refl)
 kept-first : (d i : ℕ) (c : Claim) (cs : List Claim) (v : Verdict) (vs : List Verdict) → is_kept_at d c.offer v ≡ true → Contains (kept_offers d i (c ∷ cs) (v ∷ vs)) (kept_from i c)
 kept-first d i c cs v vs h =
     let here : kept_offers d i (c ∷ cs) (v ∷ vs) ≡ kept_from i c ∷ kept_offers d i cs vs = rw h refl in
-    let P : List Kept → Type 0 = λ ks. Contains ks (kept_from i c) in
+    let P : List BufferedEntry → Type 0 = λ ks. Contains ks (kept_from i c) in
     subst P (sym here) (has-here (kept_from i c) (kept_offers d i cs vs))
 
-kept-later-if : (b : Bool) (x k : Kept) (ks : List Kept) → Contains ks k → Contains (if b then x ∷ ks else ks) k
+kept-later-if : (b : Bool) (x k : BufferedEntry) (ks : List BufferedEntry) → Contains ks k → Contains (if b then x ∷ ks else ks) k
 kept-later-if true x k ks h = has-there x ks k h
 kept-later-if false x k ks h = h
 
@@ -247,7 +247,7 @@ pub record IsKeptBy (offers : Offers) (es : List Event) (many : ℕ) (p : Pass) 
   pub kept : (o : Offer) → Contains given o → o.flow ≡ true → Contains (kept_entries o.dest es) (entry_of p o) × (o.dest < many)
 
 read-kept : (offers : Offers) (s : State) (i : ℕ) (records : List Admission) (vs : List Verdict) (failed : List ℕ) (es : List Event) (ps : List Pass) (p : Pass) → is_legal_act s (Admit i records vs) failed ≡ true
-    → flow_drops_of (claims_of records) vs ≡ 0 → AreRead offers i records ps → Contains ps p → IsKeptBy offers (record { act = Admit i records vs; failed = failed } ∷ es) (length s.dests) p
+    → flow_drops_of (claims_of records) vs ≡ 0 → AreRecordsRead offers i records ps → Contains ps p → IsKeptBy offers (record { act = Admit i records vs; failed = failed } ∷ es) (length s.dests) p
 read-kept offers s i records vs failed es ps p l z h c =
     let j = judged i (next_of s i) failed s.dests s.failed (claims_of records) vs in
     let right = (both-true (passes_at s.inlets i (may_admit s i records)) (option_map_or (is_same_list (s.failed ++ failed)) j false) l).1 in
@@ -263,13 +263,13 @@ read-kept offers s i records vs failed es ps p l z h c =
           let q = keeps-claim i (next_of s i) failed s.dests s.failed (claims_of records) vs x.0 m.c x.1 z m.among flow in
           let at : P o = subst P m.offer q in
           let same : record { inlet = i; end = m.c.end; flow = o.flow; message = o.message } ≡ entry_of p o =
-          ap (λ (n : ℕ). let k : Kept = record { inlet = n; end = m.c.end; flow = o.flow; message = o.message } in k) (sym r.inlet)
-          ∙ ap (λ (n : ℕ). let k : Kept = record { inlet = p.inlet; end = n; flow = o.flow; message = o.message } in k) (m.end ∙ sym r.end) in
-          let Q : Kept → Type 0 = λ k. Contains (kept_offers o.dest i (claims_of records) vs) k in
+          ap (λ (n : ℕ). let k : BufferedEntry = record { inlet = n; end = m.c.end; flow = o.flow; message = o.message } in k) (sym r.inlet)
+          ∙ ap (λ (n : ℕ). let k : BufferedEntry = record { inlet = p.inlet; end = n; flow = o.flow; message = o.message } in k) (m.end ∙ sym r.end) in
+          let Q : BufferedEntry → Type 0 = λ k. Contains (kept_offers o.dest i (claims_of records) vs) k in
           (Contains-append_left (kept_offers o.dest i (claims_of records) vs) (kept_entries o.dest es) (entry_of p o) (subst Q same at.0), at.1));
     }
 
-reads-kept : (offers : Offers) (s : State) (act : Act) (failed : List ℕ) (es : List Event) (ps : List Pass) (p : Pass) → is_legal_act s act failed ≡ true → flow_drops_by act ≡ 0 → ReadsBy offers act ps → Contains ps p
+reads-kept : (offers : Offers) (s : State) (act : Act) (failed : List ℕ) (es : List Event) (ps : List Pass) (p : Pass) → is_legal_act s act failed ≡ true → flow_drops_by act ≡ 0 → ReadsByAct offers act ps → Contains ps p
     → IsKeptBy offers (record { act = act; failed = failed } ∷ es) (length s.dests) p
 reads-kept offers s (Admit i records vs) failed es ps p l z h c = read-kept offers s i records vs failed es ps p l z h c
 reads-kept offers s (Settle d n) failed es ps p l z h c = let P : List Pass → Type 0 = λ qs. Contains qs p in absurd (has-nil p (subst P h c))

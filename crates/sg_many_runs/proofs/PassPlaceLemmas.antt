@@ -9,7 +9,7 @@ use Rattle.sg_machine.specs.declared.event.Act.{Act}
 use Rattle.sg_machine.specs.declared.event.Act.TheVariants.{Admit, Settle, Refill, Store, Rewind, Look}
 use Rattle.sg_machine.specs.declared.event.Event.{Event}
 use Rattle.sg_machine.specs.declared.state.Dest.{Dest}
-use Rattle.sg_machine.specs.declared.state.Inlet.{Inlet}
+use Rattle.sg_machine.specs.declared.state.InletRecords.{InletRecords}
 use Rattle.sg_machine.specs.declared.state.State.{State}
 use Rattle.sg_machine.specs.Verdicts.{is_listed}
 use Rattle.sg_machine.specs.Marks.{is_acked, mark, mark_of}
@@ -23,7 +23,7 @@ use Rattle.sg_machine.proofs.InletLemmas.{counts-inlet, store-mark}
 use Rattle.sg_many_runs.proofs.HasLemmas.{has-nil, has-here, has-there, has-cons}
 
 -- of each place of an inlet
-pub record InletHolds (Q : ℕ → Type 0) (inlet : Inlet) : Type 0 where
+pub record InletHolds (Q : ℕ → Type 0) (inlet : InletRecords) : Type 0 where
   pub opening : Q inlet.opening
   pub stored : Q inlet.stored
   pub ends : (x : ℕ) → Contains inlet.ends x → Q x
@@ -37,7 +37,7 @@ mark-in Q ds i n from [] q h = q
 mark-in Q ds i n from (e ∷ es) q h =
     mark-if Q (is_acked ds i n) (mark ds i (n + 1) e es) from (mark-in Q ds i (n + 1) e es (h e (has-here e es)) (λ x c. h x (has-there e es x c))) q
 
-mark-holds : (Q : ℕ → Type 0) (s : State) (i : ℕ) (inlet : Inlet) → InletHolds Q inlet → Q (mark_of s.dests i inlet)
+mark-holds : (Q : ℕ → Type 0) (s : State) (i : ℕ) (inlet : InletRecords) → InletHolds Q inlet → Q (mark_of s.dests i inlet)
 mark-holds Q s i inlet h = mark-in Q s.dests i 0 inlet.opening inlet.ends h.opening h.ends
 
 same-place : (Q : ℕ → Type 0) (a b : ℕ) → a ≡ b → Q a → Q b
@@ -51,19 +51,19 @@ opening-holds Q i opening (Store j w) z h = h
 opening-holds Q i opening (Rewind j) z h = mark-if Q (j == i) 0 opening z h
 opening-holds Q i opening Look z h = h
 
-stored-holds : (Q : ℕ → Type 0) (s : State) (i : ℕ) (inlet : Inlet) (act : Act) → Q 0 → slice_get s.inlets i ≡ Some inlet → InletHolds Q inlet → Q (mark_by s i inlet.stored act)
+stored-holds : (Q : ℕ → Type 0) (s : State) (i : ℕ) (inlet : InletRecords) (act : Act) → Q 0 → slice_get s.inlets i ≡ Some inlet → InletHolds Q inlet → Q (mark_by s i inlet.stored act)
 stored-holds Q s i inlet (Admit j records vs) z at h = h.stored
 stored-holds Q s i inlet (Settle d n) z at h = h.stored
 stored-holds Q s i inlet (Refill d n) z at h = h.stored
 stored-holds Q s i inlet (Store j w) z at h =
-    let here : option_map_or (mark_of s.dests i) (slice_get s.inlets i) inlet.stored ≡ mark_of s.dests i inlet = ap (λ (o : Option Inlet). option_map_or (mark_of s.dests i) o inlet.stored) at in
+    let here : option_map_or (mark_of s.dests i) (slice_get s.inlets i) inlet.stored ≡ mark_of s.dests i inlet = ap (λ (o : Option InletRecords). option_map_or (mark_of s.dests i) o inlet.stored) at in
     mark-if Q (j == i) (option_map_or (mark_of s.dests i) (slice_get s.inlets i) inlet.stored) inlet.stored (same-place Q (mark_of s.dests i inlet) _ (sym here) (mark-holds Q s i inlet h)) h.stored
 stored-holds Q s i inlet (Rewind j) z at h = mark-if Q (j == i) 0 inlet.stored z h.stored
 stored-holds Q s i inlet Look z at h = h.stored
 
 -- one event on
-step-holds : (Q : ℕ → Type 0) (s : State) (e : Event) (i : ℕ) (inlet : Inlet) → Q 0 → is_legal s e ≡ true → slice_get s.inlets i ≡ Some inlet → InletHolds Q inlet → ((x : ℕ) → Contains (ends_by i e.act) x → Q x)
-    → (new : Inlet) × ((slice_get (after s e).inlets i ≡ Some new) × InletHolds Q new)
+step-holds : (Q : ℕ → Type 0) (s : State) (e : Event) (i : ℕ) (inlet : InletRecords) → Q 0 → is_legal s e ≡ true → slice_get s.inlets i ≡ Some inlet → InletHolds Q inlet → ((x : ℕ) → Contains (ends_by i e.act) x → Q x)
+    → (new : InletRecords) × ((slice_get (after s e).inlets i ≡ Some new) × InletHolds Q new)
 step-holds Q s e i inlet z l at h more =
     let one : are_legal s (e ∷ []) ≡ true = rw l refl in
     let c = counts-inlet s (e ∷ []) i inlet one at in
@@ -94,25 +94,25 @@ some-if-place : (Q : ℕ → Type 0) (b : Bool) (w : ℕ) → Q w → PlaceHolds
 some-if-place Q true w h = h
 some-if-place Q false w h = tt
 
-failing-place : (Q : ℕ → Type 0) (s : State) (e : Event) (i : ℕ) (inlet : Inlet) → Q 0 → InletHolds Q inlet → PlaceHolds Q (failing_position s e i inlet)
+failing-place : (Q : ℕ → Type 0) (s : State) (e : Event) (i : ℕ) (inlet : InletRecords) → Q 0 → InletHolds Q inlet → PlaceHolds Q (failing_position s e i inlet)
 failing-place Q s e i inlet z h =
     some-if-place Q (has_failed e.failed inlet.setup.store) (if is_nil inlet.ends then 0 else mark_of s.dests i inlet) (mark-if Q (is_nil inlet.ends) 0 (mark_of s.dests i inlet) z (mark-holds Q s i inlet h))
 
 -- what an inlet comes to, and what was tried meanwhile
 pub record PlacesHold (Q : ℕ → Type 0) (s : State) (es : List Event) (i : ℕ) : Type 0 where
-  pub new : Inlet
+  pub new : InletRecords
   pub at : slice_get (after_all s es).inlets i ≡ Some new
   pub holds : InletHolds Q new
   pub tried : PlaceHolds Q (failed_position s es i)
 
-pub places-hold : (Q : ℕ → Type 0) (s : State) (es : List Event) (i : ℕ) (inlet : Inlet) → Q 0 → are_legal s es ≡ true → slice_get s.inlets i ≡ Some inlet → InletHolds Q inlet → ((x : ℕ) → Contains (ends_admitted i es) x → Q x)
+pub places-hold : (Q : ℕ → Type 0) (s : State) (es : List Event) (i : ℕ) (inlet : InletRecords) → Q 0 → are_legal s es ≡ true → slice_get s.inlets i ≡ Some inlet → InletHolds Q inlet → ((x : ℕ) → Contains (ends_admitted i es) x → Q x)
     → PlacesHold Q s es i
 places-hold Q s [] i inlet z l at h more = record { new = inlet; at = at; holds = h; tried = tt }
 places-hold Q s (e ∷ es) i inlet z l at h more =
     let q = both-true (is_legal s e) (are_legal (after s e) es) l in
     let step = step-holds Q s e i inlet z q.0 at h (λ x c. more x (Contains-append_left (ends_by i e.act) (ends_admitted i es) x c)) in
     let rest = places-hold Q (after s e) es i step.0 z q.1 step.1.0 step.1.1 (λ x c. more x (Contains-append_right (ends_by i e.act) (ends_admitted i es) x c)) in
-    let now : option_and_then (failing_position s e i) (slice_get s.inlets i) ≡ failing_position s e i inlet = ap (λ (o : Option Inlet). option_and_then (failing_position s e i) o) at in
+    let now : option_and_then (failing_position s e i) (slice_get s.inlets i) ≡ failing_position s e i inlet = ap (λ (o : Option InletRecords). option_and_then (failing_position s e i) o) at in
     let P : Option ℕ → Type 0 = λ o. PlaceHolds Q (first_of o (failed_position (after s e) es i)) in
     record {
       new = rest.new;
@@ -126,7 +126,7 @@ running-if : (Q : ℕ → Type 0) (b : Bool) (w : ℕ) → (b ≡ true → Q w) 
 running-if Q true w h = h refl
 running-if Q false w h = tt
 
-pub running-holds : (Q : ℕ → Type 0) (s : State) (act : Act) (failed : List ℕ) (i : ℕ) (inlet : Inlet) → Q 0 → is_legal_act s act failed ≡ true → slice_get s.inlets i ≡ Some inlet → InletHolds Q inlet → PlaceHolds Q (running_position act i)
+pub running-holds : (Q : ℕ → Type 0) (s : State) (act : Act) (failed : List ℕ) (i : ℕ) (inlet : InletRecords) → Q 0 → is_legal_act s act failed ≡ true → slice_get s.inlets i ≡ Some inlet → InletHolds Q inlet → PlaceHolds Q (running_position act i)
 running-holds Q s (Admit j records vs) failed i inlet z l at h = tt
 running-holds Q s (Settle d n) failed i inlet z l at h = tt
 running-holds Q s (Refill d n) failed i inlet z l at h = tt

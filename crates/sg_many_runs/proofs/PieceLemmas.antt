@@ -7,6 +7,7 @@ use Rattle.sg_machine.specs.Safe.{rises}
 use Rattle.sg_machine.proofs.RunLemmas.{both-true}
 use Rattle.sg_many_runs.specs.Pieces.{Piece, Rise, behind}
 use Rattle.sg_many_runs.proofs.HasLemmas.{has-nil, has-here, has-there, has-cons}
+use Rattle.sg_machine.proofs.PositionLemmas.{lt-true}
 
 abbrev pub ends : List Piece → List ℕ
 ends xs = map (λ (x : Piece). x.end) xs
@@ -15,9 +16,6 @@ ends xs = map (λ (x : Piece). x.end) xs
 abbrev pub last_of : ℕ → List ℕ → ℕ
 last_of from [] = from
 last_of from (x ∷ ends) = last_of x ends
-
-pub lt-true : (a b : ℕ) → nat_lt a b ≡ true → a < b
-lt-true a b h = grind (arith, h)
 
 pub true-lt : (a b : ℕ) → a < b → nat_lt a b ≡ true
 true-lt a b h = grind (arith, h)

@@ -18,10 +18,10 @@ use Rattle.sg_machine.specs.Counts.{ends_by, ends_admitted}
 use Rattle.sg_machine.specs.Safe.{Images}
 use Rattle.sg_machine.proofs.RunLemmas.{both-true}
 use Rattle.sg_many_runs.specs.Covered.{Offers, IsFile}
-use Rattle.sg_many_runs.specs.Passes.{Stopped, IsStopped}
+use Rattle.sg_many_runs.specs.Passes.{Stopped, IsStoppedRun}
 use Rattle.sg_many_runs.proofs.HasLemmas.{has-nil, has-cons}
-use Rattle.sg_many_runs.proofs.PieceLemmas.{lt-true}
 use Rattle.sg_many_runs.proofs.CoverLemmas.{start_of, file-at, place-by}
+use Rattle.sg_machine.proofs.PositionLemmas.{lt-true}
 
 -- the positions of files in these images are below 2 ^ 63
 abbrev pub AreInRange : Setup → Images → Type 0
@@ -64,13 +64,13 @@ ends-low s (e ∷ es) i x l c =
     ]
 
 -- what a stop leaves is in range, where what it found was
-pub range-left : (setup : Setup) (offers : Offers) (before : Images) (run : Stopped) → IsStopped setup offers before run → AreInRange setup before → AreInRange setup run.images
+pub range-left : (setup : Setup) (offers : Offers) (before : Images) (run : Stopped) → IsStoppedRun setup offers before run → AreInRange setup before → AreInRange setup run.images
 range-left setup offers before run h low i position file at =
     let Q : ℕ → Type 0 = λ n. n < 2 ^ 63 in
     place-by Q setup offers before run i position h file at (omega arith) (λ place was. low i place file was) (λ x c. ends-low (start_of setup run) (run.events ++ run.event ∷ []) i x h.legal c)
 
 -- and so is where each file's reading begins
-pub range-opened : (setup : Setup) (offers : Offers) (before : Images) (run : Stopped) → IsStopped setup offers before run → AreInRange setup before → (i position : ℕ) → IsFile setup i → slice_get run.opening.places i ≡ Some position → position < 2 ^ 63
+pub range-opened : (setup : Setup) (offers : Offers) (before : Images) (run : Stopped) → IsStoppedRun setup offers before run → AreInRange setup before → (i position : ℕ) → IsFile setup i → slice_get run.opening.places i ≡ Some position → position < 2 ^ 63
 range-opened setup offers before run h low i position file at =
     let f = file-at setup offers before run i h file in
     let Q : ℕ → Type 0 = λ n. n < 2 ^ 63 in

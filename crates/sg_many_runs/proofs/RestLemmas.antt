@@ -15,10 +15,10 @@ use Rattle.sg_stable.specs.Cell.{cell_value}
 use Rattle.sg_codec.specs.declared.kept.Kept.{Kept as Coded}
 use Rattle.sg_buffer.specs.Entries.{IsListOf}
 use Rattle.sg_machine.specs.declared.setup.SourceSetup.{SourceSetup}
-use Rattle.sg_machine.specs.Runs.{Kept}
+use Rattle.sg_machine.specs.Runs.{BufferedEntry}
 use Rattle.sg_machine.specs.Safe.{Images}
 use Rattle.sg_counter.specs.Bringing.{store_in}
-use Rattle.sg_stores.specs.Opening.{HasSameList, ArePreserved, Keeps}
+use Rattle.sg_stores.specs.Opening.{HasSameList, ArePreserved, KeepsImages}
 use Rattle.sg_stores.specs.Stores.{coded}
 use Rattle.sg_stores.specs.declared.kind.StoreKind.{StoreKind}
 use Rattle.sg_stores.specs.declared.kind.StoreKind.TheVariants.{Position, Buffer}
@@ -26,7 +26,7 @@ use Rattle.sg_standing.specs.Images.{position_in}
 use Rattle.sg_core.specs.Opening.{AreKinds}
 use Rattle.sg_core.proofs.OpenState.{kind-none}
 use Rattle.sg_serve.specs.Plan.{IsRunnable}
-use Rattle.sg_serve.specs.Run.{CoreRun, Reached, Holds, RestsWithout}
+use Rattle.sg_serve.specs.Run.{CoreRun, Reached, PlanRunHolds, RestsWithout}
 use Rattle.sg_serve.specs.declared.ending.PlanEnded.{PlanEnded}
 use Rattle.sg_serve.specs.declared.ending.PlanEnded.TheVariants.{Before as BeforeRounds, Ran}
 use Rattle.sg_run_plan.specs.declared.plan.RunPlan.{RunPlan}
@@ -53,7 +53,7 @@ abbrev pub Was : StoreKind → List ℕ → List ℕ → Type 0
 Was Position d c = d ≡ c
 Was (Buffer capacity) d c = HasSameList d c
 
-pub keeps-since : (kind : StoreKind) (old new : DiskState) → Keeps kind old new → (c : List ℕ) → IsImageSince old new c → (d : List ℕ) × (IsImage old d × Was kind d c)
+pub keeps-since : (kind : StoreKind) (old new : DiskState) → KeepsImages kind old new → (c : List ℕ) → IsImageSince old new c → (d : List ℕ) × (IsImage old d × Was kind d c)
 keeps-since Position old new k c at = let r = image-since Same old new (λ x. refl) k.still c at in (r.0, (r.1.0, sym r.1.1))
 keeps-since (Buffer capacity) old new k c at = image-since HasSameList old new (λ x. inl refl) k.still c at
 
@@ -61,12 +61,12 @@ keeps-since (Buffer capacity) old new k c at = image-since HasSameList old new (
 image-now : (old new : DiskState) (c : List ℕ) → clock old ≤ clock new → IsImage new c → IsImageSince old new c
 image-now old new c later left = record { moment = clock new; since = later; before = omega arith; image = left }
 
-keeps-before : (kind : StoreKind) (old new : DiskState) → Keeps kind old new → (c : List ℕ) → IsImage new c → (d : List ℕ) × (IsImage old d × Was kind d c)
+keeps-before : (kind : StoreKind) (old new : DiskState) → KeepsImages kind old new → (c : List ℕ) → IsImage new c → (d : List ℕ) × (IsImage old d × Was kind d c)
 keeps-before Position old new k c left = keeps-since Position old new k c (image-now old new c (k.still).later left)
 keeps-before (Buffer capacity) old new k c left = keeps-since (Buffer capacity) old new k c (image-now old new c (k.still).later left)
 
 -- A choice of images before, for one of images now.
-record Choice (R : ℕ → List ℕ → List ℕ → Type 0) (olds : List DiskState) (images : List (List ℕ)) : Type 0 where
+record RestChoice (R : ℕ → List ℕ → List ℕ → Type 0) (olds : List DiskState) (images : List (List ℕ)) : Type 0 where
   chosen : List (List ℕ)
   each : (s : ℕ) (old : DiskState) → slice_get olds s ≡ Some old → (d : List ℕ) × ((slice_get chosen s ≡ Some d) × IsImage old d)
   from : (s : ℕ) (d : List ℕ) → slice_get chosen s ≡ Some d → (c : List ℕ) × ((slice_get images s ≡ Some c) × ((d ≡ c) ⊎ R s d c))
@@ -94,7 +94,7 @@ choose-onto : (d c : List ℕ) (chosen images : List (List ℕ)) → ((s : ℕ) 
 choose-onto d c chosen images rest zero b h = (d, refl)
 choose-onto d c chosen images rest (suc s) b h = rest s b h
 
-choose : (R : ℕ → List ℕ → List ℕ → Type 0) (olds : List DiskState) (images : List (List ℕ)) → ((s : ℕ) (old : DiskState) → slice_get olds s ≡ Some old → One R s old images) → Choice R olds images
+choose : (R : ℕ → List ℕ → List ℕ → Type 0) (olds : List DiskState) (images : List (List ℕ)) → ((s : ℕ) (old : DiskState) → slice_get olds s ≡ Some old → One R s old images) → RestChoice R olds images
 choose R [] images f = record {
   chosen = images;
   each = λ s old h. absurd (let wrong : None ≡ Some old = h in cc);
@@ -125,7 +125,7 @@ same-positions (s ∷ sources) a b h =
 position-here : (images : List (List ℕ)) (s : ℕ) (o : Option (List ℕ)) → slice_get images s ≡ o → position_in images (Some s) ≡ option_map_or cell_value o 0
 position-here images s o h = ap (λ (x : Option (List ℕ)). option_map_or cell_value x 0) h
 
-position-at : (R : ℕ → List ℕ → List ℕ → Type 0) (olds : List DiskState) (images : List (List ℕ)) (r : Choice R olds images) (s : ℕ) → ((d c : List ℕ) → R s d c → d ≡ c) → (o p : Option (List ℕ)) → slice_get images s ≡ o → slice_get r.chosen s ≡ p
+position-at : (R : ℕ → List ℕ → List ℕ → Type 0) (olds : List DiskState) (images : List (List ℕ)) (r : RestChoice R olds images) (s : ℕ) → ((d c : List ℕ) → R s d c → d ≡ c) → (o p : Option (List ℕ)) → slice_get images s ≡ o → slice_get r.chosen s ≡ p
     → option_map_or cell_value p 0 ≡ option_map_or cell_value o 0
 position-at R olds images r s same None None h k = refl
 position-at R olds images r s same (Some c) None h k = absurd (let x = r.onto s c h in let wrong : None ≡ Some x.0 = sym k ∙ x.1 in cc)
@@ -136,7 +136,7 @@ position-at R olds images r s same (Some c) (Some d) h k =
     let equal : d ≡ x.0 = elim x.1.1 [ inl e ↦ e | inr w ↦ same d x.0 w ] in
     ap cell_value (equal ∙ is)
 
-position-of : (R : ℕ → List ℕ → List ℕ → Type 0) (olds : List DiskState) (images : List (List ℕ)) (r : Choice R olds images) (o : Option ℕ) → ((s : ℕ) → o ≡ Some s → (d c : List ℕ) → R s d c → d ≡ c) → position_in r.chosen o ≡ position_in images o
+position-of : (R : ℕ → List ℕ → List ℕ → Type 0) (olds : List DiskState) (images : List (List ℕ)) (r : RestChoice R olds images) (o : Option ℕ) → ((s : ℕ) → o ≡ Some s → (d c : List ℕ) → R s d c → d ≡ c) → position_in r.chosen o ≡ position_in images o
 position-of R olds images r None same = refl
 position-of R olds images r (Some s) same =
     position-here r.chosen s (slice_get r.chosen s) refl ∙ position-at R olds images r s (same s refl) (slice_get images s) (slice_get r.chosen s) refl refl ∙ sym (position-here images s (slice_get images s) refl)
@@ -153,7 +153,7 @@ pub was-position : (kind : StoreKind) (d c : List ℕ) → kind ≡ Position →
 was-position Position d c q w = w
 was-position (Buffer capacity) d c q w = absurd (let wrong : Buffer capacity ≡ Position = q in cc)
 
-pub was-list : (one : ListsAreOne) (kind : StoreKind) (d c : List ℕ) (list : List Kept) → Was kind d c → IsListOf (map coded list) c → IsListOf (map coded list) d
+pub was-list : (one : ListsAreOne) (kind : StoreKind) (d c : List ℕ) (list : List BufferedEntry) → Was kind d c → IsListOf (map coded list) c → IsListOf (map coded list) d
 was-list one Position d c list w l = let P : List ℕ → Type 0 = λ x. IsListOf (map coded list) x in subst P (sym w) l
 was-list one (Buffer capacity) d c list (inl e) l = let P : List ℕ → Type 0 = λ x. IsListOf (map coded list) x in subst P e l
 was-list one (Buffer capacity) d c list (inr h) l =
@@ -201,7 +201,7 @@ rests-without one plan reached runnable (inl same) P each = let Q : List DiskSta
 rests-without one plan reached runnable (inr u) P each = rests-kept one plan reached.stores reached.stores_closed u.1.kinds runnable u.1.kinds_are (u.1.refused).preserved P each
 
 rests-held : {R I O : Type 0} (feed : I → InletState) (drain : O → OutletState) (offers : R → ℕ → Record → List Offer → Type 0) (inlets dests : R → ℕ) (files : Option Files) (plan : RunPlan) (routers : List R) (rounds : ℕ) (reached : Reached)
-    (core : Option CoreRun) (ending : PlanEnded) → ListsAreOne → IsRunnable plan → Holds feed drain offers inlets dests files plan routers rounds reached core ending → core ≡ None → (P : Images → Type 0) → EachChoice plan.setup reached.stores P
+    (core : Option CoreRun) (ending : PlanEnded) → ListsAreOne → IsRunnable plan → PlanRunHolds feed drain offers inlets dests files plan routers rounds reached core ending → core ≡ None → (P : Images → Type 0) → EachChoice plan.setup reached.stores P
     → EachChoice plan.setup reached.stores_closed P
 rests-held feed drain offers inlets dests files plan routers rounds reached None (BeforeRounds early) one runnable h q P each = rests-without one plan reached runnable h.rests P each
 rests-held feed drain offers inlets dests files plan routers rounds reached None (Ran ended counts) one runnable h q P each = absurd h

@@ -12,7 +12,7 @@ use Rattle.sg_frame.specs.Records.{Record}
 use Rattle.sg_frame.specs.declared.kind.FrameKind.{FrameKind}
 use Rattle.sg_machine.specs.declared.setup.Setup.{Setup}
 use Rattle.sg_machine.specs.declared.setup.SourceSetup.{SourceSetup}
-use Rattle.sg_machine.specs.declared.state.Inlet.{Inlet}
+use Rattle.sg_machine.specs.declared.state.InletRecords.{InletRecords}
 use Rattle.sg_machine.specs.declared.state.State.{State}
 use Rattle.sg_machine.specs.Counts.{opening_from}
 use Rattle.sg_machine.specs.Runs.{opened_inlet, opened, after_all}
@@ -28,17 +28,17 @@ use Rattle.sg_one_run.proofs.OwnLemmas.{calls-run}
 use Rattle.sg_serve.specs.Devices.{inlet_asked}
 use Rattle.sg_serve.specs.Plan.{IsRunnable}
 use Rattle.sg_serve.specs.Rewinds.{position_at, places_of}
-use Rattle.sg_serve.specs.Run.{CoreRun, Reached, HoldsRun, IsServed, Holds}
+use Rattle.sg_serve.specs.Run.{CoreRun, Reached, HoldsRun, IsServed, PlanRunHolds}
 use Rattle.sg_serve.specs.declared.counts.Counts.{Counts}
 use Rattle.sg_serve.specs.declared.ending.PlanEnded.TheVariants.{Ran as RanSo}
 use Rattle.sg_run_plan.specs.declared.plan.RunPlan.{RunPlan}
 use Rattle.sg_serve.proofs.ActorLemmas.{store-by-setup}
 use Rattle.sg_one_run.proofs.AgreeLemmas.{seen}
-use Rattle.sg_many_runs.specs.Resuming.{IsBegun}
+use Rattle.sg_many_runs.specs.Resuming.{IsReadingBegun}
 use Rattle.sg_many_runs.specs.Covered.{IsFile}
 use Rattle.sg_many_runs.proofs.BeginLemmas.{opened-inlet-at}
 use Rattle.sg_many_runs.specs.Happened.{AreOfFiles, AreBytesOf, IsOfFile, TellFiles}
-use Rattle.sg_many_runs.specs.Clean.{AreLines}
+use Rattle.sg_many_runs.specs.Clean.{AreFilesByLines}
 use Rattle.sg_many_runs.specs.Fresh.{HasLimit, HaveLimits}
 use Rattle.sg_many_runs.proofs.LineLemmas.{read-on-from}
 use Rattle.sg_many_runs.proofs.PlaceLemmas.{opening-append, later-still, rewinds-here}
@@ -64,7 +64,7 @@ from-told told files once spec limit position feed bytes q is same are stands ba
 -- Opening places.
 
 -- two states of one core have one opening place of an inlet
-agree-opening : (core : CoreState) (s t : State) (i : ℕ) (x y : Inlet) → IsAt core s → IsAt core t → slice_get s.inlets i ≡ Some x → slice_get t.inlets i ≡ Some y → x.opening ≡ y.opening
+agree-opening : (core : CoreState) (s t : State) (i : ℕ) (x y : InletRecords) → IsAt core s → IsAt core t → slice_get s.inlets i ≡ Some x → slice_get t.inlets i ≡ Some y → x.opening ≡ y.opening
 agree-opening core s t i x y at at' h k =
     let a = seen core s i x at h in
     let b = seen core t i y at' k in
@@ -84,10 +84,10 @@ place-stored plan reached run o i source here =
     ap (λ (x : Option ℕ). stored_in run.first.stores x) (sym (store-by-setup run.first plan.setup.sources i source sources here))
 
 module _ {R I O : Type 0} (feed : I → InletState) (drain : O → OutletState) (offers : R → ℕ → Record → List Offer → Type 0) (inlets dests : R → ℕ) (files : Option Files) (plan : RunPlan) (routers : List R) (rounds : ℕ) (reached : Reached) (bytes : ℕ → List ℕ)
-    (can : IsRunnable plan) (of_files : AreOfFiles plan) (lines : AreLines plan) (limits : HaveLimits plan) (tell : TellFiles files plan reached.inlets bytes) where
+    (can : IsRunnable plan) (of_files : AreOfFiles plan) (lines : AreFilesByLines plan) (limits : HaveLimits plan) (tell : TellFiles files plan reached.inlets bytes) where
   -- no file was begun anew
   still-opened : (run : CoreRun) (counts : Option Counts) → HoldsRun files plan reached run → IsServed feed drain offers inlets dests plan routers rounds reached run Quiet counts → (o : IsOpen plan.setup reached.stores run.first) → (i : ℕ) (file : IsFile plan.setup i)
-      → ((inlet : InletPlan) → slice_get plan.inlets.items i ≡ Some inlet → IsBegun inlet.kind inlet.limit (bytes i) (position_at run.first i)) → position_at run.first i < 2 ^ 63
+      → ((inlet : InletPlan) → slice_get plan.inlets.items i ≡ Some inlet → IsReadingBegun inlet.kind inlet.limit (bytes i) (position_at run.first i)) → position_at run.first i < 2 ^ 63
       → opening_from i (stored_in run.first.stores file.source.store) run.prelude ≡ stored_in run.first.stores file.source.store
   still-opened run counts holds served o i file begun low =
       let position = position_at run.first i in
@@ -99,7 +99,7 @@ module _ {R I O : Type 0} (feed : I → InletState) (drain : O → OutletState) 
       let fed = slice_get-some reached.inlets i (let n = can.sources in let m = served.all_inlets in omega (arith, below, n, m)) in
       let asked = slice_get-map (λ (p : InletPlan). inlet_asked plan.once p.spec) plan.inlets.items i inlet mine.1 in
       let begins = holds.begin_at i (inlet_asked plan.once inlet.spec) fed.0 asked fed.1 in
-      let K : FrameKind → Type 0 = λ kind. IsBegun kind inlet.limit (bytes i) position in
+      let K : FrameKind → Type 0 = λ kind. IsReadingBegun kind inlet.limit (bytes i) position in
       let back = read-on-from inlet.limit (bytes i) position (subst K (lines i inlet file mine.1) (begun inlet mine.1)) low in
       let from : (fed.0).place ≡ position =
       from-told files tell.files plan.once inlet.spec inlet.limit position fed.0 (bytes i) tell.told_are (of_files i inlet file mine.1) (limits i inlet file mine.1) (tell.bytes_are i inlet file mine.1) begins.stands back in
@@ -108,14 +108,14 @@ module _ {R I O : Type 0} (feed : I → InletState) (drain : O → OutletState) 
       ap (opening_from i place) served.rewinds ∙ rewinds-here i place (position_at run.first) 0 i (places_of reached.inlets) (fed.0).place (omega arith) places stored (inl same) ∙ same
 
   -- so an inlet's opening place is at the end what it was at first
-  pub resumed-held : (core : Option CoreRun) (counts : Option Counts) (run : CoreRun) → Holds feed drain offers inlets dests files plan routers rounds reached core (RanSo Quiet counts) → core ≡ Some run → (o : IsOpen plan.setup reached.stores run.first)
-      → (t : State) → IsAt run.last t → (i : ℕ) (file : IsFile plan.setup i) → ((inlet : InletPlan) → slice_get plan.inlets.items i ≡ Some inlet → IsBegun inlet.kind inlet.limit (bytes i) (position_at run.first i)) → position_at run.first i < 2 ^ 63
-      → (inlet : Inlet) → slice_get t.inlets i ≡ Some inlet → slice_get (o.opening).places i ≡ Some inlet.opening
+  pub resumed-held : (core : Option CoreRun) (counts : Option Counts) (run : CoreRun) → PlanRunHolds feed drain offers inlets dests files plan routers rounds reached core (RanSo Quiet counts) → core ≡ Some run → (o : IsOpen plan.setup reached.stores run.first)
+      → (t : State) → IsAt run.last t → (i : ℕ) (file : IsFile plan.setup i) → ((inlet : InletPlan) → slice_get plan.inlets.items i ≡ Some inlet → IsReadingBegun inlet.kind inlet.limit (bytes i) (position_at run.first i)) → position_at run.first i < 2 ^ 63
+      → (inlet : InletRecords) → slice_get t.inlets i ≡ Some inlet → slice_get (o.opening).places i ≡ Some inlet.opening
   resumed-held None counts run h q = absurd (let wrong : None ≡ Some run = q in cc)
   resumed-held (Some core) counts run (holds, served) q =
       let P : CoreRun → Type 0 = λ r. (o : IsOpen plan.setup reached.stores r.first)
-      → (t : State) → IsAt r.last t → (i : ℕ) (file : IsFile plan.setup i) → ((inlet : InletPlan) → slice_get plan.inlets.items i ≡ Some inlet → IsBegun inlet.kind inlet.limit (bytes i) (position_at r.first i)) → position_at r.first i < 2 ^ 63
-      → (inlet : Inlet) → slice_get t.inlets i ≡ Some inlet → slice_get (o.opening).places i ≡ Some inlet.opening in
+      → (t : State) → IsAt r.last t → (i : ℕ) (file : IsFile plan.setup i) → ((inlet : InletPlan) → slice_get plan.inlets.items i ≡ Some inlet → IsReadingBegun inlet.kind inlet.limit (bytes i) (position_at r.first i)) → position_at r.first i < 2 ^ 63
+      → (inlet : InletRecords) → slice_get t.inlets i ≡ Some inlet → slice_get (o.opening).places i ≡ Some inlet.opening in
       let here : P core =
       λ o t at i file begun low inlet there.
       let own = (holds.core).opens in

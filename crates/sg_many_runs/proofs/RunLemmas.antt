@@ -19,19 +19,18 @@ use Rattle.sg_machine.specs.declared.event.Event.{Event}
 use Rattle.sg_machine.specs.declared.setup.DestSetup.{DestSetup}
 use Rattle.sg_machine.specs.declared.setup.Setup.{Setup}
 use Rattle.sg_machine.specs.declared.setup.SourceSetup.{SourceSetup}
-use Rattle.sg_machine.specs.declared.state.Inlet.{Inlet}
+use Rattle.sg_machine.specs.declared.state.InletRecords.{InletRecords}
 use Rattle.sg_machine.specs.declared.state.State.{State}
 use Rattle.sg_machine.specs.Legal.{is_nil, works, may_rewind, is_legal, is_legal_act}
 use Rattle.sg_machine.specs.Effects.{after}
-use Rattle.sg_machine.specs.Runs.{Kept, Opening, opened_inlet, opened_inlets, opened, after_all, are_legal}
+use Rattle.sg_machine.specs.Runs.{BufferedEntry, opened_inlet, opened_inlets, opened, after_all, are_legal}
 use Rattle.sg_machine.specs.Counts.{ends_by, ends_admitted, opening_by, opening_from}
 use Rattle.sg_machine.specs.Safe.{Images, Safe, nothing}
 use Rattle.sg_machine.proofs.RunLemmas.{are_legal-join, are_legal-parts, both-true, length-inlets}
 use Rattle.sg_machine.proofs.InletLemmas.{counts-inlet}
 use Rattle.sg_sinks.specs.States.{SinkState}
 use Rattle.sg_standing.specs.Images.{positions_in, position_in, AreListsIn, AreImages, AreImagesBetween}
-use Rattle.sg_standing.specs.Standing.{StandsFor}
-use Rattle.sg_standing.specs.States.{CoreState, setup_of}
+use Rattle.sg_standing.specs.States.{setup_of}
 use Rattle.sg_standing.specs.declared.source.Source.{Source}
 use Rattle.sg_stores.specs.Positions.{stored_in}
 use Rattle.sg_stores.specs.Stores.{StoreState}
@@ -40,16 +39,16 @@ use Rattle.sg_run_plan.specs.declared.inlet.InletPlan.{InletPlan}
 use Rattle.sg_serve.specs.Devices.{AreFetching}
 use Rattle.sg_serve.specs.Plan.{IsRunnable}
 use Rattle.sg_serve.specs.Rewinds.{position_at}
-use Rattle.sg_serve.specs.Run.{CoreRun, Reached, HoldsRun, Holds}
+use Rattle.sg_serve.specs.Run.{CoreRun, Reached, HoldsRun, PlanRunHolds}
 use Rattle.sg_serve.specs.declared.ending.PlanEnded.{PlanEnded}
 use Rattle.sg_serve.specs.declared.ending.PlanEnded.TheVariants.{Before, Ran as RanSo}
 use Rattle.sg_run_plan.specs.declared.plan.RunPlan.{RunPlan}
 use Rattle.sg_serve.proofs.ActorLemmas.{store-by-setup}
 use Rattle.sg_many_runs.specs.Pieces.{Piece, pieces, Rise, behind}
-use Rattle.sg_many_runs.specs.Resuming.{IsBegun}
+use Rattle.sg_many_runs.specs.Resuming.{IsReadingBegun}
 use Rattle.sg_many_runs.proofs.ItemRestLemmas.{ends-rise}
 use Rattle.sg_many_runs.specs.Covered.{Pass, Delivery, Offers, IsFile, Covered}
-use Rattle.sg_many_runs.specs.Passes.{AreAdmitted, pieces_of, BeginsWith, IsStopped}
+use Rattle.sg_many_runs.specs.Passes.{AreAdmitted, pieces_of, BeginsWithImages, IsStoppedRun}
 use Rattle.sg_many_runs.specs.Adding.{offers_in, Grow}
 use Rattle.sg_many_runs.proofs.CoverLemmas.{covers-run}
 use Rattle.sg_many_runs.proofs.BeginLemmas.{opened-inlet-at}
@@ -62,13 +61,9 @@ use Rattle.sg_many_runs.proofs.HappenedLemmas.{made-setup, fetch-some, files-her
 use Rattle.sg_many_runs.proofs.MergeLemmas.{admitted-nothing}
 use Rattle.sg_many_runs.proofs.OpenLemmas.{contents, contents-images, contents-lists, begins-with}
 use Rattle.sg_many_runs.proofs.PlaceLemmas.{opening-append}
+use Rattle.sg_one_run.proofs.HeadlineLemmas.{ImagesAreSafe, ImagesBetweenAreSafe}
 
 -- The run as one that was stopped.
-
-abbrev pub ImagesAreSafe : Type 0
-ImagesAreSafe =
-    (setup : Setup) (opening : Opening) (events : List Event) (core : CoreState) (images : List (List ℕ)) (lists : List (List Kept)) → StandsFor core (opened setup opening) events → AreImages core.stores images
-    → AreListsIn core.sinks images lists → Safe (opened setup opening) events nothing (record { positions = positions_in core.sources images; lists = lists })
 
 positions-same : (sources : List Source) (images : List (List ℕ)) → positions_in sources images ≡ positions_by (map (λ (s : Source). s.setup) sources) images
 positions-same [] images = refl
@@ -80,7 +75,7 @@ files-rise plans bytes i (Some plan) q f = ends-rise plan.kind plan.limit (stamp
 
 -- where reading of a file began is a place where its items may begin
 pub begun-at : (plan : RunPlan) (bytes : ℕ → List ℕ) (i : ℕ) (inlet : InletPlan) (from position : ℕ) → slice_get plan.inlets.items i ≡ Some inlet
-    → (position ≡ 0) ⊎ ((piece : Piece) × (Contains (files_of plan.inlets.items bytes i) piece × (piece.end ≡ position))) → (from ≡ position) ⊎ (from ≡ 0) → IsBegun inlet.kind inlet.limit (bytes i) from
+    → (position ≡ 0) ⊎ ((piece : Piece) × (Contains (files_of plan.inlets.items bytes i) piece × (piece.end ≡ position))) → (from ≡ position) ⊎ (from ≡ 0) → IsReadingBegun inlet.kind inlet.limit (bytes i) from
 begun-at plan bytes i inlet from position at (inl none) (inl e) = inl (e ∙ none)
 begun-at plan bytes i inlet from position at (inr y) (inl e) =
     let P : List Piece → Type 0 = λ xs. Contains xs y.0 in
@@ -93,14 +88,14 @@ nil-list : (xs : List ℕ) → is_nil xs ≡ true → xs ≡ []
 nil-list [] h = refl
 nil-list (x ∷ xs) h = grind (arith, h)
 
-rewind-nil : (s : State) (i : ℕ) (failed : List ℕ) (inlet : Inlet) → is_legal_act s (Rewind i) failed ≡ true → slice_get s.inlets i ≡ Some inlet → inlet.ends ≡ []
+rewind-nil : (s : State) (i : ℕ) (failed : List ℕ) (inlet : InletRecords) → is_legal_act s (Rewind i) failed ≡ true → slice_get s.inlets i ≡ Some inlet → inlet.ends ≡ []
 rewind-nil s i failed inlet l h =
-    let P : Option Inlet → Type 0 = λ o. option_map_or (may_rewind s.failed) o false ≡ true in
+    let P : Option InletRecords → Type 0 = λ o. option_map_or (may_rewind s.failed) o false ≡ true in
     let legal = subst P h ((both-true (passes_at s.inlets i (may_rewind s.failed)) (is_nil failed) l).0) in
     let first = both-true (works s.failed inlet.setup.store && is_nil inlet.ends) (not (inlet.stored == 0)) legal in
     nil-list inlet.ends ((both-true (works s.failed inlet.setup.store) (is_nil inlet.ends) first.0).1)
 
-opening-act : (s : State) (act : Act) (failed : List ℕ) (i : ℕ) (inlet : Inlet) → is_legal_act s act failed ≡ true → slice_get s.inlets i ≡ Some inlet → (inlet.ends ++ ends_by i act ≡ [] → ⊥) → opening_by i inlet.opening act ≡ inlet.opening
+opening-act : (s : State) (act : Act) (failed : List ℕ) (i : ℕ) (inlet : InletRecords) → is_legal_act s act failed ≡ true → slice_get s.inlets i ≡ Some inlet → (inlet.ends ++ ends_by i act ≡ [] → ⊥) → opening_by i inlet.opening act ≡ inlet.opening
 opening-act s (Admit j records vs) failed i inlet l h some = refl
 opening-act s (Settle d n) failed i inlet l h some = refl
 opening-act s (Refill d n) failed i inlet l h some = refl
@@ -119,7 +114,7 @@ append-some : (xs ys : List ℕ) → (xs ≡ [] → ⊥) → xs ++ ys ≡ [] →
 append-some [] ys some e = some refl
 append-some (x ∷ xs) ys some e = let long = length-append (x ∷ xs) ys in omega (arith, ap length e, long)
 
-stays : (s : State) (e : Event) (rest : List Event) (i : ℕ) (inlet : Inlet) → are_legal s (e ∷ rest) ≡ true → slice_get s.inlets i ≡ Some inlet → (inlet.ends ++ ends_by i e.act ≡ [] → ⊥) → opening_from i inlet.opening (e ∷ rest) ≡ inlet.opening
+stays : (s : State) (e : Event) (rest : List Event) (i : ℕ) (inlet : InletRecords) → are_legal s (e ∷ rest) ≡ true → slice_get s.inlets i ≡ Some inlet → (inlet.ends ++ ends_by i e.act ≡ [] → ⊥) → opening_from i inlet.opening (e ∷ rest) ≡ inlet.opening
 stays s e [] i inlet l h some = opening-act s e.act e.failed i inlet ((both-true (is_legal s e) true l).0) h some
 stays s e (f ∷ rest) i inlet l h some =
     let p = both-true (is_legal s e) (are_legal (after s e) (f ∷ rest)) l in
@@ -138,10 +133,10 @@ ends-append-admitted : (i : ℕ) (es fs : List Event) → ends_admitted i (es ++
 ends-append-admitted i [] fs = refl
 ends-append-admitted i (e ∷ es) fs = ap (λ (xs : List ℕ). ends_by i e.act ++ xs) (ends-append-admitted i es fs) ∙ sym (append_assoc (ends_by i e.act) (ends_admitted i es) (ends_admitted i fs))
 
-opened-parts : (ss : List SourceSetup) (ps : List ℕ) (i : ℕ) (inlet : Inlet) → slice_get (opened_inlets ss ps) i ≡ Some inlet → inlet.ends ≡ []
+opened-parts : (ss : List SourceSetup) (ps : List ℕ) (i : ℕ) (inlet : InletRecords) → slice_get (opened_inlets ss ps) i ≡ Some inlet → inlet.ends ≡ []
 opened-parts [] ps i inlet h = absurd (let wrong : None ≡ Some inlet = h in cc)
-opened-parts (s ∷ ss) [] zero inlet h = let e = some-same _ inlet h in sym (ap (λ (x : Inlet). x.ends) e)
-opened-parts (s ∷ ss) (p ∷ ps) zero inlet h = let e = some-same _ inlet h in sym (ap (λ (x : Inlet). x.ends) e)
+opened-parts (s ∷ ss) [] zero inlet h = let e = some-same _ inlet h in sym (ap (λ (x : InletRecords). x.ends) e)
+opened-parts (s ∷ ss) (p ∷ ps) zero inlet h = let e = some-same _ inlet h in sym (ap (λ (x : InletRecords). x.ends) e)
 opened-parts (s ∷ ss) [] (suc i) inlet h = opened-parts ss [] i inlet h
 opened-parts (s ∷ ss) (p ∷ ps) (suc i) inlet h = opened-parts ss ps i inlet h
 
@@ -155,19 +150,13 @@ read-part i came rest all held place last (x ∷ mine) q both full opening =
       ap (λ (n : ℕ). behind n held) (sym same) ∙ full.1 ∙ ap (λ (xs : List Piece). xs ++ full.0) both ∙ append_assoc (pieces_of i came) rest full.0,
     )
 
-abbrev pub ImagesBetweenAreSafe : Type 0
-ImagesBetweenAreSafe =
-    (setup : Setup) (opening : Opening) (events : List Event) (core : CoreState) (stands : StandsFor core (opened setup opening) events) (k : ℕ) (event : Event) (images : List (List ℕ)) (lists : List (List Kept)) → slice_get events k ≡ Some event
-    → AreImagesBetween core.stores (stands.moments.rows k) (stands.moments.rows (k + 1)) images → AreListsIn core.sinks images lists
-    → Safe (opened setup opening) (take k events) event (record { positions = positions_in core.sources images; lists = lists })
-
 -- the laws of what a stop leaves
-pub record Laws : Type 0 where
+pub record LawsOfImages : Type 0 where
   pub now : ImagesAreSafe
   pub between : ImagesBetweenAreSafe
 
 -- the lists are those of the core's destinations
-lists-in : (plan : RunPlan) (run : CoreRun) (images : List (List ℕ)) (lists : List (List Kept)) → setup_of run.last ≡ plan.setup → AreListsBy plan.setup.dests images lists → AreListsIn run.last.sinks images lists
+lists-in : (plan : RunPlan) (run : CoreRun) (images : List (List ℕ)) (lists : List (List BufferedEntry)) → setup_of run.last ≡ plan.setup → AreListsBy plan.setup.dests images lists → AreListsIn run.last.sinks images lists
 lists-in plan run images lists setups in_lists =
     let dests : map (λ (k : SinkState). k.setup) run.last.sinks ≡ plan.setup.dests = ap (λ (s : Setup). s.dests) setups in
     record {
@@ -189,7 +178,7 @@ pub record Held (files : Option Files) (plan : RunPlan) (reached : Reached) (run
   pub setups : setup_of run.last ≡ plan.setup
 
 pub held-of : {R I O : Type 0} (feed : I → InletState) (drain : O → OutletState) (offers : R → ℕ → Record → List Offer → Type 0) (inlets dests : R → ℕ) (files : Option Files) (plan : RunPlan) (routers : List R) (rounds : ℕ) (reached : Reached)
-    (core : Option CoreRun) (ending : PlanEnded) (run : CoreRun) → Holds feed drain offers inlets dests files plan routers rounds reached core ending → core ≡ Some run → Held files plan reached run
+    (core : Option CoreRun) (ending : PlanEnded) (run : CoreRun) → PlanRunHolds feed drain offers inlets dests files plan routers rounds reached core ending → core ≡ Some run → Held files plan reached run
 held-of feed drain offers inlets dests files plan routers rounds reached None ending run h q = absurd (let wrong : None ≡ Some run = q in cc)
 held-of feed drain offers inlets dests files plan routers rounds reached (Some core) (Before early) run (holds, stays) q =
     let P : CoreRun → Type 0 = λ r. Held files plan reached r in
@@ -219,9 +208,9 @@ ends-grown setup items more before grow are i position file at =
     ]
 
 -- where reading of each file began is a place where its items may begin
-pub begun-first : (plan : RunPlan) (reached : Reached) (run : CoreRun) (o : IsOpen plan.setup reached.stores run.first) (bytes : ℕ → List ℕ) (lists : List (List Kept)) → IsRunnable plan → NumberStores plan.setup (length reached.stores) → AllTell reached.stores
+pub begun-first : (plan : RunPlan) (reached : Reached) (run : CoreRun) (o : IsOpen plan.setup reached.stores run.first) (bytes : ℕ → List ℕ) (lists : List (List BufferedEntry)) → IsRunnable plan → NumberStores plan.setup (length reached.stores) → AllTell reached.stores
     → AreEnds plan.setup (files_of plan.inlets.items bytes) (held_by plan.setup (contents reached.stores) lists) → (i : ℕ) (inlet : InletPlan) (from : ℕ) → IsFile plan.setup i → slice_get plan.inlets.items i ≡ Some inlet
-    → (from ≡ position_at run.first i) ⊎ (from ≡ 0) → IsBegun inlet.kind inlet.limit (bytes i) from
+    → (from ≡ position_at run.first i) ⊎ (from ≡ 0) → IsReadingBegun inlet.kind inlet.limit (bytes i) from
 begun-first plan reached run o bytes lists runnable numbers tells are i inlet from file at place =
     let begins = begins-with plan.setup reached.stores run.first o numbers tells in
     let before = held_by plan.setup (contents reached.stores) (o.opening).entries in
@@ -242,10 +231,10 @@ begun-first plan reached run o bytes lists runnable numbers tells are i inlet fr
 record Known (offers : Offers) (files : Option Files) (plan : RunPlan) (reached : Reached) (run : CoreRun) (items : ℕ → List Piece) (bytes : ℕ → List ℕ) (taken : List Delivery) (passes : List Pass) (places : ℕ → ℕ) (h : Happened offers files plan reached run) : Type 0 where
   runnable : IsRunnable plan
   held : Held files plan reached run
-  begins : BeginsWith plan.setup (held_by plan.setup (contents reached.stores) ((h.opens).opening).entries) (h.opens).opening
+  begins : BeginsWithImages plan.setup (held_by plan.setup (contents reached.stores) ((h.opens).opening).entries) (h.opens).opening
   grow : Grow items (files_of plan.inlets.items bytes)
   first : Covered plan.setup offers items taken passes places (held_by plan.setup (contents reached.stores) ((h.opens).opening).entries)
-  reads : (i : ℕ) (inlet : Inlet) → IsFile plan.setup i → slice_get (after_all (opened plan.setup (h.opens).opening) (run.prelude ++ h.later)).inlets i ≡ Some inlet
+  reads : (i : ℕ) (inlet : InletRecords) → IsFile plan.setup i → slice_get (after_all (opened plan.setup (h.opens).opening) (run.prelude ++ h.later)).inlets i ≡ Some inlet
       → (later : List Piece) × (behind inlet.opening (files_of plan.inlets.items bytes i) ≡ pieces_of i h.came ++ later)
 
 known-of : (offers : Offers) (files : Option Files) (plan : RunPlan) (reached : Reached) (run : CoreRun) (items : ℕ → List Piece) (bytes : ℕ → List ℕ) (taken : List Delivery) (passes : List Pass) (places : ℕ → ℕ) (h : Happened offers files plan reached run) → IsRunnable plan
@@ -275,7 +264,7 @@ known-of offers files plan reached run items bytes taken passes places h runnabl
           let is : c.0 ≡ inlet = some-same c.0 inlet (sym c.1 ∙ at) in
           let sources : (setup_of run.first).sources ≡ plan.setup.sources = ap (λ (s : Setup). s.sources) o.setups in
           let stored : position ≡ position_at run.first i = ap (λ (x : Option ℕ). stored_in run.first.stores x) (sym (store-by-setup run.first plan.setup.sources i file.source sources file.at)) in
-          let from : inlet.opening ≡ opening_from i position events = sym (ap (λ (x : Inlet). x.opening) is) ∙ c.2.opening in
+          let from : inlet.opening ≡ opening_from i position events = sym (ap (λ (x : InletRecords). x.opening) is) ∙ c.2.opening in
           let place : (inlet.opening ≡ position_at run.first i) ⊎ (inlet.opening ≡ 0) = elim (opening-or-zero i position events) [ inl e ↦ inl (from ∙ e ∙ stored) | inr e ↦ inr (from ∙ e) ] in
           h.reads bytes i mine.0 inlet tell file mine.1 at (begun-first plan reached run o bytes opening.entries runnable numbers tells are i mine.0 inlet.opening file mine.1 place));
     }
@@ -286,12 +275,12 @@ known-of offers files plan reached run items bytes taken passes places h runnabl
 covers-stop : (offers : Offers) (files : Option Files) (plan : RunPlan) (reached : Reached) (run : CoreRun) (items : ℕ → List Piece) (bytes : ℕ → List ℕ) (taken : List Delivery) (passes : List Pass) (places : ℕ → ℕ) (h : Happened offers files plan reached run)
     → Known offers files plan reached run items bytes taken passes places h → (es : List Event) (e : Event) (came : List Pass) (images : Images) → are_legal (opened plan.setup (h.opens).opening) (es ++ e ∷ []) ≡ true → Safe (opened plan.setup (h.opens).opening) es e images
     → AreAdmitted offers (es ++ e ∷ []) came
-    → ((i : ℕ) (inlet : Inlet) → IsFile plan.setup i → slice_get (after_all (opened plan.setup (h.opens).opening) es).inlets i ≡ Some inlet → (later : List Piece) × (behind inlet.opening (files_of plan.inlets.items bytes i) ≡ pieces_of i came ++ later))
+    → ((i : ℕ) (inlet : InletRecords) → IsFile plan.setup i → slice_get (after_all (opened plan.setup (h.opens).opening) es).inlets i ≡ Some inlet → (later : List Piece) × (behind inlet.opening (files_of plan.inlets.items bytes i) ≡ pieces_of i came ++ later))
     → CoversStop plan.setup offers (held_by plan.setup (contents reached.stores) ((h.opens).opening).entries) taken passes places (stopped_with plan bytes (h.opens).opening es e came images)
 covers-stop offers files plan reached run items bytes taken passes places h known es e came images legal safe admitted reads =
     let o = h.opens in
     let before = held_by plan.setup (contents reached.stores) (o.opening).entries in
-    let stopped : IsStopped plan.setup offers before (stopped_with plan bytes o.opening es e came images) = record {
+    let stopped : IsStoppedRun plan.setup offers before (stopped_with plan bytes o.opening es e came images) = record {
       begins = known.begins;
       legal = legal;
       safe = safe;
@@ -306,7 +295,7 @@ covers-stop offers files plan reached run items bytes taken passes places h know
 
 -- at the return
 covers-return : (offers : Offers) (files : Option Files) (plan : RunPlan) (reached : Reached) (run : CoreRun) (items : ℕ → List Piece) (bytes : ℕ → List ℕ) (taken : List Delivery) (passes : List Pass) (places : ℕ → ℕ) (h : Happened offers files plan reached run)
-    → Laws → Known offers files plan reached run items bytes taken passes places h
+    → LawsOfImages → Known offers files plan reached run items bytes taken passes places h
     → EachChoice plan.setup reached.stores_closed
     (λ images. CoversStop plan.setup offers (held_by plan.setup (contents reached.stores) ((h.opens).opening).entries) taken passes places (stopped_with plan bytes (h.opens).opening (run.prelude ++ h.later) nothing h.came images))
 covers-return offers files plan reached run items bytes taken passes places h laws known images lists are in_lists =
@@ -332,12 +321,12 @@ pub record Stop (offers : Offers) (files : Option Files) (plan : RunPlan) (reach
   pub rest : List Pass
   pub came_are : h.came ≡ came ++ rest
   pub admits : AreAdmitted offers (events ++ event ∷ []) came
-  pub each : (lists : List (List Kept)) → AreListsBy plan.setup.dests images lists
+  pub each : (lists : List (List BufferedEntry)) → AreListsBy plan.setup.dests images lists
       → CoversStop plan.setup offers (held_by plan.setup (contents reached.stores) ((h.opens).opening).entries) taken passes places (stopped_with plan bytes (h.opens).opening events event came (held_by plan.setup images lists))
 
 -- within an event
 covers-within : (offers : Offers) (files : Option Files) (plan : RunPlan) (reached : Reached) (run : CoreRun) (items : ℕ → List Piece) (bytes : ℕ → List ℕ) (taken : List Delivery) (passes : List Pass) (places : ℕ → ℕ) (h : Happened offers files plan reached run)
-    → Laws → (known : Known offers files plan reached run items bytes taken passes places h) → (k : ℕ) (event : Event) (images : List (List ℕ)) → slice_get (run.prelude ++ h.later) k ≡ Some event
+    → LawsOfImages → (known : Known offers files plan reached run items bytes taken passes places h) → (k : ℕ) (event : Event) (images : List (List ℕ)) → slice_get (run.prelude ++ h.later) k ≡ Some event
     → AreImagesBetween run.last.stores (((h.ran).stands).moments.rows k) (((h.ran).stands).moments.rows (k + 1)) images → Stop offers files plan reached run bytes taken passes places h (take k (run.prelude ++ h.later)) event images
 covers-within offers files plan reached run items bytes taken passes places h laws known k event images at between =
     let start = opened plan.setup (h.opens).opening in
@@ -353,7 +342,7 @@ covers-within offers files plan reached run items bytes taken passes places h la
     let rest = parts.1.0 in
     let L : List Event → Type 0 = λ xs. are_legal start xs ≡ true in
     let legals = are_legal-parts start (es ++ event ∷ []) later (subst L split ((h.ran).stands).legal) in
-    let reads : (i : ℕ) (inlet : Inlet) → IsFile plan.setup i → slice_get (after_all start es).inlets i ≡ Some inlet → (more : List Piece) × (behind inlet.opening (held i) ≡ pieces_of i came ++ more) =
+    let reads : (i : ℕ) (inlet : InletRecords) → IsFile plan.setup i → slice_get (after_all start es).inlets i ≡ Some inlet → (more : List Piece) × (behind inlet.opening (held i) ≡ pieces_of i came ++ more) =
     λ i inlet file here.
     let low = slice_get-below (after_all start es).inlets i inlet here in
     let wide = length-inlets start es in
@@ -368,14 +357,14 @@ covers-within offers files plan reached run items bytes taken passes places h la
     admitted-ends offers i (es ++ event ∷ []) came parts.1.1.1
     ∙ ends-append-admitted i es (event ∷ [])
     ∙ ap (λ (xs : List ℕ). ends_admitted i es ++ xs) (append-nil (ends_by i event.act))
-    ∙ ap (λ (xs : List ℕ). xs ++ ends_by i event.act) (sym (ap (λ (xs : List ℕ). xs ++ ends_admitted i es) none) ∙ sym half.2.ends ∙ ap (λ (x : Inlet). x.ends) is) in
+    ∙ ap (λ (xs : List ℕ). xs ++ ends_by i event.act) (sym (ap (λ (xs : List ℕ). xs ++ ends_admitted i es) none) ∙ sym half.2.ends ∙ ap (λ (x : InletRecords). x.ends) is) in
     let behind_them = legal-behind start es event later (subst L (split ∙ append_assoc es (event ∷ []) later) ((h.ran).stands).legal) in
     let opening : (ends (pieces_of i came) ≡ [] → ⊥) → (all.0).opening ≡ inlet.opening =
     λ some.
     all.2.opening
     ∙ ap (opening_from i (one.0).opening) (split ∙ append_assoc es (event ∷ []) later)
     ∙ opening-append i (one.0).opening es (event ∷ later)
-    ∙ ap (λ (n : ℕ). opening_from i n (event ∷ later)) (sym half.2.opening ∙ ap (λ (x : Inlet). x.opening) is)
+    ∙ ap (λ (n : ℕ). opening_from i n (event ∷ later)) (sym half.2.opening ∙ ap (λ (x : InletRecords). x.opening) is)
     ∙ stays (after_all start es) event later i inlet behind_them here (λ e. some (ends_are ∙ e)) in
     read-part i came (pieces_of i rest) (pieces_of i h.came) (held i) inlet.opening (all.0).opening (pieces_of i came) refl both full opening in
     record {
@@ -394,7 +383,7 @@ covers-within offers files plan reached run items bytes taken passes places h la
 -- The whole.
 
 leaves : (offers : Offers) (files : Option Files) (plan : RunPlan) (reached : Reached) (run : CoreRun) (items : ℕ → List Piece) (bytes : ℕ → List ℕ) (taken : List Delivery) (passes : List Pass) (places : ℕ → ℕ) (h : Happened offers files plan reached run)
-    → Laws → AllTell reached.stores → Known offers files plan reached run items bytes taken passes places h → LeavesCovered h bytes taken passes places
+    → LawsOfImages → AllTell reached.stores → Known offers files plan reached run items bytes taken passes places h → LeavesCovered h bytes taken passes places
 leaves offers files plan reached run items bytes taken passes places h laws tells known = record {
   first = contents reached.stores;
   first_are = contents-images reached.stores tells;
@@ -405,7 +394,7 @@ leaves offers files plan reached run items bytes taken passes places h laws tell
       (s.came, (s.rest, (s.came_are, s.each lists in_lists))));
 }
 
-pub covers : {R I O : Type 0} (feed : I → InletState) (drain : O → OutletState) (offers : R → ℕ → Record → List Offer → Type 0) (inlets dests : R → ℕ) → Laws → PlanRunsCover feed drain offers inlets dests
+pub covers : {R I O : Type 0} (feed : I → InletState) (drain : O → OutletState) (offers : R → ℕ → Record → List Offer → Type 0) (inlets dests : R → ℕ) → LawsOfImages → PlanRunsCover feed drain offers inlets dests
 covers feed drain offers inlets dests laws old new plan routers by rounds ending reached run h bytes taken passes places runnable runs core tells tell covered =
     let held = held-of feed drain offers inlets dests old.files plan routers rounds reached reached.core ending run runs.holds core in
     let first = covered (contents reached.stores) ((h.opens).opening).entries (contents-images reached.stores tells) (contents-lists plan.setup reached.stores run.first h.opens tells) in
@@ -415,7 +404,7 @@ covers feed drain offers inlets dests laws old new plan routers by rounds ending
 
 -- each stop of a run that found covered what the contents of its stores hold, over files that have grown since
 pub stop-of : (offers : Offers) (files : Option Files) (plan : RunPlan) (reached : Reached) (run : CoreRun) (items : ℕ → List Piece) (bytes : ℕ → List ℕ) (taken : List Delivery) (passes : List Pass) (places : ℕ → ℕ) (h : Happened offers files plan reached run)
-    → Laws → IsRunnable plan → Held files plan reached run → AllTell reached.stores → TellFiles files plan reached.inlets bytes → Grow items (files_of plan.inlets.items bytes)
+    → LawsOfImages → IsRunnable plan → Held files plan reached run → AllTell reached.stores → TellFiles files plan reached.inlets bytes → Grow items (files_of plan.inlets.items bytes)
     → Covered plan.setup offers items taken passes places (held_by plan.setup (contents reached.stores) ((h.opens).opening).entries)
     → (events : List Event) (event : Event) (images : List (List ℕ)) → StopsWithin h events event images ⊎ StopsThen h events event images → Stop offers files plan reached run bytes taken passes places h events event images
 stop-of offers files plan reached run items bytes taken passes places h laws runnable held tells tell grow first events event images (inl w) =

@@ -6,16 +6,16 @@ use Rattle.std.proofs.lemmas.List.Elements.{Contains-append_left, Contains-appen
 use Rattle.sg_list.proofs.ListLemmas.{slice_get-some, slice_get-below}
 use Rattle.sg_msg.specs.declared.offer.Offer.{Offer}
 use Rattle.sg_machine.specs.declared.setup.Setup.{Setup}
-use Rattle.sg_machine.specs.Runs.{Kept}
+use Rattle.sg_machine.specs.Runs.{BufferedEntry}
 use Rattle.sg_machine.specs.Safe.{Images}
 use Rattle.sg_machine.proofs.RunLemmas.{length-inlets, length-opened_inlets}
 use Rattle.sg_many_runs.specs.Pieces.{Piece, Rise}
-use Rattle.sg_many_runs.specs.Covered.{Pass, Delivery, Offers, IsFile, as_given, as_stored, entry_of, taking_of, list_at, IsHeld, IsKeptSafe, IsPassed, IsOfferOf, Covered}
-use Rattle.sg_many_runs.specs.Passes.{Stopped, taken_in, IsStopped}
+use Rattle.sg_many_runs.specs.Covered.{Pass, Delivery, Offers, IsFile, as_given, as_stored, entry_of, taking_of, list_at, IsOfferHeld, IsKeptSafe, IsPassed, IsOfferOf, Covered}
+use Rattle.sg_many_runs.specs.Passes.{Stopped, taken_in, IsStoppedRun}
 use Rattle.sg_many_runs.specs.Adding.{Follow, all_taken, all_passes, position_in, EndsClean, IsTaken, IsTakingOf, IsEntryIn, TakeOffers, AddUp, AreFresh}
 use Rattle.sg_many_runs.proofs.HasLemmas.{has-nil}
 use Rattle.sg_many_runs.proofs.PieceLemmas.{above-zero, rising}
-use Rattle.sg_many_runs.proofs.OfferLemmas.{offer-more, IsGiven, events-given, events-weaken}
+use Rattle.sg_many_runs.proofs.OfferLemmas.{offer-more, IsOfferGiven, events-given, events-weaken}
 use Rattle.sg_many_runs.proofs.CoverLemmas.{start_of, run-holds, covers-run}
 
 abbrev pub images_behind : Images → List Stopped → Images
@@ -48,19 +48,19 @@ covers-all setup offers files taken passes old before (run ∷ runs) c f =
     subst Q (append_assoc passes run.passes (all_passes runs)) (subst P (append_assoc taken (taken_in setup run) (all_taken setup runs)) all)
 
 -- the last one, which began with some images
-follow-last : (setup : Setup) (offers : Offers) (files : ℕ → List Piece) (before : Images) (runs : List Stopped) (last : Stopped) → Follow setup offers files before (runs ++ last ∷ []) → (images : Images) × IsStopped setup offers images last
+follow-last : (setup : Setup) (offers : Offers) (files : ℕ → List Piece) (before : Images) (runs : List Stopped) (last : Stopped) → Follow setup offers files before (runs ++ last ∷ []) → (images : Images) × IsStoppedRun setup offers images last
 follow-last setup offers files before [] last f = (before, f.1)
 follow-last setup offers files before (run ∷ runs) last f = follow-last setup offers run.files run.images runs last f.2
 
-none-held : (setup : Setup) (taken : List Delivery) (images : Images) (p : Pass) (o : Offer) → list_at setup images o.dest ≡ [] → IsHeld setup taken images p o → Contains taken (taking_of o)
+none-held : (setup : Setup) (taken : List Delivery) (images : Images) (p : Pass) (o : Offer) → list_at setup images o.dest ≡ [] → IsOfferHeld setup taken images p o → Contains taken (taking_of o)
 none-held setup taken images p o none (inl t) = t
-none-held setup taken images p o none (inr m) = let P : List Kept → Type 0 = λ ks. Contains ks (entry_of p o) in absurd (has-nil (entry_of p o) (subst P none m))
+none-held setup taken images p o none (inr m) = let P : List BufferedEntry → Type 0 = λ ks. Contains ks (entry_of p o) in absurd (has-nil (entry_of p o) (subst P none m))
 
 is-taken : (setup : Setup) (taken : List Delivery) (images : Images) (old : ℕ) (p : Pass) (o : Offer) → list_at setup images o.dest ≡ [] → IsKeptSafe setup taken images old p o → IsTaken taken old p o
 is-taken setup taken images old p o none (inl a) = inl (none-held setup taken images p o none a)
 is-taken setup taken images old p o none (inr b) = inr (b.0, none-held setup taken images p (as_stored o) none b.1)
 
-every-record : (setup : Setup) (offers : Offers) (taken : List Delivery) (passes : List Pass) (old : ℕ → ℕ) (images : Images) (last : Stopped) → Covered setup offers last.files taken passes old last.images → EndsClean setup last.files last.images → IsStopped setup offers images last
+every-record : (setup : Setup) (offers : Offers) (taken : List Delivery) (passes : List Pass) (old : ℕ → ℕ) (images : Images) (last : Stopped) → Covered setup offers last.files taken passes old last.images → EndsClean setup last.files last.images → IsStoppedRun setup offers images last
     → (i : ℕ) (x : Piece) → IsFile setup i → Contains (last.files i) x → IsPassed offers (IsTaken taken (old i)) passes i x
 every-record setup offers taken passes old images last covered clean h i x file c =
     let many = h.safe.images_at.every_position in
@@ -74,14 +74,14 @@ every-record setup offers taken passes old images last covered clean h i x file 
 -- Nothing else is taken.
 
 -- an entry is an offer of one of these passes, or stood in the stores at the start, in stored form
-abbrev IsDue : Setup → Offers → Images → List Pass → List Pass → ℕ → Kept → Type 0
-IsDue setup offers started first passes d k = IsOfferOf as_given offers passes d k ⊎ (IsOfferOf as_stored offers first d k × Contains (list_at setup started d) k)
+abbrev IsStopDue : Setup → Offers → Images → List Pass → List Pass → ℕ → BufferedEntry → Type 0
+IsStopDue setup offers started first passes d k = IsOfferOf as_given offers passes d k ⊎ (IsOfferOf as_stored offers first d k × Contains (list_at setup started d) k)
 
-due-more : (setup : Setup) (offers : Offers) (started : Images) (first a b : List Pass) (d : ℕ) (k : Kept) → ((p : Pass) → Contains a p → Contains b p) → IsDue setup offers started first a d k → IsDue setup offers started first b d k
+due-more : (setup : Setup) (offers : Offers) (started : Images) (first a b : List Pass) (d : ℕ) (k : BufferedEntry) → ((p : Pass) → Contains a p → Contains b p) → IsStopDue setup offers started first a d k → IsStopDue setup offers started first b d k
 due-more setup offers started first a b d k more (inl o) = inl (offer-more as_given offers a b d k more o)
 due-more setup offers started first a b d k more (inr o) = inr o
 
-taking-is : (form : Offer → Offer) (offers : Offers) (passes : List Pass) (t : Delivery) (k : Kept) → ((o : Offer) → (form o).dest ≡ o.dest) → t ≡ record { dest = t.dest; message = k.message } → IsOfferOf form offers passes t.dest k → IsTakingOf form offers passes t
+taking-is : (form : Offer → Offer) (offers : Offers) (passes : List Pass) (t : Delivery) (k : BufferedEntry) → ((o : Offer) → (form o).dest ≡ o.dest) → t ≡ record { dest = t.dest; message = k.message } → IsOfferOf form offers passes t.dest k → IsTakingOf form offers passes t
 taking-is form offers passes t k same is o =
     record {
       pass = o.pass;
@@ -91,30 +91,30 @@ taking-is form offers passes t k same is o =
       offer = o.offer;
       among = o.among;
       taking = is
-          ∙ ap (λ (x : Kept). let y : Delivery = record { dest = t.dest; message = x.message } in y) o.entry
+          ∙ ap (λ (x : BufferedEntry). let y : Delivery = record { dest = t.dest; message = x.message } in y) o.entry
           ∙ ap (λ (n : ℕ). let y : Delivery = record { dest = n; message = (form o.offer).message } in y) (sym o.dest ∙ sym (same o.offer));
     }
 
-taking-due : (setup : Setup) (offers : Offers) (started : Images) (first passes : List Pass) (t : Delivery) (k : Kept) → t ≡ record { dest = t.dest; message = k.message } → IsDue setup offers started first passes t.dest k
+taking-due : (setup : Setup) (offers : Offers) (started : Images) (first passes : List Pass) (t : Delivery) (k : BufferedEntry) → t ≡ record { dest = t.dest; message = k.message } → IsStopDue setup offers started first passes t.dest k
     → IsTakingOf as_given offers passes t ⊎ (IsTakingOf as_stored offers first t × IsEntryIn setup started t)
 taking-due setup offers started first passes t k is (inl o) = inl (taking-is as_given offers passes t k (λ x. refl) is o)
 taking-due setup offers started first passes t k is (inr o) = inr (taking-is as_stored offers first t k (λ x. refl) is o.0, (k, (o.1, is)))
 
-no-other : (setup : Setup) (offers : Offers) (files : ℕ → List Piece) (started : Images) (first passes : List Pass) (before : Images) (runs : List Stopped) → ((d : ℕ) (k : Kept) → Contains (list_at setup before d) k → IsDue setup offers started first passes d k)
+no-other : (setup : Setup) (offers : Offers) (files : ℕ → List Piece) (started : Images) (first passes : List Pass) (before : Images) (runs : List Stopped) → ((d : ℕ) (k : BufferedEntry) → Contains (list_at setup before d) k → IsStopDue setup offers started first passes d k)
     → Follow setup offers files before runs → TakeOffers setup offers started first passes runs
 no-other setup offers files started first passes before [] due f = tt
 no-other setup offers files started first passes before (run ∷ runs) due f =
     let all = passes ++ run.passes in
-    let P : ℕ → Kept → Type 0 = IsDue setup offers started first all in
+    let P : ℕ → BufferedEntry → Type 0 = IsStopDue setup offers started first all in
     let given = events-given offers _ all run.passes (λ p c. Contains-append_right passes run.passes p c) f.1.admits in
-    let events = events-weaken (IsGiven offers all) P _ (λ d k o. inl o) given in
+    let events = events-weaken (IsOfferGiven offers all) P _ (λ d k o. inl o) given in
     let r = run-holds P setup offers before run f.1 (λ d k c. due-more setup offers started first passes all d k (λ p m. Contains-append_left passes run.passes p m) (due d k c)) events in (
       λ t c. (let k = r.taken t c in taking-due setup offers started first all t k.0 k.1.1 k.1.0),
       no-other setup offers run.files started first all run.images runs r.lists f.2,
     )
 
-started-due : (setup : Setup) (offers : Offers) (files : ℕ → List Piece) (taken : List Delivery) (passes : List Pass) (old : ℕ → ℕ) (before : Images) → Covered setup offers files taken passes old before → (d : ℕ) (k : Kept) → Contains (list_at setup before d) k
-    → IsDue setup offers before passes passes d k
+started-due : (setup : Setup) (offers : Offers) (files : ℕ → List Piece) (taken : List Delivery) (passes : List Pass) (old : ℕ → ℕ) (before : Images) → Covered setup offers files taken passes old before → (d : ℕ) (k : BufferedEntry) → Contains (list_at setup before d) k
+    → IsStopDue setup offers before passes passes d k
 started-due setup offers files taken passes old before c d k m = elim (c.entries d k m) [ inl o ↦ inl o | inr o ↦ inr (o, m) ]
 
 -- The whole.
@@ -138,5 +138,5 @@ pub fresh-covered : (setup : Setup) (offers : Offers) (files : ℕ → List Piec
 fresh-covered setup offers files old images rises fresh = record {
   positions = λ i position file at. inl (fresh.positions i position at);
   items = λ i position x file at c low. (let none = fresh.positions i position at in let above = above-zero (files i) x (rising 0 (files i) (rises i)) c in absurd (omega (arith, none, above, low)));
-  entries = λ d k c. (let P : List Kept → Type 0 = λ ks. Contains ks k in absurd (has-nil k (subst P (fresh.lists d) c)));
+  entries = λ d k c. (let P : List BufferedEntry → Type 0 = λ ks. Contains ks k in absurd (has-nil k (subst P (fresh.lists d) c)));
 }

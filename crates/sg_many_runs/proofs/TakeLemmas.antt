@@ -15,14 +15,14 @@ use Rattle.sg_machine.specs.declared.state.State.{State}
 use Rattle.sg_machine.specs.Verdicts.{Claim, claims_in, claims_from, claims_of, origin_of, judged_at, judged, take_claim, take_offer}
 use Rattle.sg_machine.specs.Legal.{is_same_list, may_admit, is_legal, is_legal_act}
 use Rattle.sg_machine.specs.Effects.{next_of, after}
-use Rattle.sg_machine.specs.Runs.{Kept, are_legal}
+use Rattle.sg_machine.specs.Runs.{BufferedEntry, are_legal}
 use Rattle.sg_machine.specs.Counts.{is_dropped, kept_offers, keeps_of, kept_of_inlet, flow_drops_of, flow_drops_by}
 use Rattle.sg_machine.specs.Safe.{kept_from}
 use Rattle.sg_machine.proofs.RunLemmas.{both-true}
 use Rattle.sg_machine.proofs.FlowLemmas.{flow_drops-none, mapped-some, then-some}
 use Rattle.sg_many_runs.specs.Covered.{Pass, Offers, entry_of}
-use Rattle.sg_many_runs.specs.Passes.{AreRead, ReadsBy, AreAdmitted}
-use Rattle.sg_many_runs.specs.Once.{Given, AreGiven, owed_by, owed_to, dropped_of, dropped_by, dropped_in, less, AreUnflowed, TakesOnce}
+use Rattle.sg_many_runs.specs.Passes.{AreRecordsRead, ReadsByAct, AreAdmitted}
+use Rattle.sg_many_runs.specs.Once.{Given, AreGiven, owed_by, owed_to, dropped_of, dropped_by, dropped_in, less, AreEntriesUnflowed, TakesOnce}
 use Rattle.sg_standing.proofs.Frozen.{length-dests}
 use Rattle.sg_one_run.proofs.TextLemmas.{suc-same, judged-lengths}
 use Rattle.sg_many_runs.proofs.PassLemmas.{judged-there}
@@ -32,48 +32,48 @@ use Rattle.sg_many_runs.proofs.PassLemmas.{judged-there}
 pub takes-none : TakesOnce [] [] []
 takes-none = record { each = refl; unflowed = tt; all = refl }
 
-less-one : (m : Bool) (k : Kept) (xs ys zs : List Kept) → xs ≡ ys ++ zs → (if m then xs else k ∷ xs) ≡ (if m then ys else k ∷ ys) ++ zs
+less-one : (m : Bool) (k : BufferedEntry) (xs ys zs : List BufferedEntry) → xs ≡ ys ++ zs → (if m then xs else k ∷ xs) ≡ (if m then ys else k ∷ ys) ++ zs
 less-one true k xs ys zs h = h
-less-one false k xs ys zs h = ap (λ (ks : List Kept). k ∷ ks) h
+less-one false k xs ys zs h = ap (λ (ks : List BufferedEntry). k ∷ ks) h
 
-less-append : (ms ns : List Bool) (ks ls : List Kept) → length ms ≡ length ks → less (ms ++ ns) (ks ++ ls) ≡ less ms ks ++ less ns ls
+less-append : (ms ns : List Bool) (ks ls : List BufferedEntry) → length ms ≡ length ks → less (ms ++ ns) (ks ++ ls) ≡ less ms ks ++ less ns ls
 less-append [] ns [] ls h = refl
 less-append [] ns (k ∷ ks) ls h = absurd (omega (arith, h))
 less-append (m ∷ ms) ns [] ls h = absurd (omega (arith, h))
 less-append (m ∷ ms) ns (k ∷ ks) ls h = less-one m k (less (ms ++ ns) (ks ++ ls)) (less ms ks) (less ns ls) (less-append ms ns ks ls (suc-same (length ms) (length ks) h))
 
-unflowed-append : (ms ns : List Bool) (ks ls : List Kept) → length ms ≡ length ks → AreUnflowed ms ks → AreUnflowed ns ls → AreUnflowed (ms ++ ns) (ks ++ ls)
+unflowed-append : (ms ns : List Bool) (ks ls : List BufferedEntry) → length ms ≡ length ks → AreEntriesUnflowed ms ks → AreEntriesUnflowed ns ls → AreEntriesUnflowed (ms ++ ns) (ks ++ ls)
 unflowed-append [] ns [] ls h a b = b
 unflowed-append [] ns (k ∷ ks) ls h a b = absurd (omega (arith, h))
 unflowed-append (m ∷ ms) ns [] ls h a b = absurd (omega (arith, h))
 unflowed-append (m ∷ ms) ns (k ∷ ks) ls h a b = (a.0, unflowed-append ms ns ks ls (suc-same (length ms) (length ks) h) a.1 b)
 
-pub takes-append : (ms ns : List Bool) (ks ls xs ys : List Kept) → TakesOnce ms ks xs → TakesOnce ns ls ys → TakesOnce (ms ++ ns) (ks ++ ls) (xs ++ ys)
+pub takes-append : (ms ns : List Bool) (ks ls xs ys : List BufferedEntry) → TakesOnce ms ks xs → TakesOnce ns ls ys → TakesOnce (ms ++ ns) (ks ++ ls) (xs ++ ys)
 takes-append ms ns ks ls xs ys a b = record {
   each = length-append ms ns ∙ ap (λ (n : ℕ). n + length ns) a.each ∙ ap (λ (n : ℕ). length ks + n) b.each ∙ sym (length-append ks ls);
   unflowed = unflowed-append ms ns ks ls a.each a.unflowed b.unflowed;
-  all = ap (λ (zs : List Kept). zs ++ ys) a.all ∙ ap (λ (zs : List Kept). less ms ks ++ zs) b.all ∙ sym (less-append ms ns ks ls a.each);
+  all = ap (λ (zs : List BufferedEntry). zs ++ ys) a.all ∙ ap (λ (zs : List BufferedEntry). less ms ks ++ zs) b.all ∙ sym (less-append ms ns ks ls a.each);
 }
 
-pub takes-same : (ms : List Bool) (ks ls xs ys : List Kept) → ks ≡ ls → xs ≡ ys → TakesOnce ms ks xs → TakesOnce ms ls ys
+pub takes-same : (ms : List Bool) (ks ls xs ys : List BufferedEntry) → ks ≡ ls → xs ≡ ys → TakesOnce ms ks xs → TakesOnce ms ls ys
 takes-same ms ks ls xs ys e f t =
-    let P : List Kept → Type 0 = λ zs. TakesOnce ms zs xs in
-    let Q : List Kept → Type 0 = λ zs. TakesOnce ms ls zs in
+    let P : List BufferedEntry → Type 0 = λ zs. TakesOnce ms zs xs in
+    let Q : List BufferedEntry → Type 0 = λ zs. TakesOnce ms ls zs in
     subst Q f (subst P e t)
 
 -- Claims.
 
 -- what claims owe d
-abbrev claims_owe : (d i : ℕ) → List Claim → List Kept
+abbrev claims_owe : (d i : ℕ) → List Claim → List BufferedEntry
 claims_owe d i [] = []
 claims_owe d i (c ∷ cs) = if c.offer.dest == d then kept_from i c ∷ claims_owe d i cs else claims_owe d i cs
 
 -- one claim more, by whether it is one to d, and whether it is dropped
-takes-one : (b dropped : Bool) (k : Kept) (ms : List Bool) (ks xs : List Kept) → (dropped ≡ true → k.flow ≡ false) → TakesOnce ms ks xs
+takes-one : (b dropped : Bool) (k : BufferedEntry) (ms : List Bool) (ks xs : List BufferedEntry) → (dropped ≡ true → k.flow ≡ false) → TakesOnce ms ks xs
     → TakesOnce (if b then dropped ∷ ms else ms) (if b then k ∷ ks else ks) (if b && not dropped then k ∷ xs else xs)
 takes-one false dropped k ms ks xs flow t = t
 takes-one true true k ms ks xs flow t = record { each = ap suc t.each; unflowed = (flow, t.unflowed); all = t.all }
-takes-one true false k ms ks xs flow t = record { each = ap suc t.each; unflowed = (flow, t.unflowed); all = ap (λ (zs : List Kept). k ∷ zs) t.all }
+takes-one true false k ms ks xs flow t = record { each = ap suc t.each; unflowed = (flow, t.unflowed); all = ap (λ (zs : List BufferedEntry). k ∷ zs) t.all }
 
 flow-of : (flow dropped : Bool) (n : ℕ) → (let one : ℕ = (if flow && dropped then 1 else 0) in one + n ≡ 0) → (dropped ≡ true → flow ≡ false) × (n ≡ 0)
 flow-of true true n h = absurd (omega (arith, h))
@@ -95,18 +95,18 @@ given_by [] ps = []
 given_by (r ∷ rs) [] = []
 given_by (r ∷ rs) (p ∷ ps) = record { pass = p; offers = r.offers } ∷ given_by rs ps
 
-are-given : (offers : Offers) (j : ℕ) (rs : List Admission) (ps : List Pass) → AreRead offers j rs ps → AreGiven offers ps (given_by rs ps)
+are-given : (offers : Offers) (j : ℕ) (rs : List Admission) (ps : List Pass) → AreRecordsRead offers j rs ps → AreGiven offers ps (given_by rs ps)
 are-given offers j [] [] h = tt
 are-given offers j [] (p ∷ ps) h = absurd h
 are-given offers j (r ∷ rs) [] h = absurd h
 are-given offers j (r ∷ rs) (p ∷ ps) h = (refl, h.2, are-given offers j rs ps h.3)
 
-abbrev entry_at : (i end : ℕ) → Offer → Kept
+abbrev entry_at : (i end : ℕ) → Offer → BufferedEntry
 entry_at i end o = record { inlet = i; end = end; flow = o.flow; message = o.message }
 
-owes-one : (b : Bool) (d i end : ℕ) (o : Offer) (os : List Offer) (xs ys : List Kept) → (o.dest == d) ≡ b → xs ≡ map (entry_at i end) (filter (λ (x : Offer). x.dest == d) os) ++ ys
+owes-one : (b : Bool) (d i end : ℕ) (o : Offer) (os : List Offer) (xs ys : List BufferedEntry) → (o.dest == d) ≡ b → xs ≡ map (entry_at i end) (filter (λ (x : Offer). x.dest == d) os) ++ ys
     → (if o.dest == d then entry_at i end o ∷ xs else xs) ≡ map (entry_at i end) (filter (λ (x : Offer). x.dest == d) (o ∷ os)) ++ ys
-owes-one true d i end o os xs ys h e = rw h (ap (λ (ks : List Kept). entry_at i end o ∷ ks) e)
+owes-one true d i end o os xs ys h e = rw h (ap (λ (ks : List BufferedEntry). entry_at i end o ∷ ks) e)
 owes-one false d i end o os xs ys h e = rw h e
 
 claims-in-owe : (d i place end : ℕ) (os : List Offer) (cs : List Claim) → claims_owe d i (claims_in place end os ++ cs) ≡ map (entry_at i end) (filter (λ (x : Offer). x.dest == d) os) ++ claims_owe d i cs
@@ -115,7 +115,7 @@ claims-in-owe d i place end (o ∷ os) cs = owes-one (o.dest == d) d i end o os 
 
 entries-same : (p : Pass) (os : List Offer) → map (entry_of p) os ≡ map (entry_at p.inlet p.end) os
 entries-same p [] = refl
-entries-same p (o ∷ os) = ap (λ (ks : List Kept). entry_of p o ∷ ks) (entries-same p os)
+entries-same p (o ∷ os) = ap (λ (ks : List BufferedEntry). entry_of p o ∷ ks) (entries-same p os)
 
 owed-here : (i d : ℕ) (p : Pass) (os : List Offer) (end : ℕ) → p.inlet ≡ i → p.end ≡ end → owed_by i d (record { pass = p; offers = os }) ≡ map (entry_at i end) (filter (λ (x : Offer). x.dest == d) os)
 owed-here i d p os end e f =
@@ -128,30 +128,30 @@ owed-here i d p os end e f =
 owed-elsewhere : (i d : ℕ) (p : Pass) (os : List Offer) → (p.inlet == i) ≡ false → owed_by i d (record { pass = p; offers = os }) ≡ []
 owed-elsewhere i d p os q = rw q refl
 
-owed-same : (offers : Offers) (i d place : ℕ) (rs : List Admission) (ps : List Pass) → AreRead offers i rs ps → claims_owe d i (claims_from place rs) ≡ owed_to i d (given_by rs ps)
+owed-same : (offers : Offers) (i d place : ℕ) (rs : List Admission) (ps : List Pass) → AreRecordsRead offers i rs ps → claims_owe d i (claims_from place rs) ≡ owed_to i d (given_by rs ps)
 owed-same offers i d place [] [] h = refl
 owed-same offers i d place [] (p ∷ ps) h = absurd h
 owed-same offers i d place (r ∷ rs) [] h = absurd h
 owed-same offers i d place (r ∷ rs) (p ∷ ps) h =
     claims-in-owe d i place r.end r.offers (claims_from (place + 1) rs)
-    ∙ ap (λ (ks : List Kept). ks ++ claims_owe d i (claims_from (place + 1) rs)) (sym (owed-here i d p r.offers r.end h.0 h.1))
-    ∙ ap (λ (ks : List Kept). owed_by i d (record { pass = p; offers = r.offers }) ++ ks) (owed-same offers i d (place + 1) rs ps h.3)
+    ∙ ap (λ (ks : List BufferedEntry). ks ++ claims_owe d i (claims_from (place + 1) rs)) (sym (owed-here i d p r.offers r.end h.0 h.1))
+    ∙ ap (λ (ks : List BufferedEntry). owed_by i d (record { pass = p; offers = r.offers }) ++ ks) (owed-same offers i d (place + 1) rs ps h.3)
 
-owed-other : (offers : Offers) (i j d : ℕ) (rs : List Admission) (ps : List Pass) → (j == i) ≡ false → AreRead offers j rs ps → owed_to i d (given_by rs ps) ≡ []
+owed-other : (offers : Offers) (i j d : ℕ) (rs : List Admission) (ps : List Pass) → (j == i) ≡ false → AreRecordsRead offers j rs ps → owed_to i d (given_by rs ps) ≡ []
 owed-other offers i j d [] [] q h = refl
 owed-other offers i j d [] (p ∷ ps) q h = absurd h
 owed-other offers i j d (r ∷ rs) [] q h = absurd h
 owed-other offers i j d (r ∷ rs) (p ∷ ps) q h =
     let miss : (p.inlet == i) ≡ false = ap (λ (n : ℕ). n == i) h.0 ∙ q in
-    ap (λ (ks : List Kept). ks ++ owed_to i d (given_by rs ps)) (owed-elsewhere i d p r.offers miss) ∙ owed-other offers i j d rs ps q h.3
+    ap (λ (ks : List BufferedEntry). ks ++ owed_to i d (given_by rs ps)) (owed-elsewhere i d p r.offers miss) ∙ owed-other offers i j d rs ps q h.3
 
 -- Acts.
 
-takes-if : (offers : Offers) (i j d : ℕ) (b : Bool) (rs : List Admission) (vs : List Verdict) (ps : List Pass) → (j == i) ≡ b → length (claims_of rs) ≡ length vs → flow_drops_of (claims_of rs) vs ≡ 0 → AreRead offers j rs ps
+takes-if : (offers : Offers) (i j d : ℕ) (b : Bool) (rs : List Admission) (vs : List Verdict) (ps : List Pass) → (j == i) ≡ b → length (claims_of rs) ≡ length vs → flow_drops_of (claims_of rs) vs ≡ 0 → AreRecordsRead offers j rs ps
     → TakesOnce (if b then dropped_of d (claims_of rs) vs else []) (owed_to i d (given_by rs ps)) (if b then kept_offers d j (claims_of rs) vs else [])
 takes-if offers i j d true rs vs ps q l f h =
     let same : j ≡ i = grind (arith, q) in
-    let K : ℕ → Type 0 = λ n. AreRead offers n rs ps in
+    let K : ℕ → Type 0 = λ n. AreRecordsRead offers n rs ps in
     let kept : kept_offers d i (claims_of rs) vs ≡ kept_offers d j (claims_of rs) vs = ap (λ (n : ℕ). kept_offers d n (claims_of rs) vs) (sym same) in
     takes-same (dropped_of d (claims_of rs) vs) (claims_owe d i (claims_of rs)) (owed_to i d (given_by rs ps)) (kept_offers d i (claims_of rs) vs) (kept_offers d j (claims_of rs) vs)
     (owed-same offers i d 0 rs ps (subst K same h)) kept (takes-claims d i (claims_of rs) vs l f)
@@ -166,7 +166,7 @@ pub record ActTakes (offers : Offers) (act : Act) (ps : List Pass) : Type 0 wher
 gives-none : (offers : Offers) (ps : List Pass) → ps ≡ [] → AreGiven offers ps []
 gives-none offers ps h = let P : List Pass → Type 0 = λ qs. AreGiven offers qs [] in subst P (sym h) tt
 
-act-takes : (offers : Offers) (s : State) (act : Act) (failed : List ℕ) (ps : List Pass) → is_legal_act s act failed ≡ true → flow_drops_by act ≡ 0 → ReadsBy offers act ps → ActTakes offers act ps
+act-takes : (offers : Offers) (s : State) (act : Act) (failed : List ℕ) (ps : List Pass) → is_legal_act s act failed ≡ true → flow_drops_by act ≡ 0 → ReadsByAct offers act ps → ActTakes offers act ps
 act-takes offers s (Admit j records vs) failed ps l z h =
     let r = judged j (next_of s j) failed s.dests s.failed (claims_of records) vs in
     let right = (both-true (passes_at s.inlets j (may_admit s j records)) (option_map_or (is_same_list (s.failed ++ failed)) r false) l).1 in
@@ -193,7 +193,7 @@ given-append offers (p ∷ ps) qs (g ∷ gs) hs a b = (a.0, a.1, given-append of
 
 pub owed-append : (i d : ℕ) (gs hs : List Given) → owed_to i d (gs ++ hs) ≡ owed_to i d gs ++ owed_to i d hs
 owed-append i d [] hs = refl
-owed-append i d (g ∷ gs) hs = ap (λ (ks : List Kept). owed_by i d g ++ ks) (owed-append i d gs hs) ∙ sym (append_assoc (owed_by i d g) (owed_to i d gs) (owed_to i d hs))
+owed-append i d (g ∷ gs) hs = ap (λ (ks : List BufferedEntry). owed_by i d g ++ ks) (owed-append i d gs hs) ∙ sym (append_assoc (owed_by i d g) (owed_to i d gs) (owed_to i d hs))
 
 pub record EventsTake (offers : Offers) (es : List Event) (ps : List Pass) : Type 0 where
   pub given : List Given
@@ -231,7 +231,7 @@ kept-nowhere i next failing ds failed (c ∷ cs) (v ∷ vs) x j d h l =
     let here : kept_offers d j (c ∷ cs) (v ∷ vs) ≡ kept_offers d j cs vs = rw miss refl in
     here ∙ kept-nowhere i next failing (take_claim i next ds c v) parts.0 cs vs x j d parts.2 (omega (arith, long, l))
 
-nowhere-if : (b : Bool) (ks : List Kept) → ks ≡ [] → (let none : List Kept = [] in (if b then ks else []) ≡ none)
+nowhere-if : (b : Bool) (ks : List BufferedEntry) → ks ≡ [] → (let none : List BufferedEntry = [] in (if b then ks else []) ≡ none)
 nowhere-if true ks h = h
 nowhere-if false ks h = refl
 
@@ -252,4 +252,4 @@ events-nowhere s [] i d l low = refl
 events-nowhere s (e ∷ es) i d l low =
     let q = both-true (is_legal s e) (are_legal (after s e) es) l in
     let long = length-dests s e.act e.failed in
-    ap (λ (ks : List Kept). ks ++ kept_of_inlet i d es) (act-nowhere s e.act e.failed i d q.0 low) ∙ events-nowhere (after s e) es i d q.1 (omega (arith, long, low))
+    ap (λ (ks : List BufferedEntry). ks ++ kept_of_inlet i d es) (act-nowhere s e.act e.failed i d q.0 low) ∙ events-nowhere (after s e) es i d q.1 (omega (arith, long, low))

@@ -13,11 +13,11 @@ use Rattle.sg_msg.specs.declared.offer.Offer.{Offer}
 use Rattle.sg_frame.specs.Records.{Record}
 use Rattle.sg_stable.specs.Cell.{cell_value}
 use Rattle.sg_buffer.specs.Entries.{IsListOf}
-use Rattle.sg_buffer.specs.declared.found.Found.{Found}
+use Rattle.sg_buffer.specs.declared.found.BufferEntries.{BufferEntries}
 use Rattle.sg_machine.specs.declared.setup.DestSetup.{DestSetup}
 use Rattle.sg_machine.specs.declared.setup.Setup.{Setup}
 use Rattle.sg_machine.specs.declared.setup.SourceSetup.{SourceSetup}
-use Rattle.sg_machine.specs.Runs.{Kept}
+use Rattle.sg_machine.specs.Runs.{BufferedEntry}
 use Rattle.sg_machine.specs.Safe.{Images}
 use Rattle.sg_counter.specs.Bringing.{store_in}
 use Rattle.sg_stores.specs.Opening.{IsOpenedAs}
@@ -30,7 +30,7 @@ use Rattle.sg_standing.specs.States.{CoreState}
 use Rattle.sg_core.specs.Opening.{IsOpen, IsUnopened, kind_of}
 use Rattle.sg_core.proofs.OpenState.{kind-none}
 use Rattle.sg_serve.specs.Plan.{IsRunnable}
-use Rattle.sg_serve.specs.Run.{CoreRun, Reached, Holds, RestsWithout}
+use Rattle.sg_serve.specs.Run.{CoreRun, Reached, PlanRunHolds, RestsWithout}
 use Rattle.sg_serve.specs.declared.ending.PlanEnded.{PlanEnded}
 use Rattle.sg_serve.specs.declared.ending.PlanEnded.TheVariants.{Before as BeforeRounds, Ran}
 use Rattle.sg_run_plan.specs.declared.plan.RunPlan.{RunPlan}
@@ -42,13 +42,13 @@ use Rattle.sg_many_runs.proofs.RestLemmas.{Was, was-position, was-list, image-si
 -- Stores.
 
 -- Whatever image of a store since it was handed in is chosen, it stands for what the store told, which a crash would have left.
-record Comes (dests : List DestSetup) (s : ℕ) (old : DiskState) (held : List ℕ) (news : List DiskState) : Type 0 where
+record ComesUnopened (dests : List DestSetup) (s : ℕ) (old : DiskState) (held : List ℕ) (news : List DiskState) : Type 0 where
   new : DiskState
   at : slice_get news s ≡ Some new
   was : (c : List ℕ) → IsImageSince old new c → Was (kind_of dests s) held c
 
 abbrev AllCome : List DestSetup → List DiskState → List DiskState → Type 0
-AllCome dests olds news = (s : ℕ) (old : DiskState) (held : List ℕ) → slice_get olds s ≡ Some old → content old ≡ Some held → Durable old → Comes dests s old held news
+AllCome dests olds news = (s : ℕ) (old : DiskState) (held : List ℕ) → slice_get olds s ≡ Some old → content old ≡ Some held → Durable old → ComesUnopened dests s old held news
 
 -- an image then is what was told
 held-then : (old : DiskState) (held d : List ℕ) → content old ≡ Some held → content old ≡ Some d → d ≡ held
@@ -87,7 +87,7 @@ refused setup olds news refusal u s old held at tells stable =
     }
 
 -- a store as its kind was opened
-opened-since : (kind : StoreKind) (disk : DiskState) (found : Found) (store : StoreState) (held : List ℕ) → IsOpenedAs kind disk found store → content disk ≡ Some held → Durable disk → (c : List ℕ) → IsImageSince disk store.disk c → Was kind held c
+opened-since : (kind : StoreKind) (disk : DiskState) (found : BufferEntries) (store : StoreState) (held : List ℕ) → IsOpenedAs kind disk found store → content disk ≡ Some held → Durable disk → (c : List ℕ) → IsImageSince disk store.disk c → Was kind held c
 opened-since Position disk found store held o tells stable c at =
     let r = image-since Same disk store.disk (λ x. refl) ((o.0).preserves).still c at in
     sym (r.1.1 ∙ held-then disk held r.0 tells (stable r.0 r.1.0))
@@ -122,7 +122,7 @@ come-without setup reached (inl same) = let P : List DiskState → Type 0 = λ d
 come-without setup reached (inr u) = refused setup reached.stores reached.stores_closed u.0 u.1
 
 come-held : {R I O : Type 0} (feed : I → InletState) (drain : O → OutletState) (offers : R → ℕ → Record → List Offer → Type 0) (inlets dests : R → ℕ) (files : Option Files) (plan : RunPlan) (routers : List R) (rounds : ℕ) (reached : Reached)
-    (core : Option CoreRun) (ending : PlanEnded) → Holds feed drain offers inlets dests files plan routers rounds reached core ending → AllCome plan.setup.dests reached.stores (stores_until reached core)
+    (core : Option CoreRun) (ending : PlanEnded) → PlanRunHolds feed drain offers inlets dests files plan routers rounds reached core ending → AllCome plan.setup.dests reached.stores (stores_until reached core)
 come-held feed drain offers inlets dests files plan routers rounds reached None (BeforeRounds early) h = come-without plan.setup reached h.rests
 come-held feed drain offers inlets dests files plan routers rounds reached None (Ran ended counts) h = absurd h
 come-held feed drain offers inlets dests files plan routers rounds reached (Some run) (BeforeRounds early) h = opened-stores plan.setup reached.stores run.first ((h.0).core).opens
@@ -131,7 +131,7 @@ come-held feed drain offers inlets dests files plan routers rounds reached (Some
 -- Images.
 
 -- what was left in this store came of what it held
-record Left (dests : List DestSetup) (before images : List (List ℕ)) (s : ℕ) : Type 0 where
+record LeftUnopened (dests : List DestSetup) (before images : List (List ℕ)) (s : ℕ) : Type 0 where
   held : List ℕ
   left : List ℕ
   held_at : slice_get before s ≡ Some held
@@ -140,7 +140,7 @@ record Left (dests : List DestSetup) (before images : List (List ℕ)) (s : ℕ)
 
 -- a store was left as it was, or so
 abbrev IsLeft : List DestSetup → List (List ℕ) → List (List ℕ) → ℕ → Type 0
-IsLeft dests before images s = (slice_get images s ≡ slice_get before s) ⊎ Left dests before images s
+IsLeft dests before images s = (slice_get images s ≡ slice_get before s) ⊎ LeftUnopened dests before images s
 
 left-at : (dests : List DestSetup) (reached : Reached) (before images : List (List ℕ)) → AllCome dests reached.stores (stores_until reached reached.core) → StopsUnopened reached before images → (s : ℕ) (o : Option DiskState) → slice_get reached.stores s ≡ o
     → IsLeft dests before images s
@@ -161,7 +161,7 @@ position-by : (dests : List DestSetup) (before images : List (List ℕ)) (o : Op
 position-by dests before images None kinds left = refl
 position-by dests before images (Some s) kinds left = left-position dests before images s (kinds s refl) (left s)
 
-left-list : (one : ListsAreOne) (dests : List DestSetup) (before images : List (List ℕ)) (s : ℕ) (list : List Kept) (bytes : List ℕ) → slice_get before s ≡ Some bytes → ((left : List ℕ) → slice_get images s ≡ Some left → IsListOf (map coded list) left)
+left-list : (one : ListsAreOne) (dests : List DestSetup) (before images : List (List ℕ)) (s : ℕ) (list : List BufferedEntry) (bytes : List ℕ) → slice_get before s ≡ Some bytes → ((left : List ℕ) → slice_get images s ≡ Some left → IsListOf (map coded list) left)
     → IsLeft dests before images s → IsListOf (map coded list) bytes
 left-list one dests before images s list bytes at held (inl same) = held bytes (same ∙ at)
 left-list one dests before images s list bytes at held (inr l) =
@@ -170,8 +170,8 @@ left-list one dests before images s list bytes at held (inr l) =
 
 -- What was left stands for what the stores held: for the same positions, and for the same lists.
 pub record StandsAsBefore (setup : Setup) (before images : List (List ℕ)) : Type 0 where
-  pub lists : (ls : List (List Kept)) → AreListsBy setup.dests images ls → AreListsBy setup.dests before ls
-  pub held : (ls : List (List Kept)) → held_by setup images ls ≡ held_by setup before ls
+  pub lists : (ls : List (List BufferedEntry)) → AreListsBy setup.dests images ls → AreListsBy setup.dests before ls
+  pub held : (ls : List (List BufferedEntry)) → held_by setup images ls ≡ held_by setup before ls
 
 pub stands-as-before : {R I O : Type 0} (feed : I → InletState) (drain : O → OutletState) (offers : R → ℕ → Record → List Offer → Type 0) (inlets dests : R → ℕ) (plan : RunPlan) (before : List (List ℕ)) (run : UnopenedRun R) → ListsAreOne → IsRunnable plan
     → IsUnopenedRun feed drain offers inlets dests plan before run → StandsAsBefore plan.setup before run.images

@@ -2,13 +2,13 @@
 use Rattle.std.specs.Prelude.{◌≡◌, ◌⊎◌, ◌≤◌, ℕ, Some, List, [], ◌∷◌, ◌++◌, slice_get, slice_index_or, Contains}
 use Rattle.sg_msg.specs.declared.offer.Offer.{Offer}
 use Rattle.sg_machine.specs.declared.setup.Setup.{Setup}
-use Rattle.sg_machine.specs.Runs.{Kept}
+use Rattle.sg_machine.specs.Runs.{BufferedEntry}
 use Rattle.sg_machine.specs.Safe.{Images}
 use Rattle.sg_frame.specs.Records.{Record}
 use Rattle.sg_route.specs.Offers.{record_at}
 use Rattle.sg_many_runs.specs.Pieces.{Piece, Rise}
 use Rattle.sg_many_runs.specs.Covered.{Pass, Delivery, Offers, IsFile, IsPassed, taking_of, as_given, as_stored, list_at, Covered}
-use Rattle.sg_many_runs.specs.Passes.{Stopped, taken_in, IsStopped}
+use Rattle.sg_many_runs.specs.Passes.{Stopped, taken_in, IsStoppedRun}
 
 -- what the log statements may give for a pass: the offers of the router of its inlet
 abbrev pub offers_in : {R : Type 0} → (R → ℕ → Record → List Offer → Type 0) → List R → Offers
@@ -28,7 +28,7 @@ OneRunCovers offers =
     (setup : Setup) (files : ℕ → List Piece) (taken : List Delivery) (passes : List Pass)
     (old : ℕ → ℕ) (before : Images) (run : Stopped)
     → Covered setup offers files taken passes old before → Grow files run.files
-    → IsStopped setup offers before run → Covered setup offers run.files
+    → IsStoppedRun setup offers before run → Covered setup offers run.files
     (taken ++ taken_in setup run) (passes ++ run.passes) old run.images
 
 -- All runs.
@@ -37,7 +37,7 @@ OneRunCovers offers =
 abbrev pub Follow : Setup → Offers → (ℕ → List Piece) → Images → List Stopped → Type 0
 Follow setup offers files images [] = Unit {0}
 Follow setup offers files images (run ∷ runs) = Grow files run.files
-    × IsStopped setup offers images run × Follow setup offers run.files run.images runs
+    × IsStoppedRun setup offers images run × Follow setup offers run.files run.images runs
 
 abbrev pub all_taken : Setup → List Stopped → List Delivery
 all_taken setup [] = []
@@ -75,7 +75,7 @@ pub record IsTakingOf (form : Offer → Offer) (offers : Offers) (passes : List 
 
 -- it is the message of an entry in these images
 abbrev pub IsEntryIn : Setup → Images → Delivery → Type 0
-IsEntryIn setup images taken = (kept : Kept) × (Contains (list_at setup images taken.dest) kept
+IsEntryIn setup images taken = (kept : BufferedEntry) × (Contains (list_at setup images taken.dest) kept
     × (taken ≡ record { dest = taken.dest; message = kept.message }))
 
 -- What each run took is an offer of a record that came in then or before, or, of an entry that stood in the stores at the start, an offer

@@ -19,8 +19,8 @@ use Rattle.sg_many_runs.specs.Adding.{offers_in, EndsClean}
 use Rattle.sg_many_runs.specs.Happened.{EachChoice, AllTell, AreOfFiles, TellFiles, files_of}
 
 -- each file is read by lines
-abbrev pub AreLines : RunPlan → Type 0
-AreLines plan = (i : ℕ) (inlet : InletPlan) → IsFile plan.setup i
+abbrev pub AreFilesByLines : RunPlan → Type 0
+AreFilesByLines plan = (i : ℕ) (inlet : InletPlan) → IsFile plan.setup i
     → slice_get plan.inlets.items i ≡ Some inlet → inlet.kind ≡ Lines
 
 -- A run that ended quietly, with nothing counted as failed, over files that are read by lines, ends clean.
@@ -30,7 +30,7 @@ PlanRunsEndClean {R} {I} {O} feed drain offers inlets dests =
     (old new : WorldState) (plan : RunPlan) (routers by : List R) (rounds : ℕ) (counts : Counts)
     (reached : Reached) (run : CoreRun) (bytes : ℕ → List ℕ) (taken : List Delivery)
     (passes : List Pass) (places : ℕ → ℕ)
-    → IsRunnable plan → AreOfFiles plan → AreLines plan
+    → IsRunnable plan → AreOfFiles plan → AreFilesByLines plan
     → RunsWith feed drain offers inlets dests old new plan routers rounds
     (Ran Quiet (Some counts)) reached → reached.core ≡ Some run
     → first_fault counts.sinks counts.stores counts.inlets ≡ None

@@ -7,7 +7,7 @@ use Rattle.sg_many_runs.specs.Pieces.{Piece}
 use Rattle.sg_machine.specs.declared.setup.DestSetup.{DestSetup}
 use Rattle.sg_machine.specs.declared.setup.Setup.{Setup}
 use Rattle.sg_machine.specs.declared.setup.SourceSetup.{SourceSetup}
-use Rattle.sg_machine.specs.Runs.{Kept}
+use Rattle.sg_machine.specs.Runs.{BufferedEntry}
 use Rattle.sg_machine.specs.Safe.{Images}
 
 -- Passes.
@@ -56,32 +56,32 @@ abbrev pub as_stored : Offer → Offer
 as_stored offer = record offer { message = stored_form offer.message }
 
 -- the entry of a disk-buffer that an offer of a pass is, and what its destination takes of it
-abbrev pub entry_of : Pass → Offer → Kept
+abbrev pub entry_of : Pass → Offer → BufferedEntry
 entry_of pass offer = record { inlet = pass.inlet; end = pass.end; flow = offer.flow; message = offer.message }
 
 abbrev pub taking_of : Offer → Delivery
 taking_of offer = record { dest = offer.dest; message = offer.message }
 
 -- the list in the image of a destination's disk-buffer; none where it has none
-abbrev pub listed : Option DestSetup → Option (List Kept) → List Kept
+abbrev pub listed : Option DestSetup → Option (List BufferedEntry) → List BufferedEntry
 listed None list = []
 listed (Some dest) None = []
 listed (Some dest) (Some list) = if is_some dest.buffer then list else []
 
-abbrev pub list_at : Setup → Images → ℕ → List Kept
+abbrev pub list_at : Setup → Images → ℕ → List BufferedEntry
 list_at setup images d = listed (slice_get setup.dests d) (slice_get images.lists d)
 
 -- What is owed.
 
 -- the offer was taken, or stands in its destination's image
-abbrev pub IsHeld : Setup → List Delivery → Images → Pass → Offer → Type 0
-IsHeld setup taken images pass offer = Contains taken (taking_of offer)
+abbrev pub IsOfferHeld : Setup → List Delivery → Images → Pass → Offer → Type 0
+IsOfferHeld setup taken images pass offer = Contains taken (taking_of offer)
     ⊎ Contains (list_at setup images offer.dest) (entry_of pass offer)
 
 -- the same, or, of a record that ends at or below this place, of its stored form
 abbrev pub IsKeptSafe : Setup → List Delivery → Images → (old : ℕ) → Pass → Offer → Type 0
-IsKeptSafe setup taken images old pass offer = IsHeld setup taken images pass offer
-    ⊎ ((pass.end ≤ old) × IsHeld setup taken images pass (as_stored offer))
+IsKeptSafe setup taken images old pass offer = IsOfferHeld setup taken images pass offer
+    ⊎ ((pass.end ≤ old) × IsOfferHeld setup taken images pass (as_stored offer))
 
 -- the item has a pass for which so much holds of each offer with flow-control
 pub record IsPassed (offers : Offers) (Owed : Pass → Offer → Type 0) (passes : List Pass) (i : ℕ) (piece : Piece) : Type 0 where
@@ -93,7 +93,7 @@ pub record IsPassed (offers : Offers) (Owed : Pass → Offer → Type 0) (passes
   pub each : (offer : Offer) → Contains given offer → offer.flow ≡ true → Owed pass offer
 
 -- an entry at d is that of an offer of a pass, in this form
-pub record IsOfferOf (form : Offer → Offer) (offers : Offers) (passes : List Pass) (d : ℕ) (kept : Kept) : Type 0 where
+pub record IsOfferOf (form : Offer → Offer) (offers : Offers) (passes : List Pass) (d : ℕ) (kept : BufferedEntry) : Type 0 where
   pub pass : Pass
   pub had : Contains passes pass
   pub given : List Offer
@@ -104,7 +104,7 @@ pub record IsOfferOf (form : Offer → Offer) (offers : Offers) (passes : List P
   pub entry : kept ≡ entry_of pass (form offer)
 
 -- it is that of an offer, or of its stored form
-abbrev pub IsOffered : Offers → List Pass → ℕ → Kept → Type 0
+abbrev pub IsOffered : Offers → List Pass → ℕ → BufferedEntry → Type 0
 IsOffered offers passes d kept = IsOfferOf as_given offers passes d kept
     ⊎ IsOfferOf as_stored offers passes d kept
 
@@ -120,5 +120,5 @@ pub record Covered (setup : Setup) (offers : Offers) (files : ℕ → List Piece
       → piece.end ≤ position
       → IsPassed offers (IsKeptSafe setup taken images (old i)) passes i piece
   -- each entry of an image is an offer of a pass, or its stored form
-  pub entries : (d : ℕ) (kept : Kept) → Contains (list_at setup images d) kept
+  pub entries : (d : ℕ) (kept : BufferedEntry) → Contains (list_at setup images d) kept
       → IsOffered offers passes d kept

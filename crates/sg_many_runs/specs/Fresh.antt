@@ -6,7 +6,7 @@ use Rattle.sg_outside.specs.declared.request.InletSpec.{InletSpec}
 use Rattle.sg_outside.specs.declared.request.InletSpec.TheVariants.{File, Slot}
 use Rattle.sg_msg.specs.declared.offer.Offer.{Offer}
 use Rattle.sg_frame.specs.Records.{Record}
-use Rattle.sg_machine.specs.Runs.{Kept}
+use Rattle.sg_machine.specs.Runs.{BufferedEntry}
 use Rattle.sg_run_plan.specs.declared.inlet.InletPlan.{InletPlan}
 use Rattle.sg_serve.specs.Plan.{IsRunnable}
 use Rattle.sg_run_plan.specs.declared.plan.RunPlan.{RunPlan}
@@ -15,7 +15,7 @@ use Rattle.sg_many_runs.specs.Adding.{offers_in, all_taken, all_passes}
 use Rattle.sg_many_runs.specs.Once.{ExactlyOnce}
 use Rattle.sg_many_runs.specs.Passes.{Stopped}
 use Rattle.sg_many_runs.specs.Happened.{AreListsBy, AreOfFiles, held_by, files_of}
-use Rattle.sg_many_runs.specs.Clean.{AreLines}
+use Rattle.sg_many_runs.specs.Clean.{AreFilesByLines}
 use Rattle.sg_many_runs.specs.PlanRuns.{PlanRun, EndsWell, RunOf, Opened, Unopened, PlanRunsFollow, opened_among, AreStopsOf}
 
 -- the stores of a plan as they are made: 128 zero bytes each
@@ -26,7 +26,7 @@ new_stores plan = replicate (length plan.stores.items) (replicate 128 0)
 abbrev pub NewAreCovered : {R : Type 0} → (R → ℕ → Record → List Offer → Type 0) → Type 0
 NewAreCovered {R} offers =
     (plan : RunPlan) (by : List R) (bytes : ℕ → List ℕ) (places : ℕ → ℕ)
-    (lists : List (List Kept)) → IsRunnable plan
+    (lists : List (List BufferedEntry)) → IsRunnable plan
     → AreListsBy plan.setup.dests (new_stores plan) lists
     → Covered plan.setup (offers_in offers by) (files_of plan.inlets.items bytes) [] [] places
     (held_by plan.setup (new_stores plan) lists)
@@ -47,7 +47,7 @@ bytes_left bytes (Opened run ∷ runs) = bytes_left run.bytes runs
 bytes_left bytes (Unopened run ∷ runs) = bytes_left bytes runs
 
 -- what they left is covered by what they took and the records that came in, where these lists stand in it
-pub record PlanRunsLeave {R : Type 0} {offers : R → ℕ → Record → List Offer → Type 0} {plan : RunPlan} {by : List R} (bytes : ℕ → List ℕ) (before : List (List ℕ)) (runs : List (RunOf offers plan by)) (lists : List (List Kept)) : Type 0 where
+pub record PlanRunsLeave {R : Type 0} {offers : R → ℕ → Record → List Offer → Type 0} {plan : RunPlan} {by : List R} (bytes : ℕ → List ℕ) (before : List (List ℕ)) (runs : List (RunOf offers plan by)) (lists : List (List BufferedEntry)) : Type 0 where
   pub stopped : List Stopped
   pub stops : AreStopsOf (opened_among runs) stopped
   pub covered : Covered plan.setup (offers_in offers by)
@@ -59,7 +59,7 @@ abbrev pub PlanRunsStayCovered : {R I O : Type 0} → (I → InletState) → (O 
     → (R → ℕ → Record → List Offer → Type 0) → (R → ℕ) → (R → ℕ) → Type 0
 PlanRunsStayCovered {R} {I} {O} feed drain offers inlets dests =
     (plan : RunPlan) (by : List R) (bytes : ℕ → List ℕ) (runs : List (RunOf offers plan by))
-    (lists : List (List Kept)) → IsRunnable plan → AreOfFiles plan → AreLines plan
+    (lists : List (List BufferedEntry)) → IsRunnable plan → AreOfFiles plan → AreFilesByLines plan
     → PlanRunsFollow feed drain offers inlets dests plan by bytes (new_stores plan) runs
     → AreListsBy plan.setup.dests (images_left (new_stores plan) runs) lists
     → PlanRunsLeave bytes (new_stores plan) runs lists
@@ -93,7 +93,7 @@ abbrev pub PlanRunsTakeOnce : {R I O : Type 0} → (I → InletState) → (O →
     → (R → ℕ → Record → List Offer → Type 0) → (R → ℕ) → (R → ℕ) → Type 0
 PlanRunsTakeOnce {R} {I} {O} feed drain offers inlets dests =
     (plan : RunPlan) (by : List R) (bytes : ℕ → List ℕ) (runs : List (PlanRun offers plan by))
-    (last : PlanRun offers plan by) → IsRunnable plan → AreOfFiles plan → AreLines plan
+    (last : PlanRun offers plan by) → IsRunnable plan → AreOfFiles plan → AreFilesByLines plan
     → HaveLimits plan → PlanRunsFollow feed drain offers inlets dests plan by bytes
     (new_stores plan) (map Opened (runs ++ last ∷ []))
     → AllEndWell (runs ++ last ∷ []) → PlanRunsOnce runs last

@@ -15,8 +15,8 @@ use Rattle.sg_machine.specs.declared.setup.BufferSetup.{BufferSetup}
 use Rattle.sg_machine.specs.declared.setup.DestSetup.{DestSetup}
 use Rattle.sg_machine.specs.declared.setup.Setup.{Setup}
 use Rattle.sg_machine.specs.declared.setup.SourceSetup.{SourceSetup}
-use Rattle.sg_machine.specs.declared.state.Inlet.{Inlet}
-use Rattle.sg_machine.specs.Runs.{Kept, Opening, opened, after_all}
+use Rattle.sg_machine.specs.declared.state.InletRecords.{InletRecords}
+use Rattle.sg_machine.specs.Runs.{BufferedEntry, Opening, opened, after_all}
 use Rattle.sg_machine.specs.Safe.{Images, nothing}
 use Rattle.sg_stores.specs.Stores.{StoreState, coded}
 use Rattle.sg_standing.specs.Images.{position_in, AreImagesBetween}
@@ -28,10 +28,10 @@ use Rattle.sg_run_plan.specs.declared.plan.RunPlan.{RunPlan}
 use Rattle.sg_serve.specs.Plan.{IsRunnable}
 use Rattle.sg_serve.specs.Run.{CoreRun, Reached, RunsWith}
 use Rattle.sg_one_run.specs.Headline.{TakesThese}
-use Rattle.sg_many_runs.specs.Resuming.{IsBegun}
+use Rattle.sg_many_runs.specs.Resuming.{IsReadingBegun}
 use Rattle.sg_many_runs.specs.Pieces.{Piece, pieces, behind}
 use Rattle.sg_many_runs.specs.Covered.{Pass, Delivery, Offers, IsFile, Covered}
-use Rattle.sg_many_runs.specs.Passes.{AreAdmitted, pieces_of, Stopped, taken_in, IsStopped}
+use Rattle.sg_many_runs.specs.Passes.{AreAdmitted, pieces_of, Stopped, taken_in, IsStoppedRun}
 use Rattle.sg_many_runs.specs.Adding.{offers_in}
 
 -- Stores.
@@ -47,20 +47,20 @@ positions_by sources images = map (λ (source : SourceSetup). position_in images
     sources
 
 -- these are the lists that the images of the disk-buffers stand for; of other destinations they may be any
-pub record AreListsBy (dests : List DestSetup) (images : List (List ℕ)) (lists : List (List Kept)) : Type 0 where
+pub record AreListsBy (dests : List DestSetup) (images : List (List ℕ)) (lists : List (List BufferedEntry)) : Type 0 where
   pub every : length lists ≡ length dests
-  pub each : (d : ℕ) (dest : DestSetup) (buffer : BufferSetup) (list : List Kept) (bytes : List ℕ)
+  pub each : (d : ℕ) (dest : DestSetup) (buffer : BufferSetup) (list : List BufferedEntry) (bytes : List ℕ)
       → slice_get dests d ≡ Some dest → dest.buffer ≡ Some buffer
       → slice_get lists d ≡ Some list → slice_get images buffer.store ≡ Some bytes
       → IsListOf (map coded list) bytes
 
 -- what these images and lists stand for
-abbrev pub held_by : Setup → List (List ℕ) → List (List Kept) → Images
+abbrev pub held_by : Setup → List (List ℕ) → List (List BufferedEntry) → Images
 held_by setup images lists = record { positions = positions_by setup.sources images; lists = lists }
 
 -- whatever images of these disks are chosen, this holds of what they stand for
 abbrev pub EachChoice : Setup → List DiskState → (Images → Type 0) → Type 0
-EachChoice setup disks P = (images : List (List ℕ)) (lists : List (List Kept))
+EachChoice setup disks P = (images : List (List ℕ)) (lists : List (List BufferedEntry))
     → AreImagesOf disks images → AreListsBy setup.dests images lists
     → P (held_by setup images lists)
 
@@ -116,11 +116,11 @@ pub record Happened (offers : Offers) (files : Option Files) (plan : RunPlan) (r
   pub came : List Pass
   pub admits : AreAdmitted offers (run.prelude ++ later) came
   -- those of a file whose reading began at its start or behind an item are the first of its items from there on
-  pub reads : (bytes : ℕ → List ℕ) (i : ℕ) (source : InletPlan) (inlet : Inlet)
+  pub reads : (bytes : ℕ → List ℕ) (i : ℕ) (source : InletPlan) (inlet : InletRecords)
       → TellFiles files plan reached.inlets bytes → IsFile plan.setup i
       → slice_get plan.inlets.items i ≡ Some source
       → slice_get (after_all (opened plan.setup opens.opening) (run.prelude ++ later)).inlets i
-      ≡ Some inlet → IsBegun source.kind source.limit (bytes i) inlet.opening
+      ≡ Some inlet → IsReadingBegun source.kind source.limit (bytes i) inlet.opening
       → (rest : List Piece) × (behind inlet.opening (files_of plan.inlets.items bytes i)
       ≡ pieces_of i came ++ rest)
 
@@ -149,7 +149,7 @@ stopped_with plan bytes opening events event came images = record {
 -- So stopped it is a run that began with what those images before it hold, and what it leaves is covered, with the entries settled and the
 -- passes of the records that had come in.
 pub record CoversStop (setup : Setup) (offers : Offers) (before : Images) (taken : List Delivery) (passes : List Pass) (old : ℕ → ℕ) (run : Stopped) : Type 0 where
-  pub stopped : IsStopped setup offers before run
+  pub stopped : IsStoppedRun setup offers before run
   pub covered : Covered setup offers run.files (taken ++ taken_in setup run) (passes ++ run.passes)
       old run.images
 
@@ -165,7 +165,7 @@ pub record LeavesCovered {offers : Offers} {files : Option Files} {plan : RunPla
       (stopped_with plan bytes (happened.opens).opening (run.prelude ++ happened.later) nothing
       happened.came images))
   -- and so are whatever images of moments within one event, with the first of these records
-  pub stops : (k : ℕ) (event : Event) (images : List (List ℕ)) (lists : List (List Kept))
+  pub stops : (k : ℕ) (event : Event) (images : List (List ℕ)) (lists : List (List BufferedEntry))
       → slice_get (run.prelude ++ happened.later) k ≡ Some event
       → AreImagesBetween run.last.stores (((happened.ran).stands).moments.rows k)
       (((happened.ran).stands).moments.rows (k + 1)) images

@@ -8,9 +8,9 @@ use Rattle.sg_machine.specs.declared.event.Event.{Event}
 use Rattle.sg_machine.specs.declared.event.Verdict.{Verdict}
 use Rattle.sg_machine.specs.declared.setup.Setup.{Setup}
 use Rattle.sg_machine.specs.declared.state.Dest.{Dest}
-use Rattle.sg_machine.specs.declared.state.Inlet.{Inlet}
+use Rattle.sg_machine.specs.declared.state.InletRecords.{InletRecords}
 use Rattle.sg_machine.specs.Counts.{is_dropped, as_kept}
-use Rattle.sg_machine.specs.Runs.{Kept}
+use Rattle.sg_machine.specs.Runs.{BufferedEntry}
 use Rattle.sg_machine.specs.Safe.{Images, settled_by, nothing}
 use Rattle.sg_machine.specs.Verdicts.{Claim, claims_of}
 use Rattle.sg_many_runs.specs.Pieces.{Piece}
@@ -26,7 +26,7 @@ pub record EndsWhole (setup : Setup) (run : Stopped) : Type 0 where
   pub clean : EndsClean setup run.files run.images
   pub settled : (d : ℕ) (dest : Dest) → slice_get (state_at setup run).dests d ≡ Some dest
       → dest.left ≡ []
-  pub resumed : (i : ℕ) (inlet : Inlet) → IsFile setup i
+  pub resumed : (i : ℕ) (inlet : InletRecords) → IsFile setup i
       → slice_get (state_at setup run).inlets i ≡ Some inlet
       → slice_get run.opening.places i ≡ Some inlet.opening
 
@@ -35,12 +35,12 @@ AllEndWhole setup [] = Unit {0}
 AllEndWhole setup (run ∷ runs) = EndsWhole setup run × AllEndWhole setup runs
 
 -- the entries of inlet i that d settled in the run, in order
-abbrev pub settled_in : Setup → (i d : ℕ) → Stopped → List Kept
+abbrev pub settled_in : Setup → (i d : ℕ) → Stopped → List BufferedEntry
 settled_in setup i d run = option_map_or
     (λ dest. filter (λ k. k.inlet == i) (map as_kept (settled_by run.event.act d dest)))
     (slice_get (state_at setup run).dests d) []
 
-abbrev pub all_settled : Setup → (i d : ℕ) → List Stopped → List Kept
+abbrev pub all_settled : Setup → (i d : ℕ) → List Stopped → List BufferedEntry
 all_settled setup i d [] = []
 all_settled setup i d (run ∷ runs) = settled_in setup i d run ++ all_settled setup i d runs
 
@@ -59,10 +59,10 @@ AreGiven offers (p ∷ ps) [] = ⊥
 AreGiven offers (p ∷ ps) (g ∷ gs) = (g.pass ≡ p) × offers p g.offers × AreGiven offers ps gs
 
 -- the offers to d of these passes of inlet i, as entries, in order
-abbrev pub owed_by : (i d : ℕ) → Given → List Kept
+abbrev pub owed_by : (i d : ℕ) → Given → List BufferedEntry
 owed_by i d g = if g.pass.inlet == i then map (entry_of g.pass) (filter (λ o. o.dest == d) g.offers) else []
 
-abbrev pub owed_to : (i d : ℕ) → List Given → List Kept
+abbrev pub owed_to : (i d : ℕ) → List Given → List BufferedEntry
 owed_to i d [] = []
 owed_to i d (g ∷ gs) = owed_by i d g ++ owed_to i d gs
 
@@ -87,27 +87,27 @@ all_dropped i d [] = []
 all_dropped i d (run ∷ runs) = dropped_in i d run.events ++ all_dropped i d runs
 
 -- the entries without those that are marked
-abbrev pub less : List Bool → List Kept → List Kept
+abbrev pub less : List Bool → List BufferedEntry → List BufferedEntry
 less [] entries = entries
 less (m ∷ ms) [] = []
 less (m ∷ ms) (k ∷ ks) = if m then less ms ks else k ∷ less ms ks
 
 -- none with flow-control is marked
-abbrev pub AreUnflowed : List Bool → List Kept → Type 0
-AreUnflowed [] entries = Unit {0}
-AreUnflowed (m ∷ ms) [] = Unit {0}
-AreUnflowed (m ∷ ms) (k ∷ ks) = (m ≡ true → k.flow ≡ false) × AreUnflowed ms ks
+abbrev pub AreEntriesUnflowed : List Bool → List BufferedEntry → Type 0
+AreEntriesUnflowed [] entries = Unit {0}
+AreEntriesUnflowed (m ∷ ms) [] = Unit {0}
+AreEntriesUnflowed (m ∷ ms) (k ∷ ks) = (m ≡ true → k.flow ≡ false) × AreEntriesUnflowed ms ks
 
 -- All runs.
 
 -- What was taken is in order just what was owed, less what was dropped, none of which has flow-control.
-pub record TakesOnce (dropped : List Bool) (owed taken : List Kept) : Type 0 where
+pub record TakesOnce (dropped : List Bool) (owed taken : List BufferedEntry) : Type 0 where
   pub each : length dropped ≡ length owed
-  pub unflowed : AreUnflowed dropped owed
+  pub unflowed : AreEntriesUnflowed dropped owed
   pub all : taken ≡ less dropped owed
 
 -- So each offer with flow-control was taken once; and each other offer too, where none was dropped.
-pub record TakesEach (dropped : List Bool) (owed taken : List Kept) : Type 0 where
+pub record TakesEach (dropped : List Bool) (owed taken : List BufferedEntry) : Type 0 where
   pub flowed : filter (λ k. k.flow) taken ≡ filter (λ k. k.flow) owed
   pub whole : (Contains dropped true → ⊥) → taken ≡ owed
 

@@ -7,9 +7,9 @@ use Rattle.sg_machine.specs.declared.event.Event.{Event}
 use Rattle.sg_machine.specs.declared.setup.DestSetup.{DestSetup}
 use Rattle.sg_machine.specs.declared.setup.Setup.{Setup}
 use Rattle.sg_machine.specs.declared.state.Dest.{Dest}
-use Rattle.sg_machine.specs.declared.state.Inlet.{Inlet}
+use Rattle.sg_machine.specs.declared.state.InletRecords.{InletRecords}
 use Rattle.sg_machine.specs.declared.state.State.{State}
-use Rattle.sg_machine.specs.Runs.{Kept, Opening, opened, after_all, are_legal}
+use Rattle.sg_machine.specs.Runs.{BufferedEntry, Opening, opened, after_all, are_legal}
 use Rattle.sg_machine.specs.Safe.{Images, Safe, settled_by}
 use Rattle.sg_many_runs.specs.Pieces.{Piece, Rise, behind}
 use Rattle.sg_many_runs.specs.Covered.{Pass, Delivery, Offers, IsFile}
@@ -17,22 +17,22 @@ use Rattle.sg_many_runs.specs.Covered.{Pass, Delivery, Offers, IsFile}
 -- What came in.
 
 -- these records of inlet i, in order, were read in these passes: each with its end and its offers
-abbrev pub AreRead : Offers → ℕ → List Admission → List Pass → Type 0
-AreRead offers i [] [] = Unit {0}
-AreRead offers i [] (p ∷ ps) = ⊥
-AreRead offers i (r ∷ rs) [] = ⊥
-AreRead offers i (r ∷ rs) (p ∷ ps) = (p.inlet ≡ i) × (p.end ≡ r.end) × offers p r.offers
-    × AreRead offers i rs ps
+abbrev pub AreRecordsRead : Offers → ℕ → List Admission → List Pass → Type 0
+AreRecordsRead offers i [] [] = Unit {0}
+AreRecordsRead offers i [] (p ∷ ps) = ⊥
+AreRecordsRead offers i (r ∷ rs) [] = ⊥
+AreRecordsRead offers i (r ∷ rs) (p ∷ ps) = (p.inlet ≡ i) × (p.end ≡ r.end) × offers p r.offers
+    × AreRecordsRead offers i rs ps
 
-abbrev pub ReadsBy : Offers → Act → List Pass → Type 0
-ReadsBy offers (Admit i records verdicts) passes = AreRead offers i records passes
-ReadsBy offers _ passes = passes ≡ []
+abbrev pub ReadsByAct : Offers → Act → List Pass → Type 0
+ReadsByAct offers (Admit i records verdicts) passes = AreRecordsRead offers i records passes
+ReadsByAct offers _ passes = passes ≡ []
 
 -- the passes of all records that came in, in order
 abbrev pub AreAdmitted : Offers → List Event → List Pass → Type 0
 AreAdmitted offers [] passes = passes ≡ []
 AreAdmitted offers (e ∷ es) passes = (now : List Pass) × ((later : List Pass)
-    × ((passes ≡ now ++ later) × ReadsBy offers e.act now × AreAdmitted offers es later))
+    × ((passes ≡ now ++ later) × ReadsByAct offers e.act now × AreAdmitted offers es later))
 
 -- those of inlet i, as items of its file
 abbrev pub pass_piece : Pass → Piece
@@ -68,26 +68,26 @@ abbrev pub taken_in : Setup → Stopped → List Delivery
 taken_in setup run = taken_at run.event.act 0 (state_at setup run).dests
 
 -- The opening is that of these images: each file begins at its position, each disk-buffer with its list, and nothing else has entries.
-pub record BeginsWith (setup : Setup) (images : Images) (opening : Opening) : Type 0 where
+pub record BeginsWithImages (setup : Setup) (images : Images) (opening : Opening) : Type 0 where
   pub every_position : length images.positions ≡ length setup.sources
   pub every_list : length images.lists ≡ length setup.dests
   pub places : (i position : ℕ) → IsFile setup i → slice_get images.positions i ≡ Some position
       → slice_get opening.places i ≡ Some position
-  pub lists : (d : ℕ) (dest : DestSetup) (list : List Kept) → slice_get setup.dests d ≡ Some dest
+  pub lists : (d : ℕ) (dest : DestSetup) (list : List BufferedEntry) → slice_get setup.dests d ≡ Some dest
       → is_some dest.buffer ≡ true → slice_get images.lists d ≡ Some list
       → slice_get opening.entries d ≡ Some list
-  pub bare : (d : ℕ) (dest : DestSetup) (list : List Kept) → slice_get setup.dests d ≡ Some dest
+  pub bare : (d : ℕ) (dest : DestSetup) (list : List BufferedEntry) → slice_get setup.dests d ≡ Some dest
       → dest.buffer ≡ None → slice_get opening.entries d ≡ Some list → list ≡ []
 
 -- The run began with what these images hold, and was stopped at what is safe. Of each file it read the first of the items behind the
 -- inlet's opening place, which is 0 where that began anew.
-pub record IsStopped (setup : Setup) (offers : Offers) (before : Images) (run : Stopped) : Type 0 where
-  pub begins : BeginsWith setup before run.opening
+pub record IsStoppedRun (setup : Setup) (offers : Offers) (before : Images) (run : Stopped) : Type 0 where
+  pub begins : BeginsWithImages setup before run.opening
   pub legal : are_legal (opened setup run.opening) (run.events ++ run.event ∷ []) ≡ true
   pub safe : Safe (opened setup run.opening) run.events run.event run.images
   pub admits : AreAdmitted offers (run.events ++ run.event ∷ []) run.passes
   pub rising : (i : ℕ) → Rise 0 (run.files i)
-  pub reads : (i : ℕ) (inlet : Inlet) → IsFile setup i
+  pub reads : (i : ℕ) (inlet : InletRecords) → IsFile setup i
       → slice_get (state_at setup run).inlets i ≡ Some inlet
       → (later : List Piece)
       × (behind inlet.opening (run.files i) ≡ pieces_of i run.passes ++ later)

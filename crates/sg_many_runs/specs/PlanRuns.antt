@@ -8,7 +8,7 @@ use Rattle.sg_outside.specs.World.{WorldState, Files}
 use Rattle.sg_msg.specs.declared.offer.Offer.{Offer}
 use Rattle.sg_frame.specs.Records.{Record}
 use Rattle.sg_machine.specs.declared.event.Event.{Event}
-use Rattle.sg_machine.specs.Runs.{Kept}
+use Rattle.sg_machine.specs.Runs.{BufferedEntry}
 use Rattle.sg_machine.specs.Safe.{nothing}
 use Rattle.sg_stores.specs.Stores.{StoreState}
 use Rattle.sg_standing.specs.Images.{AreImagesBetween}
@@ -24,7 +24,7 @@ use Rattle.sg_many_runs.specs.Covered.{Pass, Delivery, Offers, Covered}
 use Rattle.sg_many_runs.specs.Adding.{offers_in, position_in, AddUp}
 use Rattle.sg_many_runs.specs.Passes.{Stopped, AreAdmitted}
 use Rattle.sg_many_runs.specs.Happened.{AreImagesOf, AreListsBy, held_by, AreOfFiles, TellFiles, files_of, Happened, stopped_with}
-use Rattle.sg_many_runs.specs.Clean.{AreLines}
+use Rattle.sg_many_runs.specs.Clean.{AreFilesByLines}
 
 -- A run, stopped once its core was open.
 
@@ -90,7 +90,7 @@ pub record IsStopOf {R : Type 0} {offers : R → ℕ → Record → List Offer �
   pub rest : List Pass
   pub came_are : (run.happened).came ≡ came ++ rest
   pub admits : AreAdmitted (offers_in offers by) (run.events ++ run.event ∷ []) came
-  pub lists : List (List Kept)
+  pub lists : List (List BufferedEntry)
   pub lists_are : AreListsBy plan.setup.dests run.images lists
   pub is : stopped
       ≡ stopped_with (asked plan run.once) run.bytes ((run.happened).opens).opening run.events
@@ -189,7 +189,7 @@ AreStopsOf (run ∷ runs) (s ∷ ss) = IsStopOf run s × AreStopsOf runs ss
 -- These lists stand in the images at the start, and this is what the runs add up to; those that
 -- were stopped before their core was open add nothing.
 pub record PlanRunsSum {R : Type 0} {offers : R → ℕ → Record → List Offer → Type 0} {plan : RunPlan} {by : List R} (taken : List Delivery) (passes : List Pass) (before : List (List ℕ)) (runs : List (RunOf offers plan by)) (last : PlanRun offers plan by) : Type 0 where
-  pub lists : List (List Kept)
+  pub lists : List (List BufferedEntry)
   pub lists_are : AreListsBy plan.setup.dests before lists
   pub stopped : List Stopped
   pub stopped_last : Stopped
@@ -205,8 +205,8 @@ abbrev pub PlanRunsAddUp : {R I O : Type 0} → (I → InletState) → (O → Ou
 PlanRunsAddUp {R} {I} {O} feed drain offers inlets dests =
     (plan : RunPlan) (by : List R) (bytes : ℕ → List ℕ) (taken : List Delivery) (passes : List Pass)
     (before : List (List ℕ)) (runs : List (RunOf offers plan by)) (last : PlanRun offers plan by)
-    → IsRunnable plan → AreOfFiles plan → AreLines plan
-    → ((lists : List (List Kept)) → AreListsBy plan.setup.dests before lists
+    → IsRunnable plan → AreOfFiles plan → AreFilesByLines plan
+    → ((lists : List (List BufferedEntry)) → AreListsBy plan.setup.dests before lists
     → Covered plan.setup (offers_in offers by) (files_of plan.inlets.items bytes) taken passes
     (position_in (held_by plan.setup before lists)) (held_by plan.setup before lists))
     → PlanRunsFollow feed drain offers inlets dests plan by bytes before (runs ++ Opened last ∷ [])

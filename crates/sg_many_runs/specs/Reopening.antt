@@ -1,36 +1,30 @@
 -- A core that is opened over what a crash left of another's stores.
-use Rattle.std.specs.Prelude.{◌≡◌, ◌⊎◌, ℕ, Some, List, slice_get}
+use Rattle.std.specs.Prelude.{◌≡◌, ℕ, Some, List, slice_get}
 use Rattle.sg_device.specs.Disk.{DiskState, content}
 use Rattle.sg_machine.specs.declared.event.Event.{Event}
-use Rattle.sg_machine.specs.declared.setup.Setup.{Setup}
 use Rattle.sg_machine.specs.declared.state.State.{State}
 use Rattle.sg_machine.specs.Runs.{Opening}
 use Rattle.sg_machine.specs.Safe.{Safe}
-use Rattle.sg_counter.specs.Bringing.{store_in}
 use Rattle.sg_stores.specs.declared.answers.CoreRefusal.TheVariants.{Damage}
 use Rattle.sg_standing.specs.Images.{positions_in, AreListsIn}
 use Rattle.sg_standing.specs.States.{CoreState, setup_of}
-use Rattle.sg_core.specs.Opening.{buffer_store_in, IsOpen, IsUnopened}
+use Rattle.sg_core.specs.Opening.{IsOpen, IsUnopened}
+use Rattle.sg_one_run.specs.Failing.{IsUsed}
 
 -- each disk tells its bytes, which are the image of its store
 abbrev pub TellImages : List DiskState → List (List ℕ) → Type 0
 TellImages disks images = (s : ℕ) (disk : DiskState) → slice_get disks s ≡ Some disk
     → (bytes : List ℕ) × (slice_get images s ≡ Some bytes) × (content disk ≡ Some bytes)
 
--- the store is that of a source or of a disk-buffer
-abbrev pub IsUsed : Setup → ℕ → Type 0
-IsUsed setup s = ((i : ℕ) × (store_in setup.sources i ≡ Some s))
-    ⊎ ((d : ℕ) × (buffer_store_in setup.dests d ≡ Some s))
-
 -- an opening has the positions and the lists that stand in these images of a core's stores
-pub record BeginsWith (core : CoreState) (images : List (List ℕ)) (opening : Opening) : Type 0 where
+pub record OpensWithImages (core : CoreState) (images : List (List ℕ)) (opening : Opening) : Type 0 where
   pub positions : opening.places ≡ positions_in core.sources images
   pub lists : AreListsIn core.sinks images opening.entries
 
 -- A core opened over these disks with the same setup begins with what stands in the images, and none of its stores is damaged.
 pub record OpensAgain (core : CoreState) (images : List (List ℕ)) (disks : List DiskState) : Type 0 where
   pub begins : (again : CoreState) (opens : IsOpen (setup_of core) disks again)
-      → BeginsWith core images opens.opening
+      → OpensWithImages core images opens.opening
   pub whole : (news : List DiskState) (s at : ℕ) → IsUsed (setup_of core) s
       → IsUnopened (setup_of core) disks news (Damage s at) → ⊥
 

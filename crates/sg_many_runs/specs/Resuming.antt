@@ -31,15 +31,15 @@ PiecesGrow = (kind : FrameKind) (limit : ℕ) (bytes more : List ℕ)
     → (later : List Piece) × (pieces kind limit (bytes ++ more) ≡ pieces kind limit bytes ++ later)
 
 -- a place where a file's reading may begin: its start, or the end of an item
-abbrev pub IsBegun : FrameKind → (limit : ℕ) → List ℕ → ℕ → Type 0
-IsBegun kind limit bytes place = (place ≡ 0)
+abbrev pub IsReadingBegun : FrameKind → (limit : ℕ) → List ℕ → ℕ → Type 0
+IsReadingBegun kind limit bytes place = (place ≡ 0)
     ⊎ ((piece : Piece) × (Contains (pieces kind limit bytes) piece × (piece.end ≡ place)))
 
 -- what was read of a file from such a place on, of which these bytes are left, are the first of its items behind that place
 abbrev pub ReadingResumes : Type 0
 ReadingResumes =
     (kind : FrameKind) (limit place : ℕ) (bytes left : List ℕ) (given : List Stamped) → 0 < limit
-    → IsBegun kind limit bytes place → plain given ++ left ≡ drop place bytes
+    → IsReadingBegun kind limit bytes place → plain given ++ left ≡ drop place bytes
     → (later : List Piece) × (behind place (pieces kind limit bytes)
     ≡ map piece_of (map (moved place) (items_of kind limit given)) ++ later)
 
@@ -47,6 +47,6 @@ ReadingResumes =
 abbrev pub ReadingEnds : Type 0
 ReadingEnds =
     (kind : FrameKind) (limit place : ℕ) (bytes : List ℕ) (given : List Stamped) → 0 < limit
-    → IsBegun kind limit bytes place → plain given ≡ drop place bytes
+    → IsReadingBegun kind limit bytes place → plain given ≡ drop place bytes
     → behind place (pieces kind limit bytes)
     ≡ map piece_of (map (moved place) (items_of kind limit given))

@@ -8,7 +8,7 @@ ghost use Rattle.sg_machine.specs.declared.state.State.{State};
 ghost use Rattle.sg_machine.specs.Runs.{Opening, opened};
 ghost use Rattle.sg_machine.specs.Safe.{nothing};
 ghost use Rattle.sg_standing.specs.States.{CoreState, setup_of};
-ghost use Rattle.sg_standing.specs.Standing.{StandsFor, Does};
+ghost use Rattle.sg_standing.specs.Standing.{StandsFor, DoesAct};
 ghost use Rattle.sg_standing.specs.Images.{AreImages, AreImagesWithin, AreImagesBetween};
 ghost use Rattle.sg_core.specs.Opening.{NumberStores};
 ghost use Rattle.sg_many_runs.specs.Reopening.{TellImages, OpensAgain, BeginsSafe};
@@ -26,7 +26,7 @@ pub fn images_open_as_they_stand()
         → NumberStores (setup_of core) (length disks) → TellImages disks images
         → OpensAgain core images disks }
     ensures within { (old new : CoreState) (start : State) (events : List Event) (act : Act)
-        (does : Does old new act) (images : List (List ℕ)) (disks : List DiskState)
+        (does : DoesAct old new act) (images : List (List ℕ)) (disks : List DiskState)
         → StandsFor old start events → AreImagesWithin old.stores new.stores images
         → NumberStores (setup_of old) (length disks) → TellImages disks images
         → OpensAgain old images disks }
@@ -48,7 +48,7 @@ pub fn openings_are_safe()
         → NumberStores (setup_of core) (length disks) → TellImages disks images
         → BeginsSafe core disks (opened setup opening) events nothing }
     ensures within { (setup : Setup) (opening : Opening) (events : List Event) (old new : CoreState)
-        (act : Act) (does : Does old new act) (images : List (List ℕ)) (disks : List DiskState)
+        (act : Act) (does : DoesAct old new act) (images : List (List ℕ)) (disks : List DiskState)
         → StandsFor old (opened setup opening) events → AreImagesWithin old.stores new.stores images
         → NumberStores (setup_of old) (length disks) → TellImages disks images
         → BeginsSafe old disks (opened setup opening) events

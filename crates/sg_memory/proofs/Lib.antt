@@ -1,4 +1,3 @@
 pub mod Giving
-pub mod FrameParts
 pub mod PathLemmas
 pub mod InletStart

@@ -90,11 +90,11 @@ pull_gives inlet room =
     else Next
 
 -- a pull fails exactly where this says so, and gives exactly this otherwise
-abbrev pub Pulls : Bool → Pull → Result Pull InletFault → Type 0
-Pulls fails gives (Ok pull) = (fails ≡ false) × (pull ≡ gives)
-Pulls fails gives (Err e) = fails ≡ true
+abbrev pub PullGives : Bool → Pull → Result Pull InletFault → Type 0
+PullGives fails gives (Ok pull) = (fails ≡ false) × (pull ≡ gives)
+PullGives fails gives (Err e) = fails ≡ true
 
 -- with so much room it fails and gives as its plan and its bytes say, and the plan goes on by this call
 pub record PullsByPlan (old new : MemoryInlet) (room : ℕ) (result : Result Pull InletFault) : Type 0 where
-  pub pulls : Pulls (pull_fails old) (pull_gives old room) result
+  pub pulls : PullGives (pull_fails old) (pull_gives old room) result
   pub plan : new.plan ≡ after_call old.plan

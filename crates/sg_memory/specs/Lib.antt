@@ -1,4 +1,5 @@
 pub mod Plans
+pub mod Scripts
 pub mod Part
 pub mod Parts
 pub mod Inlet

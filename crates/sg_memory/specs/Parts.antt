@@ -9,8 +9,8 @@ abbrev pub begun : MemoryParts → List MemoryPart
 begun parts = parts.past.items ++ listed parts.present
 
 -- a part begins with nothing given, behind the present one; or none is to come
-abbrev pub Begins : MemoryParts → MemoryParts → Bool → Type 0
-Begins old new true = (new.past.items ≡ begun old) × (is_some new.present ≡ true)
+abbrev pub BeginsPart : MemoryParts → MemoryParts → Bool → Type 0
+BeginsPart old new true = (new.past.items ≡ begun old) × (is_some new.present ≡ true)
     × (given_of new.present ≡ 0) × (length old.waiting.items ≡ length new.waiting.items + 1)
-Begins old new false = (old.waiting.items ≡ []) × (new.waiting.items ≡ []) × (new.past ≡ old.past)
+BeginsPart old new false = (old.waiting.items ≡ []) × (new.waiting.items ≡ []) × (new.past ≡ old.past)
     × (new.present ≡ old.present)

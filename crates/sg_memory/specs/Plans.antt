@@ -1,22 +1,22 @@
 -- Which calls of a machine in memory fail.
 use Rattle.std.specs.Prelude.{◌≡◌, ℕ, List, [], ◌∷◌}
-use Rattle.sg_memory_disk.specs.Plan.{failing, IsQuiet}
-use Rattle.sg_memory_disk.specs.declared.plan.Plan.{Plan}
+use Rattle.sg_memory_disk.specs.Plan.{failing, IsFaultless}
+use Rattle.sg_memory_disk.specs.declared.plan.FaultPlan.{FaultPlan}
 use Rattle.sg_memory.specs.declared.plans.OutletScript.{OutletScript}
 use Rattle.sg_memory.specs.declared.plans.PathsPlan.{PathsPlan}
 use Rattle.sg_memory.specs.declared.plans.WorldPlans.{WorldPlans}
 
 -- no call fails, and none is too early
 abbrev pub IsOutletQuiet : OutletScript → Type 0
-IsOutletQuiet plan = IsQuiet plan.fails × IsQuiet plan.laters × IsQuiet plan.waits
+IsOutletQuiet plan = IsFaultless plan.fails × IsFaultless plan.laters × IsFaultless plan.waits
 
 abbrev pub IsPathsQuiet : PathsPlan → Type 0
-IsPathsQuiet plan = IsQuiet plan.fails × IsQuiet plan.laters
+IsPathsQuiet plan = IsOutletQuiet plan.calls × IsFaultless plan.unused
 
 -- the same of all that will be opened
-abbrev pub AreInletsQuiet : List Plan → Type 0
+abbrev pub AreInletsQuiet : List FaultPlan → Type 0
 AreInletsQuiet [] = Unit {0}
-AreInletsQuiet (plan ∷ plans) = IsQuiet plan × AreInletsQuiet plans
+AreInletsQuiet (plan ∷ plans) = IsFaultless plan × AreInletsQuiet plans
 
 abbrev pub AreOutletsQuiet : List OutletScript → Type 0
 AreOutletsQuiet [] = Unit {0}
@@ -27,7 +27,7 @@ ArePathsQuiet [] = Unit {0}
 ArePathsQuiet (plan ∷ plans) = IsPathsQuiet plan × ArePathsQuiet plans
 
 -- the calls that fail of the inlet that is opened next
-abbrev pub first_failing : List Plan → List ℕ
+abbrev pub first_failing : List FaultPlan → List ℕ
 first_failing [] = []
 first_failing (plan ∷ plans) = failing plan
 
@@ -42,13 +42,13 @@ IsFirstPaths (first ∷ plans) plan = plan ≡ first
 
 -- no call fails, of the machine and of the devices that it opens, and nothing is due
 pub record AreQuiet (plans : WorldPlans) : Type 0 where
-  pub reads : IsQuiet plans.reads
-  pub inlet_opens : IsQuiet plans.inlet_opens
-  pub outlet_opens : IsQuiet plans.outlet_opens
-  pub paths_opens : IsQuiet plans.paths_opens
-  pub says : IsQuiet plans.says
-  pub builds : IsQuiet plans.builds
-  pub dues : IsQuiet plans.dues
+  pub reads : IsFaultless plans.reads
+  pub inlet_opens : IsFaultless plans.inlet_opens
+  pub outlet_opens : IsFaultless plans.outlet_opens
+  pub paths_opens : IsFaultless plans.paths_opens
+  pub says : IsFaultless plans.says
+  pub builds : IsFaultless plans.builds
+  pub dues : IsFaultless plans.dues
   pub inlets : AreInletsQuiet plans.inlets.items
   pub outlets : AreOutletsQuiet plans.outlets.items
   pub paths : ArePathsQuiet plans.paths.items

@@ -21,7 +21,7 @@ use Rattle.sg_memory.specs.Inlet.{file_start, slot_start}
 use Rattle.sg_memory.specs.Outlet.{new_outlet}
 use Rattle.sg_memory.specs.Paths.{new_paths}
 use Rattle.sg_memory.specs.declared.files.MemoryFile.{MemoryFile}
-use Rattle.sg_memory.specs.declared.opening.OpenedInlet.{OpenedInlet}
+use Rattle.sg_memory.specs.declared.opening.MemoryOpenedInlet.{MemoryOpenedInlet}
 use Rattle.sg_memory.specs.declared.world.MemoryWorld.{MemoryWorld}
 
 -- an inlet at its opening
@@ -29,10 +29,10 @@ abbrev pub start_of : InletSpec → ℕ → List ℕ → InletState
 start_of (File path once limit) from left = file_start from left
 start_of (Slot ip port slot once) from left = slot_start
 
-abbrev pub opened_state : OpenedInlet → InletState
+abbrev pub opened_state : MemoryOpenedInlet → InletState
 opened_state opened = start_of opened.spec opened.from opened.left.items
 
-abbrev pub opened_inlet : OpenedInlet → Opened InletSpec InletState
+abbrev pub opened_inlet : MemoryOpenedInlet → Opened InletSpec InletState
 opened_inlet opened = record { spec = opened.spec; state = opened_state opened }
 
 -- an outlet at its opening
@@ -89,18 +89,18 @@ lacks_file files (File path once limit) = is_none (file_of files path)
 lacks_file files (Slot ip port slot once) = false
 
 -- where the file is there, the place at which it is read and what is left of it behind that
-abbrev pub IsRest : Option (List ℕ) → ℕ → ℕ → OpenedInlet → Type 0
-IsRest None limit from opened = Unit {0}
-IsRest (Some bytes) limit from opened = (opened.from ≡ place_in limit bytes from)
+abbrev pub IsFileRest : Option (List ℕ) → ℕ → ℕ → MemoryOpenedInlet → Type 0
+IsFileRest None limit from opened = Unit {0}
+IsFileRest (Some bytes) limit from opened = (opened.from ≡ place_in limit bytes from)
     × (opened.left.items ≡ drop (place_in limit bytes from) bytes)
 
 -- what an inlet is opened for
-abbrev pub IsSource : List MemoryFile → InletSpec → ℕ → OpenedInlet → Type 0
-IsSource files (File path once limit) from opened = IsRest (file_of files path) limit from opened
-IsSource files (Slot ip port slot once) from opened = opened.from ≡ 0
+abbrev pub IsInletSource : List MemoryFile → InletSpec → ℕ → MemoryOpenedInlet → Type 0
+IsInletSource files (File path once limit) from opened = IsFileRest (file_of files path) limit from opened
+IsInletSource files (Slot ip port slot once) from opened = opened.from ≡ 0
 
-abbrev pub IsOpenedFor : List MemoryFile → InletSpec → ℕ → OpenedInlet → Type 0
-IsOpenedFor files spec from opened = (opened.spec ≡ spec) × IsSource files spec from opened
+abbrev pub IsMemoryOpenedFor : List MemoryFile → InletSpec → ℕ → MemoryOpenedInlet → Type 0
+IsMemoryOpenedFor files spec from opened = (opened.spec ≡ spec) × IsInletSource files spec from opened
 
 -- an inlet ends behind its file or its first connection
 abbrev pub once_of : InletSpec → Bool
@@ -108,7 +108,7 @@ once_of (File path once limit) = once
 once_of (Slot ip port slot once) = once
 
 -- an inlet more was opened
-abbrev pub with_inlet : WorldState → OpenedInlet → WorldState
+abbrev pub with_inlet : WorldState → MemoryOpenedInlet → WorldState
 with_inlet world opened = record world { inlets = with_opened world.inlets opened.spec (opened_state opened) }
 
 -- a file can't be read exactly where this says so, but for lack of memory

@@ -10,30 +10,30 @@ use std::alloc::{AllocError, Global};
 
 /// A closed inlet, and the one closed before it.
 #[derive(Debug, Drop)]
-pub struct InletCell {
+pub struct MemoryInletCell {
     pub closed: Option<MemoryInlet>,
-    pub before: Option<Box<InletCell>>,
+    pub before: Option<Box<MemoryInletCell>>,
 }
 
 /// A closed outlet, and the one closed before it.
 #[derive(Debug, Drop)]
-pub struct OutletCell {
+pub struct MemoryOutletCell {
     pub closed: Option<MemoryOutlet>,
-    pub before: Option<Box<OutletCell>>,
+    pub before: Option<Box<MemoryOutletCell>>,
 }
 
 /// A closed opener, and the one closed before it.
 #[derive(Debug, Drop)]
-pub struct PathsCell {
+pub struct MemoryPathsCell {
     pub closed: Option<MemoryPaths>,
-    pub before: Option<Box<PathsCell>>,
+    pub before: Option<Box<MemoryPathsCell>>,
 }
 
 /// Memory for an inlet's closing.
-pub(crate) fn inlet_cell(alloc: Global) -> Result<Box<InletCell>, AllocError> {
+pub(crate) fn inlet_cell(alloc: Global) -> Result<Box<MemoryInletCell>, AllocError> {
     Ok(Box::new(
         alloc,
-        InletCell {
+        MemoryInletCell {
             closed: None,
             before: None,
         },
@@ -41,10 +41,10 @@ pub(crate) fn inlet_cell(alloc: Global) -> Result<Box<InletCell>, AllocError> {
 }
 
 /// Memory for an outlet's closing.
-pub(crate) fn outlet_cell(alloc: Global) -> Result<Box<OutletCell>, AllocError> {
+pub(crate) fn outlet_cell(alloc: Global) -> Result<Box<MemoryOutletCell>, AllocError> {
     Ok(Box::new(
         alloc,
-        OutletCell {
+        MemoryOutletCell {
             closed: None,
             before: None,
         },
@@ -52,10 +52,10 @@ pub(crate) fn outlet_cell(alloc: Global) -> Result<Box<OutletCell>, AllocError> 
 }
 
 /// Memory for an opener's closing.
-pub(crate) fn paths_cell(alloc: Global) -> Result<Box<PathsCell>, AllocError> {
+pub(crate) fn paths_cell(alloc: Global) -> Result<Box<MemoryPathsCell>, AllocError> {
     Ok(Box::new(
         alloc,
-        PathsCell {
+        MemoryPathsCell {
             closed: None,
             before: None,
         },
@@ -63,7 +63,11 @@ pub(crate) fn paths_cell(alloc: Global) -> Result<Box<PathsCell>, AllocError> {
 }
 
 /// Puts an inlet behind those that were closed before. It takes no memory.
-pub fn add_inlet(last: &mut Option<Box<InletCell>>, mut cell: Box<InletCell>, inlet: MemoryInlet)
+pub fn add_inlet(
+    last: &mut Option<Box<MemoryInletCell>>,
+    mut cell: Box<MemoryInletCell>,
+    inlet: MemoryInlet,
+)
     ensures { inlet_states last.new ≡ inlet_states last.old ++ inlet_of inlet ∷ [] }
 {
     cell.closed = Some(inlet);
@@ -73,8 +77,8 @@ pub fn add_inlet(last: &mut Option<Box<InletCell>>, mut cell: Box<InletCell>, in
 
 /// Puts an outlet behind those that were closed before. It takes no memory.
 pub fn add_outlet(
-    last: &mut Option<Box<OutletCell>>,
-    mut cell: Box<OutletCell>,
+    last: &mut Option<Box<MemoryOutletCell>>,
+    mut cell: Box<MemoryOutletCell>,
     outlet: MemoryOutlet,
 )
     ensures { outlet_states last.new ≡ outlet_states last.old ++ outlet_of outlet ∷ [] }
@@ -85,7 +89,11 @@ pub fn add_outlet(
 }
 
 /// Puts an opener behind those that were closed before. It takes no memory.
-pub fn add_paths(last: &mut Option<Box<PathsCell>>, mut cell: Box<PathsCell>, opener: MemoryPaths)
+pub fn add_paths(
+    last: &mut Option<Box<MemoryPathsCell>>,
+    mut cell: Box<MemoryPathsCell>,
+    opener: MemoryPaths,
+)
     ensures { paths_states last.new ≡ paths_states last.old ++ paths_of opener ∷ [] }
 {
     cell.closed = Some(opener);

@@ -4,7 +4,7 @@ ghost use Rattle.sg_memory.specs.Part.{left_of, size_of};
 
 use crate::{MemoryPart, MemoryParts};
 use sg_device::{Inlet, InletFault, NoMemory, Pull};
-use sg_memory_disk::Plan;
+use sg_memory_disk::FaultPlan;
 use std::alloc::Global;
 use std::collections::VecDeque;
 
@@ -20,7 +20,7 @@ pub struct MemoryInlet {
     once: bool,
     single: bool,
     /// The calls that fail.
-    pub plan: Plan,
+    pub plan: FaultPlan,
     pulls: u64,
     idles: u64,
     faults: u64,
@@ -81,7 +81,7 @@ impl MemoryInlet {
         from: u64,
         pace: Pace,
         once: bool,
-        plan: Plan,
+        plan: FaultPlan,
     ) -> Result<MemoryInlet, NoMemory>
         requires { from + length bytes.items < 2 ^ 63 }
         ensures opened { IfOk result (λ inlet. inlet_of inlet ≡ file_start from bytes.items) }
@@ -111,7 +111,7 @@ impl MemoryInlet {
         connections: VecDeque<MemoryPart>,
         pace: Pace,
         once: bool,
-        plan: Plan,
+        plan: FaultPlan,
     ) -> Result<MemoryInlet, NoMemory>
         ensures opened { IfOk result (λ inlet. inlet_of inlet ≡ slot_start) }
         ensures goes { IfOk result (λ inlet. GoesBy inlet pace once (failing plan)) }

@@ -18,12 +18,12 @@ mod plans;
 mod threads;
 mod world;
 
-pub use cells::{InletCell, OutletCell, PathsCell};
+pub use cells::{MemoryInletCell, MemoryOutletCell, MemoryPathsCell};
 pub use connection::MemoryConnection;
 pub use files::MemoryFile;
 pub use inlet::{MemoryInlet, Pace};
 pub use open::{MemoryDrain, MemoryFeed, MemoryOpener};
-pub use opening::OpenedInlet;
+pub use opening::MemoryOpenedInlet;
 pub use outlet::MemoryOutlet;
 pub use part::MemoryPart;
 pub use parts::MemoryParts;

@@ -4,21 +4,20 @@ ghost use Rattle.sg_device.specs.Inlet.{PullFills, PullTells, PullMoves, PullLea
 ghost use Rattle.sg_device.specs.Outlet.{Sends};
 ghost use Rattle.sg_memory.specs.Inlet.{PullsByPlan};
 ghost use Rattle.sg_memory.specs.Open.{feed_of, drain_of, opener_of};
-ghost use Rattle.sg_memory.specs.Outlet.{SendFails};
+ghost use Rattle.sg_memory.specs.Scripts.{SendsBy};
 ghost use Rattle.sg_memory_disk.specs.Plan.{after_call};
 
-use crate::cells::{InletCell, OutletCell, PathsCell};
+use crate::cells::{MemoryInletCell, MemoryOutletCell, MemoryPathsCell};
 use crate::{MemoryInlet, MemoryOutlet, MemoryPaths};
 use sg_device::{
-    Frames, Inlet, InletFault, OpenRefusal, Opener, Outlet, OutletFault, Pull, Reopened,
-    SendRefusal,
+    Frames, Inlet, InletFault, Opener, Outlet, OutletFault, Pull, Reopened, SendRefusal,
 };
 
 /// An open inlet of a machine in memory.
 #[derive(Debug, Drop)]
 pub struct MemoryFeed {
     pub inlet: MemoryInlet,
-    pub(crate) cell: Box<InletCell>,
+    pub(crate) cell: Box<MemoryInletCell>,
 }
 
 impl Inlet for MemoryFeed {
@@ -49,7 +48,7 @@ impl Inlet for MemoryFeed {
 #[derive(Debug, Drop)]
 pub struct MemoryDrain {
     pub outlet: MemoryOutlet,
-    pub(crate) cell: Box<OutletCell>,
+    pub(crate) cell: Box<MemoryOutletCell>,
 }
 
 impl Outlet for MemoryDrain {
@@ -58,7 +57,7 @@ impl Outlet for MemoryDrain {
     fn send(&mut self, frames: &Frames) -> Result<(), SendRefusal>
         requires { frames.now ≢ [] }
         ensures sends { Sends (drain_of self.old) (drain_of self.new) frames.now result }
-        ensures fails { SendFails self.old.outlet result }
+        ensures fails { SendsBy self.old.outlet.plan self.old.outlet.laters result }
         ensures plan { self.new.outlet.plan ≡ record self.old.outlet.plan {
           fails = after_call self.old.outlet.plan.fails;
           waits = after_call self.old.outlet.plan.waits;
@@ -80,22 +79,30 @@ impl Outlet for MemoryDrain {
 #[derive(Debug, Drop)]
 pub struct MemoryOpener {
     pub paths: MemoryPaths,
-    pub(crate) cell: Box<PathsCell>,
+    pub(crate) cell: Box<MemoryPathsCell>,
 }
 
 impl Opener for MemoryOpener {
     ghost state = { opener_of };
 
-    fn open(&mut self, path: &[u8]) -> Result<(), OpenRefusal> {
+    fn open(&mut self, path: &[u8]) -> Result<(), SendRefusal> {
         self.paths.open(path)
     }
 
-    fn send(&mut self, path: &[u8], text: &[u8]) -> Result<(), SendRefusal> {
-        self.paths.send(path, text)
+    fn send(&mut self, path: &[u8], texts: &Frames) -> Result<(), SendRefusal> {
+        self.paths.send(path, texts)
+    }
+
+    fn taken(&self) -> u64 {
+        self.paths.taken()
     }
 
     fn reopen(&mut self, path: &[u8]) -> Result<Reopened, OutletFault> {
         self.paths.reopen(path)
+    }
+
+    fn is_unused(&mut self, path: &[u8]) -> bool {
+        self.paths.is_unused(path)
     }
 
     fn close(&mut self, path: &[u8]) {

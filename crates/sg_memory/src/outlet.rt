@@ -55,7 +55,8 @@ impl MemoryOutlet {
 }
 
 impl Outlet for MemoryOutlet {
-    ghost use Rattle.sg_memory.specs.Outlet.{outlet_of, SendFails, ReopenFails};
+    ghost use Rattle.sg_memory.specs.Outlet.{outlet_of};
+    ghost use Rattle.sg_memory.specs.Scripts.{SendsBy, ReopensBy};
     ghost use Rattle.sg_memory_disk.specs.Plan.{after_call};
 
     ghost state = { outlet_of };
@@ -63,7 +64,7 @@ impl Outlet for MemoryOutlet {
     fn send(&mut self, frames: &Frames) -> Result<(), SendRefusal>
         requires { frames.now ≢ [] }
         ensures sends { Sends (outlet_of self.old) (outlet_of self.new) frames.now result }
-        ensures fails { SendFails self.old result }
+        ensures fails { SendsBy self.old.plan self.old.laters result }
         ensures plan { self.new.plan ≡ record self.old.plan
             { fails = after_call self.old.plan.fails; waits = after_call self.old.plan.waits } }
     {
@@ -99,7 +100,7 @@ impl Outlet for MemoryOutlet {
 
     fn reopen(&mut self) -> Result<Reopened, OutletFault>
         ensures reopens { Reopens (outlet_of self.old) (outlet_of self.new) result }
-        ensures fails { ReopenFails self.old result }
+        ensures fails { ReopensBy self.old.plan self.old.laters result }
     {
         let later = self.plan.laters.next();
         if self.plan.fails.next() || (later && self.laters == u64::MAX) {

@@ -19,7 +19,7 @@ pub struct MemoryParts {
 }
 
 impl MemoryParts {
-    ghost use Rattle.sg_memory.specs.Parts.{Begins};
+    ghost use Rattle.sg_memory.specs.Parts.{BeginsPart};
 
     /// One part, which is there from the start.
     pub fn whole(alloc: Global, part: MemoryPart) -> MemoryParts
@@ -94,7 +94,7 @@ impl MemoryParts {
 
     /// Begins the next part, where there is one. What the present one had left is dropped.
     pub fn begin(&mut self) -> bool
-        ensures { Begins self.old self.new result }
+        ensures { BeginsPart self.old self.new result }
     {
         let Some(mut next) = self.waiting.pop_front() else {
             return false;

@@ -1,14 +1,13 @@
 // An opener of files in memory by their paths.
-ghost use Rattle.std.specs.Prelude.{◌≡◌, ◌≤◌, false, length};
-ghost use Rattle.std.specs.Bool.{OnTrue};
+ghost use Rattle.std.specs.Prelude.{◌≡◌, ◌≢◌, ◌≤◌, ◌<◌, ◌+◌, ◌-◌, [], ◌∷◌, ◌++◌, Ok, length, map, take, OnOk, OnErr};
 ghost use Rattle.std.specs.List.{Contains};
-ghost use Rattle.sg_device.specs.Faults.{Rose};
-ghost use Rattle.sg_device.specs.Paths.{KeepsPaths, PathOpens, PathSends, PathReopens, PathCloses, without_path};
-ghost use Rattle.sg_memory.specs.Paths.{without_at};
+ghost use Rattle.sg_device.specs.Paths.{PathOpens, PathSends, PathReopens, PathCloses, under_path, without_path};
+ghost use Rattle.sg_device.specs.declared.outlet.Reopened.TheVariants.{Ready};
+ghost use Rattle.sg_memory.specs.Paths.{text_of, without_at};
 
 use crate::PathsPlan;
-use sg_device::{Name, OpenRefusal, Opener, OutletFault, Reopened, SendRefusal};
-use std::alloc::Global;
+use sg_device::{Frames, Name, NoMemory, Opener, OutletFault, Reopened, SendRefusal};
+use std::alloc::{AllocError, Global};
 
 /// A text that was taken, and the path of its file.
 #[derive(Debug, Drop)]
@@ -26,6 +25,7 @@ pub struct MemoryPaths {
     /// The calls that fail, and those that are too early.
     pub plan: PathsPlan,
     faults: u64,
+    failing: u64,
     laters: u64,
 }
 
@@ -37,14 +37,15 @@ impl Drop for MemoryPaths {
             taken: _taken,
             plan: _plan,
             faults: _faults,
+            failing: _failing,
             laters: _laters,
         } = self;
     }
 }
 
 impl MemoryPaths {
-    ghost use Rattle.sg_memory.specs.Paths.{paths_of, new_paths};
-    ghost use Rattle.sg_memory_disk.specs.Plan.{fails_now};
+    ghost use Rattle.sg_memory.specs.Paths.{paths_of, new_paths, TakesUnder};
+    ghost use Rattle.sg_memory.specs.Scripts.{ReopensBy};
 
     /// An opener with no open file.
     pub fn new(alloc: Global, plan: PathsPlan) -> MemoryPaths
@@ -57,6 +58,7 @@ impl MemoryPaths {
             taken: Vec::new(alloc),
             plan,
             faults: 0,
+            failing: 0,
             laters: 0,
         }
     }
@@ -69,80 +71,124 @@ impl MemoryPaths {
     }
 
     /// The texts taken, in order.
-    pub fn taken(&self) -> &[TakenText]
+    pub fn texts(&self) -> &[TakenText]
         ensures { result.now ≡ self.now.taken.items }
     {
         &self.taken
     }
 
-    // Counts a call, and counts its fault where it fails.
-    fn next(&mut self) -> bool
-        ensures fails { result ≡ fails_now self.old.plan.fails }
-        ensures kept { KeepsPaths (paths_of self.old) (paths_of self.new) }
-        ensures same { result ≡ false → paths_of self.new ≡ paths_of self.old }
-        ensures rose { OnTrue result (Rose self.old.faults self.new.faults) }
+    // Counts an opening or a reopening, and tells whether it fails or is too early.
+    fn begin(&mut self) -> Result<Reopened, OutletFault>
+        ensures counted { PathReopens (paths_of self.old) (paths_of self.new) result }
+        ensures fails { ReopensBy self.old.plan.calls self.old.laters result }
+        ensures ready { result ≡ Ok Ready → paths_of self.new ≡ paths_of self.old }
     {
-        let fails = self.plan.fails.next();
-        if fails {
+        let later = self.plan.calls.laters.next();
+        if self.plan.calls.fails.next() || (later && self.laters == u64::MAX) {
             self.faults = self.faults.saturating_add(1);
+            self.failing = self.failing.saturating_add(1);
+            return Err(OutletFault);
         }
-        fails
+        if later {
+            self.laters += 1;
+            return Ok(Reopened::Later);
+        }
+        Ok(Reopened::Ready)
+    }
+
+    // Takes the first texts, fewer only where memory runs out, and says how many.
+    fn take_texts(&mut self, path: &[u8], texts: &Frames, wanted: usize) -> usize
+        requires { wanted ≤ length texts.now }
+        ensures took { TakesUnder path.now texts.now result (paths_of self.old) (paths_of self.new) }
+        ensures bound { result ≤ wanted }
+    {
+        let count = take_first(self.alloc, &mut self.taken, path, texts, wanted);
+        if count > 0 {
+            self.failing = 0;
+        }
+        count
+    }
+
+    // Takes the texts that a send takes before it fails or is too early, and says how many.
+    fn take_some(&mut self, path: &[u8], texts: &Frames) -> usize
+        requires { texts.now ≢ [] }
+        ensures took { TakesUnder path.now texts.now result (paths_of self.old) (paths_of self.new) }
+        ensures some { result < length texts.now }
+    {
+        let wanted = self.plan.calls.first.min(texts.len() - 1);
+        self.take_texts(path, texts, wanted)
     }
 }
 
 impl Opener for MemoryPaths {
-    ghost use Rattle.sg_memory.specs.Paths.{paths_of, OpenFails, SendFails, ReopenFails};
+    ghost use Rattle.sg_memory.specs.Paths.{paths_of};
+    ghost use Rattle.sg_memory.specs.Scripts.{OpensBy, SendsBy, ReopensBy};
     ghost use Rattle.sg_memory_disk.specs.Plan.{fails_now};
 
     ghost state = { paths_of };
 
-    fn open(&mut self, path: &[u8]) -> Result<(), OpenRefusal>
+    fn open(&mut self, path: &[u8]) -> Result<(), SendRefusal>
         requires { Contains (paths_of self.old).opened path.now → ⊥ }
         ensures opens { PathOpens (paths_of self.old) (paths_of self.new) path.now result }
-        ensures fails { OpenFails (fails_now self.old.plan.fails) result }
+        ensures fails { OpensBy self.old.plan.calls self.old.laters result }
     {
-        if self.next() {
-            return Err(OpenRefusal::Failed);
+        match self.begin() {
+            Ok(Reopened::Ready) => {}
+            Ok(Reopened::Later) => return Err(SendRefusal::Later),
+            Err(_) => return Err(SendRefusal::Fault),
         }
         let path = Name::new(self.alloc, path)?;
         if self.opened.push(path).is_err() {
-            return Err(OpenRefusal::NoMemory);
-        }
-        Ok(())
-    }
-
-    fn send(&mut self, path: &[u8], text: &[u8]) -> Result<(), SendRefusal>
-        requires { Contains (paths_of self.old).opened path.now }
-        ensures sends { PathSends (paths_of self.old) (paths_of self.new) path.now text.now result }
-        ensures fails { SendFails (fails_now self.old.plan.fails) result }
-    {
-        if self.next() {
-            return Err(SendRefusal::Fault);
-        }
-        let taken = TakenText {
-            path: Name::new(self.alloc, path)?,
-            text: text.to_vec(self.alloc)?,
-        };
-        if self.taken.push(taken).is_err() {
             return Err(SendRefusal::NoMemory);
         }
         Ok(())
     }
 
+    fn send(&mut self, path: &[u8], texts: &Frames) -> Result<(), SendRefusal>
+        requires open { Contains (paths_of self.old).opened path.now }
+        requires some { texts.now ≢ [] }
+        ensures sends { PathSends (paths_of self.old) (paths_of self.new) path.now texts.now result }
+        ensures fails { SendsBy self.old.plan.calls self.old.laters result }
+    {
+        match self.plan.calls.next_send(self.laters) {
+            Ok(Reopened::Ready) => {
+                if self.take_texts(path, texts, texts.len()) < texts.len() {
+                    return Err(SendRefusal::NoMemory);
+                }
+                Ok(())
+            }
+            Ok(Reopened::Later) => {
+                let _count = self.take_some(path, texts);
+                self.laters += 1;
+                Err(SendRefusal::Later)
+            }
+            Err(_) => {
+                let _count = self.take_some(path, texts);
+                self.faults = self.faults.saturating_add(1);
+                self.failing = self.failing.saturating_add(1);
+                Err(SendRefusal::Fault)
+            }
+        }
+    }
+
+    fn taken(&self) -> u64 {
+        self.taken.len() as u64
+    }
+
     fn reopen(&mut self, path: &[u8]) -> Result<Reopened, OutletFault>
         requires { Contains (paths_of self.old).opened path.now }
         ensures reopens { PathReopens (paths_of self.old) (paths_of self.new) result }
-        ensures fails { ReopenFails self.old result }
+        ensures fails { ReopensBy self.old.plan.calls self.old.laters result }
     {
-        let later = self.plan.laters.next();
-        if self.next() {
-            return Err(OutletFault);
-        }
-        if later && self.laters < u64::MAX {
-            self.laters += 1;
-            return Ok(Reopened::Later);
-        }
-        Ok(Reopened::Ready)
+        self.begin()
+    }
+
+    fn is_unused(&mut self, path: &[u8]) -> bool
+        requires { Contains (paths_of self.old).opened path.now }
+        ensures same { paths_of self.new ≡ paths_of self.old }
+        ensures unused { result ≡ fails_now self.old.plan.unused }
+    {
+        self.plan.unused.next()
     }
 
     fn close(&mut self, path: &[u8])
@@ -151,6 +197,56 @@ impl Opener for MemoryPaths {
     {
         take_out(&mut self.opened, path);
     }
+}
+
+// Takes a text for the file of a path.
+fn push_text(
+    alloc: Global,
+    taken: &mut Vec<TakenText>,
+    path: &[u8],
+    text: &[u8],
+) -> Result<(), NoMemory>
+    ensures ok { OnOk result (map text_of taken.new.items ≡ map text_of taken.old.items
+        ++ (record { path = path.now; text = text.now }) ∷ []) }
+    ensures counted { OnOk result (length taken.new.items ≡ length taken.old.items + 1) }
+    ensures err { OnErr result (taken.new.items ≡ taken.old.items) }
+{
+    let text = TakenText {
+        path: Name::new(alloc, path)?,
+        text: text.to_vec(alloc)?,
+    };
+    if taken.push(text).is_err() {
+        return Err(AllocError);
+    }
+    Ok(())
+}
+
+// Takes the first texts for the file of a path, fewer only where memory runs out, and says how many.
+fn take_first(
+    alloc: Global,
+    taken: &mut Vec<TakenText>,
+    path: &[u8],
+    texts: &Frames,
+    wanted: usize,
+) -> usize
+    requires { wanted ≤ length texts.now }
+    ensures taken { map text_of taken.new.items
+        ≡ map text_of taken.old.items ++ under_path path.now
+        (take (length taken.new.items - length taken.old.items) texts.now) }
+    ensures counted { length taken.new.items ≡ length taken.old.items + result }
+    ensures bound { result ≤ wanted }
+{
+    let mut rest = texts.bytes();
+    let mut count = 0;
+    for size in &texts.sizes()[..wanted] {
+        let (text, behind) = rest.split_at(*size);
+        if push_text(alloc, taken, path, text).is_err() {
+            return count;
+        }
+        rest = behind;
+        count += 1;
+    }
+    count
 }
 
 // Takes the first name of these bytes out. It takes no memory.

@@ -1,56 +1,72 @@
 // Which calls of a machine in memory, and of the devices that it opens, are to fail.
 ghost use Rattle.std.specs.Prelude.{◌≡◌, drop};
-ghost use Rattle.sg_memory_disk.specs.Plan.{failing, IsQuiet};
+ghost use Rattle.sg_memory_disk.specs.Plan.{failing, IsFaultless};
 ghost use Rattle.sg_memory.specs.Plans.{AreQuiet, IsOutletQuiet, IsPathsQuiet, first_failing, IsFirstOutlet, IsFirstPaths};
 
-use sg_memory_disk::Plan;
+use sg_device::{OutletFault, Reopened};
+use sg_memory_disk::FaultPlan;
 use std::alloc::Global;
 use std::collections::VecDeque;
 
-/// What the calls of an outlet come to.
+/// What the calls of an outlet, or of an opener, come to.
 #[derive(Debug, Drop)]
 pub struct OutletScript {
-    /// The sends and reopenings that fail, counted together.
-    pub fails: Plan,
+    /// The sends and reopenings that fail, counted together, and the openings of an opener with them.
+    pub fails: FaultPlan,
     /// The frames that a send takes before it fails or answers Later, or all but one of them where
     /// there are fewer.
     pub first: usize,
-    /// The reopenings that answer Later, where they don't fail.
-    pub laters: Plan,
+    /// The reopenings that answer Later, where they don't fail, and an opener's openings with them.
+    pub laters: FaultPlan,
     /// The sends that answer Later, where they don't fail.
-    pub waits: Plan,
+    pub waits: FaultPlan,
 }
 
 impl OutletScript {
+    ghost use Rattle.sg_memory.specs.Scripts.{SendStands};
+
     /// No call fails, and none is too early.
     pub fn never(alloc: Global) -> OutletScript
         ensures { IsOutletQuiet result }
     {
-        OutletScript::failing(alloc, Plan::never(alloc))
+        OutletScript::failing(alloc, FaultPlan::never(alloc))
     }
 
     /// These calls fail, and take nothing.
-    pub fn failing(alloc: Global, fails: Plan) -> OutletScript
+    pub fn failing(alloc: Global, fails: FaultPlan) -> OutletScript
         ensures fails { result.fails ≡ fails }
-        ensures laters { IsQuiet result.laters }
-        ensures waits { IsQuiet result.waits }
+        ensures laters { IsFaultless result.laters }
+        ensures waits { IsFaultless result.waits }
     {
         OutletScript {
             fails,
             first: 0,
-            laters: Plan::never(alloc),
-            waits: Plan::never(alloc),
+            laters: FaultPlan::never(alloc),
+            waits: FaultPlan::never(alloc),
         }
+    }
+
+    /// Counts a send where so many calls were too early, and tells whether it fails or is too early.
+    pub(crate) fn next_send(&mut self, laters: u64) -> Result<Reopened, OutletFault>
+        ensures { SendStands self.old laters result }
+    {
+        let waits = self.waits.next();
+        if self.fails.next() || (waits && laters == u64::MAX) {
+            return Err(OutletFault);
+        }
+        if waits {
+            return Ok(Reopened::Later);
+        }
+        Ok(Reopened::Ready)
     }
 }
 
 /// What the calls of an opener come to.
 #[derive(Debug, Drop)]
 pub struct PathsPlan {
-    /// The openings, sends and reopenings that fail, counted together.
-    pub fails: Plan,
-    /// The reopenings that answer Later, where they don't fail.
-    pub laters: Plan,
+    pub calls: OutletScript,
+    /// The questions for a file that took nothing for long which are answered by true.
+    pub unused: FaultPlan,
 }
 
 impl PathsPlan {
@@ -59,8 +75,8 @@ impl PathsPlan {
         ensures { IsPathsQuiet result }
     {
         PathsPlan {
-            fails: Plan::never(alloc),
-            laters: Plan::never(alloc),
+            calls: OutletScript::never(alloc),
+            unused: FaultPlan::never(alloc),
         }
     }
 }
@@ -68,17 +84,17 @@ impl PathsPlan {
 /// The calls of a machine that fail, and those of the devices that it opens.
 #[derive(Debug)]
 pub struct WorldPlans {
-    pub reads: Plan,
-    pub inlet_opens: Plan,
-    pub outlet_opens: Plan,
-    pub paths_opens: Plan,
-    pub says: Plan,
+    pub reads: FaultPlan,
+    pub inlet_opens: FaultPlan,
+    pub outlet_opens: FaultPlan,
+    pub paths_opens: FaultPlan,
+    pub says: FaultPlan,
     /// The patterns that are too large.
-    pub builds: Plan,
+    pub builds: FaultPlan,
     /// The questions for the time that are answered by true.
-    pub dues: Plan,
+    pub dues: FaultPlan,
     /// The plans of the inlets that will be opened, in order. No call fails of those behind them.
-    pub inlets: VecDeque<Plan>,
+    pub inlets: VecDeque<FaultPlan>,
     /// The same of the outlets.
     pub outlets: VecDeque<OutletScript>,
     /// The same of the openers.
@@ -108,13 +124,13 @@ impl WorldPlans {
         ensures { AreQuiet result }
     {
         WorldPlans {
-            reads: Plan::never(alloc),
-            inlet_opens: Plan::never(alloc),
-            outlet_opens: Plan::never(alloc),
-            paths_opens: Plan::never(alloc),
-            says: Plan::never(alloc),
-            builds: Plan::never(alloc),
-            dues: Plan::never(alloc),
+            reads: FaultPlan::never(alloc),
+            inlet_opens: FaultPlan::never(alloc),
+            outlet_opens: FaultPlan::never(alloc),
+            paths_opens: FaultPlan::never(alloc),
+            says: FaultPlan::never(alloc),
+            builds: FaultPlan::never(alloc),
+            dues: FaultPlan::never(alloc),
             inlets: VecDeque::new(alloc),
             outlets: VecDeque::new(alloc),
             paths: VecDeque::new(alloc),
@@ -123,13 +139,13 @@ impl WorldPlans {
 }
 
 /// The plan of the inlet that is opened next.
-pub fn take_inlet(alloc: Global, plans: &mut VecDeque<Plan>) -> Plan
+pub fn take_inlet(alloc: Global, plans: &mut VecDeque<FaultPlan>) -> FaultPlan
     ensures first { failing result ≡ first_failing plans.old.items }
     ensures rest { plans.new.items ≡ drop 1 plans.old.items }
 {
     match plans.pop_front() {
         Some(plan) => plan,
-        None => Plan::never(alloc),
+        None => FaultPlan::never(alloc),
     }
 }
 

@@ -2,29 +2,29 @@
 ghost use Rattle.std.specs.Prelude.{◌≡◌, ◌≤◌, ◌||◌, ◌++◌, ◌∷◌, [], false, is_none, MatchResult, IfOk, OnOk, OnErr};
 ghost use Rattle.std.specs.Bool.{OnFalse, OnTrue};
 ghost use Rattle.sg_device.specs.Faults.{Rose};
-ghost use Rattle.sg_outside.specs.World.{Reads, InletOpens, InletRefused, OutletOpens, OutletRefused, StoreOpens, StoreRefused, PathsOpen, PathsRefused, ClosesInlet, ClosesOutlet, ClosesStore, ClosesPaths, OnlyBuilds, Says};
-ghost use Rattle.sg_memory_disk.specs.Plan.{IsQuiet, after_call, failing, fails_now};
+ghost use Rattle.sg_outside.specs.World.{ReadsFile, InletOpens, InletRefused, OutletOpens, OutletRefused, StoreOpens, StoreRefused, PathsOpen, PathsRefused, ClosesInlet, ClosesOutlet, ClosesStore, ClosesPaths, OnlyBuilds, Says};
+ghost use Rattle.sg_memory_disk.specs.Plan.{IsFaultless, after_call, failing, fails_now};
 ghost use Rattle.sg_memory_disk.specs.Stores.{store_of, at_opening as store_at_opening, any_starved, AreStoresQuiet, OpensAsPlanned};
 ghost use Rattle.sg_memory.specs.Files.{file_of};
 ghost use Rattle.sg_memory.specs.Inlet.{inlet_of, GoesBy};
 ghost use Rattle.sg_memory.specs.Open.{feed_of, drain_of, opener_of};
 ghost use Rattle.sg_memory.specs.Plans.{AreQuiet, IsOutletQuiet, IsPathsQuiet, IsFirstOutlet, IsFirstPaths, first_failing};
-ghost use Rattle.sg_memory.specs.World.{world_of, new_world, opened_state, with_inlet, once_of, lacks_file, IsOpenedFor, ReadFails, OpenFails, SayFails};
+ghost use Rattle.sg_memory.specs.World.{world_of, new_world, opened_state, with_inlet, once_of, lacks_file, IsMemoryOpenedFor, ReadFails, OpenFails, SayFails};
 
 use crate::cells::{
-    InletCell, OutletCell, PathsCell, add_inlet, add_outlet, add_paths, inlet_cell, outlet_cell,
-    paths_cell,
+    MemoryInletCell, MemoryOutletCell, MemoryPathsCell, add_inlet, add_outlet, add_paths,
+    inlet_cell, outlet_cell, paths_cell,
 };
 use crate::connection::parts_for;
 use crate::files::find;
 use crate::place::place_at;
 use crate::plans::{take_inlet, take_outlet, take_paths};
 use crate::{
-    MemoryConnection, MemoryDrain, MemoryFeed, MemoryFile, MemoryInlet, MemoryOpener, MemoryOutlet,
-    MemoryPaths, OpenedInlet, Pace, WorldPlans,
+    MemoryConnection, MemoryDrain, MemoryFeed, MemoryFile, MemoryInlet, MemoryOpenedInlet,
+    MemoryOpener, MemoryOutlet, MemoryPaths, Pace, WorldPlans,
 };
 use sg_device::{FileRefusal, Name, NoMemory, OpenRefusal, SayRefusal};
-use sg_memory_disk::{MemoryStore, MemoryStores, Plan};
+use sg_memory_disk::{FaultPlan, MemoryStore, MemoryStores};
 use sg_outside::{InletSpec, OutletSpec, StoreSpec};
 use std::alloc::Global;
 
@@ -41,12 +41,12 @@ pub struct MemoryWorld {
     pub plans: WorldPlans,
     /// The stores, and the openings and disks that fail.
     pub stores: MemoryStores,
-    opened_inlets: Vec<OpenedInlet>,
+    opened_inlets: Vec<MemoryOpenedInlet>,
     opened_outlets: Vec<OutletSpec>,
     opened_paths: Vec<OutletSpec>,
-    closed_inlets: Option<Box<InletCell>>,
-    closed_outlets: Option<Box<OutletCell>>,
-    closed_paths: Option<Box<PathsCell>>,
+    closed_inlets: Option<Box<MemoryInletCell>>,
+    closed_outlets: Option<Box<MemoryOutletCell>>,
+    closed_paths: Option<Box<MemoryPathsCell>>,
     unread: Option<Name>,
     said: Vec<u8>,
     hints: Vec<u8>,
@@ -145,21 +145,21 @@ impl MemoryWorld {
     }
 
     /// The inlet closed last, with those closed before it.
-    pub fn closed_inlets(&self) -> &Option<Box<InletCell>>
+    pub fn closed_inlets(&self) -> &Option<Box<MemoryInletCell>>
         ensures { result.now ≡ self.now.closed_inlets }
     {
         &self.closed_inlets
     }
 
     /// The outlet closed last, with those closed before it.
-    pub fn closed_outlets(&self) -> &Option<Box<OutletCell>>
+    pub fn closed_outlets(&self) -> &Option<Box<MemoryOutletCell>>
         ensures { result.now ≡ self.now.closed_outlets }
     {
         &self.closed_outlets
     }
 
     /// The opener closed last, with those closed before it.
-    pub fn closed_paths(&self) -> &Option<Box<PathsCell>>
+    pub fn closed_paths(&self) -> &Option<Box<MemoryPathsCell>>
         ensures { result.now ≡ self.now.closed_paths }
     {
         &self.closed_paths
@@ -172,7 +172,7 @@ impl MemoryWorld {
         name: &[u8],
         limit: u64,
     ) -> Result<Vec<u8>, FileRefusal>
-        ensures reads { Reads (world_of self.old) (world_of self.new) name.now limit result }
+        ensures reads { ReadsFile (world_of self.old) (world_of self.new) name.now limit result }
         ensures fails { ReadFails
             (fails_now self.old.plans.reads || is_none (file_of self.old.files.items name.now))
             result }
@@ -214,7 +214,7 @@ impl MemoryWorld {
             (first_failing self.old.plans.inlets.items)) }
         ensures quiet { AreQuiet self.old.plans → AreQuiet self.new.plans }
         ensures quiet_inlet { IfOk result
-            (λ opened. AreQuiet self.old.plans → IsQuiet opened.0.inlet.plan) }
+            (λ opened. AreQuiet self.old.plans → IsFaultless opened.0.inlet.plan) }
     {
         if self.plans.inlet_opens.next() || self.lacks_file(spec) {
             self.inlet_faults = self.inlet_faults.saturating_add(1);
@@ -241,8 +241,8 @@ impl MemoryWorld {
         alloc: Global,
         spec: &InletSpec,
         from: u64,
-    ) -> Result<OpenedInlet, NoMemory>
-        ensures { IfOk result (λ opened. IsOpenedFor self.now.files.items spec.now from opened) }
+    ) -> Result<MemoryOpenedInlet, NoMemory>
+        ensures { IfOk result (λ opened. IsMemoryOpenedFor self.now.files.items spec.now from opened) }
     {
         let mut place = 0;
         let mut left = Vec::new(alloc);
@@ -252,7 +252,7 @@ impl MemoryWorld {
             place = place_at(*limit, &file.bytes, from);
             left = file.bytes[place..].to_vec(alloc)?;
         }
-        Ok(OpenedInlet {
+        Ok(MemoryOpenedInlet {
             spec: spec.copy()?,
             from: place as u64,
             left,
@@ -260,12 +260,12 @@ impl MemoryWorld {
     }
 
     // An inlet at its opening, of which no call fails.
-    fn inlet_for(&self, alloc: Global, opened: &OpenedInlet) -> Result<MemoryInlet, NoMemory>
+    fn inlet_for(&self, alloc: Global, opened: &MemoryOpenedInlet) -> Result<MemoryInlet, NoMemory>
         ensures state { IfOk result (λ inlet. inlet_of inlet ≡ opened_state opened.now) }
         ensures goes { IfOk result
             (λ inlet. GoesBy inlet self.now.pace (once_of opened.now.spec) []) }
     {
-        let plan = Plan::never(alloc);
+        let plan = FaultPlan::never(alloc);
         match &opened.spec {
             InletSpec::File { once, .. } => {
                 let left = opened.left.to_vec(alloc)?;
@@ -287,7 +287,7 @@ impl MemoryWorld {
     fn begin_inlet(
         &mut self,
         alloc: Global,
-        opened: OpenedInlet,
+        opened: MemoryOpenedInlet,
         mut inlet: MemoryInlet,
     ) -> Result<(MemoryFeed, u64), NoMemory>
         requires { inlet_of inlet ≡ opened_state opened }
@@ -301,7 +301,7 @@ impl MemoryWorld {
             (λ feed. feed.0.inlet ≡ record inlet { plan = feed.0.inlet.plan }) }
         ensures quiet { AreQuiet self.old.plans → AreQuiet self.new.plans }
         ensures quiet_inlet { IfOk result
-            (λ feed. AreQuiet self.old.plans → IsQuiet feed.0.inlet.plan) }
+            (λ feed. AreQuiet self.old.plans → IsFaultless feed.0.inlet.plan) }
     {
         let from = opened.from;
         let cell = inlet_cell(alloc)?;
@@ -490,7 +490,7 @@ impl MemoryWorld {
 }
 
 // One opened inlet more.
-fn add_opened(opened: &mut Vec<OpenedInlet>, inlet: OpenedInlet) -> Result<(), NoMemory>
+fn add_opened(opened: &mut Vec<MemoryOpenedInlet>, inlet: MemoryOpenedInlet) -> Result<(), NoMemory>
     ensures ok { OnOk result (opened.new.items ≡ opened.old.items ++ inlet ∷ []) }
     ensures err { OnErr result (opened.new.items ≡ opened.old.items) }
 {
@@ -499,7 +499,7 @@ fn add_opened(opened: &mut Vec<OpenedInlet>, inlet: OpenedInlet) -> Result<(), N
 }
 
 // Counts an opening, and its fault where it fails.
-fn fails_to_open(plan: &mut Plan, faults: &mut u64) -> bool
+fn fails_to_open(plan: &mut FaultPlan, faults: &mut u64) -> bool
     ensures fails { result ≡ fails_now plan.old }
     ensures plan { plan.new ≡ after_call plan.old }
     ensures kept { result ≡ false → faults.new ≡ faults.old }

@@ -3,11 +3,11 @@ use Rattle.std.proofs.Common.{◌≡◌, inl, inr, ℕ, ◌+◌, ◌-◌, ◌<�
 use Rattle.std.specs.Prelude.{◌==◌, if◌then◌else◌}
 use Rattle.std.proofs.lemmas.List.{ext_get_or, take-take}
 use Rattle.std.proofs.lemmas.Bool.{cases_lt}
-use Rattle.sg_device.specs.Disk.{DiskEvent, Wrote, Tore, Synced, Lost, IsLeft}
+use Rattle.sg_device.specs.Disk.{DiskEvent, Wrote, Tore, Synced, Lost, IsLeftByCrash}
 use Rattle.sg_device.specs.DiskBytes.{Torn, Written, overlaid}
 use Rattle.sg_device.proofs.Parts.{overlaid_by, part_at}
 use Rattle.sg_memory_disk.specs.Pick.{laid, pick_at, picked, unsynced}
-use Rattle.sg_memory_disk.specs.Images.{Puts, PutAll, IsPicked, NoneLost}
+use Rattle.sg_memory_disk.specs.Images.{PicksBytes, PutAll, IsPicked, NoneLost}
 use Rattle.sg_memory_disk.specs.declared.pick.Pick.{Pick}
 use Rattle.sg_memory_disk.specs.declared.pick.Pick.TheVariants.{Old, New, Ones, Zeros, Bytes}
 
@@ -46,7 +46,7 @@ module _ (at n start : ℕ) (before bytes mine new : List ℕ) (from : start ≡
   pub spliced_back : new ≡ bytes
   spliced_back = ext_get_or 0 new bytes length-new there
 
-laid_put : (pick : Pick) (at n : ℕ) (written before bytes : List ℕ) → Puts pick (torn_part at n before bytes) → Torn at n before bytes → laid pick at n written before ≡ bytes
+laid_put : (pick : Pick) (at n : ℕ) (written before bytes : List ℕ) → PicksBytes pick (torn_part at n before bytes) → Torn at n before bytes → laid pick at n written before ≡ bytes
 laid_put Old at n written before bytes puts torn = absurd puts
 laid_put New at n written before bytes puts torn = absurd puts
 laid_put Ones at n written before bytes puts torn = absurd puts
@@ -75,12 +75,12 @@ picks_more at n written first before bytes earlier (put, all) torn =
     let mine = torn_part at n before bytes in (
       chosen here mine put,
       λ picks puts.
-          let was : picked picks first earlier ≡ before = all picks (λ k lt. subst (λ (b : List ℕ). Puts (pick_at picks k) b) (chosen_before here k mine put lt) (puts k (omega (arith, lt)))) in
-          let this : Puts (pick_at picks here) mine = subst (λ (b : List ℕ). Puts (pick_at picks here) b) (chosen_here here mine put) (puts here (omega arith)) in
+          let was : picked picks first earlier ≡ before = all picks (λ k lt. subst (λ (b : List ℕ). PicksBytes (pick_at picks k) b) (chosen_before here k mine put lt) (puts k (omega (arith, lt)))) in
+          let this : PicksBytes (pick_at picks here) mine = subst (λ (b : List ℕ). PicksBytes (pick_at picks here) b) (chosen_here here mine put) (puts here (omega arith)) in
           ap (λ (l : List ℕ). laid (pick_at picks here) at n written l) was ∙ laid_put (pick_at picks here) at n written before bytes this torn,
     )
 
-pub every_image : (first bytes : List ℕ) (events : List DiskEvent) → NoneLost events → IsLeft first events bytes → IsPicked first events bytes
+pub every_image : (first bytes : List ℕ) (events : List DiskEvent) → NoneLost events → IsLeftByCrash first events bytes → IsPicked first events bytes
 every_image first bytes [] none left = (λ k. [], λ picks puts. sym left)
 every_image first bytes (Wrote at written ∷ earlier) none (before, left, torn) = picks_more at (length written) written first before bytes earlier (every_image first before earlier none left) torn
 every_image first bytes (Tore at n written ∷ earlier) none (before, left, torn) = picks_more at n (take n written) first before bytes earlier (every_image first before earlier none left) torn

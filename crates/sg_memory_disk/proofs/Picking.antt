@@ -1,7 +1,7 @@
 -- Images that are picked are images.
 use Rattle.std.proofs.Common.{◌≡◌, inl, ℕ, ◌+◌, ◌-◌, ◌<◌, ◌≤◌, min, Some, List, [], ◌∷◌, ◌++◌, length, get_or, take, replicate, refl, sym, ◌∙◌, ap, subst, arith, length-take}
 use Rattle.std.proofs.lemmas.List.{length-replicate, take_more, take_all}
-use Rattle.sg_device.specs.Disk.{DiskEvent, Wrote, Tore, Synced, Lost, bytes_after, IsLeft, IsImage}
+use Rattle.sg_device.specs.Disk.{DiskEvent, Wrote, Tore, Synced, Lost, bytes_after, IsLeftByCrash, IsImage}
 use Rattle.sg_device.specs.DiskBytes.{Torn, Written, overlaid}
 use Rattle.sg_device.proofs.Parts.{overlaid_by, torn_of_written, torn_refl}
 use Rattle.sg_device.proofs.DiskCalls.{torn_wider, image_now}
@@ -38,7 +38,7 @@ laid_torn Ones at n bytes old fits = filled_torn 255 at n old
 laid_torn Zeros at n bytes old fits = filled_torn 0 at n old
 laid_torn (Bytes torn) at n bytes old fits = spliced_torn at n torn.items old
 
-pub picked_left : (picks : List Pick) (first : List ℕ) (events : List DiskEvent) → IsLeft first events (picked picks first events)
+pub picked_left : (picks : List Pick) (first : List ℕ) (events : List DiskEvent) → IsLeftByCrash first events (picked picks first events)
 picked_left picks first [] = refl
 picked_left picks first (Wrote at bytes ∷ earlier) = (picked picks first earlier, picked_left picks first earlier, laid_torn (pick_at picks (unsynced earlier)) at (length bytes) bytes (picked picks first earlier) (omega arith))
 picked_left picks first (Tore at n bytes ∷ earlier) = (picked picks first earlier, picked_left picks first earlier, laid_torn (pick_at picks (unsynced earlier)) at n (take n bytes) (picked picks first earlier) (omega (arith, length-take n bytes)))
@@ -100,4 +100,4 @@ pub unsynced_all : (changes : List DiskChange) (i number : ℕ) → length chang
 unsynced_all changes i number le is = is ∙ ap (λ (l : List DiskChange). unsynced (events_of [] l)) (take_all i changes le)
 
 pub picked_image : (picks : List Pick) (first : List ℕ) (events : List DiskEvent) (f : ℕ) (image : List ℕ) → image ≡ picked picks first events → IsImage (record { told = Some (record { first = first; events = events }); faults = f }) image
-picked_image picks first events f image is = image_now (record { first = first; events = events }) f image (subst (λ (l : List ℕ). IsLeft first events l) (sym is) (picked_left picks first events))
+picked_image picks first events f image is = image_now (record { first = first; events = events }) f image (subst (λ (l : List ℕ). IsLeftByCrash first events l) (sym is) (picked_left picks first events))

@@ -1,7 +1,7 @@
 -- Which calls of a disk in memory fail.
 use Rattle.std.specs.Prelude.{◌≡◌, ◌⊎◌, ◌≤◌, ℕ, ◌+◌, ◌-◌, ◌^◌, ◌==◌, ◌||◌, min, Bool, true, false, if◌then◌else◌, List, [], ◌∷◌, Option, Some, None, Result, Ok, Err}
 use Rattle.sg_device.specs.declared.fault.DiskFault.{DiskFault}
-use Rattle.sg_memory_disk.specs.Plan.{fails_now, after_call, IsQuiet}
+use Rattle.sg_memory_disk.specs.Plan.{fails_now, after_call, IsFaultless}
 use Rattle.sg_memory_disk.specs.declared.disk_plan.DiskPlan.{DiskPlan}
 use Rattle.sg_memory_disk.specs.declared.disk_calls.DiskCalls.{DiskCalls}
 
@@ -24,7 +24,7 @@ counted plan = record plan { fails = after_call plan.fails; left = one_less plan
 
 -- no call fails
 abbrev pub IsDiskQuiet : DiskPlan → Type 0
-IsDiskQuiet plan = IsQuiet plan.fails × (plan.left ≡ None)
+IsDiskQuiet plan = IsFaultless plan.fails × (plan.left ≡ None)
 
 abbrev pub AreDisksQuiet : List DiskPlan → Type 0
 AreDisksQuiet [] = Unit {0}
@@ -53,8 +53,8 @@ FailsAsPlanned old new (Ok value) = (refuses old.plan ≡ false) × (new ≡ aft
 FailsAsPlanned old new (Err e) = (refuses old.plan ≡ true) × (new ≡ after_next old)
 
 -- A call fails where the plan says so, where a write would end too far, and else where memory ran out.
-abbrev pub Fails : DiskCalls → DiskCalls → ℕ → Result Unit DiskFault → Type 0
-Fails old new end (Ok done) = (refuses old.plan ≡ false) × (new ≡ after_next old)
-Fails old new end (Err e) = ((refuses old.plan ≡ true) × (new ≡ after_next old))
+abbrev pub CallFails : DiskCalls → DiskCalls → ℕ → Result Unit DiskFault → Type 0
+CallFails old new end (Ok done) = (refuses old.plan ≡ false) × (new ≡ after_next old)
+CallFails old new end (Err e) = ((refuses old.plan ≡ true) × (new ≡ after_next old))
     ⊎ (((refuses old.plan ≡ false) × (2 ^ 63 ≤ end) × (new ≡ with_fault (after_next old)))
     ⊎ (new ≡ with_starved (after_next old)))

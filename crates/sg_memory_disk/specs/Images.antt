@@ -1,21 +1,21 @@
 -- Each image of a disk in memory can be made.
 use Rattle.std.specs.Prelude.{◌≡◌, ℕ, ◌<◌, List, [], ◌∷◌}
-use Rattle.sg_device.specs.Disk.{DiskEvent, Wrote, Tore, Synced, Lost, IsLeft}
+use Rattle.sg_device.specs.Disk.{DiskEvent, Wrote, Tore, Synced, Lost, IsLeftByCrash}
 use Rattle.sg_memory_disk.specs.Pick.{pick_at, picked, unsynced}
 use Rattle.sg_memory_disk.specs.declared.pick.Pick.{Pick}
 use Rattle.sg_memory_disk.specs.declared.pick.Pick.TheVariants.{Old, New, Ones, Zeros, Bytes}
 
 -- the pick is of these bytes
-abbrev pub Puts : Pick → List ℕ → Type 0
-Puts Old bytes = ⊥
-Puts New bytes = ⊥
-Puts Ones bytes = ⊥
-Puts Zeros bytes = ⊥
-Puts (Bytes torn) bytes = torn.items ≡ bytes
+abbrev pub PicksBytes : Pick → List ℕ → Type 0
+PicksBytes Old bytes = ⊥
+PicksBytes New bytes = ⊥
+PicksBytes Ones bytes = ⊥
+PicksBytes Zeros bytes = ⊥
+PicksBytes (Bytes torn) bytes = torn.items ≡ bytes
 
 -- so many writes have picks of these bytes, each of its own
 abbrev pub PutAll : List Pick → ℕ → (ℕ → List ℕ) → Type 0
-PutAll picks count put = (k : ℕ) → k < count → Puts (pick_at picks k) (put k)
+PutAll picks count put = (k : ℕ) → k < count → PicksBytes (pick_at picks k) (put k)
 
 -- no sync failed since the last one that was done
 abbrev pub NoneLost : List DiskEvent → Type 0
@@ -33,4 +33,4 @@ IsPicked first events image = (put : ℕ → List ℕ)
 -- each image can be picked
 abbrev pub AllPicked : Type 0
 AllPicked = (first image : List ℕ) (events : List DiskEvent) → NoneLost events
-    → IsLeft first events image → IsPicked first events image
+    → IsLeftByCrash first events image → IsPicked first events image

@@ -11,13 +11,13 @@ use Rattle.sg_device.specs.declared.fault.OpenRefusal.{OpenRefusal}
 use Rattle.sg_device.specs.declared.fault.OpenRefusal.TheVariants.{Failed, NoMemory}
 use Rattle.sg_outside.specs.declared.request.StoreSpec.{StoreSpec}
 use Rattle.sg_memory_disk.specs.MemoryDisk.{disk_of, fresh_disk}
-use Rattle.sg_memory_disk.specs.Plan.{fails_now, IsQuiet}
+use Rattle.sg_memory_disk.specs.Plan.{fails_now, IsFaultless}
 use Rattle.sg_memory_disk.specs.DiskPlan.{AreDisksQuiet}
 use Rattle.sg_memory_disk.specs.declared.stores.ClosedStore.{ClosedStore}
 use Rattle.sg_memory_disk.specs.declared.stores.MemoryStore.{MemoryStore}
 use Rattle.sg_memory_disk.specs.declared.stores.MemoryStores.{MemoryStores}
 use Rattle.sg_memory_disk.specs.declared.stores.OpenedStore.{OpenedStore}
-use Rattle.sg_memory_disk.specs.declared.stores.StoreCell.{StoreCell, StoreCell', Held-StoreCell-before, None', Some'}
+use Rattle.sg_memory_disk.specs.declared.stores.MemoryStoreCell.{MemoryStoreCell, MemoryStoreCell', Held-MemoryStoreCell-before, None', Some'}
 
 abbrev pub store_of : MemoryStore → DiskState
 store_of store = disk_of store.disk
@@ -37,41 +37,41 @@ starved_disk (Some store) = store.disk.calls.starved
 
 -- the states in which stores were closed, in order
 abbrev mutual
-  pub store_cells : StoreCell → List DiskState
-  store_cells (StoreCell' closed before) = store_cells_before before ++ listed_disk closed
+  pub store_cells : MemoryStoreCell → List DiskState
+  store_cells (MemoryStoreCell' closed before) = store_cells_before before ++ listed_disk closed
 
-  pub store_cells_before : Held-StoreCell-before → List DiskState
+  pub store_cells_before : Held-MemoryStoreCell-before → List DiskState
   store_cells_before None' = []
   store_cells_before (Some' p cell) = store_cells cell
 
 -- the state in which the store of a name was closed last
 abbrev mutual
-  pub latest : StoreCell → List ℕ → Option DiskState
-  latest (StoreCell' closed before) name = named_disk closed name (latest_before before name)
+  pub latest : MemoryStoreCell → List ℕ → Option DiskState
+  latest (MemoryStoreCell' closed before) name = named_disk closed name (latest_before before name)
 
-  pub latest_before : Held-StoreCell-before → List ℕ → Option DiskState
+  pub latest_before : Held-MemoryStoreCell-before → List ℕ → Option DiskState
   latest_before None' name = None
   latest_before (Some' p cell) name = latest cell name
 
 -- a disk has found no memory
 abbrev mutual
-  pub some_starved : StoreCell → Bool
-  some_starved (StoreCell' closed before) = starved_disk closed || starved_before before
+  pub some_starved : MemoryStoreCell → Bool
+  some_starved (MemoryStoreCell' closed before) = starved_disk closed || starved_before before
 
-  pub starved_before : Held-StoreCell-before → Bool
+  pub starved_before : Held-MemoryStoreCell-before → Bool
   starved_before None' = false
   starved_before (Some' p cell) = some_starved cell
 
 -- the same of the cells of which this is the last
-abbrev pub store_states : Option (Box StoreCell Global) → List DiskState
+abbrev pub store_states : Option (Box MemoryStoreCell Global) → List DiskState
 store_states None = []
 store_states (Some cell) = store_cells cell.value
 
-abbrev pub latest_state : Option (Box StoreCell Global) → List ℕ → Option DiskState
+abbrev pub latest_state : Option (Box MemoryStoreCell Global) → List ℕ → Option DiskState
 latest_state None name = None
 latest_state (Some cell) name = latest cell.value name
 
-abbrev pub any_starved : Option (Box StoreCell Global) → Bool
+abbrev pub any_starved : Option (Box MemoryStoreCell Global) → Bool
 any_starved None = false
 any_starved (Some cell) = some_starved cell.value
 
@@ -96,26 +96,26 @@ at_opening stores spec = unwrap_or (found stores spec) (fresh_disk (replicate 12
 
 -- no opening fails, and no call of the disks that will be opened
 abbrev pub AreStoresQuiet : MemoryStores → Type 0
-AreStoresQuiet stores = IsQuiet stores.opens × AreDisksQuiet stores.plans.items
+AreStoresQuiet stores = IsFaultless stores.opens × AreDisksQuiet stores.plans.items
 
-abbrev pub StoresOpen : MemoryStores → MemoryStores → StoreSpec → DiskState → Type 0
-StoresOpen old new spec store = (stores_of new ≡ with_opened (stores_of old) spec store)
+abbrev pub MemoryStoresOpen : MemoryStores → MemoryStores → StoreSpec → DiskState → Type 0
+MemoryStoresOpen old new spec store = (stores_of new ≡ with_opened (stores_of old) spec store)
     × (new.faults ≡ old.faults) × (store ≡ at_opening old spec)
 
 -- a failure is counted
-abbrev pub StoresRefuse : MemoryStores → MemoryStores → OpenRefusal → Type 0
-StoresRefuse old new Failed = (stores_of new ≡ stores_of old) × (new.names.items ≡ old.names.items)
+abbrev pub MemoryStoresRefuse : MemoryStores → MemoryStores → OpenRefusal → Type 0
+MemoryStoresRefuse old new Failed = (stores_of new ≡ stores_of old) × (new.names.items ≡ old.names.items)
     × (old.faults ≤ new.faults) × Rose old.faults new.faults
-StoresRefuse old new NoMemory = (stores_of new ≡ stores_of old)
+MemoryStoresRefuse old new NoMemory = (stores_of new ≡ stores_of old)
     × (new.names.items ≡ old.names.items) × (new.faults ≡ old.faults)
 
 -- A store is opened over a disk of this state, and is there from then on.
-abbrev pub Begins : MemoryStores → MemoryStores → StoreSpec → Bool → DiskState
+abbrev pub BeginsStore : MemoryStores → MemoryStores → StoreSpec → Bool → DiskState
     → Result MemoryStore AllocError → Type 0
-Begins old new spec there disk (Ok store) = (stores_of new ≡ with_opened (stores_of old) spec disk)
+BeginsStore old new spec there disk (Ok store) = (stores_of new ≡ with_opened (stores_of old) spec disk)
     × (new.faults ≡ old.faults) × (new.opens ≡ old.opens) × (store_of store ≡ disk)
     × (new.names.items ≡ (if there then old.names.items else spec.name ∷ old.names.items))
-Begins old new spec there disk (Err e) = (stores_of new ≡ stores_of old) × (new.faults ≡ old.faults)
+BeginsStore old new spec there disk (Err e) = (stores_of new ≡ stores_of old) × (new.faults ≡ old.faults)
     × (new.opens ≡ old.opens) × (new.names.items ≡ old.names.items)
 
 -- An opening fails where the plan says so, where a store is missing that isn't to be made, and where one is open.

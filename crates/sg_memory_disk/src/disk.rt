@@ -1,11 +1,11 @@
 // A disk in memory. It keeps its writes and syncs, by which it tells its images at past moments.
 ghost use Rattle.std.specs.Prelude.{◌≡◌, false, ◌+◌, ◌-◌, ◌<◌, ◌≤◌, ◌^◌, ◌++◌, [], ◌∷◌, length, replicate, take, drop, Some, None, IfOk, IsErr, MatchResult};
-ghost use Rattle.sg_device.specs.Disk.{DiskState, Measures, Reads, Writes, Syncs, IsShort, HasCause, bytes_after, Wrote};
+ghost use Rattle.sg_device.specs.Disk.{DiskState, Measures, ReadsDisk, Writes, Syncs, IsShort, HasCause, bytes_after, Wrote};
 ghost use Rattle.sg_device.specs.DiskBytes.{overwritten};
 ghost use Rattle.sg_memory_disk.specs.DiskChange.{event_of, events_of};
 
 use crate::laying::{copy_over, grow};
-use crate::{DiskCalls, DiskChange, DiskPlan, Written};
+use crate::{DiskCalls, DiskChange, DiskPlan, DiskWrite};
 use sg_device::{Disk, DiskFault, NoMemory};
 use std::alloc::{AllocError, Global};
 
@@ -104,7 +104,7 @@ impl MemoryDisk {
 }
 
 impl Disk for MemoryDisk {
-    ghost use Rattle.sg_memory_disk.specs.DiskPlan.{FailsAsPlanned, Fails};
+    ghost use Rattle.sg_memory_disk.specs.DiskPlan.{FailsAsPlanned, CallFails};
     ghost use Rattle.sg_memory_disk.specs.MemoryDisk.{disk_of};
     ghost use Rattle.sg_memory_disk.specs.MemoryDiskLaws.{is_short};
 
@@ -127,7 +127,7 @@ impl Disk for MemoryDisk {
 
     fn read_at(&mut self, at: u64, into: &mut [u8]) -> Result<usize, DiskFault>
         ensures told { (disk_of self.new).told ≡ (disk_of self.old).told }
-        ensures bytes { Reads (disk_of self.old) at into.old into.new result }
+        ensures bytes { ReadsDisk (disk_of self.old) at into.old into.new result }
         ensures bound { IfOk result (λ count. count ≤ length into.old) }
         ensures cause { HasCause (disk_of self.old).faults (disk_of self.new).faults result }
         ensures fails { FailsAsPlanned self.old.calls self.new.calls result }
@@ -146,7 +146,7 @@ impl Disk for MemoryDisk {
         ensures past_end { 2 ^ 63 ≤ at + length from.now → IsErr result }
         ensures told { Writes (disk_of self.old) (disk_of self.new) at from.now result }
         ensures cause { HasCause (disk_of self.old).faults (disk_of self.new).faults result }
-        ensures fails { Fails self.old.calls self.new.calls (at + length from.now) result }
+        ensures fails { CallFails self.old.calls self.new.calls (at + length from.now) result }
     {
         if self.calls.next() {
             self.tear(at, from);
@@ -166,7 +166,7 @@ impl Disk for MemoryDisk {
     fn sync(&mut self) -> Result<(), DiskFault>
         ensures told { Syncs (disk_of self.old) (disk_of self.new) result }
         ensures cause { HasCause (disk_of self.old).faults (disk_of self.new).faults result }
-        ensures fails { Fails self.old.calls self.new.calls 0 result }
+        ensures fails { CallFails self.old.calls self.new.calls 0 result }
     {
         if self.calls.next() {
             self.lose();
@@ -196,7 +196,7 @@ fn write(
         (λ _. events_of [] changes.new.items ≡ Wrote at from.now ∷ events_of [] changes.old.items)
         (λ _. changes.new.items ≡ changes.old.items) }
 {
-    let change = DiskChange::Wrote(Written {
+    let change = DiskChange::Wrote(DiskWrite {
         at,
         bytes: from.to_vec(alloc)?,
     });

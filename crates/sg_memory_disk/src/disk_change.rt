@@ -2,7 +2,7 @@
 ghost use Rattle.std.specs.Prelude.{◌≡◌, IfOk};
 ghost use Rattle.sg_memory_disk.specs.DiskChange.{event_of};
 
-use crate::{TornWrite, Written};
+use crate::{DiskWrite, TornWrite};
 use sg_device::NoMemory;
 use std::alloc::Global;
 
@@ -10,7 +10,7 @@ use std::alloc::Global;
 #[derive(Debug, Drop)]
 pub enum DiskChange {
     /// A write that was done.
-    Wrote(Written),
+    Wrote(DiskWrite),
     /// A write that failed and left some bytes.
     Tore(TornWrite),
     /// A sync that was done.
@@ -25,7 +25,7 @@ impl DiskChange {
         ensures { IfOk result (λ change. event_of change ≡ event_of self.now) }
     {
         match self {
-            DiskChange::Wrote(written) => Ok(DiskChange::Wrote(Written {
+            DiskChange::Wrote(written) => Ok(DiskChange::Wrote(DiskWrite {
                 at: written.at,
                 bytes: written.bytes.to_vec(alloc)?,
             })),

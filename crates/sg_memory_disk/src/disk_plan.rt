@@ -2,14 +2,14 @@
 ghost use Rattle.std.specs.Prelude.{◌≡◌, drop, None, Some};
 ghost use Rattle.sg_memory_disk.specs.DiskPlan.{refuses, counted, IsDiskQuiet, first_plan};
 
-use crate::{Pick, Plan};
+use crate::{FaultPlan, Pick};
 use std::alloc::Global;
 use std::collections::VecDeque;
 
 /// The calls of a disk that fail, and what they leave.
 #[derive(Debug, Drop)]
 pub struct DiskPlan {
-    pub fails: Plan,
+    pub fails: FaultPlan,
     /// The number of calls that pass before each later one fails, if it is set.
     pub left: Option<u64>,
     /// What the writes since the last sync leave, in order, where one of them or the sync fails; the
@@ -22,11 +22,11 @@ impl DiskPlan {
     pub fn never(alloc: Global) -> DiskPlan
         ensures { IsDiskQuiet result }
     {
-        DiskPlan::failing(alloc, Plan::never(alloc))
+        DiskPlan::failing(alloc, FaultPlan::never(alloc))
     }
 
     /// These calls fail.
-    pub fn failing(alloc: Global, fails: Plan) -> DiskPlan
+    pub fn failing(alloc: Global, fails: FaultPlan) -> DiskPlan
         ensures fails { result.fails ≡ fails }
         ensures left { result.left ≡ None }
     {
@@ -42,7 +42,7 @@ impl DiskPlan {
         ensures left { result.left ≡ Some calls }
     {
         DiskPlan {
-            fails: Plan::never(alloc),
+            fails: FaultPlan::never(alloc),
             left: Some(calls),
             tears: Vec::new(alloc),
         }

@@ -5,30 +5,30 @@ use std::alloc::Global;
 
 /// The numbers of the calls that fail, counted from 0.
 #[derive(Debug, Drop)]
-pub struct Plan {
+pub struct FaultPlan {
     fails: Vec<u64>,
     calls: u64,
 }
 
-impl Plan {
-    ghost use Rattle.sg_memory_disk.specs.Plan.{IsQuiet, after_call, fails_now, failing};
+impl FaultPlan {
+    ghost use Rattle.sg_memory_disk.specs.Plan.{IsFaultless, after_call, fails_now, failing};
 
     /// No call fails.
-    pub fn never(alloc: Global) -> Plan
-        ensures { IsQuiet result }
+    pub fn never(alloc: Global) -> FaultPlan
+        ensures { IsFaultless result }
     {
-        Plan {
+        FaultPlan {
             fails: Vec::new(alloc),
             calls: 0,
         }
     }
 
     /// These calls fail.
-    pub fn new(fails: Vec<u64>) -> Plan
+    pub fn new(fails: Vec<u64>) -> FaultPlan
         ensures fails { failing result ≡ fails.items }
         ensures first { result.calls ≡ 0 }
     {
-        Plan { fails, calls: 0 }
+        FaultPlan { fails, calls: 0 }
     }
 
     /// Counts a call, and tells whether it fails.

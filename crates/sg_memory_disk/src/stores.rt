@@ -4,11 +4,11 @@ ghost use Rattle.std.specs.Option.{option_map};
 ghost use Rattle.sg_outside.specs.World.{with_closed, IsStoreNamed};
 ghost use Rattle.sg_memory_disk.specs.DiskPlan.{IsDiskQuiet, AreDisksQuiet, first_plan};
 ghost use Rattle.sg_memory_disk.specs.MemoryDisk.{disk_of, fresh_disk};
-ghost use Rattle.sg_memory_disk.specs.Plan.{IsQuiet, after_call};
-ghost use Rattle.sg_memory_disk.specs.Stores.{store_of, stores_of, store_states, latest, latest_state, is_named, some_starved, any_starved, StoresOpen, StoresRefuse, OpensAsPlanned, Begins};
+ghost use Rattle.sg_memory_disk.specs.Plan.{IsFaultless, after_call};
+ghost use Rattle.sg_memory_disk.specs.Stores.{store_of, stores_of, store_states, latest, latest_state, is_named, some_starved, any_starved, MemoryStoresOpen, MemoryStoresRefuse, OpensAsPlanned, BeginsStore};
 
 use crate::disk_plan::take_plan;
-use crate::{DiskPlan, MemoryDisk, Plan};
+use crate::{DiskPlan, FaultPlan, MemoryDisk};
 use sg_device::{Disk, DiskFault, Name, NoMemory, OpenRefusal};
 use sg_outside::StoreSpec;
 use std::alloc::{AllocError, Global};
@@ -30,9 +30,9 @@ pub struct ClosedStore {
 
 /// A closed store, and the one closed before it.
 #[derive(Debug, Drop)]
-pub struct StoreCell {
+pub struct MemoryStoreCell {
     pub closed: Option<ClosedStore>,
-    pub before: Option<Box<StoreCell>>,
+    pub before: Option<Box<MemoryStoreCell>>,
 }
 
 /// An open store of a machine in memory, with the memory for its closing.
@@ -40,7 +40,7 @@ pub struct StoreCell {
 pub struct MemoryStore {
     pub disk: MemoryDisk,
     name: Name,
-    cell: Box<StoreCell>,
+    cell: Box<MemoryStoreCell>,
 }
 
 impl Disk for MemoryStore {
@@ -70,13 +70,13 @@ impl Disk for MemoryStore {
 /// The stores that are there, those opened and those closed, and the openings and disks that fail.
 #[derive(Debug)]
 pub struct MemoryStores {
-    pub opens: Plan,
+    pub opens: FaultPlan,
     /// The plans of the disks that will be opened, in order. No call fails of those behind them.
     pub plans: VecDeque<DiskPlan>,
     // The names of those that are there, the latest first.
     names: Vec<Name>,
     opened: Vec<OpenedStore>,
-    closed: Option<Box<StoreCell>>,
+    closed: Option<Box<MemoryStoreCell>>,
     faults: u64,
 }
 
@@ -99,14 +99,14 @@ impl MemoryStores {
         ensures none { stores_of result ≡ record { opened = []; closed = [] } }
         ensures store_names { result.names.items ≡ [] }
         ensures faults { result.faults ≡ 0 }
-        ensures opens { IsQuiet result.opens }
+        ensures opens { IsFaultless result.opens }
         ensures plans { AreDisksQuiet result.plans.items }
     {
-        MemoryStores::failing(alloc, Plan::never(alloc), VecDeque::new(alloc))
+        MemoryStores::failing(alloc, FaultPlan::never(alloc), VecDeque::new(alloc))
     }
 
     /// None is there yet, and these calls fail.
-    pub fn failing(alloc: Global, opens: Plan, plans: VecDeque<DiskPlan>) -> MemoryStores
+    pub fn failing(alloc: Global, opens: FaultPlan, plans: VecDeque<DiskPlan>) -> MemoryStores
         ensures none { stores_of result ≡ record { opened = []; closed = [] } }
         ensures store_names { result.names.items ≡ [] }
         ensures faults { result.faults ≡ 0 }
@@ -146,8 +146,8 @@ impl MemoryStores {
     /// one comes to be with 128 zero bytes, all of them stable, where it is to be made.
     pub fn open(&mut self, alloc: Global, spec: &StoreSpec) -> Result<MemoryStore, OpenRefusal>
         ensures opened { MatchResult result
-            (λ store. StoresOpen self.old self.new spec.now (store_of store))
-            (λ refusal. StoresRefuse self.old self.new refusal) }
+            (λ store. MemoryStoresOpen self.old self.new spec.now (store_of store))
+            (λ refusal. MemoryStoresRefuse self.old self.new refusal) }
         ensures store_names { IfOk result (λ store. IsStoreNamed self.old.names.items spec.now
             (store_of store) self.new.names.items) }
         ensures fails { OpensAsPlanned self.old spec.now result }
@@ -192,7 +192,7 @@ impl MemoryStores {
         mut disk: MemoryDisk,
         there: bool,
     ) -> Result<MemoryStore, NoMemory>
-        ensures begun { Begins self.old self.new spec.now there (disk_of disk) result }
+        ensures begun { BeginsStore self.old self.new spec.now there (disk_of disk) result }
         ensures plan { IfOk result
             (λ store. first_plan self.old.plans.items store.disk.calls.plan) }
         ensures quiet { AreDisksQuiet self.old.plans.items → AreDisksQuiet self.new.plans.items }
@@ -236,7 +236,7 @@ impl MemoryStores {
     }
 
     /// The store closed last, with those closed before it.
-    pub fn closed(&self) -> &Option<Box<StoreCell>>
+    pub fn closed(&self) -> &Option<Box<MemoryStoreCell>>
         ensures { result.now ≡ self.now.closed }
     {
         &self.closed
@@ -251,10 +251,10 @@ fn fresh(alloc: Global) -> Result<MemoryDisk, AllocError>
 }
 
 // Memory for a store's closing.
-fn store_cell(alloc: Global) -> Result<Box<StoreCell>, AllocError> {
+fn store_cell(alloc: Global) -> Result<Box<MemoryStoreCell>, AllocError> {
     Ok(Box::new(
         alloc,
-        StoreCell {
+        MemoryStoreCell {
             closed: None,
             before: None,
         },
@@ -262,7 +262,11 @@ fn store_cell(alloc: Global) -> Result<Box<StoreCell>, AllocError> {
 }
 
 // Puts a store behind those that were closed before. It takes no memory.
-fn add_store(last: &mut Option<Box<StoreCell>>, mut cell: Box<StoreCell>, store: ClosedStore)
+fn add_store(
+    last: &mut Option<Box<MemoryStoreCell>>,
+    mut cell: Box<MemoryStoreCell>,
+    store: ClosedStore,
+)
     ensures { store_states last.new ≡ store_states last.old ++ disk_of store.disk ∷ [] }
 {
     cell.closed = Some(store);
@@ -301,7 +305,7 @@ fn add_opened(opened: &mut Vec<OpenedStore>, store: OpenedStore) -> Result<(), A
 }
 
 // The disk of the store of this name that was closed last.
-fn find_closed<'a>(cell: &'a StoreCell, name: &[u8]) -> Option<&'a MemoryDisk>
+fn find_closed<'a>(cell: &'a MemoryStoreCell, name: &[u8]) -> Option<&'a MemoryDisk>
     ensures { option_map (λ disk. disk_of disk.now) result ≡ latest cell.now name.now }
 {
     if let Some(store) = &cell.closed
@@ -316,7 +320,7 @@ fn find_closed<'a>(cell: &'a StoreCell, name: &[u8]) -> Option<&'a MemoryDisk>
 }
 
 // Whether a disk has found no memory.
-fn is_starved(cell: &StoreCell) -> bool
+fn is_starved(cell: &MemoryStoreCell) -> bool
     ensures { result ≡ some_starved cell.now }
 {
     let starved = match &cell.closed {

@@ -3,7 +3,7 @@ ghost use Rattle.std.specs.Prelude.{◌+◌, ◌<◌, ◌≤◌, ◌^◌, length
 
 /// Bytes that were written at a place.
 #[derive(Debug, Drop)]
-pub struct Written {
+pub struct DiskWrite {
     /// A byte offset.
     pub at: u64,
     pub bytes: Vec<u8>,

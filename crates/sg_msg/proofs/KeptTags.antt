@@ -4,11 +4,11 @@ use Rattle.sg_msg.specs.Message.{Content, has_tag, with_tag, without_tag, AreDis
 use Rattle.sg_msg.proofs.ByteOrder.{test-back}
 
 -- neither of two, so not the first, and not the second
-or-first : (a b : Bool) → (a || b) ≡ false → a ≡ false
+pub or-first : (a b : Bool) → (a || b) ≡ false → a ≡ false
 or-first true b e = e
 or-first false b e = refl
 
-or-second : (a b : Bool) → (a || b) ≡ false → b ≡ false
+pub or-second : (a b : Bool) → (a || b) ≡ false → b ≡ false
 or-second true b e = absurd (cc)
 or-second false b e = e
 

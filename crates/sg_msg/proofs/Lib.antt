@@ -2,7 +2,7 @@ pub mod ByteOrder
 mod PairPlaces
 mod PairSearch
 pub mod KeptPairs
-mod KeptTags
+pub mod KeptTags
 mod TagPlaces
 mod Prefixes
 pub mod ValueLaws

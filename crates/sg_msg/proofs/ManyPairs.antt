@@ -4,21 +4,21 @@ use Rattle.std.specs.List.{filter}
 use Rattle.std.specs.List.Sorted.{ties}
 use Rattle.std.specs.declared.cmp.Ordering.{Ordering}
 use Rattle.std.specs.declared.cmp.Ordering.TheVariants.{Less, Equal, Greater}
-use Rattle.sg_msg.specs.Message.{Pair, byte_order, value_of, with_pair, with_all, IsBelow, IsAscending, IsName, HaveNames}
+use Rattle.sg_msg.specs.Message.{NameValue, byte_order, value_of, with_pair, with_all, IsNameBelow, IsAscending, IsPairName, HaveNames}
 use Rattle.sg_msg.specs.Sorting.{is_before, KeepsEachName}
 use Rattle.sg_msg.proofs.ByteOrder.{same-from_equal, equal-from_same, less-back, test-same, test-less}
 use Rattle.sg_msg.proofs.KeptPairs.{below-trans, ascending-with, names-with}
 use Rattle.sg_msg.proofs.ValueLaws.{value-with, value-with-other, value-below, test-other}
 
-pub ascending-all : (others pairs : List Pair) → IsAscending pairs → IsAscending (with_all others pairs)
+pub ascending-all : (others pairs : List NameValue) → IsAscending pairs → IsAscending (with_all others pairs)
 ascending-all [] pairs up = up
 ascending-all (pair ∷ others) pairs up = ascending-all others (with_pair pair.name pair.value pairs) (ascending-with pair.name pair.value pairs up)
 
-pub names-all : (others pairs : List Pair) → HaveNames others → HaveNames pairs → HaveNames (with_all others pairs)
+pub names-all : (others pairs : List NameValue) → HaveNames others → HaveNames pairs → HaveNames (with_all others pairs)
 names-all [] pairs named all = all
 names-all (pair ∷ others) pairs named all = names-all others (with_pair pair.name pair.value pairs) named.1 (names-with pair.name pair.value pairs named.0 all)
 
-pub names-end : (pairs : List Pair) (pair : Pair) → HaveNames pairs → IsName pair.name → HaveNames (pairs ++ pair ∷ [])
+pub names-end : (pairs : List NameValue) (pair : NameValue) → HaveNames pairs → IsPairName pair.name → HaveNames (pairs ++ pair ∷ [])
 names-end [] pair all named = (named, tt)
 names-end (first ∷ pairs) pair all named = (all.0, names-end pairs pair all.1 named)
 
@@ -35,23 +35,23 @@ same_or_not x y = by (byte_order x y) refl
     by Greater is = inr (λ e. differs-less y x (less-back x y is) (sym e))
 
 -- the value of a name after a pair is set depends on what it was before
-value-one : (name : List ℕ) (pair : Pair) (a b : List Pair) → value_of name a ≡ value_of name b → value_of name (with_pair pair.name pair.value a) ≡ value_of name (with_pair pair.name pair.value b)
+value-one : (name : List ℕ) (pair : NameValue) (a b : List NameValue) → value_of name a ≡ value_of name b → value_of name (with_pair pair.name pair.value a) ≡ value_of name (with_pair pair.name pair.value b)
 value-one name pair a b e = by (same_or_not name pair.name)
   where
     by : (name ≡ pair.name) ⊎ (name ≢ pair.name) → value_of name (with_pair pair.name pair.value a) ≡ value_of name (with_pair pair.name pair.value b)
     by (inl same) = subst (λ (n : List ℕ). value_of n (with_pair pair.name pair.value a) ≡ value_of n (with_pair pair.name pair.value b)) (sym same) (value-with pair.name pair.value a ∙ sym (value-with pair.name pair.value b))
     by (inr differs) = value-with-other pair.name pair.value name differs a ∙ e ∙ sym (value-with-other pair.name pair.value name differs b)
 
-value-all : (name : List ℕ) (others a b : List Pair) → value_of name a ≡ value_of name b → value_of name (with_all others a) ≡ value_of name (with_all others b)
+value-all : (name : List ℕ) (others a b : List NameValue) → value_of name a ≡ value_of name b → value_of name (with_all others a) ≡ value_of name (with_all others b)
 value-all name [] a b e = e
 value-all name (pair ∷ others) a b e = value-all name others (with_pair pair.name pair.value a) (with_pair pair.name pair.value b) (value-one name pair a b e)
 
 -- only the pairs of its name decide the value of a name
-module _ (name : List ℕ) (test : Pair → Bool) (passes : (pair : Pair) → pair.name ≡ name → test pair ≡ true) where
-  differs-out : (pair : Pair) → test pair ≡ false → name ≢ pair.name
+module _ (name : List ℕ) (test : NameValue → Bool) (passes : (pair : NameValue) → pair.name ≡ name → test pair ≡ true) where
+  differs-out : (pair : NameValue) → test pair ≡ false → name ≢ pair.name
   differs-out pair out e = let in_it = passes pair (sym e) in absurd (cc)
 
-  value-filter : (others pairs : List Pair) → value_of name (with_all others pairs) ≡ value_of name (with_all (filter test others) pairs)
+  value-filter : (others pairs : List NameValue) → value_of name (with_all others pairs) ≡ value_of name (with_all (filter test others) pairs)
   value-filter [] pairs = refl
   value-filter (pair ∷ others) pairs = by (value-filter others (with_pair pair.name pair.value pairs)) (test pair) refl
     where
@@ -60,19 +60,19 @@ module _ (name : List ℕ) (test : Pair → Bool) (passes : (pair : Pair) → pa
       by rest false is = rw is (rest ∙ value-all name (filter test others) (with_pair pair.name pair.value pairs) pairs (value-with-other pair.name pair.value name (differs-out pair is) pairs))
 
 -- two lists that ascend and give each name one value are the same
-pair-same : (p q : Pair) → p.name ≡ q.name → p.value ≡ q.value → p ≡ q
+pair-same : (p q : NameValue) → p.name ≡ q.name → p.value ≡ q.value → p ≡ q
 pair-same p q names values = ap (λ (n : List ℕ). record { name = n; value = p.value }) names ∙ ap (λ (v : List ℕ). record { name = q.name; value = v }) values
 
 some-same : (x y : List ℕ) → Some x ≡ Some y → x ≡ y
 some-same x y e = cc
 
-first-value : (pair : Pair) (pairs : List Pair) → value_of pair.name (pair ∷ pairs) ≡ Some pair.value
+first-value : (pair : NameValue) (pairs : List NameValue) → value_of pair.name (pair ∷ pairs) ≡ Some pair.value
 first-value pair pairs = rw (test-same pair.name pair.name refl) refl
 
-not-first : (name : List ℕ) (pair : Pair) (pairs : List Pair) → pair.name ≢ name → value_of name (pair ∷ pairs) ≡ value_of name pairs
+not-first : (name : List ℕ) (pair : NameValue) (pairs : List NameValue) → pair.name ≢ name → value_of name (pair ∷ pairs) ≡ value_of name pairs
 not-first name pair pairs differs = rw (test-other pair.name name differs) refl
 
-pub extensional : (a b : List Pair) → IsAscending a → IsAscending b → ((name : List ℕ) → value_of name a ≡ value_of name b) → a ≡ b
+pub extensional : (a b : List NameValue) → IsAscending a → IsAscending b → ((name : List ℕ) → value_of name a ≡ value_of name b) → a ≡ b
 extensional [] [] up vp same = refl
 extensional [] (q ∷ b) up vp same = let e = same q.name in let f = first-value q b in absurd (cc)
 extensional (p ∷ a) [] up vp same = let e = same p.name in let f = first-value p a in absurd (cc)
@@ -83,7 +83,7 @@ extensional (p ∷ a) (q ∷ b) up vp same = by (λ tails. extensional a b up.1 
     tails names name = rest (same_or_not p.name name)
       where
         rest : (p.name ≡ name) ⊎ (p.name ≢ name) → value_of name a ≡ value_of name b
-        rest (inl is) = value-below name a (subst (λ (n : List ℕ). IsBelow n a) is up.0) ∙ sym (value-below name b (subst (λ (n : List ℕ). IsBelow n b) (sym names ∙ is) vp.0))
+        rest (inl is) = value-below name a (subst (λ (n : List ℕ). IsNameBelow n a) is up.0) ∙ sym (value-below name b (subst (λ (n : List ℕ). IsNameBelow n b) (sym names ∙ is) vp.0))
         rest (inr differs) = sym (not-first name p a differs) ∙ same name ∙ not-first name q b (λ e. differs (names ∙ e))
 
     by : (((name : List ℕ) → value_of name a ≡ value_of name b) → a ≡ b) → (o : Ordering) → byte_order p.name q.name ≡ o → (p ∷ a) ≡ (q ∷ b)
@@ -102,36 +102,36 @@ extensional (p ∷ a) (q ∷ b) up vp same = by (λ tails. extensional a b up.1 
         let names = same-from_equal p.name q.name is in
         let value = sym (first-value p a) ∙ same p.name ∙ ap (λ (n : List ℕ). value_of n (q ∷ b)) names ∙ first-value q b in
         let rest = again (tails names) in
-        ap (λ (pair : Pair). pair ∷ a) (pair-same p q names (some-same p.value q.value value)) ∙ ap (λ (pairs : List Pair). q ∷ pairs) rest
+        ap (λ (pair : NameValue). pair ∷ a) (pair-same p q names (some-same p.value q.value value)) ∙ ap (λ (pairs : List NameValue). q ∷ pairs) rest
 
 -- an order that keeps the pairs of each name as they stood gives the same
-pub same-all : (old new : List Pair) → KeepsEachName old new → with_all new [] ≡ with_all old []
+pub same-all : (old new : List NameValue) → KeepsEachName old new → with_all new [] ≡ with_all old []
 same-all old new keeps = extensional (with_all new []) (with_all old []) (ascending-all new [] tt) (ascending-all old [] tt) same
   where
-    named : List ℕ → Pair
+    named : List ℕ → NameValue
     named name = record { name = name; value = [] }
 
-    passes : (name : List ℕ) (pair : Pair) → pair.name ≡ name → ties is_before (named name) pair ≡ true
+    passes : (name : List ℕ) (pair : NameValue) → pair.name ≡ name → ties is_before (named name) pair ≡ true
     passes name pair e = rw (equal-from_same name pair.name (sym e), equal-from_same pair.name name e) refl
 
     same : (name : List ℕ) → value_of name (with_all new []) ≡ value_of name (with_all old [])
     same name =
         value-filter name (ties is_before (named name)) (passes name) new []
-        ∙ ap (λ (l : List Pair). value_of name (with_all l [])) (keeps (named name))
+        ∙ ap (λ (l : List NameValue). value_of name (with_all l [])) (keeps (named name))
         ∙ sym (value-filter name (ties is_before (named name)) (passes name) old [])
 
 -- setting more pairs after others
-pub with_all-append : (first second pairs : List Pair) → with_all (first ++ second) pairs ≡ with_all second (with_all first pairs)
+pub with_all-append : (first second pairs : List NameValue) → with_all (first ++ second) pairs ≡ with_all second (with_all first pairs)
 with_all-append [] second pairs = refl
 with_all-append (pair ∷ first) second pairs = with_all-append first second (with_pair pair.name pair.value pairs)
 
 -- pairs that ascend are what setting them gives
-behind : (pair : Pair) (others pairs : List Pair) → IsBelow pair.name others → with_all others (pair ∷ pairs) ≡ pair ∷ with_all others pairs
+behind : (pair : NameValue) (others pairs : List NameValue) → IsNameBelow pair.name others → with_all others (pair ∷ pairs) ≡ pair ∷ with_all others pairs
 behind pair [] pairs below = refl
 behind pair (next ∷ others) pairs below =
     let there : with_pair next.name next.value (pair ∷ pairs) ≡ pair ∷ with_pair next.name next.value pairs = rw below.0 refl in
-    ap (λ (l : List Pair). with_all others l) there ∙ behind pair others (with_pair next.name next.value pairs) below.1
+    ap (λ (l : List NameValue). with_all others l) there ∙ behind pair others (with_pair next.name next.value pairs) below.1
 
-pub all-ascending : (pairs : List Pair) → IsAscending pairs → with_all pairs [] ≡ pairs
+pub all-ascending : (pairs : List NameValue) → IsAscending pairs → with_all pairs [] ≡ pairs
 all-ascending [] up = refl
-all-ascending (pair ∷ pairs) up = behind pair pairs [] up.0 ∙ ap (λ (l : List Pair). pair ∷ l) (all-ascending pairs up.1)
+all-ascending (pair ∷ pairs) up = behind pair pairs [] up.0 ∙ ap (λ (l : List NameValue). pair ∷ l) (all-ascending pairs up.1)

@@ -6,8 +6,8 @@ use Rattle.std.specs.Ordering.{ordering_index}
 use Rattle.std.specs.List.Sorted.{IsSearchInRange, IsBinarySearchResult, IsNonDecreasingBy}
 use Rattle.std.specs.Cmp.Lexicographic.{nat_list_cmp_total}
 use Rattle.std.specs.Cmp.{alike_right}
-use Rattle.sg_msg.specs.Message.{Pair, byte_order, IsBelow, IsAscending}
-use Rattle.sg_msg.specs.Places.{IsAt, IsGapFor}
+use Rattle.sg_msg.specs.Message.{NameValue, byte_order, IsNameBelow, IsAscending}
+use Rattle.sg_msg.specs.Places.{IsPairAt, IsGapFor}
 use Rattle.sg_msg.proofs.ByteOrder.{same-from_equal, less-trans}
 
 at_most_two : (o : Ordering) → ordering_index o ≤ 2
@@ -21,12 +21,12 @@ rises x y name Less below is = rw (less-trans x y name below is) (omega arith)
 rises x y name Equal below is = rw (← alike_right nat_list_cmp_total y name x is, below) (omega arith)
 rises x y name Greater below is = at_most_two (byte_order x name)
 
-below-get : (x : List ℕ) (pairs : List Pair) (k : ℕ) (d : Pair) → IsBelow x pairs → k < length pairs → byte_order x (get_or pairs k d).name ≡ Less
+below-get : (x : List ℕ) (pairs : List NameValue) (k : ℕ) (d : NameValue) → IsNameBelow x pairs → k < length pairs → byte_order x (get_or pairs k d).name ≡ Less
 below-get x [] k d below lt = absurd (omega arith)
 below-get x (pair ∷ pairs) zero d below lt = below.0
 below-get x (pair ∷ pairs) (suc k) d below lt = below-get x pairs k d below.1 (omega arith)
 
-comparisons_rise : (name : List ℕ) (pairs : List Pair) → IsAscending pairs → IsNonDecreasingBy (λ pair. ordering_index (byte_order pair.name name)) pairs
+comparisons_rise : (name : List ℕ) (pairs : List NameValue) → IsAscending pairs → IsNonDecreasingBy (λ pair. ordering_index (byte_order pair.name name)) pairs
 comparisons_rise name [] up i j d le lt = absurd (omega arith)
 comparisons_rise name (pair ∷ pairs) up zero zero d le lt = omega arith
 comparisons_rise name (pair ∷ pairs) up zero (suc j) d le lt = rises pair.name (get_or pairs j d).name name (byte_order (get_or pairs j d).name name) (below-get pair.name pairs j d up.0 (omega arith)) refl
@@ -34,6 +34,6 @@ comparisons_rise name (pair ∷ pairs) up (suc i) zero d le lt = absurd (omega a
 comparisons_rise name (pair ∷ pairs) up (suc i) (suc j) d le lt = comparisons_rise name pairs up.1 i j d (omega arith) (omega arith)
 
 -- a binary search by name ends at the name, or at the gap for it
-pub searched : (pairs : List Pair) (name : List ℕ) → IsAscending pairs → (r : Result ℕ ℕ) → IsSearchInRange r (length pairs) → IsBinarySearchResult (λ pair. byte_order pair.name name) pairs r → record { found : IfOk r (IsAt pairs name); absent : IfErr r (IsGapFor pairs name) }
+pub searched : (pairs : List NameValue) (name : List ℕ) → IsAscending pairs → (r : Result ℕ ℕ) → IsSearchInRange r (length pairs) → IsBinarySearchResult (λ pair. byte_order pair.name name) pairs r → record { found : IfOk r (IsPairAt pairs name); absent : IfErr r (IsGapFor pairs name) }
 searched pairs name up (Ok place) in_range equal = record { found = record { in_range = in_range; has_name = λ d. same-from_equal _ name (equal d) }; absent = tt }
 searched pairs name up (Err place) in_range parted = record { found = tt; absent = record { in_range = in_range; smaller = (parted (comparisons_rise name pairs up)).0; greater = (parted (comparisons_rise name pairs up)).1 } }

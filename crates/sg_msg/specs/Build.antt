@@ -1,7 +1,7 @@
 -- A message that is made of many pairs at once.
 use Rattle.std.specs.Prelude.{ℕ, List, [], ◌∷◌, Option, None, Some, codes}
 use Rattle.sg_time.specs.declared.stamp.Stamp.{Stamp}
-use Rattle.sg_msg.specs.Message.{Pair, Content, with_all, IsName}
+use Rattle.sg_msg.specs.Message.{NameValue, Content, with_all, IsPairName}
 use Rattle.sg_msg.specs.declared.builder.PairName.{PairName}
 use Rattle.sg_msg.specs.declared.builder.PairName.TheVariants.{Host, Program, Pid, MessageId, Message, Other}
 
@@ -21,10 +21,10 @@ MayName Program = Unit {0}
 MayName Pid = Unit {0}
 MayName MessageId = Unit {0}
 MayName Message = Unit {0}
-MayName (Other name) = IsName name
+MayName (Other name) = IsPairName name
 
 -- a pair that may be missing
-abbrev pub some_pair : List ℕ → Option (List ℕ) → List Pair
+abbrev pub some_pair : List ℕ → Option (List ℕ) → List NameValue
 some_pair name None = []
 some_pair name (Some value) = (record { name = name; value = value }) ∷ []
 
@@ -34,7 +34,7 @@ pub record Build : Type 0 where
   pub sent : Stamp
   pub received : Stamp
   -- in the order in which they were put
-  pub put : List Pair
+  pub put : List NameValue
   -- distinct, in the order set
   pub tags : List (List ℕ)
 

@@ -1,12 +1,12 @@
 -- How many bytes the entry of a message has in a disk-buffer of format 2.
 use Rattle.std.specs.Prelude.{ℕ, ◌+◌, List, [], ◌∷◌, length}
-use Rattle.sg_msg.specs.Message.{Content, Pair}
+use Rattle.sg_msg.specs.Message.{Content, NameValue}
 
 abbrev pub tag_lengths : List (List ℕ) → ℕ
 tag_lengths [] = 0
 tag_lengths (tag ∷ tags) = 4 + length tag + tag_lengths tags
 
-abbrev pub pair_lengths : List Pair → ℕ
+abbrev pub pair_lengths : List NameValue → ℕ
 pair_lengths [] = 0
 pair_lengths (pair ∷ pairs) = 8 + length pair.name + length pair.value + pair_lengths pairs
 

@@ -7,3 +7,4 @@ pub mod Build
 pub mod Tags
 pub mod Sets
 pub mod Priority
+pub mod Offers

@@ -5,12 +5,12 @@ use Rattle.std.specs.declared.cmp.Ordering.{Ordering}
 use Rattle.std.specs.declared.cmp.Ordering.TheVariants.{Less}
 use Rattle.std.specs.Ordering.{nat_cmp, match_ordering}
 use Rattle.std.specs.Cmp.Lexicographic.{slice_cmp}
-use Rattle.sg_time.specs.Stamp.{IsValid}
+use Rattle.sg_time.specs.Stamp.{IsValidStamp}
 use Rattle.sg_time.specs.declared.stamp.Stamp.{Stamp}
 use Rattle.sg_msg.specs.Macros.{is_hard}
 
 -- a name and its value
-pub record Pair : Type 0 where
+pub record NameValue : Type 0 where
   pub name : List ℕ
   pub value : List ℕ
 
@@ -22,7 +22,7 @@ pub record Content : Type 0 where
   pub sent : Stamp
   pub received : Stamp
   -- in ascending byte order of distinct names
-  pub pairs : List Pair
+  pub pairs : List NameValue
   -- distinct, in the order set
   pub tags : List (List ℕ)
 
@@ -31,12 +31,12 @@ abbrev pub byte_order : List ℕ → List ℕ → Ordering
 byte_order = slice_cmp nat_cmp
 
 -- the value of that name
-abbrev pub value_of : List ℕ → List Pair → Option (List ℕ)
+abbrev pub value_of : List ℕ → List NameValue → Option (List ℕ)
 value_of name [] = None
 value_of name (pair ∷ pairs) = if bytes_eq pair.name name then Some pair.value else value_of name pairs
 
 -- the pairs with this one in the place of the pair of its name, or before the first greater name
-abbrev pub with_pair : List ℕ → List ℕ → List Pair → List Pair
+abbrev pub with_pair : List ℕ → List ℕ → List NameValue → List NameValue
 with_pair name value [] = (record { name = name; value = value }) ∷ []
 with_pair name value (pair ∷ pairs) =
     match_ordering (byte_order pair.name name)
@@ -45,17 +45,17 @@ with_pair name value (pair ∷ pairs) =
     ((record { name = name; value = value }) ∷ pair ∷ pairs)
 
 -- the pairs with these set, one after another
-abbrev pub with_all : List Pair → List Pair → List Pair
+abbrev pub with_all : List NameValue → List NameValue → List NameValue
 with_all [] pairs = pairs
 with_all (pair ∷ others) pairs = with_all others (with_pair pair.name pair.value pairs)
 
 -- the pairs but for that of this name
-abbrev pub without_pair : List ℕ → List Pair → List Pair
+abbrev pub without_pair : List ℕ → List NameValue → List NameValue
 without_pair name [] = []
 without_pair name (pair ∷ pairs) = if bytes_eq pair.name name then pairs else pair ∷ without_pair name pairs
 
 -- every other name has the value that it had
-abbrev pub KeepsOthers : List ℕ → List Pair → List Pair → Type 0
+abbrev pub KeepsOthers : List ℕ → List NameValue → List NameValue → Type 0
 KeepsOthers name old new = (other : List ℕ) → other ≢ name → value_of other new ≡ value_of other old
 
 abbrev pub has_tag : List ℕ → List (List ℕ) → Bool
@@ -71,22 +71,22 @@ without_tag tag [] = []
 without_tag tag (set ∷ tags) = if bytes_eq set tag then tags else set ∷ without_tag tag tags
 
 -- the name is less than each name of the pairs
-abbrev pub IsBelow : List ℕ → List Pair → Type 0
-IsBelow name [] = Unit {0}
-IsBelow name (pair ∷ pairs) = (byte_order name pair.name ≡ Less) × IsBelow name pairs
+abbrev pub IsNameBelow : List ℕ → List NameValue → Type 0
+IsNameBelow name [] = Unit {0}
+IsNameBelow name (pair ∷ pairs) = (byte_order name pair.name ≡ Less) × IsNameBelow name pairs
 
 -- each name is less than all that follow
-abbrev pub IsAscending : List Pair → Type 0
+abbrev pub IsAscending : List NameValue → Type 0
 IsAscending [] = Unit {0}
-IsAscending (pair ∷ pairs) = IsBelow pair.name pairs × IsAscending pairs
+IsAscending (pair ∷ pairs) = IsNameBelow pair.name pairs × IsAscending pairs
 
 -- what a pair may be called
-abbrev pub IsName : List ℕ → Type 0
-IsName name = (1 ≤ length name) × (length name ≤ 255) × (is_hard name ≡ false)
+abbrev pub IsPairName : List ℕ → Type 0
+IsPairName name = (1 ≤ length name) × (length name ≤ 255) × (is_hard name ≡ false)
 
-abbrev pub HaveNames : List Pair → Type 0
+abbrev pub HaveNames : List NameValue → Type 0
 HaveNames [] = Unit {0}
-HaveNames (pair ∷ pairs) = IsName pair.name × HaveNames pairs
+HaveNames (pair ∷ pairs) = IsPairName pair.name × HaveNames pairs
 
 -- no tag comes twice
 abbrev pub AreDistinct : List (List ℕ) → Type 0
@@ -96,8 +96,8 @@ AreDistinct (tag ∷ tags) = (has_tag tag tags ≡ false) × AreDistinct tags
 -- what holds of every message
 pub record IsMessage (content : Content) : Type 0 where
   pub pri : content.pri ≤ 191
-  pub sent : IsValid content.sent
-  pub received : IsValid content.received
+  pub sent : IsValidStamp content.sent
+  pub received : IsValidStamp content.received
   pub ascending : IsAscending content.pairs
   pub names : HaveNames content.pairs
   pub tags : AreDistinct content.tags

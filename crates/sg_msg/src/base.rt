@@ -1,10 +1,10 @@
 // The pairs of a message, in one sorted list that its handles share.
 ghost use Rattle.std.specs.Prelude.{◌≡◌, ◌<◌, [], length, remove, IfOk, IfErr, OnOk, OnErr, option_copied, slice_get, option_map};
 ghost use Rattle.sg_msg.specs.Message.{value_of, with_pair, without_pair, IsAscending};
-ghost use Rattle.sg_msg.specs.Places.{IsAt, IsGapFor};
+ghost use Rattle.sg_msg.specs.Places.{IsPairAt, IsGapFor};
 
 use crate::order::order;
-use crate::pair::Pair;
+use crate::pair::NameValue;
 use bytes::Bytes;
 use smallvec::SmallVec;
 use std::alloc::{AllocError, Global};
@@ -20,12 +20,12 @@ const SCANNED: usize = 8;
 /// The pairs in order.
 #[derive(Debug, Drop)]
 struct Base {
-    pairs: SmallVec<Pair, FEW>,
+    pairs: SmallVec<NameValue, FEW>,
 }
 
 impl Model for Base {
     ghost use Rattle.std.specs.Prelude.{List};
-    ghost use Rattle.sg_msg.specs.Message.{Pair as NamedValue};
+    ghost use Rattle.sg_msg.specs.Message.{NameValue as NamedValue};
 
     ghost Value = { List NamedValue };
 
@@ -43,7 +43,7 @@ impl Clone for Base {
 }
 
 // The value of the name, which is looked for one pair after another.
-fn value_among<'a>(pairs: &'a [Pair], name: &[u8]) -> Option<&'a [u8]>
+fn value_among<'a>(pairs: &'a [NameValue], name: &[u8]) -> Option<&'a [u8]>
     ensures { option_copied result ≡ value_of name.now pairs.now }
 {
     for pair in pairs {
@@ -58,7 +58,7 @@ impl Base {
     // Where the name is, or where it would go.
     fn search(&self, name: &[u8]) -> Result<usize, usize>
         requires { IsAscending self.now }
-        ensures found { IfOk result (IsAt self.now name.now) }
+        ensures found { IfOk result (IsPairAt self.now name.now) }
         ensures absent { IfErr result (IsGapFor self.now name.now) }
     {
         self.pairs.binary_search_by(|pair| order(pair.name(), name))
@@ -86,7 +86,7 @@ impl Base {
             Ok(place) => self.pairs[place].put(value),
             Err(place) => {
                 let name = Bytes::copy_from_slice(alloc, name)?;
-                self.pairs.insert(place, Pair::new(name, value))?;
+                self.pairs.insert(place, NameValue::new(name, value))?;
             }
         }
         Ok(())
@@ -102,7 +102,7 @@ impl Base {
             Ok(place) => self.pairs[place].put(value),
             Err(place) => {
                 let name = name.clone()?;
-                self.pairs.insert(place, Pair::new(name, value))?;
+                self.pairs.insert(place, NameValue::new(name, value))?;
             }
         }
         Ok(())
@@ -126,7 +126,7 @@ pub(crate) struct Pairs {
 impl Model for Pairs {
     ghost use Rattle.std.specs.Prelude.{List};
     ghost use Rattle.std.specs.Arc.{arc_value};
-    ghost use Rattle.sg_msg.specs.Message.{Pair as NamedValue};
+    ghost use Rattle.sg_msg.specs.Message.{NameValue as NamedValue};
 
     ghost Value = { List NamedValue };
 
@@ -140,7 +140,7 @@ impl Pairs {
         Pairs::of(alloc, SmallVec::new(alloc))
     }
 
-    pub(crate) fn of(alloc: Global, pairs: SmallVec<Pair, FEW>) -> Result<Pairs, AllocError>
+    pub(crate) fn of(alloc: Global, pairs: SmallVec<NameValue, FEW>) -> Result<Pairs, AllocError>
         ensures { IfOk result (λ shared. shared ≡ pairs.items) }
     {
         let base = Base { pairs };

@@ -1,12 +1,12 @@
 // Messages made of many pairs at once.
 ghost use Rattle.std.specs.Prelude.{◌≡◌, ◌≤◌, ◌++◌, [], ◌∷◌, IfOk, OnOk, OnErr, option_copied, slice_get};
 ghost use Rattle.sg_msg.specs.Message.{with_tag};
-ghost use Rattle.sg_time.specs.Stamp.{IsValid};
+ghost use Rattle.sg_time.specs.Stamp.{IsValidStamp};
 ghost use Rattle.sg_msg.specs.Build.{name_of, MayName, some_pair, built};
 
 use crate::Message;
 use crate::base::{FEW, Pairs};
-use crate::pair::Pair;
+use crate::pair::NameValue;
 use crate::sorting::sorted;
 use crate::tags::Tags;
 use bytes::Bytes;
@@ -55,13 +55,13 @@ pub struct MessageBuilder {
     pri: u8,
     sent: Stamp,
     received: Stamp,
-    pairs: SmallVec<Pair, FEW>,
+    pairs: SmallVec<NameValue, FEW>,
     tags: Tags,
 }
 
 impl Model for MessageBuilder {
     ghost use Rattle.std.specs.Prelude.{◌≤◌};
-    ghost use Rattle.sg_time.specs.Stamp.{IsValid};
+    ghost use Rattle.sg_time.specs.Stamp.{IsValidStamp};
     ghost use Rattle.sg_msg.specs.Message.{HaveNames, AreDistinct};
     ghost use Rattle.sg_msg.specs.Build.{Build};
 
@@ -75,7 +75,7 @@ impl Model for MessageBuilder {
       tags = b.tags;
     } };
 
-    ghost invariant = { λ b. (b.pri ≤ 191) × IsValid b.sent × IsValid b.received
+    ghost invariant = { λ b. (b.pri ≤ 191) × IsValidStamp b.sent × IsValidStamp b.received
         × HaveNames b.pairs.items × AreDistinct b.tags };
 }
 
@@ -83,8 +83,8 @@ impl MessageBuilder {
     /// The builder of a message without pairs and tags. It takes no memory.
     pub fn new(alloc: Global, pri: u8, sent: Stamp, received: Stamp) -> MessageBuilder
         requires pri { pri ≤ 191 }
-        requires sent { IsValid sent }
-        requires received { IsValid received }
+        requires sent { IsValidStamp sent }
+        requires received { IsValidStamp received }
         ensures { result ≡ record {
           pri = pri;
           sent = sent;
@@ -112,7 +112,7 @@ impl MessageBuilder {
         }) }
         ensures err { OnErr result (self.new ≡ self.old) }
     {
-        self.pairs.push(Pair::new(name.bytes(), value))?;
+        self.pairs.push(NameValue::new(name.bytes(), value))?;
         Ok(())
     }
 

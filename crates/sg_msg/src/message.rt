@@ -1,8 +1,8 @@
 // A handle to a message.
 ghost use Rattle.std.specs.Prelude.{◌≡◌, ◌≤◌, ◌↔◌, true, [], IfOk, OnOk, OnErr, length, option_copied, option_map, slice_get};
-ghost use Rattle.sg_time.specs.Stamp.{IsValid};
+ghost use Rattle.sg_time.specs.Stamp.{IsValidStamp};
 ghost use Rattle.sg_msg.specs.Macros.{is_hard};
-ghost use Rattle.sg_msg.specs.Message.{IsAscending, IsName, HaveNames, AreDistinct, IsMessage, KeepsOthers, value_of, with_pair, without_pair, with_tag, without_tag};
+ghost use Rattle.sg_msg.specs.Message.{IsAscending, IsPairName, HaveNames, AreDistinct, IsMessage, KeepsOthers, value_of, with_pair, without_pair, with_tag, without_tag};
 
 use crate::base::Pairs;
 use crate::tags::Tags;
@@ -63,8 +63,8 @@ impl Message {
     /// A message without pairs and tags. `MessageBuilder` makes one of many pairs.
     pub fn new(alloc: Global, pri: u8, sent: Stamp, received: Stamp) -> Result<Message, AllocError>
         requires pri { pri ≤ 191 }
-        requires sent { IsValid sent }
-        requires received { IsValid received }
+        requires sent { IsValidStamp sent }
+        requires received { IsValidStamp received }
         ensures { IfOk result (λ message. message ≡ record {
           pri = pri;
           sent = sent;
@@ -84,8 +84,8 @@ impl Message {
 
     pub(crate) fn of(pri: u8, sent: Stamp, received: Stamp, pairs: Pairs, tags: Tags) -> Message
         requires pri { pri ≤ 191 }
-        requires sent { IsValid sent }
-        requires received { IsValid received }
+        requires sent { IsValidStamp sent }
+        requires received { IsValidStamp received }
         requires ascending { IsAscending pairs }
         requires names { HaveNames pairs }
         requires tags { AreDistinct tags }
@@ -210,7 +210,7 @@ impl Message {
     /// As `set_bytes`, with a name that is known to be no macro's, and whose memory is shared too. On an
     /// error the message is as it was.
     pub fn put(&mut self, name: &Bytes, value: Bytes) -> Result<(), AllocError>
-        requires { IsName name.now }
+        requires { IsPairName name.now }
         ensures ok { OnOk result (self.new
             ≡ record self.old { pairs = with_pair name.now value self.old.pairs }) }
         ensures value { OnOk result (value_of name.now self.new.pairs ≡ Some value) }
@@ -240,7 +240,7 @@ impl Message {
 
     /// As `unset`, of a name that is known to be no macro's. On an error the message is as it was.
     pub fn remove(&mut self, name: &[u8]) -> Result<(), AllocError>
-        requires { IsName name.now }
+        requires { IsPairName name.now }
         ensures ok { OnOk result (self.new
             ≡ record self.old { pairs = without_pair name.now self.old.pairs }) }
         ensures value { OnOk result (value_of name.now self.new.pairs ≡ None) }

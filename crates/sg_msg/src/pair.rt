@@ -7,24 +7,24 @@ use std::marker::Model;
 
 /// A name and its value.
 #[derive(Debug, Drop)]
-pub(crate) struct Pair {
+pub(crate) struct NameValue {
     name: Bytes,
     value: Bytes,
 }
 
-impl Model for Pair {
-    ghost use Rattle.sg_msg.specs.Message.{Pair as NamedValue};
+impl Model for NameValue {
+    ghost use Rattle.sg_msg.specs.Message.{NameValue as NamedValue};
 
     ghost Value = { NamedValue };
 
     ghost view = { λ p. record { name = p.name; value = p.value } };
 }
 
-impl Pair {
-    pub(crate) fn new(name: Bytes, value: Bytes) -> Pair
+impl NameValue {
+    pub(crate) fn new(name: Bytes, value: Bytes) -> NameValue
         ensures { result ≡ record { name = name; value = value } }
     {
-        Pair { name, value }
+        NameValue { name, value }
     }
 
     pub(crate) fn name(&self) -> &[u8]
@@ -47,19 +47,19 @@ impl Pair {
 }
 
 // What the places hold that are kept ready for a message's first pairs.
-impl Default for Pair {
+impl Default for NameValue {
     ghost is_default = { λ pair. pair ≡ record { name = []; value = [] } };
 
-    fn default() -> Pair {
-        Pair::new(Bytes::new(), Bytes::new())
+    fn default() -> NameValue {
+        NameValue::new(Bytes::new(), Bytes::new())
     }
 }
 
-impl Clone for Pair {
+impl Clone for NameValue {
     ghost is_clone = { λ pair copy. copy ≡ pair };
 
-    fn clone(&self) -> Result<Pair, AllocError> {
-        Ok(Pair {
+    fn clone(&self) -> Result<NameValue, AllocError> {
+        Ok(NameValue {
             name: self.name.clone()?,
             value: self.value.clone()?,
         })

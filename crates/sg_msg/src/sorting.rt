@@ -4,12 +4,12 @@ ghost use Rattle.sg_msg.specs.Message.{with_all};
 ghost use Rattle.sg_msg.specs.Sorting.{is_named, put_last, put_each, IsInOrder, KeepsEachName};
 
 use crate::base::FEW;
-use crate::pair::Pair;
+use crate::pair::NameValue;
 use smallvec::SmallVec;
 use std::alloc::{AllocError, Global};
 
 // Whether the pair that stands last has this name.
-fn ends_with_name(pairs: &[Pair], name: &[u8]) -> bool
+fn ends_with_name(pairs: &[NameValue], name: &[u8]) -> bool
     ensures { result ≡ is_named name.now (slice_get pairs.now (length pairs.now - 1)) }
 {
     match pairs.last() {
@@ -18,7 +18,7 @@ fn ends_with_name(pairs: &[Pair], name: &[u8]) -> bool
     }
 }
 
-fn put_last(pairs: &mut SmallVec<Pair, FEW>, pair: Pair) -> Result<(), AllocError>
+fn put_last(pairs: &mut SmallVec<NameValue, FEW>, pair: NameValue) -> Result<(), AllocError>
     ensures { OnOk result (pairs.new.items ≡ put_last pair pairs.old.items) }
 {
     if ends_with_name(pairs.as_slice(), pair.name()) {
@@ -28,7 +28,7 @@ fn put_last(pairs: &mut SmallVec<Pair, FEW>, pair: Pair) -> Result<(), AllocErro
     Ok(())
 }
 
-fn sort(alloc: Global, pairs: &mut SmallVec<Pair, FEW>) -> Result<(), AllocError>
+fn sort(alloc: Global, pairs: &mut SmallVec<NameValue, FEW>) -> Result<(), AllocError>
     ensures sorted { OnOk result (IsInOrder pairs.new.items) }
     ensures stable { KeepsEachName pairs.old.items pairs.new.items }
 {
@@ -36,7 +36,7 @@ fn sort(alloc: Global, pairs: &mut SmallVec<Pair, FEW>) -> Result<(), AllocError
 }
 
 // Whether no two that stand beside each other have one name.
-fn are_apart(pairs: &[Pair]) -> bool
+fn are_apart(pairs: &[NameValue]) -> bool
     ensures { result ≡ true → put_each pairs.now [] ≡ pairs.now }
 {
     for at in 0..pairs.len() {
@@ -50,8 +50,8 @@ fn are_apart(pairs: &[Pair]) -> bool
 // The pairs, where they stand in order: of those of one name the last.
 fn last_of_each(
     alloc: Global,
-    pairs: SmallVec<Pair, FEW>,
-) -> Result<SmallVec<Pair, FEW>, AllocError>
+    pairs: SmallVec<NameValue, FEW>,
+) -> Result<SmallVec<NameValue, FEW>, AllocError>
     ensures { IfOk result (λ kept. kept.items ≡ put_each pairs.items []) }
 {
     if are_apart(pairs.as_slice()) {
@@ -67,8 +67,8 @@ fn last_of_each(
 /// The pairs that setting these one after another gives.
 pub(crate) fn sorted(
     alloc: Global,
-    mut pairs: SmallVec<Pair, FEW>,
-) -> Result<SmallVec<Pair, FEW>, AllocError>
+    mut pairs: SmallVec<NameValue, FEW>,
+) -> Result<SmallVec<NameValue, FEW>, AllocError>
     ensures { IfOk result (λ kept. kept.items ≡ with_all pairs.items []) }
 {
     sort(alloc, &mut pairs)?;

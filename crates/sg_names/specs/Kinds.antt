@@ -14,6 +14,7 @@ object_name kind.Source (object.Source name drivers) = Some name
 object_name kind.Destination (object.Destination name drivers) = Some name
 object_name kind.Filter (object.Filter name expr) = Some name
 object_name kind.Rewrite (object.Rewrite name calls) = Some name
+object_name kind.Parser (object.Parser name calls) = Some name
 object_name kind.Template (object.Template name text) = Some name
 object_name _ _ = None
 

@@ -27,6 +27,8 @@ part_limits sizes (part.Expression terms) = large_faults sizes terms
 part_limits sizes (part.Rewrite word conditions) = flat_map (large_faults sizes) conditions
 part_limits sizes (part.Filter reference) = []
 part_limits sizes (part.Rewrites reference) = []
+part_limits sizes (part.Parser word) = []
+part_limits sizes (part.Parsers reference) = []
 part_limits sizes (part.End reference) = []
 
 abbrev pub part_line : NameUse → Option Line
@@ -34,10 +36,13 @@ part_line (part.Expression terms) = first_line terms
 part_line (part.Rewrite word conditions) = Some word
 part_line (part.Filter reference) = Some reference.line
 part_line (part.Rewrites reference) = Some reference.line
+part_line (part.Parser word) = Some word
+part_line (part.Parsers reference) = Some reference.line
 part_line (part.End reference) = Some reference.line
 
 -- all together have at most 65,536, in the order of the text
-abbrev pub total_faults : List ℕ → List ℕ → ℕ → List NameUse → List Placed
-total_faults sizes rewrites sum [] = []
-total_faults sizes rewrites sum (p ∷ ps) =
-    if nat_lt 65536 (sum + part_size sizes rewrites p) then limit_at (part_line p) else total_faults sizes rewrites (sum + part_size sizes rewrites p) ps
+abbrev pub total_faults : List ℕ → List ℕ → List ℕ → ℕ → List NameUse → List Placed
+total_faults sizes rewrites parsers sum [] = []
+total_faults sizes rewrites parsers sum (p ∷ ps) =
+    if nat_lt 65536 (sum + part_size sizes rewrites parsers p) then limit_at (part_line p)
+    else total_faults sizes rewrites parsers (sum + part_size sizes rewrites parsers p) ps

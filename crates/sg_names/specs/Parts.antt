@@ -39,14 +39,19 @@ unfoldable pub rewrite_part : Names → Call → NameUse
 rewrite_part names call = part.Rewrite (spot_line (out-Call call).word)
     (flat_map (conditions_in names) (out-Call call).args)
 
+abbrev pub parser_part : Call → NameUse
+parser_part call = part.Parser (spot_line (out-Call call).word)
+
 abbrev pub object_parts : Names → Object → List NameUse
 object_parts names (object.Filter name expr) = part.Expression (terms_of names expr) ∷ []
 object_parts names (object.Rewrite name calls) = map (rewrite_part names) calls
+object_parts names (object.Parser name calls) = map parser_part calls
 object_parts names _ = []
 
 abbrev pub named_part : Names → NameKind → Spot → NameUse
 named_part names kind.Filter spot = part.Filter (reference_of names kind.Filter spot)
 named_part names kind.Rewrite spot = part.Rewrites (reference_of names kind.Rewrite spot)
+named_part names kind.Parser spot = part.Parsers (reference_of names kind.Parser spot)
 named_part names kind.Source spot = part.End (reference_of names kind.Source spot)
 named_part names kind.Destination spot = part.End (reference_of names kind.Destination spot)
 named_part names kind.Template spot = part.End (reference_of names kind.Template spot)

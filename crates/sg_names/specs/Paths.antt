@@ -1,8 +1,8 @@
 -- What stands in statements that refers to names or has a size, in the order of the text.
 use Rattle.std.specs.Prelude.{List, [], ◌∷◌}
 use Rattle.std.specs.List.{flat_map}
-use Rattle.sg_parse_path.specs.declared.reference.Kind.{Kind}
-use Rattle.sg_parse_path.specs.declared.reference.Kind.TheVariants as element
+use Rattle.sg_parse_path.specs.declared.reference.ReferenceKind.{ReferenceKind}
+use Rattle.sg_parse_path.specs.declared.reference.ReferenceKind.TheVariants as element
 use Rattle.sg_parse_text.specs.declared.statement.Statement.{Statement}
 use Rattle.sg_visit.specs.Leaves.{Leaf, leaves_of}
 use Rattle.sg_names.specs.declared.kind.NameKind.{NameKind}
@@ -14,11 +14,12 @@ use Rattle.sg_names.specs.Terms.{terms_of}
 use Rattle.sg_names.specs.Parts.{object_parts, reference_parts}
 
 -- the kind of the statements that an element of this kind names
-abbrev pub kind_of : Kind → NameKind
+abbrev pub kind_of : ReferenceKind → NameKind
 kind_of element.Source = kind.Source
 kind_of element.Destination = kind.Destination
 kind_of element.Filter = kind.Filter
 kind_of element.Rewrite = kind.Rewrite
+kind_of element.Parser = kind.Parser
 
 abbrev pub leaf_parts : Names → Leaf → List NameUse
 leaf_parts names (Leaf.object one) = object_parts names one

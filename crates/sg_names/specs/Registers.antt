@@ -56,6 +56,7 @@ names_of statements = record {
   destinations = registered kind.Destination empty_register statements;
   filters = registered kind.Filter empty_register statements;
   rewrites = registered kind.Rewrite empty_register statements;
+  parsers = registered kind.Parser empty_register statements;
   templates = registered kind.Template empty_register statements;
 }
 
@@ -69,13 +70,14 @@ repeated statements =
     (earlier
     (earlier (first_repeat statements kind.Source) (first_repeat statements kind.Destination))
     (earlier (first_repeat statements kind.Filter) (first_repeat statements kind.Rewrite)))
-    (first_repeat statements kind.Template)
+    (earlier (first_repeat statements kind.Parser) (first_repeat statements kind.Template))
 
 abbrev pub register_of : Names → NameKind → Register
 register_of names kind.Source = names.sources
 register_of names kind.Destination = names.destinations
 register_of names kind.Filter = names.filters
 register_of names kind.Rewrite = names.rewrites
+register_of names kind.Parser = names.parsers
 register_of names kind.Template = names.templates
 
 -- the number of the first statement of a kind that has a name, among those of its kind

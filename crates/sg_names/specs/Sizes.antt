@@ -1,5 +1,5 @@
 -- How large expressions are.
-use Rattle.std.specs.Prelude.{ℕ, ◌+◌, min, List, [], ◌∷◌, ◌++◌, map, slice_index, Option, Some, None}
+use Rattle.std.specs.Prelude.{ℕ, ◌+◌, min, List, [], ◌∷◌, ◌++◌, length, map, slice_index, Option, Some, None}
 use Rattle.std.specs.List.{fold, sum_by}
 use Rattle.sg_parse_obj.specs.declared.object.Object.{Object}
 use Rattle.sg_parse_obj.specs.declared.object.Object.TheVariants as object
@@ -31,17 +31,21 @@ term_size sizes term = 1 + size_at sizes (filter_place term)
 abbrev pub terms_size : List ℕ → List Term → ℕ
 terms_size sizes terms = sum_by (term_size sizes) terms
 
--- A rewrite counts 1 and its conditions, and an element that names a filter or a rewrite as much as what it names.
-abbrev pub part_size : List ℕ → List ℕ → NameUse → ℕ
-part_size sizes rewrites (part.Expression terms) = terms_size sizes terms
-part_size sizes rewrites (part.Rewrite word conditions) = 1 + sum_by (terms_size sizes) conditions
-part_size sizes rewrites (part.Filter reference) = size_at sizes reference.place
-part_size sizes rewrites (part.Rewrites reference) = size_at rewrites reference.place
-part_size sizes rewrites (part.End reference) = 0
+-- A rewrite counts 1 and its conditions, a parser 1, and an element that names a filter, a rewrite or a parser as much as what it
+-- names.
+abbrev pub part_size : List ℕ → List ℕ → List ℕ → NameUse → ℕ
+part_size sizes rewrites parsers (part.Expression terms) = terms_size sizes terms
+part_size sizes rewrites parsers (part.Rewrite word conditions) =
+    1 + sum_by (terms_size sizes) conditions
+part_size sizes rewrites parsers (part.Filter reference) = size_at sizes reference.place
+part_size sizes rewrites parsers (part.Rewrites reference) = size_at rewrites reference.place
+part_size sizes rewrites parsers (part.Parser word) = 1
+part_size sizes rewrites parsers (part.Parsers reference) = size_at parsers reference.place
+part_size sizes rewrites parsers (part.End reference) = 0
 
 abbrev pub object_sizes : Names → List ℕ → List ℕ → Object → List ℕ
 object_sizes names sizes found (object.Rewrite name calls) = found
-    ++ capped (sum_by (part_size sizes []) (map (rewrite_part names) calls)) ∷ []
+    ++ capped (sum_by (part_size sizes [] []) (map (rewrite_part names) calls)) ∷ []
 object_sizes names sizes found _ = found
 
 abbrev pub statement_sizes : Names → List ℕ → List ℕ → Statement → List ℕ
@@ -51,3 +55,15 @@ statement_sizes names sizes found (statement.Log log) = found
 -- the sizes of the rewrite statements
 unfoldable pub rewrite_sizes : Names → List ℕ → List Statement → List ℕ
 rewrite_sizes names sizes statements = fold (statement_sizes names sizes) [] statements
+
+abbrev pub parser_sizes_of : List ℕ → Object → List ℕ
+parser_sizes_of found (object.Parser name calls) = found ++ capped (length calls) ∷ []
+parser_sizes_of found _ = found
+
+abbrev pub parser_sizes_with : List ℕ → Statement → List ℕ
+parser_sizes_with found (statement.Object object) = parser_sizes_of found object
+parser_sizes_with found (statement.Log log) = found
+
+-- the sizes of the parser statements
+unfoldable pub parser_sizes : List Statement → List ℕ
+parser_sizes statements = fold parser_sizes_with [] statements

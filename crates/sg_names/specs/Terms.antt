@@ -40,10 +40,10 @@ call_term names call =
     else plain_term (out-Call call).word
 
 -- one layer, with each part beside its terms
-abbrev pub Layer : Type 0
-Layer = RawExpr-F (Arg × Unit {0}) (RawExpr × List Term) (Call × Unit {0})
+abbrev pub TermLayer : Type 0
+TermLayer = RawExpr-F (Arg × Unit {0}) (RawExpr × List Term) (Call × Unit {0})
 
-abbrev pub terms_step : Names → Layer → List Term
+abbrev pub terms_step : Names → TermLayer → List Term
 terms_step names (RawExpr-F.Call call) = call_term names call.0 ∷ []
 terms_step names (RawExpr-F.Compare left cmp right) = plain_term left ∷ []
 terms_step names (RawExpr-F.And terms) = flat_map (λ t. t.1) terms

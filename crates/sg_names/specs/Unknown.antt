@@ -32,6 +32,8 @@ part_faults (part.Expression terms) = terms_faults terms
 part_faults (part.Rewrite word conditions) = flat_map terms_faults conditions
 part_faults (part.Filter reference) = reference_faults reference
 part_faults (part.Rewrites reference) = reference_faults reference
+part_faults (part.Parser word) = []
+part_faults (part.Parsers reference) = reference_faults reference
 part_faults (part.End reference) = reference_faults reference
 
 abbrev pub unknown : List NameUse → List Placed

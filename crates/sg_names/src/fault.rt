@@ -1,14 +1,14 @@
 // What is wrong with the names of a configuration.
 ghost use Rattle.std.specs.Prelude.{◌≡◌, ◌<◌, ◌^◌, length, slice_get, IfOk};
 ghost use Rattle.sg_names.specs.Registers.{names_of};
-ghost use Rattle.sg_names.specs.Faults.{IsRest, IsNamesFault, cycle_at, limits};
+ghost use Rattle.sg_names.specs.Faults.{IsNamesRest, IsNamesFault, cycle_at, limits};
 
 use crate::filters::{Filters, filters_of};
 use crate::limit::{large_expression, large_total};
 use crate::names::{Names, names_of};
 use crate::part::NameUse;
 use crate::paths::parts_of;
-use crate::size::{MOST, rewrite_sizes};
+use crate::size::{MOST, parser_sizes, rewrite_sizes};
 use crate::unknown::unknown_fault;
 use sg_fault::{Placed, earlier};
 use sg_graph::{first_on_cycle, sizes};
@@ -40,7 +40,8 @@ fn limits_fault(
 {
     let rewrites = rewrite_sizes(alloc, names, sizes, statements)?;
     let one = large_expression(sizes, parts);
-    let all = large_total(sizes, rewrites.as_slice(), parts);
+    let parsers = parser_sizes(alloc, statements)?;
+    let all = large_total(sizes, rewrites.as_slice(), parsers.as_slice(), parts);
     Ok(earlier(one, all))
 }
 
@@ -54,7 +55,7 @@ fn rest_fault(
 ) -> Result<Option<Placed>, AllocError>
     requires count { length filters.now.links < 2 ^ 32 }
     requires own { length filters.now.own ≡ length filters.now.links }
-    ensures { IfOk result (IsRest names.now filters.now statements.now parts.now) }
+    ensures { IfOk result (IsNamesRest names.now filters.now statements.now parts.now) }
 {
     match first_on_cycle(alloc, filters.links.as_slice())? {
         Some(place) => Ok(cycle_at(filters, place)),

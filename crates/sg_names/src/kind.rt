@@ -13,6 +13,7 @@ pub enum NameKind {
     Destination,
     Filter,
     Rewrite,
+    Parser,
     Template,
 }
 
@@ -34,6 +35,10 @@ fn object_name(object: &Object, kind: NameKind) -> Option<&Spot>
         },
         Object::Rewrite { name, .. } => match kind {
             NameKind::Rewrite => Some(name),
+            _ => None,
+        },
+        Object::Parser { name, .. } => match kind {
+            NameKind::Parser => Some(name),
             _ => None,
         },
         Object::Template { name, .. } => match kind {

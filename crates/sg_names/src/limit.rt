@@ -65,6 +65,8 @@ fn part_limit(sizes: &[u64], part: &NameUse) -> Option<Placed>
         NameUse::Rewrite { conditions, .. } => conditions_limit(sizes, conditions.as_slice()),
         NameUse::Filter(_) => None,
         NameUse::Rewrites(_) => None,
+        NameUse::Parser(_) => None,
+        NameUse::Parsers(_) => None,
         NameUse::End(_) => None,
     }
 }
@@ -88,17 +90,24 @@ fn part_line(part: &NameUse) -> Option<Line>
         NameUse::Rewrite { word, .. } => Some(*word),
         NameUse::Filter(reference) => Some(reference.line),
         NameUse::Rewrites(reference) => Some(reference.line),
+        NameUse::Parser(word) => Some(*word),
+        NameUse::Parsers(reference) => Some(reference.line),
         NameUse::End(reference) => Some(reference.line),
     }
 }
 
 /// Where all expressions together become too large.
-pub fn large_total(sizes: &[u64], rewrites: &[u64], parts: &[NameUse]) -> Option<Placed>
-    ensures { result ≡ least (total_faults sizes.now rewrites.now 0 parts.now) }
+pub fn large_total(
+    sizes: &[u64],
+    rewrites: &[u64],
+    parsers: &[u64],
+    parts: &[NameUse],
+) -> Option<Placed>
+    ensures { result ≡ least (total_faults sizes.now rewrites.now parsers.now 0 parts.now) }
 {
     let mut sum = 0u64;
     for part in parts {
-        sum = sum.saturating_add(part_size(sizes, rewrites, part));
+        sum = sum.saturating_add(part_size(sizes, rewrites, parsers, part));
         if sum > TOTAL_LIMIT {
             return limit_at(part_line(part));
         }

@@ -14,6 +14,7 @@ pub struct Names {
     pub destinations: Register,
     pub filters: Register,
     pub rewrites: Register,
+    pub parsers: Register,
     pub templates: Register,
 }
 
@@ -24,6 +25,7 @@ impl Drop for Names {
             destinations: _destinations,
             filters: _filters,
             rewrites: _rewrites,
+            parsers: _parsers,
             templates: _templates,
         } = self;
     }
@@ -39,6 +41,7 @@ impl Names {
             NameKind::Destination => &self.destinations,
             NameKind::Filter => &self.filters,
             NameKind::Rewrite => &self.rewrites,
+            NameKind::Parser => &self.parsers,
             NameKind::Template => &self.templates,
         };
         register.places.get(name).copied()
@@ -58,15 +61,18 @@ pub fn names_of(
     let (destinations, destination) = registered(alloc, statements, NameKind::Destination)?;
     let (filters, filter) = registered(alloc, statements, NameKind::Filter)?;
     let (rewrites, rewrite) = registered(alloc, statements, NameKind::Rewrite)?;
+    let (parsers, parser) = registered(alloc, statements, NameKind::Parser)?;
     let (templates, template) = registered(alloc, statements, NameKind::Template)?;
     let names = Names {
         sources,
         destinations,
         filters,
         rewrites,
+        parsers,
         templates,
     };
     let ends = earlier(source, destination);
     let ways = earlier(filter, rewrite);
-    Ok((names, earlier(earlier(ends, ways), template)))
+    let texts = earlier(parser, template);
+    Ok((names, earlier(earlier(ends, ways), texts)))
 }

@@ -1,7 +1,7 @@
 // What statements and elements say of names, in the order of the text.
 ghost use Rattle.std.specs.Prelude.{◌≡◌, ◌++◌, [], map, IfOk, OnOk};
 ghost use Rattle.std.specs.List.{flat_map};
-ghost use Rattle.sg_names.specs.Parts.{tests_in, conditions_in, rewrite_part, object_parts, named_part};
+ghost use Rattle.sg_names.specs.Parts.{tests_in, conditions_in, rewrite_part, parser_part, object_parts, named_part};
 
 use crate::kind::NameKind;
 use crate::names::Names;
@@ -28,6 +28,10 @@ pub enum NameUse {
     Filter(Reference),
     /// An element that names a rewrite.
     Rewrites(Reference),
+    /// A parser.
+    Parser(Line),
+    /// An element that names a parser.
+    Parsers(Reference),
     /// An element that names a source or a destination.
     End(Reference),
 }
@@ -124,6 +128,21 @@ fn push_rewrites(
     Ok(())
 }
 
+fn parser_part(call: &Call) -> NameUse
+    ensures { result ≡ parser_part call.now }
+{
+    NameUse::Parser(line_of(&call.word.token, call.word.at))
+}
+
+fn push_parsers(calls: &[Call], found: &mut Items<NameUse>) -> Result<(), AllocError>
+    ensures { OnOk result (found.new ≡ found.old ++ map parser_part calls.now) }
+{
+    for call in calls {
+        found.push(parser_part(call))?;
+    }
+    Ok(())
+}
+
 /// The parts of rewrites.
 pub fn rewrites_of(
     alloc: Global,
@@ -155,6 +174,10 @@ pub fn push_object(
             push_rewrites(alloc, names, calls.as_slice(), found)?;
             Ok(())
         }
+        Object::Parser { calls, .. } => {
+            push_parsers(calls.as_slice(), found)?;
+            Ok(())
+        }
         _ => Ok(()),
     }
 }
@@ -167,6 +190,7 @@ pub fn named_part(names: &Names, kind: NameKind, spot: &Spot) -> NameUse
     match kind {
         NameKind::Filter => NameUse::Filter(reference),
         NameKind::Rewrite => NameUse::Rewrites(reference),
+        NameKind::Parser => NameUse::Parsers(reference),
         _ => NameUse::End(reference),
     }
 }

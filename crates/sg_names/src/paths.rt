@@ -10,21 +10,22 @@ use crate::terms::terms_of;
 use sg_parse_base::Spot;
 use sg_parse_expr::RawExpr;
 use sg_parse_obj::Object;
-use sg_parse_path::{Kind, RawRef};
+use sg_parse_path::{RawRef, ReferenceKind};
 use sg_parse_text::Statement;
 use sg_visit::{Visit, visit_statements};
 use sqlite_items::Items;
 use std::alloc::{AllocError, Global};
 
 /// The kind of the statements that an element of this kind names.
-fn kind_of(kind: Kind) -> NameKind
+fn kind_of(kind: ReferenceKind) -> NameKind
     ensures { result ≡ kind_of kind }
 {
     match kind {
-        Kind::Source => NameKind::Source,
-        Kind::Destination => NameKind::Destination,
-        Kind::Filter => NameKind::Filter,
-        Kind::Rewrite => NameKind::Rewrite,
+        ReferenceKind::Source => NameKind::Source,
+        ReferenceKind::Destination => NameKind::Destination,
+        ReferenceKind::Filter => NameKind::Filter,
+        ReferenceKind::Rewrite => NameKind::Rewrite,
+        ReferenceKind::Parser => NameKind::Parser,
     }
 }
 
@@ -76,7 +77,7 @@ impl<'a> Visit for Collector<'a> {
     fn reference(
         &self,
         found: &mut Items<NameUse>,
-        kind: Kind,
+        kind: ReferenceKind,
         reference: &RawRef,
     ) -> Result<(), AllocError> {
         push_reference(self.alloc, self.names, kind_of(kind), reference, found)?;

@@ -2,7 +2,7 @@
 ghost use Rattle.std.specs.Prelude.{◌≡◌, ◌++◌, [], ◌∷◌, map, IfOk, OnOk};
 ghost use Rattle.std.specs.List.{sum_by};
 ghost use Rattle.sg_names.specs.Parts.{rewrite_part};
-ghost use Rattle.sg_names.specs.Sizes.{capped, size_at, term_size, terms_size, part_size, statement_sizes, rewrite_sizes};
+ghost use Rattle.sg_names.specs.Sizes.{capped, size_at, term_size, terms_size, part_size, statement_sizes, rewrite_sizes, parser_sizes_with, parser_sizes};
 
 use crate::filters::filter_place;
 use crate::names::Names;
@@ -66,8 +66,8 @@ fn conditions_size(sizes: &[u64], conditions: &[Items<Term>]) -> u64
 }
 
 /// What a part counts.
-pub fn part_size(sizes: &[u64], rewrites: &[u64], part: &NameUse) -> u64
-    ensures { result ≡ capped (part_size sizes.now rewrites.now part.now) }
+pub fn part_size(sizes: &[u64], rewrites: &[u64], parsers: &[u64], part: &NameUse) -> u64
+    ensures { result ≡ capped (part_size sizes.now rewrites.now parsers.now part.now) }
 {
     match part {
         NameUse::Expression(terms) => terms_size(sizes, terms.as_slice()),
@@ -78,16 +78,20 @@ pub fn part_size(sizes: &[u64], rewrites: &[u64], part: &NameUse) -> u64
         }
         NameUse::Filter(reference) => capped_at(sizes, reference.place),
         NameUse::Rewrites(reference) => capped_at(rewrites, reference.place),
+        NameUse::Parser(_) => 1,
+        NameUse::Parsers(reference) => capped_at(parsers, reference.place),
         NameUse::End(_) => 0,
     }
 }
 
 fn parts_size(sizes: &[u64], parts: &[NameUse]) -> u64
-    ensures { result ≡ capped (sum_by (part_size sizes.now []) parts.now) }
+    ensures { result ≡ capped (sum_by (part_size sizes.now [] []) parts.now) }
 {
     let mut sum = 0u64;
     for part in parts {
-        sum = sum.saturating_add(part_size(sizes, &[], part)).min(MOST);
+        sum = sum
+            .saturating_add(part_size(sizes, &[], &[], part))
+            .min(MOST);
     }
     sum
 }
@@ -100,7 +104,8 @@ fn push_size(
     found: &mut Items<u64>,
 ) -> Result<(), AllocError>
     ensures { OnOk result (found.new ≡ found.old
-        ++ capped (sum_by (part_size sizes.now []) (map (rewrite_part names.now) calls.now)) ∷ []) }
+        ++ capped (sum_by (part_size sizes.now [] []) (map (rewrite_part names.now) calls.now))
+        ∷ []) }
 {
     let parts = rewrites_of(alloc, names, calls)?;
     found.push(parts_size(sizes, parts.as_slice()))?;
@@ -139,6 +144,30 @@ pub fn rewrite_sizes(
     let mut found = Items::new(alloc);
     for statement in statements {
         push_statement(alloc, names, sizes, statement, &mut found)?;
+    }
+    Ok(found)
+}
+
+fn push_parser_size(statement: &Statement, found: &mut Items<u64>) -> Result<(), AllocError>
+    ensures { OnOk result (found.new ≡ parser_sizes_with found.old statement.now) }
+{
+    match statement {
+        Statement::Object(Object::Parser { calls, .. }) => {
+            found.push((calls.len() as u64).min(MOST))?;
+            Ok(())
+        }
+        _ => Ok(()),
+    }
+}
+
+/// What each parser statement counts.
+#[tactic(auto, unfolding(crate::specs::Sizes::parser_sizes))]
+pub fn parser_sizes(alloc: Global, statements: &[Statement]) -> Result<Items<u64>, AllocError>
+    ensures { IfOk result (λ found. found ≡ parser_sizes statements.now) }
+{
+    let mut found = Items::new(alloc);
+    for statement in statements {
+        push_parser_size(statement, &mut found)?;
     }
     Ok(found)
 }

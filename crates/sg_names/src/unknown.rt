@@ -59,6 +59,8 @@ fn part_fault(part: &NameUse) -> Option<Placed>
         NameUse::Rewrite { conditions, .. } => conditions_fault(conditions.as_slice()),
         NameUse::Filter(reference) => reference_fault(reference),
         NameUse::Rewrites(reference) => reference_fault(reference),
+        NameUse::Parser(_) => None,
+        NameUse::Parsers(reference) => reference_fault(reference),
         NameUse::End(reference) => reference_fault(reference),
     }
 }

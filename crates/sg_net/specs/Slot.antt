@@ -2,15 +2,15 @@
 use Rattle.std.specs.Prelude.{ℕ, ◌<◌, ◌≤◌}
 use Rattle.sg_device.specs.Inlet.{InletState}
 use Rattle.sg_file.specs.Counts.{inlet_state}
-use Rattle.sg_net.specs.declared.slot.Given.{Given}
-use Rattle.sg_net.specs.declared.slot.Given.TheVariants.{Bytes, Nothing, Over}
+use Rattle.sg_net.specs.declared.slot.ReceivedBytes.{ReceivedBytes}
+use Rattle.sg_net.specs.declared.slot.ReceivedBytes.TheVariants.{Bytes, Nothing, Over}
 use Rattle.sg_net.specs.declared.slot.SlotInlet.{SlotInlet}
 
 abbrev pub slot_of : SlotInlet → InletState
 slot_of slot = inlet_state slot.counts
 
 -- bytes are one at least, and no more than there is room for
-abbrev pub IsGiven : ℕ → Given → Type 0
-IsGiven room (Bytes len) = (0 < len) × (len ≤ room)
-IsGiven room Nothing = Unit {0}
-IsGiven room Over = Unit {0}
+abbrev pub AreBytesGiven : ℕ → ReceivedBytes → Type 0
+AreBytesGiven room (Bytes len) = (0 < len) × (len ≤ room)
+AreBytesGiven room Nothing = Unit {0}
+AreBytesGiven room Over = Unit {0}

@@ -1,5 +1,5 @@
 // The connections of a listener, and those for which it has no slot.
-use sg_file::{Notice, Rest};
+use sg_file::{IdleWait, Notice};
 use std::alloc::{AllocError, Global};
 use std::io::{self, ErrorKind};
 use std::net::{SocketAddr, TcpListener, TcpStream};
@@ -53,7 +53,7 @@ impl Acceptor {
     }
 
     /// One slot more.
-    pub(crate) fn add(&self, rest: &Rest) {
+    pub(crate) fn add(&self, rest: &IdleWait) {
         self.slots.fetch_add(1, Ordering::SeqCst);
         rest.watch(&self.socket, false);
     }
@@ -73,7 +73,7 @@ impl Acceptor {
     }
 
     /// The next connection, for a slot that has none. It doesn't block.
-    pub(crate) fn accept(&self, rest: &Rest) -> io::Result<(TcpStream, SocketAddr)> {
+    pub(crate) fn accept(&self, rest: &IdleWait) -> io::Result<(TcpStream, SocketAddr)> {
         let (stream, peer) = self.socket.accept()?;
         stream.set_nonblocking(true)?;
         rest.watch(&stream, false);

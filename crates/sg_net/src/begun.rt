@@ -6,18 +6,18 @@ use std::alloc::Global;
 
 /// The frame of which a part was written over a connection, or none.
 #[derive(Drop)]
-pub(crate) struct Begun {
+pub(crate) struct BegunFrame {
     frame: Vec<u8>,
     // The bytes of it that were written. 0 where no frame is begun.
     written: usize,
 }
 
-impl Begun {
+impl BegunFrame {
     /// No frame.
-    pub(crate) fn new(alloc: Global) -> Begun
+    pub(crate) fn new(alloc: Global) -> BegunFrame
         ensures { result.written ≡ 0 }
     {
-        Begun {
+        BegunFrame {
             frame: Vec::new(alloc),
             written: 0,
         }

@@ -3,7 +3,7 @@ ghost use Rattle.std.specs.Prelude.{◌≡◌};
 
 use crate::look_up::LookUp;
 use mio::net::TcpStream;
-use sg_file::{Rest, Retry};
+use sg_file::{IdleWait, Retry};
 use std::alloc::Global;
 use std::io::{self, ErrorKind};
 use std::mem;
@@ -34,7 +34,7 @@ pub(crate) struct Dial<T: Threads + Copy> {
     alloc: Global,
     host: String,
     port: u16,
-    rest: Rest,
+    rest: IdleWait,
     // When it is tried anew.
     pub(crate) retry: Retry,
     // Since when it is tried.
@@ -62,7 +62,7 @@ impl<T: Threads + Copy> Dial<T> {
         host: String,
         port: u16,
         retry: Retry,
-        rest: Rest,
+        rest: IdleWait,
     ) -> Dial<T> {
         Dial {
             threads,

@@ -1,5 +1,5 @@
 // Names looked up beside the run.
-use sg_file::Rest;
+use sg_file::IdleWait;
 use std::alloc::{AllocError, Global};
 use std::io;
 use std::net::{SocketAddr, ToSocketAddrs};
@@ -7,25 +7,25 @@ use std::sync::{Arc, OnceLock};
 use std::thread::{self, Threads};
 
 // The addresses of a name, the last one to be tried first.
-type Found = io::Result<Vec<SocketAddr>>;
+type FoundAddresses = io::Result<Vec<SocketAddr>>;
 
 /// A name that a thread of its own looks up. The system's call can take as long as it pleases (30
 /// seconds are usual where no name server answers), and can't be broken off. So nobody joins the
 /// thread: it has nothing that another needs, and ends with its look-up, or with the program.
 #[derive(Drop)]
 pub(crate) struct LookUp {
-    place: Arc<OnceLock<Found>>,
+    place: Arc<OnceLock<FoundAddresses>>,
 }
 
 // What the thread of a look-up takes along.
 #[derive(Drop)]
-struct Job {
+struct LookUpJob {
     alloc: Global,
     rt: HostRuntime,
     host: String,
     port: u16,
-    place: Arc<OnceLock<Found>>,
-    rest: Rest,
+    place: Arc<OnceLock<FoundAddresses>>,
+    rest: IdleWait,
 }
 
 impl LookUp {
@@ -37,10 +37,10 @@ impl LookUp {
         rt: HostRuntime,
         host: &str,
         port: u16,
-        rest: &Rest,
+        rest: &IdleWait,
     ) -> Result<LookUp, AllocError> {
         let place = Arc::new(alloc, OnceLock::new())?;
-        let job = Job {
+        let job = LookUpJob {
             alloc,
             rt,
             host: String::from_str(alloc, host)?,
@@ -70,14 +70,14 @@ impl LookUp {
     }
 }
 
-impl Job {
+impl LookUpJob {
     fn run(self) {
         // Nobody else writes there.
         let _written = self.place.try_set(self.find());
         self.rest.wake();
     }
 
-    fn find(&self) -> Found {
+    fn find(&self) -> FoundAddresses {
         let mut addresses = Vec::new(self.alloc);
         for address in (self.host.as_str(), self.port).to_socket_addrs(&self.rt)? {
             addresses.push(address)?;

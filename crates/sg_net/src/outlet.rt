@@ -3,12 +3,12 @@ ghost use Rattle.std.specs.Prelude.{◌≡◌, ◌≤◌, length, IfOk};
 ghost use Rattle.sg_file.specs.Counts.{outlet_state, new_outlet};
 ghost use Rattle.sg_net.specs.Outlet.{tcp_of};
 
-use crate::begun::Begun;
+use crate::begun::BegunFrame;
 use crate::dial::{Dial, Dialed};
-use crate::wire::{Written, after, look, write_now};
+use crate::wire::{SocketWrite, after, look, write_now};
 use mio::net::TcpStream;
 use sg_device::{Frames, OpenRefusal, Outlet, OutletFault, Reopened, SendRefusal};
-use sg_file::{Health, OutletCounts, Rest, Retry, path_text};
+use sg_file::{Health, IdleWait, OutletCounts, Retry, path_text};
 use std::alloc::Global;
 use std::io::{self, ErrorKind};
 use std::net::Shutdown;
@@ -21,14 +21,14 @@ pub struct TcpOutlet<T: Threads + Copy> {
     rt: HostRuntime,
     dial: Dial<T>,
     stream: Option<TcpStream>,
-    begun: Begun,
+    begun: BegunFrame,
     // How long a byte may wait to be taken.
     patience: Duration,
     // Since when no byte is taken.
     stuck: Option<Instant>,
     counts: OutletCounts,
     health: Health,
-    rest: Rest,
+    rest: IdleWait,
 }
 
 impl<T: Threads + Copy> Drop for TcpOutlet<T> {
@@ -68,7 +68,7 @@ impl<T: Threads + Copy> TcpOutlet<T> {
         host: &[u8],
         port: u16,
         reopen: u32,
-        rest: Rest,
+        rest: IdleWait,
     ) -> Result<TcpOutlet<T>, OpenRefusal>
         ensures { IfOk result (λ outlet. tcp_of outlet ≡ new_outlet) }
     {
@@ -88,7 +88,7 @@ impl<T: Threads + Copy> TcpOutlet<T> {
             rt,
             dial: Dial::new(threads, alloc, rt, host, port, retry, rest.share()?),
             stream: None,
-            begun: Begun::new(alloc),
+            begun: BegunFrame::new(alloc),
             patience: Duration::from_secs(if reopen == 0 { 5 } else { 60 }),
             stuck: None,
             counts: OutletCounts::new(),
@@ -185,7 +185,7 @@ impl<T: Threads + Copy> TcpOutlet<T> {
 
     // Writes what the system takes now. It fails where the peer has closed the connection, or has
     // taken no byte for too long.
-    fn write(&mut self, bytes: &[u8]) -> Written
+    fn write(&mut self, bytes: &[u8]) -> SocketWrite
         ensures counts { self.new.counts ≡ self.old.counts }
         ensures bound { result.count ≤ length bytes.now }
     {

@@ -3,11 +3,11 @@ ghost use Rattle.std.specs.Prelude.{◌≡◌, ◌<◌, [], length, false, IfOk,
 ghost use Rattle.sg_device.specs.Inlet.{PullIsWhole};
 ghost use Rattle.sg_file.specs.Counts.{inlet_state, new_inlet};
 ghost use Rattle.sg_file.specs.Inlet.{IsNoBytes};
-ghost use Rattle.sg_net.specs.Slot.{slot_of, IsGiven};
+ghost use Rattle.sg_net.specs.Slot.{slot_of, AreBytesGiven};
 
 use crate::acceptor::Acceptor;
 use sg_device::{Inlet, InletFault, NoMemory, Pull};
-use sg_file::{Health, InletCounts, Rest, moment, read_some};
+use sg_file::{Health, IdleWait, InletCounts, moment, read_some};
 use std::alloc::Global;
 use std::io::{self, ErrorKind};
 use std::net::{IpAddr, TcpStream};
@@ -36,11 +36,11 @@ pub struct SlotInlet {
     // The peer of the connection accepted last, until it is counted.
     next: Vec<u8>,
     health: Health,
-    rest: Rest,
+    rest: IdleWait,
 }
 
 /// What a connection gives: so many bytes, none at present, or none for good.
-pub enum Given {
+pub enum ReceivedBytes {
     Bytes(usize),
     Nothing,
     Over,
@@ -54,7 +54,7 @@ impl SlotInlet {
         acceptor: Arc<Acceptor>,
         name: &[u8],
         once: bool,
-        rest: Rest,
+        rest: IdleWait,
     ) -> Result<SlotInlet, NoMemory>
         ensures { IfOk result (λ slot. slot_of slot ≡ new_inlet [] 0 false) }
     {
@@ -128,18 +128,18 @@ impl SlotInlet {
             return self.fails("no place beyond 2^63 can be told");
         }
         match self.read_stream(into) {
-            Given::Bytes(len) => {
+            ReceivedBytes::Bytes(len) => {
                 self.active = Instant::now(&self.rt).ok();
                 self.look_at_others();
                 self.rest.happened();
                 Ok(Pull::Bytes { len, at })
             }
-            Given::Nothing => {
+            ReceivedBytes::Nothing => {
                 self.look_at_others();
                 self.rest.wait();
                 Ok(Pull::Idle)
             }
-            Given::Over => self.accept(),
+            ReceivedBytes::Over => self.accept(),
         }
     }
 
@@ -171,20 +171,20 @@ impl SlotInlet {
     }
 
     // What the connection gives. One that is over is closed.
-    fn read_stream(&mut self, into: &mut [u8]) -> Given
-        ensures given { IsGiven (length into.old) result }
+    fn read_stream(&mut self, into: &mut [u8]) -> ReceivedBytes
+        ensures given { AreBytesGiven (length into.old) result }
         ensures size { length into.new ≡ length into.old }
         ensures counts { self.new.counts ≡ self.old.counts }
     {
         let Some(stream) = &mut self.stream else {
-            return Given::Over;
+            return ReceivedBytes::Over;
         };
         match read_some(stream, into) {
-            Ok(len) if len > 0 => Given::Bytes(len),
-            Err(error) if error.kind() == ErrorKind::WouldBlock => Given::Nothing,
+            Ok(len) if len > 0 => ReceivedBytes::Bytes(len),
+            Err(error) if error.kind() == ErrorKind::WouldBlock => ReceivedBytes::Nothing,
             _ => {
                 self.close();
-                Given::Over
+                ReceivedBytes::Over
             }
         }
     }

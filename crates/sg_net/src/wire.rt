@@ -12,7 +12,7 @@ const CALLS: u32 = 64;
 
 /// What a write came to: so many bytes, and then the system took no more at present, or it failed.
 #[derive(Drop)]
-pub(crate) struct Written {
+pub(crate) struct SocketWrite {
     pub(crate) count: usize,
     pub(crate) ended: io::Result<()>,
 }
@@ -33,7 +33,7 @@ pub(crate) fn look(stream: &mut TcpStream) -> io::Result<()> {
 }
 
 /// Writes the bytes as far as the system takes them now, a megabyte at most.
-pub(crate) fn write_now(stream: &mut TcpStream, bytes: &[u8]) -> Written
+pub(crate) fn write_now(stream: &mut TcpStream, bytes: &[u8]) -> SocketWrite
     ensures { result.count ≤ length bytes.now }
 {
     let end = bytes.len().min(MOST);
@@ -54,8 +54,8 @@ pub(crate) fn write_now(stream: &mut TcpStream, bytes: &[u8]) -> Written
 }
 
 /// So many bytes, and how it ended.
-pub(crate) fn after(count: usize, ended: io::Result<()>) -> Written
+pub(crate) fn after(count: usize, ended: io::Result<()>) -> SocketWrite
     ensures { result.count ≡ count }
 {
-    Written { count, ended }
+    SocketWrite { count, ended }
 }

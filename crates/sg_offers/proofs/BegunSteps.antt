@@ -8,10 +8,10 @@ use Rattle.sg_machine.specs.Running.{owed, records_from, are_split}
 use Rattle.sg_machine.specs.Turns.{owing}
 use Rattle.sg_machine.specs.Verdicts.{claims_in, claims_from, judged, take_claims}
 use Rattle.sg_machine.proofs.RecordLemmas.{judged-append, takes-append, apart-inlet, apart-number}
-use Rattle.sg_machine.proofs.TakeLemmas.{Takes, takes-all, then-some-of}
-use Rattle.sg_window.specs.declared.tracker.Record.{Record}
+use Rattle.sg_machine.proofs.TakeLemmas.{TakesEntry, takes-all, then-some-of}
+use Rattle.sg_window.specs.declared.tracker.BegunRecord.{BegunRecord}
 use Rattle.sg_offers.specs.Answering.{begun_of}
-use Rattle.sg_offers.specs.Laws.{Begun}
+use Rattle.sg_offers.specs.Laws.{BegunRecords}
 
 -- records of i, the first of which has that place in the batch and this number
 record Needs (i number : ℕ) (old new : List Dest) (records : List Admission) (vs : List Verdict) : Type 0 where
@@ -19,7 +19,7 @@ record Needs (i number : ℕ) (old new : List Dest) (records : List Admission) (
   before : (n : ℕ) → n < number → owed new i n ≡ owed old i n
   begun : ((n : ℕ) → number ≤ n → owed old i n ≡ 0) → records_from new i number (ends_of records) ≡ begun_of records vs
 
-needs-then : (i number : ℕ) (old between new : List Dest) (r : Admission) (rs : List Admission) (vs : List Verdict) → Takes i number old between r.offers (take (length r.offers) vs)
+needs-then : (i number : ℕ) (old between new : List Dest) (r : Admission) (rs : List Admission) (vs : List Verdict) → TakesEntry i number old between r.offers (take (length r.offers) vs)
     → Needs i (number + 1) between new rs (drop (length r.offers) vs) → Needs i number old new (r ∷ rs) vs
 needs-then i number old between new r rs vs takes deep =
     let first = take (length r.offers) vs in
@@ -34,7 +34,7 @@ needs-then i number old between new r rs vs takes deep =
           let left : owed new i number ≡ owing r.offers first = omega arith in
           let later = deep.begun (λ n l. takes.others i n (apart-number i number i n (let ne : n ≢ number = omega arith in ne)) ∙ h n (omega arith)) in
           ap (λ (k : ℕ). record { end = r.end; left = k } ∷ records_from new i (number + 1) (ends_of rs)) left
-          ∙ ap (λ (bs : List Record). record { end = r.end; left = owing r.offers first } ∷ bs) later;
+          ∙ ap (λ (bs : List BegunRecord). record { end = r.end; left = owing r.offers first } ∷ bs) later;
     }
 
 needs : (i next place number : ℕ) (failing : List ℕ) (dests : List Dest) (failed : List ℕ) (records : List Admission) (vs : List Verdict) (z : List ℕ) → next + place ≡ number → are_split dests ≡ true
@@ -54,7 +54,7 @@ needs i next place number failing dests failed (r ∷ rs) vs z at split j =
     subst (λ (ks : List Dest). Needs i number dests ks (r ∷ rs) vs) (sym whole) (needs-then i number dests between (take_claims i next between ds rest) r rs vs takes deep)
 
 pub begun-by : (i next : ℕ) (failing : List ℕ) (dests : List Dest) (failed : List ℕ) (records : List Admission) (vs : List Verdict) (z : List ℕ) → are_split dests ≡ true
-    → judged i next failing dests failed (claims_from 0 records) vs ≡ Some z → Begun i next dests records vs
+    → judged i next failing dests failed (claims_from 0 records) vs ≡ Some z → BegunRecords i next dests records vs
 begun-by i next failing dests failed records vs z split j =
     let at : next + 0 ≡ next = omega arith in
     let all = needs i next 0 next failing dests failed records vs z at split j in

@@ -10,7 +10,7 @@ use Rattle.sg_machine.specs.declared.event.Verdict.{Verdict}
 use Rattle.sg_machine.specs.declared.setup.BufferSetup.{BufferSetup}
 use Rattle.sg_machine.specs.declared.setup.DestSetup.{DestSetup}
 use Rattle.sg_machine.specs.declared.state.Dest.{Dest}
-use Rattle.sg_machine.specs.Runs.{Kept}
+use Rattle.sg_machine.specs.Runs.{BufferedEntry}
 use Rattle.sg_machine.specs.Safe.{kept_from}
 use Rattle.sg_machine.specs.Verdicts.{Claim, is_listed}
 use Rattle.sg_sinks.specs.States.{SinkState}
@@ -22,7 +22,7 @@ use Rattle.sg_sinks.specs.declared.trial.Trial.{Trial}
 use Rattle.sg_sinks.specs.Laws.{is_listed_in}
 use Rattle.sg_sinks.proofs.TrialSteps.{trying}
 use Rattle.sg_offers.specs.Payloads.{buffers_of, buffer_at, trial_by, trial_in, trial_at}
-use Rattle.sg_offers.specs.Answering.{fails_at, offered_by, sinks_then, failing_by, failing_at, failing_in, verdicts_from, AreWithin}
+use Rattle.sg_offers.specs.Answering.{fails_at, offered_by, sinks_then, failing_by, failing_at, failing_in, verdicts_from, AreClaimsWithin}
 use Rattle.sg_offers.specs.Batches.{sinks_at, AreSplit, buffer_in, AreBuffersApart, WouldFail}
 use Rattle.sg_offers.specs.Laws.{Judged}
 use Rattle.sg_offers.proofs.SinkLemmas.{offered-setup, buffers-then}
@@ -33,7 +33,7 @@ use Rattle.sg_offers.proofs.JudgeSteps.{listed-append, Agree, judged-rest}
 -- Only stores of those destinations fail.
 
 -- the store of the disk-buffer of a destination for which it is said
-record Said (fails : List Bool) (buffers : List (Option BufferSetup)) (s : ℕ) : Type 0 where
+record SaidFails (fails : List Bool) (buffers : List (Option BufferSetup)) (s : ℕ) : Type 0 where
   dest : ℕ
   buffer : BufferSetup
   has : buffer_at buffers dest ≡ Some buffer
@@ -47,20 +47,20 @@ one-listed s t h =
       | inr ne ↦ (let miss : is_listed s (t ∷ []) ≡ false = grind arith in absurd (let wrong : false ≡ true = sym miss ∙ h in cc))
     ]
 
-said-if : (fails : List Bool) (buffers : List (Option BufferSetup)) (d s : ℕ) (b : BufferSetup) (w p : Bool) → buffer_at buffers d ≡ Some b → (fails_at fails d && w) ≡ p → is_listed s (failing_by (Some b) p) ≡ true → Said fails buffers s
+said-if : (fails : List Bool) (buffers : List (Option BufferSetup)) (d s : ℕ) (b : BufferSetup) (w p : Bool) → buffer_at buffers d ≡ Some b → (fails_at fails d && w) ≡ p → is_listed s (failing_by (Some b) p) ≡ true → SaidFails fails buffers s
 said-if fails buffers d s b w true at e h = record { dest = d; buffer = b; has = at; store = one-listed s b.store h; said = (and_parts (fails_at fails d) w e).0 }
 said-if fails buffers d s b w false at e h = absurd (let wrong : false ≡ true = h in cc)
 
-said-by : (fails : List Bool) (buffers : List (Option BufferSetup)) (d s : ℕ) (b : Option BufferSetup) (w : Bool) → buffer_at buffers d ≡ b → is_listed s (failing_by b (fails_at fails d && w)) ≡ true → Said fails buffers s
+said-by : (fails : List Bool) (buffers : List (Option BufferSetup)) (d s : ℕ) (b : Option BufferSetup) (w : Bool) → buffer_at buffers d ≡ b → is_listed s (failing_by b (fails_at fails d && w)) ≡ true → SaidFails fails buffers s
 said-by fails buffers d s None w at h = absurd (let wrong : false ≡ true = h in cc)
 said-by fails buffers d s (Some b) w at h = said-if fails buffers d s b w (fails_at fails d && w) at refl h
 
 said-at : (fails : List Bool) (sinks : List SinkState) (o : Offer) (s : ℕ) (k : Option SinkState) → slice_get sinks o.dest ≡ k
-    → is_listed s (option_map_or (λ sink. failing_by sink.setup.buffer (fails_at fails o.dest && would_spool sink o)) k []) ≡ true → Said fails (buffers_of sinks) s
+    → is_listed s (option_map_or (λ sink. failing_by sink.setup.buffer (fails_at fails o.dest && would_spool sink o)) k []) ≡ true → SaidFails fails (buffers_of sinks) s
 said-at fails sinks o s None e h = absurd (let wrong : false ≡ true = h in cc)
 said-at fails sinks o s (Some k) e h = said-by fails (buffers_of sinks) o.dest s k.setup.buffer (would_spool k o) (buffer-there sinks o.dest k e) h
 
-said-in : (fails : List Bool) (i next : ℕ) (sinks : List SinkState) (cs : List Claim) (s : ℕ) → is_listed s (failing_in fails i next sinks cs) ≡ true → Said fails (buffers_of sinks) s
+said-in : (fails : List Bool) (i next : ℕ) (sinks : List SinkState) (cs : List Claim) (s : ℕ) → is_listed s (failing_in fails i next sinks cs) ≡ true → SaidFails fails (buffers_of sinks) s
 said-in fails i next sinks [] s h = absurd (let wrong : false ≡ true = h in cc)
 said-in fails i next sinks (c ∷ cs) s h =
     let now = failing_at fails sinks c.offer in
@@ -68,7 +68,7 @@ said-in fails i next sinks (c ∷ cs) s h =
     let either : (is_listed s now || is_listed s later) ≡ true = sym (listed-append s now later) ∙ h in
     elim (or_cases (is_listed s now) (is_listed s later) either) [
       | inl p ↦ said-at fails sinks c.offer s (slice_get sinks c.offer.dest) refl p
-      | inr p ↦ subst (λ (bs : List (Option BufferSetup)). Said fails bs s) (buffers-then fails i next sinks c) (said-in fails i next (sinks_then fails i next sinks c) cs s p)
+      | inr p ↦ subst (λ (bs : List (Option BufferSetup)). SaidFails fails bs s) (buffers-then fails i next sinks c) (said-in fails i next (sinks_then fails i next sinks c) cs s p)
     ]
 
 -- Each of them fails.
@@ -102,10 +102,10 @@ failing-now fails sinks o sink buffer f there e w =
     let one : is_listed buffer.store (buffer.store ∷ []) ≡ true = grind arith in
     ap (is_listed buffer.store) (is ∙ ap (failing_by sink.setup.buffer) both ∙ ap (λ b. failing_by b true) e) ∙ one
 
-some-if : (p q : Bool) (k : Kept) (ks ls : List Kept) → p ≡ true → q ≡ false → 0 < length (if p then (if q then k ∷ ks else ks) else ls) → 0 < length ks
+some-if : (p q : Bool) (k : BufferedEntry) (ks ls : List BufferedEntry) → p ≡ true → q ≡ false → 0 < length (if p then (if q then k ∷ ks else ks) else ls) → 0 < length ks
 some-if p q k ks ls h g l = rw (h, g) at l
 
-some-else : (p : Bool) (ks ls : List Kept) → p ≡ false → 0 < length (if p then ks else ls) → 0 < length ls
+some-else : (p : Bool) (ks ls : List BufferedEntry) → p ≡ false → 0 < length (if p then ks else ls) → 0 < length ls
 some-else p ks ls h l = rw h at l
 
 fails-in : (fails : List Bool) (i next d : ℕ) (buffer : BufferSetup) (sink : SinkState) (sinks : List SinkState) (cs : List Claim) → fails_at fails d ≡ true → slice_get sinks d ≡ Some sink → sink.setup.buffer ≡ Some buffer → sink.broken ≡ false
@@ -158,7 +158,7 @@ would-trial i sinks cs d w =
     let found = slice_get-map trial_in sinks d w.sink w.there in
     let trial : trial_in w.sink ≡ Some (trial_of w.buffer w.sink) = trial-works w.sink.setup.buffer w.buffer w.sink w.has w.works in
     let at : trial_at (map trial_in sinks) d ≡ Some (trial_of w.buffer w.sink) = rw found trial in
-    subst (λ (ks : List Kept). 0 < length ks) (taken-takes d i (buffers_of sinks) (map trial_in sinks) (trial_of w.buffer w.sink) cs at) w.some
+    subst (λ (ks : List BufferedEntry). 0 < length ks) (taken-takes d i (buffers_of sinks) (map trial_in sinks) (trial_of w.buffer w.sink) cs at) w.some
 
 unlisted-by : (fails : List Bool) (i next : ℕ) (dests : List Dest) (failed : List ℕ) (cs : List Claim) (d : ℕ) (dest : Dest) (b : Option BufferSetup) → AreBuffersApart dests → slice_get dests d ≡ Some dest → dest.setup.buffer ≡ b
     → fails_at fails d ≡ false → is_listed_in b (failing_in fails i next (sinks_at failed dests) cs) ≡ true → ⊥
@@ -187,7 +187,7 @@ agree-new fails i next dests failed cs apart would = λ d dest there.
       | inr f ↦ false_from_ne_true (is_listed_in dest.setup.buffer newly) (unlisted-by fails i next dests failed cs d dest dest.setup.buffer apart there refl f) ∙ sym f
     ]
 
-pub judged-all : (fails : List Bool) (i next : ℕ) (dests : List Dest) (failed : List ℕ) (cs : List Claim) → AreSplit dests → AreBuffersApart dests → AreWithin (length dests) cs
+pub judged-all : (fails : List Bool) (i next : ℕ) (dests : List Dest) (failed : List ℕ) (cs : List Claim) → AreSplit dests → AreBuffersApart dests → AreClaimsWithin (length dests) cs
     → ((d : ℕ) → fails_at fails d ≡ true → WouldFail i (sinks_at failed dests) cs d)
     → Judged fails i next dests failed cs (verdicts_from fails i next (sinks_at failed dests) cs) (failing_in fails i next (sinks_at failed dests) cs)
 judged-all fails i next dests failed cs split apart within would =

@@ -1,11 +1,10 @@
 -- The destination of an offer, and its part in what is kept beside it.
 use Rattle.std.proofs.Common.{◌≡◌, ◌≢◌, ℕ, ◌+◌, ◌<◌, ◌≤◌, List, [], ◌∷◌, ◌++◌, length, take, replicate, get_or, set, Some, refl, sym, ap, ◌∙◌, arith, suc, zero, map, slice_get, inl, inr}
 use Rattle.sg_list.specs.Lists.{change}
-use Rattle.sg_list.proofs.ListLemmas.{some-same, change-set, slice_get-map}
+use Rattle.sg_list.proofs.ListLemmas.{some-same, change-set, slice_get-map, get-change}
 use Rattle.sg_sinks.specs.States.{SinkState, Sunk}
 use Rattle.sg_offers.specs.Payloads.{buffers_of, buffer_at}
 use Rattle.sg_offers.specs.Rooms.{seen_in}
-use Rattle.sg_offers.proofs.ListSteps.{get-change}
 
 -- an item that was found with a default
 pub item-there : {A : Type 0} (xs : List A) (k : ℕ) (x : A) → k < length xs → x ≡ get_or xs k x → slice_get xs k ≡ Some x

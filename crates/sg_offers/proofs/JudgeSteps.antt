@@ -2,10 +2,9 @@
 use Rattle.std.proofs.Common.{◌≡◌, ◌≢◌, ℕ, List, [], ◌∷◌, ◌++◌, length, Option, Some, None, Bool, true, false, ◌&&◌, ◌||◌, not, refl, sym, ap, ◌∙◌, arith, suc, zero, slice_get, subst, append_assoc, inl, inr}
 use Rattle.std.proofs.lemmas.List.{append-nil}
 use Rattle.sg_list.specs.Lists.{change}
-use Rattle.sg_list.proofs.ListLemmas.{length-change, slice_get-some, slice_get-map, some-same}
+use Rattle.sg_list.proofs.ListLemmas.{length-change, slice_get-some, slice_get-map, some-same, get-change}
 use Rattle.sg_msg.specs.declared.offer.Offer.{Offer}
 use Rattle.sg_machine.specs.declared.event.Verdict.{Verdict}
-use Rattle.sg_machine.specs.declared.event.Verdict.TheVariants.{Queued, Spooled, Waits, DroppedFull, DroppedDisk}
 use Rattle.sg_machine.specs.declared.setup.BufferSetup.{BufferSetup}
 use Rattle.sg_machine.specs.declared.setup.DestSetup.{DestSetup}
 use Rattle.sg_machine.specs.declared.state.Dest.{Dest}
@@ -17,19 +16,12 @@ use Rattle.sg_sinks.specs.Offers.{would_spool, broken_then, verdict_of}
 use Rattle.sg_sinks.specs.Standing.{sink_of, IsSplit}
 use Rattle.sg_sinks.specs.Laws.{is_listed_in, failed_by}
 use Rattle.sg_sinks.proofs.JudgeLemmas.{judging}
-use Rattle.sg_sinks.proofs.OfferSteps.{offering}
-use Rattle.sg_offers.specs.Answering.{fails_at, verdict_at, offered_by, sinks_then, sinks_after, verdicts_from, failing_by, failing_at, failing_in, AreWithin}
+use Rattle.sg_sinks.proofs.OfferSteps.{offering, same-setup}
+use Rattle.sg_offers.specs.Answering.{fails_at, verdict_at, offered_by, sinks_then, sinks_after, verdicts_from, failing_by, failing_at, failing_in, AreClaimsWithin}
 use Rattle.sg_offers.specs.Batches.{sinks_at, AreSplit, buffer_in, AreBuffersApart}
-use Rattle.sg_offers.proofs.ListSteps.{get-change, map-change-two}
+use Rattle.sg_offers.proofs.ListSteps.{map-change-two}
 
 -- The machine's destinations keep their setups.
-
-pub same-setup : (origin : Origin) (offer : Offer) (v : Verdict) (dest : Dest) → (take_offer origin offer v dest).setup ≡ dest.setup
-same-setup origin offer Queued dest = refl
-same-setup origin offer Spooled dest = refl
-same-setup origin offer Waits dest = refl
-same-setup origin offer DroppedFull dest = refl
-same-setup origin offer DroppedDisk dest = refl
 
 pub same-buffer : (origin : Origin) (offer : Offer) (v : Verdict) (dest : Dest) → (take_offer origin offer v dest).setup.buffer ≡ dest.setup.buffer
 same-buffer origin offer v dest = ap (λ (s : DestSetup). s.buffer) (same-setup origin offer v dest)
@@ -187,7 +179,7 @@ find-here fails i next failing dests failed sinks c dest at there =
     record { there = there; verdict = rw got refl; fresh = rw got refl }
 
 pub judged-rest : (fails : List Bool) (i next : ℕ) (failing : List ℕ) (dests : List Dest) (failed : List ℕ) (sinks : List SinkState) (cs : List Claim) → sinks_at failed dests ≡ sinks → AreSplit dests → AreBuffersApart dests
-    → AreWithin (length dests) cs → Agree failing fails dests → JudgedRest fails i next failing dests failed sinks cs
+    → AreClaimsWithin (length dests) cs → Agree failing fails dests → JudgedRest fails i next failing dests failed sinks cs
 judged-rest fails i next failing dests failed sinks [] at split apart within agree =
     record { right = ap Some (sym (append-nil failed)); seen = rw (append-nil failed) at; split = split }
 judged-rest fails i next failing dests failed sinks (c ∷ cs) at split apart within agree =
@@ -199,7 +191,7 @@ judged-rest fails i next failing dests failed sinks (c ∷ cs) at split apart wi
     let at_then : sinks_at (failed ++ new) (take_claim i next dests c v) ≡ sinks_then fails i next sinks c =
     sinks-at-then fails i next failing dests failed c v new there.0 here split apart ∙ ap (λ ks. sinks_then fails i next ks c) at in
     let length_then = length-change dests c.offer.dest (take_offer (origin_of i next c) c.offer v) in
-    let W : ℕ → Type 0 = λ n. AreWithin n cs in
+    let W : ℕ → Type 0 = λ n. AreClaimsWithin n cs in
     let rest = judged-rest fails i next failing (take_claim i next dests c v) (failed ++ new) (sinks_then fails i next sinks c) cs at_then
     (split-then fails i next failing dests failed c v new there.0 here split)
     (apart-then i next dests c v apart)

@@ -2,10 +2,10 @@
 use Rattle.std.proofs.Common.{◌≡◌, ℕ, ◌+◌, ◌^◌, ◌≤◌, List, [], ◌∷◌, ◌++◌, length, drop, Option, Some, None, Bool, true, false, not, refl, sym, ap, ◌∙◌, arith, suc, zero, map, slice_get, if◌then◌else◌, append_assoc, inl, inr}
 use Rattle.std.specs.Prelude.{◌==◌, nat_le, option_and_then, IsSome}
 use Rattle.std.proofs.lemmas.Bool.{and_parts, leb-true, le-leb}
-use Rattle.sg_list.proofs.ListLemmas.{some-same, length-change}
+use Rattle.sg_list.proofs.ListLemmas.{some-same, length-change, get-change}
 use Rattle.sg_msg.specs.Length.{encoded_len}
 use Rattle.sg_msg.specs.declared.offer.Offer.{Offer}
-use Rattle.sg_codec.specs.Spelling.{spelling2, IsKept}
+use Rattle.sg_codec.specs.Spelling.{spelling2, IsSpellable}
 use Rattle.sg_codec.specs.declared.kept.Kept.{Kept}
 use Rattle.sg_machine.specs.declared.setup.BufferSetup.{BufferSetup}
 use Rattle.sg_machine.specs.Verdicts.{Claim}
@@ -14,10 +14,9 @@ use Rattle.sg_sinks.specs.Blocks.{is_short_entry, kept_of_offer, block_of, block
 use Rattle.sg_sinks.specs.Trials.{trial_of, takes_in, tried}
 use Rattle.sg_sinks.specs.declared.trial.Trial.{Trial}
 use Rattle.sg_offers.specs.declared.batch.Payload.{Payload}
-use Rattle.sg_offers.specs.Payloads.{buffers_of, buffer_at, trial_by, trial_in, trial_at, takes_offer, tried_offer, trials_then, trials_after, payload_of, payloads_from, AllKept, AreSmall, AreSpelled}
+use Rattle.sg_offers.specs.Payloads.{buffers_of, buffer_at, trial_by, trial_in, trial_at, takes_offer, tried_offer, trials_then, trials_after, payload_of, payloads_from, AllSpellable, AreSmall, ArePayloadsSpelled}
 use Rattle.sg_offers.specs.Rooms.{given_to, counted_to, AreTo}
-use Rattle.sg_offers.specs.Answering.{first_block, AreBlocks, AreWithin}
-use Rattle.sg_offers.proofs.ListSteps.{get-change}
+use Rattle.sg_offers.specs.Answering.{first_block, AreBlocks, AreClaimsWithin}
 
 pub length-trials : (ts : List (Option Trial)) (cs : List Claim) → length (trials_after ts cs) ≡ length ts
 length-trials ts [] = refl
@@ -36,7 +35,7 @@ pub length-payloads : (i : ℕ) (bs : List (Option BufferSetup)) (ts : List (Opt
 length-payloads i bs ts [] = refl
 length-payloads i bs ts (c ∷ cs) = ap suc (length-payloads i bs (trials_then ts c.offer) cs)
 
-pub kept-append : (i : ℕ) (bs : List (Option BufferSetup)) (cs ds : List Claim) → AllKept i bs cs → AllKept i bs ds → AllKept i bs (cs ++ ds)
+pub kept-append : (i : ℕ) (bs : List (Option BufferSetup)) (cs ds : List Claim) → AllSpellable i bs cs → AllSpellable i bs ds → AllSpellable i bs (cs ++ ds)
 kept-append i bs [] ds h g = g
 kept-append i bs (c ∷ cs) ds h g = (h.0, kept-append i bs cs ds h.1 g)
 
@@ -46,7 +45,7 @@ pub counted-given : (d i : ℕ) (bs : List (Option BufferSetup)) (ts : List (Opt
 counted-given d i bs ts [] = refl
 counted-given d i bs ts (c ∷ cs) = ap (λ n. (if c.offer.dest == d then 1 else 0) + n) (counted-given d i bs (trials_then ts c.offer) cs)
 
-pub payloads-to : (count i : ℕ) (bs : List (Option BufferSetup)) (ts : List (Option Trial)) (cs : List Claim) → AreWithin count cs → AreTo count (payloads_from i bs ts cs)
+pub payloads-to : (count i : ℕ) (bs : List (Option BufferSetup)) (ts : List (Option Trial)) (cs : List Claim) → AreClaimsWithin count cs → AreTo count (payloads_from i bs ts cs)
 payloads-to count i bs ts [] h = tt
 payloads-to count i bs ts (c ∷ cs) h = (h.0, payloads-to count i bs (trials_then ts c.offer) cs h.1)
 
@@ -67,8 +66,8 @@ blocks-behind i bs (c ∷ cs) ds [] h = absurd h
 blocks-behind i bs (c ∷ cs) ds (p ∷ ps) h = blocks-behind i bs cs ds ps h.1
 
 -- a trial is of the disk-buffer of its destination
-abbrev pub AreOf : List (Option BufferSetup) → List (Option Trial) → Type 0
-AreOf bs ts = (d : ℕ) (t : Trial) → trial_at ts d ≡ Some t → (b : BufferSetup) × (buffer_at bs d ≡ Some b) × (t.capacity ≡ b.capacity)
+abbrev pub AreOfClaims : List (Option BufferSetup) → List (Option Trial) → Type 0
+AreOfClaims bs ts = (d : ℕ) (t : Trial) → trial_at ts d ≡ Some t → (b : BufferSetup) × (buffer_at bs d ≡ Some b) × (t.capacity ≡ b.capacity)
 
 tried-capacity : (flow : Bool) (n : ℕ) (t : Trial) (b : Bool) → takes_in n t ≡ b → (tried flow n t).capacity ≡ t.capacity
 tried-capacity flow n t true h = rw h refl
@@ -84,7 +83,7 @@ trial-some : (x : Option (Option Trial)) (t : Trial) → option_and_then (λ y. 
 trial-some None t h = let wrong : None ≡ Some t = h in cc
 trial-some (Some x) t h = ap Some h
 
-pub of-then : (bs : List (Option BufferSetup)) (ts : List (Option Trial)) (o : Offer) → AreOf bs ts → AreOf bs (trials_then ts o)
+pub of-then : (bs : List (Option BufferSetup)) (ts : List (Option Trial)) (o : Offer) → AreOfClaims bs ts → AreOfClaims bs (trials_then ts o)
 of-then bs ts o h = λ d t e.
     let found = trial-some (slice_get (trials_then ts o) d) t e in
     let r = get-change ts o.dest d (tried_offer o) (Some t) found in
@@ -106,7 +105,7 @@ trial-of-by (Some b) k false t s h =
     let is : Some (trial_of b k) ≡ Some t = rw s at h in
     (b, refl, ap (λ (x : Trial). x.capacity) (sym (some-same (trial_of b k) t is)))
 
-pub of-start : (ks : List SinkState) → AreOf (buffers_of ks) (map trial_in ks)
+pub of-start : (ks : List SinkState) → AreOfClaims (buffers_of ks) (map trial_in ks)
 of-start [] d t e = let wrong : None ≡ Some t = e in cc
 of-start (k ∷ ks) zero t e = trial-of-by k.setup.buffer k k.broken t refl e
 of-start (k ∷ ks) (suc d) t e = of-start ks d t e
@@ -125,9 +124,9 @@ short-block b x kept e h = rw (e, h) refl
 is-some : (b : Option (List ℕ)) (y : List ℕ) → b ≡ Some y → IsSome b
 is-some b y e = rw e refl
 
-spelled-by : (i end : ℕ) (bs : List (Option BufferSetup)) (ts : List (Option Trial)) (o : Offer) (x : Option Trial) → trial_at ts o.dest ≡ x → AreSmall bs → AreOf bs ts
-    → (IsSome (block_of_offer (buffer_at bs o.dest) i end o) → IsKept (kept_of_offer i end o)) → takes_offer o x ≡ true
-    → (block_of_offer (buffer_at bs o.dest) i end o ≡ Some (spelling2 (kept_of_offer i end o))) × IsKept (kept_of_offer i end o)
+spelled-by : (i end : ℕ) (bs : List (Option BufferSetup)) (ts : List (Option Trial)) (o : Offer) (x : Option Trial) → trial_at ts o.dest ≡ x → AreSmall bs → AreOfClaims bs ts
+    → (IsSome (block_of_offer (buffer_at bs o.dest) i end o) → IsSpellable (kept_of_offer i end o)) → takes_offer o x ≡ true
+    → (block_of_offer (buffer_at bs o.dest) i end o ≡ Some (spelling2 (kept_of_offer i end o))) × IsSpellable (kept_of_offer i end o)
 spelled-by i end bs ts o None e small of kept taken = let wrong : false ≡ true = taken in cc
 spelled-by i end bs ts o (Some t) e small of kept taken =
     let was = of o.dest t e in
@@ -137,7 +136,7 @@ spelled-by i end bs ts o (Some t) e small of kept taken =
     let block = short-block (buffer_at bs o.dest) was.0 (kept_of_offer i end o) was.1 short in
     (block, kept (is-some (block_of_offer (buffer_at bs o.dest) i end o) (spelling2 (kept_of_offer i end o)) block))
 
-pub spelled-from : (i : ℕ) (bs : List (Option BufferSetup)) (ts : List (Option Trial)) (cs : List Claim) → AreSmall bs → AreOf bs ts → AllKept i bs cs → AreSpelled i cs (payloads_from i bs ts cs)
+pub spelled-from : (i : ℕ) (bs : List (Option BufferSetup)) (ts : List (Option Trial)) (cs : List Claim) → AreSmall bs → AreOfClaims bs ts → AllSpellable i bs cs → ArePayloadsSpelled i cs (payloads_from i bs ts cs)
 spelled-from i bs ts [] small of kept = tt
 spelled-from i bs ts (c ∷ cs) small of kept =
     (spelled-by i c.end bs ts c.offer (trial_at ts c.offer.dest) refl small of kept.0, spelled-from i bs (trials_then ts c.offer) cs small (of-then bs ts c.offer of) kept.1)

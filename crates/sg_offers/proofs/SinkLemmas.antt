@@ -2,7 +2,7 @@
 use Rattle.std.proofs.Common.{◌≡◌, ℕ, ◌+◌, ◌-◌, ◌<◌, ◌≤◌, List, [], ◌∷◌, ◌++◌, length, drop, Option, Some, Bool, true, false, refl, sym, ap, ◌∙◌, arith, suc, slice_get, subst, if◌then◌else◌, append_assoc, inl, inr}
 use Rattle.std.specs.Prelude.{◌==◌}
 use Rattle.sg_list.specs.Lists.{change}
-use Rattle.sg_list.proofs.ListLemmas.{map-change, length-change, slice_get-some}
+use Rattle.sg_list.proofs.ListLemmas.{map-change, length-change, slice_get-some, get-change, map-kept}
 use Rattle.sg_msg.specs.declared.offer.Offer.{Offer}
 use Rattle.sg_machine.specs.declared.event.Verdict.{Verdict}
 use Rattle.sg_machine.specs.declared.event.Verdict.TheVariants.{Queued, Spooled, Waits, DroppedFull, DroppedDisk}
@@ -17,8 +17,7 @@ use Rattle.sg_sinks.specs.Offers.{takes, verdict_of}
 use Rattle.sg_offers.specs.declared.batch.Payload.{Payload}
 use Rattle.sg_offers.specs.Payloads.{buffers_of, buffer_at}
 use Rattle.sg_offers.specs.Rooms.{seen_in, given_to, HaveRoom}
-use Rattle.sg_offers.specs.Answering.{fails_at, offered_by, sinks_then, sinks_after, verdict_at, verdicts_from, spent, spent_by, spent_then, spent_after, first_block, AreBlocks, AreWithin}
-use Rattle.sg_offers.proofs.ListSteps.{get-change, map-kept}
+use Rattle.sg_offers.specs.Answering.{fails_at, offered_by, sinks_then, sinks_after, verdict_at, verdicts_from, spent, spent_by, spent_then, spent_after, first_block, AreBlocks, AreClaimsWithin}
 use Rattle.sg_offers.proofs.ItemLemmas.{seen-there, buffer-there}
 use Rattle.sg_offers.proofs.PayloadLemmas.{BlocksThen, blocks-then}
 
@@ -133,7 +132,7 @@ pub record Along (fails : List Bool) (i next place end : ℕ) (sinks : List Sunk
   pub sinks_at_last : spent_after fails i next sinks (claims_in place end rest) ≡ after
   pub judged : verdicts ++ verdicts_from fails i next (seen_in sinks) (claims_in place end rest) ≡ all
   pub counted : left + owing rest (verdicts_from fails i next (seen_in sinks) (claims_in place end rest)) ≡ owed
-  pub dests : AreWithin (length sinks) (claims_in place end rest)
+  pub dests : AreClaimsWithin (length sinks) (claims_in place end rest)
   pub room : HaveRoom sinks (claims_in place end rest)
   pub blocks : AreBlocks i (buffers_of (seen_in sinks)) (claims_in place end rest) payloads
   pub dropped : drop (length rest) payloads ≡ behind
@@ -157,7 +156,7 @@ along-then fails i next place end sinks o rest payloads verdicts left after all 
           ∙ ap (λ (ks : List SinkState). verdicts ++ (v ∷ verdicts_from fails i next ks cs)) seen ∙ ap (λ (x : Verdict). verdicts ++ (x ∷ later)) w ∙ a.judged;
       counted = ap (λ (ks : List SinkState). more + owing rest (verdicts_from fails i next ks cs)) seen ∙ owing-step left more (owing rest later) (owes_by o.flow v) m
           ∙ ap (λ (x : Verdict). left + ((if owes_by o.flow x then 1 else 0) + owing rest later)) w ∙ a.counted;
-      dests = subst (λ (n : ℕ). AreWithin n cs) (sym count) a.dests.1;
+      dests = subst (λ (n : ℕ). AreClaimsWithin n cs) (sym count) a.dests.1;
       room = room-then fails i next sinks first cs a.room;
       blocks = subst (λ (bs : List (Option BufferSetup)). AreBlocks i bs cs (drop 1 payloads)) (sym buffers) b.rest;
       dropped = b.behind (length rest) ∙ a.dropped;

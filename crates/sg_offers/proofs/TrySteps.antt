@@ -6,11 +6,11 @@ use Rattle.sg_list.proofs.ListLemmas.{get-change-same, get-change-other, slice_g
 use Rattle.sg_msg.specs.Length.{encoded_len}
 use Rattle.sg_msg.specs.declared.offer.Offer.{Offer}
 use Rattle.sg_machine.specs.declared.event.Verdict.{Verdict}
-use Rattle.sg_machine.specs.declared.event.Verdict.TheVariants.{Queued, Spooled, Waits, DroppedFull, DroppedDisk}
+use Rattle.sg_machine.specs.declared.event.Verdict.TheVariants.{Spooled, Waits, DroppedFull}
 use Rattle.sg_machine.specs.declared.setup.BufferSetup.{BufferSetup}
 use Rattle.sg_machine.specs.declared.state.Dest.{Dest}
 use Rattle.sg_machine.specs.Verdicts.{Claim, origin_of, is_listed, same_verdict, disk_verdict, take_offer}
-use Rattle.sg_machine.specs.Runs.{Kept}
+use Rattle.sg_machine.specs.Runs.{BufferedEntry}
 use Rattle.sg_machine.specs.Safe.{kept_from, would_spool}
 use Rattle.sg_sinks.specs.Fitting.{space, has_space}
 use Rattle.sg_sinks.specs.Blocks.{block_of_offer}
@@ -26,9 +26,10 @@ use Rattle.sg_offers.specs.Payloads.{trial_in, trial_at, takes_offer, tried_offe
 use Rattle.sg_offers.specs.Batches.{sinks_at}
 use Rattle.sg_offers.specs.Laws.{Tried}
 use Rattle.sg_offers.proofs.JudgeSteps.{same-buffer}
+use Rattle.sg_machine.proofs.BatchLemmas.{same-is}
 
 -- what a trial takes of the offers to d, in order
-abbrev pub takes_all : ℕ → ℕ → Trial → List Claim → List Kept
+abbrev pub takes_all : ℕ → ℕ → Trial → List Claim → List BufferedEntry
 takes_all d i trial [] = []
 takes_all d i trial (c ∷ cs) =
     if c.offer.dest == d
@@ -48,16 +49,16 @@ pub trial-here : (ts : List (Option Trial)) (o : Offer) (t : Trial) → trial_at
 trial-here ts o t h =
     let e = get-change-same ts o.dest (tried_offer o) (Some t) (there-some (slice_get ts o.dest) t h) in rw e refl
 
-taken-if : (p q : Bool) (k : Kept) (ks : List Kept) → p ≡ true → (if p && q then k ∷ ks else ks) ≡ (if q then k ∷ ks else ks)
+taken-if : (p q : Bool) (k : BufferedEntry) (ks : List BufferedEntry) → p ≡ true → (if p && q then k ∷ ks else ks) ≡ (if q then k ∷ ks else ks)
 taken-if p q k ks h = rw h refl
 
-taken-not : (p q : Bool) (k : Kept) (ks : List Kept) → p ≡ false → (if p && q then k ∷ ks else ks) ≡ ks
+taken-not : (p q : Bool) (k : BufferedEntry) (ks : List BufferedEntry) → p ≡ false → (if p && q then k ∷ ks else ks) ≡ ks
 taken-not p q k ks h = rw h refl
 
-then-if : (p : Bool) (x y : List Kept) → p ≡ true → x ≡ (if p then x else y)
+then-if : (p : Bool) (x y : List BufferedEntry) → p ≡ true → x ≡ (if p then x else y)
 then-if p x y h = rw h refl
 
-else-if : (p : Bool) (x y : List Kept) → p ≡ false → y ≡ (if p then x else y)
+else-if : (p : Bool) (x y : List BufferedEntry) → p ≡ false → y ≡ (if p then x else y)
 else-if p x y h = rw h refl
 
 pub taken-takes : (d i : ℕ) (bs : List (Option BufferSetup)) (ts : List (Option Trial)) (t : Trial) (cs : List Claim) → trial_at ts d ≡ Some t → taken_at d i cs (payloads_from i bs ts cs) ≡ takes_all d i t cs
@@ -75,7 +76,7 @@ taken-takes d i bs ts t (c ∷ cs) h =
           let takes : takes_offer o (trial_at ts o.dest) ≡ takes_in n t = rw at refl in
           let deep = taken-takes d i bs (trials_then ts o) (tried o.flow n t) cs next in
           taken-if (o.dest == d) (takes_offer o (trial_at ts o.dest)) (kept_from i c) rest hit
-          ∙ ap (λ (b : Bool). if b then kept_from i c ∷ rest else rest) takes ∙ ap (λ (ks : List Kept). if takes_in n t then kept_from i c ∷ ks else ks) deep
+          ∙ ap (λ (b : Bool). if b then kept_from i c ∷ rest else rest) takes ∙ ap (λ (ks : List BufferedEntry). if takes_in n t then kept_from i c ∷ ks else ks) deep
           ∙ then-if (o.dest == d) (if takes_in n t then kept_from i c ∷ later else later) (takes_all d i t cs) hit)
       | inr ne ↦ (
           let miss : (o.dest == d) ≡ false = grind arith in
@@ -87,7 +88,7 @@ taken-takes d i bs ts t (c ∷ cs) h =
 
 -- what is taken fits
 
-fit-if : (b : Bool) (k : Kept) (ks : List Kept) (flow : Bool) (t : Trial) → takes_in (encoded_len k.message) t ≡ b
+fit-if : (b : Bool) (k : BufferedEntry) (ks : List BufferedEntry) (flow : Bool) (t : Trial) → takes_in (encoded_len k.message) t ≡ b
     → ((u : Trial) → u ≡ tried flow (encoded_len k.message) t → FitAll u.capacity u.used ks) → FitAll t.capacity t.used (if b then k ∷ ks else ks)
 fit-if true k ks flow t h rest =
     let n = encoded_len k.message in
@@ -98,7 +99,7 @@ fit-if false k ks flow t h rest =
     let after : tried flow (encoded_len k.message) t ≡ record t { waits = t.waits || flow } = rw h refl in
     rest (record t { waits = t.waits || flow }) (sym after)
 
-fit-by : (p : Bool) (capacity used : ℕ) (x y : List Kept) → (p ≡ true → FitAll capacity used x) → (p ≡ false → FitAll capacity used y) → FitAll capacity used (if p then x else y)
+fit-by : (p : Bool) (capacity used : ℕ) (x y : List BufferedEntry) → (p ≡ true → FitAll capacity used x) → (p ≡ false → FitAll capacity used y) → FitAll capacity used (if p then x else y)
 fit-by true capacity used x y f g = f refl
 fit-by false capacity used x y f g = g refl
 
@@ -113,33 +114,6 @@ fit-all d i t (c ∷ cs) =
     (λ h. fit-all d i t cs)
 
 -- At a destination of the machine.
-
-same-is : (v w : Verdict) → same_verdict v w ≡ true → v ≡ w
-same-is Queued Queued h = refl
-same-is Queued Spooled h = let wrong : false ≡ true = h in cc
-same-is Queued Waits h = let wrong : false ≡ true = h in cc
-same-is Queued DroppedFull h = let wrong : false ≡ true = h in cc
-same-is Queued DroppedDisk h = let wrong : false ≡ true = h in cc
-same-is Spooled Queued h = let wrong : false ≡ true = h in cc
-same-is Spooled Spooled h = refl
-same-is Spooled Waits h = let wrong : false ≡ true = h in cc
-same-is Spooled DroppedFull h = let wrong : false ≡ true = h in cc
-same-is Spooled DroppedDisk h = let wrong : false ≡ true = h in cc
-same-is Waits Queued h = let wrong : false ≡ true = h in cc
-same-is Waits Spooled h = let wrong : false ≡ true = h in cc
-same-is Waits Waits h = refl
-same-is Waits DroppedFull h = let wrong : false ≡ true = h in cc
-same-is Waits DroppedDisk h = let wrong : false ≡ true = h in cc
-same-is DroppedFull Queued h = let wrong : false ≡ true = h in cc
-same-is DroppedFull Spooled h = let wrong : false ≡ true = h in cc
-same-is DroppedFull Waits h = let wrong : false ≡ true = h in cc
-same-is DroppedFull DroppedFull h = refl
-same-is DroppedFull DroppedDisk h = let wrong : false ≡ true = h in cc
-same-is DroppedDisk Queued h = let wrong : false ≡ true = h in cc
-same-is DroppedDisk Spooled h = let wrong : false ≡ true = h in cc
-same-is DroppedDisk Waits h = let wrong : false ≡ true = h in cc
-same-is DroppedDisk DroppedFull h = let wrong : false ≡ true = h in cc
-same-is DroppedDisk DroppedDisk h = refl
 
 kept-if : (p : Bool) (ys xs : List ℕ) → (if p then Some ys else None) ≡ Some xs → p ≡ true
 kept-if true ys xs h = refl
@@ -177,7 +151,7 @@ split-plain i next dest c v split is =
     let offered_then = offering dest false false (origin_of i next c) c.offer split in
     subst (λ (w : Verdict). IsSplit (take_offer (origin_of i next c) c.offer w dest)) is offered_then.split
 
-would-hit : (d i next : ℕ) (buffer : BufferSetup) (dest : Dest) (c : Claim) (cs : List Claim) (b : Bool) (ks : List Kept) → (c.offer.dest == d) ≡ true → b ≡ same_verdict Spooled (disk_verdict buffer dest.left false c.offer)
+would-hit : (d i next : ℕ) (buffer : BufferSetup) (dest : Dest) (c : Claim) (cs : List Claim) (b : Bool) (ks : List BufferedEntry) → (c.offer.dest == d) ≡ true → b ≡ same_verdict Spooled (disk_verdict buffer dest.left false c.offer)
     → ks ≡ would_spool d i next buffer (take_offer (origin_of i next c) c.offer (disk_verdict buffer dest.left false c.offer) dest) cs → (if b then kept_from i c ∷ ks else ks) ≡ would_spool d i next buffer dest (c ∷ cs)
 would-hit d i next buffer dest c cs b ks h e r = rw (h, e, r) refl
 
@@ -226,5 +200,5 @@ tried-by i next dests failed cs d dest buffer there b l split =
     let same = would-takes d i next buffer dest cs b split in
     record {
       taken = taken-takes d i (buffers_of sinks) (map trial_in sinks) (trial_of buffer (sink_of false dest)) cs found ∙ same;
-      fits = subst (λ (ks : List Kept). FitAll buffer.capacity (space (lengths_of dest.left)) ks) same (fit-all d i (trial_of buffer (sink_of false dest)) cs);
+      fits = subst (λ (ks : List BufferedEntry). FitAll buffer.capacity (space (lengths_of dest.left)) ks) same (fit-all d i (trial_of buffer (sink_of false dest)) cs);
     }

@@ -3,7 +3,7 @@ use Rattle.std.specs.Prelude.{◌≡◌, ◌<◌, ℕ, ◌+◌, ◌-◌, Bool, f
 use Rattle.std.specs.Option.{option_map_or}
 use Rattle.sg_list.specs.Lists.{change}
 use Rattle.sg_msg.specs.declared.offer.Offer.{Offer}
-use Rattle.sg_window.specs.declared.tracker.Record.{Record}
+use Rattle.sg_window.specs.declared.tracker.BegunRecord.{BegunRecord}
 use Rattle.sg_machine.specs.declared.event.Admission.{Admission}
 use Rattle.sg_machine.specs.declared.event.Verdict.{Verdict}
 use Rattle.sg_machine.specs.declared.event.Verdict.TheVariants.{DroppedFull}
@@ -80,7 +80,7 @@ spent_after fails i next sinks (c ∷ cs) = spent_after fails i next (spent_then
     cs
 
 -- records with these verdicts of their offers, each with the acknowledgements that it needs
-abbrev pub begun_of : List Admission → List Verdict → List Record
+abbrev pub begun_of : List Admission → List Verdict → List BegunRecord
 begun_of [] vs = []
 begun_of (r ∷ rs) vs = record { end = r.end; left = owing r.offers (take (length r.offers) vs) } ∷ begun_of rs (drop (length r.offers) vs)
 
@@ -97,6 +97,6 @@ first_block [] = None
 first_block (p ∷ ps) = p.block
 
 -- each offer is to one of so many destinations
-abbrev pub AreWithin : ℕ → List Claim → Type 0
-AreWithin count [] = Unit {0}
-AreWithin count (c ∷ cs) = (c.offer.dest < count) × AreWithin count cs
+abbrev pub AreClaimsWithin : ℕ → List Claim → Type 0
+AreClaimsWithin count [] = Unit {0}
+AreClaimsWithin count (c ∷ cs) = (c.offer.dest < count) × AreClaimsWithin count cs

@@ -41,7 +41,7 @@ pub record Tried (i next : ℕ) (dests : List Dest) (failed : List ℕ) (claims 
       (would_spool d i next buffer dest claims)
 
 -- what records need, once those of the batch are in, the first of which has the number `next`
-pub record Begun (i next : ℕ) (dests : List Dest) (records : List Admission) (vs : List Verdict) : Type 0 where
+pub record BegunRecords (i next : ℕ) (dests : List Dest) (records : List Admission) (vs : List Verdict) : Type 0 where
   pub others : (j n : ℕ) → j ≢ i
       → owed (take_claims i next dests (claims_of records) vs) j n ≡ owed dests j n
   pub before : (n : ℕ) → n < next

@@ -3,10 +3,10 @@ use Rattle.std.specs.Prelude.{◌≡◌, ◌≤◌, ℕ, ◌+◌, ◌^◌, ◌==
 use Rattle.sg_list.specs.Lists.{change}
 use Rattle.sg_msg.specs.Length.{encoded_len}
 use Rattle.sg_msg.specs.declared.offer.Offer.{Offer}
-use Rattle.sg_codec.specs.Spelling.{spelling2, IsKept}
+use Rattle.sg_codec.specs.Spelling.{spelling2, IsSpellable}
 use Rattle.sg_machine.specs.declared.setup.BufferSetup.{BufferSetup}
 use Rattle.sg_machine.specs.Verdicts.{Claim}
-use Rattle.sg_machine.specs.Runs.{Kept}
+use Rattle.sg_machine.specs.Runs.{BufferedEntry}
 use Rattle.sg_machine.specs.Safe.{kept_from}
 use Rattle.sg_sinks.specs.Fitting.{has_space}
 use Rattle.sg_sinks.specs.States.{SinkState}
@@ -70,23 +70,23 @@ abbrev pub payloads_of : ℕ → List SinkState → List Claim → List Payload
 payloads_of i sinks claims = payloads_from i (buffers_of sinks) (map trial_in sinks) claims
 
 -- the entries that are taken at d, in order
-abbrev pub taken_at : ℕ → ℕ → List Claim → List Payload → List Kept
+abbrev pub taken_at : ℕ → ℕ → List Claim → List Payload → List BufferedEntry
 taken_at d i [] ps = []
 taken_at d i (c ∷ cs) [] = []
 taken_at d i (c ∷ cs) (p ∷ ps) = if p.dest == d && p.taken then kept_from i c ∷ taken_at d i cs ps else taken_at d i cs ps
 
 -- each of these entries fits behind the ones before, where so much is taken before the first
-abbrev pub FitAll : ℕ → ℕ → List Kept → Type 0
+abbrev pub FitAll : ℕ → ℕ → List BufferedEntry → Type 0
 FitAll capacity used [] = Unit {0}
 FitAll capacity used (k ∷ ks) = (has_space capacity used (encoded_len k.message) ≡ true)
     × FitAll capacity (used + (5 + encoded_len k.message)) ks
 
 -- an offer's entry that has a block can be spelled
-abbrev pub AllKept : ℕ → List (Option BufferSetup) → List Claim → Type 0
-AllKept i buffers [] = Unit {0}
-AllKept i buffers (c ∷ cs) = (
+abbrev pub AllSpellable : ℕ → List (Option BufferSetup) → List Claim → Type 0
+AllSpellable i buffers [] = Unit {0}
+AllSpellable i buffers (c ∷ cs) = (
     IsSome (block_of_offer (buffer_at buffers c.offer.dest) i c.end c.offer)
-    → IsKept (kept_of_offer i c.end c.offer)) × AllKept i buffers cs
+    → IsSpellable (kept_of_offer i c.end c.offer)) × AllSpellable i buffers cs
 
 -- no disk-buffer has a capacity above 2^30
 abbrev pub AreSmall : List (Option BufferSetup) → Type 0
@@ -94,11 +94,11 @@ AreSmall buffers = (d : ℕ) (buffer : BufferSetup) → buffer_at buffers d ≡ 
     → buffer.capacity ≤ 2 ^ 30
 
 -- where the payload is taken, its block is that of the offer's entry
-abbrev pub IsSpelled : ℕ → Claim → Payload → Type 0
-IsSpelled i c p = p.taken ≡ true → (p.block ≡ Some (spelling2 (kept_of_offer i c.end c.offer)))
-    × IsKept (kept_of_offer i c.end c.offer)
+abbrev pub IsPayloadSpelled : ℕ → Claim → Payload → Type 0
+IsPayloadSpelled i c p = p.taken ≡ true → (p.block ≡ Some (spelling2 (kept_of_offer i c.end c.offer)))
+    × IsSpellable (kept_of_offer i c.end c.offer)
 
-abbrev pub AreSpelled : ℕ → List Claim → List Payload → Type 0
-AreSpelled i [] ps = Unit {0}
-AreSpelled i (c ∷ cs) [] = ⊥
-AreSpelled i (c ∷ cs) (p ∷ ps) = IsSpelled i c p × AreSpelled i cs ps
+abbrev pub ArePayloadsSpelled : ℕ → List Claim → List Payload → Type 0
+ArePayloadsSpelled i [] ps = Unit {0}
+ArePayloadsSpelled i (c ∷ cs) [] = ⊥
+ArePayloadsSpelled i (c ∷ cs) (p ∷ ps) = IsPayloadSpelled i c p × ArePayloadsSpelled i cs ps

@@ -4,7 +4,7 @@ use Rattle.sg_machine.specs.declared.event.Admission.{Admission}
 use Rattle.sg_machine.specs.Verdicts.{Claim, claims_of}
 use Rattle.sg_sinks.specs.States.{SinkState, Sunk}
 use Rattle.sg_offers.specs.declared.batch.Payload.{Payload}
-use Rattle.sg_offers.specs.declared.batch.Answers.{Answers}
+use Rattle.sg_offers.specs.declared.batch.BatchVerdicts.{BatchVerdicts}
 
 -- what is seen of destinations
 abbrev pub seen_in : List Sunk → List SinkState
@@ -30,7 +30,7 @@ HaveRoom sinks claims = (d : ℕ) (sink : Sunk) → slice_get sinks d ≡ Some s
     → given_to d claims ≤ sink.room
 
 -- there is no answer yet, and room for that of each record and of each offer
-pub record IsReady (records : List Admission) (sinks : List Sunk) (answers : Answers) : Type 0 where
+pub record IsBatchReady (records : List Admission) (sinks : List Sunk) (answers : BatchVerdicts) : Type 0 where
   pub room : HaveRoom sinks (claims_of records)
   pub no_verdict : answers.verdicts.items ≡ []
   pub none_begun : answers.begun.items ≡ []

@@ -6,16 +6,16 @@ ghost use Rattle.sg_machine.specs.Verdicts.{claims_in, claims_of};
 ghost use Rattle.sg_machine.specs.Turns.{owes_by, owing};
 ghost use Rattle.sg_sinks.specs.States.{Sunk};
 ghost use Rattle.sg_offers.specs.Payloads.{buffers_of, payloads_of};
-ghost use Rattle.sg_offers.specs.Rooms.{seen_in, HaveRoom, IsReady};
-ghost use Rattle.sg_offers.specs.Answering.{fails_at, verdict_at, spent, spent_after, sinks_after, verdicts_from, begun_of, first_block, AreBlocks, AreWithin};
+ghost use Rattle.sg_offers.specs.Rooms.{seen_in, HaveRoom, IsBatchReady};
+ghost use Rattle.sg_offers.specs.Answering.{fails_at, verdict_at, spent, spent_after, sinks_after, verdicts_from, begun_of, first_block, AreBlocks, AreClaimsWithin};
 
-use crate::{Answers, Batch, Payload};
+use crate::{Batch, BatchVerdicts, Payload};
 use sg_list::Seq;
 use sg_machine::{Admission, Verdict};
 use sg_msg::Offer;
 use sg_sinks::Sink;
 use sg_spool::Block;
-use sg_window::Record;
+use sg_window::BegunRecord;
 use std::collections::VecDeque;
 
 // Whether an offer with this flow-control and verdict needs an acknowledgement.
@@ -85,10 +85,10 @@ fn offer_record(
     admission: Admission,
     payloads: &mut VecDeque<Payload>,
     verdicts: &mut Vec<Verdict>,
-) -> Record
+) -> BegunRecord
     requires number { next + place < 2 ^ 64 }
     requires few { length admission.offers ≤ 1024 }
-    requires within { AreWithin (length sinks.old)
+    requires within { AreClaimsWithin (length sinks.old)
         (claims_in place admission.end admission.offers) }
     requires room { HaveRoom sinks.old (claims_in place admission.end admission.offers) }
     requires blocks { AreBlocks inlet (buffers_of (seen_in sinks.old))
@@ -119,7 +119,7 @@ fn offer_record(
         }
         verdicts.push_reserved(verdict);
     }
-    Record { end, left }
+    BegunRecord { end, left }
 }
 
 /// Keeps what the offers of the records leave, one after another, where the next record of the inlet
@@ -130,12 +130,12 @@ pub fn offer_all(
     next: u64,
     records: Vec<Admission>,
     batch: Batch,
-) -> Answers
+) -> BatchVerdicts
     requires enter { AllMayEnter (length sinks.old) records.items }
     requires number { next + length records.items < 2 ^ 64 }
     requires payloads { batch.payloads.items
         ≡ payloads_of inlet (seen_in sinks.old) (claims_of records.items) }
-    requires ready { IsReady records.items sinks.old batch.answers }
+    requires ready { IsBatchReady records.items sinks.old batch.answers }
     ensures sinks { seen_in sinks.new
         ≡ sinks_after batch.fails.items inlet next (seen_in sinks.old) (claims_of records.items) }
     ensures verdicts { result.verdicts.items

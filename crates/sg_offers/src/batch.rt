@@ -2,8 +2,8 @@
 ghost use Rattle.std.specs.Prelude.{◌≡◌, ◌≤◌, ℕ, [], false, IfOk, length, map, vec_capacity};
 ghost use Rattle.sg_counter.specs.Bringing.{AllMayEnter};
 ghost use Rattle.sg_machine.specs.Verdicts.{claims_of};
-ghost use Rattle.sg_offers.specs.Payloads.{buffers_of, payloads_of, AllKept, AreSmall, AreSpelled};
-ghost use Rattle.sg_offers.specs.Rooms.{seen_in, IsReady};
+ghost use Rattle.sg_offers.specs.Payloads.{buffers_of, payloads_of, AllSpellable, AreSmall, ArePayloadsSpelled};
+ghost use Rattle.sg_offers.specs.Rooms.{seen_in, IsBatchReady};
 
 use crate::payloads::payloads_for;
 use crate::room::room_for;
@@ -12,7 +12,7 @@ use sg_list::Seq;
 use sg_machine::{Admission, Verdict};
 use sg_sinks::Sink;
 use sg_spool::Block;
-use sg_window::Record;
+use sg_window::BegunRecord;
 use std::alloc::{AllocError, Global};
 
 /// The entry of an offer: the number of its destination, its block where it may go to a disk-buffer,
@@ -27,9 +27,9 @@ pub struct Payload {
 /// What becomes of the records: the verdicts of all their offers, in order, and each record with the
 /// acknowledgements that it needs.
 #[derive(Debug, Drop)]
-pub struct Answers {
+pub struct BatchVerdicts {
     pub verdicts: Vec<Verdict>,
-    pub begun: Vec<Record>,
+    pub begun: Vec<BegunRecord>,
 }
 
 /// All that a batch takes memory for.
@@ -39,10 +39,10 @@ pub struct Batch {
     pub payloads: Vec<Payload>,
     /// Of each destination whether the store of its disk-buffer fails within the call.
     pub fails: Vec<bool>,
-    pub answers: Answers,
+    pub answers: BatchVerdicts,
 }
 
-fn answers_for(alloc: Global, offers: usize, records: usize) -> Result<Answers, AllocError>
+fn answers_for(alloc: Global, offers: usize, records: usize) -> Result<BatchVerdicts, AllocError>
     ensures no_verdict { IfOk result (λ answers. answers.verdicts.items ≡ []) }
     ensures none_begun { IfOk result (λ answers. answers.begun.items ≡ []) }
     ensures verdicts { IfOk result (λ answers. offers ≤ vec_capacity answers.verdicts) }
@@ -50,7 +50,7 @@ fn answers_for(alloc: Global, offers: usize, records: usize) -> Result<Answers, 
 {
     let verdicts = Vec::with_capacity(alloc, offers)?;
     let begun = Vec::with_capacity(alloc, records)?;
-    Ok(Answers { verdicts, begun })
+    Ok(BatchVerdicts { verdicts, begun })
 }
 
 /// Takes all memory that the records need: room where their offers go, payloads and answers. No store
@@ -66,11 +66,11 @@ pub fn prepare(
     ensures payloads { IfOk result (λ batch. batch.payloads.items
         ≡ payloads_of inlet (seen_in sinks.old) (claims_of records.now)) }
     ensures spelled { AreSmall (buffers_of (seen_in sinks.old))
-        → IfOk result (λ batch. AreSpelled inlet (claims_of records.now) batch.payloads.items) }
+        → IfOk result (λ batch. ArePayloadsSpelled inlet (claims_of records.now) batch.payloads.items) }
     ensures kept { IfOk result
-        (λ _. AllKept inlet (buffers_of (seen_in sinks.old)) (claims_of records.now)) }
+        (λ _. AllSpellable inlet (buffers_of (seen_in sinks.old)) (claims_of records.now)) }
     ensures fails { IfOk result (λ batch. batch.fails.items ≡ map (λ _. false) sinks.old) }
-    ensures ready { IfOk result (λ batch. IsReady records.now sinks.new batch.answers) }
+    ensures ready { IfOk result (λ batch. IsBatchReady records.now sinks.new batch.answers) }
 {
     let payloads = payloads_for(alloc, sinks.as_slice(), inlet, records)?;
     let fails = vec![in alloc; false; sinks.len()]?;

@@ -11,7 +11,7 @@ ghost use Rattle.sg_machine.specs.Running.{are_split};
 ghost use Rattle.sg_sinks.specs.Standing.{IsSplit};
 ghost use Rattle.sg_offers.specs.Answering.{fails_at};
 ghost use Rattle.sg_offers.specs.Batches.{sinks_at, AreSplit, AreBuffersApart, WouldFail};
-ghost use Rattle.sg_offers.specs.Laws.{JudgedAll, Tried, Begun};
+ghost use Rattle.sg_offers.specs.Laws.{JudgedAll, Tried, BegunRecords};
 
 /// Where the stores that fail are those of some destinations at which an offer would be spooled, the
 /// verdicts are those that the machine judges right, and what is kept then is what the machine has.
@@ -37,5 +37,5 @@ pub fn begun_hold()
     ensures { (i next : ℕ) (failing : List ℕ) (dests : List Dest) (failed : List ℕ)
         (records : List Admission) (vs : List Verdict) (z : List ℕ) → are_split dests ≡ true
         → judged i next failing dests failed (claims_of records) vs ≡ Some z
-        → Begun i next dests records vs }
+        → BegunRecords i next dests records vs }
 {}

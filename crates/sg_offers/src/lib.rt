@@ -10,5 +10,5 @@ mod room;
 mod threads;
 
 pub use answering::offer_all;
-pub use batch::{Answers, Batch, Payload, prepare};
+pub use batch::{Batch, BatchVerdicts, Payload, prepare};
 pub use laws::{begun_hold, judged_hold, tried_hold};

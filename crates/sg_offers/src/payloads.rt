@@ -1,11 +1,11 @@
 // The payloads of offers.
 ghost use Rattle.std.specs.Prelude.{◌≡◌, ◌<◌, ◌+◌, ◌^◌, ◌++◌, [], ◌∷◌, ℕ, true, IfOk, OnOk, IsSome, length, map};
 ghost use Rattle.sg_list.specs.Lists.{change};
-ghost use Rattle.sg_codec.specs.Spelling.{IsKept};
+ghost use Rattle.sg_codec.specs.Spelling.{IsSpellable};
 ghost use Rattle.sg_counter.specs.Bringing.{MayEnter, AllMayEnter};
 ghost use Rattle.sg_machine.specs.Verdicts.{claims_in, claims_of};
 ghost use Rattle.sg_sinks.specs.Blocks.{kept_of_offer};
-ghost use Rattle.sg_offers.specs.Payloads.{buffers_of, trial_in, takes_offer, tried_offer, trials_then, trials_after, payload_of, payloads_from, payloads_of, AllKept};
+ghost use Rattle.sg_offers.specs.Payloads.{buffers_of, trial_in, takes_offer, tried_offer, trials_then, trials_after, payload_of, payloads_from, payloads_of, AllSpellable};
 ghost use Rattle.sg_offers.specs.Rooms.{seen_in};
 
 use crate::Payload;
@@ -61,7 +61,7 @@ fn payload_for(
     ensures payload { IfOk result (λ payload. payload
         ≡ payload_of inlet end (buffers_of (seen_in sinks.now)) trials.old offer.now) }
     ensures kept { IfOk result
-        (λ payload. IsSome payload.block → IsKept (kept_of_offer inlet end offer.now)) }
+        (λ payload. IsSome payload.block → IsSpellable (kept_of_offer inlet end offer.now)) }
     ensures trials { OnOk result (trials.new ≡ trials_then trials.old offer.now) }
 {
     let d = offer.dest as usize;
@@ -95,7 +95,7 @@ fn record_payloads(
     ensures payloads { (place : ℕ) → OnOk result (payloads.new.items
         ≡ payloads.old.items ++ payloads_from inlet (buffers_of (seen_in sinks.now)) trials.old
         (claims_in place admission.now.end admission.now.offers)) }
-    ensures kept { (place : ℕ) → OnOk result (AllKept inlet (buffers_of (seen_in sinks.now))
+    ensures kept { (place : ℕ) → OnOk result (AllSpellable inlet (buffers_of (seen_in sinks.now))
         (claims_in place admission.now.end admission.now.offers)) }
     ensures trials { (place : ℕ) → OnOk result (trials.new
         ≡ trials_after trials.old (claims_in place admission.now.end admission.now.offers)) }
@@ -118,7 +118,7 @@ pub(crate) fn payloads_for(
     ensures payloads { IfOk result (λ payloads. payloads.items
         ≡ payloads_of inlet (seen_in sinks.now) (claims_of records.now)) }
     ensures kept { IfOk result
-        (λ _. AllKept inlet (buffers_of (seen_in sinks.now)) (claims_of records.now)) }
+        (λ _. AllSpellable inlet (buffers_of (seen_in sinks.now)) (claims_of records.now)) }
 {
     let mut trials = trials_of(alloc, sinks)?;
     let mut payloads = Vec::with_capacity(alloc, records.len())?;

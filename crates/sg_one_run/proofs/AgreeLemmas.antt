@@ -3,8 +3,8 @@ use Rattle.std.proofs.Common.{◌≡◌, ℕ, ◌+◌, List, [], length, Some, s
 use Rattle.sg_list.proofs.ListLemmas.{some-same, slice_get-map, slice_get-some, slice_get-below}
 use Rattle.sg_machine.specs.declared.setup.SourceSetup.{SourceSetup}
 use Rattle.sg_machine.specs.declared.state.Dest.{Dest}
-use Rattle.sg_machine.specs.declared.state.Entry.{Entry}
-use Rattle.sg_machine.specs.declared.state.Inlet.{Inlet}
+use Rattle.sg_machine.specs.declared.state.DestEntry.{DestEntry}
+use Rattle.sg_machine.specs.declared.state.InletRecords.{InletRecords}
 use Rattle.sg_machine.specs.declared.state.State.{State}
 use Rattle.sg_machine.specs.Marks.{mark_of}
 use Rattle.sg_machine.specs.Verdicts.{is_listed}
@@ -25,44 +25,44 @@ use Rattle.sg_core.proofs.PositionSteps.{mark-at, behind}
 -- Inlets.
 
 -- the source of a core that an inlet is behind
-pub record IsSeen (core : CoreState) (s : State) (i : ℕ) (x : Inlet) : Type 0 where
+pub record IsSeen (core : CoreState) (s : State) (i : ℕ) (x : InletRecords) : Type 0 where
   pub source : Source
   pub there : slice_get core.sources i ≡ Some source
   pub is : source ≡ source_of s.dests i x
 
-pub seen : (core : CoreState) (s : State) (i : ℕ) (x : Inlet) → IsAt core s → slice_get s.inlets i ≡ Some x → IsSeen core s i x
+pub seen : (core : CoreState) (s : State) (i : ℕ) (x : InletRecords) → IsAt core s → slice_get s.inlets i ≡ Some x → IsSeen core s i x
 seen core s i x at h =
     let r = (shows-at core s at).sources i x h in
     let b = behind core s i r.0 at r.1 in
     let same : b.inlet ≡ x = some-same b.inlet x (sym b.there ∙ h) in
-    record { source = r.0; there = r.1; is = b.shown ∙ ap (λ (y : Inlet). source_of s.dests i y) same }
+    record { source = r.0; there = r.1; is = b.shown ∙ ap (λ (y : InletRecords). source_of s.dests i y) same }
 
-pub inlet-there : (core : CoreState) (s t : State) (i : ℕ) (y : Inlet) → IsAt core s → IsAt core t → slice_get t.inlets i ≡ Some y → (x : Inlet) × (slice_get s.inlets i ≡ Some x)
+pub inlet-there : (core : CoreState) (s t : State) (i : ℕ) (y : InletRecords) → IsAt core s → IsAt core t → slice_get t.inlets i ≡ Some y → (x : InletRecords) × (slice_get s.inlets i ≡ Some x)
 inlet-there core s t i y at at' h =
     let low = slice_get-below t.inlets i y h in
     let n = (shows-at core s at).every_source in
     let m = (shows-at core t at').every_source in
     slice_get-some s.inlets i (omega (arith, low, n, m))
 
-agree-source : (core : CoreState) (s t : State) (i : ℕ) (x y : Inlet) → IsAt core s → IsAt core t → slice_get s.inlets i ≡ Some x → slice_get t.inlets i ≡ Some y → source_of s.dests i x ≡ source_of t.dests i y
+agree-source : (core : CoreState) (s t : State) (i : ℕ) (x y : InletRecords) → IsAt core s → IsAt core t → slice_get s.inlets i ≡ Some x → slice_get t.inlets i ≡ Some y → source_of s.dests i x ≡ source_of t.dests i y
 agree-source core s t i x y at at' h k =
     let a = seen core s i x at h in
     let b = seen core t i y at' k in
     sym a.is ∙ some-same a.source b.source (sym a.there ∙ b.there) ∙ b.is
 
-pub agree-mark : (core : CoreState) (s t : State) (i : ℕ) (x y : Inlet) → IsAt core s → IsAt core t → slice_get s.inlets i ≡ Some x → slice_get t.inlets i ≡ Some y → mark_of s.dests i x ≡ mark_of t.dests i y
+pub agree-mark : (core : CoreState) (s t : State) (i : ℕ) (x y : InletRecords) → IsAt core s → IsAt core t → slice_get s.inlets i ≡ Some x → slice_get t.inlets i ≡ Some y → mark_of s.dests i x ≡ mark_of t.dests i y
 agree-mark core s t i x y at at' h k = sym (mark-at s.dests i x) ∙ ap mark_at (agree-source core s t i x y at at' h k) ∙ mark-at t.dests i y
 
-pub agree-setup : (core : CoreState) (s t : State) (i : ℕ) (x y : Inlet) → IsAt core s → IsAt core t → slice_get s.inlets i ≡ Some x → slice_get t.inlets i ≡ Some y → x.setup ≡ y.setup
+pub agree-setup : (core : CoreState) (s t : State) (i : ℕ) (x y : InletRecords) → IsAt core s → IsAt core t → slice_get s.inlets i ≡ Some x → slice_get t.inlets i ≡ Some y → x.setup ≡ y.setup
 agree-setup core s t i x y at at' h k = ap (λ (z : Source). z.setup) (agree-source core s t i x y at at' h k)
 
-pub agree-credit : (core : CoreState) (s t : State) (i : ℕ) (x : Inlet) → IsAt core s → IsAt core t → slice_get s.inlets i ≡ Some x → credit_left s i ≡ credit_left t i
+pub agree-credit : (core : CoreState) (s t : State) (i : ℕ) (x : InletRecords) → IsAt core s → IsAt core t → slice_get s.inlets i ≡ Some x → credit_left s i ≡ credit_left t i
 agree-credit core s t i x at at' h =
     let a = seen core s i x at h in
     sym (credit-of core s i a.source at a.there) ∙ credit-of core t i a.source at' a.there
 
 -- the stored position, and whether the store has failed
-pub agree-stored : (core : CoreState) (s t : State) (i u : ℕ) (x y : Inlet) → IsAt core s → IsAt core t → slice_get s.inlets i ≡ Some x → slice_get t.inlets i ≡ Some y → y.setup.store ≡ Some u
+pub agree-stored : (core : CoreState) (s t : State) (i u : ℕ) (x y : InletRecords) → IsAt core s → IsAt core t → slice_get s.inlets i ≡ Some x → slice_get t.inlets i ≡ Some y → y.setup.store ≡ Some u
     → (x.stored ≡ y.stored) × (is_listed u s.failed ≡ is_listed u t.failed)
 agree-stored core s t i u x y at at' h k has =
     let store = (shows-at core t at').positions i u y k has in
@@ -89,7 +89,7 @@ agree-sink core s t d x y at at' h k = some-same (sink_of (is_broken s.failed x)
 pub agree-broken : (core : CoreState) (s t : State) (d : ℕ) (x y : Dest) → IsAt core s → IsAt core t → slice_get s.dests d ≡ Some x → slice_get t.dests d ≡ Some y → is_broken s.failed x ≡ is_broken t.failed y
 agree-broken core s t d x y at at' h k = ap (λ (z : SinkState). z.broken) (agree-sink core s t d x y at at' h k)
 
-none-left : (n m : ℕ) (xs ys : List Entry) → lengths_of xs ≡ lengths_of ys → waiting_from n xs ≡ waiting_from m ys → xs ≡ [] → ys ≡ []
+none-left : (n m : ℕ) (xs ys : List DestEntry) → lengths_of xs ≡ lengths_of ys → waiting_from n xs ≡ waiting_from m ys → xs ≡ [] → ys ≡ []
 none-left n m xs ys lengths waiting none =
     let a : lengths_of ys ≡ [] = sym lengths ∙ ap lengths_of none in
     let b : waiting_from m ys ≡ [] = sym waiting ∙ ap (waiting_from n) none in

@@ -8,7 +8,7 @@ use Rattle.sg_machine.specs.declared.event.Admission.{Admission}
 use Rattle.sg_machine.specs.declared.setup.BufferSetup.{BufferSetup}
 use Rattle.sg_machine.specs.declared.setup.SourceSetup.{SourceSetup}
 use Rattle.sg_machine.specs.declared.state.Dest.{Dest}
-use Rattle.sg_machine.specs.declared.state.Inlet.{Inlet}
+use Rattle.sg_machine.specs.declared.state.InletRecords.{InletRecords}
 use Rattle.sg_machine.specs.declared.state.State.{State}
 use Rattle.sg_machine.specs.Marks.{mark_of}
 use Rattle.sg_machine.specs.Verdicts.{is_listed}
@@ -37,7 +37,7 @@ use Rattle.sg_core.specs.Answers.{credit_left, AnswersFrontAt, RefillsAt, Refill
 use Rattle.sg_core.specs.Calls.{Serves}
 use Rattle.sg_core.proofs.Fits.{credit-of, mark-in-of, store-at-of}
 use Rattle.sg_core.proofs.PositionSteps.{mark-at}
-use Rattle.sg_actor.specs.Bringing.{IsRefusal, HasRefusal, IsSentBack}
+use Rattle.sg_actor.specs.Bringing.{IsCreditRefusal, HasRefusal, IsSentBack}
 use Rattle.sg_actor.specs.DestTurns.{is_breakage, IsEmptyFront}
 use Rattle.sg_one_run.proofs.StepLemmas.{Has}
 use Rattle.sg_one_run.proofs.AgreeLemmas.{seen, sink-at}
@@ -47,13 +47,13 @@ equal-of d e h = grind arith
 
 -- Credit.
 
-pub refusal-in : (made : List Exchange) → HasRefusal made → (e : Exchange) × (Has made e × IsRefusal e.reply)
+pub refusal-in : (made : List Exchange) → HasRefusal made → (e : Exchange) × (Has made e × IsCreditRefusal e.reply)
 refusal-in [] h = absurd h
 refusal-in (x ∷ xs) (inl here) = (x, (inl refl, here))
 refusal-in (x ∷ xs) (inr later) = let r = refusal-in xs later in (r.0, (inr r.1.0, r.1.1))
 
 -- the credit is none, or records were sent back
-pub refused-as : (reply : CoreReply) → IsRefusal reply → (reply ≡ CreditReply 0) ⊎ IsSentBack reply
+pub refused-as : (reply : CoreReply) → IsCreditRefusal reply → (reply ≡ CreditReply 0) ⊎ IsSentBack reply
 refused-as (CreditReply credit) h = inl (ap CreditReply h)
 refused-as (Admitted (Ok verdicts)) h = absurd h
 refused-as (Admitted (Err (NoCredit back))) h = inr tt
@@ -85,19 +85,19 @@ pub no-credit : (old new : CoreState) (e : Exchange) (i : ℕ) (t : State) → e
 no-credit old new e i t is h own at = no-credit-by old new e.call i t (subst (λ (r : CoreReply). Serves old e.call r new) is h) own at
 
 -- so many records were brought
-pub record IsBeyond (call : CoreCall) (i : ℕ) (t : State) : Type 0 where
+pub record IsBeyondAnswers (call : CoreCall) (i : ℕ) (t : State) : Type 0 where
   pub records : List Admission
   pub is : call ≡ Admit i records
   pub more : credit_left t i < length records
 
-credit-seen : (core : CoreState) (t : State) (i : ℕ) (x : Inlet) → IsAt core t → slice_get t.inlets i ≡ Some x → credit_at core.sources i ≡ credit_left t i
+credit-seen : (core : CoreState) (t : State) (i : ℕ) (x : InletRecords) → IsAt core t → slice_get t.inlets i ≡ Some x → credit_at core.sources i ≡ credit_left t i
 credit-seen core t i x at h =
     let a = seen core t i x at h in
     let here : credit_at core.sources i ≡ credit_of a.source = ap (λ (o : Option Source). option_map_or credit_of o 0) a.there in
     here ∙ credit-of core t i a.source at a.there
 
-less-credit-by : (old new : CoreState) (call : CoreCall) (back : List Admission) (i : ℕ) (t : State) (x : Inlet) → Serves old call (Admitted (Err (NoCredit back))) new → same_caller (OfSource i) (caller_of call) ≡ true → IsAt old t → slice_get t.inlets i ≡ Some x
-    → IsBeyond call i t
+less-credit-by : (old new : CoreState) (call : CoreCall) (back : List Admission) (i : ℕ) (t : State) (x : InletRecords) → Serves old call (Admitted (Err (NoCredit back))) new → same_caller (OfSource i) (caller_of call) ≡ true → IsAt old t → slice_get t.inlets i ≡ Some x
+    → IsBeyondAnswers call i t
 less-credit-by old new (Credit j) back i t x h own at there = absurd h
 less-credit-by old new (Admit j records) back i t x h own at there =
     let same = equal-of i j own in
@@ -113,20 +113,20 @@ less-credit-by old new (Settle d place n count) back i t x h own at there = absu
 less-credit-by old new (Refill d) back i t x h own at there = absurd h
 less-credit-by old new (Store j) back i t x h own at there = absurd h
 
-pub less-credit : (old new : CoreState) (e : Exchange) (back : List Admission) (i : ℕ) (t : State) (x : Inlet) → e.reply ≡ Admitted (Err (NoCredit back)) → Serves old e.call e.reply new → same_caller (OfSource i) (caller_of e.call) ≡ true
-    → IsAt old t → slice_get t.inlets i ≡ Some x → IsBeyond e.call i t
+pub less-credit : (old new : CoreState) (e : Exchange) (back : List Admission) (i : ℕ) (t : State) (x : InletRecords) → e.reply ≡ Admitted (Err (NoCredit back)) → Serves old e.call e.reply new → same_caller (OfSource i) (caller_of e.call) ≡ true
+    → IsAt old t → slice_get t.inlets i ≡ Some x → IsBeyondAnswers e.call i t
 less-credit old new e back i t x is h own at there = less-credit-by old new e.call back i t x (subst (λ (r : CoreReply). Serves old e.call r new) is h) own at there
 
 -- Positions.
 
-stored-seen : (core : CoreState) (t : State) (i u : ℕ) (x : Inlet) → IsAt core t → slice_get t.inlets i ≡ Some x → x.setup.store ≡ Some u → (store_at core.sources i ≡ Some u) × (mark_in core.sources i ≡ mark_of t.dests i x)
+stored-seen : (core : CoreState) (t : State) (i u : ℕ) (x : InletRecords) → IsAt core t → slice_get t.inlets i ≡ Some x → x.setup.store ≡ Some u → (store_at core.sources i ≡ Some u) × (mark_in core.sources i ≡ mark_of t.dests i x)
 stored-seen core t i u x at h has =
     let a = seen core t i x at h in (
       store-at-of core.sources i a.source a.there ∙ ap (λ (y : Source). y.setup.store) a.is ∙ has,
       mark-in-of core.sources i a.source a.there ∙ ap mark_at a.is ∙ mark-at t.dests i x,
     )
 
-same-stored-by : (old new : CoreState) (call : CoreCall) (i u : ℕ) (t : State) (x : Inlet) → Serves old call (StoredReply Unchanged) new → same_caller (OfSource i) (caller_of call) ≡ true → IsAt old t → slice_get t.inlets i ≡ Some x
+same-stored-by : (old new : CoreState) (call : CoreCall) (i u : ℕ) (t : State) (x : InletRecords) → Serves old call (StoredReply Unchanged) new → same_caller (OfSource i) (caller_of call) ≡ true → IsAt old t → slice_get t.inlets i ≡ Some x
     → x.setup.store ≡ Some u → x.stored ≡ mark_of t.dests i x
 same-stored-by old new (Credit j) i u t x h own at there has = absurd h
 same-stored-by old new (Admit j records) i u t x h own at there has = absurd h
@@ -142,11 +142,11 @@ same-stored-by old new (Store j) i u t x h own at there has =
     let here : position_of (slice_get old.stores u) ≡ store.0.position = ap position_of store.1 in
     sym p.position_is ∙ sym here ∙ answer ∙ ap (λ k. mark_in old.sources k) same ∙ s.1
 
-pub same-stored : (old new : CoreState) (e : Exchange) (i u : ℕ) (t : State) (x : Inlet) → e.reply ≡ StoredReply Unchanged → Serves old e.call e.reply new → same_caller (OfSource i) (caller_of e.call) ≡ true → IsAt old t
+pub same-stored : (old new : CoreState) (e : Exchange) (i u : ℕ) (t : State) (x : InletRecords) → e.reply ≡ StoredReply Unchanged → Serves old e.call e.reply new → same_caller (OfSource i) (caller_of e.call) ≡ true → IsAt old t
     → slice_get t.inlets i ≡ Some x → x.setup.store ≡ Some u → x.stored ≡ mark_of t.dests i x
 same-stored old new e i u t x is h own at there has = same-stored-by old new e.call i u t x (subst (λ (r : CoreReply). Serves old e.call r new) is h) own at there has
 
-failed-store-by : (old new : CoreState) (call : CoreCall) (i u : ℕ) (t : State) (x : Inlet) → Serves old call (StoredReply Broken) new → same_caller (OfSource i) (caller_of call) ≡ true → IsAt old t → slice_get t.inlets i ≡ Some x
+failed-store-by : (old new : CoreState) (call : CoreCall) (i u : ℕ) (t : State) (x : InletRecords) → Serves old call (StoredReply Broken) new → same_caller (OfSource i) (caller_of call) ≡ true → IsAt old t → slice_get t.inlets i ≡ Some x
     → x.setup.store ≡ Some u → option_map (λ (s : StoreState). s.failed) (slice_get new.stores u) ≡ Some true
 failed-store-by old new (Credit j) i u t x h own at there has = absurd h
 failed-store-by old new (Admit j records) i u t x h own at there has = absurd h
@@ -159,7 +159,7 @@ failed-store-by old new (Store j) i u t x h own at there has =
     (h.answer u (ap (λ k. store_at old.sources k) same ∙ s.0)).1
 
 -- the store is one of those that have failed
-pub failed-store : (old new : CoreState) (e : Exchange) (i u : ℕ) (t t' : State) (x y : Inlet) → e.reply ≡ StoredReply Broken → Serves old e.call e.reply new → same_caller (OfSource i) (caller_of e.call) ≡ true → IsAt old t → IsAt new t'
+pub failed-store : (old new : CoreState) (e : Exchange) (i u : ℕ) (t t' : State) (x y : InletRecords) → e.reply ≡ StoredReply Broken → Serves old e.call e.reply new → same_caller (OfSource i) (caller_of e.call) ≡ true → IsAt old t → IsAt new t'
     → slice_get t.inlets i ≡ Some x → slice_get t'.inlets i ≡ Some y → y.setup ≡ x.setup → x.setup.store ≡ Some u → is_listed u t'.failed ≡ true
 failed-store old new e i u t t' x y is h own at at' there there' setup has =
     let failed = failed-store-by old new e.call i u t x (subst (λ (r : CoreReply). Serves old e.call r new) is h) own at there has in

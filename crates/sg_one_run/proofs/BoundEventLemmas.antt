@@ -8,15 +8,16 @@ use Rattle.sg_machine.specs.declared.event.Act.TheVariants.{Admit, Settle, Refil
 use Rattle.sg_machine.specs.declared.event.Event.{Event}
 use Rattle.sg_machine.specs.declared.setup.DestSetup.{DestSetup}
 use Rattle.sg_machine.specs.declared.setup.SourceSetup.{SourceSetup}
-use Rattle.sg_machine.specs.declared.state.Inlet.{Inlet}
+use Rattle.sg_machine.specs.declared.state.InletRecords.{InletRecords}
 use Rattle.sg_machine.specs.declared.state.State.{State}
 use Rattle.sg_machine.specs.Effects.{next_of, rewound, after, after_act}
-use Rattle.sg_machine.specs.Runs.{Kept, recovered, opened_inlets, opened_dests, after_all}
+use Rattle.sg_machine.specs.Runs.{BufferedEntry, recovered, opened_inlets, opened_dests, after_all}
 use Rattle.sg_machine.specs.Verdicts.{claims_of}
 use Rattle.sg_actor.specs.Reading.{one_if}
 use Rattle.sg_one_run.specs.Counts.{offers_of, left_in}
 use Rattle.sg_standing.proofs.Frozen.{length-dests}
-use Rattle.sg_one_run.proofs.OwedLemmas.{and-not-true, owes, owed, owed_in, kept_in, kept-settle, kept-refill, kept-claims, claims-length}
+use Rattle.sg_one_run.proofs.OwedLemmas.{owes, owed, owed_in, kept_in, kept-settle, kept-refill, kept-claims, claims-length}
+use Rattle.sg_machine.proofs.WindowLaws.{and-not-true}
 
 -- Entries that were kept.
 
@@ -51,7 +52,7 @@ dests-all (e ∷ es) s = dests-all es (after s e) ∙ length-dests s e.act e.fai
 
 -- The opening.
 
-recovered-owe : (i : ℕ) (es : List Kept) → owed i (map recovered es) ≡ 0
+recovered-owe : (i : ℕ) (es : List BufferedEntry) → owed i (map recovered es) ≡ 0
 recovered-owe i [] = refl
 recovered-owe i (e ∷ es) =
     let none : owes i (recovered e) ≡ false = and-not-true (e.inlet == i) in
@@ -59,18 +60,18 @@ recovered-owe i (e ∷ es) =
     let zero-is : one_if (owes i (recovered e)) ≡ 0 = ap one_if none in
     omega (arith, zero-is, rest)
 
-pub opened-owe : (i : ℕ) (setups : List DestSetup) (entries : List (List Kept)) → owed_in i (opened_dests setups entries) ≡ 0
+pub opened-owe : (i : ℕ) (setups : List DestSetup) (entries : List (List BufferedEntry)) → owed_in i (opened_dests setups entries) ≡ 0
 opened-owe i [] entries = refl
 opened-owe i (s ∷ ss) [] = let more = opened-owe i ss [] in omega (arith, more)
 opened-owe i (s ∷ ss) (es ∷ rest) = let one = recovered-owe i es in let more = opened-owe i ss rest in omega (arith, one, more)
 
-pub opened-kept : (setups : List DestSetup) (entries : List (List Kept)) → kept_in (opened_dests setups entries) ≡ left_in (opened_dests setups entries)
+pub opened-kept : (setups : List DestSetup) (entries : List (List BufferedEntry)) → kept_in (opened_dests setups entries) ≡ left_in (opened_dests setups entries)
 opened-kept [] entries = refl
 opened-kept (s ∷ ss) [] = let h = opened-kept ss [] in omega (arith, h)
 opened-kept (s ∷ ss) (es ∷ rest) = let h = opened-kept ss rest in omega (arith, h)
 
-abbrev count_at : List Inlet → ℕ → ℕ
-count_at inlets i = option_map_or (λ (inlet : Inlet). length inlet.ends) (slice_get inlets i) 0
+abbrev count_at : List InletRecords → ℕ → ℕ
+count_at inlets i = option_map_or (λ (inlet : InletRecords). length inlet.ends) (slice_get inlets i) 0
 
 pub opened-none : (ss : List SourceSetup) (ps : List ℕ) (i : ℕ) → count_at (opened_inlets ss ps) i ≡ 0
 opened-none [] ps i = refl
@@ -79,7 +80,7 @@ opened-none (s ∷ ss) (p ∷ ps) zero = refl
 opened-none (s ∷ ss) [] (suc i) = opened-none ss [] i
 opened-none (s ∷ ss) (p ∷ ps) (suc i) = opened-none ss ps i
 
-rewound-count : (inlets : List Inlet) (j i : ℕ) → count_at (change inlets j rewound) i ≡ count_at inlets i
+rewound-count : (inlets : List InletRecords) (j i : ℕ) → count_at (change inlets j rewound) i ≡ count_at inlets i
 rewound-count [] j i = refl
 rewound-count (x ∷ inlets) zero zero = refl
 rewound-count (x ∷ inlets) zero (suc i) = refl

@@ -14,7 +14,7 @@ use Rattle.sg_machine.specs.declared.event.Act.{Act}
 use Rattle.sg_machine.specs.declared.event.Admission.{Admission}
 use Rattle.sg_machine.specs.declared.event.Event.{Event}
 use Rattle.sg_machine.specs.declared.state.Dest.{Dest}
-use Rattle.sg_machine.specs.declared.state.Inlet.{Inlet}
+use Rattle.sg_machine.specs.declared.state.InletRecords.{InletRecords}
 use Rattle.sg_machine.specs.declared.state.State.{State}
 use Rattle.sg_machine.specs.Effects.{next_of}
 use Rattle.sg_machine.specs.Marks.{mark_of}
@@ -43,15 +43,15 @@ use Rattle.sg_actor.specs.declared.settings.SourceSpec.{SourceSpec}
 use Rattle.sg_actor.specs.declared.source.SourceActor.{SourceActor}
 use Rattle.sg_turns.specs.Actors.{source_seen, dest_seen, SourceTook, DestTook}
 use Rattle.sg_turns.specs.Laws.{ReadsOn}
-use Rattle.sg_turns.specs.Serving.{IsActor, is_busy, sum_below, busy_of, SpendsRounds}
+use Rattle.sg_turns.specs.Serving.{IsActor, sum_below, busy_of, SpendsRounds}
 use Rattle.sg_turns.specs.Turns.{Turn, calls_of}
 use Rattle.sg_turns.specs.declared.ended.Ended.{Ended}
 use Rattle.sg_turns.specs.declared.ended.Ended.TheVariants.{Quiet, RoundsSpent, NoMemory}
-use Rattle.sg_turns.proofs.BoundLemmas.{dest-bounded}
+use Rattle.sg_turns.proofs.BoundLemmas.{dest-bounded, busy-most, one-most}
 use Rattle.sg_turns.proofs.LawLemmas.{read-on}
 use Rattle.sg_run_plan.specs.declared.inlet.InletPlan.{InletPlan}
 use Rattle.sg_one_run.specs.Calls.{Ran as RanSo}
-use Rattle.sg_one_run.specs.Fronts.{IsDest}
+use Rattle.sg_one_run.specs.Fronts.{IsDestThroughout}
 use Rattle.sg_one_run.specs.Turns.{AreSendings}
 use Rattle.sg_one_run.proofs.OwnLemmas.{calls-run}
 use Rattle.sg_one_run.proofs.SeenLemmas.{frames-settled}
@@ -59,7 +59,7 @@ use Rattle.sg_serve.specs.Actors.{SourceView, DestView, source_view, dest_view}
 use Rattle.sg_serve.specs.Devices.{inlet_asked}
 use Rattle.sg_serve.specs.Plan.{IsRunnable}
 use Rattle.sg_serve.specs.Rewinds.{rewinds_at, rewinds_from, position_at, places_of}
-use Rattle.sg_serve.specs.Run.{CoreRun, Reached, HoldsRun, IsServed, Holds}
+use Rattle.sg_serve.specs.Run.{CoreRun, Reached, HoldsRun, IsServed, PlanRunHolds}
 use Rattle.sg_serve.specs.declared.counts.Counts.{Counts}
 use Rattle.sg_serve.specs.declared.ending.PlanEnded.{PlanEnded}
 use Rattle.sg_serve.specs.declared.ending.PlanEnded.TheVariants.{Before, Ran}
@@ -67,13 +67,13 @@ use Rattle.sg_run_plan.specs.declared.plan.RunPlan.{RunPlan}
 use Rattle.sg_one_run.proofs.DestLemmas.{sendings-of}
 use Rattle.sg_one_run.proofs.PreludeLemmas.{get-back, still-rewinds, opened-many}
 use Rattle.sg_one_run.proofs.SourceLemmas.{nothing-read}
-use Rattle.sg_one_run.specs.Bounds.{brought, recovered_in, offered_in, recovered_at, offered_at, most_rounds, AreFew, IsFew, RunsAreBounded, UntroubledRunsEnd}
+use Rattle.sg_one_run.specs.Bounds.{brought, recovered_in, offered_in, recovered_at, offered_at, most_rounds, AreRoundsFew, IsFew, RunsAreBounded, UntroubledRunsEnd}
 use Rattle.sg_one_run.specs.Counts.{rise, changes, writes_in, offers_of}
 use Rattle.sg_one_run.proofs.ActLemmas.{unstored_at}
 use Rattle.sg_one_run.proofs.CallLemmas.{calls-end}
 use Rattle.sg_one_run.proofs.BoundEventLemmas.{acts_offers, kept-all, dests-all, opened-owe, opened-kept, opened-none, rewind-next}
 use Rattle.sg_one_run.proofs.MarkLemmas.{acked-length, acked_of, unstored_of}
-use Rattle.sg_one_run.proofs.OwedLemmas.{one-most, owed_in, size, kept_in}
+use Rattle.sg_one_run.proofs.OwedLemmas.{owed_in, size, kept_in}
 use Rattle.sg_one_run.proofs.RiseLemmas.{stands-or, rise-below, rise-above}
 use Rattle.sg_one_run.proofs.SumLemmas.{inlet_pays, outlet_pays, own_offers, own-offers-sum, inlets-sum, outlets-sum}
 use Rattle.sg_one_run.proofs.BoundTurnLemmas.{source-bounded}
@@ -100,7 +100,7 @@ no-ends (e ∷ ends) h = absurd (let wrong : ⊥ = omega (arith, h) in wrong)
 equal-zero : (a b : ℕ) → a ≡ b → one_if (not (a == b)) ≡ 0
 equal-zero a b h = ap (λ t. one_if (not t)) (eq-eqb a b h)
 
-stored-by : (o : Option Inlet) (ds : List Dest) (i : ℕ) → option_map_or (λ (x : Inlet). length x.ends) o 0 ≡ 0 → ((x : Inlet) → o ≡ Some x → x.ends ≡ [] → x.stored ≡ x.opening) → option_map_or (unstored_of ds i) o 0 ≡ 0
+stored-by : (o : Option InletRecords) (ds : List Dest) (i : ℕ) → option_map_or (λ (x : InletRecords). length x.ends) o 0 ≡ 0 → ((x : InletRecords) → o ≡ Some x → x.ends ≡ [] → x.stored ≡ x.opening) → option_map_or (unstored_of ds i) o 0 ≡ 0
 stored-by None ds i none unmoved = refl
 stored-by (Some x) ds i none unmoved =
     let empty = no-ends x.ends none in
@@ -108,7 +108,7 @@ stored-by (Some x) ds i none unmoved =
     ap (λ (es : List ℕ). one_if (not (x.stored == mark_of ds i (record x { ends = es })))) empty ∙ equal-zero x.stored x.opening same
 
 -- nothing came in yet
-record Begins (core : CoreState) (s : State) (recovered : ℕ) : Type 0 where
+record BeginsBound (core : CoreState) (s : State) (recovered : ℕ) : Type 0 where
   at : IsAt core s
   next : (i : ℕ) → next_of s i ≡ 0
   owed : (i : ℕ) → owed_in i s.dests ≡ 0
@@ -116,7 +116,7 @@ record Begins (core : CoreState) (s : State) (recovered : ℕ) : Type 0 where
   kept : kept_in s.dests ≡ recovered
 
 begins : (files : Option Files) (plan : RunPlan) (reached : Reached) (run : CoreRun) (holds : HoldsRun files plan reached run) → run.prelude ≡ rewinds_from (position_at run.first) 0 (places_of reached.inlets)
-    → Begins run.begun (after_all (opened plan.setup (holds.core).opens.opening) run.prelude) (recovered_in plan reached run (holds.core).opens)
+    → BeginsBound run.begun (after_all (opened plan.setup (holds.core).opens.opening) run.prelude) (recovered_in plan reached run (holds.core).opens)
 begins files plan reached run holds rewinds =
     let opens = (holds.core).opens in
     let start = opened plan.setup opens.opening in
@@ -172,14 +172,6 @@ calls-offers (e ∷ rest) =
     let all = offers-both (admitted_by e.call e.reply) (admitted_in rest) in
     omega (arith, both, one, more, all)
 
--- no more turns do something than there are
-busy-most : (turns : List Turn) → busy_of turns ≤ length turns
-busy-most [] = omega arith
-busy-most (turn ∷ turns) =
-    let one = one-most (is_busy turn) in
-    let more = busy-most turns in
-    omega (arith, one, more)
-
 -- A source.
 
 are-many : (offers : ℕ → Record → List Offer → Type 0) (spec : SourceSpec) (rs : List Record) (as' : List Admission) → AreOf offers spec rs as' → length as' ≡ length rs
@@ -201,7 +193,7 @@ over-most : (given_up : Bool) (parts : ℕ) → parts_over given_up parts ≤ pa
 over-most true parts = omega arith
 over-most false parts = omega arith
 
-acked-by : (o : Option Inlet) (ds : List Dest) (i : ℕ) → option_map_or (acked_of ds i) o 0 ≤ option_map_or (λ (x : Inlet). length x.ends) o 0
+acked-by : (o : Option InletRecords) (ds : List Dest) (i : ℕ) → option_map_or (acked_of ds i) o 0 ≤ option_map_or (λ (x : InletRecords). length x.ends) o 0
 acked-by None ds i = omega arith
 acked-by (Some x) ds i = acked-length ds i 0 x.ends
 
@@ -230,7 +222,7 @@ source-pays busy old new own paid rose h =
 
 source-busy : {R I O : Type 0} (feed : I → InletState) (drain : O → OutletState) (offers : R → ℕ → Record → List Offer → Type 0) (inlets dests : R → ℕ) (files : Option Files) (plan : RunPlan) (routers : List R) (rounds : ℕ) (reached : Reached)
     (run : CoreRun) (counts : Option Counts) → IsRunnable plan → HoldsRun files plan reached run → (served : IsServed feed drain offers inlets dests plan routers rounds reached run RoundsSpent counts)
-    → (s : State) (recovered : ℕ) → Begins run.begun s recovered → (i : ℕ) (old new : InletState) → slice_get reached.inlets i ≡ Some old → slice_get reached.inlets_closed i ≡ Some new → new.faults < 2 ^ 64 - 1
+    → (s : State) (recovered : ℕ) → BeginsBound run.begun s recovered → (i : ℕ) (old new : InletState) → slice_get reached.inlets i ≡ Some old → slice_get reached.inlets_closed i ≡ Some new → new.faults < 2 ^ 64 - 1
     → busy_of ((served.runs).account (OfSource i)) ≤ inlet_pays old new + own_offers run.made i
 source-busy {R} {I} {O} feed drain offers inlets dests files plan routers rounds reached run counts runnable holds served s recovered begin i old new at_old at_new counted =
     let runs = served.runs in
@@ -310,7 +302,7 @@ dest-busy {R} {I} {O} feed drain offers inlets dests plan routers rounds reached
     let calls : calls_by (OfDest d) made ≡ calls_of turns = took.calls (OfDest d) (slice_get-below runs.dests_first d a.0 a.1.0) in
     let number : ((a.0).spec).dest ≡ d = ap (λ (p : DestSpec). p.dest) (for.is).spec_is in
     let are = subst (λ k. AreSendings (frame_by (a.0).spec) k sent.sendings first.drain last.drain) number sent.are in
-    let is : IsDest start run.prelude later d there.0 x = record { at_first = there.1; at_last = at_last } in
+    let is : IsDestThroughout start run.prelude later d there.0 x = record { at_first = there.1; at_last = at_last } in
     let settled = frames-settled run.begun run.last made start run.prelude later d there.0 x ran is (frame_by (a.0).spec) sent.sendings first.drain last.drain (calls ∙ sym sent.calls) are in
     let few = settled-few there.0 x first.drain last.drain settled.count in
     let rose = rise-below first.drain.faults last.drain.faults below in
@@ -332,7 +324,7 @@ turns-few feed drain offers inlets dests plan routers rounds reached run counts 
 
 source-few : {R I O : Type 0} (feed : I → InletState) (drain : O → OutletState) (offers : R → ℕ → Record → List Offer → Type 0) (inlets dests : R → ℕ) (files : Option Files) (plan : RunPlan) (routers : List R) (rounds : ℕ) (reached : Reached)
     (run : CoreRun) (counts : Option Counts) → IsRunnable plan → rounds < 2 ^ 64 → HoldsRun files plan reached run → (served : IsServed feed drain offers inlets dests plan routers rounds reached run RoundsSpent counts)
-    → (s : State) (recovered : ℕ) → Begins run.begun s recovered → (i : ℕ) (old new : InletState) → slice_get reached.inlets i ≡ Some old → slice_get reached.inlets_closed i ≡ Some new
+    → (s : State) (recovered : ℕ) → BeginsBound run.begun s recovered → (i : ℕ) (old new : InletState) → slice_get reached.inlets i ≡ Some old → slice_get reached.inlets_closed i ≡ Some new
     → busy_of ((served.runs).account (OfSource i)) ≤ inlet_pays old new + own_offers run.made i
 source-few {R} {I} {O} feed drain offers inlets dests files plan routers rounds reached run counts runnable low holds served s recovered begin i old new at_old at_new = elim (stands-or new.faults) [
   | inl below ↦ source-busy feed drain offers inlets dests files plan routers rounds reached run counts runnable holds served s recovered begin i old new at_old at_new below
@@ -359,12 +351,12 @@ dest-few {R} {I} {O} feed drain offers inlets dests plan routers rounds reached 
       omega (arith, few, rose, above))
 ]
 
-are-few : (recovered offered rounds : ℕ) (reached : Reached) → rounds ≤ most_rounds recovered offered reached → AreFew recovered offered rounds reached
+are-few : (recovered offered rounds : ℕ) (reached : Reached) → rounds ≤ most_rounds recovered offered reached → AreRoundsFew recovered offered rounds reached
 are-few recovered offered rounds reached h = record { most = h; below = omega (arith, h) }
 
 rounds-few : {R I O : Type 0} (feed : I → InletState) (drain : O → OutletState) (offers : R → ℕ → Record → List Offer → Type 0) (inlets dests : R → ℕ) (files : Option Files) (plan : RunPlan) (routers : List R) (rounds : ℕ) (reached : Reached)
     (run : CoreRun) (counts : Option Counts) → IsRunnable plan → rounds < 2 ^ 64 → (holds : HoldsRun files plan reached run) → (served : IsServed feed drain offers inlets dests plan routers rounds reached run RoundsSpent counts)
-    → AreFew (recovered_in plan reached run (holds.core).opens) (offered_in run.made) rounds reached
+    → AreRoundsFew (recovered_in plan reached run (holds.core).opens) (offered_in run.made) rounds reached
 rounds-few {R} {I} {O} feed drain offers inlets dests files plan routers rounds reached run counts runnable low holds served =
     let runs = served.runs in
     let made = run.made in
@@ -412,7 +404,7 @@ served-few feed drain offers inlets dests files plan routers rounds reached run 
 served-few feed drain offers inlets dests files plan routers rounds reached run NoMemory counts runnable low holds served = tt
 
 bounded-at : {R I O : Type 0} (feed : I → InletState) (drain : O → OutletState) (offers : R → ℕ → Record → List Offer → Type 0) (inlets dests : R → ℕ) (files : Option Files) (plan : RunPlan) (routers : List R) (rounds : ℕ) (reached : Reached)
-    (core : Option CoreRun) (ending : PlanEnded) → IsRunnable plan → rounds < 2 ^ 64 → (holds : Holds feed drain offers inlets dests files plan routers rounds reached core ending)
+    (core : Option CoreRun) (ending : PlanEnded) → IsRunnable plan → rounds < 2 ^ 64 → (holds : PlanRunHolds feed drain offers inlets dests files plan routers rounds reached core ending)
     → IsFew (recovered_at feed drain offers inlets dests files plan routers rounds reached core ending holds) (offered_at feed drain offers inlets dests files plan routers rounds reached core ending holds) rounds reached ending
 bounded-at feed drain offers inlets dests files plan routers rounds reached None (Before early) runnable low h = tt
 bounded-at feed drain offers inlets dests files plan routers rounds reached None (Ran ended counts) runnable low h = absurd h

@@ -16,25 +16,25 @@ use Rattle.sg_turns.specs.Turns.{Turn, any_step, result_of, calls_of, TookTurns}
 use Rattle.sg_turns.specs.Serving.{is_busy_answer, busy_of}
 use Rattle.sg_one_run.specs.Bounds.{SourceIsBounded}
 use Rattle.sg_one_run.specs.Counts.{changes, writes_in}
-use Rattle.sg_one_run.proofs.OwedLemmas.{one-most}
 use Rattle.sg_one_run.proofs.CountLemmas.{pulled-split, turn-sum, not-sum, rises, fails-paid, ends-paid, changes-turn, after-credit, written-both, admitted-length, broken-stays, news-paid}
+use Rattle.sg_turns.proofs.BoundLemmas.{one-most}
 
 -- what is counted of a source
 abbrev weight : ActorState → ℕ
 weight s = s.source.feed.bytes + s.source.feed.parts + s.source.feed.faults + s.source.feed.idles + parts_over s.source.reader.given_up s.source.feed.parts + one_if s.position.broken + one_if s.source.reader.ended
 
 -- no count falls
-record Grows (old new : ActorState) : Type 0 where
+record GrowsByTurn (old new : ActorState) : Type 0 where
   bytes : old.source.feed.bytes ≤ new.source.feed.bytes
   parts : old.source.feed.parts ≤ new.source.feed.parts
   faults : old.source.feed.faults ≤ new.source.feed.faults
   idles : old.source.feed.idles ≤ new.source.feed.idles
   over : parts_over old.source.reader.given_up old.source.feed.parts ≤ parts_over new.source.reader.given_up new.source.feed.parts
 
-grows-same : (s : ActorState) → Grows s s
+grows-same : (s : ActorState) → GrowsByTurn s s
 grows-same s = record { bytes = omega arith; parts = omega arith; faults = omega arith; idles = omega arith; over = omega arith }
 
-grows-both : (a b c : ActorState) → Grows a b → Grows b c → Grows a c
+grows-both : (a b c : ActorState) → GrowsByTurn a b → GrowsByTurn b c → GrowsByTurn a c
 grows-both a b c h k = record {
   bytes = (let x = h.bytes in let y = k.bytes in omega (arith, x, y));
   parts = (let x = h.parts in let y = k.parts in omega (arith, x, y));
@@ -46,7 +46,7 @@ grows-both a b c h k = record {
 -- A turn.
 
 turn-grows : (offers : ℕ → Record → List Offer → Type 0) (dests : ℕ) (spec : SourceSpec) (old new : ActorState) (answer : Option Turned) (made : List Exchange) (ups credit : ℕ)
-    → TurnsWith {E = Unit {0}} offers dests spec any_step (tt {0}) (tt {0}) old new (result_of answer) made ups credit → Grows old new
+    → TurnsWith {E = Unit {0}} offers dests spec any_step (tt {0}) (tt {0}) old new (result_of answer) made ups credit → GrowsByTurn old new
 turn-grows offers dests spec old new answer made ups credit h = record {
   bytes = (let x = h.advances.bytes in omega (arith, x));
   parts = h.advances.parts;
@@ -105,7 +105,7 @@ credit-then offers dests spec old new answer made ups credit h = ap (λ (p : Pos
 -- Turns.
 
 record Pays (busy admitted changed written : ℕ) (old new : ActorState) : Type 0 where
-  grows : Grows old new
+  grows : GrowsByTurn old new
   paid : busy + weight old ≤ weight new + (admitted + changed + written)
 
 turns-paid : (offers : ℕ → Record → List Offer → Type 0) (dests : ℕ) (spec : SourceSpec) (old new : ActorState) (turns : List Turn) → TookTurns offers dests spec old new turns → new.source.feed.faults < 2 ^ 64 - 1

@@ -23,9 +23,10 @@ use Rattle.sg_actor.specs.Bringing.{admitted_by, admitted_in, stored_by, stores_
 use Rattle.sg_actor.specs.Positions.{is_same_credit}
 use Rattle.sg_actor.specs.Reading.{one_if}
 use Rattle.sg_one_run.specs.Counts.{credit_after, changed_by, changes, writes, writes_in, offers_of}
-use Rattle.sg_one_run.proofs.OwedLemmas.{one-most, owed_in}
-use Rattle.sg_one_run.proofs.ActLemmas.{credit_at, acked_at, unstored_at, Goes, goes-still, goes-settle, goes-refill, goes-others, goes-stored, goes-admit, goes-store}
+use Rattle.sg_one_run.proofs.OwedLemmas.{owed_in}
+use Rattle.sg_one_run.proofs.ActLemmas.{credit_at, acked_at, unstored_at, GoesByAct, goes-still, goes-settle, goes-refill, goes-others, goes-stored, goes-admit, goes-store}
 use Rattle.sg_one_run.proofs.CountLemmas.{writes-both}
+use Rattle.sg_turns.proofs.BoundLemmas.{one-most}
 
 -- A call.
 
@@ -48,38 +49,38 @@ abbrev TellsCredit : CoreReply → State → State → ℕ → Type 0
 TellsCredit (CreditReply credit) s t i = (credit ≡ credit_at s i) × (t ≡ s)
 TellsCredit reply s t i = Unit {0}
 
-record Called (i : ℕ) (new : CoreState) (s : State) (call : CoreCall) (reply : CoreReply) (own : Bool) : Type 0 where
+record CalledSo (i : ℕ) (new : CoreState) (s : State) (call : CoreCall) (reply : CoreReply) (own : Bool) : Type 0 where
   after : State
   at : IsAt new after
-  goes : Goes i s after (num own (came_by call reply)) (num own (offered_by call reply)) (num own (written_by reply)) (offered_by call reply)
+  goes : GoesByAct i s after (num own (came_by call reply)) (num own (offered_by call reply)) (num own (written_by reply)) (offered_by call reply)
   tells : own ≡ true → TellsCredit reply s after i
 
 equal-of : (a b : ℕ) → (a == b) ≡ true → a ≡ b
 equal-of a b h = grind arith
 
-goes-zero : (i : ℕ) (s t : State) (all : ℕ) (own : Bool) → Goes i s t 0 0 0 all → Goes i s t (num own 0) (num own 0) (num own 0) all
+goes-zero : (i : ℕ) (s t : State) (all : ℕ) (own : Bool) → GoesByAct i s t 0 0 0 all → GoesByAct i s t (num own 0) (num own 0) (num own 0) all
 goes-zero i s t all true h = h
 goes-zero i s t all false h = h
 
-goes-look : (i : ℕ) (s : State) (failed : List ℕ) (own : Bool) → Goes i s (after_act s Look failed) (num own 0) (num own 0) (num own 0) 0
+goes-look : (i : ℕ) (s : State) (failed : List ℕ) (own : Bool) → GoesByAct i s (after_act s Look failed) (num own 0) (num own 0) (num own 0) 0
 goes-look i s failed own = goes-zero i s (after_act s Look failed) 0 own (goes-still i s (after_act s Look failed) refl refl)
 
 credit-told : (i j credit : ℕ) (s : State) (own : Bool) → (i == j) ≡ own → credit ≡ credit_at s j → own ≡ true → TellsCredit (CreditReply credit) s s i
 credit-told i j credit s own is told mine = (subst (λ k. credit ≡ credit_at s k) (sym (equal-of i j (is ∙ mine))) told, refl)
 
 admit-goes : (i j : ℕ) (records : List Admission) (vs : List Verdict) (s : State) (failed : List ℕ) (own : Bool) → (i == j) ≡ own → is_legal_act s (AdmitAct j records vs) failed ≡ true
-    → Goes i s (after_act s (AdmitAct j records vs) failed) (num own (length records)) (num own (offers_of records)) (num own 0) (offers_of records)
+    → GoesByAct i s (after_act s (AdmitAct j records vs) failed) (num own (length records)) (num own (offers_of records)) (num own 0) (offers_of records)
 admit-goes i j records vs s failed true is legal =
-    subst (λ k. is_legal_act s (AdmitAct k records vs) failed ≡ true → Goes i s (after_act s (AdmitAct k records vs) failed) (length records) (offers_of records) 0 (offers_of records)) (equal-of i j is)
+    subst (λ k. is_legal_act s (AdmitAct k records vs) failed ≡ true → GoesByAct i s (after_act s (AdmitAct k records vs) failed) (length records) (offers_of records) 0 (offers_of records)) (equal-of i j is)
     (λ l. goes-admit i records vs s failed l) legal
 admit-goes i j records vs s failed false is legal = goes-others i j records vs s failed is
 
-store-goes : (i j w : ℕ) (s : State) (failed : List ℕ) (own : Bool) → (i == j) ≡ own → is_legal_act s (StoreAct j w) failed ≡ true → Goes i s (after_act s (StoreAct j w) failed) (num own 0) (num own 0) (num own 1) 0
+store-goes : (i j w : ℕ) (s : State) (failed : List ℕ) (own : Bool) → (i == j) ≡ own → is_legal_act s (StoreAct j w) failed ≡ true → GoesByAct i s (after_act s (StoreAct j w) failed) (num own 0) (num own 0) (num own 1) 0
 store-goes i j w s failed true is legal =
-    subst (λ k. is_legal_act s (StoreAct k w) failed ≡ true → Goes i s (after_act s (StoreAct k w) failed) 0 0 1 0) (equal-of i j is) (λ l. goes-store i w s failed l) legal
+    subst (λ k. is_legal_act s (StoreAct k w) failed ≡ true → GoesByAct i s (after_act s (StoreAct k w) failed) 0 0 1 0) (equal-of i j is) (λ l. goes-store i w s failed l) legal
 store-goes i j w s failed false is legal = goes-stored i j w s failed is
 
-called : (i : ℕ) (old new : CoreState) (call : CoreCall) (reply : CoreReply) (s : State) (own : Bool) → same_caller (OfSource i) (caller_of call) ≡ own → Serves old call reply new → IsAt old s → Called i new s call reply own
+called : (i : ℕ) (old new : CoreState) (call : CoreCall) (reply : CoreReply) (s : State) (own : Bool) → same_caller (OfSource i) (caller_of call) ≡ own → Serves old call reply new → IsAt old s → CalledSo i new s call reply own
 called i old new (Credit j) (CreditReply credit) s own is serves at = record {
   after = s;
   at = subst (λ (c : CoreState). IsAt c s) (sym serves.same) at;
@@ -132,7 +133,7 @@ called i old new call reply s own is serves at = absurd serves
 -- Calls.
 
 -- What all calls change, and those of the inlet among them.
-pub record Total (i : ℕ) (before : Option ℕ) (own : List Exchange) (s t : State) : Type 0 where
+pub record TotalCalls (i : ℕ) (before : Option ℕ) (own : List Exchange) (s t : State) : Type 0 where
   pub changed : changes before own + owed_in i t.dests ≤ one_if (not (is_same_credit before (credit_at s i))) + length (admitted_in own) + offers_of (admitted_in own) + owed_in i s.dests
   pub marks : writes_in own + unstored_at t i + acked_at s i ≤ unstored_at s i + acked_at t i
   pub records : next_of t i ≤ next_of s i + length (admitted_in own)
@@ -147,14 +148,14 @@ lift before now then owes owed' came offered (inl e) few = let same = ap (λ c. 
 lift before now then owes owed' came offered (inr l) few = let one = one-most (not (is_same_credit before then)) in omega (arith, one, l)
 
 -- a call that isn't a question for the credit
-changed-on : (i : ℕ) (before : Option ℕ) (own : List Exchange) (s mid t : State) (came offered written all : ℕ) → Goes i s mid came offered written all → Total i before own mid t
+changed-on : (i : ℕ) (before : Option ℕ) (own : List Exchange) (s mid t : State) (came offered written all : ℕ) → GoesByAct i s mid came offered written all → TotalCalls i before own mid t
     → changes before own + owed_in i t.dests ≤ one_if (not (is_same_credit before (credit_at s i))) + (came + length (admitted_in own)) + (offered + offers_of (admitted_in own)) + owed_in i s.dests
 changed-on i before own s mid t came offered written all goes total =
     let h = lift before (credit_at s i) (credit_at mid i) (owed_in i s.dests) (owed_in i mid.dests) came offered goes.credit goes.owed in
     let k = total.changed in
     omega (arith, h, k)
 
-changed-own : (reply : CoreReply) (i : ℕ) (before : Option ℕ) (own : List Exchange) (s mid t : State) (came offered written all : ℕ) → Goes i s mid came offered written all → TellsCredit reply s mid i → ((b : Option ℕ) → Total i b own mid t)
+changed-own : (reply : CoreReply) (i : ℕ) (before : Option ℕ) (own : List Exchange) (s mid t : State) (came offered written all : ℕ) → GoesByAct i s mid came offered written all → TellsCredit reply s mid i → ((b : Option ℕ) → TotalCalls i b own mid t)
     → changed_by before reply + changes (credit_after before reply) own + owed_in i t.dests ≤ one_if (not (is_same_credit before (credit_at s i))) + (came + length (admitted_in own)) + (offered + offers_of (admitted_in own)) + owed_in i s.dests
 changed-own (CreditReply credit) i before own s mid t came offered written all goes tells next =
     let k = (next (Some credit)).changed in
@@ -179,8 +180,8 @@ kept-own i e rest h = rw h refl
 left-out : (i : ℕ) (e : Exchange) (rest : List Exchange) → same_caller (OfSource i) (caller_of e.call) ≡ false → calls_by (OfSource i) (e ∷ rest) ≡ calls_by (OfSource i) rest
 left-out i e rest h = rw h refl
 
-total-step : (i : ℕ) (before : Option ℕ) (new : CoreState) (e : Exchange) (rest : List Exchange) (s t : State) (own : Bool) → same_caller (OfSource i) (caller_of e.call) ≡ own → (h : Called i new s e.call e.reply own)
-    → ((b : Option ℕ) → Total i b (calls_by (OfSource i) rest) h.after t) → Total i before (calls_by (OfSource i) (e ∷ rest)) s t
+total-step : (i : ℕ) (before : Option ℕ) (new : CoreState) (e : Exchange) (rest : List Exchange) (s t : State) (own : Bool) → same_caller (OfSource i) (caller_of e.call) ≡ own → (h : CalledSo i new s e.call e.reply own)
+    → ((b : Option ℕ) → TotalCalls i b (calls_by (OfSource i) rest) h.after t) → TotalCalls i before (calls_by (OfSource i) (e ∷ rest)) s t
 total-step i before new e rest s t true is h next =
     let own = calls_by (OfSource i) rest in
     let came = came_by e.call e.reply in
@@ -196,7 +197,7 @@ total-step i before new e rest s t true is h next =
     let later = k.marks in
     let more = goes.records in
     let then = k.records in
-    subst (λ es. Total i before es s t) (sym (kept-own i e rest is)) (record {
+    subst (λ es. TotalCalls i before es s t) (sym (kept-own i e rest is)) (record {
       changed = omega (arith, changed, records, offers);
       marks = omega (arith, marks, later, writes-are);
       records = omega (arith, more, then, records);
@@ -210,7 +211,7 @@ total-step i before new e rest s t false is h next =
     let later = k.marks in
     let more = goes.records in
     let then = k.records in
-    subst (λ es. Total i before es s t) (sym (left-out i e rest is)) (record {
+    subst (λ es. TotalCalls i before es s t) (sym (left-out i e rest is)) (record {
       changed = omega (arith, changed);
       marks = omega (arith, marks, later);
       records = omega (arith, more, then);
@@ -219,7 +220,7 @@ total-step i before new e rest s t false is h next =
 pub record Ends (i : ℕ) (new : CoreState) (s : State) (made : List Exchange) : Type 0 where
   pub after : State
   pub at : IsAt new after
-  pub total : (before : Option ℕ) → Total i before (calls_by (OfSource i) made) s after
+  pub total : (before : Option ℕ) → TotalCalls i before (calls_by (OfSource i) made) s after
 
 pub calls-end : (i : ℕ) (old new : CoreState) (made : List Exchange) (s : State) → Makes Serves old made new → IsAt old s → Ends i new s made
 calls-end i old new [] s makes at = record {

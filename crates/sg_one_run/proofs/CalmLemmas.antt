@@ -18,7 +18,7 @@ use Rattle.sg_counter.specs.declared.calls.CoreCall.TheVariants.{Credit, Admit, 
 use Rattle.sg_counter.specs.declared.calls.CoreReply.{CoreReply}
 use Rattle.sg_counter.specs.declared.calls.CoreReply.TheVariants.{Credit as CreditReply, Admitted, Front as FrontReply, Stored}
 use Rattle.sg_standing.specs.States.{CoreState}
-use Rattle.sg_standing.specs.Standing.{IsAt, Does}
+use Rattle.sg_standing.specs.Standing.{IsAt, DoesAct}
 use Rattle.sg_standing.proofs.Frozen.{listed-front}
 use Rattle.sg_core.specs.Calls.{Serves}
 use Rattle.sg_actor.specs.Bringing.{admitted_by, stored_by}
@@ -47,7 +47,7 @@ pub record Stayed (new : CoreState) (s : State) : Type 0 where
   pub at : IsAt new (with_failed s failed)
   pub kept : (u : ℕ) → is_listed u s.failed ≡ true → is_listed u failed ≡ true
 
-stayed-look : (old new : CoreState) (s : State) → Does old new Look → IsAt old s → Stayed new s
+stayed-look : (old new : CoreState) (s : State) → DoesAct old new Look → IsAt old s → Stayed new s
 stayed-look old new s does at = record {
   failed = s.failed ++ does.failed;
   at = (does.step s at).1;
@@ -66,7 +66,7 @@ no-empty-admit s i records vs failed none legal =
 calm-call : (old new : CoreState) (call : CoreCall) (reply : CoreReply) (s : State) → Serves old call reply new → IsCalm call reply → IsAt old s → Stayed new s
 calm-call old new (Credit i) (CreditReply n) s h calm at = record { failed = s.failed; at = subst (λ (c : CoreState). IsAt c s) (sym h.same) at; kept = λ u l. l }
 calm-call old new (Admit i records) (Admitted (Ok vs)) s h calm at =
-    let does : Does old new (AdmitAct i records vs) = h.does in
+    let does : DoesAct old new (AdmitAct i records vs) = h.does in
     absurd (no-empty-admit s i records vs does.failed calm (does.step s at).0)
 calm-call old new (Admit i records) (Admitted (Err refused)) s h calm at = stayed-look old new s h.does at
 calm-call old new (Front d most) (FrontReply result) s h calm at = stayed-look old new s h.does at

@@ -13,10 +13,10 @@ use Rattle.sg_actor.specs.Bringing.{admitted_by, admitted_in, stored_by, stores_
 use Rattle.sg_actor.specs.Positions.{is_same_credit, is_failure, has_news, after_stores}
 use Rattle.sg_actor.specs.Reading.{one_if}
 use Rattle.sg_actor.specs.SourceTurns.{AsksCredit}
-use Rattle.sg_actor.specs.Steps.{Fails}
+use Rattle.sg_actor.specs.Steps.{PullFails}
 use Rattle.sg_actor.specs.declared.position.Position.{Position}
 use Rattle.sg_one_run.specs.Counts.{credit_after, changed_by, changes, writes, writes_in}
-use Rattle.sg_one_run.proofs.OwedLemmas.{one-most}
+use Rattle.sg_turns.proofs.BoundLemmas.{one-most}
 
 -- What is true.
 
@@ -64,7 +64,7 @@ rises-by false x y is le = omega (arith, le)
 pub rises : (x y : ℕ) → x ≤ y → one_if (nat_lt x y) + x ≤ y
 rises x y le = rises-by (nat_lt x y) x y refl le
 
-pub fails-paid : (f f' : Bool) (x y : ℕ) → Fails f f' x y → x ≤ y → y < 2 ^ 64 - 1 → one_if (nat_lt (one_if f) (one_if f')) + x ≤ y
+pub fails-paid : (f f' : Bool) (x y : ℕ) → PullFails f f' x y → x ≤ y → y < 2 ^ 64 - 1 → one_if (nat_lt (one_if f) (one_if f')) + x ≤ y
 fails-paid true true x y h le below = let none : one_if (nat_lt (one_if true) (one_if true)) ≡ 0 = refl in omega (arith, le, none)
 fails-paid true false x y h le below = let none : one_if (nat_lt (one_if true) (one_if false)) ≡ 0 = refl in omega (arith, le, none)
 fails-paid false true x y h le below =

@@ -6,7 +6,7 @@ use Rattle.sg_list.proofs.ListLemmas.{get-change-other}
 use Rattle.sg_machine.specs.declared.event.Act.{Act}
 use Rattle.sg_machine.specs.declared.event.Act.TheVariants.{Admit as AdmitAct, Settle as SettleAct, Refill as RefillAct, Store as StoreAct, Look}
 use Rattle.sg_machine.specs.declared.state.Dest.{Dest}
-use Rattle.sg_machine.specs.declared.state.Inlet.{Inlet}
+use Rattle.sg_machine.specs.declared.state.InletRecords.{InletRecords}
 use Rattle.sg_machine.specs.declared.state.State.{State}
 use Rattle.sg_machine.specs.Effects.{next_of, admitted, stored_at, act_done, after_act}
 use Rattle.sg_machine.specs.Marks.{is_acked, outstanding_of}
@@ -21,7 +21,7 @@ use Rattle.sg_counter.specs.declared.calls.CoreCall.TheVariants.{Credit, Admit, 
 use Rattle.sg_counter.specs.declared.calls.CoreReply.{CoreReply}
 use Rattle.sg_counter.specs.declared.calls.CoreReply.TheVariants.{Credit as CreditReply, Admitted, Front as FrontReply, Settled as SettledReply, Refilled, Stored as StoredReply}
 use Rattle.sg_standing.specs.States.{CoreState}
-use Rattle.sg_standing.specs.Standing.{IsAt, Does}
+use Rattle.sg_standing.specs.Standing.{IsAt, DoesAct}
 use Rattle.sg_core.specs.Answers.{credit_left}
 use Rattle.sg_core.specs.Calls.{Serves}
 use Rattle.sg_actor.specs.Bringing.{carried_by, IsSentBack}
@@ -35,12 +35,12 @@ use Rattle.sg_one_run.proofs.AnswerLemmas.{equal-of, sent-as, less-credit}
 pub record HasAtLeast (core : CoreState) (i least : ℕ) : Type 0 where
   pub state : State
   pub at : IsAt core state
-  pub inlet : Inlet
+  pub inlet : InletRecords
   pub there : slice_get state.inlets i ≡ Some inlet
   pub credit : least ≤ credit_left state i
 
-credit-by : (o : Option Inlet) (ds fs : List Dest) (i : ℕ) → ((n : ℕ) → is_acked ds i n ≡ true → is_acked fs i n ≡ true)
-    → option_map_or (λ (x : Inlet). x.setup.window - outstanding_of ds i x) o 0 ≤ option_map_or (λ (x : Inlet). x.setup.window - outstanding_of fs i x) o 0
+credit-by : (o : Option InletRecords) (ds fs : List Dest) (i : ℕ) → ((n : ℕ) → is_acked ds i n ≡ true → is_acked fs i n ≡ true)
+    → option_map_or (λ (x : InletRecords). x.setup.window - outstanding_of ds i x) o 0 ≤ option_map_or (λ (x : InletRecords). x.setup.window - outstanding_of fs i x) o 0
 credit-by None ds fs i h = omega arith
 credit-by (Some x) ds fs i h = let fewer = outstanding-fewer ds fs i 0 x.ends h in omega (arith, fewer)
 
@@ -48,7 +48,7 @@ credit-stays : (s t : State) (i : ℕ) → slice_get t.inlets i ≡ slice_get s.
 credit-stays s t i same acked = rw same (credit-by (slice_get s.inlets i) s.dests t.dests i acked)
 
 -- an act that leaves the inlet as it is, and takes no acknowledgement back
-act-keeps : (old new : CoreState) (act : Act) (i least : ℕ) (h : HasAtLeast old i least) → Does old new act → slice_get (act_done h.state act).inlets i ≡ slice_get (h.state).inlets i
+act-keeps : (old new : CoreState) (act : Act) (i least : ℕ) (h : HasAtLeast old i least) → DoesAct old new act → slice_get (act_done h.state act).inlets i ≡ slice_get (h.state).inlets i
     → ((n : ℕ) → is_acked (h.state).dests i n ≡ true → is_acked (act_done h.state act).dests i n ≡ true) → HasAtLeast new i least
 act-keeps old new act i least h does same acked =
     let t = after_act h.state act does.failed in
@@ -62,10 +62,10 @@ act-keeps old new act i least h does same acked =
       credit = omega (arith, more, was);
     }
 
-look-keeps : (old new : CoreState) (i least : ℕ) → HasAtLeast old i least → Does old new Look → HasAtLeast new i least
+look-keeps : (old new : CoreState) (i least : ℕ) → HasAtLeast old i least → DoesAct old new Look → HasAtLeast new i least
 look-keeps old new i least h does = act-keeps old new Look i least h does refl (λ n a. a)
 
-settle-keeps : (old new : CoreState) (d k i least : ℕ) → HasAtLeast old i least → Does old new (SettleAct d k) → HasAtLeast new i least
+settle-keeps : (old new : CoreState) (d k i least : ℕ) → HasAtLeast old i least → DoesAct old new (SettleAct d k) → HasAtLeast new i least
 settle-keeps old new d k i least h does = act-keeps old new (SettleAct d k) i least h does refl (λ n a. acked-settle (h.state).dests d k i n a)
 
 unequal : (i j : ℕ) → (i == j) ≡ false → i ≢ j

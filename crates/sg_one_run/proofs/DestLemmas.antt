@@ -26,12 +26,12 @@ one-sending spec old new turn (Some cause) h = record {
 }
 
 -- what these turns sent
-pub record Sent (spec : DestSpec) (old new : DestState) (turns : List Turn) : Type 0 where
+pub record SentByDest (spec : DestSpec) (old new : DestState) (turns : List Turn) : Type 0 where
   pub sendings : List Sending
   pub calls : calls_in sendings ≡ calls_of turns
   pub are : AreSendings (frame_by spec) spec.dest sendings old.drain new.drain
 
-pub sendings-of : (spec : DestSpec) (old new : DestState) (turns : List Turn) → SentTurns spec old new turns → Sent spec old new turns
+pub sendings-of : (spec : DestSpec) (old new : DestState) (turns : List Turn) → SentTurns spec old new turns → SentByDest spec old new turns
 sendings-of spec old new [] is = record { sendings = []; calls = refl; are = ap (λ (s : DestState). s.drain) is }
 sendings-of spec old new (turn ∷ turns) (mid, (h, more)) =
     let one = one-sending spec old mid turn old.outage.given_up h in

@@ -3,7 +3,7 @@ use Rattle.std.proofs.Common.{◌≡◌, ◌≤◌, ℕ, zero, suc, List, [], �
 use Rattle.std.specs.Prelude.{◌==◌, nat_lt, slice_get}
 use Rattle.std.specs.Option.{option_map_or}
 use Rattle.sg_list.specs.Lists.{passes_at}
-use Rattle.sg_list.proofs.ListLemmas.{some-same}
+use Rattle.sg_list.proofs.ListLemmas.{some-same, get-change}
 use Rattle.sg_msg.specs.declared.offer.Offer.{Offer}
 use Rattle.sg_machine.specs.declared.event.Act.TheVariants.{Admit}
 use Rattle.sg_machine.specs.declared.event.Admission.{Admission}
@@ -13,7 +13,7 @@ use Rattle.sg_machine.specs.declared.event.Verdict.TheVariants.{Queued, Spooled,
 use Rattle.sg_machine.specs.declared.setup.BufferSetup.{BufferSetup}
 use Rattle.sg_machine.specs.declared.setup.DestSetup.{DestSetup}
 use Rattle.sg_machine.specs.declared.state.Dest.{Dest}
-use Rattle.sg_machine.specs.declared.state.Entry.{Entry}
+use Rattle.sg_machine.specs.declared.state.DestEntry.{DestEntry}
 use Rattle.sg_machine.specs.declared.state.Origin.{Origin}
 use Rattle.sg_machine.specs.declared.state.State.{State}
 use Rattle.sg_machine.specs.Effects.{next_of, after}
@@ -21,12 +21,11 @@ use Rattle.sg_machine.specs.Entries.{fits, any_waits, unflowed}
 use Rattle.sg_machine.specs.Legal.{is_same_list, may_admit, is_legal, is_legal_act}
 use Rattle.sg_machine.specs.Runs.{after_all, are_legal}
 use Rattle.sg_machine.specs.Verdicts.{Claim, claims_of, is_listed, same_verdict, queue_verdict, disk_verdict, fails_at, judged_by, judged_at, judged, origin_of, take_offer, take_claim}
-use Rattle.sg_standing.proofs.ListSteps.{get-change}
 use Rattle.sg_machine.proofs.FlowLemmas.{mapped-some, then-some}
 use Rattle.sg_machine.proofs.OfferLemmas.{is_same_list-true}
 use Rattle.sg_machine.proofs.RunLemmas.{both-true, are_legal-parts}
 use Rattle.sg_one_run.proofs.TurnLemmas.{either-false}
-use Rattle.sg_one_run.specs.Drops.{HasFailed, IsDue, IsDueAt, AreDue, DropsAreDue}
+use Rattle.sg_one_run.specs.Drops.{HasBufferFailed, IsDue, IsDueAt, AreOffersDue, DropsAreDue}
 
 -- Stores that have failed.
 
@@ -55,8 +54,8 @@ listed-last n [] = or-left (n == n) false (grind arith)
 listed-last n (x ∷ ns) = or-right (x == n) (is_listed n (ns ++ n ∷ [])) (listed-last n ns)
 
 -- the stores listed in the first are listed in the second
-abbrev Within : List ℕ → List ℕ → Type 0
-Within ns ms = (b : ℕ) → is_listed b ns ≡ true → is_listed b ms ≡ true
+abbrev WithinDue : List ℕ → List ℕ → Type 0
+WithinDue ns ms = (b : ℕ) → is_listed b ns ≡ true → is_listed b ms ≡ true
 
 none-some : {A : Type 0} (x : A) → None ≡ Some x → ⊥
 none-some x h = cc
@@ -72,7 +71,7 @@ queue-gives : (p : Bool) (a y : List ℕ) → (if p then Some a else None) ≡ S
 queue-gives true a y h = some-same a y h
 queue-gives false a y h = absurd (none-some y h)
 
-by-more : (buffer : Option BufferSetup) (fifo : ℕ) (left : List Entry) (failing failed : List ℕ) (o : Offer) (v : Verdict) (y : List ℕ) → judged_by buffer fifo left failing failed o v ≡ Some y → Within failed y
+by-more : (buffer : Option BufferSetup) (fifo : ℕ) (left : List DestEntry) (failing failed : List ℕ) (o : Offer) (v : Verdict) (y : List ℕ) → judged_by buffer fifo left failing failed o v ≡ Some y → WithinDue failed y
 by-more None fifo left failing failed o v y h = λ b l. subst (λ ns. is_listed b ns ≡ true) (queue-gives (same_verdict v (queue_verdict fifo left o)) failed y h) l
 by-more (Some buffer) fifo left failing failed o v y h = λ b l.
     elim (gives-one (fails_at buffer left failing failed o) (same_verdict v (disk_verdict buffer left true o)) (same_verdict v (disk_verdict buffer left (is_listed buffer.store failed) o)) (failed ++ buffer.store ∷ []) failed y h) [
@@ -80,11 +79,11 @@ by-more (Some buffer) fifo left failing failed o v y h = λ b l.
       | inr e ↦ subst (λ ns. is_listed b ns ≡ true) e l
     ]
 
-at-more : (dest : Option Dest) (failing failed : List ℕ) (o : Offer) (v : Verdict) (y : List ℕ) → judged_at dest failing failed o v ≡ Some y → Within failed y
+at-more : (dest : Option Dest) (failing failed : List ℕ) (o : Offer) (v : Verdict) (y : List ℕ) → judged_at dest failing failed o v ≡ Some y → WithinDue failed y
 at-more None failing failed o v y h = absurd (none-some y h)
 at-more (Some dest) failing failed o v y h = by-more dest.setup.buffer dest.setup.fifo dest.left failing failed o v y h
 
-judged-more : (i next : ℕ) (failing : List ℕ) (ds : List Dest) (failed : List ℕ) (cs : List Claim) (vs : List Verdict) (x : List ℕ) → judged i next failing ds failed cs vs ≡ Some x → Within failed x
+judged-more : (i next : ℕ) (failing : List ℕ) (ds : List Dest) (failed : List ℕ) (cs : List Claim) (vs : List Verdict) (x : List ℕ) → judged i next failing ds failed cs vs ≡ Some x → WithinDue failed x
 judged-more i next failing ds failed [] [] x h = λ b l. subst (λ ns. is_listed b ns ≡ true) (some-same failed x h) l
 judged-more i next failing ds failed [] (v ∷ vs) x h = absurd (none-some x h)
 judged-more i next failing ds failed (c ∷ cs) [] x h = absurd (none-some x h)
@@ -135,7 +134,7 @@ full-of false false h = inr refl
 no-room : (n fifo : ℕ) → nat_lt n fifo ≡ false → fifo ≤ n
 no-room n fifo h = grind arith
 
-due-by : (buffer : Option BufferSetup) (fifo : ℕ) (left : List Entry) (failing failed : List ℕ) (o : Offer) (v : Verdict) (y finals : List ℕ) → judged_by buffer fifo left failing failed o v ≡ Some y → Within y finals
+due-by : (buffer : Option BufferSetup) (fifo : ℕ) (left : List DestEntry) (failing failed : List ℕ) (o : Offer) (v : Verdict) (y finals : List ℕ) → judged_by buffer fifo left failing failed o v ≡ Some y → WithinDue y finals
     → IsDue buffer fifo left finals o v
 due-by None fifo left failing failed o DroppedFull y finals h w =
     let both = either-false o.flow (nat_lt (unflowed left) fifo) (full-queue (o.flow || nat_lt (unflowed left) fifo) failed y h) in
@@ -158,13 +157,13 @@ due-by buffer fifo left failing failed o Queued y finals h w = tt
 due-by buffer fifo left failing failed o Spooled y finals h w = tt
 due-by buffer fifo left failing failed o Waits y finals h w = tt
 
-due-at : (dest : Option Dest) (failing failed : List ℕ) (o : Offer) (v : Verdict) (y finals : List ℕ) → judged_at dest failing failed o v ≡ Some y → Within y finals → IsDueAt dest finals o v
+due-at : (dest : Option Dest) (failing failed : List ℕ) (o : Offer) (v : Verdict) (y finals : List ℕ) → judged_at dest failing failed o v ≡ Some y → WithinDue y finals → IsDueAt dest finals o v
 due-at None failing failed o v y finals h w = absurd (none-some y h)
 due-at (Some dest) failing failed o v y finals h w = due-by dest.setup.buffer dest.setup.fifo dest.left failing failed o v y finals h w
 
 -- All verdicts.
 
-are-due : (i next : ℕ) (failing : List ℕ) (ds : List Dest) (failed : List ℕ) (cs : List Claim) (vs : List Verdict) (x finals : List ℕ) → judged i next failing ds failed cs vs ≡ Some x → Within x finals → AreDue i next ds finals cs vs
+are-due : (i next : ℕ) (failing : List ℕ) (ds : List Dest) (failed : List ℕ) (cs : List Claim) (vs : List Verdict) (x finals : List ℕ) → judged i next failing ds failed cs vs ≡ Some x → WithinDue x finals → AreOffersDue i next ds finals cs vs
 are-due i next failing ds failed [] vs x finals h w = tt
 are-due i next failing ds failed (c ∷ cs) [] x finals h w = tt
 are-due i next failing ds failed (c ∷ cs) (v ∷ vs) x finals h w =
@@ -174,7 +173,7 @@ are-due i next failing ds failed (c ∷ cs) (v ∷ vs) x finals h w =
       are-due i next failing (take_claim i next ds c v) parts.0 cs vs x finals parts.2 w,
     )
 
-pub act-due : (s : State) (i : ℕ) (records : List Admission) (vs : List Verdict) (failed : List ℕ) → is_legal_act s (Admit i records vs) failed ≡ true → AreDue i (next_of s i) s.dests (s.failed ++ failed) (claims_of records) vs
+pub act-due : (s : State) (i : ℕ) (records : List Admission) (vs : List Verdict) (failed : List ℕ) → is_legal_act s (Admit i records vs) failed ≡ true → AreOffersDue i (next_of s i) s.dests (s.failed ++ failed) (claims_of records) vs
 act-due s i records vs failed legal =
     let cs = claims_of records in
     let answer = judged i (next_of s i) failed s.dests s.failed cs vs in
@@ -191,7 +190,7 @@ drops-due start before later i records vs failed l =
 
 -- One drop.
 
-some-due : (o : Option Dest) (failed : List ℕ) (offer : Offer) → IsDueAt o failed offer DroppedDisk → (x : Dest) × ((o ≡ Some x) × HasFailed x.setup.buffer failed)
+some-due : (o : Option Dest) (failed : List ℕ) (offer : Offer) → IsDueAt o failed offer DroppedDisk → (x : Dest) × ((o ≡ Some x) × HasBufferFailed x.setup.buffer failed)
 some-due None failed offer h = absurd h
 some-due (Some x) failed offer h = (x, (refl, h.1))
 
@@ -203,8 +202,8 @@ taken-setup origin offer DroppedFull x = refl
 taken-setup origin offer DroppedDisk x = refl
 
 -- the store of the destination has failed where an offer is dropped for that
-pub drop-due : (i next : ℕ) (ds : List Dest) (failed : List ℕ) (cs : List Claim) (vs : List Verdict) (k : ℕ) (c : Claim) → AreDue i next ds failed cs vs → slice_get cs k ≡ Some c → slice_get vs k ≡ Some DroppedDisk
-    → (x : Dest) × ((slice_get ds c.offer.dest ≡ Some x) × HasFailed x.setup.buffer failed)
+pub drop-due : (i next : ℕ) (ds : List Dest) (failed : List ℕ) (cs : List Claim) (vs : List Verdict) (k : ℕ) (c : Claim) → AreOffersDue i next ds failed cs vs → slice_get cs k ≡ Some c → slice_get vs k ≡ Some DroppedDisk
+    → (x : Dest) × ((slice_get ds c.offer.dest ≡ Some x) × HasBufferFailed x.setup.buffer failed)
 drop-due i next ds failed [] vs k c due at_claim at_verdict = absurd (none-some c at_claim)
 drop-due i next ds failed (d ∷ cs) [] k c due at_claim at_verdict = absurd (none-some DroppedDisk at_verdict)
 drop-due i next ds failed (d ∷ cs) (v ∷ vs) zero c due at_claim at_verdict =
@@ -217,4 +216,4 @@ drop-due i next ds failed (d ∷ cs) (v ∷ vs) (suc k) c due at_claim at_verdic
       | inl p ↦ ap (λ (x : Dest). x.setup) p.1 ∙ taken-setup (origin_of i next d) d.offer v was.0
       | inr p ↦ ap (λ (x : Dest). x.setup) p.1
     ] in
-    (was.0, (was.1, subst (λ (x : DestSetup). HasFailed x.buffer failed) same r.1.1))
+    (was.0, (was.1, subst (λ (x : DestSetup). HasBufferFailed x.buffer failed) same r.1.1))

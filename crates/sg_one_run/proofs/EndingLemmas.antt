@@ -16,8 +16,8 @@ use Rattle.sg_machine.specs.declared.setup.DestSetup.{DestSetup}
 use Rattle.sg_machine.specs.declared.setup.Setup.{Setup}
 use Rattle.sg_machine.specs.declared.setup.SourceSetup.{SourceSetup}
 use Rattle.sg_machine.specs.declared.state.Dest.{Dest}
-use Rattle.sg_machine.specs.declared.state.Entry.{Entry}
-use Rattle.sg_machine.specs.declared.state.Inlet.{Inlet}
+use Rattle.sg_machine.specs.declared.state.DestEntry.{DestEntry}
+use Rattle.sg_machine.specs.declared.state.InletRecords.{InletRecords}
 use Rattle.sg_machine.specs.declared.state.State.{State}
 use Rattle.sg_machine.specs.Effects.{ends_of}
 use Rattle.sg_machine.specs.Marks.{outstanding_of, mark_of}
@@ -45,13 +45,13 @@ use Rattle.sg_turns.specs.declared.ended.Ended.TheVariants.{Quiet}
 use Rattle.sg_serve.specs.Counts.{gave_up_outlet, numbers_from, first_fault}
 use Rattle.sg_serve.specs.Plan.{IsRunnable}
 use Rattle.sg_serve.specs.Rewinds.{position_at}
-use Rattle.sg_serve.specs.Run.{CoreRun, Reached, HoldsRun, IsServed, Holds}
+use Rattle.sg_serve.specs.Run.{CoreRun, Reached, HoldsRun, IsServed, PlanRunHolds}
 use Rattle.sg_serve.specs.declared.counts.Counts.{Counts}
 use Rattle.sg_serve.specs.declared.counts.Fault.TheVariants.{Sink, Disk, Inlet as InletFault}
 use Rattle.sg_serve.specs.declared.ending.PlanEnded.TheVariants.{Ran}
 use Rattle.sg_run_plan.specs.declared.plan.RunPlan.{RunPlan}
 use Rattle.sg_one_run.specs.Resting.{brought_by}
-use Rattle.sg_one_run.specs.Ending.{IsEnded, Ends, CleanRunsEnd}
+use Rattle.sg_one_run.specs.Ending.{IsEnded, EndsRounds, CleanRunsEnd}
 use Rattle.sg_one_run.proofs.AgreeLemmas.{seen}
 use Rattle.sg_one_run.proofs.FailingLemmas.{begun}
 use Rattle.sg_one_run.proofs.RoundLemmas.{Rounds, inlet-of-setup, source-credit}
@@ -102,21 +102,21 @@ window-of (x ∷ xs) zero s h there = subst (λ (y : SourceSetup). 0 < y.window)
 window-of (x ∷ xs) (suc i) s h there = window-of xs i s h.1 there
 
 -- where nothing is left the credit is the whole window
-whole-credit : (t : State) (i : ℕ) (x : Inlet) → NoneLeft t.dests → slice_get t.inlets i ≡ Some x → credit_left t i ≡ x.setup.window
+whole-credit : (t : State) (i : ℕ) (x : InletRecords) → NoneLeft t.dests → slice_get t.inlets i ≡ Some x → credit_left t i ≡ x.setup.window
 whole-credit t i x none there =
     let zero' : outstanding_of t.dests i x ≡ 0 = none-outstanding t.dests i 0 x.ends none in
     let all : x.setup.window - outstanding_of t.dests i x ≡ x.setup.window = omega (arith, zero') in
-    ap (λ (o : Option Inlet). option_map_or (λ (y : Inlet). y.setup.window - outstanding_of t.dests i y) o 0) there ∙ all
+    ap (λ (o : Option InletRecords). option_map_or (λ (y : InletRecords). y.setup.window - outstanding_of t.dests i y) o 0) there ∙ all
 
 -- The beginning.
 
 -- the place at which reading began
-opening-of : (core : CoreState) (t : State) (i : ℕ) (x : Inlet) → IsAt core t → slice_get t.inlets i ≡ Some x → x.ends ≡ [] → x.opening ≡ position_at core i
+opening-of : (core : CoreState) (t : State) (i : ℕ) (x : InletRecords) → IsAt core t → slice_get t.inlets i ≡ Some x → x.ends ≡ [] → x.opening ≡ position_at core i
 opening-of core t i x at there none =
     let a = seen core t i x at there in
     let moved = (at.sound).unmoved i x there none in
     let here : position_at core i ≡ x.stored =
-    ap (λ (o : Option ℕ). stored_in core.stores o) (store-at-of core.sources i a.source a.there) ∙ stored-of core t i a.source at a.there ∙ ap (λ (o : Option Inlet). option_map_or (λ (y : Inlet). y.stored) o 0) there in
+    ap (λ (o : Option ℕ). stored_in core.stores o) (store-at-of core.sources i a.source a.there) ∙ stored-of core t i a.source at a.there ∙ ap (λ (o : Option InletRecords). option_map_or (λ (y : InletRecords). y.stored) o 0) there in
     sym (here ∙ moved)
 
 module _ {R I O : Type 0} (feed : I → InletState) (drain : O → OutletState) (offers : R → ℕ → Record → List Offer → Type 0) (inlets dests : R → ℕ) (files : Option Files) (plan : RunPlan) (routers : List R) (rounds : ℕ) (reached : Reached) (run : CoreRun)
@@ -209,7 +209,7 @@ module _ {R I O : Type 0} (feed : I → InletState) (drain : O → OutletState) 
       let is : back.store ≡ store.0 = backed run.last t d shown.dest buffer store.0 at shown.there has' store.1 in
       let none = none-left t at d shown.dest shown.there in
       let entries = (back.is).works (all-work buffer.store back.store back.there) in
-      let empty : HoldsEntries back.store [] [] = subst (λ (es : List Entry). HoldsEntries back.store (spooled_of es) []) none entries in
+      let empty : HoldsEntries back.store [] [] = subst (λ (es : List DestEntry). HoldsEntries back.store (spooled_of es) []) none entries in
       subst (λ (y : DiskState). EachNow y (IsListOf [])) (ap (λ (s : StoreState). s.disk) is ∙ sym store.2) (each-held back.store [] [] empty)
 
   position-of : (i : ℕ) (setup : SourceSetup) (s : ℕ) (disk : DiskState) → slice_get plan.setup.sources i ≡ Some setup → setup.store ≡ Some s → slice_get reached.stores_closed s ≡ Some disk
@@ -248,7 +248,7 @@ module _ {R I O : Type 0} (feed : I → InletState) (drain : O → OutletState) 
       subst (λ p. EachNow disk (IsPosition p)) (stored ∙ last)
       (subst (λ (z : DiskState). EachNow z (IsPosition y.0.stored)) (sym store.2) (place.works works))
 
-  ends-served : Ends offers plan routers reached run run.made
+  ends-served : EndsRounds offers plan routers reached run run.made
   ends-served = record {
     makes = (((served.runs).serves).took).makes;
     inlets = ended-of;
@@ -259,9 +259,9 @@ module _ {R I O : Type 0} (feed : I → InletState) (drain : O → OutletState) 
 
 ends-held : {R I O : Type 0} (feed : I → InletState) (drain : O → OutletState) (offers : R → ℕ → Record → List Offer → Type 0) (inlets dests : R → ℕ) (files : Option Files) (plan : RunPlan) (routers : List R) (rounds : ℕ) (reached : Reached)
     (core : Option CoreRun) (run : CoreRun) (counts : Counts) → IsRunnable plan → core ≡ Some run → first_fault counts.sinks counts.stores counts.inlets ≡ None
-    → Holds feed drain offers inlets dests files plan routers rounds reached core (Ran Quiet (Some counts)) → Ends offers plan routers reached run run.made
+    → PlanRunHolds feed drain offers inlets dests files plan routers rounds reached core (Ran Quiet (Some counts)) → EndsRounds offers plan routers reached run run.made
 ends-held feed drain offers inlets dests files plan routers rounds reached core run counts runnable is clean held =
-    let both = subst (λ (c : Option CoreRun). Holds feed drain offers inlets dests files plan routers rounds reached c (Ran Quiet (Some counts))) is held in
+    let both = subst (λ (c : Option CoreRun). PlanRunHolds feed drain offers inlets dests files plan routers rounds reached c (Ran Quiet (Some counts))) is held in
     ends-served feed drain offers inlets dests files plan routers rounds reached run counts runnable both.0 both.1 clean
 
 pub clean-end : {R I O : Type 0} (feed : I → InletState) (drain : O → OutletState) (offers : R → ℕ → Record → List Offer → Type 0) (inlets dests : R → ℕ) → CleanRunsEnd feed drain offers inlets dests

@@ -21,7 +21,7 @@ use Rattle.sg_standing.specs.States.{setup_of}
 use Rattle.sg_core.specs.Calls.{Serves}
 use Rattle.sg_actor.specs.Bringing.{admitted_in, stores_in, HasRefusal}
 use Rattle.sg_actor.specs.Sources.{AreOf, HasRead, HasNothingLeft}
-use Rattle.sg_actor.specs.Steps.{IsOver}
+use Rattle.sg_actor.specs.Steps.{IsInletOver}
 use Rattle.sg_actor.specs.SourceTurns.{ActorState, actor, IsNewSource}
 use Rattle.sg_actor.specs.DestTurns.{IsShownEmpty}
 use Rattle.sg_actor.specs.declared.dest.DestActor.{DestActor}
@@ -48,7 +48,7 @@ use Rattle.sg_serve.specs.Plan.{IsRunnable}
 use Rattle.sg_serve.specs.Run.{CoreRun, Reached, HoldsRun, IsServed}
 use Rattle.sg_serve.specs.declared.counts.Counts.{Counts}
 use Rattle.sg_run_plan.specs.declared.plan.RunPlan.{RunPlan}
-use Rattle.sg_one_run.specs.Resting.{brought_by, spec_for, IsWhole}
+use Rattle.sg_one_run.specs.Resting.{brought_by, spec_for, AreRecordsWhole}
 use Rattle.sg_one_run.proofs.StepLemmas.{Has, has-behind, own-has, either-true, went-all}
 use Rattle.sg_one_run.proofs.CalmLemmas.{AllCalm, calm-all, makes-split}
 use Rattle.sg_one_run.proofs.TurnLemmas.{last-source, last-dest, HasFailure, took-broke, HasBreakage, sent-broke}
@@ -63,7 +63,7 @@ pub record SourceFacts (offers : ℕ → Record → List Offer → Type 0) (inle
   pub is : slice_get marks i ≡ Some failed
   pub rose : failed ≡ true → Rose opened.faults closed.faults
   pub unsent : NoneSentBack i made
-  pub over : HasRefusal (calls_by (OfSource i) last) ⊎ ((((closed.ended ≡ true) × (inlet.kind ≡ Lines → HasNothingLeft closed)) ⊎ (failed ≡ true)) × IsWhole offers inlet setup.store i closed (brought_by i made))
+  pub over : HasRefusal (calls_by (OfSource i) last) ⊎ ((((closed.ended ≡ true) × (inlet.kind ≡ Lines → HasNothingLeft closed)) ⊎ (failed ≡ true)) × AreRecordsWhole offers inlet setup.store i closed (brought_by i made))
   pub stored : (u : ℕ) → setup.store ≡ Some u → HasFailure (calls_by (OfSource i) made) ⊎ (stores_in (calls_by (OfSource i) last) ≡ Unchanged ∷ [])
 
 -- Of a destination: whether it is given up for its outlet, as these marks tell; and what it was told of its store and its entries.
@@ -94,7 +94,7 @@ whole-by offers plan store i from (Some parts) brought h = h parts refl
 
 -- where the inlet is over, all that it gave came in
 whole-read : (offers : ℕ → Record → List Offer → Type 0) (dests : ℕ) (spec : SourceSpec) (old new : ActorState) (turns : List Turn) (plan : InletPlan) (store : Option ℕ) (i : ℕ) (brought : List Admission) → ReadsOn offers dests spec old new turns [] 0
-    → spec ≡ spec_for plan store i new.source.feed.from → brought ≡ admitted_in (calls_of turns) → IsOver new.source.reader → IsWhole offers plan store i new.source.feed brought
+    → spec ≡ spec_for plan store i new.source.feed.from → brought ≡ admitted_in (calls_of turns) → IsInletOver new.source.reader → AreRecordsWhole offers plan store i new.source.feed brought
 whole-read offers dests spec old new turns plan store i brought reads spec-is came over =
     let feed = new.source.feed in
     whole-by offers plan store i feed.from feed.told brought (λ parts told.
@@ -113,7 +113,7 @@ all-fed (t ∷ earlier) turn fed last = (fed.0, all-fed earlier turn fed.1 last)
 rests-fed : (turns : List Turn) (before last : List Exchange) → RestsLast turns before last → AreFed turns
 rests-fed turns before last rest = subst (λ (ts : List Turn). AreFed ts) (sym rest.are) (all-fed rest.earlier rest.turn rest.fed (ap (λ (o : Option Turned). is_some o) rest.nothing))
 
-for-outlet : (cause : Option GivenUp) → gave_up_outlet cause ≡ true → cause ≡ Some Outlet
+pub for-outlet : (cause : Option GivenUp) → gave_up_outlet cause ≡ true → cause ≡ Some Outlet
 for-outlet None h = absurd (let wrong : false ≡ true = h in cc)
 for-outlet (Some Outlet) h = refl
 for-outlet (Some Store) h = absurd (let wrong : false ≡ true = h in cc)

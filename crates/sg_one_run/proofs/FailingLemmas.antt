@@ -1,9 +1,8 @@
 -- The stores that are told to have failed failed in the run.
-use Rattle.std.proofs.Common.{◌≡◌, ◌<◌, ◌≤◌, ℕ, ◌+◌, zero, suc, Bool, true, false, List, [], ◌∷◌, length, map, Some, None, Option, inl, inr, refl, sym, ap, ◌∙◌, arith, slice_get, subst}
+use Rattle.std.proofs.Common.{◌≡◌, ◌<◌, ℕ, ◌+◌, zero, suc, Bool, true, false, List, [], ◌∷◌, length, map, Some, None, Option, inl, inr, refl, sym, ap, ◌∙◌, arith, slice_get, subst}
 use Rattle.std.proofs.lemmas.List.{append-nil}
 use Rattle.sg_list.specs.Lists.{change}
 use Rattle.sg_list.proofs.ListLemmas.{some-same, slice_get-map, slice_get-some, slice_get-below}
-use Rattle.sg_device.specs.Disk.{DiskState}
 use Rattle.sg_device.specs.Inlet.{InletState}
 use Rattle.sg_device.specs.Outlet.{OutletState}
 use Rattle.sg_outside.specs.World.{Files}
@@ -12,19 +11,15 @@ use Rattle.sg_frame.specs.Records.{Record}
 use Rattle.sg_machine.specs.declared.event.Event.{Event}
 use Rattle.sg_machine.specs.declared.setup.Setup.{Setup}
 use Rattle.sg_machine.specs.declared.setup.SourceSetup.{SourceSetup}
-use Rattle.sg_machine.specs.declared.state.Inlet.{Inlet}
+use Rattle.sg_machine.specs.declared.state.InletRecords.{InletRecords}
 use Rattle.sg_machine.specs.declared.state.State.{State}
 use Rattle.sg_machine.specs.Effects.{rewound}
 use Rattle.sg_machine.specs.Runs.{opened, opened_inlets, after_all}
 use Rattle.sg_machine.specs.Verdicts.{is_listed}
 use Rattle.sg_machine.proofs.RunLemmas.{after_all-append}
 use Rattle.sg_counter.specs.Bringing.{store_in}
-use Rattle.sg_stores.specs.Opening.{IsOpenedAs}
 use Rattle.sg_stores.specs.Stores.{StoreState, AllGo}
-use Rattle.sg_stores.specs.declared.kind.StoreKind.{StoreKind}
-use Rattle.sg_stores.specs.declared.kind.StoreKind.TheVariants.{Position, Buffer}
 use Rattle.sg_stores.proofs.GetLemmas.{get-map}
-use Rattle.sg_buffer.specs.declared.found.Found.{Found}
 use Rattle.sg_standing.specs.States.{CoreState, setup_of}
 use Rattle.sg_standing.specs.Standing.{IsAt}
 use Rattle.sg_core.specs.Opening.{buffer_store_in}
@@ -32,12 +27,13 @@ use Rattle.sg_core.proofs.Faults.{listed-position, listed-buffer}
 use Rattle.sg_turns.specs.declared.ended.Ended.{Ended}
 use Rattle.sg_serve.specs.Counts.{numbers_from}
 use Rattle.sg_serve.specs.Rewinds.{position_at, rewinds_at, rewinds_from, places_of}
-use Rattle.sg_serve.specs.Run.{CoreRun, Reached, RoseAt, HoldsCore, HoldsRun, IsServed, Holds}
+use Rattle.sg_serve.specs.Run.{CoreRun, Reached, RoseAt, HoldsCore, HoldsRun, IsServed, PlanRunHolds}
 use Rattle.sg_serve.specs.declared.counts.Counts.{Counts}
 use Rattle.sg_serve.specs.declared.ending.PlanEnded.TheVariants.{Ran}
 use Rattle.sg_run_plan.specs.declared.plan.RunPlan.{RunPlan}
 use Rattle.sg_one_run.specs.Failing.{IsUsed, AreUsed, FailedStoresCount}
 use Rattle.sg_one_run.proofs.StepLemmas.{RoseOf, rose-wide, went-all}
+use Rattle.sg_stores.proofs.OpenLemmas.{opened-later}
 
 -- Lists.
 
@@ -69,7 +65,7 @@ rewinds-failed positions i (place ∷ places) s =
     ∙ one-failed i (positions i) place s
 
 -- no record came in
-abbrev AreUnbegun : List Inlet → Type 0
+abbrev AreUnbegun : List InletRecords → Type 0
 AreUnbegun [] = Unit {0}
 AreUnbegun (x ∷ xs) = (x.ends ≡ []) × AreUnbegun xs
 
@@ -78,7 +74,7 @@ opened-unbegun [] places = tt
 opened-unbegun (s ∷ ss) [] = (refl, opened-unbegun ss [])
 opened-unbegun (s ∷ ss) (p ∷ ps) = (refl, opened-unbegun ss ps)
 
-rewound-unbegun : (inlets : List Inlet) (k : ℕ) → AreUnbegun inlets → AreUnbegun (change inlets k rewound)
+rewound-unbegun : (inlets : List InletRecords) (k : ℕ) → AreUnbegun inlets → AreUnbegun (change inlets k rewound)
 rewound-unbegun [] k h = h
 rewound-unbegun (x ∷ xs) zero h = h
 rewound-unbegun (x ∷ xs) (suc k) h = (h.0, rewound-unbegun xs k h.1)
@@ -95,9 +91,9 @@ rewinds-unbegun positions i (place ∷ places) s h =
     subst (λ (t : State). AreUnbegun t.inlets) (sym (after_all-append s one (rewinds_from positions (i + 1) places)))
     (rewinds-unbegun positions (i + 1) places (after_all s one) (one-unbegun i (positions i) place s h))
 
-unbegun-at : (inlets : List Inlet) (i : ℕ) (x : Inlet) → AreUnbegun inlets → slice_get inlets i ≡ Some x → x.ends ≡ []
+unbegun-at : (inlets : List InletRecords) (i : ℕ) (x : InletRecords) → AreUnbegun inlets → slice_get inlets i ≡ Some x → x.ends ≡ []
 unbegun-at [] i x h there = absurd (let wrong : None ≡ Some x = there in cc)
-unbegun-at (y ∷ ys) zero x h there = subst (λ (z : Inlet). z.ends ≡ []) (some-same y x there) h.0
+unbegun-at (y ∷ ys) zero x h there = subst (λ (z : InletRecords). z.ends ≡ []) (some-same y x there) h.0
 unbegun-at (y ∷ ys) (suc i) x h there = unbegun-at ys i x h.1 there
 
 -- the state at which the rounds begin
@@ -105,7 +101,7 @@ pub record Begun (plan : RunPlan) (reached : Reached) (run : CoreRun) : Type 0 w
   pub state : State
   pub at : IsAt run.begun state
   pub works : (u : ℕ) → is_listed u state.failed ≡ false
-  pub unbegun : (i : ℕ) (x : Inlet) → slice_get state.inlets i ≡ Some x → x.ends ≡ []
+  pub unbegun : (i : ℕ) (x : InletRecords) → slice_get state.inlets i ≡ Some x → x.ends ≡ []
   pub goes : AllGo run.first.stores run.begun.stores
   pub setup : setup_of run.begun ≡ plan.setup
 
@@ -127,10 +123,6 @@ begun plan reached run core rewinds =
     }
 
 -- The whole run.
-
-opened-later : (kind : StoreKind) (disk : DiskState) (found : Found) (store : StoreState) → IsOpenedAs kind disk found store → disk.faults ≤ store.disk.faults
-opened-later Position disk found store h = let well = h.0.well in omega (arith, well)
-opened-later (Buffer capacity) disk found store h = let well = h.well in omega (arith, well)
 
 -- a store that failed since the rounds began failed in the run
 rose-in : (plan : RunPlan) (reached : Reached) (run : CoreRun) (s : ℕ) (store : StoreState) → HoldsCore plan.setup reached run → AllGo run.first.stores run.begun.stores → AllGo run.begun.stores run.last.stores → RoseOf run.begun.stores run.last.stores s
@@ -176,7 +168,7 @@ failed-served feed drain offers inlets dests files plan routers rounds reached r
     ])
 
 failed-held : {R I O : Type 0} (feed : I → InletState) (drain : O → OutletState) (offers : R → ℕ → Record → List Offer → Type 0) (inlets dests : R → ℕ) (files : Option Files) (plan : RunPlan) (routers : List R) (rounds : ℕ) (reached : Reached)
-    (core : Option CoreRun) (ended : Ended) (counts : Counts) → AreUsed plan → Holds feed drain offers inlets dests files plan routers rounds reached core (Ran ended (Some counts)) → (k s : ℕ) → slice_get counts.stores k ≡ Some s
+    (core : Option CoreRun) (ended : Ended) (counts : Counts) → AreUsed plan → PlanRunHolds feed drain offers inlets dests files plan routers rounds reached core (Ran ended (Some counts)) → (k s : ℕ) → slice_get counts.stores k ≡ Some s
     → RoseAt reached.stores reached.stores_closed s
 failed-held feed drain offers inlets dests files plan routers rounds reached None ended counts used holds k s h = absurd holds
 failed-held feed drain offers inlets dests files plan routers rounds reached (Some run) ended counts used (holds, served) k s h =

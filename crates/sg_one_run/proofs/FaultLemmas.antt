@@ -23,20 +23,20 @@ use Rattle.sg_stores.specs.Opening.{FailsByFaults, AllFailByFaults}
 use Rattle.sg_stores.specs.Stores.{StoreState, AllGo}
 use Rattle.sg_stores.proofs.StoreLemmas.{all_go_trans}
 use Rattle.sg_standing.specs.States.{CoreState, setup_of}
-use Rattle.sg_standing.specs.Standing.{IsAt, Does}
+use Rattle.sg_standing.specs.Standing.{IsAt, DoesAct}
 use Rattle.sg_core.specs.Calls.{Serves}
 use Rattle.sg_core.specs.Opening.{buffer_store_in}
 use Rattle.sg_core.proofs.Faults.{serves-go, calls-go, fail-by-faults, tells-faults, listed-buffer}
 use Rattle.sg_run_plan.specs.declared.plan.RunPlan.{RunPlan}
 use Rattle.sg_serve.specs.Run.{CoreRun, Reached, HoldsCore}
-use Rattle.sg_one_run.specs.Drops.{HasFailed}
+use Rattle.sg_one_run.specs.Drops.{HasBufferFailed}
 use Rattle.sg_one_run.specs.Failing.{DropsByFaults, ShowsFaults}
 use Rattle.sg_one_run.proofs.AgreeLemmas.{sink-at}
 use Rattle.sg_one_run.proofs.DueLemmas.{act-due, drop-due}
 use Rattle.sg_one_run.proofs.StepLemmas.{went-all}
 
 -- the store of the disk-buffer of a destination that has one
-failed-in : (buffer : Option BufferSetup) (failed : List ℕ) → HasFailed buffer failed → (b : BufferSetup) × ((buffer ≡ Some b) × (is_listed b.store failed ≡ true))
+failed-in : (buffer : Option BufferSetup) (failed : List ℕ) → HasBufferFailed buffer failed → (b : BufferSetup) × ((buffer ≡ Some b) × (is_listed b.store failed ≡ true))
 failed-in None failed h = absurd h
 failed-in (Some b) failed h = (b, (refl, h))
 
@@ -47,7 +47,7 @@ buffer-at core t d x b at there has =
     ∙ ap (λ (o : Option BufferSetup). option_map_or (λ (c : BufferSetup). Some c.store) o None) has
 
 -- a drop of a call tells of a fault
-drops-by : (disks : List DiskState) (old new : CoreState) (t : State) (i : ℕ) (records : List Admission) (verdicts : List Verdict) → AllFailByFaults disks new.stores → IsAt old t → Does old new (AdmitAct i records verdicts)
+drops-by : (disks : List DiskState) (old new : CoreState) (t : State) (i : ℕ) (records : List Admission) (verdicts : List Verdict) → AllFailByFaults disks new.stores → IsAt old t → DoesAct old new (AdmitAct i records verdicts)
     → DropsByFaults disks old records verdicts new
 drops-by disks old new t i records verdicts all at does d drop =
     let step = does.step t at in

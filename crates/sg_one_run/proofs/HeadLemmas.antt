@@ -1,6 +1,6 @@
 -- The texts of the first records of an inlet, over the calls of a run; and the turns of a destination as sendings.
-use Rattle.std.proofs.Common.{◌≡◌, ℕ, ◌-◌, ◌≤◌, List, [], ◌∷◌, ◌++◌, length, Some, None, Option, Result, Bool, true, false, refl, sym, ap, ◌∙◌, arith, take, subst, if◌then◌else◌, suc}
-use Rattle.std.specs.Prelude.{slice_get, nat_le, is_ok}
+use Rattle.std.proofs.Common.{◌≡◌, ℕ, ◌≤◌, List, [], ◌∷◌, ◌++◌, length, Some, None, Option, Result, Bool, true, false, refl, sym, ap, ◌∙◌, arith, take, subst, if◌then◌else◌, suc}
+use Rattle.std.specs.Prelude.{slice_get, is_ok}
 use Rattle.std.specs.Option.{option_map}
 use Rattle.std.proofs.lemmas.List.{append-nil, length-map, length-take}
 use Rattle.sg_list.proofs.ListLemmas.{some-same}
@@ -17,21 +17,22 @@ use Rattle.sg_counter.specs.Exchanges.{Exchange}
 use Rattle.sg_counter.specs.declared.calls.CoreCall.{CoreCall}
 use Rattle.sg_counter.specs.declared.calls.CoreReply.{CoreReply}
 use Rattle.sg_actor.specs.Sources.{AreOf}
-use Rattle.sg_actor.specs.Rendering.{frame_by, frames_by, sent_of, until}
+use Rattle.sg_actor.specs.Rendering.{frame_by, frames_by, sent_of}
 use Rattle.sg_actor.specs.DestTurns.{shown_in, SendsWith}
 use Rattle.sg_actor.specs.declared.outage.Outage.{Outage}
 use Rattle.sg_actor.specs.declared.rendering.DestSpec.{DestSpec}
 use Rattle.sg_actor.specs.declared.settings.SourceSpec.{SourceSpec}
 use Rattle.sg_actor.specs.declared.turned.Turned.{Turned}
 use Rattle.sg_actor.proofs.LawLemmas.{reads-first}
-use Rattle.sg_one_run.specs.Texts.{admissions_of, taken_from, AreFirst, TakesTexts}
+use Rattle.sg_one_run.specs.Texts.{admissions_of, taken_from, AreFirstRecords, TakesTexts}
 use Rattle.sg_one_run.specs.Turns.{IsSending}
 use Rattle.sg_one_run.specs.Laws.{TextsAreFirst}
 use Rattle.sg_one_run.proofs.OwnEventLemmas.{takes-texts}
 use Rattle.sg_one_run.proofs.OwnLemmas.{are-own}
+use Rattle.sg_actor.proofs.FrameLemmas.{until-few}
 
 are-first : (spec : SourceSpec) (told : Option (List Part)) (done : List Record) → ((parts : List Part) → told ≡ Some parts → (rest : List Record) × (records spec.kind spec.limit spec.from parts ≡ done ++ rest))
-    → AreFirst done (option_map (records spec.kind spec.limit spec.from) told)
+    → AreFirstRecords done (option_map (records spec.kind spec.limit spec.from) told)
 are-first spec None done h = tt
 are-first spec (Some parts) done h = h parts refl
 
@@ -54,10 +55,6 @@ texts-first offers old new made start before events d first last ran is frame sp
 until-if : (b : Bool) (k n : ℕ) (f : List ℕ) (fs : List (List ℕ)) → length fs ≤ n → length (f ∷ (if b then [] else fs)) ≤ suc n
 until-if true k n f fs h = omega arith
 until-if false k n f fs h = omega (arith, h)
-
-until-few : (left : ℕ) (fs : List (List ℕ)) → length (until left fs) ≤ length fs
-until-few left [] = omega arith
-until-few left (f ∷ fs) = until-if (nat_le left (length f)) 0 (length fs) f (until (left - length f) fs) (until-few (left - length f) fs)
 
 sent-few : (spec : DestSpec) (messages : List Content) → length (sent_of spec messages) ≤ length messages
 sent-few spec messages =

@@ -13,7 +13,7 @@ use Rattle.sg_machine.specs.declared.event.Event.{Event}
 use Rattle.sg_machine.specs.declared.setup.Setup.{Setup}
 use Rattle.sg_machine.specs.declared.state.Dest.{Dest}
 use Rattle.sg_machine.specs.declared.state.State.{State}
-use Rattle.sg_machine.specs.Runs.{Kept, Opening, opened, after_all, are_legal}
+use Rattle.sg_machine.specs.Runs.{BufferedEntry, Opening, opened, after_all, are_legal}
 use Rattle.sg_machine.specs.Safe.{Safe, nothing}
 use Rattle.sg_counter.specs.Exchanges.{Exchange, Makes, OfSource, OfDest, calls_by}
 use Rattle.sg_counter.specs.declared.calls.CoreCall.TheVariants.{Settle}
@@ -36,8 +36,8 @@ use Rattle.sg_run_plan.specs.declared.inlet.InletPlan.{InletPlan}
 use Rattle.sg_run_plan.specs.declared.outlet.OutletPlan.{OutletPlan}
 use Rattle.sg_one_run.specs.Calls.{Ran, AreOwn}
 use Rattle.sg_one_run.specs.Drops.{DropsAreDue}
-use Rattle.sg_one_run.specs.Fronts.{IsDest, TakesSettled}
-use Rattle.sg_one_run.specs.Texts.{admissions_of, taken_from, TakesFirst}
+use Rattle.sg_one_run.specs.Fronts.{IsDestThroughout, TakesSettled}
+use Rattle.sg_one_run.specs.Texts.{admissions_of, taken_from, TakesFirstTexts}
 use Rattle.sg_one_run.specs.Turns.{Sending, AreSendings, calls_in}
 use Rattle.sg_one_run.proofs.OwnEventLemmas.{opened-within}
 use Rattle.sg_one_run.proofs.OwnLemmas.{calls-run}
@@ -48,12 +48,13 @@ use Rattle.sg_serve.specs.Actors.{SourceView, DestView, source_view, dest_view}
 use Rattle.sg_serve.specs.Devices.{inlet_asked}
 use Rattle.sg_serve.specs.Plan.{IsRunnable}
 use Rattle.sg_serve.specs.Rewinds.{position_at, places_of}
-use Rattle.sg_serve.specs.Run.{CoreRun, Reached, HoldsRun, IsServed, Holds}
+use Rattle.sg_serve.specs.Run.{CoreRun, Reached, HoldsRun, IsServed, PlanRunHolds}
 use Rattle.sg_serve.specs.declared.counts.Counts.{Counts}
 use Rattle.sg_serve.specs.declared.ending.PlanEnded.{PlanEnded}
 use Rattle.sg_serve.specs.declared.ending.PlanEnded.TheVariants.{Before, Ran as RanSo}
 use Rattle.sg_run_plan.specs.declared.plan.RunPlan.{RunPlan}
 use Rattle.sg_one_run.specs.Headline.{frame_planned, frame_at, records_of, TakesPrefixes, TakesThese, ShowsAccepted, Headline, Delivers, RunsDeliver}
+use Rattle.sg_one_run.proofs.ByPathLemmas.{StandUnder, OutletsLie, takes-by-path}
 use Rattle.sg_one_run.proofs.PreludeLemmas.{get-back, AreStill, still-rewinds, still-either, admitted-later, dest-behind, opened-many}
 use Rattle.sg_one_run.proofs.SourceLemmas.{nothing-read, planned-of, source-texts, no-texts}
 use Rattle.sg_one_run.proofs.FaultLemmas.{shows-faults}
@@ -62,13 +63,13 @@ use Rattle.sg_one_run.proofs.DestLemmas.{sendings-of}
 -- What a destination's outlet took, by its sendings.
 
 -- the calls of d are those of these sendings
-record HasSent (plan : RunPlan) (made : List Exchange) (d : ℕ) (new closed : OutletState) : Type 0 where
+record HasSentTexts (plan : RunPlan) (made : List Exchange) (d : ℕ) (new closed : OutletState) : Type 0 where
   sendings : List Sending
   calls : calls_by (OfDest d) made ≡ calls_in sendings
   are : AreSendings (frame_at plan.outlets.items d) d sendings new closed
 
 takes-these : (files : Option Files) (plan : RunPlan) (reached : Reached) (run : CoreRun) → HoldsRun files plan reached run → AreStill run.prelude → (start : State) (later : List Event)
-    → Ran run.begun run.last run.made start run.prelude later → (d : ℕ) (new closed : OutletState) (first last : Dest) → IsDest start [] (run.prelude ++ later) d first last → HasSent plan run.made d new closed
+    → Ran run.begun run.last run.made start run.prelude later → (d : ℕ) (new closed : OutletState) (first last : Dest) → IsDestThroughout start [] (run.prelude ++ later) d first last → HasSentTexts plan run.made d new closed
     → TakesSettled (frame_at plan.outlets.items d) run.first.stores first last new closed
 takes-these files plan reached run holds still start later ran d new closed first last is sent =
     let behind = dest-behind start run.prelude later d first last still is in
@@ -109,13 +110,13 @@ run-texts {R} {I} {O} feed drain offers inlets dests files plan routers rounds r
     let frame = frame_at plan.outlets.items in
     let texts = source-texts says count (a.0).spec old new turns reads i inlet planned start events legal came frame d first last is in
     let taken = taken_from frame i d first last in
-    subst (λ (r : R). TakesFirst (offers r) frame i d (records_of inlet closed) events taken last.left) a.1.1
-    (subst (λ (c : InletState). TakesFirst says frame i d (records_of inlet c) events taken last.left) b.1.1 texts)
+    subst (λ (r : R). TakesFirstTexts (offers r) frame i d (records_of inlet closed) events taken last.left) a.1.1
+    (subst (λ (c : InletState). TakesFirstTexts says frame i d (records_of inlet c) events taken last.left) b.1.1 texts)
 
 -- what d sent since its outlet was opened
 run-sent : {R I O : Type 0} (feed : I → InletState) (drain : O → OutletState) (offers : R → ℕ → Record → List Offer → Type 0) (inlets dests : R → ℕ) (plan : RunPlan) (routers : List R) (rounds : ℕ) (reached : Reached) (run : CoreRun)
     (ended : Ended) (counts : Option Counts) → IsServed feed drain offers inlets dests plan routers rounds reached run ended counts → (d : ℕ) (new closed : OutletState) → slice_get reached.outlets d ≡ Some new
-    → slice_get reached.outlets_closed d ≡ Some closed → HasSent plan run.made d new closed
+    → slice_get reached.outlets_closed d ≡ Some closed → HasSentTexts plan run.made d new closed
 run-sent {R} {I} {O} feed drain offers inlets dests plan routers rounds reached run ended counts served d new closed at_new at_closed =
     let runs = served.runs in
     let turns = runs.account (OfDest d) in
@@ -145,6 +146,15 @@ pub run-taken : {R I O : Type 0} (feed : I → InletState) (drain : O → Outlet
 run-taken feed drain offers inlets dests files plan routers rounds reached run ended counts holds served still start later ran d new closed first last at_new at_closed is =
     takes-these files plan reached run holds still start later ran d new closed first last is (run-sent feed drain offers inlets dests plan routers rounds reached run ended counts served d new closed at_new at_closed)
 
+-- as many outlets were closed as were opened
+all-closed : {R I O : Type 0} (feed : I → InletState) (drain : O → OutletState) (offers : R → ℕ → Record → List Offer → Type 0) (inlets dests : R → ℕ) (plan : RunPlan) (routers : List R) (rounds : ℕ) (reached : Reached) (run : CoreRun)
+    (ended : Ended) (counts : Option Counts) → IsServed feed drain offers inlets dests plan routers rounds reached run ended counts → length reached.outlets_closed ≡ length reached.outlets
+all-closed {R} {I} {O} feed drain offers inlets dests plan routers rounds reached run ended counts served =
+    let runs = served.runs in
+    let before : length runs.dests_first ≡ length reached.outlets = sym (length-map runs.dests_first (λ (x : DestActor O). drain x.outlet)) ∙ ap length runs.outlets_opened in
+    let behind : length runs.dests_then ≡ length reached.outlets_closed = sym (length-map runs.dests_then (λ (x : DestActor O). drain x.outlet)) ∙ ap length runs.outlets_closed in
+    sym behind ∙ ((runs.serves).took).all_dests ∙ before
+
 -- each outlet that was opened is that of a destination, and was closed
 run-accepted : {R I O : Type 0} (feed : I → InletState) (drain : O → OutletState) (offers : R → ℕ → Record → List Offer → Type 0) (inlets dests : R → ℕ) (plan : RunPlan) (routers : List R) (rounds : ℕ) (reached : Reached) (run : CoreRun)
     (ended : Ended) (counts : Option Counts) → IsServed feed drain offers inlets dests plan routers rounds reached run ended counts → AreStill run.prelude → (start : State) (later : List Event)
@@ -155,10 +165,8 @@ run-accepted {R} {I} {O} feed drain offers inlets dests plan routers rounds reac
     let all = served.all_outlets in
     let first = slice_get-some start.dests d (omega (arith, low, all, many)) in
     let there : slice_get (after_all start run.prelude).dests d ≡ Some first.0 = ap (λ ds. slice_get ds d) (still.dests start) ∙ first.1 in
-    let before : length runs.dests_first ≡ length reached.outlets = sym (length-map runs.dests_first (λ (x : DestActor O). drain x.outlet)) ∙ ap length runs.outlets_opened in
-    let behind : length runs.dests_then ≡ length reached.outlets_closed = sym (length-map runs.dests_then (λ (x : DestActor O). drain x.outlet)) ∙ ap length runs.outlets_closed in
-    let same = ((runs.serves).took).all_dests in
-    let closed = slice_get-some reached.outlets_closed d (omega (arith, low, before, behind, same)) in
+    let many_closed = all-closed feed drain offers inlets dests plan routers rounds reached run ended counts served in
+    let closed = slice_get-some reached.outlets_closed d (omega (arith, low, many_closed)) in
     let sent = run-sent feed drain offers inlets dests plan routers rounds reached run ended counts served d new closed.0 at_new closed.1 in
     settles-taken run.begun run.last run.made start run.prelude later d first.0 ran there (frame_at plan.outlets.items d) sent.sendings new closed.0 sent.calls sent.are
 
@@ -187,27 +195,28 @@ stayed-accepted reached run none d new at_new before later place n count answer 
 
 abbrev pub ImagesAreSafe : Type 0
 ImagesAreSafe =
-    (setup : Setup) (opening : Opening) (events : List Event) (core : CoreState) (images : List (List ℕ)) (lists : List (List Kept)) → StandsFor core (opened setup opening) events → AreImages core.stores images
+    (setup : Setup) (opening : Opening) (events : List Event) (core : CoreState) (images : List (List ℕ)) (lists : List (List BufferedEntry)) → StandsFor core (opened setup opening) events → AreImages core.stores images
     → AreListsIn core.sinks images lists → Safe (opened setup opening) events nothing (record { positions = positions_in core.sources images; lists = lists })
 
 abbrev pub ImagesBetweenAreSafe : Type 0
 ImagesBetweenAreSafe =
-    (setup : Setup) (opening : Opening) (events : List Event) (core : CoreState) (stands : StandsFor core (opened setup opening) events) (k : ℕ) (event : Event) (images : List (List ℕ)) (lists : List (List Kept)) → slice_get events k ≡ Some event
+    (setup : Setup) (opening : Opening) (events : List Event) (core : CoreState) (stands : StandsFor core (opened setup opening) events) (k : ℕ) (event : Event) (images : List (List ℕ)) (lists : List (List BufferedEntry)) → slice_get events k ≡ Some event
     → AreImagesBetween core.stores (stands.moments.rows k) (stands.moments.rows (k + 1)) images → AreListsIn core.sinks images lists
     → Safe (opened setup opening) (take k events) event (record { positions = positions_in core.sources images; lists = lists })
 
--- the laws of what the sentence says of drops and stops
+-- the laws of what the sentence says of drops, stops and paths
 pub record Laws : Type 0 where
   pub due : DropsAreDue
   pub now : ImagesAreSafe
   pub between : ImagesBetweenAreSafe
+  pub under : StandUnder
 
 headline-of : {R : Type 0} (offers : R → ℕ → Record → List Offer → Type 0) (files : Option Files) (plan : RunPlan) (routers : List R) (reached : Reached) (run : CoreRun) → Laws → (holds : HoldsRun files plan reached run)
     → Makes Serves run.begun run.made run.last
     → ((later : List Event) → Ran run.begun run.last run.made (opened plan.setup ((holds.core).opens).opening) run.prelude later → ShowsAccepted reached run)
     → ((start : State) (later : List Event) → are_legal start (run.prelude ++ later) ≡ true → AreOwn run.made later → TakesPrefixes offers plan routers reached start (run.prelude ++ later))
-    → ((start : State) (later : List Event) → Ran run.begun run.last run.made start run.prelude later → TakesThese plan reached run start (run.prelude ++ later)) → Headline offers plan routers reached run
-headline-of offers files plan routers reached run laws holds makes accepted texts taken =
+    → ((start : State) (later : List Event) → Ran run.begun run.last run.made start run.prelude later → TakesThese plan reached run start (run.prelude ++ later)) → OutletsLie reached → Headline offers plan routers reached run
+headline-of offers files plan routers reached run laws holds makes accepted texts taken outlets =
     let opens = (holds.core).opens in
     let start = opened plan.setup opens.opening in
     let stood = ((holds.core).begins).stands plan.setup opens.opening opens.stands in
@@ -224,6 +233,7 @@ headline-of offers files plan routers reached run laws holds makes accepted text
       holds = record {
         texts = texts start h.0 stands.legal h.1.1;
         taken = taken start h.0 ran;
+        by_path = takes-by-path laws.under plan reached run start events outlets (taken start h.0 ran);
         legal = stands.legal;
         due = λ before later i admitted verdicts failed is. laws.due start before later i admitted verdicts failed (subst (λ es. are_legal start es ≡ true) is stands.legal);
         windows = opened-within plan.setup opens.opening events stands.legal;
@@ -236,17 +246,18 @@ headline-of offers files plan routers reached run laws holds makes accepted text
     }
 
 held : {R I O : Type 0} (feed : I → InletState) (drain : O → OutletState) (offers : R → ℕ → Record → List Offer → Type 0) (inlets dests : R → ℕ) (files : Option Files) (plan : RunPlan) (routers : List R) (rounds : ℕ) (reached : Reached)
-    (core : Option CoreRun) (ending : PlanEnded) → Laws → IsRunnable plan → Holds feed drain offers inlets dests files plan routers rounds reached core ending → Delivers offers plan routers reached core
-held feed drain offers inlets dests files plan routers rounds reached None (Before early) laws runnable h = (h.no_inlets.0, h.no_outlets.0)
-held feed drain offers inlets dests files plan routers rounds reached None (RanSo ended counts) laws runnable h = absurd h
-held feed drain offers inlets dests files plan routers rounds reached (Some run) (Before early) laws runnable (holds, stays) =
+    (core : Option CoreRun) (ending : PlanEnded) → Laws → IsRunnable plan → (length reached.outlets_closed ≡ length reached.outlets → OutletsLie reached) → PlanRunHolds feed drain offers inlets dests files plan routers rounds reached core ending → Delivers offers plan routers reached core
+held feed drain offers inlets dests files plan routers rounds reached None (Before early) laws runnable outlets h = (h.no_inlets.0, h.no_outlets.0)
+held feed drain offers inlets dests files plan routers rounds reached None (RanSo ended counts) laws runnable outlets h = absurd h
+held feed drain offers inlets dests files plan routers rounds reached (Some run) (Before early) laws runnable outlets (holds, stays) =
     let still = still-either run.first reached.inlets run.prelude stays.rewinds in
     let makes = subst (λ (es : List Exchange). Makes Serves run.begun es run.last) (sym stays.unserved) stays.core_stays in
     headline-of offers files plan routers reached run laws holds makes
     (λ later ran. stayed-accepted reached run stays.unserved)
     (λ start later legal own. stayed-texts offers plan routers reached run still stays.unserved start later legal own)
     (λ start later ran. stayed-taken files plan reached run holds still stays.unserved stays.outlets_stay start later ran)
-held feed drain offers inlets dests files plan routers rounds reached (Some run) (RanSo ended counts) laws runnable (holds, served) =
+    (outlets (ap length stays.outlets_stay))
+held feed drain offers inlets dests files plan routers rounds reached (Some run) (RanSo ended counts) laws runnable outlets (holds, served) =
     let still = still-rewinds (position_at run.first) (places_of reached.inlets) run.prelude served.rewinds in
     let opens = (holds.core).opens in
     let start = opened plan.setup opens.opening in
@@ -255,7 +266,9 @@ held feed drain offers inlets dests files plan routers rounds reached (Some run)
     (λ later ran. run-accepted feed drain offers inlets dests plan routers rounds reached run ended counts served still start later many ran)
     (λ start later legal own. run-texts feed drain offers inlets dests files plan routers rounds reached run ended counts runnable holds served still start later legal own)
     (λ start later ran. run-taken feed drain offers inlets dests files plan routers rounds reached run ended counts holds served still start later ran)
+    (outlets (all-closed feed drain offers inlets dests plan routers rounds reached run ended counts served))
 
 pub deliver : {R I O : Type 0} (feed : I → InletState) (drain : O → OutletState) (offers : R → ℕ → Record → List Offer → Type 0) (inlets dests : R → ℕ) → Laws → RunsDeliver feed drain offers inlets dests
 deliver feed drain offers inlets dests laws old new plan routers rounds ending reached runnable runs =
-    held feed drain offers inlets dests old.files plan routers rounds reached reached.core ending laws runnable runs.holds
+    held feed drain offers inlets dests old.files plan routers rounds reached reached.core ending laws runnable
+    (λ many. record { lie = (runs.devices).lie; are_new = ((runs.devices).outlets).are_new; as_many = many }) runs.holds

@@ -13,6 +13,7 @@ pub mod AskedLemmas
 pub mod PreludeLemmas
 pub mod SourceLemmas
 pub mod DestLemmas
+pub mod ByPathLemmas
 pub mod HeadlineLemmas
 pub mod StepLemmas
 pub mod CalmLemmas

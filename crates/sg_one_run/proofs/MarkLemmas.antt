@@ -3,11 +3,11 @@ use Rattle.std.proofs.Common.{◌≡◌, ℕ, ◌+◌, ◌≤◌, ◌<◌, List,
 use Rattle.std.specs.Prelude.{◌==◌}
 use Rattle.std.proofs.lemmas.Bool.{cases_eq}
 use Rattle.sg_machine.specs.declared.state.Dest.{Dest}
-use Rattle.sg_machine.specs.declared.state.Inlet.{Inlet}
+use Rattle.sg_machine.specs.declared.state.InletRecords.{InletRecords}
 use Rattle.sg_machine.specs.Marks.{is_acked, outstanding, mark, mark_of}
 use Rattle.sg_machine.proofs.WindowLaws.{outstanding-fewer}
 use Rattle.sg_actor.specs.Reading.{one_if}
-use Rattle.sg_one_run.proofs.OwedLemmas.{one-most}
+use Rattle.sg_turns.proofs.BoundLemmas.{one-most}
 
 -- as many records are outstanding where the same are acknowledged
 pub outstanding-same : (ds fs : List Dest) (i n : ℕ) (ends : List ℕ) → ((k : ℕ) → is_acked ds i k ≡ true → is_acked fs i k ≡ true) → ((k : ℕ) → is_acked fs i k ≡ true → is_acked ds i k ≡ true)
@@ -64,11 +64,11 @@ acked-more ds fs i n (end ∷ ends) more h =
 
 -- An inlet.
 
-abbrev pub acked_of : List Dest → ℕ → Inlet → ℕ
+abbrev pub acked_of : List Dest → ℕ → InletRecords → ℕ
 acked_of ds i inlet = acked_from ds i 0 inlet.ends
 
 -- the mark isn't the stored position
-abbrev pub unstored_of : List Dest → ℕ → Inlet → ℕ
+abbrev pub unstored_of : List Dest → ℕ → InletRecords → ℕ
 unstored_of ds i inlet = one_if (not (inlet.stored == mark_of ds i inlet))
 
 -- where the stored position stays, the mark moves on only with a record that is acknowledged

@@ -8,31 +8,25 @@ use Rattle.sg_machine.specs.declared.event.Admission.{Admission}
 use Rattle.sg_machine.specs.declared.event.Verdict.{Verdict}
 use Rattle.sg_machine.specs.declared.event.Verdict.TheVariants.{Queued, Spooled, Waits, DroppedFull, DroppedDisk}
 use Rattle.sg_machine.specs.declared.state.Dest.{Dest}
-use Rattle.sg_machine.specs.declared.state.Entry.{Entry}
+use Rattle.sg_machine.specs.declared.state.DestEntry.{DestEntry}
 use Rattle.sg_machine.specs.declared.state.Origin.{Origin}
 use Rattle.sg_machine.specs.Effects.{settled_some, spool_first, spool_some, refilled_some}
 use Rattle.sg_machine.specs.Marks.{is_owed_to, is_acked}
 use Rattle.sg_machine.specs.Verdicts.{Claim, claims_in, claims_from, claims_of, origin_of, entry_from, take_offer, take_claim, take_claims}
 use Rattle.sg_machine.proofs.RunLemmas.{both-true}
 use Rattle.sg_machine.proofs.RecordLemmas.{length-claims}
-use Rattle.sg_machine.proofs.WindowLaws.{is_clear, clear-head, clear-tail, clear-join}
+use Rattle.sg_machine.proofs.WindowLaws.{is_clear, clear-head, clear-tail, clear-join, and-not-true, both-join}
 use Rattle.sg_actor.specs.Reading.{one_if}
 use Rattle.sg_one_run.specs.Counts.{offers_of}
-
-pub one-most : (b : Bool) → one_if b ≤ 1
-one-most true = omega arith
-one-most false = omega arith
-
-pub both-join : (a b : Bool) → a ≡ true → b ≡ true → (a && b) ≡ true
-both-join a b h k = rw (h, k) refl
+use Rattle.sg_turns.proofs.BoundLemmas.{one-most}
 
 -- Entries.
 
 -- an entry of a record of the inlet that isn't in a disk-buffer
-abbrev pub owes : ℕ → Entry → Bool
+abbrev pub owes : ℕ → DestEntry → Bool
 owes i e = e.inlet == i && not e.spooled
 
-abbrev pub owed : ℕ → List Entry → ℕ
+abbrev pub owed : ℕ → List DestEntry → ℕ
 owed i [] = 0
 owed i (e ∷ es) = one_if (owes i e) + owed i es
 
@@ -42,18 +36,18 @@ not-owed-if true true false spooled h = refl
 not-owed-if true false flow spooled h = refl
 not-owed-if false b flow spooled h = refl
 
-not-owed : (i n : ℕ) (e : Entry) → owes i e ≡ false → is_owed_to i n e ≡ false
+not-owed : (i n : ℕ) (e : DestEntry) → owes i e ≡ false → is_owed_to i n e ≡ false
 not-owed i n e h = not-owed-if (e.inlet == i) (option_map_or (λ m. m == n) e.number false) e.flow e.spooled h
 
 -- no more are waited for, and fewer, or each record that is acknowledged now was before
-pub record Falls (i : ℕ) (old new : List Entry) : Type 0 where
+pub record Falls (i : ℕ) (old new : List DestEntry) : Type 0 where
   pub fewer : owed i new ≤ owed i old
   pub clears : (owed i new + 1 ≤ owed i old) ⊎ ((k : ℕ) → is_clear i k new ≡ true → is_clear i k old ≡ true)
 
-pub falls-same : (i : ℕ) (es : List Entry) → Falls i es es
+pub falls-same : (i : ℕ) (es : List DestEntry) → Falls i es es
 falls-same i es = record { fewer = omega arith; clears = inr (λ k c. c) }
 
-falls-both : (i : ℕ) (a b c : List Entry) → Falls i a b → Falls i b c → Falls i a c
+falls-both : (i : ℕ) (a b c : List DestEntry) → Falls i a b → Falls i b c → Falls i a c
 falls-both i a b c h k = record {
   fewer = (let x = h.fewer in let y = k.fewer in omega (arith, x, y));
   clears = elim h.clears [
@@ -63,7 +57,7 @@ falls-both i a b c h k = record {
 }
 
 -- with one entry before them
-falls-cons : (i : ℕ) (e : Entry) (old new : List Entry) → Falls i old new → Falls i (e ∷ old) (e ∷ new)
+falls-cons : (i : ℕ) (e : DestEntry) (old new : List DestEntry) → Falls i old new → Falls i (e ∷ old) (e ∷ new)
 falls-cons i e old new h = record {
   fewer = (let x = h.fewer in omega (arith, x));
   clears = elim h.clears [
@@ -72,7 +66,7 @@ falls-cons i e old new h = record {
   ];
 }
 
-falls-gone : (i : ℕ) (e : Entry) (old new : List Entry) (b : Bool) → owes i e ≡ b → Falls i old new → Falls i (e ∷ old) new
+falls-gone : (i : ℕ) (e : DestEntry) (old new : List DestEntry) (b : Bool) → owes i e ≡ b → Falls i old new → Falls i (e ∷ old) new
 falls-gone i e old new true is h =
     let x = h.fewer in
     let one : one_if (owes i e) ≡ 1 = ap one_if is in
@@ -85,16 +79,12 @@ falls-gone i e old new false is h = record {
   ];
 }
 
-pub falls-drop : (i n : ℕ) (es : List Entry) → Falls i es (drop n es)
+pub falls-drop : (i n : ℕ) (es : List DestEntry) → Falls i es (drop n es)
 falls-drop i zero es = falls-same i es
 falls-drop i (suc n) [] = falls-same i []
 falls-drop i (suc n) (e ∷ es) = falls-gone i e es (drop n es) (owes i e) refl (falls-drop i n es)
 
-pub and-not-true : (b : Bool) → (b && not true) ≡ false
-and-not-true true = refl
-and-not-true false = refl
-
-falls-spooled : (i : ℕ) (e : Entry) (es : List Entry) (b : Bool) → owes i e ≡ b → Falls i (e ∷ es) (record e { spooled = true } ∷ es)
+falls-spooled : (i : ℕ) (e : DestEntry) (es : List DestEntry) (b : Bool) → owes i e ≡ b → Falls i (e ∷ es) (record e { spooled = true } ∷ es)
 falls-spooled i e es b is =
     let none : owes i (record e { spooled = true }) ≡ false = and-not-true (e.inlet == i) in
     let gone = falls-gone i e es es b is (falls-same i es) in
@@ -107,28 +97,28 @@ falls-spooled i e es b is =
       ];
     }
 
-falls-first-if : (i : ℕ) (e : Entry) (es rest : List Entry) (b : Bool) → Falls i es rest → Falls i (e ∷ es) (if b then e ∷ rest else record e { spooled = true } ∷ es)
+falls-first-if : (i : ℕ) (e : DestEntry) (es rest : List DestEntry) (b : Bool) → Falls i es rest → Falls i (e ∷ es) (if b then e ∷ rest else record e { spooled = true } ∷ es)
 falls-first-if i e es rest true h = falls-cons i e es rest h
 falls-first-if i e es rest false h = falls-spooled i e es (owes i e) refl
 
-falls-first : (i : ℕ) (es : List Entry) → Falls i es (spool_first es)
+falls-first : (i : ℕ) (es : List DestEntry) → Falls i es (spool_first es)
 falls-first i [] = falls-same i []
 falls-first i (e ∷ es) = falls-first-if i e es (spool_first es) e.spooled (falls-first i es)
 
-pub falls-spool : (i n : ℕ) (es : List Entry) → Falls i es (spool_some n es)
+pub falls-spool : (i n : ℕ) (es : List DestEntry) → Falls i es (spool_some n es)
 falls-spool i zero es = falls-same i es
 falls-spool i (suc n) es = falls-both i es (spool_first es) (spool_some n (spool_first es)) (falls-first i es) (falls-spool i n (spool_first es))
 
 -- an entry more
-owed-push : (i : ℕ) (es : List Entry) (e : Entry) → owed i (es ++ e ∷ []) ≡ owed i es + one_if (owes i e)
+owed-push : (i : ℕ) (es : List DestEntry) (e : DestEntry) → owed i (es ++ e ∷ []) ≡ owed i es + one_if (owes i e)
 owed-push i [] e = omega arith
 owed-push i (x ∷ es) e = let h = owed-push i es e in omega (arith, h)
 
-clear-front : (i n : ℕ) (es : List Entry) (e : Entry) → is_clear i n (es ++ e ∷ []) ≡ true → is_clear i n es ≡ true
+clear-front : (i n : ℕ) (es : List DestEntry) (e : DestEntry) → is_clear i n (es ++ e ∷ []) ≡ true → is_clear i n es ≡ true
 clear-front i n [] e h = refl
 clear-front i n (x ∷ es) e h = clear-join i n x es (clear-head i n x (es ++ e ∷ []) h) (clear-front i n es e (clear-tail i n x (es ++ e ∷ []) h))
 
-falls-push : (i : ℕ) (es : List Entry) (e : Entry) → owes i e ≡ false → Falls i es (es ++ e ∷ [])
+falls-push : (i : ℕ) (es : List DestEntry) (e : DestEntry) → owes i e ≡ false → Falls i es (es ++ e ∷ [])
 falls-push i es e none =
     let more = owed-push i es e in
     let zero-is : one_if (owes i e) ≡ 0 = ap one_if none in
@@ -145,7 +135,7 @@ falls-offer i origin o Waits x miss = falls-push i x.left (entry_from origin o f
 falls-offer i origin o DroppedFull x miss = falls-same i x.left
 falls-offer i origin o DroppedDisk x miss = falls-same i x.left
 
-push-more : (i : ℕ) (es : List Entry) (e : Entry) → owed i (es ++ e ∷ []) ≤ owed i es + 1
+push-more : (i : ℕ) (es : List DestEntry) (e : DestEntry) → owed i (es ++ e ∷ []) ≤ owed i es + 1
 push-more i es e = let more = owed-push i es e in let few = one-most (owes i e) in omega (arith, more, few)
 
 offer-more : (i : ℕ) (origin : Origin) (o : Offer) (v : Verdict) (x : Dest) → owed i (take_offer origin o v x).left ≤ owed i x.left + 1
@@ -255,7 +245,7 @@ kept-change [] d n f more = omega arith
 kept-change (x ∷ ds) zero n f more = let h = more x in omega (arith, h)
 kept-change (x ∷ ds) (suc d) n f more = let h = kept-change ds d n f more in omega (arith, h)
 
-cut-size : (n : ℕ) (es : List Entry) → length (take n es) + length (drop n es) ≤ length es
+cut-size : (n : ℕ) (es : List DestEntry) → length (take n es) + length (drop n es) ≤ length es
 cut-size zero es = omega arith
 cut-size (suc n) [] = omega arith
 cut-size (suc n) (e ∷ es) = let h = cut-size n es in omega (arith, h)
@@ -268,22 +258,22 @@ kept-settle ds d n =
     omega (arith, both, cut)) in
     omega (arith, h)
 
-first-size-if : (e : Entry) (es rest : List Entry) (b : Bool) → length rest ≡ length es → length (if b then e ∷ rest else record e { spooled = true } ∷ es) ≡ suc (length es)
+first-size-if : (e : DestEntry) (es rest : List DestEntry) (b : Bool) → length rest ≡ length es → length (if b then e ∷ rest else record e { spooled = true } ∷ es) ≡ suc (length es)
 first-size-if e es rest true h = ap suc h
 first-size-if e es rest false h = refl
 
-first-size : (es : List Entry) → length (spool_first es) ≡ length es
+first-size : (es : List DestEntry) → length (spool_first es) ≡ length es
 first-size [] = refl
 first-size (e ∷ es) = first-size-if e es (spool_first es) e.spooled (first-size es)
 
-spool-size : (n : ℕ) (es : List Entry) → length (spool_some n es) ≡ length es
+spool-size : (n : ℕ) (es : List DestEntry) → length (spool_some n es) ≡ length es
 spool-size zero es = refl
 spool-size (suc n) es = spool-size n (spool_first es) ∙ first-size es
 
 pub kept-refill : (ds : List Dest) (d n : ℕ) → kept_in (change ds d (refilled_some n)) ≤ kept_in ds
 kept-refill ds d n = let h = kept-change ds d 0 (refilled_some n) (λ x. let same = spool-size n x.left in omega (arith, same)) in omega (arith, h)
 
-push-size : (es : List Entry) (e : Entry) → length (es ++ e ∷ []) ≡ length es + 1
+push-size : (es : List DestEntry) (e : DestEntry) → length (es ++ e ∷ []) ≡ length es + 1
 push-size es e = length-append es (e ∷ [])
 
 offer-size : (origin : Origin) (o : Offer) (v : Verdict) (x : Dest) → size (take_offer origin o v x) ≤ size x + 1

@@ -6,9 +6,9 @@ use Rattle.sg_machine.specs.declared.event.Event.{Event}
 use Rattle.sg_machine.specs.declared.setup.DestSetup.{DestSetup}
 use Rattle.sg_machine.specs.declared.state.Dest.{Dest}
 use Rattle.sg_machine.specs.declared.state.State.{State}
-use Rattle.sg_machine.specs.Runs.{Kept, opened_dests, after_all}
+use Rattle.sg_machine.specs.Runs.{BufferedEntry, opened_dests, after_all}
 use Rattle.sg_machine.proofs.RunLemmas.{after_all-append}
-use Rattle.sg_one_run.specs.Fronts.{IsDest}
+use Rattle.sg_one_run.specs.Fronts.{IsDestThroughout}
 use Rattle.sg_one_run.specs.Texts.{admissions_by, admissions_of}
 use Rattle.sg_serve.specs.Rewinds.{rewinds_at, rewinds_from, position_at, places_of}
 use Rattle.sg_serve.specs.Run.{FailsLast}
@@ -87,11 +87,11 @@ pub admitted-later : (j : ℕ) (prelude later : List Event) → AreStill prelude
 admitted-later j prelude later still = admissions-both j prelude later ∙ ap (λ xs. xs ++ admissions_of j later) (still.admits j)
 
 -- behind them a destination is as at the start
-pub dest-behind : (start : State) (prelude later : List Event) (d : ℕ) (first last : Dest) → AreStill prelude → IsDest start [] (prelude ++ later) d first last → IsDest start prelude later d first last
+pub dest-behind : (start : State) (prelude later : List Event) (d : ℕ) (first last : Dest) → AreStill prelude → IsDestThroughout start [] (prelude ++ later) d first last → IsDestThroughout start prelude later d first last
 dest-behind start prelude later d first last still is = record { at_first = ap (λ ds. slice_get ds d) (still.dests start) ∙ is.at_first; at_last = is.at_last }
 
 -- an opening has the destinations of its setup
-pub opened-many : (setups : List DestSetup) (entries : List (List Kept)) → length (opened_dests setups entries) ≡ length setups
+pub opened-many : (setups : List DestSetup) (entries : List (List BufferedEntry)) → length (opened_dests setups entries) ≡ length setups
 opened-many [] entries = refl
 opened-many (s ∷ ss) [] = ap suc (opened-many ss [])
 opened-many (s ∷ ss) (es ∷ rest) = ap suc (opened-many ss rest)

@@ -8,7 +8,7 @@ use Rattle.sg_frame.specs.Records.{Record}
 use Rattle.sg_machine.specs.declared.setup.Setup.{Setup}
 use Rattle.sg_machine.specs.declared.setup.SourceSetup.{SourceSetup}
 use Rattle.sg_machine.specs.declared.state.Dest.{Dest}
-use Rattle.sg_machine.specs.declared.state.Inlet.{Inlet}
+use Rattle.sg_machine.specs.declared.state.InletRecords.{InletRecords}
 use Rattle.sg_machine.specs.declared.state.State.{State}
 use Rattle.sg_machine.specs.Marks.{mark_of}
 use Rattle.sg_machine.specs.Verdicts.{is_listed}
@@ -18,25 +18,25 @@ use Rattle.sg_standing.specs.Standing.{IsAt, is_broken}
 use Rattle.sg_run_plan.specs.declared.inlet.InletPlan.{InletPlan}
 use Rattle.sg_turns.specs.declared.ended.Ended.TheVariants.{Quiet}
 use Rattle.sg_serve.specs.Plan.{IsRunnable}
-use Rattle.sg_serve.specs.Run.{CoreRun, Reached, HoldsRun, IsServed, Holds}
+use Rattle.sg_serve.specs.Run.{CoreRun, Reached, HoldsRun, IsServed, PlanRunHolds}
 use Rattle.sg_serve.specs.declared.counts.Counts.{Counts}
 use Rattle.sg_serve.specs.declared.ending.PlanEnded.TheVariants.{Ran}
 use Rattle.sg_run_plan.specs.declared.plan.RunPlan.{RunPlan}
-use Rattle.sg_one_run.specs.Resting.{SourceRests, Rests, QuietRunsRest}
+use Rattle.sg_one_run.specs.Resting.{SourceRestsAtEnd, RunRests, QuietRunsRest}
 use Rattle.sg_one_run.proofs.CalmLemmas.{with_failed}
 use Rattle.sg_one_run.proofs.AgreeLemmas.{agree-setup}
 use Rattle.sg_one_run.proofs.RoundLemmas.{Rounds, inlet-of-setup, source-credit, source-stored, source-failed, dest-left, dest-broken}
 use Rattle.sg_one_run.proofs.FactLemmas.{SourceFacts, DestFacts, quiet-rounds, setup-last, source-facts, dest-facts}
 
 -- the setup of an inlet, whatever state the core is at
-pub setup-at : (core : CoreState) (t : State) (setup : Setup) (i : ℕ) (s : SourceSetup) (x : Inlet) → IsAt core t → setup_of core ≡ setup → slice_get setup.sources i ≡ Some s → slice_get t.inlets i ≡ Some x → x.setup ≡ s
+pub setup-at : (core : CoreState) (t : State) (setup : Setup) (i : ℕ) (s : SourceSetup) (x : InletRecords) → IsAt core t → setup_of core ≡ setup → slice_get setup.sources i ≡ Some s → slice_get t.inlets i ≡ Some x → x.setup ≡ s
 setup-at core t setup i s x at same h there =
     let r = inlet-of-setup core t setup i s at same h in
     agree-setup core t t i x r.0 at at there r.1.0 ∙ r.1.1
 
 -- the stored position is the mark, where the store works
 pub stored-rests : (offers : ℕ → Record → List Offer → Type 0) (old new : CoreState) (made last : List Exchange) (q : Rounds old new made last) (i : ℕ) (inlet : InletPlan) (setup : SourceSetup) (opened closed : InletState) (marks : List Bool)
-    → SourceFacts offers inlet setup i opened closed made last marks → (state : State) (x : Inlet) (u : ℕ) → IsAt new state → slice_get state.inlets i ≡ Some x → x.setup ≡ setup → setup.store ≡ Some u → is_listed u state.failed ≡ false
+    → SourceFacts offers inlet setup i opened closed made last marks → (state : State) (x : InletRecords) (u : ℕ) → IsAt new state → slice_get state.inlets i ≡ Some x → x.setup ≡ setup → setup.store ≡ Some u → is_listed u state.failed ≡ false
     → x.stored ≡ mark_of state.dests i x
 stored-rests offers old new made last q i inlet setup opened closed marks facts state x u at there same has works =
     let has' : x.setup.store ≡ Some u = ap (λ (s : SourceSetup). s.store) same ∙ has in
@@ -49,7 +49,7 @@ stored-rests offers old new made last q i inlet setup opened closed marks facts 
     ]
 
 source-rests-by : (offers : ℕ → Record → List Offer → Type 0) (old new : CoreState) (made last : List Exchange) (q : Rounds old new made last) (plan : Setup) (i : ℕ) (inlet : InletPlan) (setup : SourceSetup) (opened closed : InletState) (marks : List Bool)
-    → SourceFacts offers inlet setup i opened closed made last marks → setup_of new ≡ plan → slice_get plan.sources i ≡ Some setup → SourceRests offers inlet setup new i opened closed made
+    → SourceFacts offers inlet setup i opened closed made last marks → setup_of new ≡ plan → slice_get plan.sources i ≡ Some setup → SourceRestsAtEnd offers inlet setup new i opened closed made
 source-rests-by offers old new made last q plan i inlet setup opened closed marks facts same at_setup =
     let x = inlet-of-setup new (with_failed q.state (q.stayed).failed) plan i setup (q.stayed).at same at_setup in
     record {
@@ -79,7 +79,7 @@ dest-rests-by once old new made last q d closed marks facts state dest at there 
     ]
 
 rests-served : {R I O : Type 0} (feed : I → InletState) (drain : O → OutletState) (offers : R → ℕ → Record → List Offer → Type 0) (inlets dests : R → ℕ) (files : Option Files) (plan : RunPlan) (routers : List R) (rounds : ℕ) (reached : Reached) (run : CoreRun)
-    (counts : Option Counts) → IsRunnable plan → HoldsRun files plan reached run → (served : IsServed feed drain offers inlets dests plan routers rounds reached run Quiet counts) → Rests offers plan routers reached run run.made
+    (counts : Option Counts) → IsRunnable plan → HoldsRun files plan reached run → (served : IsServed feed drain offers inlets dests plan routers rounds reached run Quiet counts) → RunRests offers plan routers reached run run.made
 rests-served feed drain offers inlets dests files plan routers rounds reached run counts runnable holds served =
     let made = run.made in
     let last = (((served.runs).serves).ends).last in
@@ -102,10 +102,10 @@ rests-served feed drain offers inlets dests files plan routers rounds reached ru
     }
 
 rests-held : {R I O : Type 0} (feed : I → InletState) (drain : O → OutletState) (offers : R → ℕ → Record → List Offer → Type 0) (inlets dests : R → ℕ) (files : Option Files) (plan : RunPlan) (routers : List R) (rounds : ℕ) (reached : Reached)
-    (core : Option CoreRun) (run : CoreRun) (counts : Option Counts) → IsRunnable plan → core ≡ Some run → Holds feed drain offers inlets dests files plan routers rounds reached core (Ran Quiet counts)
-    → Rests offers plan routers reached run run.made
+    (core : Option CoreRun) (run : CoreRun) (counts : Option Counts) → IsRunnable plan → core ≡ Some run → PlanRunHolds feed drain offers inlets dests files plan routers rounds reached core (Ran Quiet counts)
+    → RunRests offers plan routers reached run run.made
 rests-held feed drain offers inlets dests files plan routers rounds reached core run counts runnable is held =
-    let both = subst (λ (c : Option CoreRun). Holds feed drain offers inlets dests files plan routers rounds reached c (Ran Quiet counts)) is held in
+    let both = subst (λ (c : Option CoreRun). PlanRunHolds feed drain offers inlets dests files plan routers rounds reached c (Ran Quiet counts)) is held in
     rests-served feed drain offers inlets dests files plan routers rounds reached run counts runnable both.0 both.1
 
 pub quiet-rest : {R I O : Type 0} (feed : I → InletState) (drain : O → OutletState) (offers : R → ℕ → Record → List Offer → Type 0) (inlets dests : R → ℕ) → QuietRunsRest feed drain offers inlets dests

@@ -6,7 +6,7 @@ use Rattle.sg_machine.specs.declared.setup.DestSetup.{DestSetup}
 use Rattle.sg_machine.specs.declared.setup.Setup.{Setup}
 use Rattle.sg_machine.specs.declared.setup.SourceSetup.{SourceSetup}
 use Rattle.sg_machine.specs.declared.state.Dest.{Dest}
-use Rattle.sg_machine.specs.declared.state.Inlet.{Inlet}
+use Rattle.sg_machine.specs.declared.state.InletRecords.{InletRecords}
 use Rattle.sg_machine.specs.declared.state.State.{State}
 use Rattle.sg_machine.specs.Marks.{mark_of}
 use Rattle.sg_machine.specs.Verdicts.{is_listed}
@@ -46,7 +46,7 @@ pub record Rounds (old new : CoreState) (made last : List Exchange) : Type 0 whe
   pub stayed : Stayed new state
 
 -- the inlet of a setup
-pub inlet-of-setup : (core : CoreState) (t : State) (setup : Setup) (i : ℕ) (s : SourceSetup) → IsAt core t → setup_of core ≡ setup → slice_get setup.sources i ≡ Some s → (x : Inlet) × ((slice_get t.inlets i ≡ Some x) × (x.setup ≡ s))
+pub inlet-of-setup : (core : CoreState) (t : State) (setup : Setup) (i : ℕ) (s : SourceSetup) → IsAt core t → setup_of core ≡ setup → slice_get setup.sources i ≡ Some s → (x : InletRecords) × ((slice_get t.inlets i ≡ Some x) × (x.setup ≡ s))
 inlet-of-setup core t setup i s at same h =
     let k = get-map (λ (x : Source). x.setup) core.sources i s (ap (λ (z : Setup). slice_get z.sources i) same ∙ h) in
     let b = behind core t i k.0 at k.1 in
@@ -58,7 +58,7 @@ own-moment : {old new : CoreState} {made last : List Exchange} (q : Rounds old n
 own-moment {old} {new} {made} {last} q e h = calm-moment q.mid new last q.state e q.rest q.calm q.at_mid h
 
 -- where it was refused credit, it has none at the end
-pub source-credit : (old new : CoreState) (made last : List Exchange) (q : Rounds old new made last) (i : ℕ) (x : Inlet) → slice_get (q.state).inlets i ≡ Some x → NoneSentBack i made → HasRefusal (calls_by (OfSource i) last) → HasNoCredit new i
+pub source-credit : (old new : CoreState) (made last : List Exchange) (q : Rounds old new made last) (i : ℕ) (x : InletRecords) → slice_get (q.state).inlets i ≡ Some x → NoneSentBack i made → HasRefusal (calls_by (OfSource i) last) → HasNoCredit new i
 source-credit old new made last q i x there unsent refused =
     let r = refusal-in (calls_by (OfSource i) last) refused in
     let e = r.0 in
@@ -91,7 +91,7 @@ stored-in [] answer rest h = absurd (let wrong : [] ≡ answer ∷ rest = h in c
 stored-in (x ∷ xs) answer rest h = answer-by x xs answer rest x.reply refl (stored-in xs answer rest) h
 
 -- where it was told that the stored position is the mark, it is so at the end
-pub source-stored : (old new : CoreState) (made last : List Exchange) (q : Rounds old new made last) (i u : ℕ) (state : State) (inlet : Inlet) → stores_in (calls_by (OfSource i) last) ≡ Unchanged ∷ [] → IsAt new state → slice_get state.inlets i ≡ Some inlet
+pub source-stored : (old new : CoreState) (made last : List Exchange) (q : Rounds old new made last) (i u : ℕ) (state : State) (inlet : InletRecords) → stores_in (calls_by (OfSource i) last) ≡ Unchanged ∷ [] → IsAt new state → slice_get state.inlets i ≡ Some inlet
     → inlet.setup.store ≡ Some u → inlet.stored ≡ mark_of state.dests i inlet
 source-stored old new made last q i u state inlet answered at there has =
     let final = with_failed q.state (q.stayed).failed in
@@ -106,7 +106,7 @@ source-stored old new made last q i u state inlet answered at there has =
     sym (agree-stored new final state i u x.0 inlet at' at x.1 there has).0 ∙ marked ∙ agree-mark new final state i x.0 inlet at' at x.1 there
 
 -- where it was told that the store failed, that is one of the failed ones at the end
-pub source-failed : (old new : CoreState) (made : List Exchange) (first : State) (i u : ℕ) (state : State) (inlet : Inlet) → Makes Serves old made new → IsAt old first → HasFailure (calls_by (OfSource i) made) → IsAt new state → slice_get state.inlets i ≡ Some inlet
+pub source-failed : (old new : CoreState) (made : List Exchange) (first : State) (i u : ℕ) (state : State) (inlet : InletRecords) → Makes Serves old made new → IsAt old first → HasFailure (calls_by (OfSource i) made) → IsAt new state → slice_get state.inlets i ≡ Some inlet
     → inlet.setup.store ≡ Some u → is_listed u state.failed ≡ true
 source-failed old new made first i u state inlet makes at_first (e, (owned, is)) at there has =
     let own = has-own (OfSource i) made e owned in

@@ -12,7 +12,7 @@ use Rattle.sg_machine.specs.declared.event.Event.{Event}
 use Rattle.sg_machine.specs.declared.setup.BufferSetup.{BufferSetup}
 use Rattle.sg_machine.specs.declared.setup.DestSetup.{DestSetup}
 use Rattle.sg_machine.specs.declared.state.Dest.{Dest}
-use Rattle.sg_machine.specs.declared.state.Entry.{Entry}
+use Rattle.sg_machine.specs.declared.state.DestEntry.{DestEntry}
 use Rattle.sg_machine.specs.declared.state.State.{State}
 use Rattle.sg_machine.specs.Effects.{after, after_act}
 use Rattle.sg_machine.specs.Runs.{after_all}
@@ -21,20 +21,20 @@ use Rattle.sg_counter.specs.Exchanges.{Exchange, Makes, OfDest, caller_of, same_
 use Rattle.sg_stores.specs.Stores.{StoreState}
 use Rattle.sg_standing.specs.States.{CoreState}
 use Rattle.sg_standing.specs.Standing.{IsAt}
-use Rattle.sg_core.specs.Answers.{IsTold}
+use Rattle.sg_core.specs.Answers.{IsBufferTold}
 use Rattle.sg_core.specs.Calls.{Serves, acts_in, acts_of}
 use Rattle.sg_one_run.specs.Calls.{Ran}
-use Rattle.sg_one_run.specs.Fronts.{IsDest, FrontsAreNext, FramesAreSettled}
-use Rattle.sg_one_run.proofs.ViewLemmas.{Run, grows-none, run-before, turns-add, turns-count, turns-taken, shown-next}
+use Rattle.sg_one_run.specs.Fronts.{IsDestThroughout, FrontsAreNext, FramesAreSettled}
+use Rattle.sg_one_run.proofs.ViewLemmas.{RunViewed, grows-none, run-before, turns-add, turns-count, turns-taken, shown-next}
 use Rattle.sg_one_run.proofs.ServeLemmas.{message_of, view, others-call, own-call}
 
 -- What the calls come to at d, from a state on.
-pub record Ended (T : Type 0) (s : State) (made : List Exchange) (d : ℕ) (x : Dest) : Type 0 where
+pub record EndedSeen (T : Type 0) (s : State) (made : List Exchange) (d : ℕ) (x : Dest) : Type 0 where
   pub events : List Event
   pub acts : map (λ (e : Event). e.act) events ≡ acts_of made
   pub dest : Dest
   pub there : slice_get (after_all s events).dests d ≡ Some dest
-  pub run : Run T (view x) (calls_by (OfDest d) made) (view dest)
+  pub run : RunViewed T (view x) (calls_by (OfDest d) made) (view dest)
 
 pub kept-own : (d : ℕ) (e : Exchange) (rest : List Exchange) → same_caller (OfDest d) (caller_of e.call) ≡ true → calls_by (OfDest d) (e ∷ rest) ≡ e ∷ calls_by (OfDest d) rest
 kept-own d e rest h = rw h refl
@@ -49,14 +49,14 @@ joined-there : (s : State) (es fs : List Event) (d : ℕ) (y : Dest) → slice_g
 joined-there s es fs d y h = ap (λ (t : State). slice_get t.dests d) (after_all-append s es fs) ∙ h
 
 -- the calls behind, from each state that the core may then be at
-abbrev Rest : Type 0 → ℕ → CoreState → List Exchange → Type 0
-Rest T d between rest = (s : State) (x : Dest) → IsAt between s → slice_get s.dests d ≡ Some x → (T → IsTold between.stores x.setup.buffer) → Ended T s rest d x
+abbrev RestOfSeen : Type 0 → ℕ → CoreState → List Exchange → Type 0
+RestOfSeen T d between rest = (s : State) (x : Dest) → IsAt between s → slice_get s.dests d ≡ Some x → (T → IsBufferTold between.stores x.setup.buffer) → EndedSeen T s rest d x
 
-told-on : (T : Type 0) (olds news : List StoreState) (x y : Dest) → y.setup ≡ x.setup → ((buffer : Option BufferSetup) → IsTold olds buffer → IsTold news buffer) → (T → IsTold olds x.setup.buffer) → T → IsTold news y.setup.buffer
-told-on T olds news x y same tells told t = subst (λ (u : DestSetup). IsTold news u.buffer) (sym same) (tells x.setup.buffer (told t))
+told-on : (T : Type 0) (olds news : List StoreState) (x y : Dest) → y.setup ≡ x.setup → ((buffer : Option BufferSetup) → IsBufferTold olds buffer → IsBufferTold news buffer) → (T → IsBufferTold olds x.setup.buffer) → T → IsBufferTold news y.setup.buffer
+told-on T olds news x y same tells told t = subst (λ (u : DestSetup). IsBufferTold news u.buffer) (sym same) (tells x.setup.buffer (told t))
 
 ends-by : (T : Type 0) (d : ℕ) (old between : CoreState) (e : Exchange) (rest : List Exchange) (s : State) (x : Dest) (b : Bool) → same_caller (OfDest d) (caller_of e.call) ≡ b → Serves old e.call e.reply between → IsAt old s
-    → slice_get s.dests d ≡ Some x → (T → IsTold old.stores x.setup.buffer) → Rest T d between rest → Ended T s (e ∷ rest) d x
+    → slice_get s.dests d ≡ Some x → (T → IsBufferTold old.stores x.setup.buffer) → RestOfSeen T d between rest → EndedSeen T s (e ∷ rest) d x
 ends-by T d old between e rest s x true own step at h told more =
     let c = own-call T old between e.call e.reply s d x step at h own told in
     let r = more (after_all s c.events) c.dest c.at c.there (told-on T old.stores between.stores x c.dest c.does.setup c.tells told) in
@@ -65,7 +65,7 @@ ends-by T d old between e rest s x true own step at h told more =
       acts = joined-acts c.events r.events e rest c.acts_are r.acts;
       dest = r.dest;
       there = joined-there s c.events r.events d r.dest r.there;
-      run = subst (λ es. Run T (view x) es (view r.dest)) (sym (kept-own d e rest own)) (view x, (grows-none (view x), (view c.dest, (c.does.step, r.run))));
+      run = subst (λ es. RunViewed T (view x) es (view r.dest)) (sym (kept-own d e rest own)) (view x, (grows-none (view x), (view c.dest, (c.does.step, r.run))));
     }
 ends-by T d old between e rest s x false own step at h told more =
     let c = others-call old between e.call e.reply s d x step at h own in
@@ -75,10 +75,10 @@ ends-by T d old between e rest s x false own step at h told more =
       acts = joined-acts c.events r.events e rest c.acts_are r.acts;
       dest = r.dest;
       there = joined-there s c.events r.events d r.dest r.there;
-      run = subst (λ es. Run T (view x) es (view r.dest)) (sym (left-out d e rest own)) (run-before T (view x) (view c.dest) (view r.dest) (calls_by (OfDest d) rest) c.does.grows r.run);
+      run = subst (λ es. RunViewed T (view x) es (view r.dest)) (sym (left-out d e rest own)) (run-before T (view x) (view c.dest) (view r.dest) (calls_by (OfDest d) rest) c.does.grows r.run);
     }
 
-pub ends : (T : Type 0) (d : ℕ) (old new : CoreState) (made : List Exchange) (s : State) (x : Dest) → Makes Serves old made new → IsAt old s → slice_get s.dests d ≡ Some x → (T → IsTold old.stores x.setup.buffer) → Ended T s made d x
+pub ends : (T : Type 0) (d : ℕ) (old new : CoreState) (made : List Exchange) (s : State) (x : Dest) → Makes Serves old made new → IsAt old s → slice_get s.dests d ≡ Some x → (T → IsBufferTold old.stores x.setup.buffer) → EndedSeen T s made d x
 ends T d old new [] s x makes at h told = record { events = []; acts = refl; dest = x; there = h; run = grows-none (view x) }
 ends T d old new (e ∷ rest) s x (between, step, makes) at h told = ends-by T d old between e rest s x (same_caller (OfDest d) (caller_of e.call)) refl step at h told (λ t y a b c. ends T d between new rest t y makes a b c)
 
@@ -117,28 +117,28 @@ alike-all (e ∷ es) (f ∷ fs) s t a h =
 
 -- The laws.
 
-seen : (old new : CoreState) (made : List Exchange) (start : State) (before events : List Event) (d : ℕ) (first last : Dest) → Ran old new made start before events → IsDest start before events d first last
-    → Run (IsTold old.stores first.setup.buffer) (view first) (calls_by (OfDest d) made) (view last)
+seen : (old new : CoreState) (made : List Exchange) (start : State) (before events : List Event) (d : ℕ) (first last : Dest) → Ran old new made start before events → IsDestThroughout start before events d first last
+    → RunViewed (IsBufferTold old.stores first.setup.buffer) (view first) (calls_by (OfDest d) made) (view last)
 seen old new made start before events d first last ran is =
     let s = after_all start before in
-    let T : Type 0 = IsTold old.stores first.setup.buffer in
+    let T : Type 0 = IsBufferTold old.stores first.setup.buffer in
     let e = ends T d old new made s first ran.makes ran.stood.at is.at_first (λ t. t) in
     let same = alike-all e.events events s s (record { inlets = refl; dests = refl }) (e.acts ∙ sym ran.acts) in
     let there : slice_get (after_all start (before ++ events)).dests d ≡ Some e.dest =
     ap (λ (t : State). slice_get t.dests d) (after_all-append start before events) ∙ ap (λ ds. slice_get ds d) (sym same.dests) ∙ e.there in
-    subst (λ (y : Dest). Run T (view first) (calls_by (OfDest d) made) (view y)) (some-same e.dest last (sym there ∙ is.at_last)) e.run
+    subst (λ (y : Dest). RunViewed T (view first) (calls_by (OfDest d) made) (view y)) (some-same e.dest last (sym there ∙ is.at_last)) e.run
 
 pub fronts-next : FrontsAreNext
 fronts-next old new made start before events d first last ran is earlier later most place n count messages answer calls few =
-    let T : Type 0 = IsTold old.stores first.setup.buffer in
-    let run = subst (λ es. Run T (view first) es (view last)) calls (seen old new made start before events d first last ran is) in
+    let T : Type 0 = IsBufferTold old.stores first.setup.buffer in
+    let run = subst (λ es. RunViewed T (view first) es (view last)) calls (seen old new made start before events d first last ran is) in
     let next = shown-next T (view first) (view last) d most place n count messages answer earlier later run few in
     record {
       settles = next.0;
       shown = λ t. sym (take-map message_of n (drop place last.settled)) ∙ ap (take n) (sym (drop-map message_of place last.settled)) ∙ next.1 t;
     }
 
-frames-of : (frame : Content → List ℕ) (es : List Entry) → map (λ (e : Entry). frame e.message) es ≡ map frame (map message_of es)
+frames-of : (frame : Content → List ℕ) (es : List DestEntry) → map (λ (e : DestEntry). frame e.message) es ≡ map frame (map message_of es)
 frames-of frame [] = refl
 frames-of frame (e ∷ es) = ap (λ fs. frame e.message ∷ fs) (frames-of frame es)
 
@@ -155,8 +155,8 @@ settled-count first last added h =
 
 pub frames-settled : FramesAreSettled
 frames-settled old new made start before events d first last ran is frame turns drain drain' calls are =
-    let T : Type 0 = IsTold old.stores first.setup.buffer in
-    let run = subst (λ es. Run T (view first) es (view last)) calls (seen old new made start before events d first last ran is) in
+    let T : Type 0 = IsBufferTold old.stores first.setup.buffer in
+    let run = subst (λ es. RunViewed T (view first) es (view last)) calls (seen old new made start before events d first last ran is) in
     let adds = turns-add T frame d turns drain drain' (view first) (view last) are run in
     let behind = added-behind first last adds.added adds.settled in
     let sum = settled-count first last adds.added adds.settled in

@@ -19,8 +19,8 @@ use Rattle.sg_actor.proofs.LawLemmas.{reads-first}
 use Rattle.sg_turns.specs.Turns.{Turn, calls_of}
 use Rattle.sg_turns.specs.Laws.{ReadsOn}
 use Rattle.sg_run_plan.specs.declared.inlet.InletPlan.{InletPlan}
-use Rattle.sg_one_run.specs.Fronts.{IsDest}
-use Rattle.sg_one_run.specs.Texts.{admissions_of, taken_from, records_given, AreFirst, TakesTexts, TakesFirst}
+use Rattle.sg_one_run.specs.Fronts.{IsDestThroughout}
+use Rattle.sg_one_run.specs.Texts.{admissions_of, taken_from, records_given, AreFirstRecords, TakesTexts, TakesFirstTexts}
 use Rattle.sg_one_run.proofs.OwnEventLemmas.{takes-texts}
 use Rattle.sg_one_run.specs.Headline.{records_of}
 
@@ -42,7 +42,7 @@ nothing-read offers dests spec s is none =
 -- Behind its last turn.
 
 first-of : (spec : SourceSpec) (told : Option (List Part)) (done : List Record) → ((parts : List Part) → told ≡ Some parts → (rest : List Record) × (records spec.kind spec.limit spec.from parts ≡ done ++ rest))
-    → AreFirst done (option_map (records spec.kind spec.limit spec.from) told)
+    → AreFirstRecords done (option_map (records spec.kind spec.limit spec.from) told)
 first-of spec None done h = tt
 first-of spec (Some parts) done h = h parts refl
 
@@ -61,8 +61,8 @@ planned-of spec i from inlet stored is = record {
 
 -- where these records are what came in of the inlet, and the first that it gave
 texts-of : (offers : ℕ → Record → List Offer → Type 0) (frame : ℕ → Content → List ℕ) (start : State) (events : List Event) (spec : SourceSpec) (done : List Record) (given : Option (List Record)) (d : ℕ) (first last : Dest)
-    → are_legal start events ≡ true → AreOf offers spec done (admissions_of spec.inlet events) → AreFirst done given → IsDest start [] events d first last
-    → TakesFirst offers frame spec.inlet d given events (taken_from frame spec.inlet d first last) last.left
+    → are_legal start events ≡ true → AreOf offers spec done (admissions_of spec.inlet events) → AreFirstRecords done given → IsDestThroughout start [] events d first last
+    → TakesFirstTexts offers frame spec.inlet d given events (taken_from frame spec.inlet d first last) last.left
 texts-of offers frame start events spec done given d first last legal are front is =
     let t = takes-texts offers frame start events spec done d first legal are is.at_first in
     let same : t.0 ≡ last = some-same t.0 last (sym t.1.0 ∙ is.at_last) in
@@ -74,8 +74,8 @@ texts-of offers frame start events spec done given d first last legal are front 
 
 pub source-texts : (offers : ℕ → Record → List Offer → Type 0) (dests : ℕ) (spec : SourceSpec) (old new : ActorState) (turns : List Turn) → ReadsOn offers dests spec old new turns [] 0
     → (i : ℕ) (inlet : InletPlan) → IsPlanned spec i inlet → (start : State) (events : List Event) → are_legal start events ≡ true → admissions_of i events ≡ admitted_in (calls_of turns)
-    → (frame : ℕ → Content → List ℕ) (d : ℕ) (first last : Dest) → IsDest start [] events d first last
-    → TakesFirst offers frame i d (records_of inlet new.source.feed) events (taken_from frame i d first last) last.left
+    → (frame : ℕ → Content → List ℕ) (d : ℕ) (first last : Dest) → IsDestThroughout start [] events d first last
+    → TakesFirstTexts offers frame i d (records_of inlet new.source.feed) events (taken_from frame i d first last) last.left
 source-texts offers dests spec old new turns reads i inlet planned start events legal came frame d first last is =
     let feed = new.source.feed in
     let own : admissions_of spec.inlet events ≡ admitted_in (calls_of turns) = ap (λ j. admissions_of j events) planned.number ∙ came in
@@ -84,18 +84,18 @@ source-texts offers dests spec old new turns reads i inlet planned start events 
     ap (λ k. option_map (records k spec.limit spec.from) feed.told) planned.kind
     ∙ ap (λ l. option_map (records inlet.kind l spec.from) feed.told) planned.limit
     ∙ ap (λ f. option_map (records inlet.kind inlet.limit f) feed.told) (sym reads.ready.from) in
-    let front = subst (AreFirst reads.taken) given
+    let front = subst (AreFirstRecords reads.taken) given
     (first-of spec feed.told reads.taken (λ parts told. reads-first offers dests spec new.source reads.taken (0 + reads.ups) parts reads.ready reads.reads told)) in
-    subst (λ j. TakesFirst offers frame j d (records_of inlet feed) events (taken_from frame j d first last) last.left) planned.number
+    subst (λ j. TakesFirstTexts offers frame j d (records_of inlet feed) events (taken_from frame j d first last) last.left) planned.number
     (texts-of offers frame start events spec reads.taken (records_of inlet feed) d first last legal are front is)
 
-none-first : (given : Option (List Record)) → AreFirst [] given
+none-first : (given : Option (List Record)) → AreFirstRecords [] given
 none-first None = tt
 none-first (Some records) = (records, refl)
 
 -- where none came in
 pub no-texts : (offers : ℕ → Record → List Offer → Type 0) (frame : ℕ → Content → List ℕ) (start : State) (events : List Event) (i : ℕ) (inlet : InletPlan) (given : Option (List Record)) (d : ℕ) (first last : Dest) → are_legal start events ≡ true
-    → admissions_of i events ≡ [] → IsDest start [] events d first last → TakesFirst offers frame i d given events (taken_from frame i d first last) last.left
+    → admissions_of i events ≡ [] → IsDestThroughout start [] events d first last → TakesFirstTexts offers frame i d given events (taken_from frame i d first last) last.left
 no-texts offers frame start events i inlet given d first last legal none is =
     let spec : SourceSpec = record { inlet = i; kind = inlet.kind; limit = inlet.limit; fetch = inlet.fetch; from = 0; stored = false } in
     let are : AreOf offers spec [] (admissions_of i events) = subst (AreOf offers spec []) (sym none) tt in

@@ -1,16 +1,15 @@
 -- The calls of a core, one after another, and the states that it comes to.
 use Rattle.std.proofs.Common.{◌≡◌, ◌≤◌, ℕ, Bool, true, false, ◌||◌, List, [], ◌∷◌, ◌++◌, length, Some, Ok, Err, ◌⊎◌, inl, inr, refl, sym, ap, ◌∙◌, arith, slice_get, subst, if◌then◌else◌}
-use Rattle.std.specs.Prelude.{◌==◌}
 use Rattle.sg_list.proofs.ListLemmas.{some-same, slice_get-some, slice_get-below}
 use Rattle.sg_device.specs.Faults.{Rose}
 use Rattle.sg_machine.specs.declared.event.Act.{Act}
 use Rattle.sg_machine.specs.declared.state.Dest.{Dest}
-use Rattle.sg_machine.specs.declared.state.Inlet.{Inlet}
+use Rattle.sg_machine.specs.declared.state.InletRecords.{InletRecords}
 use Rattle.sg_machine.specs.declared.state.State.{State}
 use Rattle.sg_machine.specs.Effects.{after_act}
 use Rattle.sg_machine.specs.Verdicts.{is_listed}
 use Rattle.sg_machine.proofs.RunLemmas.{length-inlets-after_act}
-use Rattle.sg_counter.specs.Exchanges.{Exchange, Makes, Caller, OfSource, OfDest, caller_of, same_caller, calls_by}
+use Rattle.sg_counter.specs.Exchanges.{Exchange, Makes, Caller, caller_of, same_caller, calls_by}
 use Rattle.sg_counter.specs.declared.calls.CoreCall.{CoreCall}
 use Rattle.sg_counter.specs.declared.calls.CoreCall.TheVariants.{Credit, Admit, Front, Settle, Refill, Store}
 use Rattle.sg_counter.specs.declared.calls.CoreReply.{CoreReply}
@@ -18,20 +17,21 @@ use Rattle.sg_counter.specs.declared.calls.CoreReply.TheVariants.{Credit as Cred
 use Rattle.sg_stores.specs.Stores.{StoreState, AllGo}
 use Rattle.sg_stores.proofs.StoreLemmas.{all_go_trans}
 use Rattle.sg_standing.specs.States.{CoreState, setup_of}
-use Rattle.sg_standing.specs.Standing.{IsAt, Does}
+use Rattle.sg_standing.specs.Standing.{IsAt, DoesAct}
 use Rattle.sg_standing.proofs.Calls.{all-go-same}
 use Rattle.sg_standing.proofs.Frozen.{listed-front, listed-either, kept-setup, length-dests}
 use Rattle.sg_standing.proofs.ImageLaws.{kept-inlet}
 use Rattle.sg_core.specs.Calls.{Serves, acts_in}
+use Rattle.sg_turns.proofs.TurnLemmas.{same-self}
 
 -- A call is an event, or none.
 
-abbrev Steps : CoreState → CoreState → List Act → Type 0
-Steps old new [] = new ≡ old
-Steps old new (act ∷ []) = Does old new act
-Steps old new (act ∷ next ∷ rest) = ⊥
+abbrev StepsEvents : CoreState → CoreState → List Act → Type 0
+StepsEvents old new [] = new ≡ old
+StepsEvents old new (act ∷ []) = DoesAct old new act
+StepsEvents old new (act ∷ next ∷ rest) = ⊥
 
-steps : (old new : CoreState) (call : CoreCall) (reply : CoreReply) → Serves old call reply new → Steps old new (acts_in call reply)
+steps : (old new : CoreState) (call : CoreCall) (reply : CoreReply) → Serves old call reply new → StepsEvents old new (acts_in call reply)
 steps old new (Credit i) (CreditReply n) s = s.same
 steps old new (Admit i records) (Admitted (Ok verdicts)) s = s.does
 steps old new (Admit i records) (Admitted (Err refused)) s = s.does
@@ -71,7 +71,7 @@ pub record Went (old new : CoreState) (s t : State) : Type 0 where
   pub rose : (u : ℕ) → is_listed u t.failed ≡ true → (is_listed u s.failed ≡ true) ⊎ RoseOf old.stores new.stores u
   pub all_inlets : length t.inlets ≡ length s.inlets
   pub all_dests : length t.dests ≡ length s.dests
-  pub inlets : (i : ℕ) (x : Inlet) → slice_get s.inlets i ≡ Some x → (y : Inlet) × (slice_get t.inlets i ≡ Some y) × (y.setup ≡ x.setup)
+  pub inlets : (i : ℕ) (x : InletRecords) → slice_get s.inlets i ≡ Some x → (y : InletRecords) × (slice_get t.inlets i ≡ Some y) × (y.setup ≡ x.setup)
   pub dests : (d : ℕ) (x : Dest) → slice_get s.dests d ≡ Some x → (y : Dest) × (slice_get t.dests d ≡ Some y) × (y.setup ≡ x.setup)
 
 pub went-none : (core : CoreState) (s : State) → IsAt core s → Went core core s s
@@ -91,7 +91,7 @@ pub either-true : (a b : Bool) → (a || b) ≡ true → (a ≡ true) ⊎ (b ≡
 either-true true b h = inl refl
 either-true false b h = inr h
 
-went-does : (old new : CoreState) (act : Act) (s : State) (does : Does old new act) → IsAt old s → Went old new s (after_act s act does.failed)
+went-does : (old new : CoreState) (act : Act) (s : State) (does : DoesAct old new act) → IsAt old s → Went old new s (after_act s act does.failed)
 went-does old new act s does at = record {
   at = (does.step s at).1;
   goes = does.goes;
@@ -134,7 +134,7 @@ went-then a b c s t u p q = record {
       (z.0, z.1, z.2 ∙ y.2);
 }
 
-went-steps : (old new : CoreState) (acts : List Act) (s : State) → Steps old new acts → IsAt old s → (t : State) × Went old new s t
+went-steps : (old new : CoreState) (acts : List Act) (s : State) → StepsEvents old new acts → IsAt old s → (t : State) × Went old new s t
 went-steps old new [] s same at = (s, subst (λ (c : CoreState). Went old c s s) (sym same) (went-none old s at))
 went-steps old new (act ∷ []) s does at = (after_act s act does.failed, went-does old new act s does at)
 went-steps old new (act ∷ next ∷ rest) s h at = absurd h
@@ -150,12 +150,12 @@ went-all old new (x ∷ rest) s m at =
     (more.0, went-then old m.0 new s one.0 more.0 one.1 more.1)
 
 -- what is there was there before
-pub inlet-before : (old new : CoreState) (s t : State) (i : ℕ) (y : Inlet) → Went old new s t → slice_get t.inlets i ≡ Some y → (x : Inlet) × ((slice_get s.inlets i ≡ Some x) × (y.setup ≡ x.setup))
+pub inlet-before : (old new : CoreState) (s t : State) (i : ℕ) (y : InletRecords) → Went old new s t → slice_get t.inlets i ≡ Some y → (x : InletRecords) × ((slice_get s.inlets i ≡ Some x) × (y.setup ≡ x.setup))
 inlet-before old new s t i y went h =
     let low = slice_get-below t.inlets i y h in
     let x = slice_get-some s.inlets i (let n = went.all_inlets in omega (arith, low, n)) in
     let r = went.inlets i x.0 x.1 in
-    (x.0, (x.1, ap (λ (z : Inlet). z.setup) (some-same y r.0 (sym h ∙ r.1)) ∙ r.2))
+    (x.0, (x.1, ap (λ (z : InletRecords). z.setup) (some-same y r.0 (sym h ∙ r.1)) ∙ r.2))
 
 pub dest-before : (old new : CoreState) (s t : State) (d : ℕ) (y : Dest) → Went old new s t → slice_get t.dests d ≡ Some y → (x : Dest) × ((slice_get s.dests d ≡ Some x) × (y.setup ≡ x.setup))
 dest-before old new s t d y went h =
@@ -236,10 +236,6 @@ has-own who (x ∷ xs) e h =
       | inl p ↦ (inl p.1, subst (λ (y : Exchange). same_caller who (caller_of y.call) ≡ true) p.1 p.0)
       | inr q ↦ (let r = has-own who xs e q in (inr r.0, r.1))
     ]
-
-same-self : (who : Caller) → same_caller who who ≡ true
-same-self (OfSource i) = let e : (i == i) ≡ true = grind arith in e
-same-self (OfDest d) = let e : (d == d) ≡ true = grind arith in e
 
 if-first : (b : Bool) (x : Exchange) (xs : List Exchange) (e : Exchange) → b ≡ true → x ≡ e → Has (if b then x ∷ xs else xs) e
 if-first true x xs e is same = inl same

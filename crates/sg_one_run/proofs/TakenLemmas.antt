@@ -14,12 +14,12 @@ use Rattle.sg_counter.specs.declared.calls.CoreCall.{CoreCall}
 use Rattle.sg_counter.specs.declared.calls.CoreCall.TheVariants.{Front, Settle}
 use Rattle.sg_counter.specs.declared.calls.CoreReply.{CoreReply}
 use Rattle.sg_counter.specs.declared.calls.CoreReply.TheVariants.{Front as FrontReply, Settled as SettledReply}
-use Rattle.sg_core.specs.Answers.{IsTold}
-use Rattle.sg_actor.specs.DestTurns.{shown_by, shown_in, is_done, Refills, SettlesFirst, Follows, Delivers}
+use Rattle.sg_core.specs.Answers.{IsBufferTold}
+use Rattle.sg_actor.specs.DestTurns.{shown_by, shown_in, is_done, Refills, SettlesFirst, FollowsFront, DeliversFront}
 use Rattle.sg_one_run.specs.Calls.{settled_by, settled_in, sum}
 use Rattle.sg_one_run.specs.Fronts.{SettlesAreTaken}
 use Rattle.sg_one_run.specs.Turns.{Sending, AreSendings, calls_in}
-use Rattle.sg_one_run.proofs.ViewLemmas.{View, Grows, Shows, Step, Run, run-split, refill-tail, can-settle}
+use Rattle.sg_one_run.proofs.ViewLemmas.{CoreView, GrowsInView, ShowsFront, StepOfView, RunViewed, run-split, refill-tail, can-settle}
 use Rattle.sg_one_run.proofs.ServeLemmas.{view}
 use Rattle.sg_one_run.proofs.SeenLemmas.{kept-own, ends}
 
@@ -51,14 +51,14 @@ shows-join first (x ∷ xs) ys a b =
 -- The calls of a turn.
 
 -- each shows what it should, and so many entries are settled
-record Counts (first n : ℕ) (made : List Exchange) : Type 0 where
+record CountsTaken (first n : ℕ) (made : List Exchange) : Type 0 where
   shows : ShowsAll first made
   settles : sum (settled_in made) ≡ n
 
-counts-none : (first n : ℕ) (made : List Exchange) → made ≡ [] → n ≡ 0 → Counts first n made
-counts-none first n made none nothing = subst (λ (es : List Exchange). Counts first n es) (sym none) (record { shows = tt; settles = sym nothing })
+counts-none : (first n : ℕ) (made : List Exchange) → made ≡ [] → n ≡ 0 → CountsTaken first n made
+counts-none first n made none nothing = subst (λ (es : List Exchange). CountsTaken first n es) (sym none) (record { shows = tt; settles = sym nothing })
 
-counts-refill : (first d : ℕ) (well : Bool) (made : List Exchange) → Refills d well made → Counts first 0 made
+counts-refill : (first d : ℕ) (well : Bool) (made : List Exchange) → Refills d well made → CountsTaken first 0 made
 counts-refill first d true [] f = absurd f
 counts-refill first d true (x ∷ []) f =
     let P : CoreCall → Type 0 = λ c. ShowsOne first c x.reply × (settled_by c x.reply ≡ []) in
@@ -69,7 +69,7 @@ counts-refill first d false [] f = record { shows = tt; settles = refl }
 counts-refill first d false (x ∷ rest) f = absurd f
 
 -- a settling of what was shown is never refused
-settle-shows : (T : Type 0) (d place n count first : ℕ) (reply : CoreReply) (a b c e : View) (messages shown : List Content) → Shows T a b (Entries place messages) → Grows b c → Step T c e (Settle d place (suc n) count) reply
+settle-shows : (T : Type 0) (d place n count first : ℕ) (reply : CoreReply) (a b c e : CoreView) (messages shown : List Content) → ShowsFront T a b (Entries place messages) → GrowsInView b c → StepOfView T c e (Settle d place (suc n) count) reply
     → shown ≡ shown_by reply → suc n ≤ length (messages ++ shown) → count ≡ first + suc n
     → ShowsOne first (Settle d place (suc n) count) reply × (settled_by (Settle d place (suc n) count) reply ≡ suc n ∷ [])
 settle-shows T d place n count first (SettledReply Done) a b c e messages shown shows g s none h is = (is, refl)
@@ -81,13 +81,13 @@ settle-shows T d place n count first (SettledReply NotFront) a b c e messages sh
 settle-shows T d place n count first (SettledReply DiskFailed) a b c e messages shown shows g s none h is = (is, refl)
 settle-shows T d place n count first reply a b c e messages shown shows g s none h is = absurd s
 
-counts-first : (T : Type 0) (d place taken count first : ℕ) (well : Bool) (made : List Exchange) (a b w : View) (messages : List Content) → Shows T a b (Entries place messages) → Run T b made w → SettlesFirst d place taken count well made
-    → taken ≤ length (messages ++ shown_in made) → count ≡ first + taken → Counts first taken made
+counts-first : (T : Type 0) (d place taken count first : ℕ) (well : Bool) (made : List Exchange) (a b w : CoreView) (messages : List Content) → ShowsFront T a b (Entries place messages) → RunViewed T b made w → SettlesFirst d place taken count well made
+    → taken ≤ length (messages ++ shown_in made) → count ≡ first + taken → CountsTaken first taken made
 counts-first T d place zero count first well made a b w messages shows r f h is = counts-refill first d well made f
 counts-first T d place (suc n) count first well [] a b w messages shows r f h is = absurd f
 counts-first T d place (suc n) count first well (x ∷ made) a b w messages shows (c, (g, (e, (s, r)))) f h is =
     let tail = refill-tail T d (well && is_done x.reply) made e w f.1 r in
-    let step = subst (λ call. Step T c e call x.reply) f.0 s in
+    let step = subst (λ call. StepOfView T c e call x.reply) f.0 s in
     let none : shown_in (x ∷ made) ≡ shown_by x.reply = ap (λ ms. shown_by x.reply ++ ms) tail.1 ∙ append-nil (shown_by x.reply) in
     let P : CoreCall → Type 0 = λ call. ShowsOne first call x.reply × (settled_by call x.reply ≡ suc n ∷ []) in
     let one = subst P (sym f.0) (settle-shows T d place n count first x.reply a b c e messages (shown_in (x ∷ made)) shows g step none h is) in
@@ -96,8 +96,8 @@ counts-first T d place (suc n) count first well (x ∷ made) a b w messages show
     let all : sum (settled_by x.call x.reply ++ settled_in made) ≡ suc n = (let none' = rest.settles in omega (arith, many, none')) in
     record { shows = (one.0, rest.shows); settles = all }
 
-counts-behind : (T : Type 0) (d taken count first : ℕ) (well : Bool) (reply : CoreReply) (made : List Exchange) (a b w : View) → Step T a b (Front d 100) reply → Run T b made w → Follows d taken count well reply made
-    → taken ≤ length (shown_by reply ++ shown_in made) → count ≡ first + taken → Counts first taken made
+counts-behind : (T : Type 0) (d taken count first : ℕ) (well : Bool) (reply : CoreReply) (made : List Exchange) (a b w : CoreView) → StepOfView T a b (Front d 100) reply → RunViewed T b made w → FollowsFront d taken count well reply made
+    → taken ≤ length (shown_by reply ++ shown_in made) → count ≡ first + taken → CountsTaken first taken made
 counts-behind T d taken count first well (FrontReply (Ok (Entries place []))) made a b w s r f h is = counts-none first taken made f.0 f.1
 counts-behind T d taken count first well (FrontReply (Ok (Entries place (m ∷ ms)))) made a b w s r f h is = counts-first T d place taken count first well made a b w (m ∷ ms) s r f h is
 counts-behind T d taken count first well (FrontReply (Ok Empty)) made a b w s r f h is = counts-none first taken made f.0 f.1
@@ -105,20 +105,20 @@ counts-behind T d taken count first well (FrontReply (Ok FrontBroken)) made a b 
 counts-behind T d taken count first well (FrontReply (Err e)) made a b w s r f h is = counts-none first taken made f.0 f.1
 counts-behind T d taken count first well reply made a b w s r f h is = absurd s
 
-counts-front : (first n d most : ℕ) (x : Exchange) (made : List Exchange) → x.call ≡ Front d most → Counts first n made → Counts first n (x ∷ made)
+counts-front : (first n d most : ℕ) (x : Exchange) (made : List Exchange) → x.call ≡ Front d most → CountsTaken first n made → CountsTaken first n (x ∷ made)
 counts-front first n d most x made is h =
     let P : CoreCall → Type 0 = λ c. (ShowsOne first c x.reply × ShowsAll (first + sum (settled_by c x.reply)) made) × (sum (settled_by c x.reply ++ settled_in made) ≡ n) in
     let r = subst P (sym is) ((tt, subst (λ (k : ℕ). ShowsAll k made) (none-more first) h.shows), h.settles) in
     record { shows = r.0; settles = r.1 }
 
-counts-turn : (T : Type 0) (d taken count first : ℕ) (well : Bool) (made : List Exchange) (v w : View) → Run T v made w → Delivers d taken count well made → taken ≤ length (shown_in made) → count ≡ first + taken → Counts first taken made
+counts-turn : (T : Type 0) (d taken count first : ℕ) (well : Bool) (made : List Exchange) (v w : CoreView) → RunViewed T v made w → DeliversFront d taken count well made → taken ≤ length (shown_in made) → count ≡ first + taken → CountsTaken first taken made
 counts-turn T d taken count first well [] v w r f h is = counts-none first taken [] refl f
 counts-turn T d taken count first well (x ∷ made) v w (a, (g, (b, (s, r)))) f h is =
-    counts-front first taken d 100 x made f.0 (counts-behind T d taken count first well x.reply made a b w (subst (λ c. Step T a b c x.reply) f.0 s) r f.1 h is)
+    counts-front first taken d 100 x made f.0 (counts-behind T d taken count first well x.reply made a b w (subst (λ c. StepOfView T a b c x.reply) f.0 s) r f.1 h is)
 
 -- All turns.
 
-turns-show : (T : Type 0) (frame : Content → List ℕ) (d : ℕ) (turns : List Sending) (drain drain' : OutletState) (v w : View) → AreSendings frame d turns drain drain' → Run T v (calls_in turns) w → ShowsAll drain.count (calls_in turns)
+turns-show : (T : Type 0) (frame : Content → List ℕ) (d : ℕ) (turns : List Sending) (drain drain' : OutletState) (v w : CoreView) → AreSendings frame d turns drain drain' → RunViewed T v (calls_in turns) w → ShowsAll drain.count (calls_in turns)
 turns-show T frame d [] drain drain' v w are r = tt
 turns-show T frame d (s ∷ rest) drain drain' v w (between, (one, are)) r =
     let parts = run-split T v w s.made (calls_in rest) r in
@@ -148,9 +148,9 @@ shows-at first (x ∷ xs) later d place n count answer h not =
 
 pub settles-taken : SettlesAreTaken
 settles-taken old new made start before events d first ran there frame turns drain drain' calls are earlier later place n count answer at not =
-    let T : Type 0 = IsTold old.stores first.setup.buffer in
+    let T : Type 0 = IsBufferTold old.stores first.setup.buffer in
     let last = ends T d old new made (after_all start before) first ran.makes ran.stood.at there (λ t. t) in
-    let run = subst (λ es. Run T (view first) es (view last.dest)) calls last.run in
+    let run = subst (λ es. RunViewed T (view first) es (view last.dest)) calls last.run in
     let all = turns-show T frame d turns drain drain' (view first) (view last.dest) are run in
     let x : Exchange = record { call = Settle d place n count; reply = SettledReply answer } in
     let own : calls_by (OfDest d) made ≡ calls_by (OfDest d) earlier ++ x ∷ calls_by (OfDest d) later =

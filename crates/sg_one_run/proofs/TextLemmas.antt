@@ -10,19 +10,19 @@ use Rattle.sg_machine.specs.declared.event.Admission.{Admission}
 use Rattle.sg_machine.specs.declared.event.Verdict.{Verdict}
 use Rattle.sg_machine.specs.declared.state.Dest.{Dest}
 use Rattle.sg_machine.specs.Verdicts.{Claim, claims_in, claims_from, judged, judged_at, take_claim}
-use Rattle.sg_machine.specs.Runs.{Kept}
+use Rattle.sg_machine.specs.Runs.{BufferedEntry}
 use Rattle.sg_machine.specs.Counts.{is_dropped, kept_offers, flow_drops_of}
 use Rattle.sg_machine.proofs.FlowLemmas.{then-some}
 use Rattle.sg_actor.specs.Sources.{AreOf}
 use Rattle.sg_actor.specs.declared.settings.SourceSpec.{SourceSpec}
-use Rattle.sg_one_run.specs.Texts.{Text, text_of, texts_to, GivesTexts, less, AreUnflowed, dropped_of}
+use Rattle.sg_one_run.specs.Texts.{SentText, text_of, texts_to, GivesTexts, less, AreTextsUnflowed, dropped_of}
 
 -- the texts of claims, and of records
-abbrev pub claim_texts : (ℕ → Content → List ℕ) → ℕ → List Claim → List Text
+abbrev pub claim_texts : (ℕ → Content → List ℕ) → ℕ → List Claim → List SentText
 claim_texts frame d [] = []
 claim_texts frame d (c ∷ cs) = if c.offer.dest == d then text_of frame c.offer ∷ claim_texts frame d cs else claim_texts frame d cs
 
-abbrev pub texts_in : (ℕ → Content → List ℕ) → ℕ → List Admission → List Text
+abbrev pub texts_in : (ℕ → Content → List ℕ) → ℕ → List Admission → List SentText
 texts_in frame d [] = []
 texts_in frame d (a ∷ rest) = texts_to frame d a.offers ++ texts_in frame d rest
 
@@ -31,7 +31,7 @@ texts-append frame d [] ys = refl
 texts-append frame d (x ∷ xs) ys = ap (λ ts. texts_to frame d x.offers ++ ts) (texts-append frame d xs ys) ∙ sym (append_assoc (texts_to frame d x.offers) (texts_in frame d xs) (texts_in frame d ys))
 
 -- one offer more
-texts-one : (b : Bool) (frame : ℕ → Content → List ℕ) (d : ℕ) (o : Offer) (os : List Offer) (xs ys : List Text) → (o.dest == d) ≡ b → xs ≡ texts_to frame d os ++ ys
+texts-one : (b : Bool) (frame : ℕ → Content → List ℕ) (d : ℕ) (o : Offer) (os : List Offer) (xs ys : List SentText) → (o.dest == d) ≡ b → xs ≡ texts_to frame d os ++ ys
     → (if o.dest == d then text_of frame o ∷ xs else xs) ≡ texts_to frame d (o ∷ os) ++ ys
 texts-one true frame d o os xs ys h e = rw h (ap (λ ts. text_of frame o ∷ ts) e)
 texts-one false frame d o os xs ys h e = rw h e
@@ -60,20 +60,20 @@ pub suc-same : (a b : ℕ) → suc a ≡ suc b → a ≡ b
 suc-same a b h = omega (arith, h)
 
 -- what is kept of the offers to d, which of them are dropped, and their texts
-pub record Took (frame : ℕ → Content → List ℕ) (d : ℕ) (kept : List Kept) (dropped : List Bool) (texts : List Text) : Type 0 where
+pub record TookTexts (frame : ℕ → Content → List ℕ) (d : ℕ) (kept : List BufferedEntry) (dropped : List Bool) (texts : List SentText) : Type 0 where
   pub each : length dropped ≡ length texts
-  pub unflowed : AreUnflowed dropped texts
-  pub frames : map (λ (k : Kept). frame d k.message) kept ≡ map (λ t. t.frame) (less dropped texts)
+  pub unflowed : AreTextsUnflowed dropped texts
+  pub frames : map (λ (k : BufferedEntry). frame d k.message) kept ≡ map (λ t. t.frame) (less dropped texts)
 
-pub took-none : (frame : ℕ → Content → List ℕ) (d : ℕ) → Took frame d [] [] []
+pub took-none : (frame : ℕ → Content → List ℕ) (d : ℕ) → TookTexts frame d [] [] []
 took-none frame d = record { each = refl; unflowed = tt; frames = refl }
 
 -- one claim more, by whether it is one to d, and whether it is dropped
-abbrev kept_one : Bool → Bool → Kept → List Kept → List Kept
+abbrev kept_one : Bool → Bool → BufferedEntry → List BufferedEntry → List BufferedEntry
 kept_one b dropped k ks = if b && not dropped then k ∷ ks else ks
 
-took-one : (b dropped : Bool) (frame : ℕ → Content → List ℕ) (d : ℕ) (k : Kept) (o : Offer) (ks : List Kept) (ms : List Bool) (ts : List Text) → (b ≡ true → o.dest ≡ d) → k.message ≡ o.message
-    → (dropped ≡ true → o.flow ≡ false) → Took frame d ks ms ts → Took frame d (kept_one b dropped k ks) (if b then dropped ∷ ms else ms) (if b then text_of frame o ∷ ts else ts)
+took-one : (b dropped : Bool) (frame : ℕ → Content → List ℕ) (d : ℕ) (k : BufferedEntry) (o : Offer) (ks : List BufferedEntry) (ms : List Bool) (ts : List SentText) → (b ≡ true → o.dest ≡ d) → k.message ≡ o.message
+    → (dropped ≡ true → o.flow ≡ false) → TookTexts frame d ks ms ts → TookTexts frame d (kept_one b dropped k ks) (if b then dropped ∷ ms else ms) (if b then text_of frame o ∷ ts else ts)
 took-one false dropped frame d k o ks ms ts same message flow t = t
 took-one true true frame d k o ks ms ts same message flow t = record { each = ap suc t.each; unflowed = (λ h. flow refl, t.unflowed); frames = t.frames }
 took-one true false frame d k o ks ms ts same message flow t =
@@ -81,7 +81,7 @@ took-one true false frame d k o ks ms ts same message flow t =
     record {
       each = ap suc t.each;
       unflowed = (λ h. absurd (let wrong : false ≡ true = h in cc), t.unflowed);
-      frames = ap (λ f. f ∷ map (λ (k : Kept). frame d k.message) ks) one ∙ ap (λ fs. frame o.dest o.message ∷ fs) t.frames;
+      frames = ap (λ f. f ∷ map (λ (k : BufferedEntry). frame d k.message) ks) one ∙ ap (λ fs. frame o.dest o.message ∷ fs) t.frames;
     }
 
 equal-true : (a b : ℕ) → (a == b) ≡ true → a ≡ b
@@ -93,7 +93,7 @@ flow-of true false n h = (λ e. absurd (let wrong : false ≡ true = e in cc), o
 flow-of false dropped n h = (λ e. refl, omega (arith, h))
 
 pub took-claims : (frame : ℕ → Content → List ℕ) (d i : ℕ) (cs : List Claim) (vs : List Verdict) → length cs ≡ length vs → flow_drops_of cs vs ≡ 0
-    → Took frame d (kept_offers d i cs vs) (dropped_of d cs vs) (claim_texts frame d cs)
+    → TookTexts frame d (kept_offers d i cs vs) (dropped_of d cs vs) (claim_texts frame d cs)
 took-claims frame d i [] vs h f = took-none frame d
 took-claims frame d i (c ∷ cs) [] h f = absurd (omega (arith, h))
 took-claims frame d i (c ∷ cs) (v ∷ vs) h f =
@@ -104,17 +104,17 @@ took-claims frame d i (c ∷ cs) (v ∷ vs) h f =
 
 -- Joined.
 
-less-one : (m : Bool) (t : Text) (xs ys zs : List Text) → xs ≡ ys ++ zs → (if m then xs else t ∷ xs) ≡ (if m then ys else t ∷ ys) ++ zs
+less-one : (m : Bool) (t : SentText) (xs ys zs : List SentText) → xs ≡ ys ++ zs → (if m then xs else t ∷ xs) ≡ (if m then ys else t ∷ ys) ++ zs
 less-one true t xs ys zs h = h
 less-one false t xs ys zs h = ap (λ ts. t ∷ ts) h
 
-less-append : (ms ns : List Bool) (ts us : List Text) → length ms ≡ length ts → less (ms ++ ns) (ts ++ us) ≡ less ms ts ++ less ns us
+less-append : (ms ns : List Bool) (ts us : List SentText) → length ms ≡ length ts → less (ms ++ ns) (ts ++ us) ≡ less ms ts ++ less ns us
 less-append [] ns [] us h = refl
 less-append [] ns (t ∷ ts) us h = absurd (omega (arith, h))
 less-append (m ∷ ms) ns [] us h = absurd (omega (arith, h))
 less-append (m ∷ ms) ns (t ∷ ts) us h = less-one m t (less (ms ++ ns) (ts ++ us)) (less ms ts) (less ns us) (less-append ms ns ts us (suc-same (length ms) (length ts) h))
 
-unflowed-append : (ms ns : List Bool) (ts us : List Text) → length ms ≡ length ts → AreUnflowed ms ts → AreUnflowed ns us → AreUnflowed (ms ++ ns) (ts ++ us)
+unflowed-append : (ms ns : List Bool) (ts us : List SentText) → length ms ≡ length ts → AreTextsUnflowed ms ts → AreTextsUnflowed ns us → AreTextsUnflowed (ms ++ ns) (ts ++ us)
 unflowed-append [] ns [] us h a b = b
 unflowed-append [] ns (t ∷ ts) us h a b = absurd (omega (arith, h))
 unflowed-append (m ∷ ms) ns [] us h a b = absurd (omega (arith, h))
@@ -123,10 +123,10 @@ unflowed-append (m ∷ ms) ns (t ∷ ts) us h a b = (a.0, unflowed-append ms ns 
 length-two : {A B : Type 0} (ms ns : List A) (ts us : List B) → length ms ≡ length ts → length ns ≡ length us → length (ms ++ ns) ≡ length (ts ++ us)
 length-two ms ns ts us a b = length-append ms ns ∙ ap (λ n. n + length ns) a ∙ ap (λ n. length ts + n) b ∙ sym (length-append ts us)
 
-pub took-then : (frame : ℕ → Content → List ℕ) (d : ℕ) (ks ls : List Kept) (ms ns : List Bool) (ts us : List Text) → Took frame d ks ms ts → Took frame d ls ns us → Took frame d (ks ++ ls) (ms ++ ns) (ts ++ us)
+pub took-then : (frame : ℕ → Content → List ℕ) (d : ℕ) (ks ls : List BufferedEntry) (ms ns : List Bool) (ts us : List SentText) → TookTexts frame d ks ms ts → TookTexts frame d ls ns us → TookTexts frame d (ks ++ ls) (ms ++ ns) (ts ++ us)
 took-then frame d ks ls ms ns ts us a b =
-    let f : Kept → List ℕ = λ k. frame d k.message in
-    let g : Text → List ℕ = λ t. t.frame in
+    let f : BufferedEntry → List ℕ = λ k. frame d k.message in
+    let g : SentText → List ℕ = λ t. t.frame in
     record {
       each = length-two ms ns ts us a.each b.each;
       unflowed = unflowed-append ms ns ts us a.each a.unflowed b.unflowed;

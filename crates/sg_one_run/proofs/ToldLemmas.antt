@@ -4,17 +4,17 @@ use Rattle.std.specs.Prelude.{is_some, slice_get}
 use Rattle.std.specs.Option.{option_map}
 use Rattle.std.proofs.Math.Seq.{drop-length}
 use Rattle.sg_list.proofs.ListLemmas.{some-same, slice_get-some, slice_get-below}
-use Rattle.sg_device.specs.Disk.{DiskState, DiskLog, IsLeft, IsLeftAt, Moves, bytes_after, content}
+use Rattle.sg_device.specs.Disk.{DiskState, DiskLog, IsLeftByCrash, IsLeftAt, Moves, bytes_after, content}
 use Rattle.sg_machine.specs.declared.setup.BufferSetup.{BufferSetup}
 use Rattle.sg_stores.specs.Stores.{StoreState, AllGo}
-use Rattle.sg_core.specs.Answers.{IsTold}
+use Rattle.sg_core.specs.Answers.{IsBufferTold}
 
 -- the bytes at first are an image at the first moment
 first-left : (log : DiskLog) → IsLeftAt (Some log) 0 log.first
 first-left log =
     let whole : length log.events ≡ length log.events - 0 = omega arith in
     let none : drop (length log.events - 0) log.events ≡ [] = ap (λ k. drop k log.events) (sym whole) ∙ drop-length log.events in
-    subst (λ es. IsLeft log.first es log.first) (sym none) refl
+    subst (λ es. IsLeftByCrash log.first es log.first) (sym none) refl
 
 told-still : (a b : Option DiskLog) → ((c : List ℕ) → IsLeftAt a 0 c → IsLeftAt b 0 c) → is_some (option_map (λ (log : DiskLog). bytes_after log.first log.events) a) ≡ true
     → is_some (option_map (λ (log : DiskLog). bytes_after log.first log.events) b) ≡ true
@@ -32,7 +32,7 @@ store-there : (o : Option StoreState) → option_map tells o ≡ Some true → (
 store-there None h = absurd (let wrong : None ≡ Some true = h in cc)
 store-there (Some store) h = (store, (refl, some-same (tells store) true h))
 
-pub told-goes : (olds news : List StoreState) → AllGo olds news → (buffer : Option BufferSetup) → IsTold olds buffer → IsTold news buffer
+pub told-goes : (olds news : List StoreState) → AllGo olds news → (buffer : Option BufferSetup) → IsBufferTold olds buffer → IsBufferTold news buffer
 told-goes olds news go None h = tt
 told-goes olds news go (Some buffer) h =
     let was = store-there (slice_get olds buffer.store) h in

@@ -14,18 +14,20 @@ use Rattle.sg_counter.specs.declared.calls.CoreReply.{CoreReply}
 use Rattle.sg_counter.specs.declared.calls.CoreReply.TheVariants.{Credit as CreditReply, Admitted, Front as FrontReply, Settled as SettledReply, Refilled, Stored as StoredReply}
 use Rattle.sg_actor.specs.Bringing.{AllBy, admitted_by, admitted_in, has_admitted, stored_by, stores_in}
 use Rattle.sg_actor.specs.Positions.{is_same_credit, is_news, has_news, after_stores}
-use Rattle.sg_actor.specs.SourceTurns.{ActorState, does_some, rests, Tells}
+use Rattle.sg_actor.specs.SourceTurns.{ActorState, does_some, rests, TellsSource}
 use Rattle.sg_actor.specs.Steps.{has_pulled}
-use Rattle.sg_actor.specs.DestTurns.{shown_by, shown_in, has_shown, is_breakage, has_broken, Delivers, Follows, HasCause, Tells as DestTells}
+use Rattle.sg_actor.specs.DestTurns.{shown_by, shown_in, has_shown, is_breakage, has_broken, DeliversFront, FollowsFront, HasGivenUpCause, TellsDest as DestTells}
 use Rattle.sg_actor.specs.declared.position.Position.{Position}
 use Rattle.sg_actor.specs.declared.rendering.DestSpec.{DestSpec}
 use Rattle.sg_actor.specs.declared.settings.SourceSpec.{SourceSpec}
 use Rattle.sg_actor.specs.declared.turned.GivenUp.{GivenUp}
 use Rattle.sg_actor.specs.declared.turned.GivenUp.TheVariants.{Store as ForStore}
 use Rattle.sg_actor.specs.declared.turned.Turned.{Turned}
-use Rattle.sg_turns.specs.Turns.{Turn, result_of, calls_of, SourceTurns, TookTurns, DestState, SendsBy, DestTurns, SentTurns}
+use Rattle.sg_turns.specs.Turns.{Turn, result_of, calls_of, SourceTurns, TookTurns, DestState, SendsBy, SentTurns}
 use Rattle.sg_one_run.proofs.StepLemmas.{Has, has-front, has-behind, either-true}
 use Rattle.sg_one_run.proofs.CalmLemmas.{IsCalm, AllCalm}
+use Rattle.sg_actor.proofs.TurnLemmas.{did-false}
+use Rattle.sg_turns.proofs.LawLemmas.{sent-last, took-last}
 
 -- in it nothing was done, and nothing was awaited
 abbrev pub nothing_done : Turned
@@ -34,10 +36,6 @@ nothing_done = record { did = false; idle = false }
 pub either-false : (a b : Bool) → (a || b) ≡ false → (a ≡ false) × (b ≡ false)
 either-false true b h = absurd (let wrong : true ≡ false = h in cc)
 either-false false b h = (refl, h)
-
-did-false : (r n : Bool) → (not r || n) ≡ false → (r ≡ true) × (n ≡ false)
-did-false true n h = (refl, h)
-did-false false n h = absurd (let wrong : true ≡ false = h in cc)
 
 not-true : (a : Bool) → not a ≡ true → a ≡ false
 not-true true h = absurd (let wrong : false ≡ true = h in cc)
@@ -86,16 +84,11 @@ calm-source i (x ∷ xs) own none quiet e (inr h) =
 
 source-calm : (offers : ℕ → Record → List Offer → Type 0) (dests : ℕ) (spec : SourceSpec) (old new : ActorState) (turn : Turn) → SourceTurns offers dests spec old new turn → turn.answer ≡ Some nothing_done → AllCalm turn.made
 source-calm offers dests spec old new turn h nothing =
-    let tells = subst (λ (a : Option Turned). Tells spec old new turn.made h.ups h.credit (result_of a)) nothing h.takes.tells in
+    let tells = subst (λ (a : Option Turned). TellsSource spec old new turn.made h.ups h.credit (result_of a)) nothing h.takes.tells in
     let did = did-false (rests old new turn.made h.ups h.credit) (has_news (stores_in turn.made)) (sym tells.did) in
     let rested = both-true (not (does_some old new turn.made h.ups)) (is_same_credit old.position.credit h.credit) did.0 in
     let none = middle-false (has_pulled old.source new.source) (has_admitted turn.made) (nat_lt 0 h.ups) (not-true (does_some old new turn.made h.ups) rested.0) in
     calm-source spec.inlet turn.made h.takes.own (none-above (admitted_in turn.made) none) did.1
-
-took-last : (offers : ℕ → Record → List Offer → Type 0) (dests : ℕ) (spec : SourceSpec) (x z : ActorState) (earlier : List Turn) (turn : Turn)
-    → TookTurns offers dests spec x z (earlier ++ turn ∷ []) → (y : ActorState) × SourceTurns offers dests spec y z turn
-took-last offers dests spec x z [] turn (y, (h, is)) = (x, subst (λ s. SourceTurns offers dests spec x s turn) (sym is) h)
-took-last offers dests spec x z (t ∷ earlier) turn (y, (h, more)) = took-last offers dests spec y z earlier turn more
 
 pub last-source : (offers : ℕ → Record → List Offer → Type 0) (dests : ℕ) (spec : SourceSpec) (old new : ActorState) (turns earlier : List Turn) (turn : Turn) → TookTurns offers dests spec old new turns → turns ≡ earlier ++ turn ∷ []
     → turn.answer ≡ Some nothing_done → AllCalm turn.made
@@ -105,7 +98,7 @@ last-source offers dests spec old new turns earlier turn took are nothing =
 
 -- A destination.
 
-follows-none : (d taken count : ℕ) (well : Bool) (reply : CoreReply) (made : List Exchange) → Follows d taken count well reply made → shown_by reply ≡ [] → made ≡ []
+follows-none : (d taken count : ℕ) (well : Bool) (reply : CoreReply) (made : List Exchange) → FollowsFront d taken count well reply made → shown_by reply ≡ [] → made ≡ []
 follows-none d taken count well (FrontReply (Ok (Entries place []))) made h none = h.0
 follows-none d taken count well (FrontReply (Ok (Entries place (m ∷ ms)))) made h none = absurd (let wrong : m ∷ ms ≡ [] = none in cc)
 follows-none d taken count well (FrontReply (Ok Empty)) made h none = h.0
@@ -117,7 +110,7 @@ follows-none d taken count well (SettledReply result) made h none = h.0
 follows-none d taken count well (Refilled result) made h none = h.0
 follows-none d taken count well (StoredReply result) made h none = h.0
 
-calm-delivers : (d taken count : ℕ) (well : Bool) (made : List Exchange) → Delivers d taken count well made → shown_in made ≡ [] → AllCalm made
+calm-delivers : (d taken count : ℕ) (well : Bool) (made : List Exchange) → DeliversFront d taken count well made → shown_in made ≡ [] → AllCalm made
 calm-delivers d taken count well [] h none e has = absurd has
 calm-delivers d taken count well (f ∷ rest) h none e (inl same) =
     let calm : IsCalm f.call f.reply = subst (λ (c : CoreCall). IsCalm c f.reply) (sym h.0) tt in
@@ -137,10 +130,6 @@ dest-calm None spec old new turn (taken, (refused, k)) nothing =
     let parts = either-false (has_shown turn.made) old.outage.reopens (and-true _ (sym tells.did)) in
     calm-delivers spec.dest taken new.drain.count (is_ok (result_of turn.answer)) turn.made k.delivers (none-above (shown_in turn.made) parts.0)
 dest-calm (Some cause) spec old new turn k nothing = λ e has. absurd (subst (λ (xs : List Exchange). Has xs e) k.0 has)
-
-sent-last : (spec : DestSpec) (x z : DestState) (earlier : List Turn) (turn : Turn) → SentTurns spec x z (earlier ++ turn ∷ []) → (y : DestState) × DestTurns spec y z turn
-sent-last spec x z [] turn (y, (h, is)) = (x, subst (λ s. DestTurns spec x s turn) (sym is) h)
-sent-last spec x z (t ∷ earlier) turn (y, (h, more)) = sent-last spec y z earlier turn more
 
 pub last-dest : (spec : DestSpec) (old new : DestState) (turns earlier : List Turn) (turn : Turn) → SentTurns spec old new turns → turns ≡ earlier ++ turn ∷ [] → turn.answer ≡ Some nothing_done → AllCalm turn.made
 last-dest spec old new turns earlier turn took are nothing =
@@ -229,7 +218,7 @@ broken-in (x ∷ xs) h =
 
 sends-broke : (cause : Option GivenUp) (spec : DestSpec) (old new : DestState) (turn : Turn) → SendsBy cause spec old new turn → new.outage.given_up ≡ Some ForStore → (old.outage.given_up ≡ Some ForStore) ⊎ HasBreakage turn.made
 sends-broke None spec old new turn (taken, (refused, k)) is =
-    let why : has_broken turn.made ≡ true = subst (λ (c : Option GivenUp). HasCause spec.gives_up refused new.drain turn.made c) is k.cause in
+    let why : has_broken turn.made ≡ true = subst (λ (c : Option GivenUp). HasGivenUpCause spec.gives_up refused new.drain turn.made c) is k.cause in
     inr (broken-in turn.made why)
 sends-broke (Some cause) spec old new turn k is = inl (ap (λ o. o.given_up) (sym k.1.outage_stays) ∙ is)
 

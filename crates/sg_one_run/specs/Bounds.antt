@@ -19,7 +19,7 @@ use Rattle.sg_turns.specs.Turns.{Turn, calls_of, TookTurns}
 use Rattle.sg_turns.specs.Serving.{busy_of}
 use Rattle.sg_turns.specs.declared.ended.Ended.TheVariants.{Quiet, RoundsSpent, NoMemory}
 use Rattle.sg_serve.specs.Plan.{IsRunnable}
-use Rattle.sg_serve.specs.Run.{CoreRun, Reached, Holds, RunsWith}
+use Rattle.sg_serve.specs.Run.{CoreRun, Reached, PlanRunHolds, RunsWith}
 use Rattle.sg_serve.specs.declared.counts.Counts.{Counts}
 use Rattle.sg_serve.specs.declared.ending.PlanEnded.{PlanEnded}
 use Rattle.sg_serve.specs.declared.ending.PlanEnded.TheVariants.{Before, Ran}
@@ -63,7 +63,7 @@ abbrev pub recovered_at : {R I O : Type 0} (feed : I → InletState) (drain : O 
     (offers : R → ℕ → Record → List Offer → Type 0) (inlets dests : R → ℕ) (files : Option Files)
     (plan : RunPlan) (routers : List R) (rounds : ℕ) (reached : Reached)
     (core : Option CoreRun) (ending : PlanEnded)
-    → Holds feed drain offers inlets dests files plan routers rounds reached core ending → ℕ
+    → PlanRunHolds feed drain offers inlets dests files plan routers rounds reached core ending → ℕ
 recovered_at feed drain offers inlets dests files plan routers rounds reached None ending holds = 0
 recovered_at feed drain offers inlets dests files plan routers rounds reached (Some run) (Before early) (holds, stays) =
     recovered_in plan reached run (holds.core).opens
@@ -74,7 +74,7 @@ abbrev pub offered_at : {R I O : Type 0} (feed : I → InletState) (drain : O �
     (offers : R → ℕ → Record → List Offer → Type 0) (inlets dests : R → ℕ) (files : Option Files)
     (plan : RunPlan) (routers : List R) (rounds : ℕ) (reached : Reached)
     (core : Option CoreRun) (ending : PlanEnded)
-    → Holds feed drain offers inlets dests files plan routers rounds reached core ending → ℕ
+    → PlanRunHolds feed drain offers inlets dests files plan routers rounds reached core ending → ℕ
 offered_at feed drain offers inlets dests files plan routers rounds reached None ending holds = 0
 offered_at feed drain offers inlets dests files plan routers rounds reached (Some run) (Before early) holds =
     0
@@ -121,7 +121,7 @@ abbrev pub waits_in : Reached → ℕ
 waits_in reached = idles_in reached.inlets_closed + laters_in reached.outlets reached.outlets_closed
 
 -- the rounds are few
-pub record AreFew (recovered offered rounds : ℕ) (reached : Reached) : Type 0 where
+pub record AreRoundsFew (recovered offered rounds : ℕ) (reached : Reached) : Type 0 where
   pub most : rounds ≤ most_rounds recovered offered reached
   pub below : rounds
       < 4 * (given_rounds recovered offered reached + faults_in reached) + waits_in reached
@@ -130,7 +130,7 @@ pub record AreFew (recovered offered rounds : ℕ) (reached : Reached) : Type 0 
 abbrev pub IsFew : (recovered offered rounds : ℕ) → Reached → PlanEnded → Type 0
 IsFew recovered offered rounds reached (Before early) = Unit {0}
 IsFew recovered offered rounds reached (Ran Quiet counts) = Unit {0}
-IsFew recovered offered rounds reached (Ran RoundsSpent counts) = AreFew recovered offered rounds
+IsFew recovered offered rounds reached (Ran RoundsSpent counts) = AreRoundsFew recovered offered rounds
     reached
 IsFew recovered offered rounds reached (Ran NoMemory counts) = Unit {0}
 
@@ -143,7 +143,7 @@ RunsAreBounded {R} {I} {O} feed drain offers inlets dests =
     → IsFew (recovered_by runs) (offered_by runs) rounds reached ending
 
 -- no count of faults rose, no inlet was idle, and it was never too early to reopen an outlet or to send to it
-pub record IsUntroubled (reached : Reached) : Type 0 where
+pub record RunsUntroubled (reached : Reached) : Type 0 where
   pub faults : faults_in reached ≡ 0
   pub waits : waits_in reached ≡ 0
 
@@ -154,5 +154,5 @@ UntroubledRunsEnd {R} {I} {O} feed drain offers inlets dests =
     (old new : WorldState) (plan : RunPlan) (routers : List R) (rounds : ℕ) (counts : Option Counts)
     (reached : Reached) → IsRunnable plan → rounds < 2 ^ 64
     → (runs : RunsWith feed drain offers inlets dests old new plan routers rounds
-    (Ran RoundsSpent counts) reached) → IsUntroubled reached
+    (Ran RoundsSpent counts) reached) → RunsUntroubled reached
     → rounds < 4 * given_rounds (recovered_by runs) (offered_by runs) reached

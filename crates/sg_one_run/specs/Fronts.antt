@@ -14,20 +14,20 @@ use Rattle.sg_counter.specs.declared.calls.CoreCall.TheVariants.{Settle}
 use Rattle.sg_counter.specs.declared.calls.CoreReply.TheVariants.{Settled as SettledReply}
 use Rattle.sg_stores.specs.Stores.{StoreState}
 use Rattle.sg_standing.specs.States.{CoreState}
-use Rattle.sg_core.specs.Answers.{IsTold}
+use Rattle.sg_core.specs.Answers.{IsBufferTold}
 use Rattle.sg_one_run.specs.Calls.{settled_in, sum, Ran}
 use Rattle.sg_one_run.specs.Turns.{Sending, AreSendings, calls_in, shown_then_settled}
 
 -- They are settled, and where the store of the disk-buffer tells its bytes they are those that were shown.
 pub record SettlesShown (stores : List StoreState) (first last : Dest) (place n : ℕ) (messages : List Content) (answer : Settled) : Type 0 where
   pub settles : answer ≢ NotFront
-  pub shown : IsTold stores first.setup.buffer
+  pub shown : IsBufferTold stores first.setup.buffer
       → map (λ e. e.message) (take n (drop place last.settled)) ≡ take n messages
 
 -- The outlet took as many frames as entries were settled; and where the store of the disk-buffer tells its bytes, just the frames of these.
 pub record TakesSettled (frame : Content → List ℕ) (stores : List StoreState) (first last : Dest) (drain drain' : OutletState) : Type 0 where
   pub count : drain'.count + length first.settled ≡ drain.count + length last.settled
-  pub told : IsTold stores first.setup.buffer → drain'.taken
+  pub told : IsBufferTold stores first.setup.buffer → drain'.taken
       ≡ option_map
       (λ before. before ++ map (λ e. frame e.message) (drop (length first.settled) last.settled))
       drain.taken
@@ -41,7 +41,7 @@ ShowsTaken first d made =
     → answer ≢ NotFront → count ≡ first + sum (settled_in (calls_by (OfDest d) before)) + n
 
 -- d before the events and behind them
-pub record IsDest (start : State) (before events : List Event) (d : ℕ) (first last : Dest) : Type 0 where
+pub record IsDestThroughout (start : State) (before events : List Event) (d : ℕ) (first last : Dest) : Type 0 where
   pub at_first : slice_get (after_all start before).dests d ≡ Some first
   pub at_last : slice_get (after_all start (before ++ events)).dests d ≡ Some last
 
@@ -50,7 +50,7 @@ abbrev pub FrontsAreNext : Type 0
 FrontsAreNext =
     (old new : CoreState) (made : List Exchange) (start : State) (before events : List Event)
     (d : ℕ) (first last : Dest) → Ran old new made start before events
-    → IsDest start before events d first last
+    → IsDestThroughout start before events d first last
     → (earlier later : List Exchange) (most place n count : ℕ) (messages : List Content)
     (answer : Settled) → calls_by (OfDest d) made
     ≡ earlier ++ (shown_then_settled d most place n count messages answer ++ later)
@@ -71,7 +71,7 @@ abbrev pub FramesAreSettled : Type 0
 FramesAreSettled =
     (old new : CoreState) (made : List Exchange) (start : State) (before events : List Event)
     (d : ℕ) (first last : Dest) → Ran old new made start before events
-    → IsDest start before events d first last
+    → IsDestThroughout start before events d first last
     → (frame : Content → List ℕ) (turns : List Sending) (drain drain' : OutletState)
     → calls_by (OfDest d) made ≡ calls_in turns → AreSendings frame d turns drain drain'
     → TakesSettled frame old.stores first last drain drain'

@@ -19,7 +19,7 @@ use Rattle.sg_machine.specs.declared.event.Verdict.{Verdict}
 use Rattle.sg_machine.specs.declared.state.Dest.{Dest}
 use Rattle.sg_machine.specs.declared.state.State.{State}
 use Rattle.sg_machine.specs.Effects.{next_of}
-use Rattle.sg_machine.specs.Runs.{Kept, opened, after_all, are_legal}
+use Rattle.sg_machine.specs.Runs.{BufferedEntry, opened, after_all, are_legal}
 use Rattle.sg_machine.specs.Safe.{Safe, nothing}
 use Rattle.sg_machine.specs.Verdicts.{claims_of}
 use Rattle.sg_stores.specs.Stores.{StoreState}
@@ -28,11 +28,12 @@ use Rattle.sg_standing.specs.Standing.{StandsFor}
 use Rattle.sg_core.specs.Opening.{IsOpen}
 use Rattle.sg_run_plan.specs.declared.inlet.InletPlan.{InletPlan}
 use Rattle.sg_run_plan.specs.declared.outlet.OutletPlan.{OutletPlan}
+use Rattle.sg_one_run.specs.ByPath.{TakesByPath}
 use Rattle.sg_one_run.specs.Calls.{Ran}
-use Rattle.sg_one_run.specs.Drops.{AreDue}
+use Rattle.sg_one_run.specs.Drops.{AreOffersDue}
 use Rattle.sg_one_run.specs.Failing.{ShowsFaults}
-use Rattle.sg_one_run.specs.Fronts.{IsDest, TakesSettled, ShowsTaken}
-use Rattle.sg_one_run.specs.Texts.{taken_from, TakesFirst}
+use Rattle.sg_one_run.specs.Fronts.{IsDestThroughout, TakesSettled, ShowsTaken}
+use Rattle.sg_one_run.specs.Texts.{taken_from, TakesFirstTexts}
 use Rattle.sg_one_run.specs.Laws.{StayWithin}
 use Rattle.sg_serve.specs.declared.ending.PlanEnded.{PlanEnded}
 use Rattle.sg_run_plan.specs.declared.plan.RunPlan.{RunPlan}
@@ -60,8 +61,8 @@ abbrev pub TakesPrefixes : {R : Type 0} → (R → ℕ → Record → List Offer
 TakesPrefixes {R} offers plan routers reached start events =
     (i d : ℕ) (inlet : InletPlan) (router : R) (closed : InletState) (first last : Dest)
     → slice_get plan.inlets.items i ≡ Some inlet → slice_get routers i ≡ Some router
-    → slice_get reached.inlets_closed i ≡ Some closed → IsDest start [] events d first last
-    → TakesFirst (offers router) (frame_at plan.outlets.items) i d (records_of inlet closed) events
+    → slice_get reached.inlets_closed i ≡ Some closed → IsDestThroughout start [] events d first last
+    → TakesFirstTexts (offers router) (frame_at plan.outlets.items) i d (records_of inlet closed) events
     (taken_from (frame_at plan.outlets.items) i d first last) last.left
 
 -- takes: since its outlet was opened, that took the frames of the entries settled, no more and no fewer
@@ -69,7 +70,7 @@ abbrev pub TakesThese : RunPlan → Reached → CoreRun → State → List Event
 TakesThese plan reached run start events =
     (d : ℕ) (new closed : OutletState) (first last : Dest) → slice_get reached.outlets d ≡ Some new
     → slice_get reached.outlets_closed d ≡ Some closed
-    → IsDest start [] events d first last
+    → IsDestThroughout start [] events d first last
     → TakesSettled (frame_at plan.outlets.items d) run.first.stores first last new closed
 
 -- accepted: each settling of a destination showed a number that its outlet had told, and that is the number of entries that are settled
@@ -83,13 +84,15 @@ ShowsAccepted reached run = (d : ℕ) (new : OutletState) → slice_get reached.
 pub record HeadlineOf {R : Type 0} (offers : R → ℕ → Record → List Offer → Type 0) (plan : RunPlan) (routers : List R) (reached : Reached) (run : CoreRun) (start : State) (events : List Event) : Type 0 where
   pub texts : TakesPrefixes offers plan routers reached start events
   pub taken : TakesThese plan reached run start events
+  -- each text goes to the file that its message names, where messages do
+  pub by_path : TakesByPath plan reached run start events
   -- each verdict is one that there may be
   pub legal : are_legal start events ≡ true
   -- dropped without flow-control at a full or failed buffer
   pub due : (before later : List Event) (i : ℕ) (admitted : List Admission)
       (verdicts : List Verdict) (failed : List ℕ)
       → events ≡ before ++ record { act = Admit i admitted verdicts; failed = failed } ∷ later
-      → AreDue i (next_of (after_all start before) i) (after_all start before).dests
+      → AreOffersDue i (next_of (after_all start before) i) (after_all start before).dests
       ((after_all start before).failed ++ failed) (claims_of admitted) verdicts
   -- unacknowledged records never exceed a source's window
   pub windows : StayWithin start events
@@ -100,12 +103,12 @@ pub record HeadlineOf {R : Type 0} (offers : R → ℕ → Record → List Offer
       → stands.moments.rows 0 s ≡ clock store.disk
   -- a stop within any write leaves each flow-controlled record of a file beyond the stored position, in its disk-buffer, or accepted:
   -- whatever images of the stores are chosen of moments within one event, or at the end
-  pub stop : (k : ℕ) (event : Event) (images : List (List ℕ)) (lists : List (List Kept))
+  pub stop : (k : ℕ) (event : Event) (images : List (List ℕ)) (lists : List (List BufferedEntry))
       → slice_get events k ≡ Some event → AreImagesBetween run.last.stores (stands.moments.rows k)
       (stands.moments.rows (k + 1)) images
       → AreListsIn run.last.sinks images lists → Safe start (take k events) event
       (record { positions = positions_in run.last.sources images; lists = lists })
-  pub stop_then : (images : List (List ℕ)) (lists : List (List Kept))
+  pub stop_then : (images : List (List ℕ)) (lists : List (List BufferedEntry))
       → AreImages run.last.stores images → AreListsIn run.last.sinks images lists
       → Safe start events nothing
       (record { positions = positions_in run.last.sources images; lists = lists })

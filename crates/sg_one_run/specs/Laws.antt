@@ -14,8 +14,8 @@ use Rattle.sg_actor.specs.Bringing.{admitted_in}
 use Rattle.sg_actor.specs.Sources.{SourceState, AreOf, HasRead, IsReady}
 use Rattle.sg_actor.specs.declared.settings.SourceSpec.{SourceSpec}
 use Rattle.sg_one_run.specs.Calls.{Ran}
-use Rattle.sg_one_run.specs.Fronts.{IsDest}
-use Rattle.sg_one_run.specs.Texts.{admissions_of, taken_from, records_given, TakesTexts, TakesFirst}
+use Rattle.sg_one_run.specs.Fronts.{IsDestThroughout}
+use Rattle.sg_one_run.specs.Texts.{admissions_of, taken_from, records_given, TakesTexts, TakesFirstTexts}
 
 -- where these records, with their offers, are what came in of an inlet, each destination has taken of it, in order, a prefix of
 -- exactly their texts, less the dropped ones
@@ -34,10 +34,10 @@ abbrev pub TextsAreFirst : (ℕ → Record → List Offer → Type 0) → Type 0
 TextsAreFirst offers =
     (old new : CoreState) (made : List Exchange) (start : State) (before events : List Event)
     (d : ℕ) (first last : Dest) → Ran old new made start before events
-    → IsDest start before events d first last
+    → IsDestThroughout start before events d first last
     → (frame : ℕ → Content → List ℕ) (spec : SourceSpec) (done : List Record) (dests ups : ℕ)
     (s : SourceState) → AreOf offers spec done (admitted_in (calls_by (OfSource spec.inlet) made))
-    → IsReady dests spec s → HasRead offers spec s done ups → TakesFirst offers frame spec.inlet d
+    → IsReady dests spec s → HasRead offers spec s done ups → TakesFirstTexts offers frame spec.inlet d
     (records_given spec s.feed) events (taken_from frame spec.inlet d first last) last.left
 
 -- after every prefix of the events no more records are outstanding than the windows have

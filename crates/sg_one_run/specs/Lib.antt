@@ -5,6 +5,7 @@ pub mod Fronts
 pub mod Laws
 pub mod Drops
 pub mod Credits
+pub mod ByPath
 pub mod Headline
 pub mod Failing
 pub mod Resting

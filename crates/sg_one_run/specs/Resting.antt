@@ -10,7 +10,7 @@ use Rattle.sg_frame.specs.Records.{Record, records}
 use Rattle.sg_machine.specs.declared.event.Admission.{Admission}
 use Rattle.sg_machine.specs.declared.setup.SourceSetup.{SourceSetup}
 use Rattle.sg_machine.specs.declared.state.Dest.{Dest}
-use Rattle.sg_machine.specs.declared.state.Inlet.{Inlet}
+use Rattle.sg_machine.specs.declared.state.InletRecords.{InletRecords}
 use Rattle.sg_machine.specs.declared.state.State.{State}
 use Rattle.sg_machine.specs.Marks.{mark_of}
 use Rattle.sg_machine.specs.Verdicts.{is_listed}
@@ -41,25 +41,25 @@ abbrev pub spec_for : InletPlan → Option ℕ → ℕ → ℕ → SourceSpec
 spec_for plan store i from = record { inlet = i; kind = plan.kind; limit = plan.limit; fetch = plan.fetch; from = from; stored = is_some store }
 
 -- The records that came in are all that the inlet gave, in order, each with its end and its offers, where the inlet tells what it gave.
-abbrev pub IsWhole : (ℕ → Record → List Offer → Type 0) → InletPlan → Option ℕ → ℕ → InletState
+abbrev pub AreRecordsWhole : (ℕ → Record → List Offer → Type 0) → InletPlan → Option ℕ → ℕ → InletState
     → List Admission → Type 0
-IsWhole offers plan store i closed brought =
+AreRecordsWhole offers plan store i closed brought =
     IfSome (option_map (records plan.kind plan.limit closed.from) closed.told)
     (λ given. AreOf offers (spec_for plan store i closed.from) given brought)
 
 -- The inlet has ended or failed, and all its whole items came in.
-pub record IsDone (offers : ℕ → Record → List Offer → Type 0) (plan : InletPlan) (store : Option ℕ) (i : ℕ) (opened closed : InletState) (brought : List Admission) : Type 0 where
+pub record IsInletDone (offers : ℕ → Record → List Offer → Type 0) (plan : InletPlan) (store : Option ℕ) (i : ℕ) (opened closed : InletState) (brought : List Admission) : Type 0 where
   pub over : (closed.ended ≡ true) ⊎ Rose opened.faults closed.faults
-  pub whole : IsWhole offers plan store i closed brought
+  pub whole : AreRecordsWhole offers plan store i closed brought
 
 -- the source has no credit, whatever state the core is at
 abbrev pub HasNoCredit : CoreState → ℕ → Type 0
 HasNoCredit core i = (state : State) → IsAt core state → credit_left state i ≡ 0
 
 -- The inlet is done, or there is no credit. The stored position is the mark, where the store works.
-pub record SourceRests (offers : ℕ → Record → List Offer → Type 0) (plan : InletPlan) (setup : SourceSetup) (core : CoreState) (i : ℕ) (opened closed : InletState) (made : List Exchange) : Type 0 where
-  pub over : IsDone offers plan setup.store i opened closed (brought_by i made) ⊎ HasNoCredit core i
-  pub stored : (state : State) (inlet : Inlet) (s : ℕ) → IsAt core state
+pub record SourceRestsAtEnd (offers : ℕ → Record → List Offer → Type 0) (plan : InletPlan) (setup : SourceSetup) (core : CoreState) (i : ℕ) (opened closed : InletState) (made : List Exchange) : Type 0 where
+  pub over : IsInletDone offers plan setup.store i opened closed (brought_by i made) ⊎ HasNoCredit core i
+  pub stored : (state : State) (inlet : InletRecords) (s : ℕ) → IsAt core state
       → slice_get state.inlets i ≡ Some inlet → setup.store ≡ Some s
       → is_listed s state.failed ≡ false → inlet.stored ≡ mark_of state.dests i inlet
 
@@ -71,24 +71,24 @@ IsGivenUp once closed failed dest = ((once ≡ true) × (3 ≤ closed.failing))
     ⊎ (is_broken failed dest ≡ true)
 
 -- no entry is left, or the destination is given up
-abbrev pub DestRests : Bool → CoreState → ℕ → OutletState → Type 0
-DestRests once core d closed =
+abbrev pub DestRestsAtEnd : Bool → CoreState → ℕ → OutletState → Type 0
+DestRestsAtEnd once core d closed =
     (state : State) (dest : Dest) → IsAt core state → slice_get state.dests d ≡ Some dest
     → (dest.left ≡ []) ⊎ IsGivenUp once closed state.failed dest
 
 -- The whole.
 
 -- these calls were made in the rounds, and leave this
-pub record Rests {R : Type 0} (offers : R → ℕ → Record → List Offer → Type 0) (plan : RunPlan) (routers : List R) (reached : Reached) (run : CoreRun) (made : List Exchange) : Type 0 where
+pub record RunRests {R : Type 0} (offers : R → ℕ → Record → List Offer → Type 0) (plan : RunPlan) (routers : List R) (reached : Reached) (run : CoreRun) (made : List Exchange) : Type 0 where
   pub makes : Makes Serves run.begun made run.last
   pub sources :
       (i : ℕ) (inlet : InletPlan) (setup : SourceSetup) (router : R) (opened closed : InletState)
       → slice_get plan.inlets.items i ≡ Some inlet → slice_get plan.setup.sources i ≡ Some setup
       → slice_get routers i ≡ Some router
       → slice_get reached.inlets i ≡ Some opened → slice_get reached.inlets_closed i ≡ Some closed
-      → SourceRests (offers router) inlet setup run.last i opened closed made
+      → SourceRestsAtEnd (offers router) inlet setup run.last i opened closed made
   pub dests : (d : ℕ) (closed : OutletState) → slice_get reached.outlets_closed d ≡ Some closed
-      → DestRests plan.once run.last d closed
+      → DestRestsAtEnd plan.once run.last d closed
 
 -- so it is where the rounds ended quietly
 abbrev pub QuietRunsRest : {R I O : Type 0} → (I → InletState) → (O → OutletState)
@@ -97,4 +97,4 @@ QuietRunsRest {R} {I} {O} feed drain offers inlets dests =
     (old new : WorldState) (plan : RunPlan) (routers : List R) (rounds : ℕ) (counts : Option Counts)
     (reached : Reached) (run : CoreRun) → IsRunnable plan → reached.core ≡ Some run
     → RunsWith feed drain offers inlets dests old new plan routers rounds (Ran Quiet counts) reached
-    → Rests offers plan routers reached run run.made
+    → RunRests offers plan routers reached run run.made

@@ -7,8 +7,8 @@ use Rattle.sg_counter.specs.declared.answers.CoreFront.TheVariants.{Entries}
 use Rattle.sg_counter.specs.declared.answers.Settled.{Settled}
 use Rattle.sg_counter.specs.declared.calls.CoreCall.TheVariants.{Front, Settle}
 use Rattle.sg_counter.specs.declared.calls.CoreReply.TheVariants.{Front as FrontReply, Settled as SettledReply}
-use Rattle.sg_actor.specs.DestTurns.{Delivers, shown_in}
-use Rattle.sg_actor.specs.Outages.{Takes}
+use Rattle.sg_actor.specs.DestTurns.{DeliversFront, shown_in}
+use Rattle.sg_actor.specs.Outages.{TakesFrames}
 
 -- a turn: its calls, how many frames the outlet took in it, and whether memory sufficed
 pub record Sending : Type 0 where
@@ -18,9 +18,9 @@ pub record Sending : Type 0 where
 
 -- the first entries were asked for, so many of their frames were taken, and just so many were settled, with the outlet's count behind them
 pub record IsSending (frame : Content → List ℕ) (d : ℕ) (s : Sending) (drain drain' : OutletState) : Type 0 where
-  pub delivers : Delivers d s.taken drain'.count s.well s.made
+  pub delivers : DeliversFront d s.taken drain'.count s.well s.made
   pub within : s.taken ≤ length (shown_in s.made)
-  pub takes : Takes s.taken (map frame (shown_in s.made)) drain drain'
+  pub takes : TakesFrames s.taken (map frame (shown_in s.made)) drain drain'
 
 -- turns one after another
 abbrev pub AreSendings : (Content → List ℕ) → ℕ → List Sending → OutletState → OutletState → Type 0

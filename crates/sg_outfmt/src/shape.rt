@@ -1,7 +1,7 @@
 // The shapes of frames.
 ghost use Rattle.std.specs.Prelude.{◌≡◌, IfOk, Ok, is_ok, true};
 ghost use Rattle.sg_macro.specs.Reading.{parts_of};
-ghost use Rattle.sg_outfmt.specs.Shape.{IsDefault};
+ghost use Rattle.sg_outfmt.specs.Shape.{IsDefault, behind_path};
 
 use sg_template::{Template, TemplateFault};
 use std::alloc::{AllocError, Global};
@@ -27,6 +27,19 @@ impl Drop for Shape {
                 path: _path,
                 text: _text,
             } => {}
+        }
+    }
+}
+
+impl Shape {
+    /// The text of a template behind that path; another shape stays as it is.
+    pub fn behind_path(self, path: Template) -> Shape
+        ensures { result ≡ behind_path path self }
+    {
+        match self {
+            Shape::Text(text) => Shape::ByPath { path, text },
+            Shape::Counted5424 => Shape::Counted5424,
+            Shape::ByPath { path: other, text } => Shape::ByPath { path: other, text },
         }
     }
 }

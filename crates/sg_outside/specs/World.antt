@@ -7,7 +7,7 @@ use Rattle.sg_device.specs.Disk.{DiskState, fresh_log}
 use Rattle.sg_device.specs.DiskBytes.{part}
 use Rattle.sg_device.specs.Faults.{Rose}
 use Rattle.sg_device.specs.Inlet.{InletState, IsFresh}
-use Rattle.sg_device.specs.Outlet.{OutletState, IsNew}
+use Rattle.sg_device.specs.Outlet.{OutletState, IsUnusedOutlet}
 use Rattle.sg_device.specs.Paths.{PathsState, IsNewOpener}
 use Rattle.sg_device.specs.declared.fault.FileRefusal.{FileRefusal}
 use Rattle.sg_device.specs.declared.fault.FileRefusal.TheVariants.{Failed, TooLong, NoMemory}
@@ -84,14 +84,14 @@ abbrev pub KeepsUnread : WorldState → WorldState → Type 0
 KeepsUnread old new = new.unread ≡ old.unread
 
 -- a reading gives the whole file
-abbrev pub Reads : WorldState → WorldState → List ℕ → ℕ → Result (Vec ℕ Global) FileRefusal → Type 0
-Reads old new name limit (Ok bytes) = OnlyReads old new × IsContent old.files name bytes.items
+abbrev pub ReadsFile : WorldState → WorldState → List ℕ → ℕ → Result (Vec ℕ Global) FileRefusal → Type 0
+ReadsFile old new name limit (Ok bytes) = OnlyReads old new × IsContent old.files name bytes.items
     × (length bytes.items ≤ limit) × KeepsUnread old new
-Reads old new name limit (Err Failed) = OnlyReads old new × Rose old.read_faults new.read_faults
+ReadsFile old new name limit (Err Failed) = OnlyReads old new × Rose old.read_faults new.read_faults
     × (new.unread ≡ Some name)
-Reads old new name limit (Err TooLong) = OnlyReads old new × IsBeyond old.files name limit
+ReadsFile old new name limit (Err TooLong) = OnlyReads old new × IsBeyond old.files name limit
     × KeepsUnread old new
-Reads old new name limit (Err NoMemory) = OnlyReads old new × KeepsUnread old new
+ReadsFile old new name limit (Err NoMemory) = OnlyReads old new × KeepsUnread old new
 
 -- the state but for the count of patterns refused as too large, which doesn't fall
 abbrev pub OnlyBuilds : WorldState → WorldState → Type 0
@@ -147,7 +147,7 @@ InletRefused old new OpenNoMemory = (new ≡ record old { inlet_faults = new.inl
 abbrev pub OutletOpens : WorldState → WorldState → OutletSpec → OutletState → Type 0
 OutletOpens old new spec drain = (new ≡ record old
     { outlet_faults = new.outlet_faults; outlets = with_opened old.outlets spec drain })
-    × (old.outlet_faults ≤ new.outlet_faults) × IsNew drain
+    × (old.outlet_faults ≤ new.outlet_faults) × IsUnusedOutlet drain
 
 abbrev pub OutletRefused : WorldState → WorldState → OpenRefusal → Type 0
 OutletRefused old new OpenFailed = (new ≡ record old { outlet_faults = new.outlet_faults })
@@ -184,7 +184,7 @@ StoreRefused old new OpenNoMemory = (new ≡ record old { store_faults = new.sto
 abbrev pub IsByPath : OutletSpec → Type 0
 IsByPath (OutletFile path fsync mode folders reopen) = ⊥
 IsByPath (Tcp host port reopen) = ⊥
-IsByPath (ByPath fsync mode folders reopen) = Unit {0}
+IsByPath (ByPath fsync mode folders reopen reap) = Unit {0}
 
 abbrev pub PathsOpen : WorldState → WorldState → OutletSpec → PathsState → Type 0
 PathsOpen old new spec opener = (new

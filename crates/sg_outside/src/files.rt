@@ -1,5 +1,5 @@
 // The files of a configuration.
-ghost use Rattle.sg_outside.specs.World.{Reads};
+ghost use Rattle.sg_outside.specs.World.{ReadsFile};
 
 use crate::Machine;
 use sg_device::FileRefusal;
@@ -10,5 +10,5 @@ use std::alloc::Global;
 pub trait Files: Machine {
     /// The whole file of this name, if it has at most 1,048,576 bytes.
     fn read(&mut self, alloc: Global, name: &[u8]) -> Result<Vec<u8>, FileRefusal>
-        ensures { Reads (Self.state self.old) (Self.state self.new) name.now 1048576 result };
+        ensures { ReadsFile (Self.state self.old) (Self.state self.new) name.now 1048576 result };
 }

@@ -98,6 +98,8 @@ pub enum OutletSpec {
         mode: u16,
         folders: Option<u16>,
         reopen: u32,
+        /// The seconds after which a file is closed that took nothing (`time-reap()`), 0 where none is.
+        reap: u32,
     },
 }
 
@@ -130,11 +132,13 @@ impl OutletSpec {
                 mode,
                 folders,
                 reopen,
+                reap,
             } => Ok(OutletSpec::ByPath {
                 fsync: *fsync,
                 mode: *mode,
                 folders: *folders,
                 reopen: *reopen,
+                reap: *reap,
             }),
         }
     }

@@ -10,7 +10,7 @@ use Rattle.sg_parse_base.specs.Tokens.{is_word, is_string, is_symbol, is_keyword
 use Rattle.sg_parse_base.specs.Input.{Parser, ◌>>=◌, behind, next_is, sees, sees_word}
 use Rattle.sg_parse_base.specs.Lists.{chain_from, chain}
 use Rattle.sg_parse_base.specs.Grammar.{Stands, Keyword, Links, Chain}
-use Rattle.sg_parse_base.specs.Laws.{Leaves}
+use Rattle.sg_parse_base.specs.Laws.{LeavesEnd}
 use Rattle.sg_parse_base.proofs.Steps.{step_ok, ok_is, chosen, leaves-then, shorter}
 
 -- ---- keywords
@@ -27,7 +27,7 @@ takes-word word s r t = rw t.1.0 t.1.1
 pub keyword-behind : (word : List ℕ) (s r : List Spot) → Keyword word s r → behind s ≡ r
 keyword-behind word s r t = rw t.1.0 refl
 
-pub keyword-leaves : (word : List ℕ) (s r : List Spot) → Keyword word s r → Leaves s r
+pub keyword-leaves : (word : List ℕ) (s r : List Spot) → Keyword word s r → LeavesEnd s r
 keyword-leaves word s r t = (t.0, [], t.1.0)
 
 pub word-kind : (k : TokenKind) → is_word_kind k ≡ true → (is_symbol_kind k ≡ false) × (is_string_kind k ≡ false)
@@ -90,7 +90,7 @@ first_differs a b x p q ne h =
 module _ {A : Type 0} (item : Parser A) (One : Stands A) (word : List ℕ) (Follows : List Spot → Type 0)
     (sound : (s : List Spot) (x : A × List Spot) → item s ≡ Ok x → One s x.0 x.1)
     (again : (s r : List Spot) (x : A) → One s x r → Follows r → item s ≡ Ok (x, r))
-    (leaves : (s r : List Spot) (x : A) → One s x r → Leaves s r)
+    (leaves : (s r : List Spot) (x : A) → One s x r → LeavesEnd s r)
     (goes_on : (s r : List Spot) → Keyword word s r → Follows s) where
   chain_from-sound : (n : ℕ) (found : List A) (s : List Spot) (y : List A × List Spot) → chain_from item word n found s ≡ Ok y → (xs : List A) × (y.0 ≡ found ++ xs) × Links One word s xs y.1
   unfolding chain_from
@@ -119,7 +119,7 @@ module _ {A : Type 0} (item : Parser A) (One : Stands A) (word : List ℕ) (Foll
   links-follow s r xs (Links.done _) f = f
   links-follow s r xs (Links.more _ m _ _ _ _ t one rest) f = goes_on s m t
 
-  link-behind : (s m r : List Spot) (xs : List A) → Leaves s m → Links One word m xs r → Leaves s r
+  link-behind : (s m r : List Spot) (xs : List A) → LeavesEnd s m → Links One word m xs r → LeavesEnd s r
   link-behind s m r xs l (Links.done _) = l
   link-behind s m r xs l (Links.more _ k n _ x ys t one rest) = link-behind s n r ys (leaves-then s m n l (leaves-then m k n (keyword-leaves word m k t) (leaves k n x one))) rest
 
@@ -138,6 +138,6 @@ module _ {A : Type 0} (item : Parser A) (One : Stands A) (word : List ℕ) (Foll
   chain-again s r [] t f stops = absurd t
   chain-again s r (x ∷ xs) t f stops = rw (again s t.0 x t.1 (links-follow t.0 r xs t.2 f), chain_from-again (length t.0) (x ∷ []) xs t.0 r t.2 f stops (omega arith)) refl
 
-  pub chain-leaves : (s r : List Spot) (xs : List A) → Chain One word s xs r → Leaves s r
+  pub chain-leaves : (s r : List Spot) (xs : List A) → Chain One word s xs r → LeavesEnd s r
   chain-leaves s r [] t = absurd t
   chain-leaves s r (x ∷ xs) t = link-behind s t.0 r xs (leaves s t.0 x t.1) t.2

@@ -8,7 +8,7 @@ use Rattle.sg_parse_base.specs.Tokens.{is_symbol}
 use Rattle.sg_parse_base.specs.Input.{Parser, ◌>>=◌, behind, sees, symbol, fault_at}
 use Rattle.sg_parse_base.specs.Lists.{after_commas, gap, items_from, items, many, single, ending, body_from, body}
 use Rattle.sg_parse_base.specs.Grammar.{Stands, Symbol, Commas, Single, Rest, Items, Many, Body, Braced, Ending}
-use Rattle.sg_parse_base.specs.Laws.{Agrees, Matches, Leaves}
+use Rattle.sg_parse_base.specs.Laws.{Agrees, Matches, LeavesEnd}
 use Rattle.sg_parse_base.proofs.Steps.{step_ok, guard_ok, ok_is, chosen, sees-takes, symbol-takes, takes-sees, takes-symbol, takes-behind, leaves-then, symbol-leaves, shorter, name-sees, symbol-sees}
 
 -- ---- commas
@@ -30,7 +30,7 @@ commas-are : (s m : List Spot) → Commas s m → sees 44 m ≡ false → after_
 commas-are s m (Commas.none _) h = uncommaed s h
 commas-are s r (Commas.comma _ m _ t rest) h = rw (t.1.0, t.1.1) (commas-are m r rest h)
 
-pub commas-leave : (m k r : List Spot) → Commas m k → Leaves k r → Leaves m r
+pub commas-leave : (m k r : List Spot) → Commas m k → LeavesEnd k r → LeavesEnd m r
 commas-leave m k r (Commas.none _) l = l
 commas-leave m k r (Commas.comma _ n _ t commas) l = leaves-then m n r (symbol-leaves 44 m n t) (commas-leave n k r commas l)
 
@@ -87,11 +87,11 @@ module _ {A : Type 0} (item : Parser A) (One : Stands A) (agrees : Agrees item O
   rest-of m k r [] commas closing all = Rest.closed m r (subst (λ (t : List Spot). Symbol 41 t r) (sym (closing (takes-sees 41 k r all))) all)
   rest-of m k r (x ∷ xs) commas closing all = Rest.more m k all.0 r x xs commas all.1 all.2
 
-  pub rest-leaves : (m r : List Spot) (xs : List A) → Rest One m xs r → Leaves m r
+  pub rest-leaves : (m r : List Spot) (xs : List A) → Rest One m xs r → LeavesEnd m r
   rest-leaves m r [] (Rest.closed _ _ t) = symbol-leaves 41 m r t
   rest-leaves m r (x ∷ xs) (Rest.more _ k n _ _ _ commas one rest) = commas-leave m k r commas (leaves-then k n r (agrees.leaves k n x one) (rest-leaves n r xs rest))
 
-  pub items-leaves : (s r : List Spot) (xs : List A) → Items One s xs r → Leaves s r
+  pub items-leaves : (s r : List Spot) (xs : List A) → Items One s xs r → LeavesEnd s r
   items-leaves s r [] t = symbol-leaves 41 s r t
   items-leaves s r (x ∷ xs) t = leaves-then s t.0 r (agrees.leaves s t.0 x t.1) (rest-leaves t.0 r xs t.2)
 
@@ -152,7 +152,7 @@ module _ {A : Type 0} (item : Parser A) (One : Stands A) (agrees : Agrees item O
   unfolding many
   many-again s r xs t = rw (takes-symbol 40 s t.0 t.1, items-again [] xs t.0 r t.2) refl
 
-  pub many-leaves : (s r : List Spot) (xs : List A) → Many One s xs r → Leaves s r
+  pub many-leaves : (s r : List Spot) (xs : List A) → Many One s xs r → LeavesEnd s r
   many-leaves s r xs t = leaves-then s t.0 r (symbol-leaves 40 s t.0 t.1) (items-leaves t.0 r xs t.2)
 
   pub single-sound : (s : List Spot) (y : List A × List Spot) → single item s ≡ Ok y → Single One s y.0 y.1
@@ -176,12 +176,12 @@ module _ {A : Type 0} (item : Parser A) (One : Stands A) (agrees : Agrees item O
   unfolding single
   single-again s r xs t = rw (takes-symbol 40 s t.inner t.opens, agrees.again t.inner t.after t.x t.one, takes-symbol 41 t.after r t.closes, t.is) refl
 
-  pub single-leaves : (s r : List Spot) (xs : List A) → Single One s xs r → Leaves s r
+  pub single-leaves : (s r : List Spot) (xs : List A) → Single One s xs r → LeavesEnd s r
   single-leaves s r xs t = leaves-then s t.inner r (symbol-leaves 40 s t.inner t.opens) (leaves-then t.inner t.after r (agrees.leaves t.inner t.after t.x t.one) (symbol-leaves 41 t.after r t.closes))
 
   -- ---- items in braces
 
-  body-leaves : (s r : List Spot) (xs : List A) → Body One s xs r → Leaves s r
+  body-leaves : (s r : List Spot) (xs : List A) → Body One s xs r → LeavesEnd s r
   body-leaves s r xs (Body.closed _ _ t) = symbol-leaves 125 s r t
   body-leaves s r xs (Body.extra _ m _ _ t rest) = leaves-then s m r (symbol-leaves 59 s m t) (body-leaves m r xs rest)
   body-leaves s r xs (Body.last _ m _ x one t) = leaves-then s m r (agrees.leaves s m x one) (symbol-leaves 125 m r t)
@@ -252,7 +252,7 @@ module _ {A : Type 0} (item : Parser A) (One : Stands A) (agrees : Agrees item O
   unfolding body
   body-again s r xs t = rw (takes-symbol 123 s t.0 t.1, body_from-again (length t.0) [] xs t.0 r t.2 (omega arith)) refl
 
-  pub braced-leaves : (s r : List Spot) (xs : List A) → Braced One s xs r → Leaves s r
+  pub braced-leaves : (s r : List Spot) (xs : List A) → Braced One s xs r → LeavesEnd s r
   braced-leaves s r xs t = leaves-then s t.0 r (symbol-leaves 123 s t.0 t.1) (body-leaves t.0 r xs t.2)
 
 pub many-law : {A : Type 0} (item : Parser A) (One : Stands A) → Agrees item One → Matches (many item) (Many One)
@@ -268,6 +268,6 @@ pub ending-again : (s m r : List Spot) → Ending s m → Symbol 125 m r → end
 ending-again s m r (inl same) t = ap ending same ∙ ending-closes m r t
 ending-again s m r (inr semi) t = ending-goes_on s m semi
 
-pub ending-leaves : (s m r : List Spot) → Ending s m → Leaves m r → Leaves s r
-ending-leaves s m r (inl same) l = subst (λ (k : List Spot). Leaves k r) (sym same) l
+pub ending-leaves : (s m r : List Spot) → Ending s m → LeavesEnd m r → LeavesEnd s r
+ending-leaves s m r (inl same) l = subst (λ (k : List Spot). LeavesEnd k r) (sym same) l
 ending-leaves s m r (inr semi) l = leaves-then s m r (symbol-leaves 59 s m semi) l

@@ -7,27 +7,27 @@ use Rattle.sg_lex.specs.declared.token.TokenKind.{TokenKind}
 use Rattle.sg_lex.specs.declared.token.TokenKind.TheVariants.{Word, Str, Sym, Op, At, Tick}
 use Rattle.sg_lex.specs.declared.token.Token.{Token}
 use Rattle.sg_lex.specs.declared.fault.ConfigKind.TheVariants.{Unexpected}
-use Rattle.sg_parse_base.specs.declared.fault.Fault.{Fault}
+use Rattle.sg_parse_base.specs.declared.fault.ParseFault.{ParseFault}
 use Rattle.sg_parse_base.specs.declared.spot.Spot.{Spot}
 use Rattle.sg_parse_base.specs.Tokens.{is_name, is_symbol, is_word_kind, is_string_kind, is_symbol_kind, is_byte}
-use Rattle.sg_parse_base.specs.Input.{Outcome, ◌>>=◌, behind, next_is, any, expected, sees, symbol, fault_at}
-use Rattle.sg_parse_base.specs.Grammar.{Takes, Symbol}
-use Rattle.sg_parse_base.specs.Laws.{Leaves}
+use Rattle.sg_parse_base.specs.Input.{ParseOutcome, ◌>>=◌, behind, next_is, any, expected, sees, symbol, fault_at}
+use Rattle.sg_parse_base.specs.Grammar.{TakesToken, Symbol}
+use Rattle.sg_parse_base.specs.Laws.{LeavesEnd}
 
 -- ---- what an outcome says
 
-abbrev pub gives : {A : Type 0} → A → List Spot → Outcome A
+abbrev pub gives : {A : Type 0} → A → List Spot → ParseOutcome A
 gives x r = Ok (x, r)
 
-pub step_ok : {A B : Type 0} (o : Outcome A) (f : A × List Spot → Outcome B) (y : B × List Spot) → (o >>= f) ≡ Ok y → (x : A × List Spot) × (o ≡ Ok x) × (f x ≡ Ok y)
+pub step_ok : {A B : Type 0} (o : ParseOutcome A) (f : A × List Spot → ParseOutcome B) (y : B × List Spot) → (o >>= f) ≡ Ok y → (x : A × List Spot) × (o ≡ Ok x) × (f x ≡ Ok y)
 step_ok (Ok x) f y e = (x, refl, e)
 step_ok (Err fault) f y e = absurd cc
 
-pub guard_ok : {A : Type 0} (b : Bool) (fault : Fault) (o : Outcome A) (y : A × List Spot) → cond b (Err fault) o ≡ Ok y → (b ≡ false) × (o ≡ Ok y)
+pub guard_ok : {A : Type 0} (b : Bool) (fault : ParseFault) (o : ParseOutcome A) (y : A × List Spot) → cond b (Err fault) o ≡ Ok y → (b ≡ false) × (o ≡ Ok y)
 guard_ok true fault o y e = absurd cc
 guard_ok false fault o y e = (refl, e)
 
-pub test_ok : {A : Type 0} (b : Bool) (fault : Fault) (o : Outcome A) (y : A × List Spot) → cond b o (Err fault) ≡ Ok y → (b ≡ true) × (o ≡ Ok y)
+pub test_ok : {A : Type 0} (b : Bool) (fault : ParseFault) (o : ParseOutcome A) (y : A × List Spot) → cond b o (Err fault) ≡ Ok y → (b ≡ true) × (o ≡ Ok y)
 test_ok true fault o y e = (refl, e)
 test_ok false fault o y e = absurd cc
 
@@ -36,18 +36,18 @@ ok_is {A} x y s r e = let p : (x, s) ≡ (y, r) = cc in (ap (λ (q : A × List S
 
 -- ---- tokens
 
-pub next-takes : (passes : Token → Bool) (s : List Spot) (x : Spot × List Spot) → next_is passes s ≡ true → any s ≡ Ok x → Takes passes s x.0 x.1
+pub next-takes : (passes : Token → Bool) (s : List Spot) (x : Spot × List Spot) → next_is passes s ≡ true → any s ≡ Ok x → TakesToken passes s x.0 x.1
 unfolding any
 next-takes passes [] x p e = absurd cc
 next-takes passes (spot ∷ spots) x p e =
     let is : (spot, spots) ≡ x = cc in
-    subst (λ (y : Spot × List Spot). Takes passes (spot ∷ spots) y.0 y.1) is (refl, p)
+    subst (λ (y : Spot × List Spot). TakesToken passes (spot ∷ spots) y.0 y.1) is (refl, p)
 
-pub expected-takes : (passes : Token → Bool) (s : List Spot) (x : Spot × List Spot) → expected passes s ≡ Ok x → Takes passes s x.0 x.1
+pub expected-takes : (passes : Token → Bool) (s : List Spot) (x : Spot × List Spot) → expected passes s ≡ Ok x → TakesToken passes s x.0 x.1
 unfolding expected
 expected-takes passes s x e = let t = test_ok (next_is passes s) (fault_at Unexpected s) (any s) x e in next-takes passes s x t.0 t.1
 
-pub takes-expected : (passes : Token → Bool) (s : List Spot) (spot : Spot) (r : List Spot) → Takes passes s spot r → expected passes s ≡ Ok (spot, r)
+pub takes-expected : (passes : Token → Bool) (s : List Spot) (spot : Spot) (r : List Spot) → TakesToken passes s spot r → expected passes s ≡ Ok (spot, r)
 unfolding expected any
 takes-expected passes s spot r t = rw (t.0, t.1) refl
 
@@ -79,16 +79,16 @@ chosen false x y z e = inr (refl, e)
 
 -- ---- what is left is an end of what there was
 
-pub leaves-then : (s m r : List Spot) → Leaves s m → Leaves m r → Leaves s r
+pub leaves-then : (s m r : List Spot) → LeavesEnd s m → LeavesEnd m r → LeavesEnd s r
 leaves-then s m r a b = (a.0, a.1 ++ b.0 ∷ b.1, a.2 ∙ ap (λ (xs : List Spot). a.0 ∷ (a.1 ++ xs)) b.2 ∙ ap (λ (xs : List Spot). a.0 ∷ xs) (sym (append_assoc a.1 (b.0 ∷ b.1) r)))
 
-pub takes-leaves : (passes : Token → Bool) (s : List Spot) (spot : Spot) (r : List Spot) → Takes passes s spot r → Leaves s r
+pub takes-leaves : (passes : Token → Bool) (s : List Spot) (spot : Spot) (r : List Spot) → TakesToken passes s spot r → LeavesEnd s r
 takes-leaves passes s spot r t = (spot, [], t.0)
 
-pub symbol-leaves : (byte : ℕ) (s r : List Spot) → Symbol byte s r → Leaves s r
+pub symbol-leaves : (byte : ℕ) (s r : List Spot) → Symbol byte s r → LeavesEnd s r
 symbol-leaves byte s r t = (t.0, [], t.1.0)
 
-pub shorter : (s r : List Spot) → Leaves s r → length r < length s
+pub shorter : (s r : List Spot) → LeavesEnd s r → length r < length s
 shorter s r l = let len : length s ≡ length (l.0 ∷ (l.1 ++ r)) = ap length l.2 in omega (arith, len, length-append l.1 r)
 
 -- ---- a token is of one kind

@@ -11,15 +11,15 @@ abbrev pub Stands : Type 0 → Type 1
 Stands A = List Spot → A → List Spot → Type 0
 
 -- a token that passes
-abbrev pub Takes : (Token → Bool) → Stands Spot
-Takes passes s spot r = (s ≡ spot ∷ r) × (passes spot.token ≡ true)
+abbrev pub TakesToken : (Token → Bool) → Stands Spot
+TakesToken passes s spot r = (s ≡ spot ∷ r) × (passes spot.token ≡ true)
 
 -- a symbol of one byte, and a keyword
 abbrev pub Symbol : ℕ → List Spot → List Spot → Type 0
-Symbol byte s r = (spot : Spot) × Takes (is_symbol byte) s spot r
+Symbol byte s r = (spot : Spot) × TakesToken (is_symbol byte) s spot r
 
 abbrev pub Keyword : List ℕ → List Spot → List Spot → Type 0
-Keyword word s r = (spot : Spot) × Takes (is_keyword word) s spot r
+Keyword word s r = (spot : Spot) × TakesToken (is_keyword word) s spot r
 
 pub data Commas : List Spot → List Spot → Type 0 where
   none : (s : List Spot) → Commas s s

@@ -5,9 +5,9 @@ use Rattle.sg_lex.specs.declared.fault.ConfigKind.{ConfigKind}
 use Rattle.sg_lex.specs.declared.fault.ConfigKind.TheVariants.{Unexpected, Unsupported}
 use Rattle.sg_parse_base.specs.declared.spot.Spot.{Spot}
 use Rattle.sg_lex.specs.declared.place.Line.{Line}
-use Rattle.sg_parse_base.specs.declared.fault.Fault.{Fault}
-use Rattle.sg_parse_base.specs.declared.fault.Stop.{Stop}
-use Rattle.sg_parse_base.specs.declared.fault.Stop.TheVariants as stops
+use Rattle.sg_parse_base.specs.declared.fault.ParseFault.{ParseFault}
+use Rattle.sg_parse_base.specs.declared.fault.ParseStop.{ParseStop}
+use Rattle.sg_parse_base.specs.declared.fault.ParseStop.TheVariants as stops
 use Rattle.sg_parse_base.specs.Tokens.{line_of, is_word, is_name, is_symbol, is_dots, is_keyword}
 
 -- the tokens with their places, of which the first is this
@@ -16,11 +16,11 @@ spots_from at [] = []
 spots_from at (token ∷ tokens) = (record { token = token; at = at }) ∷ spots_from (at + 1) tokens
 
 -- A parser gives what stands at the front and the tokens behind it, or the first fault.
-abbrev pub Outcome : Type 0 → Type 0
-Outcome A = Result (A × List Spot) Fault
+abbrev pub ParseOutcome : Type 0 → Type 0
+ParseOutcome A = Result (A × List Spot) ParseFault
 
 abbrev pub Parser : Type 0 → Type 0
-Parser A = List Spot → Outcome A
+Parser A = List Spot → ParseOutcome A
 
 abbrev pub first_token : List Spot → Option Token
 first_token [] = None
@@ -34,22 +34,22 @@ abbrev pub place_of : List Spot → Option Line
 place_of [] = None
 place_of (spot ∷ spots) = Some (spot_line spot)
 
-abbrev pub fault_at : ConfigKind → List Spot → Fault
+abbrev pub fault_at : ConfigKind → List Spot → ParseFault
 fault_at kind spots = record { kind = kind; at = place_of spots }
 
 -- What a function that reads ensures: the parser's outcome, unless memory runs out.
-abbrev pub Stops : {A : Type 0} → Stop → Outcome A → Type 0
-Stops (stops.Bad fault) outcome = outcome ≡ Err fault
-Stops stops.NoMemory outcome = Unit {0}
+abbrev pub StopsParsing : {A : Type 0} → ParseStop → ParseOutcome A → Type 0
+StopsParsing (stops.Bad fault) outcome = outcome ≡ Err fault
+StopsParsing stops.NoMemory outcome = Unit {0}
 
-abbrev pub Reads : {A : Type 0} → Outcome A → Result A Stop → List Spot → Type 0
-Reads outcome (Ok x) new = outcome ≡ Ok (x, new)
-Reads outcome (Err stop) new = Stops stop outcome
+abbrev pub ReadsTokens : {A : Type 0} → ParseOutcome A → Result A ParseStop → List Spot → Type 0
+ReadsTokens outcome (Ok x) new = outcome ≡ Ok (x, new)
+ReadsTokens outcome (Err stop) new = StopsParsing stop outcome
 
 -- ---- the steps of rules
 
 infixl 10 ◌>>=◌
-abbrev pub ◌>>=◌ : {A B : Type 0} → Outcome A → (A × List Spot → Outcome B) → Outcome B
+abbrev pub ◌>>=◌ : {A B : Type 0} → ParseOutcome A → (A × List Spot → ParseOutcome B) → ParseOutcome B
 (Ok x) >>= f = f x
 (Err fault) >>= f = Err fault
 
@@ -91,6 +91,6 @@ unfoldable pub name : Parser Spot
 name = expected is_name
 
 -- the word of a call must be known
-abbrev pub known : {A : Type 0} → Option A → Spot → List Spot → Outcome A
+abbrev pub known : {A : Type 0} → Option A → Spot → List Spot → ParseOutcome A
 known (Some x) spot spots = Ok (x, spots)
 known None spot spots = Err (record { kind = Unsupported; at = Some (spot_line spot) })

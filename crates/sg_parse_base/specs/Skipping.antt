@@ -6,7 +6,7 @@ use Rattle.sg_parse_base.specs.declared.spot.Spot.{Spot}
 use Rattle.sg_parse_base.specs.declared.skip.Bracket.{Bracket}
 use Rattle.sg_parse_base.specs.declared.skip.Bracket.TheVariants.{Opens, Closes, Neither}
 use Rattle.sg_parse_base.specs.Tokens.{is_symbol}
-use Rattle.sg_parse_base.specs.Input.{Parser, Outcome, ◌>>=◌, behind, symbol, fault_at}
+use Rattle.sg_parse_base.specs.Input.{Parser, ParseOutcome, ◌>>=◌, behind, symbol, fault_at}
 
 -- what a token does to the brackets that are open, which are listed by the bytes that close them, the innermost first
 abbrev pub bracket : Token → Bracket
@@ -29,12 +29,12 @@ open_behind (Closes c) (d ∷ open_ones) = if d == c then Some open_ones else No
 open_behind Neither open_ones = Some open_ones
 
 -- they are these, or there are none
-abbrev pub IsBehind : Option (List ℕ) → List ℕ → Bool → Type 0
-IsBehind open_ones new true = open_ones ≡ Some new
-IsBehind open_ones new false = open_ones ≡ None
+abbrev pub AreBracketsBehind : Option (List ℕ) → List ℕ → Bool → Type 0
+AreBracketsBehind open_ones new true = open_ones ≡ Some new
+AreBracketsBehind open_ones new false = open_ones ≡ None
 
 -- what follows such a token
-abbrev pub skipped_behind : Option (List ℕ) → (List ℕ → Outcome (Unit {0})) → Parser (Unit {0})
+abbrev pub skipped_behind : Option (List ℕ) → (List ℕ → ParseOutcome (Unit {0})) → Parser (Unit {0})
 skipped_behind None later spots = Err (fault_at Unexpected spots)
 skipped_behind (Some []) later spots = Ok (tt, behind spots)
 skipped_behind (Some (c ∷ open_ones)) later spots = later (c ∷ open_ones)

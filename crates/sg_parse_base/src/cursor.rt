@@ -1,11 +1,11 @@
 // A place in the list of tokens.
 ghost use Rattle.std.specs.Prelude.{◌≡◌, ◌<◌, ◌≤◌, ◌^◌, length, drop, true, Bool, slice_get, Some};
 ghost use Rattle.std.specs.Option.{option_copied};
-ghost use Rattle.sg_parse_base.specs.Input.{Reads, fault_at, place_of, spots_from, behind, first_token, any, next_is, expected, sees, sees_word, symbol, word, name};
+ghost use Rattle.sg_parse_base.specs.Input.{ReadsTokens, fault_at, place_of, spots_from, behind, first_token, any, next_is, expected, sees, sees_word, symbol, word, name};
 ghost use Rattle.sg_parse_base.specs.Tokens.{is_word, is_name, is_string, is_operator, is_dots};
 ghost use Rattle.sg_lex.specs.declared.token.Token.{Token};
 
-use crate::fault::{Fault, Stop};
+use crate::fault::{ParseFault, ParseStop};
 use crate::spot::Spot;
 use crate::token::{
     copy_token, is_dots, is_keyword, is_name, is_operator, is_string, is_symbol, is_word, line_of,
@@ -64,10 +64,10 @@ impl<'a> Cursor<'a> {
     }
 
     /// A fault at the next token.
-    pub fn fault(&self, kind: ConfigKind) -> Stop
-        ensures { result ≡ Stop.Bad (fault_at kind self.now) }
+    pub fn fault(&self, kind: ConfigKind) -> ParseStop
+        ensures { result ≡ ParseStop.Bad (fault_at kind self.now) }
     {
-        Stop::Bad(Fault {
+        ParseStop::Bad(ParseFault {
             kind,
             at: self.line(),
         })
@@ -83,8 +83,8 @@ impl<'a> Cursor<'a> {
     }
 
     /// The next token.
-    pub fn take(&mut self) -> Result<Spot, Stop>
-        ensures { Reads (any self.old) result self.new }
+    pub fn take(&mut self) -> Result<Spot, ParseStop>
+        ensures { ReadsTokens (any self.old) result self.new }
     {
         if self.at >= self.tokens.len() {
             return Err(self.fault(ConfigKind::Unexpected));
@@ -152,9 +152,9 @@ pub fn next_is_dots(cursor: &Cursor<'_>) -> bool
 
 /// The next token, where it passes.
 #[tactic(auto, unfolding(crate::specs::Input::expected))]
-fn expected(cursor: &mut Cursor<'_>, passes: bool) -> Result<Spot, Stop>
+fn expected(cursor: &mut Cursor<'_>, passes: bool) -> Result<Spot, ParseStop>
     ensures { (p : Token → Bool) → next_is p cursor.old ≡ passes
-        → Reads (expected p cursor.old) result cursor.new }
+        → ReadsTokens (expected p cursor.old) result cursor.new }
 {
     if !passes {
         return Err(cursor.fault(ConfigKind::Unexpected));
@@ -186,8 +186,8 @@ pub fn sees_word(cursor: &Cursor<'_>, word: &[u8]) -> bool
 
 /// Passes over the symbol of this byte. Another token is `Unexpected`.
 #[tactic(auto, unfolding(crate::specs::Input::symbol))]
-pub fn symbol(cursor: &mut Cursor<'_>, byte: u8) -> Result<(), Stop>
-    ensures { Reads (symbol byte cursor.old) result cursor.new }
+pub fn symbol(cursor: &mut Cursor<'_>, byte: u8) -> Result<(), ParseStop>
+    ensures { ReadsTokens (symbol byte cursor.old) result cursor.new }
 {
     if !sees(cursor, byte) {
         return Err(cursor.fault(ConfigKind::Unexpected));
@@ -198,8 +198,8 @@ pub fn symbol(cursor: &mut Cursor<'_>, byte: u8) -> Result<(), Stop>
 
 /// The next token, which must be a word.
 #[tactic(auto, unfolding(crate::specs::Input::word))]
-pub fn word(cursor: &mut Cursor<'_>) -> Result<Spot, Stop>
-    ensures { Reads (word cursor.old) result cursor.new }
+pub fn word(cursor: &mut Cursor<'_>) -> Result<Spot, ParseStop>
+    ensures { ReadsTokens (word cursor.old) result cursor.new }
 {
     let passes = next_is_word(cursor);
     expected(cursor, passes)
@@ -207,8 +207,8 @@ pub fn word(cursor: &mut Cursor<'_>) -> Result<Spot, Stop>
 
 /// The next token, which must be a word or a string.
 #[tactic(auto, unfolding(crate::specs::Input::name))]
-pub fn name(cursor: &mut Cursor<'_>) -> Result<Spot, Stop>
-    ensures { Reads (name cursor.old) result cursor.new }
+pub fn name(cursor: &mut Cursor<'_>) -> Result<Spot, ParseStop>
+    ensures { ReadsTokens (name cursor.old) result cursor.new }
 {
     let passes = next_is_name(cursor);
     expected(cursor, passes)

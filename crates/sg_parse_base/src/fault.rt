@@ -2,7 +2,7 @@
 ghost use Rattle.std.specs.Prelude.{◌≡◌, Some};
 ghost use Rattle.sg_lex.specs.declared.fault.ConfigKind.TheVariants.{Unsupported};
 ghost use Rattle.sg_parse_base.specs.Input.{spot_line};
-ghost use Rattle.sg_parse_base.specs.declared.fault.Stop.TheVariants.{NoMemory as StopNoMemory};
+ghost use Rattle.sg_parse_base.specs.declared.fault.ParseStop.TheVariants.{NoMemory as StopNoMemory};
 
 use crate::spot::Spot;
 use crate::token::line_of;
@@ -11,31 +11,31 @@ use std::alloc::AllocError;
 
 /// What is wrong, and the place of the first token at which it is: none behind the last token.
 #[derive(Clone, Copy, Drop)]
-pub struct Fault {
+pub struct ParseFault {
     pub kind: ConfigKind,
     pub at: Option<Line>,
 }
 
 /// Where reading stops.
 #[derive(Clone, Copy, Drop)]
-pub enum Stop {
-    Bad(Fault),
+pub enum ParseStop {
+    Bad(ParseFault),
     NoMemory,
 }
 
-impl From<AllocError> for Stop {
+impl From<AllocError> for ParseStop {
     ghost from_gives = { λ _ stop. stop ≡ StopNoMemory };
 
     fn from(_: AllocError) -> Self {
-        Stop::NoMemory
+        ParseStop::NoMemory
     }
 }
 
 /// The fault `Unsupported` at a token that was read.
-pub fn unsupported(spot: &Spot) -> Stop
-    ensures { result ≡ Stop.Bad (record { kind = Unsupported; at = Some (spot_line spot.now) }) }
+pub fn unsupported(spot: &Spot) -> ParseStop
+    ensures { result ≡ ParseStop.Bad (record { kind = Unsupported; at = Some (spot_line spot.now) }) }
 {
-    Stop::Bad(Fault {
+    ParseStop::Bad(ParseFault {
         kind: ConfigKind::Unsupported,
         at: Some(line_of(&spot.token, spot.at)),
     })

@@ -14,9 +14,9 @@ pub use cursor::{
     Cursor, name, next_is_dots, next_is_name, next_is_operator, next_is_string, next_is_word, sees,
     sees_word, symbol, word,
 };
-pub use fault::{Fault, Stop, unsupported};
+pub use fault::{ParseFault, ParseStop, unsupported};
 pub use laws::skipped_tokens_are_balanced;
-pub use lists::{Rule, body, ending, gap, items, many, single};
+pub use lists::{ItemRule, body, ending, gap, items, many, single};
 pub use skip::skipped;
 pub use spot::Spot;
 pub use token::{

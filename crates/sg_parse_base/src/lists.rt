@@ -1,22 +1,22 @@
 // Lists of items, of which a rule reads one.
 ghost use Rattle.std.specs.Prelude.{◌≡◌, [], ◌∷◌, ◌++◌, List};
-ghost use Rattle.sg_parse_base.specs.Input.{Reads, Parser};
+ghost use Rattle.sg_parse_base.specs.Input.{ReadsTokens, Parser};
 ghost use Rattle.sg_parse_base.specs.Lists.{after_commas, gap, items, many, single, ending, body};
 
 use crate::cursor::{Cursor, sees, symbol};
-use crate::fault::Stop;
+use crate::fault::ParseStop;
 use sg_lex::ConfigKind;
 use sqlite_items::Items;
 use std::alloc::Global;
 
 /// What one item of a list is, and how it is read.
-pub trait Rule {
+pub trait ItemRule {
     type Item: Drop;
 
     ghost parser: { Self → Parser Self.Item };
 
-    fn read(&self, alloc: Global, cursor: &mut Cursor<'_>) -> Result<Self::Item, Stop>
-        ensures { Reads (parser self.now cursor.old) result cursor.new };
+    fn read(&self, alloc: Global, cursor: &mut Cursor<'_>) -> Result<Self::Item, ParseStop>
+        ensures { ReadsTokens (parser self.now cursor.old) result cursor.new };
 }
 
 #[tactic(auto, using(crate::proofs::CommaSteps::comma_step, crate::proofs::CommaSteps::comma_smaller, crate::proofs::CommaSteps::comma_none))]
@@ -31,8 +31,8 @@ fn skip_commas(cursor: &mut Cursor<'_>)
 /// Passes over what stands between an item and the next one, or the closing parenthesis: commas, but
 /// none before the parenthesis.
 #[tactic(auto, unfolding(crate::specs::Lists::gap))]
-pub fn gap(cursor: &mut Cursor<'_>) -> Result<(), Stop>
-    ensures { Reads (gap cursor.old) result cursor.new }
+pub fn gap(cursor: &mut Cursor<'_>) -> Result<(), ParseStop>
+    ensures { ReadsTokens (gap cursor.old) result cursor.new }
 {
     let comma = sees(cursor, b',');
     skip_commas(cursor);
@@ -43,13 +43,13 @@ pub fn gap(cursor: &mut Cursor<'_>) -> Result<(), Stop>
 }
 
 /// Items up to the closing parenthesis, with commas or nothing between two, behind those found.
-pub fn items<R: Rule>(
+pub fn items<R: ItemRule>(
     alloc: Global,
     cursor: &mut Cursor<'_>,
     rule: &R,
     mut found: Items<R::Item>,
-) -> Result<Items<R::Item>, Stop>
-    ensures { Reads (items (R.parser rule.now) found cursor.old) result cursor.new }
+) -> Result<Items<R::Item>, ParseStop>
+    ensures { ReadsTokens (items (R.parser rule.now) found cursor.old) result cursor.new }
 {
     for _turn in 0..cursor.left() {
         if sees(cursor, b')') {
@@ -64,12 +64,12 @@ pub fn items<R: Rule>(
 
 /// Items in parentheses.
 #[tactic(auto, unfolding(crate::specs::Lists::many))]
-pub fn many<R: Rule>(
+pub fn many<R: ItemRule>(
     alloc: Global,
     cursor: &mut Cursor<'_>,
     rule: &R,
-) -> Result<Items<R::Item>, Stop>
-    ensures { Reads (many (R.parser rule.now) cursor.old) result cursor.new }
+) -> Result<Items<R::Item>, ParseStop>
+    ensures { ReadsTokens (many (R.parser rule.now) cursor.old) result cursor.new }
 {
     symbol(cursor, b'(')?;
     items(alloc, cursor, rule, Items::new(alloc))
@@ -77,12 +77,12 @@ pub fn many<R: Rule>(
 
 /// One item in parentheses.
 #[tactic(auto, unfolding(crate::specs::Lists::single))]
-pub fn single<R: Rule>(
+pub fn single<R: ItemRule>(
     alloc: Global,
     cursor: &mut Cursor<'_>,
     rule: &R,
-) -> Result<Items<R::Item>, Stop>
-    ensures { Reads (single (R.parser rule.now) cursor.old) result cursor.new }
+) -> Result<Items<R::Item>, ParseStop>
+    ensures { ReadsTokens (single (R.parser rule.now) cursor.old) result cursor.new }
 {
     let mut found = Items::new(alloc);
     symbol(cursor, b'(')?;
@@ -93,8 +93,8 @@ pub fn single<R: Rule>(
 
 /// Passes over the semicolon behind an item in braces, which may miss before the closing brace.
 #[tactic(auto, unfolding(crate::specs::Lists::ending))]
-pub fn ending(cursor: &mut Cursor<'_>) -> Result<(), Stop>
-    ensures { Reads (ending cursor.old) result cursor.new }
+pub fn ending(cursor: &mut Cursor<'_>) -> Result<(), ParseStop>
+    ensures { ReadsTokens (ending cursor.old) result cursor.new }
 {
     if sees(cursor, b'}') {
         return Ok(());
@@ -103,12 +103,12 @@ pub fn ending(cursor: &mut Cursor<'_>) -> Result<(), Stop>
 }
 
 /// Items in braces, each with a semicolon behind it, and more semicolons anywhere.
-pub fn body<R: Rule>(
+pub fn body<R: ItemRule>(
     alloc: Global,
     cursor: &mut Cursor<'_>,
     rule: &R,
-) -> Result<Items<R::Item>, Stop>
-    ensures { Reads (body (R.parser rule.now) cursor.old) result cursor.new }
+) -> Result<Items<R::Item>, ParseStop>
+    ensures { ReadsTokens (body (R.parser rule.now) cursor.old) result cursor.new }
 {
     let mut found = Items::new(alloc);
     symbol(cursor, b'{')?;

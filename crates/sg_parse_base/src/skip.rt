@@ -1,10 +1,10 @@
 // What stands in parentheses and has no effect.
 ghost use Rattle.std.specs.Prelude.{◌≡◌, [], ◌∷◌, reverse, MatchOption, ◌++◌, List, ℕ, IfOk, Result};
-ghost use Rattle.sg_parse_base.specs.Input.{Reads};
-ghost use Rattle.sg_parse_base.specs.Skipping.{bracket, next_bracket, open_behind, skipped, IsBehind};
+ghost use Rattle.sg_parse_base.specs.Input.{ReadsTokens};
+ghost use Rattle.sg_parse_base.specs.Skipping.{bracket, next_bracket, open_behind, skipped, AreBracketsBehind};
 
 use crate::cursor::{Cursor, symbol};
-use crate::fault::Stop;
+use crate::fault::ParseStop;
 use crate::token::is_symbol;
 use sg_lex::{ConfigKind, Token};
 use sqlite_items::Items;
@@ -50,7 +50,7 @@ fn next_bracket(cursor: &Cursor<'_>) -> Bracket
 /// Changes the open brackets, the innermost last, by a token, and says whether it may stand there.
 fn pass(open_ones: &mut Items<u8>, bracket: Bracket) -> Result<bool, AllocError>
     ensures { IfOk result
-        (λ b. IsBehind (open_behind bracket (reverse open_ones.old)) (reverse open_ones.new) b) }
+        (λ b. AreBracketsBehind (open_behind bracket (reverse open_ones.old)) (reverse open_ones.new) b) }
 {
     match bracket {
         Bracket::Opens(byte) => {
@@ -67,8 +67,8 @@ fn pass(open_ones: &mut Items<u8>, bracket: Bracket) -> Result<bool, AllocError>
 
 /// Passes over parentheses and whatever tokens stand in them, of which the brackets `(` `)` and `{` `}`
 /// must be balanced: one that closes no open bracket of its kind is `Unexpected`.
-pub fn skipped(alloc: Global, cursor: &mut Cursor<'_>) -> Result<(), Stop>
-    ensures { Reads (skipped cursor.old) result cursor.new }
+pub fn skipped(alloc: Global, cursor: &mut Cursor<'_>) -> Result<(), ParseStop>
+    ensures { ReadsTokens (skipped cursor.old) result cursor.new }
 {
     symbol(cursor, b'(')?;
     let mut open_ones = Items::new(alloc);

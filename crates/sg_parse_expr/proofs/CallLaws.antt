@@ -11,8 +11,8 @@ use Rattle.sg_parse_base.specs.Tokens.{is_name, is_word, is_string, is_symbol, i
 use Rattle.sg_parse_base.specs.Input.{Parser, ◌>>=◌, behind, next_is, any, known, sees_dots, symbol, word}
 use Rattle.sg_parse_base.specs.Lists.{gap, items}
 use Rattle.sg_parse_base.specs.Skipping.{skipped}
-use Rattle.sg_parse_base.specs.Grammar.{Stands, Takes, Rest, Skipped}
-use Rattle.sg_parse_base.specs.Laws.{Agrees, Matches, Leaves}
+use Rattle.sg_parse_base.specs.Grammar.{Stands, TakesToken, Rest, Skipped}
+use Rattle.sg_parse_base.specs.Laws.{Agrees, Matches, LeavesEnd}
 use Rattle.sg_parse_base.proofs.Steps.{step_ok, ok_is, chosen, expected-takes, takes-expected, symbol-takes, takes-symbol, leaves-then, takes-leaves, symbol-leaves, name-sees}
 use Rattle.sg_parse_base.proofs.ListLaws.{gap-sound, gap-next, rest-of, rest-gap, rest-leaves, commas-leave, items-sound, items-again, many-law, single-law}
 use Rattle.sg_parse_base.proofs.SkipLaws.{skipped-sound, skipped-again, skipped-leaves}
@@ -75,7 +75,6 @@ passes-name class.Truth token h = numeric token (is_truth token.text) None h
 passes-name class.Yes token h = numeric token (is_truth token.text) (supported (is_yes token.text)) h
 passes-name class.Facility token h = guarded (is_name token) (name_verdict class.Facility token) kind.Unexpected h
 passes-name class.Level token h = guarded (is_name token) (name_verdict class.Level token) kind.Unexpected h
-passes-name class.FileName token h = guarded (is_name token) (name_verdict class.FileName token) kind.Unexpected h
 passes-name (class.Word choice) token h = guarded (is_name token) (name_verdict (class.Word choice) token) kind.Unexpected h
 
 -- a text is a string
@@ -83,12 +82,12 @@ pub text-string : (token : Token) → passes class.Text token ≡ true → is_st
 unfolding passes verdict
 text-string token h = guarded (is_string token) (template_verdict (parts_of token.text)) kind.Unexpected h
 
-pub value-takes : (class : Class) (s : List Spot) (x : Spot × List Spot) → a.value class s ≡ Ok x → Takes (passes class) s x.0 x.1
+pub value-takes : (class : Class) (s : List Spot) (x : Spot × List Spot) → a.value class s ≡ Ok x → TakesToken (passes class) s x.0 x.1
 unfolding a.value a.next_verdict any passes
 value-takes class [] x e = absurd cc
 value-takes class (spot ∷ spots) x e = by (verdict class spot.token) refl e
   where
-    by : (o : Option ConfigKind) → verdict class spot.token ≡ o → a.judged o (spot ∷ spots) ≡ Ok x → Takes (passes class) (spot ∷ spots) x.0 x.1
+    by : (o : Option ConfigKind) → verdict class spot.token ≡ o → a.judged o (spot ∷ spots) ≡ Ok x → TakesToken (passes class) (spot ∷ spots) x.0 x.1
     by None is h =
         let at = ok_is spot x.0 spots x.1 h in
         (ap (λ (y : Spot). y ∷ spots) at.0 ∙ ap (λ (r : List Spot). x.0 ∷ r) at.1, ap (λ (y : Spot). is_none (verdict class y.token)) (sym at.0) ∙ ap is_none is)
@@ -98,31 +97,31 @@ none-is : (o : Option ConfigKind) → is_none o ≡ true → o ≡ None
 none-is None h = refl
 none-is (Some k) h = absurd cc
 
-pub takes-value : (class : Class) (s : List Spot) (spot : Spot) (r : List Spot) → Takes (passes class) s spot r → a.value class s ≡ Ok (spot, r)
+pub takes-value : (class : Class) (s : List Spot) (spot : Spot) (r : List Spot) → TakesToken (passes class) s spot r → a.value class s ≡ Ok (spot, r)
 unfolding a.value a.next_verdict any passes
 takes-value class s spot r t = rw (t.0, none-is (verdict class spot.token) t.1) refl
 
-pub value-front : (class : Class) (s : List Spot) (spot : Spot) (r : List Spot) → Takes (passes class) s spot r → next_is is_name s ≡ true
+pub value-front : (class : Class) (s : List Spot) (spot : Spot) (r : List Spot) → TakesToken (passes class) s spot r → next_is is_name s ≡ true
 value-front class s spot r t = rw t.0 (passes-name class spot.token t.1)
 
-item-law : (class : Class) → Agrees (a.item class) (OneItem class)
+pub item-law : (class : Class) → Agrees (a.item class) (OneItem class)
 unfolding a.item
 item-law class = record {
   sound = λ s y h.
       let x = step_ok (a.value class s) (λ x. Ok (Item x.0, x.1)) y h in
       let is = ok_is (Item x.0.0) y.0 x.0.1 y.1 x.2 in
-      (x.0.0, subst (λ (r : List Spot). Takes (passes class) s x.0.0 r) is.1 (value-takes class s x.0 x.1), sym is.0);
+      (x.0.0, subst (λ (r : List Spot). TakesToken (passes class) s x.0.0 r) is.1 (value-takes class s x.0 x.1), sym is.0);
   again = λ s r x t. rw (takes-value class s t.0 r t.1, t.2) refl;
   front = λ s r x t. value-front class s t.0 r t.1;
   leaves = λ s r x t. takes-leaves (passes class) s t.0 r t.1;
 }
 
-dots-takes : (s : List Spot) → sees_dots s ≡ true → (spot : Spot) × Takes is_dots s spot (behind s)
+dots-takes : (s : List Spot) → sees_dots s ≡ true → (spot : Spot) × TakesToken is_dots s spot (behind s)
 unfolding sees_dots
 dots-takes [] h = absurd cc
 dots-takes (spot ∷ spots) h = (spot, (refl, h))
 
-takes-dots : (s : List Spot) (spot : Spot) (r : List Spot) → Takes is_dots s spot r → (sees_dots s ≡ true) × (behind s ≡ r)
+takes-dots : (s : List Spot) (spot : Spot) (r : List Spot) → TakesToken is_dots s spot r → (sees_dots s ≡ true) × (behind s ≡ r)
 unfolding sees_dots
 takes-dots s spot r t = (rw t.0 t.1, rw t.0 refl)
 
@@ -144,12 +143,12 @@ range-sound class s y h =
             n = behind x.0.1;
             is_low = low;
             are_dots = dots.1;
-            is_high = subst (λ (r : List Spot). Takes (passes class) (behind x.0.1) z.0.0 r) is.1 (value-takes class (behind x.0.1) z.0 z.1);
+            is_high = subst (λ (r : List Spot). TakesToken (passes class) (behind x.0.1) z.0.0 r) is.1 (value-takes class (behind x.0.1) z.0 z.1);
             is = sym is.0;
           })
       | inr b ↦
           let is = ok_is (Item x.0.0) y.0 x.0.1 y.1 b.1 in
-          inl ((x.0.0, subst (λ (r : List Spot). Takes (passes class) s x.0.0 r) is.1 low, sym is.0), ap sees_dots (sym is.1) ∙ b.0)
+          inl ((x.0.0, subst (λ (r : List Spot). TakesToken (passes class) s x.0.0 r) is.1 low, sym is.0), ap sees_dots (sym is.1) ∙ b.0)
     ]
 
 range-again : (class : Class) (s r : List Spot) (x : Arg) → Span class s x r → a.range class s ≡ Ok (x, r)
@@ -163,7 +162,7 @@ range-front : (class : Class) (s r : List Spot) (x : Arg) → Span class s x r �
 range-front class s r x (inl t) = value-front class s t.0.0 r t.0.1
 range-front class s r x (inr t) = value-front class s t.low t.m t.is_low
 
-range-leaves : (class : Class) (s r : List Spot) (x : Arg) → Span class s x r → Leaves s r
+range-leaves : (class : Class) (s r : List Spot) (x : Arg) → Span class s x r → LeavesEnd s r
 range-leaves class s r x (inl t) = takes-leaves (passes class) s t.0.0 r t.0.1
 range-leaves class s r x (inr t) = leaves-then s t.m r (takes-leaves (passes class) s t.low t.m t.is_low) (leaves-then t.m t.n r (takes-leaves is_dots t.m t.dots t.n t.are_dots) (takes-leaves (passes class) t.n t.high r t.is_high))
 
@@ -220,7 +219,7 @@ module _ {F : Type 0} (form_of : List ℕ → Option F) (args_of : F → Parser 
   unfolding a.called word
   called-again s r call t = rw (takes-expected is_word s t.word t.m t.is_word, t.has_form, (law t.form).again t.m r t.args t.are_args, t.is) refl
 
-  pub called-leaves : (s r : List Spot) (call : Call) → Called form_of Args s call r → Leaves s r
+  pub called-leaves : (s r : List Spot) (call : Call) → Called form_of Args s call r → LeavesEnd s r
   called-leaves s r call t = leaves-then s t.m r (takes-leaves is_word s t.word t.m t.is_word) ((law t.form).leaves t.m r t.args t.are_args)
 
   pub called-word : (s r : List Spot) (call : Call) → Called form_of Args s call r → next_is is_word s ≡ true
@@ -344,5 +343,5 @@ filter-again s r call t = called-again (row_of filters) f.filter_args FilterArgs
 pub filter-word : (s r : List Spot) (call : Call) → FilterCall s call r → next_is is_word s ≡ true
 filter-word s r call t = called-word (row_of filters) f.filter_args FilterArgs filter_args-law s r call t
 
-pub filter-leaves : (s r : List Spot) (call : Call) → FilterCall s call r → Leaves s r
+pub filter-leaves : (s r : List Spot) (call : Call) → FilterCall s call r → LeavesEnd s r
 filter-leaves s r call t = called-leaves (row_of filters) f.filter_args FilterArgs filter_args-law s r call t

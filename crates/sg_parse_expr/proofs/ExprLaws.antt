@@ -8,8 +8,8 @@ use Rattle.sg_parse_base.specs.declared.spot.Spot.{Spot}
 use Rattle.sg_parse_base.specs.Tokens.{is_word, is_string, is_keyword, is_operator, same_keyword, dashed}
 use Rattle.sg_parse_base.specs.Input.{Parser, ◌>>=◌, behind, next_is, sees, sees_word, symbol, fault_at}
 use Rattle.sg_parse_base.specs.Lists.{chain}
-use Rattle.sg_parse_base.specs.Grammar.{Stands, Takes, Symbol, Keyword, Chain}
-use Rattle.sg_parse_base.specs.Laws.{Leaves}
+use Rattle.sg_parse_base.specs.Grammar.{Stands, TakesToken, Symbol, Keyword, Chain}
+use Rattle.sg_parse_base.specs.Laws.{LeavesEnd}
 use Rattle.sg_parse_base.proofs.Steps.{step_ok, guard_ok, ok_is, chosen, symbol-takes, takes-sees, takes-symbol, leaves-then, takes-leaves, symbol-leaves}
 use Rattle.sg_parse_base.proofs.ChainLaws.{word-takes, takes-word, keyword-behind, keyword-leaves, symbol-no_word, string-no_word, string-no_symbol, word-no_symbol, word-no_string, first_differs, chain-sound, chain-again, chain-leaves}
 use Rattle.sg_parse_expr.specs.declared.tree.RawExpr.{RawExpr}
@@ -19,8 +19,8 @@ use Rattle.sg_parse_expr.specs.Classes.{passes}
 use Rattle.sg_parse_expr.specs.Args.{value}
 use Rattle.sg_parse_expr.specs.Filters.{filter_call}
 use Rattle.sg_parse_expr.specs.Expr.{cmp_of, cmp_behind, comparison, compare, is_reserved, filtered, and_of, or_of, primary, negation, conjunction, disjunction, grouped, group, expr}
-use Rattle.sg_parse_expr.specs.Ends.{NoAnd, Ends}
-use Rattle.sg_parse_expr.specs.Grammar.{Compare, Filtered, FilterCall, Primary, Negation, Conjunction, Disjunction, Group, Expr}
+use Rattle.sg_parse_expr.specs.Ends.{NoAnd, EndsExpression}
+use Rattle.sg_parse_expr.specs.Grammar.{Compare, Filtered, FilterCall, Primary, Negation, Conjunction, Disjunction, Group, Expression}
 use Rattle.sg_parse_expr.proofs.CallLaws.{value-takes, takes-value, text-string, filter-sound, filter-again, filter-word, filter-leaves}
 
 -- `or` isn't `and`
@@ -70,7 +70,7 @@ compare-sound s y h =
       is_left = value-takes Text s a.0 a.1;
       behind_word = some.1 ∙ ap (λ (r : List Spot). some.0 ∷ r) cmp.1;
       is_cmp = cmp.0;
-      is_right = subst (λ (r : List Spot). Takes (passes Text) b.0.1 c.0.0 r) is.1 (value-takes Text b.0.1 c.0 c.1);
+      is_right = subst (λ (r : List Spot). TakesToken (passes Text) b.0.1 c.0.0 r) is.1 (value-takes Text b.0.1 c.0 c.1);
       is = sym is.0;
     }
 
@@ -80,7 +80,7 @@ compare-again s r x t =
     let later : behind t.m ≡ t.n = ap behind t.behind_word in
     rw (takes-value Text s t.left t.m t.is_left, comparison-again t.m t.cmp t.is_cmp, later, takes-value Text t.n t.right r t.is_right, t.is) refl
 
-compare-leaves : (s r : List Spot) (x : RawExpr) → Compare s x r → Leaves s r
+compare-leaves : (s r : List Spot) (x : RawExpr) → Compare s x r → LeavesEnd s r
 compare-leaves s r x t = leaves-then s t.m r (takes-leaves (passes Text) s t.left t.m t.is_left) (leaves-then t.m t.n r (t.word, [], t.behind_word) (takes-leaves (passes Text) t.n t.right r t.is_right))
 
 compare-string : (s r : List Spot) (x : RawExpr) → Compare s x r → next_is is_string s ≡ true
@@ -103,7 +103,7 @@ pub record GroupLaw (parse : Parser RawExpr) (One : Stands RawExpr) : Type 0 whe
   pub sound : (s : List Spot) (x : RawExpr × List Spot) → parse s ≡ Ok x → One s x.0 x.1
   pub again : (s r : List Spot) (x : RawExpr) → One s x r → parse s ≡ Ok (x, r)
   pub opens : (s r : List Spot) (x : RawExpr) → One s x r → sees 40 s ≡ true
-  pub leaves : (s r : List Spot) (x : RawExpr) → One s x r → Leaves s r
+  pub leaves : (s r : List Spot) (x : RawExpr) → One s x r → LeavesEnd s r
 
 or_false : (a b c : Bool) → (a || b || c) ≡ false → (a ≡ false) × (b ≡ false) × (c ≡ false)
 or_false true b c h = absurd cc
@@ -132,7 +132,7 @@ module _ (parse : Parser RawExpr) (One : Stands RawExpr) (law : GroupLaw parse O
       let is_word = filter-word s r t.call t.called in
       rw (word-no_symbol 40 s is_word, word-no_string s is_word, t.plain) (filtered-again s r x t)
 
-  primary-leaves : (s r : List Spot) (x : RawExpr) → Primary One s x r → Leaves s r
+  primary-leaves : (s r : List Spot) (x : RawExpr) → Primary One s x r → LeavesEnd s r
   primary-leaves s r x (Primary.group _ _ _ t) = law.leaves s r x t
   primary-leaves s r x (Primary.compare _ _ _ t) = compare-leaves s r x t
   primary-leaves s r x (Primary.call _ _ _ t) = filter-leaves s r t.call t.called
@@ -159,7 +159,7 @@ module _ (parse : Parser RawExpr) (One : Stands RawExpr) (law : GroupLaw parse O
   negation-again s r x (Negation.plain _ _ _ t) u = rw (primary-no_not s r x t) (primary-again s r x t)
   negation-again s r y (Negation.negated _ m _ x _ k t is) u = rw (takes-word (codes "not") s m k, keyword-behind (codes "not") s m k, primary-again m r x t, is) refl
 
-  negation-leaves : (s r : List Spot) (x : RawExpr) → Negation One s x r → Leaves s r
+  negation-leaves : (s r : List Spot) (x : RawExpr) → Negation One s x r → LeavesEnd s r
   negation-leaves s r x (Negation.plain _ _ _ t) = primary-leaves s r x t
   negation-leaves s r y (Negation.negated _ m _ x _ k t is) = leaves-then s m r (keyword-leaves (codes "not") s m k) (primary-leaves m r x t)
 
@@ -177,7 +177,7 @@ module _ (parse : Parser RawExpr) (One : Stands RawExpr) (law : GroupLaw parse O
       let terms = chain-again (negation parse) (Negation One) (codes "and") (λ _. Unit {0}) negation-sound negation-again negation-leaves (λ _ _ _. tt) s r t.xs t.terms tt stops in
       rw (terms, t.is) refl
 
-  conjunction-leaves : (s r : List Spot) (x : RawExpr) → Conjunction One s x r → Leaves s r
+  conjunction-leaves : (s r : List Spot) (x : RawExpr) → Conjunction One s x r → LeavesEnd s r
   conjunction-leaves s r x t = chain-leaves (negation parse) (Negation One) (codes "and") (λ _. Unit {0}) negation-sound negation-again negation-leaves (λ _ _ _. tt) s r t.xs t.terms
 
   or-ends : (s r : List Spot) → Keyword (codes "or") s r → NoAnd s
@@ -194,17 +194,17 @@ module _ (parse : Parser RawExpr) (One : Stands RawExpr) (law : GroupLaw parse O
       let terms = chain-sound (conjunction parse) (Conjunction One) (codes "or") NoAnd conjunction-sound conjunction-again conjunction-leaves or-ends s a.0 a.1 in
       record { xs = a.0.0; terms = subst (λ (r : List Spot). Chain (Conjunction One) (codes "or") s a.0.0 r) is.1 terms; is = sym is.0 }
 
-  pub disjunction-again : (s r : List Spot) (x : RawExpr) → Disjunction One s x r → Ends r → disjunction parse s ≡ Ok (x, r)
+  pub disjunction-again : (s r : List Spot) (x : RawExpr) → Disjunction One s x r → EndsExpression r → disjunction parse s ≡ Ok (x, r)
   unfolding disjunction
   disjunction-again s r x t stops =
       let terms = chain-again (conjunction parse) (Conjunction One) (codes "or") NoAnd conjunction-sound conjunction-again conjunction-leaves or-ends s r t.xs t.terms stops.0 stops.1 in
       rw (terms, t.is) refl
 
-  pub disjunction-leaves : (s r : List Spot) (x : RawExpr) → Disjunction One s x r → Leaves s r
+  pub disjunction-leaves : (s r : List Spot) (x : RawExpr) → Disjunction One s x r → LeavesEnd s r
   disjunction-leaves s r x t = chain-leaves (conjunction parse) (Conjunction One) (codes "or") NoAnd conjunction-sound conjunction-again conjunction-leaves or-ends s r t.xs t.terms
 
 -- a symbol ends an expression
-pub symbol-ends : (byte : ℕ) (s r : List Spot) → Symbol byte s r → Ends s
+pub symbol-ends : (byte : ℕ) (s r : List Spot) → Symbol byte s r → EndsExpression s
 symbol-ends byte s r t = let is = takes-sees byte s r t in (symbol-no_word byte (codes "and") s is, symbol-no_word byte (codes "or") s is)
 
 group-law : (depth : ℕ) → GroupLaw (group depth) (Group depth)
@@ -232,13 +232,13 @@ group-law (suc depth) =
       leaves = λ s r x t. leaves-then s t.0 r (symbol-leaves 40 s t.0 t.2) (leaves-then t.0 t.1 r (disjunction-leaves (group depth) (Group depth) inner t.0 t.1 x t.3) (symbol-leaves 41 t.1 r t.4));
     }
 
-pub expr-sound : (depth : ℕ) (s : List Spot) (y : RawExpr × List Spot) → expr depth s ≡ Ok y → Expr depth s y.0 y.1
+pub expr-sound : (depth : ℕ) (s : List Spot) (y : RawExpr × List Spot) → expr depth s ≡ Ok y → Expression depth s y.0 y.1
 unfolding expr
 expr-sound depth s y h = disjunction-sound (group depth) (Group depth) (group-law depth) s y h
 
-pub expr-again : (depth : ℕ) (s r : List Spot) (x : RawExpr) → Expr depth s x r → Ends r → expr depth s ≡ Ok (x, r)
+pub expr-again : (depth : ℕ) (s r : List Spot) (x : RawExpr) → Expression depth s x r → EndsExpression r → expr depth s ≡ Ok (x, r)
 unfolding expr
 expr-again depth s r x t stops = disjunction-again (group depth) (Group depth) (group-law depth) s r x t stops
 
-pub expr-leaves : (depth : ℕ) (s r : List Spot) (x : RawExpr) → Expr depth s x r → Leaves s r
+pub expr-leaves : (depth : ℕ) (s r : List Spot) (x : RawExpr) → Expression depth s x r → LeavesEnd s r
 expr-leaves depth s r x t = disjunction-leaves (group depth) (Group depth) (group-law depth) s r x t

@@ -16,7 +16,7 @@ use Rattle.sg_parse_expr.specs.declared.form.RewriteForm.TheVariants as rewrite
 use Rattle.sg_parse_expr.specs.Forms.{row_of, rewrite_options, rewrites}
 use Rattle.sg_parse_expr.specs.Expr.{expr}
 use Rattle.sg_parse_expr.specs.Rewrites.{condition, option_args, rewrite_option, rewrite_args, rewrite_call}
-use Rattle.sg_parse_expr.specs.Grammar.{Condition, OptionArgs, RewriteOptionOf, RewriteArgs, RewriteCall}
+use Rattle.sg_parse_expr.specs.Grammar.{Condition, RewriteOptionArgs, RewriteOptionOf, RewriteArgs, RewriteCall}
 use Rattle.sg_parse_expr.proofs.CallLaws.{flat_args-law, called-law, nested-law, named-law, paired-law}
 use Rattle.sg_parse_expr.proofs.ExprLaws.{symbol-ends, expr-sound, expr-again, expr-leaves}
 
@@ -35,14 +35,14 @@ condition-law depth = record {
       leaves-then s t.0 r (symbol-leaves 40 s t.0 t.3) (leaves-then t.0 t.1 r (expr-leaves depth t.0 t.1 t.2 t.4) (symbol-leaves 41 t.1 r t.5));
 }
 
-option_args-law : (depth : ℕ) (form : RewriteOption) → Matches (option_args depth form) (OptionArgs depth form)
+option_args-law : (depth : ℕ) (form : RewriteOption) → Matches (option_args depth form) (RewriteOptionArgs depth form)
 unfolding option_args
 option_args-law depth (option.Flat form) = flat_args-law form
 option_args-law depth option.Condition = condition-law depth
 
 rewrite_option-law : (depth : ℕ) (table : RewriteTable) → Agrees (rewrite_option depth table) (RewriteOptionOf depth table)
 unfolding rewrite_option
-rewrite_option-law depth table = nested-law (row_of (rewrite_options table)) (option_args depth) (OptionArgs depth) (option_args-law depth)
+rewrite_option-law depth table = nested-law (row_of (rewrite_options table)) (option_args depth) (RewriteOptionArgs depth) (option_args-law depth)
 
 rewrite_args-law : (depth : ℕ) (form : RewriteForm) → Matches (rewrite_args depth form) (RewriteArgs depth form)
 unfolding rewrite_args

@@ -1,16 +1,16 @@
 -- What may stand in the place of a value, and what another token there is (syslog-ng's administration guide, the options of drivers, filters and
 -- rewrites; RFC 5424, tables 1 and 2, for facilities and severities).
-use Rattle.std.specs.Prelude.{ℕ, Bool, true, false, not, ◌&&◌, ◌||◌, ◌==◌, nat_le, is_none, if◌then◌else◌, List, [], ◌∷◌, codes, bytes_eq, Option, Some, None, Result, Ok, Err}
+use Rattle.std.specs.Prelude.{ℕ, Bool, true, false, ◌&&◌, ◌||◌, nat_le, is_none, if◌then◌else◌, List, [], ◌∷◌, codes, bytes_eq, Option, Some, None, Result, Ok, Err}
 use Rattle.sg_lex.specs.declared.token.Token.{Token}
 use Rattle.sg_lex.specs.declared.fault.ConfigKind.{ConfigKind}
 use Rattle.sg_lex.specs.declared.fault.ConfigKind.TheVariants as kind
-use Rattle.sg_macro.specs.declared.part.Part.{Part}
+use Rattle.sg_macro.specs.declared.part.TemplatePart.{TemplatePart}
 use Rattle.sg_macro.specs.declared.fault.TemplateFault.{TemplateFault}
 use Rattle.sg_macro.specs.declared.fault.TemplateFault.TheVariants as template
 use Rattle.sg_macro.specs.Reading.{parts_of}
 use Rattle.sg_parse_base.specs.Tokens.{is_word, is_string, is_name, is_symbol, same_keyword, is_number, is_truth}
-use Rattle.sg_parse_expr.specs.declared.class.Choice.{Choice}
-use Rattle.sg_parse_expr.specs.declared.class.Choice.TheVariants as choice
+use Rattle.sg_parse_expr.specs.declared.class.WordChoice.{WordChoice}
+use Rattle.sg_parse_expr.specs.declared.class.WordChoice.TheVariants as choice
 use Rattle.sg_parse_expr.specs.declared.class.Class.{Class}
 use Rattle.sg_parse_expr.specs.declared.class.Class.TheVariants as class
 
@@ -19,10 +19,11 @@ is_one_of text [] = false
 is_one_of text (word ∷ words) = if same_keyword text word then true else is_one_of text words
 
 -- the words of a choice
-unfoldable pub words_of : Choice → List (List ℕ)
+unfoldable pub words_of : WordChoice → List (List ℕ)
 words_of choice.PatternKind = codes "pcre" ∷ codes "string" ∷ codes "glob" ∷ []
 words_of choice.PatternFlag = codes "ignore-case" ∷ codes "prefix" ∷ codes "substring" ∷ []
 words_of choice.SubstFlag = codes "ignore-case" ∷ codes "prefix" ∷ codes "substring" ∷ codes "global" ∷ []
+words_of choice.CsvFlag = codes "greedy" ∷ codes "drop-invalid" ∷ []
 words_of choice.SourceFlag =
     codes "no-parse" ∷ codes "syslog-protocol" ∷ codes "empty-lines" ∷ codes "kernel"
     ∷ codes "assume-utf8" ∷ codes "dont-store-legacy-msghdr" ∷ codes "expect-hostname"
@@ -52,15 +53,11 @@ abbrev pub are_digits : List ℕ → Bool
 are_digits [] = true
 are_digits (b ∷ text) = if nat_le 48 b && nat_le b 57 then are_digits text else false
 
-abbrev pub has_dollar : List ℕ → Bool
-has_dollar [] = false
-has_dollar (b ∷ text) = if b == 36 then true else has_dollar text
-
 abbrev pub is_yes : List ℕ → Bool
 is_yes text = bytes_eq text (codes "yes") || bytes_eq text (codes "on") || bytes_eq text (codes "1")
 
 -- the first fault of a template
-abbrev pub template_verdict : Result (List Part) TemplateFault → Option ConfigKind
+abbrev pub template_verdict : Result (List TemplatePart) TemplateFault → Option ConfigKind
 template_verdict (Ok parts) = None
 template_verdict (Err template.OpenBrace) = Some kind.OpenBrace
 template_verdict (Err template.Function) = Some kind.Function
@@ -94,7 +91,6 @@ name_verdict class.Facility token = supported
     (is_same_as token.text facilities || (is_word token && are_digits token.text))
 name_verdict class.Level token = supported
     (is_same_as token.text levels || (is_word token && are_digits token.text))
-name_verdict class.FileName token = supported (not (has_dollar token.text))
 name_verdict (class.Word choice) token = supported (is_one_of token.text (words_of choice))
 
 abbrev pub named_verdict : Class → Token → Option ConfigKind
@@ -114,7 +110,6 @@ verdict class.Truth token = truth_verdict token
 verdict class.Yes token = yes_verdict token
 verdict class.Facility token = named_verdict class.Facility token
 verdict class.Level token = named_verdict class.Level token
-verdict class.FileName token = named_verdict class.FileName token
 verdict (class.Word choice) token = named_verdict (class.Word choice) token
 
 -- a token that may stand in the place of a value

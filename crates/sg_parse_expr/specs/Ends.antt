@@ -7,5 +7,5 @@ abbrev pub NoAnd : List Spot → Type 0
 NoAnd r = sees_word (codes "and") r ≡ false
 
 -- neither `and` nor `or`
-abbrev pub Ends : List Spot → Type 0
-Ends r = NoAnd r × (sees_word (codes "or") r ≡ false)
+abbrev pub EndsExpression : List Spot → Type 0
+EndsExpression r = NoAnd r × (sees_word (codes "or") r ≡ false)

@@ -2,7 +2,7 @@
 -- "Rewrite rules").
 use Rattle.std.specs.Prelude.{ℕ, if◌then◌else◌, List, [], ◌∷◌, codes, Option, Some, None}
 use Rattle.sg_parse_base.specs.Tokens.{same_keyword}
-use Rattle.sg_parse_expr.specs.declared.class.Choice.TheVariants.{PatternKind, PatternFlag, SubstFlag}
+use Rattle.sg_parse_expr.specs.declared.class.WordChoice.TheVariants.{PatternKind, PatternFlag, SubstFlag}
 use Rattle.sg_parse_expr.specs.declared.class.Class.TheVariants.{Name, Template, Facility, Level, Word}
 use Rattle.sg_parse_expr.specs.declared.form.Flat.{Flat}
 use Rattle.sg_parse_expr.specs.declared.form.Flat.TheVariants.{One, Many, Ranges}

@@ -4,7 +4,7 @@ use Rattle.sg_lex.specs.declared.place.Cmp.{Cmp}
 use Rattle.sg_parse_base.specs.declared.spot.Spot.{Spot}
 use Rattle.sg_parse_base.specs.Tokens.{is_word, is_dots}
 use Rattle.sg_parse_base.specs.Input.{sees_dots}
-use Rattle.sg_parse_base.specs.Grammar.{Stands, Takes, Symbol, Keyword, Commas, Single, Rest, Many, Chain, Skipped}
+use Rattle.sg_parse_base.specs.Grammar.{Stands, TakesToken, Symbol, Keyword, Commas, Single, Rest, Many, Chain, Skipped}
 use Rattle.sg_parse_expr.specs.declared.tree.Arg.{Arg}
 use Rattle.sg_parse_expr.specs.declared.tree.Arg.TheVariants.{Item, Range, Nested, Test}
 use Rattle.sg_parse_expr.specs.declared.tree.Call.{Call}
@@ -31,7 +31,7 @@ use Rattle.sg_parse_expr.specs.Expr.{cmp_of, and_of, or_of, is_reserved}
 
 -- a value of a class
 abbrev pub OneItem : Class → Stands Arg
-OneItem class s arg r = (spot : Spot) × Takes (passes class) s spot r × (arg ≡ Item spot)
+OneItem class s arg r = (spot : Spot) × TakesToken (passes class) s spot r × (arg ≡ Item spot)
 
 -- two values with `..` between them
 pub record TwoItems (class : Class) (s : List Spot) (arg : Arg) (r : List Spot) : Type 0 where
@@ -40,9 +40,9 @@ pub record TwoItems (class : Class) (s : List Spot) (arg : Arg) (r : List Spot) 
   pub high : Spot
   pub m : List Spot
   pub n : List Spot
-  pub is_low : Takes (passes class) s low m
-  pub are_dots : Takes is_dots m dots n
-  pub is_high : Takes (passes class) n high r
+  pub is_low : TakesToken (passes class) s low m
+  pub are_dots : TakesToken is_dots m dots n
+  pub is_high : TakesToken (passes class) n high r
   pub is : arg ≡ Range low high
 
 -- value [ ".." value ]
@@ -64,7 +64,7 @@ pub record Called {F : Type 0} (form_of : List ℕ → Option F) (Args : F → S
   pub m : List Spot
   pub form : F
   pub args : List Arg
-  pub is_word : Takes is_word s word m
+  pub is_word : TakesToken is_word s word m
   pub has_form : form_of word.token.text ≡ Some form
   pub are_args : Args form m args r
   pub is : call ≡ call_of word args
@@ -80,7 +80,7 @@ pub record Named (class : Class) (Opt : Stands Arg) (s : List Spot) (args : List
   pub first : Spot
   pub options : List Arg
   pub opens : Symbol 40 s inner
-  pub is_first : Takes (passes class) inner first after
+  pub is_first : TakesToken (passes class) inner first after
   pub are_options : Rest Opt after options r
   pub is : args ≡ Item first ∷ options
 
@@ -94,9 +94,9 @@ pub record Paired (class next_class : Class) (Opt : Stands Arg) (s : List Spot) 
   pub second : Spot
   pub options : List Arg
   pub opens : Symbol 40 s inner
-  pub is_first : Takes (passes class) inner first between
+  pub is_first : TakesToken (passes class) inner first between
   pub commas : Commas between next
-  pub is_second : Takes (passes next_class) next second after
+  pub is_second : TakesToken (passes next_class) next second after
   pub are_options : Rest Opt after options r
   pub is : args ≡ Item first ∷ Item second ∷ options
 
@@ -122,10 +122,10 @@ pub record Compare (s : List Spot) (x : RawExpr) (r : List Spot) : Type 0 where
   pub m : List Spot
   pub word : Spot
   pub n : List Spot
-  pub is_left : Takes (passes Text) s left m
+  pub is_left : TakesToken (passes Text) s left m
   pub behind_word : m ≡ word ∷ n
   pub is_cmp : cmp_of m ≡ Some cmp
-  pub is_right : Takes (passes Text) n right r
+  pub is_right : TakesToken (passes Text) n right r
   pub is : x ≡ e.Compare left cmp right
 
 -- a filter, whose word is none of `and`, `or`, `not`
@@ -166,22 +166,22 @@ Group zero s x r = ⊥
 Group (suc depth) s x r = (m : List Spot) × (n : List Spot) × Symbol 40 s m
     × Disjunction (Group depth) m x n × Symbol 41 n r
 
-abbrev pub Expr : ℕ → Stands RawExpr
-Expr depth = Disjunction (Group depth)
+abbrev pub Expression : ℕ → Stands RawExpr
+Expression depth = Disjunction (Group depth)
 
 -- ---- rewrites
 
 -- "(" expr ")", the parentheses being the option's own
 abbrev pub Condition : ℕ → Stands (List Arg)
 Condition depth s args r = (m : List Spot) × (n : List Spot) × (x : RawExpr) × Symbol 40 s m
-    × Expr depth m x n × Symbol 41 n r × (args ≡ Test x ∷ [])
+    × Expression depth m x n × Symbol 41 n r × (args ≡ Test x ∷ [])
 
-abbrev pub OptionArgs : ℕ → RewriteOption → Stands (List Arg)
-OptionArgs depth (option.Flat form) = FlatArgs form
-OptionArgs depth option.Condition = Condition depth
+abbrev pub RewriteOptionArgs : ℕ → RewriteOption → Stands (List Arg)
+RewriteOptionArgs depth (option.Flat form) = FlatArgs form
+RewriteOptionArgs depth option.Condition = Condition depth
 
 abbrev pub RewriteOptionOf : ℕ → RewriteTable → Stands Arg
-RewriteOptionOf depth table = Option_of (row_of (rewrite_options table)) (OptionArgs depth)
+RewriteOptionOf depth table = Option_of (row_of (rewrite_options table)) (RewriteOptionArgs depth)
 
 abbrev pub RewriteArgs : ℕ → RewriteForm → Stands (List Arg)
 RewriteArgs depth (rewrite.Options table) = Many (RewriteOptionOf depth table)

@@ -1,6 +1,6 @@
 // Arguments in parentheses.
 ghost use Rattle.std.specs.Prelude.{◌≡◌};
-ghost use Rattle.sg_parse_base.specs.Input.{Reads};
+ghost use Rattle.sg_parse_base.specs.Input.{ReadsTokens};
 ghost use Rattle.sg_parse_expr.specs.Args as spec;
 
 use crate::class::Class;
@@ -8,7 +8,7 @@ use crate::form::Flat;
 use crate::tree::{Arg, Call};
 use crate::values::value;
 use sg_parse_base::{
-    Cursor, Rule, Spot, Stop, gap, items, many, next_is_dots, single, skipped, symbol,
+    Cursor, ItemRule, ParseStop, Spot, gap, items, many, next_is_dots, single, skipped, symbol,
 };
 use sqlite_items::Items;
 use std::alloc::Global;
@@ -22,8 +22,8 @@ pub fn call_of(word: Spot, args: Items<Arg>) -> Call
 }
 
 #[tactic(auto, unfolding(crate::specs::Args::range, sg_parse_base::specs::Input::sees_dots))]
-fn range(alloc: Global, cursor: &mut Cursor<'_>, class: Class) -> Result<Arg, Stop>
-    ensures { Reads (spec.range class cursor.old) result cursor.new }
+fn range(alloc: Global, cursor: &mut Cursor<'_>, class: Class) -> Result<Arg, ParseStop>
+    ensures { ReadsTokens (spec.range class cursor.old) result cursor.new }
 {
     let low = value(alloc, cursor, class)?;
     if !next_is_dots(cursor) {
@@ -39,35 +39,35 @@ struct Value {
     class: Class,
 }
 
-impl Rule for Value {
+impl ItemRule for Value {
     type Item = Arg;
 
     ghost parser = { λ rule. spec.item rule.class };
 
     #[tactic(auto, unfolding(crate::specs::Args::item))]
-    fn read(&self, alloc: Global, cursor: &mut Cursor<'_>) -> Result<Arg, Stop> {
+    fn read(&self, alloc: Global, cursor: &mut Cursor<'_>) -> Result<Arg, ParseStop> {
         Ok(Arg::Item(value(alloc, cursor, self.class)?))
     }
 }
 
 #[derive(Drop)]
-struct Span {
+struct SpanRule {
     class: Class,
 }
 
-impl Rule for Span {
+impl ItemRule for SpanRule {
     type Item = Arg;
 
     ghost parser = { λ rule. spec.range rule.class };
 
-    fn read(&self, alloc: Global, cursor: &mut Cursor<'_>) -> Result<Arg, Stop> {
+    fn read(&self, alloc: Global, cursor: &mut Cursor<'_>) -> Result<Arg, ParseStop> {
         range(alloc, cursor, self.class)
     }
 }
 
 #[tactic(auto, unfolding(crate::specs::Args::no_args))]
-fn no_args(alloc: Global, cursor: &mut Cursor<'_>) -> Result<Items<Arg>, Stop>
-    ensures { Reads (spec.no_args cursor.old) result cursor.new }
+fn no_args(alloc: Global, cursor: &mut Cursor<'_>) -> Result<Items<Arg>, ParseStop>
+    ensures { ReadsTokens (spec.no_args cursor.old) result cursor.new }
 {
     skipped(alloc, cursor)?;
     Ok(Items::new(alloc))
@@ -75,25 +75,29 @@ fn no_args(alloc: Global, cursor: &mut Cursor<'_>) -> Result<Items<Arg>, Stop>
 
 /// Arguments of this form, in parentheses.
 #[tactic(auto, unfolding(crate::specs::Args::flat_args))]
-pub fn flat_args(alloc: Global, cursor: &mut Cursor<'_>, form: Flat) -> Result<Items<Arg>, Stop>
-    ensures { Reads (spec.flat_args form cursor.old) result cursor.new }
+pub fn flat_args(
+    alloc: Global,
+    cursor: &mut Cursor<'_>,
+    form: Flat,
+) -> Result<Items<Arg>, ParseStop>
+    ensures { ReadsTokens (spec.flat_args form cursor.old) result cursor.new }
 {
     match form {
         Flat::Skipped => no_args(alloc, cursor),
         Flat::One(class) => single(alloc, cursor, &Value { class }),
         Flat::Many(class) => many(alloc, cursor, &Value { class }),
-        Flat::Ranges(class) => many(alloc, cursor, &Span { class }),
+        Flat::Ranges(class) => many(alloc, cursor, &SpanRule { class }),
     }
 }
 
 #[tactic(auto, unfolding(crate::specs::Args::options_behind))]
-fn options_behind<R: Rule<Item = Arg>>(
+fn options_behind<R: ItemRule<Item = Arg>>(
     alloc: Global,
     cursor: &mut Cursor<'_>,
     option: &R,
     found: Items<Arg>,
-) -> Result<Items<Arg>, Stop>
-    ensures { Reads (spec.options_behind (R.parser option.now) found cursor.old) result cursor.new }
+) -> Result<Items<Arg>, ParseStop>
+    ensures { ReadsTokens (spec.options_behind (R.parser option.now) found cursor.old) result cursor.new }
 {
     gap(cursor)?;
     items(alloc, cursor, option, found)
@@ -101,13 +105,13 @@ fn options_behind<R: Rule<Item = Arg>>(
 
 /// A value and options, in parentheses.
 #[tactic(auto, unfolding(crate::specs::Args::named))]
-pub fn named<R: Rule<Item = Arg>>(
+pub fn named<R: ItemRule<Item = Arg>>(
     alloc: Global,
     cursor: &mut Cursor<'_>,
     class: Class,
     option: &R,
-) -> Result<Items<Arg>, Stop>
-    ensures { Reads (spec.named class (R.parser option.now) cursor.old) result cursor.new }
+) -> Result<Items<Arg>, ParseStop>
+    ensures { ReadsTokens (spec.named class (R.parser option.now) cursor.old) result cursor.new }
 {
     let mut found = Items::new(alloc);
     symbol(cursor, b'(')?;
@@ -117,13 +121,13 @@ pub fn named<R: Rule<Item = Arg>>(
 
 /// Two values and options, in parentheses.
 #[tactic(auto, unfolding(crate::specs::Args::paired))]
-pub fn paired<R: Rule<Item = Arg>>(
+pub fn paired<R: ItemRule<Item = Arg>>(
     alloc: Global,
     cursor: &mut Cursor<'_>,
     classes: (Class, Class),
     option: &R,
-) -> Result<Items<Arg>, Stop>
-    ensures { Reads (spec.paired classes.0 classes.1 (R.parser option.now) cursor.old) result
+) -> Result<Items<Arg>, ParseStop>
+    ensures { ReadsTokens (spec.paired classes.0 classes.1 (R.parser option.now) cursor.old) result
         cursor.new }
 {
     let mut found = Items::new(alloc);

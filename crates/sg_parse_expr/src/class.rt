@@ -10,13 +10,15 @@ use std::alloc::{AllocError, Global};
 
 /// A set of words.
 #[derive(Clone, Copy, Drop)]
-pub enum Choice {
+pub enum WordChoice {
     /// Of `type`.
     PatternKind,
     /// Of `flags` of a pattern.
     PatternFlag,
     /// Of `flags` of `subst`.
     SubstFlag,
+    /// Of `flags` of `csv-parser`.
+    CsvFlag,
     /// Of `flags` of a source.
     SourceFlag,
     Transport,
@@ -42,9 +44,7 @@ pub enum Class {
     Facility,
     /// A name of a severity, or digits.
     Level,
-    /// A name of a file, in which macros aren't supported.
-    FileName,
-    Word(Choice),
+    Word(WordChoice),
 }
 
 /// Whether the text is one of these words, in which `-` and `_` are equal.
@@ -71,14 +71,18 @@ fn is_same_as(text: &[u8], names: &[&[u8]]) -> bool
 }
 
 #[tactic(auto, unfolding(crate::specs::Classes::words_of))]
-fn is_choice(choice: Choice, text: &[u8]) -> bool
+fn is_choice(choice: WordChoice, text: &[u8]) -> bool
     ensures { result ≡ spec.is_one_of text.now (spec.words_of choice) }
 {
     match choice {
-        Choice::PatternKind => is_one_of(text, &[b"pcre", b"string", b"glob"]),
-        Choice::PatternFlag => is_one_of(text, &[b"ignore-case", b"prefix", b"substring"]),
-        Choice::SubstFlag => is_one_of(text, &[b"ignore-case", b"prefix", b"substring", b"global"]),
-        Choice::SourceFlag => is_one_of(
+        WordChoice::PatternKind => is_one_of(text, &[b"pcre", b"string", b"glob"]),
+        WordChoice::PatternFlag => is_one_of(text, &[b"ignore-case", b"prefix", b"substring"]),
+        WordChoice::SubstFlag => is_one_of(
+            text,
+            &[b"ignore-case", b"prefix", b"substring", b"global"],
+        ),
+        WordChoice::CsvFlag => is_one_of(text, &[b"greedy", b"drop-invalid"]),
+        WordChoice::SourceFlag => is_one_of(
             text,
             &[
                 b"no-parse",
@@ -91,8 +95,8 @@ fn is_choice(choice: Choice, text: &[u8]) -> bool
                 b"no-multi-line",
             ],
         ),
-        Choice::Transport => is_one_of(text, &[b"tcp"]),
-        Choice::StampForm => is_one_of(text, &[b"bsd", b"rfc3164", b"iso", b"rfc3339"]),
+        WordChoice::Transport => is_one_of(text, &[b"tcp"]),
+        WordChoice::StampForm => is_one_of(text, &[b"bsd", b"rfc3164", b"iso", b"rfc3339"]),
     }
 }
 
@@ -151,17 +155,6 @@ fn are_digits(text: &[u8]) -> bool
         }
     }
     true
-}
-
-fn has_dollar(text: &[u8]) -> bool
-    ensures { result ≡ spec.has_dollar text.now }
-{
-    for byte in text {
-        if *byte == b'$' {
-            return true;
-        }
-    }
-    false
 }
 
 /// Whether the text is `yes`, `on` or `1`.
@@ -247,7 +240,6 @@ fn name_verdict(
         Class::Word(choice) => Ok(supported(is_choice(choice, text))),
         Class::Facility => Ok(supported(is_facility(text) || (is_word(token) && are_digits(text)))),
         Class::Level => Ok(supported(is_level(text) || (is_word(token) && are_digits(text)))),
-        Class::FileName => Ok(supported(!has_dollar(text))),
         _ => Ok(None),
     }
 }

@@ -1,6 +1,6 @@
 // Expressions, by recursive descent.
 ghost use Rattle.std.specs.Prelude.{◌≡◌, IfOk, codes};
-ghost use Rattle.sg_parse_base.specs.Input.{Reads};
+ghost use Rattle.sg_parse_base.specs.Input.{ReadsTokens};
 ghost use Rattle.sg_parse_base.specs.Lists.{chain};
 ghost use Rattle.sg_parse_expr.specs.Expr as spec;
 
@@ -9,7 +9,7 @@ use crate::filters::filter_call;
 use crate::tree::RawExpr;
 use crate::values::value;
 use sg_lex::{Cmp, ConfigKind};
-use sg_parse_base::{Cursor, Stop, next_is_operator, next_is_string, sees, sees_word, symbol};
+use sg_parse_base::{Cursor, ParseStop, next_is_operator, next_is_string, sees, sees_word, symbol};
 use sqlite_items::{Boxed, Items};
 use std::alloc::{AllocError, Global};
 
@@ -35,8 +35,8 @@ fn cmp_of(cursor: &Cursor<'_>) -> Option<Cmp>
 }
 
 #[tactic(auto, unfolding(crate::specs::Expr::comparison))]
-fn comparison(cursor: &mut Cursor<'_>) -> Result<Cmp, Stop>
-    ensures { Reads (spec.comparison cursor.old) result cursor.new }
+fn comparison(cursor: &mut Cursor<'_>) -> Result<Cmp, ParseStop>
+    ensures { ReadsTokens (spec.comparison cursor.old) result cursor.new }
 {
     let Some(cmp) = cmp_of(cursor) else {
         let kind = if next_is_operator(cursor) {
@@ -51,8 +51,8 @@ fn comparison(cursor: &mut Cursor<'_>) -> Result<Cmp, Stop>
 }
 
 #[tactic(auto, unfolding(crate::specs::Expr::compare))]
-fn compare(alloc: Global, cursor: &mut Cursor<'_>) -> Result<RawExpr, Stop>
-    ensures { Reads (spec.compare cursor.old) result cursor.new }
+fn compare(alloc: Global, cursor: &mut Cursor<'_>) -> Result<RawExpr, ParseStop>
+    ensures { ReadsTokens (spec.compare cursor.old) result cursor.new }
 {
     let left = value(alloc, cursor, Class::Text)?;
     let cmp = comparison(cursor)?;
@@ -68,8 +68,8 @@ fn is_reserved(cursor: &Cursor<'_>) -> bool
 }
 
 #[tactic(auto, unfolding(crate::specs::Expr::filtered))]
-fn filtered(alloc: Global, cursor: &mut Cursor<'_>) -> Result<RawExpr, Stop>
-    ensures { Reads (spec.filtered cursor.old) result cursor.new }
+fn filtered(alloc: Global, cursor: &mut Cursor<'_>) -> Result<RawExpr, ParseStop>
+    ensures { ReadsTokens (spec.filtered cursor.old) result cursor.new }
 {
     Ok(RawExpr::Call(filter_call(alloc, cursor)?))
 }
@@ -102,8 +102,8 @@ fn not_of(alloc: Global, term: RawExpr) -> Result<RawExpr, AllocError>
 
 #[tactic(auto, unfolding(crate::specs::Expr::primary))]
 #[cycle(expr)]
-fn primary(alloc: Global, cursor: &mut Cursor<'_>, depth: usize) -> Result<RawExpr, Stop>
-    ensures { Reads (spec.primary (spec.group depth) cursor.old) result cursor.new }
+fn primary(alloc: Global, cursor: &mut Cursor<'_>, depth: usize) -> Result<RawExpr, ParseStop>
+    ensures { ReadsTokens (spec.primary (spec.group depth) cursor.old) result cursor.new }
 {
     if sees(cursor, b'(') {
         return group(alloc, cursor, depth);
@@ -119,8 +119,8 @@ fn primary(alloc: Global, cursor: &mut Cursor<'_>, depth: usize) -> Result<RawEx
 
 #[tactic(auto, unfolding(crate::specs::Expr::negation))]
 #[cycle(expr)]
-fn negation(alloc: Global, cursor: &mut Cursor<'_>, depth: usize) -> Result<RawExpr, Stop>
-    ensures { Reads (spec.negation (spec.group depth) cursor.old) result cursor.new }
+fn negation(alloc: Global, cursor: &mut Cursor<'_>, depth: usize) -> Result<RawExpr, ParseStop>
+    ensures { ReadsTokens (spec.negation (spec.group depth) cursor.old) result cursor.new }
 {
     if !sees_word(cursor, b"not") {
         return primary(alloc, cursor, depth);
@@ -131,8 +131,12 @@ fn negation(alloc: Global, cursor: &mut Cursor<'_>, depth: usize) -> Result<RawE
 }
 
 #[cycle(expr)]
-fn conjuncts(alloc: Global, cursor: &mut Cursor<'_>, depth: usize) -> Result<Items<RawExpr>, Stop>
-    ensures { Reads (chain (spec.negation (spec.group depth)) (codes "and") cursor.old) result
+fn conjuncts(
+    alloc: Global,
+    cursor: &mut Cursor<'_>,
+    depth: usize,
+) -> Result<Items<RawExpr>, ParseStop>
+    ensures { ReadsTokens (chain (spec.negation (spec.group depth)) (codes "and") cursor.old) result
         cursor.new }
 {
     let mut found = Items::new(alloc);
@@ -149,15 +153,19 @@ fn conjuncts(alloc: Global, cursor: &mut Cursor<'_>, depth: usize) -> Result<Ite
 
 #[tactic(auto, unfolding(crate::specs::Expr::conjunction))]
 #[cycle(expr)]
-fn conjunction(alloc: Global, cursor: &mut Cursor<'_>, depth: usize) -> Result<RawExpr, Stop>
-    ensures { Reads (spec.conjunction (spec.group depth) cursor.old) result cursor.new }
+fn conjunction(alloc: Global, cursor: &mut Cursor<'_>, depth: usize) -> Result<RawExpr, ParseStop>
+    ensures { ReadsTokens (spec.conjunction (spec.group depth) cursor.old) result cursor.new }
 {
     Ok(and_of(conjuncts(alloc, cursor, depth)?))
 }
 
 #[cycle(expr)]
-fn disjuncts(alloc: Global, cursor: &mut Cursor<'_>, depth: usize) -> Result<Items<RawExpr>, Stop>
-    ensures { Reads (chain (spec.conjunction (spec.group depth)) (codes "or") cursor.old) result
+fn disjuncts(
+    alloc: Global,
+    cursor: &mut Cursor<'_>,
+    depth: usize,
+) -> Result<Items<RawExpr>, ParseStop>
+    ensures { ReadsTokens (chain (spec.conjunction (spec.group depth)) (codes "or") cursor.old) result
         cursor.new }
 {
     let mut found = Items::new(alloc);
@@ -174,8 +182,8 @@ fn disjuncts(alloc: Global, cursor: &mut Cursor<'_>, depth: usize) -> Result<Ite
 
 #[tactic(auto, unfolding(crate::specs::Expr::disjunction))]
 #[cycle(expr)]
-fn disjunction(alloc: Global, cursor: &mut Cursor<'_>, depth: usize) -> Result<RawExpr, Stop>
-    ensures { Reads (spec.disjunction (spec.group depth) cursor.old) result cursor.new }
+fn disjunction(alloc: Global, cursor: &mut Cursor<'_>, depth: usize) -> Result<RawExpr, ParseStop>
+    ensures { ReadsTokens (spec.disjunction (spec.group depth) cursor.old) result cursor.new }
 {
     Ok(or_of(disjuncts(alloc, cursor, depth)?))
 }
@@ -183,8 +191,8 @@ fn disjunction(alloc: Global, cursor: &mut Cursor<'_>, depth: usize) -> Result<R
 /// An expression in parentheses.
 #[tactic(auto, unfolding(crate::specs::Expr::grouped))]
 #[cycle(expr)]
-fn grouped(alloc: Global, cursor: &mut Cursor<'_>, depth: usize) -> Result<RawExpr, Stop>
-    ensures { Reads (spec.grouped (spec.group depth) cursor.old) result cursor.new }
+fn grouped(alloc: Global, cursor: &mut Cursor<'_>, depth: usize) -> Result<RawExpr, ParseStop>
+    ensures { ReadsTokens (spec.grouped (spec.group depth) cursor.old) result cursor.new }
 {
     symbol(cursor, b'(')?;
     let inner = disjunction(alloc, cursor, depth)?;
@@ -194,8 +202,8 @@ fn grouped(alloc: Global, cursor: &mut Cursor<'_>, depth: usize) -> Result<RawEx
 
 /// The same, where groups may be nested so deep: the one that is deeper is `DepthOver64`.
 #[cycle(expr)]
-fn group(alloc: Global, cursor: &mut Cursor<'_>, depth: usize) -> Result<RawExpr, Stop>
-    ensures { Reads (spec.group depth cursor.old) result cursor.new }
+fn group(alloc: Global, cursor: &mut Cursor<'_>, depth: usize) -> Result<RawExpr, ParseStop>
+    ensures { ReadsTokens (spec.group depth cursor.old) result cursor.new }
 {
     if depth == 0 {
         return Err(cursor.fault(ConfigKind::DepthOver64));
@@ -206,8 +214,12 @@ fn group(alloc: Global, cursor: &mut Cursor<'_>, depth: usize) -> Result<RawExpr
 /// An expression in which groups may be nested so deep: `or` between terms with `and` between them, of
 /// which each is a filter, a comparison or a group, perhaps behind `not`.
 #[tactic(auto, unfolding(crate::specs::Expr::expr))]
-pub fn expression(alloc: Global, cursor: &mut Cursor<'_>, depth: usize) -> Result<RawExpr, Stop>
-    ensures { Reads (spec.expr depth cursor.old) result cursor.new }
+pub fn expression(
+    alloc: Global,
+    cursor: &mut Cursor<'_>,
+    depth: usize,
+) -> Result<RawExpr, ParseStop>
+    ensures { ReadsTokens (spec.expr depth cursor.old) result cursor.new }
 {
     disjunction(alloc, cursor, depth)
 }

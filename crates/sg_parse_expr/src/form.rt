@@ -2,7 +2,7 @@
 ghost use Rattle.std.specs.Prelude.{◌≡◌, map, List, ℕ};
 ghost use Rattle.sg_parse_expr.specs.Forms as spec;
 
-use crate::class::{Choice, Class};
+use crate::class::{Class, WordChoice};
 use sg_parse_base::same_keyword;
 
 /// The form of arguments that are no options.
@@ -59,13 +59,13 @@ pub enum RewriteForm {
 }
 
 const PATTERN: [(&[u8], Flat); 2] = [
-    (b"type", Flat::One(Class::Word(Choice::PatternKind))),
-    (b"flags", Flat::Many(Class::Word(Choice::PatternFlag))),
+    (b"type", Flat::One(Class::Word(WordChoice::PatternKind))),
+    (b"flags", Flat::Many(Class::Word(WordChoice::PatternFlag))),
 ];
 
 const MATCH: [(&[u8], Flat); 3] = [
-    (b"type", Flat::One(Class::Word(Choice::PatternKind))),
-    (b"flags", Flat::Many(Class::Word(Choice::PatternFlag))),
+    (b"type", Flat::One(Class::Word(WordChoice::PatternKind))),
+    (b"flags", Flat::Many(Class::Word(WordChoice::PatternFlag))),
     (b"value", Flat::One(Class::Name)),
 ];
 
@@ -91,11 +91,11 @@ const SUBST: [(&[u8], RewriteOption); 4] = [
     (b"value", RewriteOption::Flat(Flat::One(Class::Name))),
     (
         b"type",
-        RewriteOption::Flat(Flat::One(Class::Word(Choice::PatternKind))),
+        RewriteOption::Flat(Flat::One(Class::Word(WordChoice::PatternKind))),
     ),
     (
         b"flags",
-        RewriteOption::Flat(Flat::Many(Class::Word(Choice::SubstFlag))),
+        RewriteOption::Flat(Flat::Many(Class::Word(WordChoice::SubstFlag))),
     ),
     (b"condition", RewriteOption::Condition),
 ];

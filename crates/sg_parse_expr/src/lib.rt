@@ -13,7 +13,7 @@ mod tree;
 mod values;
 
 pub use args::{call_of, flat_args, named, paired};
-pub use class::{Choice, Class, is_yes};
+pub use class::{Class, WordChoice, is_yes};
 pub use expr::expression;
 pub use filters::filter_call;
 pub use form::{Flat, row_of};

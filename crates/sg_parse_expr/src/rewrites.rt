@@ -1,6 +1,6 @@
 // Rewrites.
 ghost use Rattle.std.specs.Prelude.{◌≡◌};
-ghost use Rattle.sg_parse_base.specs.Input.{Reads};
+ghost use Rattle.sg_parse_base.specs.Input.{ReadsTokens};
 ghost use Rattle.sg_parse_expr.specs.Rewrites as spec;
 
 use crate::args::{call_of, flat_args, named, paired};
@@ -8,13 +8,13 @@ use crate::class::Class;
 use crate::expr::expression;
 use crate::form::{RewriteForm, RewriteOption, RewriteTable, rewrite_form, rewrite_option};
 use crate::tree::{Arg, Call};
-use sg_parse_base::{Cursor, Rule, Stop, many, symbol, unsupported, word};
+use sg_parse_base::{Cursor, ItemRule, ParseStop, many, symbol, unsupported, word};
 use sqlite_items::Items;
 use std::alloc::Global;
 
 #[tactic(auto, unfolding(crate::specs::Rewrites::condition))]
-fn condition(alloc: Global, cursor: &mut Cursor<'_>, depth: usize) -> Result<Items<Arg>, Stop>
-    ensures { Reads (spec.condition depth cursor.old) result cursor.new }
+fn condition(alloc: Global, cursor: &mut Cursor<'_>, depth: usize) -> Result<Items<Arg>, ParseStop>
+    ensures { ReadsTokens (spec.condition depth cursor.old) result cursor.new }
 {
     let mut found = Items::new(alloc);
     symbol(cursor, b'(')?;
@@ -29,8 +29,8 @@ fn option_args(
     cursor: &mut Cursor<'_>,
     form: RewriteOption,
     depth: usize,
-) -> Result<Items<Arg>, Stop>
-    ensures { Reads (spec.option_args depth form cursor.old) result cursor.new }
+) -> Result<Items<Arg>, ParseStop>
+    ensures { ReadsTokens (spec.option_args depth form cursor.old) result cursor.new }
 {
     match form {
         RewriteOption::Flat(flat) => flat_args(alloc, cursor, flat),
@@ -44,8 +44,8 @@ fn read_option(
     cursor: &mut Cursor<'_>,
     table: RewriteTable,
     depth: usize,
-) -> Result<Arg, Stop>
-    ensures { Reads (spec.rewrite_option depth table cursor.old) result cursor.new }
+) -> Result<Arg, ParseStop>
+    ensures { ReadsTokens (spec.rewrite_option depth table cursor.old) result cursor.new }
 {
     let spot = word(cursor)?;
     let Some(form) = rewrite_option(table, spot.token.text.bytes()) else {
@@ -61,12 +61,12 @@ struct Choices {
     depth: usize,
 }
 
-impl Rule for Choices {
+impl ItemRule for Choices {
     type Item = Arg;
 
     ghost parser = { λ rule. spec.rewrite_option rule.depth rule.table };
 
-    fn read(&self, alloc: Global, cursor: &mut Cursor<'_>) -> Result<Arg, Stop> {
+    fn read(&self, alloc: Global, cursor: &mut Cursor<'_>) -> Result<Arg, ParseStop> {
         read_option(alloc, cursor, self.table, self.depth)
     }
 }
@@ -77,8 +77,8 @@ fn rewrite_args(
     cursor: &mut Cursor<'_>,
     form: RewriteForm,
     depth: usize,
-) -> Result<Items<Arg>, Stop>
-    ensures { Reads (spec.rewrite_args depth form cursor.old) result cursor.new }
+) -> Result<Items<Arg>, ParseStop>
+    ensures { ReadsTokens (spec.rewrite_args depth form cursor.old) result cursor.new }
 {
     match form {
         RewriteForm::Options(table) => many(alloc, cursor, &Choices { table, depth }),
@@ -92,8 +92,8 @@ fn rewrite_args(
 
 /// A rewrite: its word and its arguments. Groups in its condition may be nested so deep.
 #[tactic(auto, unfolding(crate::specs::Rewrites::rewrite_call, crate::specs::Args::called))]
-pub fn rewrite_call(alloc: Global, cursor: &mut Cursor<'_>, depth: usize) -> Result<Call, Stop>
-    ensures { Reads (spec.rewrite_call depth cursor.old) result cursor.new }
+pub fn rewrite_call(alloc: Global, cursor: &mut Cursor<'_>, depth: usize) -> Result<Call, ParseStop>
+    ensures { ReadsTokens (spec.rewrite_call depth cursor.old) result cursor.new }
 {
     let spot = word(cursor)?;
     let Some(form) = rewrite_form(spot.token.text.bytes()) else {

@@ -8,7 +8,7 @@ use Rattle.sg_parse_base.specs.Tokens.{is_name, is_word, is_keyword, same_keywor
 use Rattle.sg_parse_base.specs.Input.{◌>>=◌, behind, any, next_is, sees_word, symbol, fault_at, spot_line}
 use Rattle.sg_parse_base.specs.Lists.{body}
 use Rattle.sg_parse_base.specs.Grammar.{Symbol, Keyword, Braced}
-use Rattle.sg_parse_base.specs.Laws.{Agrees, Matches, Leaves}
+use Rattle.sg_parse_base.specs.Laws.{Agrees, Matches, LeavesEnd}
 use Rattle.sg_parse_base.proofs.Steps.{step_ok, guard_ok, test_ok, ok_is, chosen, symbol-takes, takes-symbol, leaves-then, takes-leaves, symbol-leaves}
 use Rattle.sg_parse_base.proofs.ListLaws.{many-law, body-law}
 use Rattle.sg_parse_base.proofs.ChainLaws.{word-takes, takes-word, keyword-behind, keyword-leaves}
@@ -29,34 +29,34 @@ use Rattle.sg_parse_obj.specs.declared.templates.TemplateItem.TheVariants as ite
 use Rattle.sg_parse_obj.specs.Tables.{disk, global_form, option_form}
 use Rattle.sg_parse_obj.specs.Drivers as d
 use Rattle.sg_parse_obj.specs.Templates as t
-use Rattle.sg_parse_obj.specs.Grammar.{DiskOption, OptionArgs, DriverOption, DriverArgs, Driver, Drivers, GlobalOption, TextItem, EscapeItem, Item}
+use Rattle.sg_parse_obj.specs.Grammar.{DiskOption, DriverOptionArgs, DriverOption, DriverArgs, DriverCall, DriverCalls, GlobalOption, TextItem, EscapeItem, IsTemplateItem}
 use Rattle.sg_parse_obj.proofs.Apart.{apart}
 
 disk_option-law : Agrees d.disk_option DiskOption
 unfolding d.disk_option
 disk_option-law = nested-law (row_of disk) flat_args FlatArgs flat_args-law
 
-option_args-law : (form : OptionForm) → Matches (d.option_args form) (OptionArgs form)
+option_args-law : (form : OptionForm) → Matches (d.option_args form) (DriverOptionArgs form)
 unfolding d.option_args
 option_args-law (option.Flat form) = flat_args-law form
 option_args-law option.Disk = many-law d.disk_option DiskOption disk_option-law
 
 driver_option-law : (table : OptionTable) → Agrees (d.driver_option table) (DriverOption table)
 unfolding d.driver_option
-driver_option-law table = nested-law (option_form table) d.option_args OptionArgs option_args-law
+driver_option-law table = nested-law (option_form table) d.option_args DriverOptionArgs option_args-law
 
 driver_args-law : (form : DriverForm) → Matches (d.driver_args form) (DriverArgs form)
 unfolding d.driver_args
 driver_args-law (driver.Options table) = many-law (d.driver_option table) (DriverOption table) (driver_option-law table)
 driver_args-law (driver.Named class table) = named-law (d.driver_option table) (DriverOption table) (driver_option-law table) class
 
-driver-law : (side : Side) → Agrees (d.driver side) (Driver side)
+driver-law : (side : Side) → Agrees (d.driver side) (DriverCall side)
 unfolding d.driver
 driver-law side = called-law (d.driver_form side) d.driver_args DriverArgs driver_args-law
 
-pub drivers-law : (side : Side) → Matches (d.drivers side) (Drivers side)
+pub drivers-law : (side : Side) → Matches (d.drivers side) (DriverCalls side)
 unfolding d.drivers
-drivers-law side = body-law (d.driver side) (Driver side) (driver-law side)
+drivers-law side = body-law (d.driver side) (DriverCall side) (driver-law side)
 
 global_option-law : Agrees d.global_option GlobalOption
 unfolding d.global_option
@@ -67,7 +67,7 @@ globals-law = body-law d.global_option GlobalOption global_option-law
 
 -- ---- templates
 
-keyword-name : (word : List ℕ) (s r : List Spot) → Keyword word s r → next_is is_name s ≡ true
+pub keyword-name : (word : List ℕ) (s r : List Spot) → Keyword word s r → next_is is_name s ≡ true
 unfolding is_keyword
 keyword-name word s r k = rw k.1.0 (word-name k.0.token (and_parts (is_word k.0.token) (same_keyword k.0.token.text word) k.1.1).0)
 
@@ -130,7 +130,7 @@ escape-again : (s r : List Spot) (x : TemplateItem) → EscapeItem s x r → t.e
 unfolding t.escape_item
 escape-again s r x k = rw (takes-any (codes "template-escape") s k.m k.word, takes-symbol 40 k.m k.inner k.opens, takes-value Truth k.inner k.truth k.after k.is_truth, k.is_no, takes-symbol 41 k.after r k.closes, k.is) refl
 
-item-sound : (s : List Spot) (y : TemplateItem × List Spot) → t.template_item s ≡ Ok y → Item s y.0 y.1
+item-sound : (s : List Spot) (y : TemplateItem × List Spot) → t.template_item s ≡ Ok y → IsTemplateItem s y.0 y.1
 unfolding t.template_item
 item-sound s y h =
     elim (chosen (sees_word (codes "template") s) (t.text_item (behind s)) (cond (sees_word (codes "template-escape") s) (t.escape_item s) (Err (fault_at Unexpected s))) (Ok y) h) [
@@ -138,18 +138,18 @@ item-sound s y h =
       | inr a ↦ let b = test_ok (sees_word (codes "template-escape") s) (fault_at Unexpected s) (t.escape_item s) y a.1 in inr (escape-sound s y b.0 b.1)
     ]
 
-item-again : (s r : List Spot) (x : TemplateItem) → Item s x r → t.template_item s ≡ Ok (x, r)
+item-again : (s r : List Spot) (x : TemplateItem) → IsTemplateItem s x r → t.template_item s ≡ Ok (x, r)
 unfolding t.template_item
 item-again s r x (inl k) = rw (takes-word (codes "template") s k.m k.word) (text-again s r x k)
 item-again s r x (inr k) = rw (apart (codes "template-escape") (codes "template") refl s k.m k.word, takes-word (codes "template-escape") s k.m k.word) (escape-again s r x k)
 
-item-front : (s r : List Spot) (x : TemplateItem) → Item s x r → next_is is_name s ≡ true
+item-front : (s r : List Spot) (x : TemplateItem) → IsTemplateItem s x r → next_is is_name s ≡ true
 item-front s r x (inl k) = keyword-name (codes "template") s k.m k.word
 item-front s r x (inr k) = keyword-name (codes "template-escape") s k.m k.word
 
-item-leaves : (s r : List Spot) (x : TemplateItem) → Item s x r → Leaves s r
+item-leaves : (s r : List Spot) (x : TemplateItem) → IsTemplateItem s x r → LeavesEnd s r
 item-leaves s r x (inl k) = leaves-then s k.m r (keyword-leaves (codes "template") s k.m k.word) (leaves-then k.m k.inner r (symbol-leaves 40 k.m k.inner k.opens) (leaves-then k.inner k.after r (takes-leaves (passes Text) k.inner k.text k.after k.is_text) (symbol-leaves 41 k.after r k.closes)))
 item-leaves s r x (inr k) = leaves-then s k.m r (keyword-leaves (codes "template-escape") s k.m k.word) (leaves-then k.m k.inner r (symbol-leaves 40 k.m k.inner k.opens) (leaves-then k.inner k.after r (takes-leaves (passes Truth) k.inner k.truth k.after k.is_truth) (symbol-leaves 41 k.after r k.closes)))
 
-pub items-law : Matches (body t.template_item) (Braced Item)
-items-law = body-law t.template_item Item (record { sound = item-sound; again = item-again; front = item-front; leaves = item-leaves })
+pub items-law : Matches (body t.template_item) (Braced IsTemplateItem)
+items-law = body-law t.template_item IsTemplateItem (record { sound = item-sound; again = item-again; front = item-front; leaves = item-leaves })

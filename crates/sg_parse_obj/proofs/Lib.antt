@@ -3,3 +3,4 @@ mod Texts
 pub mod DriverLaws
 pub mod ObjectLaws
 pub mod Places
+pub mod ParserLaws

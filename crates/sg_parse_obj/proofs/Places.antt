@@ -4,7 +4,7 @@ use Rattle.std.proofs.lemmas.List.{length-drop, drop-drop}
 use Rattle.sg_lex.specs.declared.token.Token.{Token}
 use Rattle.sg_parse_base.specs.declared.spot.Spot.{Spot}
 use Rattle.sg_parse_base.specs.Input.{spots_from}
-use Rattle.sg_parse_base.specs.Laws.{Leaves}
+use Rattle.sg_parse_base.specs.Laws.{LeavesEnd}
 use Rattle.sg_parse_obj.specs.Objects.{spots_at}
 
 -- an end of the tokens from a place on begins at a place
@@ -22,7 +22,7 @@ end-place (spot ∷ front) at (token ∷ tokens) r h =
     (p.0 ∙ ap (λ (k : ℕ). spots_from k (drop (length front) tokens)) e, omega (arith, p.1))
 
 -- what is left begins behind as many tokens as were read
-pub place-behind : (tokens : List Token) (at : ℕ) (r : List Spot) → at ≤ length tokens → Leaves (spots_at tokens at) r → r ≡ spots_at tokens (length tokens - length r)
+pub place-behind : (tokens : List Token) (at : ℕ) (r : List Spot) → at ≤ length tokens → LeavesEnd (spots_at tokens at) r → r ≡ spots_at tokens (length tokens - length r)
 unfolding spots_at
 place-behind tokens at r le l =
     let front = l.0 ∷ l.1 in
@@ -31,7 +31,7 @@ place-behind tokens at r le l =
     let k : at + length front ≡ length tokens - length r = omega (arith, p.1, size, le) in
     p.0 ∙ ap (spots_from (at + length front)) (drop-drop (length front) at tokens) ∙ ap (λ (n : ℕ). spots_from n (drop n tokens)) k
 
-pub rest-fits : (tokens : List Token) (at : ℕ) (r : List Spot) → Leaves (spots_at tokens at) r → length r ≤ length tokens
+pub rest-fits : (tokens : List Token) (at : ℕ) (r : List Spot) → LeavesEnd (spots_at tokens at) r → length r ≤ length tokens
 unfolding spots_at
 rest-fits tokens at r l =
     let p = end-place (l.0 ∷ l.1) at (drop at tokens) r l.2 in

@@ -4,8 +4,8 @@ use Rattle.sg_lex.specs.declared.token.Token.{Token}
 use Rattle.sg_lex.specs.declared.place.Line.{Line}
 use Rattle.sg_lex.specs.declared.fault.ConfigKind.{ConfigKind}
 use Rattle.sg_lex.specs.declared.fault.ConfigFault.{ConfigFault}
-use Rattle.sg_parse_base.specs.declared.fault.Fault.{Fault}
-use Rattle.sg_parse_base.specs.Input.{Outcome}
+use Rattle.sg_parse_base.specs.declared.fault.ParseFault.{ParseFault}
+use Rattle.sg_parse_base.specs.Input.{ParseOutcome}
 use Rattle.sg_parse_obj.specs.declared.object.Object.{Object}
 use Rattle.sg_parse_obj.specs.declared.whole.ParseRefusal.{ParseRefusal}
 use Rattle.sg_parse_obj.specs.declared.whole.ParseRefusal.TheVariants.{Bad, NoMemory}
@@ -16,23 +16,23 @@ fault_on kind (Some line) last = record { kind = kind; file = line.file; line = 
 fault_on kind None last = record { kind = kind; file = last.file; line = last.line }
 
 -- a fault behind the last token stands on its line
-abbrev pub fault_of : Fault → Token → ConfigFault
+abbrev pub fault_of : ParseFault → Token → ConfigFault
 fault_of fault last = fault_on fault.kind fault.at last
 
-abbrev pub Refuses : List Token → Outcome Object → ParseRefusal → Type 0
-Refuses tokens outcome (Bad fault) = (first : Fault) × (last : Token) × (outcome ≡ Err first)
+abbrev pub Refuses : List Token → ParseOutcome Object → ParseRefusal → Type 0
+Refuses tokens outcome (Bad fault) = (first : ParseFault) × (last : Token) × (outcome ≡ Err first)
     × (slice_get tokens (length tokens - 1) ≡ Some last) × (fault ≡ fault_of first last)
 Refuses tokens outcome NoMemory = Unit {0}
 
 -- the statement and the place behind it, or the first fault, unless memory runs out
-abbrev pub Answers : List Token → Outcome Object → Result (Object × ℕ) ParseRefusal → Type 0
+abbrev pub Answers : List Token → ParseOutcome Object → Result (Object × ℕ) ParseRefusal → Type 0
 Answers tokens outcome (Ok x) = outcome ≡ Ok (x.0, spots_at tokens x.1)
 Answers tokens outcome (Err refusal) = Refuses tokens outcome refusal
 
-abbrev pub IsBad : ParseRefusal → Type 0
-IsBad (Bad fault) = Unit {0}
-IsBad NoMemory = ⊥
+abbrev pub IsBadSyntax : ParseRefusal → Type 0
+IsBadSyntax (Bad fault) = Unit {0}
+IsBadSyntax NoMemory = ⊥
 
 abbrev pub IsRefused : Result (Object × ℕ) ParseRefusal → Type 0
 IsRefused (Ok x) = ⊥
-IsRefused (Err refusal) = IsBad refusal
+IsRefused (Err refusal) = IsBadSyntax refusal

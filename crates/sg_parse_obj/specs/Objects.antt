@@ -1,7 +1,7 @@
 -- Statements: what is read, or the first fault.
 use Rattle.std.specs.Prelude.{ℕ, if◌then◌else◌, List, codes, Some, None, Ok, Err, drop}
 use Rattle.sg_lex.specs.declared.token.Token.{Token}
-use Rattle.sg_lex.specs.declared.fault.ConfigKind.TheVariants.{Unexpected, Unsupported}
+use Rattle.sg_lex.specs.declared.fault.ConfigKind.TheVariants.{Unexpected}
 use Rattle.sg_parse_base.specs.declared.spot.Spot.{Spot}
 use Rattle.sg_parse_base.specs.Input.{Parser, ◌>>=◌, behind, sees, sees_word, symbol, name, fault_at, spots_from}
 use Rattle.sg_parse_base.specs.Lists.{body, ending}
@@ -15,6 +15,7 @@ use Rattle.sg_parse_obj.specs.declared.object.Object.{Object}
 use Rattle.sg_parse_obj.specs.declared.object.Object.TheVariants as object
 use Rattle.sg_parse_obj.specs.declared.driver.Side.TheVariants as side
 use Rattle.sg_parse_obj.specs.Drivers.{drivers, global_option}
+use Rattle.sg_parse_obj.specs.Parsers.{parser_calls}
 use Rattle.sg_parse_obj.specs.Templates.{template_item, last_text}
 
 -- how deep statements, branches and groups may be nested
@@ -65,6 +66,12 @@ rewrite depth spots = do
   calls ← rewrites depth called.1
   Ok (object.Rewrite called.0 calls.0, calls.1)
 
+unfoldable pub parser : Parser Object
+parser spots = do
+  called ← name spots
+  calls ← parser_calls called.1
+  Ok (object.Parser called.0 calls.0, calls.1)
+
 unfoldable pub template_block : Spot → Parser Object
 template_block called spots = do
   items ← body template_item spots
@@ -89,7 +96,7 @@ object_in depth spots =
     else (if sees_word (codes "rewrite") spots then rewrite depth (behind spots)
     else (if sees_word (codes "template") spots then template (behind spots)
     else (if sees_word (codes "options") spots then options (behind spots)
-    else (if sees_word (codes "parser") spots then Err (fault_at Unsupported spots)
+    else (if sees_word (codes "parser") spots then parser (behind spots)
     else Err (fault_at Unexpected spots)))))))
 
 unfoldable pub object_at : Parser Object

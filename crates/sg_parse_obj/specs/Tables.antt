@@ -1,7 +1,7 @@
 -- The words of drivers and options, with the forms of their arguments (syslog-ng's administration guide, the options of the drivers and "Global
 -- options").
 use Rattle.std.specs.Prelude.{ℕ, List, [], ◌∷◌, codes, Option, Some, None}
-use Rattle.sg_parse_expr.specs.declared.class.Choice.TheVariants as choice
+use Rattle.sg_parse_expr.specs.declared.class.WordChoice.TheVariants as choice
 use Rattle.sg_parse_expr.specs.declared.class.Class.TheVariants as class
 use Rattle.sg_parse_expr.specs.declared.form.Flat.{Flat}
 use Rattle.sg_parse_expr.specs.declared.form.Flat.TheVariants as flat
@@ -24,7 +24,7 @@ source_drivers =
 -- drivers of destinations
 unfoldable pub destination_drivers : List (List ℕ × DriverForm)
 destination_drivers =
-    (codes "file", driver.Named class.FileName table.FileDestination)
+    (codes "file", driver.Named class.Template table.FileDestination)
     ∷ (codes "network", driver.Named class.Name table.NetworkDestination)
     ∷ (codes "syslog", driver.Named class.Name table.SyslogDestination)
     ∷ []
@@ -73,6 +73,9 @@ writer =
     (codes "template", option.Flat (flat.One class.Name))
     ∷ (codes "fsync", option.Flat (flat.One class.Truth))
     ∷ (codes "perm", option.Flat (flat.One class.Name))
+    ∷ (codes "create-dirs", option.Flat (flat.One class.Truth))
+    ∷ (codes "dir-perm", option.Flat (flat.One class.Name))
+    ∷ (codes "time-reap", option.Flat (flat.One class.Number))
     ∷ []
 
 -- further options of `network` and `syslog` destinations
@@ -118,7 +121,10 @@ global =
     ∷ (codes "frac-digits", flat.One class.Number)
     ∷ (codes "ts-format", flat.One (class.Word choice.StampForm))
     ∷ (codes "time-reopen", flat.One class.Number)
+    ∷ (codes "time-reap", flat.One class.Number)
     ∷ (codes "perm", flat.One class.Name)
+    ∷ (codes "create-dirs", flat.One class.Truth)
+    ∷ (codes "dir-perm", flat.One class.Name)
     ∷ (codes "log-iw-size", flat.Skipped)
     ∷ (codes "log-fetch-limit", flat.Skipped)
     ∷ []

@@ -1,13 +1,13 @@
 // Drivers and options.
 ghost use Rattle.std.specs.Prelude.{◌≡◌};
-ghost use Rattle.sg_parse_base.specs.Input.{Reads};
+ghost use Rattle.sg_parse_base.specs.Input.{ReadsTokens};
 ghost use Rattle.sg_parse_obj.specs.Drivers as spec;
 
 use crate::table::{
     DriverForm, OptionForm, OptionTable, destination_driver, disk_form, global_form, option_form,
     source_driver,
 };
-use sg_parse_base::{Cursor, Rule, Stop, body, many, unsupported, word};
+use sg_parse_base::{Cursor, ItemRule, ParseStop, body, many, unsupported, word};
 use sg_parse_expr::{Arg, Call, call_of, flat_args, named};
 use sqlite_items::Items;
 use std::alloc::Global;
@@ -20,8 +20,8 @@ pub enum Side {
 }
 
 #[tactic(auto, unfolding(crate::specs::Drivers::disk_option, sg_parse_expr::specs::Args::nested, sg_parse_expr::specs::Args::called))]
-fn disk_option(alloc: Global, cursor: &mut Cursor<'_>) -> Result<Arg, Stop>
-    ensures { Reads (spec.disk_option cursor.old) result cursor.new }
+fn disk_option(alloc: Global, cursor: &mut Cursor<'_>) -> Result<Arg, ParseStop>
+    ensures { ReadsTokens (spec.disk_option cursor.old) result cursor.new }
 {
     let spot = word(cursor)?;
     let Some(form) = disk_form(spot.token.text.bytes()) else {
@@ -34,19 +34,23 @@ fn disk_option(alloc: Global, cursor: &mut Cursor<'_>) -> Result<Arg, Stop>
 #[derive(Drop)]
 struct DiskOption;
 
-impl Rule for DiskOption {
+impl ItemRule for DiskOption {
     type Item = Arg;
 
     ghost parser = { λ _. spec.disk_option };
 
-    fn read(&self, alloc: Global, cursor: &mut Cursor<'_>) -> Result<Arg, Stop> {
+    fn read(&self, alloc: Global, cursor: &mut Cursor<'_>) -> Result<Arg, ParseStop> {
         disk_option(alloc, cursor)
     }
 }
 
 #[tactic(auto, unfolding(crate::specs::Drivers::option_args))]
-fn option_args(alloc: Global, cursor: &mut Cursor<'_>, form: OptionForm) -> Result<Items<Arg>, Stop>
-    ensures { Reads (spec.option_args form cursor.old) result cursor.new }
+fn option_args(
+    alloc: Global,
+    cursor: &mut Cursor<'_>,
+    form: OptionForm,
+) -> Result<Items<Arg>, ParseStop>
+    ensures { ReadsTokens (spec.option_args form cursor.old) result cursor.new }
 {
     match form {
         OptionForm::Flat(flat) => flat_args(alloc, cursor, flat),
@@ -55,8 +59,12 @@ fn option_args(alloc: Global, cursor: &mut Cursor<'_>, form: OptionForm) -> Resu
 }
 
 #[tactic(auto, unfolding(crate::specs::Drivers::driver_option, sg_parse_expr::specs::Args::nested, sg_parse_expr::specs::Args::called))]
-fn driver_option(alloc: Global, cursor: &mut Cursor<'_>, table: OptionTable) -> Result<Arg, Stop>
-    ensures { Reads (spec.driver_option table cursor.old) result cursor.new }
+fn driver_option(
+    alloc: Global,
+    cursor: &mut Cursor<'_>,
+    table: OptionTable,
+) -> Result<Arg, ParseStop>
+    ensures { ReadsTokens (spec.driver_option table cursor.old) result cursor.new }
 {
     let spot = word(cursor)?;
     let Some(form) = option_form(table, spot.token.text.bytes()) else {
@@ -71,19 +79,23 @@ struct DriverOption {
     table: OptionTable,
 }
 
-impl Rule for DriverOption {
+impl ItemRule for DriverOption {
     type Item = Arg;
 
     ghost parser = { λ rule. spec.driver_option rule.table };
 
-    fn read(&self, alloc: Global, cursor: &mut Cursor<'_>) -> Result<Arg, Stop> {
+    fn read(&self, alloc: Global, cursor: &mut Cursor<'_>) -> Result<Arg, ParseStop> {
         driver_option(alloc, cursor, self.table)
     }
 }
 
 #[tactic(auto, unfolding(crate::specs::Drivers::driver_args))]
-fn driver_args(alloc: Global, cursor: &mut Cursor<'_>, form: DriverForm) -> Result<Items<Arg>, Stop>
-    ensures { Reads (spec.driver_args form cursor.old) result cursor.new }
+fn driver_args(
+    alloc: Global,
+    cursor: &mut Cursor<'_>,
+    form: DriverForm,
+) -> Result<Items<Arg>, ParseStop>
+    ensures { ReadsTokens (spec.driver_args form cursor.old) result cursor.new }
 {
     match form {
         DriverForm::Options(table) => many(alloc, cursor, &DriverOption { table }),
@@ -102,8 +114,8 @@ fn driver_form(side: Side, text: &[u8]) -> Option<DriverForm>
 }
 
 #[tactic(auto, unfolding(crate::specs::Drivers::driver, sg_parse_expr::specs::Args::called))]
-fn read_driver(alloc: Global, cursor: &mut Cursor<'_>, side: Side) -> Result<Call, Stop>
-    ensures { Reads (spec.driver side cursor.old) result cursor.new }
+fn read_driver(alloc: Global, cursor: &mut Cursor<'_>, side: Side) -> Result<Call, ParseStop>
+    ensures { ReadsTokens (spec.driver side cursor.old) result cursor.new }
 {
     let spot = word(cursor)?;
     let Some(form) = driver_form(side, spot.token.text.bytes()) else {
@@ -114,31 +126,31 @@ fn read_driver(alloc: Global, cursor: &mut Cursor<'_>, side: Side) -> Result<Cal
 }
 
 #[derive(Drop)]
-struct Driver {
+struct DriverRule {
     side: Side,
 }
 
-impl Rule for Driver {
+impl ItemRule for DriverRule {
     type Item = Call;
 
     ghost parser = { λ rule. spec.driver rule.side };
 
-    fn read(&self, alloc: Global, cursor: &mut Cursor<'_>) -> Result<Call, Stop> {
+    fn read(&self, alloc: Global, cursor: &mut Cursor<'_>) -> Result<Call, ParseStop> {
         read_driver(alloc, cursor, self.side)
     }
 }
 
 /// The drivers of a source or a destination, in braces.
 #[tactic(auto, unfolding(crate::specs::Drivers::drivers))]
-pub fn drivers(alloc: Global, cursor: &mut Cursor<'_>, side: Side) -> Result<Items<Call>, Stop>
-    ensures { Reads (spec.drivers side cursor.old) result cursor.new }
+pub fn drivers(alloc: Global, cursor: &mut Cursor<'_>, side: Side) -> Result<Items<Call>, ParseStop>
+    ensures { ReadsTokens (spec.drivers side cursor.old) result cursor.new }
 {
-    body(alloc, cursor, &Driver { side })
+    body(alloc, cursor, &DriverRule { side })
 }
 
 #[tactic(auto, unfolding(crate::specs::Drivers::global_option, sg_parse_expr::specs::Args::called))]
-fn global_option(alloc: Global, cursor: &mut Cursor<'_>) -> Result<Call, Stop>
-    ensures { Reads (spec.global_option cursor.old) result cursor.new }
+fn global_option(alloc: Global, cursor: &mut Cursor<'_>) -> Result<Call, ParseStop>
+    ensures { ReadsTokens (spec.global_option cursor.old) result cursor.new }
 {
     let spot = word(cursor)?;
     let Some(form) = global_form(spot.token.text.bytes()) else {
@@ -152,12 +164,12 @@ fn global_option(alloc: Global, cursor: &mut Cursor<'_>) -> Result<Call, Stop>
 #[derive(Drop)]
 pub struct GlobalOption;
 
-impl Rule for GlobalOption {
+impl ItemRule for GlobalOption {
     type Item = Call;
 
     ghost parser = { λ _. spec.global_option };
 
-    fn read(&self, alloc: Global, cursor: &mut Cursor<'_>) -> Result<Call, Stop> {
+    fn read(&self, alloc: Global, cursor: &mut Cursor<'_>) -> Result<Call, ParseStop> {
         global_option(alloc, cursor)
     }
 }

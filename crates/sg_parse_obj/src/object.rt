@@ -12,6 +12,7 @@ pub enum Object {
     Destination { name: Spot, drivers: Items<Call> },
     Filter { name: Spot, expr: RawExpr },
     Rewrite { name: Spot, calls: Items<Call> },
+    Parser { name: Spot, calls: Items<Call> },
     /// None where the block gives no text: it is the empty one. Of several the last is kept.
     Template { name: Spot, text: Option<Spot> },
 }

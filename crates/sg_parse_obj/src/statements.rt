@@ -1,22 +1,29 @@
 // Statements, behind their words.
 ghost use Rattle.std.specs.Prelude.{◌≡◌};
-ghost use Rattle.sg_parse_base.specs.Input.{Reads};
+ghost use Rattle.sg_parse_base.specs.Input.{ReadsTokens};
 ghost use Rattle.sg_parse_obj.specs.Objects as spec;
 ghost use Rattle.sg_parse_expr.specs.Rewrites.{rewrite_call as rewrite_at};
 
 use crate::driver::{GlobalOption, Side, drivers};
 use crate::object::Object;
+use crate::parsers::parser_calls;
 use crate::templates::{TemplateRule, last_text};
 use sg_lex::ConfigKind;
-use sg_parse_base::{Cursor, Rule, Spot, Stop, body, ending, name, sees, sees_word, symbol};
+use sg_parse_base::{
+    Cursor, ItemRule, ParseStop, Spot, body, ending, name, sees, sees_word, symbol,
+};
 use sg_parse_expr::{Call, Class, RawExpr, expression, rewrite_call, value};
 use sqlite_items::Items;
 use std::alloc::Global;
 
 /// The expression of a filter statement, in braces. Groups in it may be nested so deep.
 #[tactic(auto, unfolding(crate::specs::Objects::filter_body))]
-pub fn filter_body(alloc: Global, cursor: &mut Cursor<'_>, depth: usize) -> Result<RawExpr, Stop>
-    ensures { Reads (spec.filter_body depth cursor.old) result cursor.new }
+pub fn filter_body(
+    alloc: Global,
+    cursor: &mut Cursor<'_>,
+    depth: usize,
+) -> Result<RawExpr, ParseStop>
+    ensures { ReadsTokens (spec.filter_body depth cursor.old) result cursor.new }
 {
     symbol(cursor, b'{')?;
     let expr = expression(alloc, cursor, depth)?;
@@ -30,34 +37,38 @@ struct OneRewrite {
     depth: usize,
 }
 
-impl Rule for OneRewrite {
+impl ItemRule for OneRewrite {
     type Item = Call;
 
     ghost parser = { λ rule. rewrite_at rule.depth };
 
-    fn read(&self, alloc: Global, cursor: &mut Cursor<'_>) -> Result<Call, Stop> {
+    fn read(&self, alloc: Global, cursor: &mut Cursor<'_>) -> Result<Call, ParseStop> {
         rewrite_call(alloc, cursor, self.depth)
     }
 }
 
 /// The rewrites of a rewrite statement, in braces. Groups in their conditions may be nested so deep.
 #[tactic(auto, unfolding(crate::specs::Objects::rewrites))]
-pub fn rewrites(alloc: Global, cursor: &mut Cursor<'_>, depth: usize) -> Result<Items<Call>, Stop>
-    ensures { Reads (spec.rewrites depth cursor.old) result cursor.new }
+pub fn rewrites(
+    alloc: Global,
+    cursor: &mut Cursor<'_>,
+    depth: usize,
+) -> Result<Items<Call>, ParseStop>
+    ensures { ReadsTokens (spec.rewrites depth cursor.old) result cursor.new }
 {
     body(alloc, cursor, &OneRewrite { depth })
 }
 
 #[tactic(auto, unfolding(crate::specs::Objects::options))]
-fn options(alloc: Global, cursor: &mut Cursor<'_>) -> Result<Object, Stop>
-    ensures { Reads (spec.options cursor.old) result cursor.new }
+fn options(alloc: Global, cursor: &mut Cursor<'_>) -> Result<Object, ParseStop>
+    ensures { ReadsTokens (spec.options cursor.old) result cursor.new }
 {
     Ok(Object::Options(body(alloc, cursor, &GlobalOption)?))
 }
 
 #[tactic(auto, unfolding(crate::specs::Objects::source))]
-fn source(alloc: Global, cursor: &mut Cursor<'_>) -> Result<Object, Stop>
-    ensures { Reads (spec.source cursor.old) result cursor.new }
+fn source(alloc: Global, cursor: &mut Cursor<'_>) -> Result<Object, ParseStop>
+    ensures { ReadsTokens (spec.source cursor.old) result cursor.new }
 {
     let name = name(cursor)?;
     let drivers = drivers(alloc, cursor, Side::Source)?;
@@ -65,8 +76,8 @@ fn source(alloc: Global, cursor: &mut Cursor<'_>) -> Result<Object, Stop>
 }
 
 #[tactic(auto, unfolding(crate::specs::Objects::destination))]
-fn destination(alloc: Global, cursor: &mut Cursor<'_>) -> Result<Object, Stop>
-    ensures { Reads (spec.destination cursor.old) result cursor.new }
+fn destination(alloc: Global, cursor: &mut Cursor<'_>) -> Result<Object, ParseStop>
+    ensures { ReadsTokens (spec.destination cursor.old) result cursor.new }
 {
     let name = name(cursor)?;
     let drivers = drivers(alloc, cursor, Side::Destination)?;
@@ -74,8 +85,8 @@ fn destination(alloc: Global, cursor: &mut Cursor<'_>) -> Result<Object, Stop>
 }
 
 #[tactic(auto, unfolding(crate::specs::Objects::filter))]
-fn filter(alloc: Global, cursor: &mut Cursor<'_>, depth: usize) -> Result<Object, Stop>
-    ensures { Reads (spec.filter depth cursor.old) result cursor.new }
+fn filter(alloc: Global, cursor: &mut Cursor<'_>, depth: usize) -> Result<Object, ParseStop>
+    ensures { ReadsTokens (spec.filter depth cursor.old) result cursor.new }
 {
     let name = name(cursor)?;
     let expr = filter_body(alloc, cursor, depth)?;
@@ -83,17 +94,26 @@ fn filter(alloc: Global, cursor: &mut Cursor<'_>, depth: usize) -> Result<Object
 }
 
 #[tactic(auto, unfolding(crate::specs::Objects::rewrite))]
-fn rewrite(alloc: Global, cursor: &mut Cursor<'_>, depth: usize) -> Result<Object, Stop>
-    ensures { Reads (spec.rewrite depth cursor.old) result cursor.new }
+fn rewrite(alloc: Global, cursor: &mut Cursor<'_>, depth: usize) -> Result<Object, ParseStop>
+    ensures { ReadsTokens (spec.rewrite depth cursor.old) result cursor.new }
 {
     let name = name(cursor)?;
     let calls = rewrites(alloc, cursor, depth)?;
     Ok(Object::Rewrite { name, calls })
 }
 
+#[tactic(auto, unfolding(crate::specs::Objects::parser))]
+fn parser(alloc: Global, cursor: &mut Cursor<'_>) -> Result<Object, ParseStop>
+    ensures { ReadsTokens (spec.parser cursor.old) result cursor.new }
+{
+    let name = name(cursor)?;
+    let calls = parser_calls(alloc, cursor)?;
+    Ok(Object::Parser { name, calls })
+}
+
 #[tactic(auto, unfolding(crate::specs::Objects::template_block))]
-fn template_block(alloc: Global, cursor: &mut Cursor<'_>, name: Spot) -> Result<Object, Stop>
-    ensures { Reads (spec.template_block name cursor.old) result cursor.new }
+fn template_block(alloc: Global, cursor: &mut Cursor<'_>, name: Spot) -> Result<Object, ParseStop>
+    ensures { ReadsTokens (spec.template_block name cursor.old) result cursor.new }
 {
     let items = body(alloc, cursor, &TemplateRule)?;
     let text = last_text(items);
@@ -101,16 +121,16 @@ fn template_block(alloc: Global, cursor: &mut Cursor<'_>, name: Spot) -> Result<
 }
 
 #[tactic(auto, unfolding(crate::specs::Objects::template_text))]
-fn template_text(alloc: Global, cursor: &mut Cursor<'_>, name: Spot) -> Result<Object, Stop>
-    ensures { Reads (spec.template_text name cursor.old) result cursor.new }
+fn template_text(alloc: Global, cursor: &mut Cursor<'_>, name: Spot) -> Result<Object, ParseStop>
+    ensures { ReadsTokens (spec.template_text name cursor.old) result cursor.new }
 {
     let text = Some(value(alloc, cursor, Class::Text)?);
     Ok(Object::Template { name, text })
 }
 
 #[tactic(auto, unfolding(crate::specs::Objects::template))]
-fn template(alloc: Global, cursor: &mut Cursor<'_>) -> Result<Object, Stop>
-    ensures { Reads (spec.template cursor.old) result cursor.new }
+fn template(alloc: Global, cursor: &mut Cursor<'_>) -> Result<Object, ParseStop>
+    ensures { ReadsTokens (spec.template cursor.old) result cursor.new }
 {
     let name = name(cursor)?;
     if sees(cursor, b'{') {
@@ -121,8 +141,8 @@ fn template(alloc: Global, cursor: &mut Cursor<'_>) -> Result<Object, Stop>
 
 /// A statement, in which groups may be nested so deep.
 #[tactic(auto, unfolding(crate::specs::Objects::object_in))]
-pub fn object(alloc: Global, cursor: &mut Cursor<'_>, depth: usize) -> Result<Object, Stop>
-    ensures { Reads (spec.object_in depth cursor.old) result cursor.new }
+pub fn object(alloc: Global, cursor: &mut Cursor<'_>, depth: usize) -> Result<Object, ParseStop>
+    ensures { ReadsTokens (spec.object_in depth cursor.old) result cursor.new }
 {
     if sees_word(cursor, b"source") {
         cursor.skip();
@@ -149,7 +169,8 @@ pub fn object(alloc: Global, cursor: &mut Cursor<'_>, depth: usize) -> Result<Ob
         return options(alloc, cursor);
     }
     if sees_word(cursor, b"parser") {
-        return Err(cursor.fault(ConfigKind::Unsupported));
+        cursor.skip();
+        return parser(alloc, cursor);
     }
     Err(cursor.fault(ConfigKind::Unexpected))
 }

@@ -3,7 +3,7 @@ ghost use Rattle.std.specs.Prelude.{◌≡◌};
 ghost use Rattle.sg_parse_expr.specs.Forms.{row_of};
 ghost use Rattle.sg_parse_obj.specs.Tables as spec;
 
-use sg_parse_expr::{Choice, Class, Flat, row_of};
+use sg_parse_expr::{Class, Flat, WordChoice, row_of};
 
 /// The form of an option of a driver.
 #[derive(Clone, Copy, Drop)]
@@ -43,7 +43,7 @@ const SOURCE_DRIVERS: [(&[u8], DriverForm); 3] = [
 const DESTINATION_DRIVERS: [(&[u8], DriverForm); 3] = [
     (
         b"file",
-        DriverForm::Named(Class::FileName, OptionTable::FileDestination),
+        DriverForm::Named(Class::Template, OptionTable::FileDestination),
     ),
     (
         b"network",
@@ -58,7 +58,7 @@ const DESTINATION_DRIVERS: [(&[u8], DriverForm); 3] = [
 const SOURCE: [(&[u8], OptionForm); 12] = [
     (
         b"flags",
-        OptionForm::Flat(Flat::Many(Class::Word(Choice::SourceFlag))),
+        OptionForm::Flat(Flat::Many(Class::Word(WordChoice::SourceFlag))),
     ),
     (b"log-iw-size", OptionForm::Flat(Flat::One(Class::Number))),
     (
@@ -88,7 +88,7 @@ const LISTENER: [(&[u8], OptionForm); 5] = [
     (b"localport", OptionForm::Flat(Flat::One(Class::Number))),
     (
         b"transport",
-        OptionForm::Flat(Flat::One(Class::Word(Choice::Transport))),
+        OptionForm::Flat(Flat::One(Class::Word(WordChoice::Transport))),
     ),
     (
         b"max-connections",
@@ -103,22 +103,25 @@ const DESTINATION: [(&[u8], OptionForm); 6] = [
     (b"frac-digits", OptionForm::Flat(Flat::One(Class::Number))),
     (
         b"ts-format",
-        OptionForm::Flat(Flat::One(Class::Word(Choice::StampForm))),
+        OptionForm::Flat(Flat::One(Class::Word(WordChoice::StampForm))),
     ),
     (b"time-reopen", OptionForm::Flat(Flat::One(Class::Number))),
 ];
 
-const WRITER: [(&[u8], OptionForm); 3] = [
+const WRITER: [(&[u8], OptionForm); 6] = [
     (b"template", OptionForm::Flat(Flat::One(Class::Name))),
     (b"fsync", OptionForm::Flat(Flat::One(Class::Truth))),
     (b"perm", OptionForm::Flat(Flat::One(Class::Name))),
+    (b"create-dirs", OptionForm::Flat(Flat::One(Class::Truth))),
+    (b"dir-perm", OptionForm::Flat(Flat::One(Class::Name))),
+    (b"time-reap", OptionForm::Flat(Flat::One(Class::Number))),
 ];
 
 const SENDER: [(&[u8], OptionForm); 2] = [
     (b"port", OptionForm::Flat(Flat::One(Class::Number))),
     (
         b"transport",
-        OptionForm::Flat(Flat::One(Class::Word(Choice::Transport))),
+        OptionForm::Flat(Flat::One(Class::Word(WordChoice::Transport))),
     ),
 ];
 
@@ -140,7 +143,7 @@ const DISK: [(&[u8], Flat); 13] = [
     (b"compaction", Flat::Skipped),
 ];
 
-const GLOBAL: [(&[u8], Flat); 12] = [
+const GLOBAL: [(&[u8], Flat); 15] = [
     (b"log-fifo-size", Flat::One(Class::Number)),
     (b"log-msg-size", Flat::One(Class::Number)),
     (b"keep-hostname", Flat::One(Class::Truth)),
@@ -148,9 +151,12 @@ const GLOBAL: [(&[u8], Flat); 12] = [
     (b"recv-time-zone", Flat::One(Class::Name)),
     (b"time-zone", Flat::One(Class::Name)),
     (b"frac-digits", Flat::One(Class::Number)),
-    (b"ts-format", Flat::One(Class::Word(Choice::StampForm))),
+    (b"ts-format", Flat::One(Class::Word(WordChoice::StampForm))),
     (b"time-reopen", Flat::One(Class::Number)),
+    (b"time-reap", Flat::One(Class::Number)),
     (b"perm", Flat::One(Class::Name)),
+    (b"create-dirs", Flat::One(Class::Truth)),
+    (b"dir-perm", Flat::One(Class::Name)),
     (b"log-iw-size", Flat::Skipped),
     (b"log-fetch-limit", Flat::Skipped),
 ];

@@ -1,10 +1,10 @@
 // Templates.
 ghost use Rattle.std.specs.Prelude.{◌≡◌, None};
-ghost use Rattle.sg_parse_base.specs.Input.{Reads};
+ghost use Rattle.sg_parse_base.specs.Input.{ReadsTokens};
 ghost use Rattle.sg_parse_obj.specs.Templates as spec;
 
 use sg_lex::ConfigKind;
-use sg_parse_base::{Cursor, Rule, Spot, Stop, sees_word, symbol, unsupported};
+use sg_parse_base::{Cursor, ItemRule, ParseStop, Spot, sees_word, symbol, unsupported};
 use sg_parse_expr::{Class, is_yes, value};
 use sqlite_items::Items;
 use std::alloc::Global;
@@ -18,8 +18,8 @@ pub enum TemplateItem {
 }
 
 #[tactic(auto, unfolding(crate::specs::Templates::text_item))]
-fn text_item(alloc: Global, cursor: &mut Cursor<'_>) -> Result<TemplateItem, Stop>
-    ensures { Reads (spec.text_item cursor.old) result cursor.new }
+fn text_item(alloc: Global, cursor: &mut Cursor<'_>) -> Result<TemplateItem, ParseStop>
+    ensures { ReadsTokens (spec.text_item cursor.old) result cursor.new }
 {
     symbol(cursor, b'(')?;
     let text = value(alloc, cursor, Class::Text)?;
@@ -28,8 +28,8 @@ fn text_item(alloc: Global, cursor: &mut Cursor<'_>) -> Result<TemplateItem, Sto
 }
 
 #[tactic(auto, unfolding(crate::specs::Templates::escape_item))]
-fn escape_item(alloc: Global, cursor: &mut Cursor<'_>) -> Result<TemplateItem, Stop>
-    ensures { Reads (spec.escape_item cursor.old) result cursor.new }
+fn escape_item(alloc: Global, cursor: &mut Cursor<'_>) -> Result<TemplateItem, ParseStop>
+    ensures { ReadsTokens (spec.escape_item cursor.old) result cursor.new }
 {
     let word = cursor.take()?;
     symbol(cursor, b'(')?;
@@ -42,8 +42,8 @@ fn escape_item(alloc: Global, cursor: &mut Cursor<'_>) -> Result<TemplateItem, S
 }
 
 #[tactic(auto, unfolding(crate::specs::Templates::template_item))]
-fn template_item(alloc: Global, cursor: &mut Cursor<'_>) -> Result<TemplateItem, Stop>
-    ensures { Reads (spec.template_item cursor.old) result cursor.new }
+fn template_item(alloc: Global, cursor: &mut Cursor<'_>) -> Result<TemplateItem, ParseStop>
+    ensures { ReadsTokens (spec.template_item cursor.old) result cursor.new }
 {
     if sees_word(cursor, b"template") {
         cursor.skip();
@@ -59,12 +59,12 @@ fn template_item(alloc: Global, cursor: &mut Cursor<'_>) -> Result<TemplateItem,
 #[derive(Drop)]
 pub struct TemplateRule;
 
-impl Rule for TemplateRule {
+impl ItemRule for TemplateRule {
     type Item = TemplateItem;
 
     ghost parser = { λ _. spec.template_item };
 
-    fn read(&self, alloc: Global, cursor: &mut Cursor<'_>) -> Result<TemplateItem, Stop> {
+    fn read(&self, alloc: Global, cursor: &mut Cursor<'_>) -> Result<TemplateItem, ParseStop> {
         template_item(alloc, cursor)
     }
 }

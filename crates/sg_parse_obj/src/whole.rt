@@ -9,7 +9,7 @@ ghost use Rattle.sg_parse_obj.specs.Grammar.{IsObject};
 use crate::object::Object;
 use crate::statements::object;
 use sg_lex::{ConfigFault, Token};
-use sg_parse_base::{Cursor, Fault, Stop};
+use sg_parse_base::{Cursor, ParseFault, ParseStop};
 use std::alloc::Global;
 
 /// How deep statements, branches and groups may be nested.
@@ -23,7 +23,7 @@ pub enum ParseRefusal {
 }
 
 /// The fault in a list that ends with this token: on its line where the list ends too early.
-fn fault_of(fault: Fault, last: &Token) -> ConfigFault
+fn fault_of(fault: ParseFault, last: &Token) -> ConfigFault
     ensures { result ≡ fault_of fault last.now }
 {
     match fault.at {
@@ -74,10 +74,10 @@ pub fn statement(
     let mut cursor = Cursor::new(tokens, at);
     match object(alloc, &mut cursor, DEPTH_LIMIT) {
         Ok(found) => Ok((found, tokens.len() - cursor.left())),
-        Err(Stop::Bad(fault)) => Err(ParseRefusal::Bad(fault_of(
+        Err(ParseStop::Bad(fault)) => Err(ParseRefusal::Bad(fault_of(
             fault,
             token_at(tokens, tokens.len() - 1),
         ))),
-        Err(Stop::NoMemory) => Err(ParseRefusal::NoMemory),
+        Err(ParseStop::NoMemory) => Err(ParseRefusal::NoMemory),
     }
 }

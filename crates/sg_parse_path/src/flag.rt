@@ -1,9 +1,9 @@
 // The flags of log statements.
 ghost use Rattle.std.specs.Prelude.{◌≡◌};
-ghost use Rattle.sg_parse_base.specs.Input.{Reads};
+ghost use Rattle.sg_parse_base.specs.Input.{ReadsTokens};
 ghost use Rattle.sg_parse_path.specs.Flags as spec;
 
-use sg_parse_base::{Cursor, Rule, Spot, Stop, name, same_keyword, unsupported};
+use sg_parse_base::{Cursor, ItemRule, ParseStop, Spot, name, same_keyword, unsupported};
 use std::alloc::Global;
 
 #[tactic(auto, unfolding(crate::specs::Flags::is_flag))]
@@ -18,8 +18,8 @@ fn is_flag(text: &[u8]) -> bool
 }
 
 #[tactic(auto, unfolding(crate::specs::Flags::flag))]
-fn flag(cursor: &mut Cursor<'_>) -> Result<Spot, Stop>
-    ensures { Reads (spec.flag cursor.old) result cursor.new }
+fn flag(cursor: &mut Cursor<'_>) -> Result<Spot, ParseStop>
+    ensures { ReadsTokens (spec.flag cursor.old) result cursor.new }
 {
     let spot = name(cursor)?;
     if !is_flag(spot.token.text.bytes()) {
@@ -32,12 +32,12 @@ fn flag(cursor: &mut Cursor<'_>) -> Result<Spot, Stop>
 #[derive(Drop)]
 pub struct PathFlag;
 
-impl Rule for PathFlag {
+impl ItemRule for PathFlag {
     type Item = Spot;
 
     ghost parser = { λ _. spec.flag };
 
-    fn read(&self, _alloc: Global, cursor: &mut Cursor<'_>) -> Result<Spot, Stop> {
+    fn read(&self, _alloc: Global, cursor: &mut Cursor<'_>) -> Result<Spot, ParseStop> {
         flag(cursor)
     }
 }

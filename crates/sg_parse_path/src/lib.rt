@@ -9,6 +9,6 @@ mod tree;
 mod whole;
 
 pub use laws::log_statements_are_of_the_grammar;
-pub use reference::Kind;
+pub use reference::ReferenceKind;
 pub use tree::{RawBranch, RawElement, RawLog, RawRef};
 pub use whole::log_statement;

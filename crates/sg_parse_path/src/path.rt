@@ -1,6 +1,6 @@
 // Paths, by recursive descent.
 ghost use Rattle.std.specs.Prelude.{◌≡◌, IfOk};
-ghost use Rattle.sg_parse_base.specs.Input.{Reads};
+ghost use Rattle.sg_parse_base.specs.Input.{ReadsTokens};
 ghost use Rattle.sg_parse_base.specs.Lists.{body};
 ghost use Rattle.sg_parse_path.specs.Paths as spec;
 
@@ -8,7 +8,7 @@ use crate::flag::PathFlag;
 use crate::reference::{kind_of, referring};
 use crate::tree::{RawBranch, RawElement, RawLog};
 use sg_lex::ConfigKind;
-use sg_parse_base::{Cursor, Spot, Stop, ending, many, sees, sees_word, symbol};
+use sg_parse_base::{Cursor, ParseStop, Spot, ending, many, sees, sees_word, symbol};
 use sg_parse_expr::{RawExpr, expression};
 use sqlite_items::Items;
 use std::alloc::{AllocError, Global};
@@ -27,7 +27,7 @@ pub enum Stage {
 
 /// One of the things that stand in braces.
 #[derive(Drop)]
-pub enum Piece {
+pub enum PathItem {
     Element(RawElement),
     Embedded(RawLog),
     Flags(Items<Spot>),
@@ -35,40 +35,40 @@ pub enum Piece {
 
 /// What stands in braces.
 #[derive(Drop)]
-pub struct Path {
+pub struct RawPath {
     pub elements: Items<RawElement>,
     pub embedded: Items<RawLog>,
     pub flags: Items<Spot>,
 }
 
-fn empty_path(alloc: Global) -> Path
+fn empty_path(alloc: Global) -> RawPath
     ensures { result ≡ spec.empty_path }
 {
-    Path {
+    RawPath {
         elements: Items::new(alloc),
         embedded: Items::new(alloc),
         flags: Items::new(alloc),
     }
 }
 
-fn with_piece(mut path: Path, piece: Piece) -> Result<Path, AllocError>
+fn with_piece(mut path: RawPath, piece: PathItem) -> Result<RawPath, AllocError>
     ensures { IfOk result (λ new. new ≡ spec.with_piece path piece) }
 {
     match piece {
-        Piece::Element(element) => path.elements.push(element)?,
-        Piece::Embedded(embedded) => path.embedded.push(embedded)?,
-        Piece::Flags(flags) => path.flags = flags,
+        PathItem::Element(element) => path.elements.push(element)?,
+        PathItem::Embedded(embedded) => path.embedded.push(embedded)?,
+        PathItem::Flags(flags) => path.flags = flags,
     }
     Ok(path)
 }
 
-fn stage_behind(stage: Stage, piece: &Piece) -> Stage
+fn stage_behind(stage: Stage, piece: &PathItem) -> Stage
     ensures { result ≡ spec.stage_behind stage piece.now }
 {
     match piece {
-        Piece::Element(_) => stage,
-        Piece::Embedded(_) => Stage::Embedded,
-        Piece::Flags(_) => Stage::Nothing,
+        PathItem::Element(_) => stage,
+        PathItem::Embedded(_) => Stage::Embedded,
+        PathItem::Flags(_) => Stage::Nothing,
     }
 }
 
@@ -95,7 +95,7 @@ fn takes_ends(stage: Stage) -> bool
 }
 
 #[tactic(auto, unfolding(crate::specs::Paths::log_of))]
-fn log_of(word: Spot, path: Path) -> RawLog
+fn log_of(word: Spot, path: RawPath) -> RawLog
     ensures { result ≡ spec.log_of word path }
 {
     RawLog {
@@ -107,7 +107,7 @@ fn log_of(word: Spot, path: Path) -> RawLog
 }
 
 #[tactic(auto, unfolding(crate::specs::Paths::branch_of))]
-fn branch_of(test: RawExpr, path: Path) -> RawBranch
+fn branch_of(test: RawExpr, path: RawPath) -> RawBranch
     ensures { result ≡ spec.branch_of test path }
 {
     RawBranch {
@@ -119,8 +119,13 @@ fn branch_of(test: RawExpr, path: Path) -> RawBranch
 /// A word, and a path in braces.
 #[tactic(auto, unfolding(crate::specs::Paths::worded))]
 #[cycle(path)]
-fn worded(alloc: Global, cursor: &mut Cursor<'_>, depth: usize, word: &[u8]) -> Result<RawLog, Stop>
-    ensures { Reads (spec.worded (spec.block depth) word.now cursor.old) result cursor.new }
+fn worded(
+    alloc: Global,
+    cursor: &mut Cursor<'_>,
+    depth: usize,
+    word: &[u8],
+) -> Result<RawLog, ParseStop>
+    ensures { ReadsTokens (spec.worded (spec.block depth) word.now cursor.old) result cursor.new }
 {
     if !sees_word(cursor, word) {
         return Err(cursor.fault(ConfigKind::Unexpected));
@@ -132,8 +137,12 @@ fn worded(alloc: Global, cursor: &mut Cursor<'_>, depth: usize, word: &[u8]) -> 
 
 /// The channels of a junction, in braces.
 #[cycle(path)]
-fn channels(alloc: Global, cursor: &mut Cursor<'_>, depth: usize) -> Result<Items<RawLog>, Stop>
-    ensures { Reads (body (spec.channel (spec.block depth)) cursor.old) result cursor.new }
+fn channels(
+    alloc: Global,
+    cursor: &mut Cursor<'_>,
+    depth: usize,
+) -> Result<Items<RawLog>, ParseStop>
+    ensures { ReadsTokens (body (spec.channel (spec.block depth)) cursor.old) result cursor.new }
 {
     let mut found = Items::new(alloc);
     symbol(cursor, b'{')?;
@@ -155,8 +164,8 @@ fn channels(alloc: Global, cursor: &mut Cursor<'_>, depth: usize) -> Result<Item
 /// `if` or `elif`, which stands next, its condition and its branch.
 #[tactic(auto, unfolding(crate::specs::Paths::arm))]
 #[cycle(path)]
-fn arm(alloc: Global, cursor: &mut Cursor<'_>, depth: usize) -> Result<RawBranch, Stop>
-    ensures { Reads (spec.arm depth (spec.block depth) cursor.old) result cursor.new }
+fn arm(alloc: Global, cursor: &mut Cursor<'_>, depth: usize) -> Result<RawBranch, ParseStop>
+    ensures { ReadsTokens (spec.arm depth (spec.block depth) cursor.old) result cursor.new }
 {
     let refused = cursor.fault(ConfigKind::Unsupported);
     cursor.skip();
@@ -171,8 +180,8 @@ fn arm(alloc: Global, cursor: &mut Cursor<'_>, depth: usize) -> Result<RawBranch
 }
 
 #[cycle(path)]
-fn arms(alloc: Global, cursor: &mut Cursor<'_>, depth: usize) -> Result<Items<RawBranch>, Stop>
-    ensures { Reads (spec.arms depth (spec.block depth) cursor.old) result cursor.new }
+fn arms(alloc: Global, cursor: &mut Cursor<'_>, depth: usize) -> Result<Items<RawBranch>, ParseStop>
+    ensures { ReadsTokens (spec.arms depth (spec.block depth) cursor.old) result cursor.new }
 {
     let mut found = Items::new(alloc);
     found.push(arm(alloc, cursor, depth)?)?;
@@ -191,8 +200,8 @@ fn other(
     alloc: Global,
     cursor: &mut Cursor<'_>,
     depth: usize,
-) -> Result<Option<Items<RawElement>>, Stop>
-    ensures { Reads (spec.other (spec.block depth) cursor.old) result cursor.new }
+) -> Result<Option<Items<RawElement>>, ParseStop>
+    ensures { ReadsTokens (spec.other (spec.block depth) cursor.old) result cursor.new }
 {
     if !sees_word(cursor, b"else") {
         return Ok(None);
@@ -204,8 +213,12 @@ fn other(
 
 #[tactic(auto, unfolding(crate::specs::Paths::conditional))]
 #[cycle(path)]
-fn conditional(alloc: Global, cursor: &mut Cursor<'_>, depth: usize) -> Result<RawElement, Stop>
-    ensures { Reads (spec.conditional depth (spec.block depth) cursor.old) result cursor.new }
+fn conditional(
+    alloc: Global,
+    cursor: &mut Cursor<'_>,
+    depth: usize,
+) -> Result<RawElement, ParseStop>
+    ensures { ReadsTokens (spec.conditional depth (spec.block depth) cursor.old) result cursor.new }
 {
     let branches = arms(alloc, cursor, depth)?;
     let other = other(alloc, cursor, depth)?;
@@ -214,8 +227,8 @@ fn conditional(alloc: Global, cursor: &mut Cursor<'_>, depth: usize) -> Result<R
 
 #[tactic(auto, unfolding(crate::specs::Paths::junction))]
 #[cycle(path)]
-fn junction(alloc: Global, cursor: &mut Cursor<'_>, depth: usize) -> Result<RawElement, Stop>
-    ensures { Reads (spec.junction (spec.block depth) cursor.old) result cursor.new }
+fn junction(alloc: Global, cursor: &mut Cursor<'_>, depth: usize) -> Result<RawElement, ParseStop>
+    ensures { ReadsTokens (spec.junction (spec.block depth) cursor.old) result cursor.new }
 {
     cursor.skip();
     Ok(RawElement::Junction(channels(alloc, cursor, depth)?))
@@ -223,8 +236,8 @@ fn junction(alloc: Global, cursor: &mut Cursor<'_>, depth: usize) -> Result<RawE
 
 #[tactic(auto, unfolding(crate::specs::Paths::element))]
 #[cycle(path)]
-fn element(alloc: Global, cursor: &mut Cursor<'_>, depth: usize) -> Result<RawElement, Stop>
-    ensures { Reads (spec.element depth (spec.block depth) cursor.old) result cursor.new }
+fn element(alloc: Global, cursor: &mut Cursor<'_>, depth: usize) -> Result<RawElement, ParseStop>
+    ensures { ReadsTokens (spec.element depth (spec.block depth) cursor.old) result cursor.new }
 {
     if let Some(kind) = kind_of(cursor) {
         return referring(alloc, cursor, depth, kind);
@@ -235,26 +248,23 @@ fn element(alloc: Global, cursor: &mut Cursor<'_>, depth: usize) -> Result<RawEl
     if sees_word(cursor, b"if") {
         return conditional(alloc, cursor, depth);
     }
-    if sees_word(cursor, b"parser") {
-        return Err(cursor.fault(ConfigKind::Unsupported));
-    }
     Err(cursor.fault(ConfigKind::Unexpected))
 }
 
 #[tactic(auto, unfolding(crate::specs::Paths::flags))]
-fn flags(alloc: Global, cursor: &mut Cursor<'_>) -> Result<Piece, Stop>
-    ensures { Reads (spec.flags cursor.old) result cursor.new }
+fn flags(alloc: Global, cursor: &mut Cursor<'_>) -> Result<PathItem, ParseStop>
+    ensures { ReadsTokens (spec.flags cursor.old) result cursor.new }
 {
     cursor.skip();
-    Ok(Piece::Flags(many(alloc, cursor, &PathFlag)?))
+    Ok(PathItem::Flags(many(alloc, cursor, &PathFlag)?))
 }
 
 #[tactic(auto, unfolding(crate::specs::Paths::embedded))]
 #[cycle(path)]
-fn embedded(alloc: Global, cursor: &mut Cursor<'_>, depth: usize) -> Result<Piece, Stop>
-    ensures { Reads (spec.embedded (spec.block depth) cursor.old) result cursor.new }
+fn embedded(alloc: Global, cursor: &mut Cursor<'_>, depth: usize) -> Result<PathItem, ParseStop>
+    ensures { ReadsTokens (spec.embedded (spec.block depth) cursor.old) result cursor.new }
 {
-    Ok(Piece::Embedded(worded(alloc, cursor, depth, b"log")?))
+    Ok(PathItem::Embedded(worded(alloc, cursor, depth, b"log")?))
 }
 
 #[tactic(auto, unfolding(crate::specs::Paths::one_piece))]
@@ -264,8 +274,9 @@ fn read_piece(
     cursor: &mut Cursor<'_>,
     depth: usize,
     stage: Stage,
-) -> Result<Piece, Stop>
-    ensures { Reads (spec.one_piece depth (spec.block depth) stage cursor.old) result cursor.new }
+) -> Result<PathItem, ParseStop>
+    ensures { ReadsTokens (spec.one_piece depth (spec.block depth) stage cursor.old) result
+        cursor.new }
 {
     if takes_ends(stage) && sees_word(cursor, b"log") {
         return embedded(alloc, cursor, depth);
@@ -274,15 +285,21 @@ fn read_piece(
         return flags(alloc, cursor);
     }
     if takes_elements(stage) {
-        return Ok(Piece::Element(element(alloc, cursor, depth)?));
+        return Ok(PathItem::Element(element(alloc, cursor, depth)?));
     }
     Err(cursor.fault(ConfigKind::Unexpected))
 }
 
 /// What stands in braces, behind the one that opens them.
 #[cycle(path)]
-fn pieces(alloc: Global, cursor: &mut Cursor<'_>, depth: usize, first: Stage) -> Result<Path, Stop>
-    ensures { Reads (spec.pieces depth (spec.block depth) first cursor.old) result cursor.new }
+fn pieces(
+    alloc: Global,
+    cursor: &mut Cursor<'_>,
+    depth: usize,
+    first: Stage,
+) -> Result<RawPath, ParseStop>
+    ensures { ReadsTokens (spec.pieces depth (spec.block depth) first cursor.old) result
+        cursor.new }
 {
     let mut found = empty_path(alloc);
     let mut stage = first;
@@ -305,16 +322,22 @@ fn pieces(alloc: Global, cursor: &mut Cursor<'_>, depth: usize, first: Stage) ->
 
 #[tactic(auto, unfolding(crate::specs::Paths::braced))]
 #[cycle(path)]
-fn braced(alloc: Global, cursor: &mut Cursor<'_>, depth: usize, stage: Stage) -> Result<Path, Stop>
-    ensures { Reads (spec.braced depth (spec.block depth) stage cursor.old) result cursor.new }
+fn braced(
+    alloc: Global,
+    cursor: &mut Cursor<'_>,
+    depth: usize,
+    stage: Stage,
+) -> Result<RawPath, ParseStop>
+    ensures { ReadsTokens (spec.braced depth (spec.block depth) stage cursor.old) result
+        cursor.new }
 {
     symbol(cursor, b'{')?;
     pieces(alloc, cursor, depth, stage)
 }
 
 #[tactic(auto, unfolding(crate::specs::Paths::too_deep))]
-fn too_deep(cursor: &Cursor<'_>) -> Stop
-    ensures { result ≡ Stop.Bad (spec.too_deep cursor.now) }
+fn too_deep(cursor: &Cursor<'_>) -> ParseStop
+    ensures { result ≡ ParseStop.Bad (spec.too_deep cursor.now) }
 {
     if sees(cursor, b'{') {
         return cursor.fault(ConfigKind::DepthOver64);
@@ -325,8 +348,13 @@ fn too_deep(cursor: &Cursor<'_>) -> Stop
 /// The same, in which braces and groups may be nested less deep than so: one that is deeper is
 /// `DepthOver64`.
 #[cycle(path)]
-fn block(alloc: Global, cursor: &mut Cursor<'_>, depth: usize, stage: Stage) -> Result<Path, Stop>
-    ensures { Reads (spec.block depth stage cursor.old) result cursor.new }
+fn block(
+    alloc: Global,
+    cursor: &mut Cursor<'_>,
+    depth: usize,
+    stage: Stage,
+) -> Result<RawPath, ParseStop>
+    ensures { ReadsTokens (spec.block depth stage cursor.old) result cursor.new }
 {
     if depth == 0 {
         return Err(too_deep(cursor));
@@ -336,8 +364,8 @@ fn block(alloc: Global, cursor: &mut Cursor<'_>, depth: usize, stage: Stage) -> 
 
 /// A log statement in which braces and groups may be nested so deep.
 #[tactic(auto, unfolding(crate::specs::Paths::log_in))]
-pub fn log(alloc: Global, cursor: &mut Cursor<'_>, depth: usize) -> Result<RawLog, Stop>
-    ensures { Reads (spec.log_in depth cursor.old) result cursor.new }
+pub fn log(alloc: Global, cursor: &mut Cursor<'_>, depth: usize) -> Result<RawLog, ParseStop>
+    ensures { ReadsTokens (spec.log_in depth cursor.old) result cursor.new }
 {
     worded(alloc, cursor, depth, b"log")
 }

@@ -1,21 +1,22 @@
 // What an element refers to.
 ghost use Rattle.std.specs.Prelude.{◌≡◌, IfOk};
-ghost use Rattle.sg_parse_base.specs.Input.{Reads, any, behind};
+ghost use Rattle.sg_parse_base.specs.Input.{ReadsTokens, any, behind};
 ghost use Rattle.sg_parse_path.specs.References as spec;
 
 use crate::tree::{RawElement, RawRef};
 use sg_lex::{ConfigKind, Token};
-use sg_parse_base::{Cursor, Spot, Stop, name, sees, sees_word, symbol};
-use sg_parse_obj::{Object, Side, drivers, filter_body, rewrites};
+use sg_parse_base::{Cursor, ParseStop, Spot, name, sees, sees_word, symbol};
+use sg_parse_obj::{Object, Side, drivers, filter_body, parser_calls, rewrites};
 use std::alloc::{AllocError, Global};
 
 /// What an element refers to by a name.
 #[derive(Clone, Copy, Drop)]
-pub enum Kind {
+pub enum ReferenceKind {
     Source,
     Destination,
     Filter,
     Rewrite,
+    Parser,
 }
 
 fn copied(token: &Token) -> Result<Token, AllocError>
@@ -32,8 +33,8 @@ fn copied(token: &Token) -> Result<Token, AllocError>
 
 /// The next token, which isn't passed over.
 #[tactic(auto, using(crate::proofs::Fronts::front_is, crate::proofs::Fronts::no_front, crate::proofs::Fronts::no_line))]
-fn front(cursor: &Cursor<'_>) -> Result<Spot, Stop>
-    ensures { Reads (any cursor.now) result (behind cursor.now) }
+fn front(cursor: &Cursor<'_>) -> Result<Spot, ParseStop>
+    ensures { ReadsTokens (any cursor.now) result (behind cursor.now) }
 {
     let Some(token) = cursor.peek() else {
         return Err(cursor.fault(ConfigKind::Unexpected));
@@ -52,34 +53,43 @@ fn body_of(
     alloc: Global,
     cursor: &mut Cursor<'_>,
     depth: usize,
-    kind: Kind,
+    kind: ReferenceKind,
     name: Spot,
-) -> Result<Object, Stop>
-    ensures { Reads (spec.body_of depth kind name cursor.old) result cursor.new }
+) -> Result<Object, ParseStop>
+    ensures { ReadsTokens (spec.body_of depth kind name cursor.old) result cursor.new }
 {
     match kind {
-        Kind::Source => {
+        ReferenceKind::Source => {
             let drivers = drivers(alloc, cursor, Side::Source)?;
             Ok(Object::Source { name, drivers })
         }
-        Kind::Destination => {
+        ReferenceKind::Destination => {
             let drivers = drivers(alloc, cursor, Side::Destination)?;
             Ok(Object::Destination { name, drivers })
         }
-        Kind::Filter => {
+        ReferenceKind::Filter => {
             let expr = filter_body(alloc, cursor, depth)?;
             Ok(Object::Filter { name, expr })
         }
-        Kind::Rewrite => {
+        ReferenceKind::Rewrite => {
             let calls = rewrites(alloc, cursor, depth)?;
             Ok(Object::Rewrite { name, calls })
+        }
+        ReferenceKind::Parser => {
+            let calls = parser_calls(alloc, cursor)?;
+            Ok(Object::Parser { name, calls })
         }
     }
 }
 
 #[tactic(auto, unfolding(crate::specs::References::inline))]
-fn inline(alloc: Global, cursor: &mut Cursor<'_>, depth: usize, kind: Kind) -> Result<RawRef, Stop>
-    ensures { Reads (spec.inline depth kind cursor.old) result cursor.new }
+fn inline(
+    alloc: Global,
+    cursor: &mut Cursor<'_>,
+    depth: usize,
+    kind: ReferenceKind,
+) -> Result<RawRef, ParseStop>
+    ensures { ReadsTokens (spec.inline depth kind cursor.old) result cursor.new }
 {
     let brace = front(cursor)?;
     let object = body_of(alloc, cursor, depth, kind, brace)?;
@@ -87,8 +97,8 @@ fn inline(alloc: Global, cursor: &mut Cursor<'_>, depth: usize, kind: Kind) -> R
 }
 
 #[tactic(auto, unfolding(crate::specs::References::named))]
-fn named(cursor: &mut Cursor<'_>) -> Result<RawRef, Stop>
-    ensures { Reads (spec.named cursor.old) result cursor.new }
+fn named(cursor: &mut Cursor<'_>) -> Result<RawRef, ParseStop>
+    ensures { ReadsTokens (spec.named cursor.old) result cursor.new }
 {
     symbol(cursor, b'(')?;
     let spot = name(cursor)?;
@@ -101,9 +111,9 @@ fn reference(
     alloc: Global,
     cursor: &mut Cursor<'_>,
     depth: usize,
-    kind: Kind,
-) -> Result<RawRef, Stop>
-    ensures { Reads (spec.reference depth kind cursor.old) result cursor.new }
+    kind: ReferenceKind,
+) -> Result<RawRef, ParseStop>
+    ensures { ReadsTokens (spec.reference depth kind cursor.old) result cursor.new }
 {
     if sees(cursor, b'(') {
         return named(cursor);
@@ -115,14 +125,15 @@ fn reference(
 }
 
 #[tactic(auto, unfolding(crate::specs::References::element_of))]
-fn element_of(kind: Kind, word: Spot, found: RawRef) -> RawElement
+fn element_of(kind: ReferenceKind, word: Spot, found: RawRef) -> RawElement
     ensures { result ≡ spec.element_of kind word found }
 {
     match kind {
-        Kind::Source => RawElement::Source(word, found),
-        Kind::Destination => RawElement::Destination(found),
-        Kind::Filter => RawElement::Filter(found),
-        Kind::Rewrite => RawElement::Rewrite(found),
+        ReferenceKind::Source => RawElement::Source(word, found),
+        ReferenceKind::Destination => RawElement::Destination(found),
+        ReferenceKind::Filter => RawElement::Filter(found),
+        ReferenceKind::Rewrite => RawElement::Rewrite(found),
+        ReferenceKind::Parser => RawElement::Parser(found),
     }
 }
 
@@ -132,9 +143,9 @@ pub fn referring(
     alloc: Global,
     cursor: &mut Cursor<'_>,
     depth: usize,
-    kind: Kind,
-) -> Result<RawElement, Stop>
-    ensures { Reads (spec.referring depth kind cursor.old) result cursor.new }
+    kind: ReferenceKind,
+) -> Result<RawElement, ParseStop>
+    ensures { ReadsTokens (spec.referring depth kind cursor.old) result cursor.new }
 {
     let word = cursor.take()?;
     let found = reference(alloc, cursor, depth, kind)?;
@@ -143,17 +154,19 @@ pub fn referring(
 
 /// The kind whose word stands next.
 #[tactic(auto, unfolding(crate::specs::References::kind_of))]
-pub fn kind_of(cursor: &Cursor<'_>) -> Option<Kind>
+pub fn kind_of(cursor: &Cursor<'_>) -> Option<ReferenceKind>
     ensures { result ≡ spec.kind_of cursor.now }
 {
     if sees_word(cursor, b"source") {
-        Some(Kind::Source)
+        Some(ReferenceKind::Source)
     } else if sees_word(cursor, b"destination") {
-        Some(Kind::Destination)
+        Some(ReferenceKind::Destination)
     } else if sees_word(cursor, b"filter") {
-        Some(Kind::Filter)
+        Some(ReferenceKind::Filter)
     } else if sees_word(cursor, b"rewrite") {
-        Some(Kind::Rewrite)
+        Some(ReferenceKind::Rewrite)
+    } else if sees_word(cursor, b"parser") {
+        Some(ReferenceKind::Parser)
     } else {
         None
     }

@@ -32,6 +32,7 @@ pub enum RawElement {
     Destination(RawRef),
     Filter(RawRef),
     Rewrite(RawRef),
+    Parser(RawRef),
     Junction(Items<RawLog>),
     /// The branches of `if` and of each `elif`, and that of `else`.
     If {

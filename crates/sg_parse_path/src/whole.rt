@@ -11,12 +11,12 @@ ghost use Rattle.sg_parse_path.specs.Grammar.{IsLog};
 use crate::path::log;
 use crate::tree::RawLog;
 use sg_lex::{ConfigFault, Token};
-use sg_parse_base::{Cursor, Fault, Stop};
+use sg_parse_base::{Cursor, ParseFault, ParseStop};
 use sg_parse_obj::{DEPTH_LIMIT, ParseRefusal};
 use std::alloc::Global;
 
 /// The fault in a list that ends with this token: on its line where the list ends too early.
-fn fault_of(fault: Fault, last: &Token) -> ConfigFault
+fn fault_of(fault: ParseFault, last: &Token) -> ConfigFault
     ensures { result ≡ fault_of fault last.now }
 {
     match fault.at {
@@ -44,10 +44,9 @@ fn token_at(tokens: &[Token], at: usize) -> &Token
 /// no log statement goes on, with what is wrong there (syslog-ng's administration guide, "Log paths").
 ///
 /// Elements stand first, then embedded log statements, then flags. The kinds are those of
-/// `sg_parse_obj::statement`; further `Unsupported` at `parser` in the place of an element, at an `if` or
-/// `elif` with a brace behind it and at a flag that isn't known, and `DepthOver64` at the brace or the
-/// parenthesis that opens the 65th level: each statement, channel and branch is one, and each group of an
-/// expression.
+/// `sg_parse_obj::statement`; further `Unsupported` at an `if` or `elif` with a brace behind it and at a
+/// flag that isn't known, and `DepthOver64` at the brace or the parenthesis that opens the 65th level: each
+/// statement, channel and branch is one, and each group of an expression.
 pub fn log_statement(
     alloc: Global,
     tokens: &[Token],
@@ -67,10 +66,10 @@ pub fn log_statement(
     let mut cursor = Cursor::new(tokens, at);
     match log(alloc, &mut cursor, DEPTH_LIMIT) {
         Ok(found) => Ok((found, tokens.len() - cursor.left())),
-        Err(Stop::Bad(fault)) => Err(ParseRefusal::Bad(fault_of(
+        Err(ParseStop::Bad(fault)) => Err(ParseRefusal::Bad(fault_of(
             fault,
             token_at(tokens, tokens.len() - 1),
         ))),
-        Err(Stop::NoMemory) => Err(ParseRefusal::NoMemory),
+        Err(ParseStop::NoMemory) => Err(ParseRefusal::NoMemory),
     }
 }

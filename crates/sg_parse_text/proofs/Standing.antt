@@ -7,9 +7,9 @@ use Rattle.sg_lex.specs.declared.fault.ConfigFault.{ConfigFault}
 use Rattle.sg_lex.specs.declared.fault.ConfigKind.TheVariants.{Unexpected}
 use Rattle.sg_parse_base.specs.declared.spot.Spot.{Spot}
 use Rattle.sg_parse_base.specs.Tokens.{is_symbol, is_keyword}
-use Rattle.sg_parse_base.specs.Input.{Outcome, ◌>>=◌, sees, sees_word, symbol, behind, fault_at}
+use Rattle.sg_parse_base.specs.Input.{ParseOutcome, ◌>>=◌, sees, sees_word, symbol, behind, fault_at}
 use Rattle.sg_parse_base.proofs.Spots.{spots-at, spots-past}
-use Rattle.sg_parse_base.specs.declared.fault.Fault.{Fault}
+use Rattle.sg_parse_base.specs.declared.fault.ParseFault.{ParseFault}
 use Rattle.sg_parse_obj.specs.declared.object.Object.{Object}
 use Rattle.sg_parse_obj.specs.declared.whole.ParseRefusal.{ParseRefusal}
 use Rattle.sg_parse_obj.specs.declared.whole.ParseRefusal.TheVariants.{Bad, NoMemory}
@@ -79,7 +79,7 @@ pub log-read : (tokens : List Token) (at next : ℕ) (log : RawLog) → sees_wor
 unfolding statement_at
 log-read tokens at next log word read = rw (word, read) refl
 
-pub log-refused : (tokens : List Token) (at : ℕ) (fault : Fault) → sees_word (codes "log") (spots_at tokens at) ≡ true → log_in 64 (spots_at tokens at) ≡ Err fault → statement_at (spots_at tokens at) ≡ Err fault
+pub log-refused : (tokens : List Token) (at : ℕ) (fault : ParseFault) → sees_word (codes "log") (spots_at tokens at) ≡ true → log_in 64 (spots_at tokens at) ≡ Err fault → statement_at (spots_at tokens at) ≡ Err fault
 unfolding statement_at
 log-refused tokens at fault word read = rw (word, read) refl
 
@@ -87,7 +87,7 @@ pub object-read : (tokens : List Token) (at next : ℕ) (object : Object) → se
 unfolding statement_at
 object-read tokens at next object word read = rw (word, read) refl
 
-pub object-refused : (tokens : List Token) (at : ℕ) (fault : Fault) → sees_word (codes "log") (spots_at tokens at) ≡ false → object_at (spots_at tokens at) ≡ Err fault → statement_at (spots_at tokens at) ≡ Err fault
+pub object-refused : (tokens : List Token) (at : ℕ) (fault : ParseFault) → sees_word (codes "log") (spots_at tokens at) ≡ false → object_at (spots_at tokens at) ≡ Err fault → statement_at (spots_at tokens at) ≡ Err fault
 unfolding statement_at
 object-refused tokens at fault word read = rw (word, read) refl
 
@@ -100,9 +100,9 @@ refuses-object tokens at (Bad fault) word h = (h.0, h.1, object-refused tokens a
 refuses-object tokens at NoMemory word h = tt
 
 -- a refusal of the first of two steps
-pub refuses-first : {A B : Type 0} (tokens : List Token) (outcome : Outcome A) (f : A × List Spot → Outcome B) (refusal : ParseRefusal) → Refuses tokens outcome refusal → Refuses tokens (outcome >>= f) refusal
+pub refuses-first : {A B : Type 0} (tokens : List Token) (outcome : ParseOutcome A) (f : A × List Spot → ParseOutcome B) (refusal : ParseRefusal) → Refuses tokens outcome refusal → Refuses tokens (outcome >>= f) refusal
 refuses-first tokens outcome f (Bad fault) h = (h.0, h.1, ap (λ o. o >>= f) h.2, h.3, h.4)
 refuses-first tokens outcome f NoMemory h = tt
 
-pub refuses-same : {A : Type 0} (tokens : List Token) (a b : Outcome A) (refusal : ParseRefusal) → a ≡ b → Refuses tokens b refusal → Refuses tokens a refusal
+pub refuses-same : {A : Type 0} (tokens : List Token) (a b : ParseOutcome A) (refusal : ParseRefusal) → a ≡ b → Refuses tokens b refusal → Refuses tokens a refusal
 refuses-same tokens a b refusal same h = subst (λ o. Refuses tokens o refusal) (sym same) h

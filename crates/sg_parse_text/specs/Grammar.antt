@@ -13,8 +13,9 @@ IsStatement s (statement.Object object) r = IsObject depth_limit s object r
 IsStatement s (statement.Log log) r = IsLog depth_limit s log r
 
 -- config = { statement ";" }, with further semicolons anywhere
-pub data IsText : List Spot → List Statement → Type 0 where
-  none : IsText [] []
-  extra : (s m : List Spot) (xs : List Statement) → Symbol 59 s m → IsText m xs → IsText s xs
+pub data IsConfigText : List Spot → List Statement → Type 0 where
+  none : IsConfigText [] []
+  extra : (s m : List Spot) (xs : List Statement) → Symbol 59 s m → IsConfigText m xs
+      → IsConfigText s xs
   more : (s m n : List Spot) (x : Statement) (xs : List Statement) → IsStatement s x m
-      → Symbol 59 m n → IsText n xs → IsText s (x ∷ xs)
+      → Symbol 59 m n → IsConfigText n xs → IsConfigText s (x ∷ xs)

@@ -2,7 +2,7 @@
 use Rattle.std.specs.Prelude.{ℕ, zero, suc, Bool, true, false, if◌then◌else◌, List, [], ◌∷◌, ◌++◌, length, codes, Ok, Err}
 use Rattle.sg_lex.specs.declared.fault.ConfigKind.TheVariants.{Unexpected}
 use Rattle.sg_parse_base.specs.declared.spot.Spot.{Spot}
-use Rattle.sg_parse_base.specs.Input.{Outcome, Parser, ◌>>=◌, behind, sees, sees_word, symbol, fault_at}
+use Rattle.sg_parse_base.specs.Input.{ParseOutcome, Parser, ◌>>=◌, behind, sees, sees_word, symbol, fault_at}
 use Rattle.sg_parse_obj.specs.Objects.{depth_limit, object_at}
 use Rattle.sg_parse_path.specs.References.{mapped}
 use Rattle.sg_parse_path.specs.Paths.{log_in}

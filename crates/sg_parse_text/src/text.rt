@@ -5,7 +5,7 @@ ghost use Rattle.sg_parse_base.specs.Input.{symbol};
 ghost use Rattle.sg_parse_text.specs.declared.statement.Statement.{Statement as Parsed};
 ghost use Rattle.sg_parse_text.specs.Texts.{statement_at, ended_at, text_at};
 ghost use Rattle.sg_parse_text.specs.Answers.{Answers, AnswersPlace, AnswersAll, IsRefused};
-ghost use Rattle.sg_parse_text.specs.Grammar.{IsText};
+ghost use Rattle.sg_parse_text.specs.Grammar.{IsConfigText};
 
 use crate::place::{is_end, sees_keyword, sees_symbol, unexpected};
 use crate::statement::Statement;
@@ -78,9 +78,10 @@ fn read_ended(
 pub fn statements(alloc: Global, tokens: &[Token]) -> Result<Items<Statement>, ParseRefusal>
     requires { length tokens.now < 2 ^ 32 }
     // What is read is of the grammar.
-    ensures found { IfOk result (λ found. IsText (spots_at tokens.now 0) found) }
+    ensures found { IfOk result (λ found. IsConfigText (spots_at tokens.now 0) found) }
     // Where a fault is answered the tokens are no configuration.
-    ensures none { IsRefused result → (found : List Parsed) → IsText (spots_at tokens.now 0) found
+    ensures none { IsRefused result → (found : List Parsed)
+        → IsConfigText (spots_at tokens.now 0) found
         → ⊥ }
     // The statements or the first fault.
     ensures exact { AnswersAll tokens.now (text_at (spots_at tokens.now 0)) result }

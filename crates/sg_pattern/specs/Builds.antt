@@ -6,7 +6,7 @@ use Rattle.sg_outside.specs.World.{WorldState, OnlyBuilds}
 use Rattle.regex.specs.Patterns.{Re, SameCaptures}
 use Rattle.regex.specs.Bytes.{regex_pattern}
 use Rattle.regex.specs.declared.bytes.regex.Regex as kit
-use Rattle.sg_pattern.specs.Pattern.{Pattern, regex_of, pattern_of, IsValid, IsNoPattern}
+use Rattle.sg_pattern.specs.Pattern.{Pattern, regex_of, pattern_of, IsValidPattern, IsNoPattern}
 use Rattle.sg_pattern.specs.declared.pattern.Kind.{Kind}
 use Rattle.sg_pattern.specs.declared.pattern.Kind.TheVariants.{Regex, Text, Glob}
 use Rattle.sg_pattern.specs.declared.fault.BuildFault.{BuildFault}
@@ -60,31 +60,31 @@ abbrev pub RefusesNone : WorldState → WorldState → Type 0
 RefusesNone old new = new.build_faults ≡ old.build_faults
 
 -- the calls of a builder: the builder before, the text, whether case doesn't count, the answer, and the builder behind
-abbrev pub Calls : Type 0 → Type 1
-Calls S = S → List ℕ → Bool → Result kit.Regex BuildFault → S → Type 0
+abbrev pub BuilderCalls : Type 0 → Type 1
+BuilderCalls S = S → List ℕ → Bool → Result kit.Regex BuildFault → S → Type 0
 
 -- as the machine shows them
-abbrev pub machine_calls : Calls WorldState
+abbrev pub machine_calls : BuilderCalls WorldState
 machine_calls = λ old text ignore_case result new. Builds old new text ignore_case result
 
 -- a builder's own, with what the machine shows of them
-abbrev pub calls_by : {S : Type 0} → (S → WorldState) → Calls S → Calls S
+abbrev pub calls_by : {S : Type 0} → (S → WorldState) → BuilderCalls S → BuilderCalls S
 calls_by state step = λ old text ignore_case result new.
     step old text ignore_case result new × Builds (state old) (state new) text ignore_case result
 
 -- A regular expression is made by one call of a builder, any other pattern without one.
-abbrev pub makes_kind : {S : Type 0} → Calls S → Kind → S → List ℕ → Bool → S → Type 0
+abbrev pub makes_kind : {S : Type 0} → BuilderCalls S → Kind → S → List ℕ → Bool → S → Type 0
 makes_kind step Regex old text ignore_case new = (regex : kit.Regex)
     × step old text ignore_case (Ok regex) new
 makes_kind step Text old text ignore_case new = new ≡ old
 makes_kind step Glob old text ignore_case new = new ≡ old
 
 -- the pattern was made
-abbrev pub MakesOne : {S : Type 0} → Calls S → S → PatternText → S → Type 0
+abbrev pub MakesOne : {S : Type 0} → BuilderCalls S → S → PatternText → S → Type 0
 MakesOne step old p new = makes_kind step p.kind old p.text p.flags.ignore_case new
 
 -- its builder refused it for its size
-abbrev pub RefusesLarge : {S : Type 0} → Calls S → S → PatternText → S → Type 0
+abbrev pub RefusesLarge : {S : Type 0} → BuilderCalls S → S → PatternText → S → Type 0
 RefusesLarge step old p new = (p.kind ≡ Regex)
     × step old p.text p.flags.ignore_case (Err TooLarge) new
 
@@ -101,18 +101,18 @@ WasMade p = p.kind ≡ Regex → IsBuilt p
 abbrev pub RefusesPattern : WorldState → WorldState → Pattern → PatternRefusal → Type 0
 RefusesPattern old new p refusal.Syntax = IsNoPattern p
 RefusesPattern old new p refusal.TooLarge = (p.kind ≡ Regex)
-    × Rose old.build_faults new.build_faults × IsValid p
+    × Rose old.build_faults new.build_faults × IsValidPattern p
 RefusesPattern old new p refusal.NoMemory = Unit {0}
 
 -- why nothing was made of a pattern that a configuration writes
 abbrev pub RefusesText : WorldState → WorldState → PatternText → BuildRefusal → Type 0
 RefusesText old new p (build.BadPattern line) = (line ≡ p.line) × IsNoPattern (pattern_of p)
 RefusesText old new p (build.TooLarge line) = (line ≡ p.line) × (p.kind ≡ Regex)
-    × Rose old.build_faults new.build_faults × IsValid (pattern_of p)
+    × Rose old.build_faults new.build_faults × IsValidPattern (pattern_of p)
 RefusesText old new p build.NoMemory = Unit {0}
 
 -- what making a pattern comes to, by the calls of its builder
-abbrev pub TriesText : {S : Type 0} → Calls S → S → S → PatternText → Result Unit BuildRefusal
+abbrev pub TriesText : {S : Type 0} → BuilderCalls S → S → S → PatternText → Result Unit BuildRefusal
     → Type 0
 TriesText step old new p (Ok done) = MakesOne step old p new
 TriesText step old new p (Err (build.BadPattern line)) = (line ≡ p.line)

@@ -2,6 +2,7 @@
 use Rattle.std.specs.Prelude.{◌≡◌, ℕ, ◌+◌, ◌*◌, Bool, true, false, not, ◌&&◌, if◌then◌else◌, List, [], ◌∷◌, ◌++◌, Option, Some, None, IsSome}
 use Rattle.std.specs.List.{sum_by}
 use Rattle.std.specs.Str.{bytes_eq}
+use Rattle.regex.specs.Patterns.{Re}
 use Rattle.sg_pattern.specs.Pattern.{regex_of}
 use Rattle.sg_pattern.specs.declared.fault.BuildFault.{BuildFault}
 use Rattle.sg_pattern.specs.declared.fault.BuildFault.TheVariants.{Syntax, TooLarge, NoMemory}
@@ -36,7 +37,7 @@ most_bytes = 268435456
 
 -- what is counted for an expression whose tables were allowed so many bytes
 abbrev pub counted : ℕ → ℕ
-counted limit = 32768 + 6 * limit
+counted limit = 32768 + 14 * limit
 
 -- one more was made, of this text
 pub record HasOneMore (text : List ℕ) (ignore_case : Bool) (old new : List Made) : Type 0 where
@@ -44,7 +45,10 @@ pub record HasOneMore (text : List ℕ) (ignore_case : Bool) (old new : List Mad
   pub is : new ≡ old ++ record { text = text; ignore_case = ignore_case; bytes = bytes } ∷ []
 
 -- why no expression was made of a text: what is too large is one
+abbrev pub IsNoneOf : Option Re → BuildFault → Type 0
+IsNoneOf read Syntax = read ≡ None
+IsNoneOf read TooLarge = IsSome read
+IsNoneOf read NoMemory = Unit {0}
+
 abbrev pub IsNotMade : Bool → List ℕ → BuildFault → Type 0
-IsNotMade ignore_case text Syntax = regex_of ignore_case text ≡ None
-IsNotMade ignore_case text TooLarge = IsSome (regex_of ignore_case text)
-IsNotMade ignore_case text NoMemory = Unit {0}
+IsNotMade ignore_case text = IsNoneOf (regex_of ignore_case text)

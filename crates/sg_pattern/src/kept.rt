@@ -82,7 +82,7 @@ impl Kept {
     }
 }
 
-/// The first that was made of this text. Each is looked at: no more than 5,577 are kept, since 48,128 bytes or more are
+/// The first that was made of this text. Each is looked at: no more than 3,912 are kept, since 68,608 bytes or more are
 /// counted for each.
 pub(crate) fn find<'k>(kept: &'k [Kept], text: &str, ignore_case: bool) -> Option<&'k Kept>
     ensures { option_map (λ one. one.now) result ≡ made_of text.now ignore_case kept.now }

@@ -3,17 +3,17 @@ use Rattle.std.proofs.Common.{◌≡◌, ℕ, zero, suc, true, List, [], ◌∷�
 use Rattle.std.specs.Prelude.{nat_lt}
 use Rattle.std.proofs.lemmas.Bool.{and_parts, ltb-true}
 use Rattle.sg_tree.specs.Walk.{Steps}
-use Rattle.sg_tree.specs.Laws.{AreDests, StaysWithin, AllStayWithin, EachStaysWithin, TopsStayWithin}
+use Rattle.sg_tree.specs.Laws.{AreDestNumbers, StaysWithin, AllStayWithin, EachStaysWithin, TopsStayWithin}
 use Rattle.sg_table.specs.declared.pipe.Branch.{Branch}
 use Rattle.sg_table.specs.declared.pipe.Pipe.{Pipe}
 use Rattle.sg_table.specs.declared.pipe.Pipe.TheVariants as pipe
 use Rattle.sg_table.specs.declared.pipe.Test.{Test}
 use Rattle.sg_table.specs.declared.pipe.Top.{Top}
 use Rattle.sg_table.specs.Forest.{statement_at}
-use Rattle.sg_table.specs.Table.{Places, siblings_of, branches_at, choice_of, tests_at, other_at, steps_of, place, read, steps_at}
+use Rattle.sg_table.specs.Table.{StepsByPlace, siblings_of, branches_at, choice_of, tests_at, other_at, steps_of, place, read, steps_at}
 use Rattle.sg_pipes.specs.Named.{are_there, names_there, pipes_name_there}
 
-dests-there : (n : ℕ) (drivers : List ℕ) → are_there n drivers ≡ true → AreDests n drivers
+dests-there : (n : ℕ) (drivers : List ℕ) → are_there n drivers ≡ true → AreDestNumbers n drivers
 dests-there n [] e = tt
 dests-there n (d ∷ ds) e =
     let parts = and_parts (nat_lt d n) (are_there n ds) e in
@@ -32,7 +32,7 @@ place-stays n [] h i = tt
 place-stays n (s ∷ ss) h zero = h.0
 place-stays n (s ∷ ss) h (suc i) = place-stays n ss h.1 i
 
-module _ (n : ℕ) (at : Places) (stay : (i : ℕ) → StaysWithin n (at i)) where
+module _ (n : ℕ) (at : StepsByPlace) (stay : (i : ℕ) → StaysWithin n (at i)) where
   branches-stay : (branches : List Branch) → AllStayWithin n (siblings_of (branches_at at branches))
   branches-stay [] = tt
   branches-stay (b ∷ bs) = (stay b.start, branches-stay bs)
@@ -49,6 +49,7 @@ module _ (n : ℕ) (at : Places) (stay : (i : ℕ) → StaysWithin n (at i)) whe
   steps-stay pipe.End e = tt
   steps-stay (pipe.Filter decision next) e = stay next
   steps-stay (pipe.Rewrite condition change next) e = stay next
+  steps-stay (pipe.Parse rule next) e = stay next
   steps-stay (pipe.Deliver drivers next) e = (dests-there n drivers.items e, stay next)
   steps-stay (pipe.Junction channels next) e = (branches-stay channels.items, stay next)
   steps-stay (pipe.If tests other next) e = (tests-stay tests.items other, stay next)

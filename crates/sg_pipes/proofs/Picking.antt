@@ -3,19 +3,19 @@ use Rattle.std.proofs.Common.{◌≡◌, ℕ, ◌+◌, ◌-◌, ◌<◌, Bool, t
 use mathlib.Core.Bool.{beq}
 use Rattle.std.specs.Prelude.{◌||◌, slice_get}
 use Rattle.sg_list.proofs.ListLemmas.{slice_get-below}
-use Rattle.sg_tree.specs.Walk.{Walked, walk, stopped, after_deliveries}
+use Rattle.sg_tree.specs.Walk.{WalkResult, walk, stopped, after_deliveries}
 use Rattle.sg_table.specs.declared.pipe.Branch.{Branch}
 use Rattle.sg_table.specs.declared.pipe.Pipe.{Pipe}
 use Rattle.sg_table.specs.Table.{steps_at}
-use Rattle.sg_pipes.specs.declared.frame.Group.{Group}
-use Rattle.sg_pipes.specs.declared.frame.Trial.{Trial}
-use Rattle.sg_pipes.specs.declared.frame.Frame.TheVariants.{Try, Tried}
+use Rattle.sg_pipes.specs.declared.frame.SiblingList.{SiblingList}
+use Rattle.sg_pipes.specs.declared.frame.SiblingTrial.{SiblingTrial}
+use Rattle.sg_pipes.specs.declared.frame.WalkFrame.TheVariants.{Try, Tried}
 use Rattle.sg_pipes.specs.Frames.{group_of, does}
 use Rattle.sg_pipes.specs.Turns.{Picks}
 use Rattle.sg_pipes.proofs.Trying.{passes, leaves-none, takes}
 
 -- one sibling fewer is left
-pub fewer-left : (pipes pipes' : List Pipe) (offered : List Branch) (group : Group) (index : ℕ) (b : Branch) → slice_get (group_of offered pipes group) index ≡ Some b → pipes' ≡ pipes
+pub fewer-left : (pipes pipes' : List Pipe) (offered : List Branch) (group : SiblingList) (index : ℕ) (b : Branch) → slice_get (group_of offered pipes group) index ≡ Some b → pipes' ≡ pipes
     → length (group_of offered pipes' group) - (index + 1) < length (group_of offered pipes group) - index
 fewer-left pipes pipes' offered group index b some same =
     let below = slice_get-below (group_of offered pipes group) index b some in
@@ -23,20 +23,20 @@ fewer-left pipes pipes' offered group index b some same =
     omega (arith, below, long)
 
 -- the siblings before this one leave nothing
-pub record IsAhead (pipes : List Pipe) (offered : List Branch) (first trial : Trial) : Type 0 where
+pub record IsAhead (pipes : List Pipe) (offered : List Branch) (first trial : SiblingTrial) : Type 0 where
   pub same : trial ≡ record first { index = trial.index }
-  pub ahead : (before : Walked) → does pipes offered (Try trial) before ≡ does pipes offered (Try first) before
+  pub ahead : (before : WalkResult) → does pipes offered (Try trial) before ≡ does pipes offered (Try first) before
 
-module _ (pipes : List Pipe) (offered : List Branch) (first trial : Trial) (is : IsAhead pipes offered first trial) where
+module _ (pipes : List Pipe) (offered : List Branch) (first trial : SiblingTrial) (is : IsAhead pipes offered first trial) where
   pub none-picked : slice_get (group_of offered pipes trial.group) trial.index ≡ None → Picks pipes offered first trial None
-  none-picked none = (is.same, ap (λ (t : Trial). slice_get (group_of offered pipes t.group) trial.index) (sym is.same) ∙ none, is.ahead)
+  none-picked none = (is.same, ap (λ (t : SiblingTrial). slice_get (group_of offered pipes t.group) trial.index) (sym is.same) ∙ none, is.ahead)
 
   module _ (b : Branch) (some : slice_get (group_of offered pipes trial.group) trial.index ≡ Some b) where
-    abbrev behind : Trial
+    abbrev behind : SiblingTrial
     behind = record trial { index = trial.index + 1 }
 
     same-behind : behind ≡ record first { index = trial.index + 1 }
-    same-behind = ap (λ (t : Trial). record t { index = trial.index + 1 }) is.same
+    same-behind = ap (λ (t : SiblingTrial). record t { index = trial.index + 1 }) is.same
 
     -- a sibling of the other round
     pub over-other : beq b.fallback trial.late ≡ false → IsAhead pipes offered first behind
@@ -57,8 +57,8 @@ module _ (pipes : List Pipe) (offered : List Branch) (first trial : Trial) (is :
     picked next h enters = (
       same-behind,
       (λ before.
-          ap (λ (t : Trial). does pipes offered (Tried behind b.is_final b.drop_unmatched) (after_deliveries before.deliveries (walk (steps_at pipes next) t.message (t.flow || b.flow)))) (sym is.same)
-          ∙ ap (λ (w : Walked). does pipes offered (Tried behind b.is_final b.drop_unmatched) (after_deliveries before.deliveries w)) (enters (trial.flow || b.flow))
+          ap (λ (t : SiblingTrial). does pipes offered (Tried behind b.is_final b.drop_unmatched) (after_deliveries before.deliveries (walk (steps_at pipes next) t.message (t.flow || b.flow)))) (sym is.same)
+          ∙ ap (λ (w : WalkResult). does pipes offered (Tried behind b.is_final b.drop_unmatched) (after_deliveries before.deliveries w)) (enters (trial.flow || b.flow))
           ∙ takes pipes offered trial before.deliveries b (trial.index + 1) some refl h
           ∙ is.ahead before),
     )

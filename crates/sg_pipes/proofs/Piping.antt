@@ -9,13 +9,15 @@ use Rattle.sg_filter.specs.Decisions.{Decision}
 use Rattle.sg_rewrite.specs.declared.change.Change.{Change}
 use Rattle.sg_msg.specs.declared.offer.Offer.{Offer}
 use Rattle.sg_filter.specs.Decisions.{decides}
+use Rattle.sg_parsers.specs.declared.rule.ParserRule.{ParserRule}
+use Rattle.sg_parsers.specs.Parsed.{rule_takes, rule_parsed}
 use Rattle.sg_tree.specs.Rules.{rewritten_by}
-use Rattle.sg_tree.specs.Walk.{Steps, Walked, none_left, deliver, walk, chosen, stopped, after_deliveries, deliveries_to}
+use Rattle.sg_tree.specs.Walk.{Steps, WalkResult, none_left, deliver, walk, chosen, stopped, after_deliveries, deliveries_to}
 use Rattle.sg_tree.proofs.Going.{walked}
 use Rattle.sg_table.specs.declared.pipe.Test.{Test}
 use Rattle.sg_table.specs.declared.pipe.Pipe.{Pipe}
 use Rattle.sg_table.specs.declared.pipe.Pipe.TheVariants as pipe
-use Rattle.sg_table.specs.Table.{Places, choice_of, tests_at, other_at, steps_of, read, steps_at, IsTable}
+use Rattle.sg_table.specs.Table.{StepsByPlace, choice_of, tests_at, other_at, steps_of, read, steps_at, IsPipeTable}
 use Rattle.sg_table.proofs.Tables.{read-length, steps-read}
 use Rattle.sg_pipes.specs.Pipes.{start_of, is_end, only_driver, last_driver}
 
@@ -23,7 +25,7 @@ pub past : (all : List Pipe) (i : ℕ) (m : Content) (f : Bool) → length all �
 past all i m f h = ap (λ (s : Steps). walk s m f) (sym (get_or_past (read [] all) i none_left (omega (arith, read-length [] all))))
 
 -- an `if` goes where its first test that decides begins
-pub starts : (at : Places) (tests : List Test) (other : Option ℕ) (m : Content) (f : Bool)
+pub starts : (at : StepsByPlace) (tests : List Test) (other : Option ℕ) (m : Content) (f : Bool)
     → walk (other_at at (start_of tests other m)) m f ≡ chosen (choice_of (tests_at at tests) (other_at at other)) m f
 starts at [] other m f = refl
 starts at (t ∷ ts) other m f = go (decides t.filter m) (starts at ts other m f)
@@ -33,7 +35,7 @@ starts at (t ∷ ts) other m f = go (decides t.filter m) (starts at ts other m f
     go true h = refl
     go false h = h
 
-module _ (all : List Pipe) (table : IsTable all) (i : ℕ) (m : Content) (f : Bool) where
+module _ (all : List Pipe) (table : IsPipeTable all) (i : ℕ) (m : Content) (f : Bool) where
   pub here : (one : Pipe) → slice_get all i ≡ Some one → walk (steps_of (steps_at all) one) m f ≡ walk (steps_at all i) m f
   here one e = ap (λ (s : Steps). walk s m f) (sym (steps-read all i one table e))
 
@@ -46,6 +48,15 @@ module _ (all : List Pipe) (table : IsTable all) (i : ℕ) (m : Content) (f : Bo
   pub rewrite-on : (condition : Option Decision) (change : Change) (next : ℕ) (m' : Content) → slice_get all i ≡ Some (pipe.Rewrite condition change next)
       → m' ≡ rewritten_by (record { condition = condition; change = change }) m → walk (steps_at all next) m' f ≡ walk (steps_at all i) m f
   rewrite-on condition change next m' e h = ap (λ (x : Content). walk (steps_at all next) x f) h ∙ here (pipe.Rewrite condition change next) e
+
+  pub parse-on : (rule : ParserRule) (next : ℕ) (m' : Content) → slice_get all i ≡ Some (pipe.Parse rule next) → rule_takes rule m ≡ true → m' ≡ rule_parsed rule m
+      → walk (steps_at all next) m' f ≡ walk (steps_at all i) m f
+  parse-on rule next m' e h is =
+      ap (λ (x : Content). walk (steps_at all next) x f) is
+      ∙ sym (ap (λ (b : Bool). cond b (walk (steps_at all next) (rule_parsed rule m) f) stopped) h) ∙ here (pipe.Parse rule next) e
+
+  pub parse-off : (rule : ParserRule) (next : ℕ) → slice_get all i ≡ Some (pipe.Parse rule next) → rule_takes rule m ≡ false → stopped ≡ walk (steps_at all i) m f
+  parse-off rule next e h = sym (ap (λ (b : Bool). cond b (walk (steps_at all next) (rule_parsed rule m) f) stopped) h) ∙ here (pipe.Parse rule next) e
 
   pub deliver-on : (drivers : Vec ℕ Global) (next : ℕ) (d d' : List Offer) → slice_get all i ≡ Some (pipe.Deliver drivers next) → d' ≡ d ++ deliveries_to drivers.items m f
       → after_deliveries d' (walk (steps_at all next) m f) ≡ after_deliveries d (walk (steps_at all i) m f)
@@ -65,6 +76,7 @@ end-there : (o : Option Pipe) → is_end o ≡ true → o ≡ Some pipe.End
 end-there (Some pipe.End) e = refl
 end-there (Some (pipe.Filter decision next)) e = absurd (cc)
 end-there (Some (pipe.Rewrite condition change next)) e = absurd (cc)
+end-there (Some (pipe.Parse rule next)) e = absurd (cc)
 end-there (Some (pipe.Deliver drivers next)) e = absurd (cc)
 end-there (Some (pipe.Junction channels next)) e = absurd (cc)
 end-there (Some (pipe.If tests other next)) e = absurd (cc)
@@ -77,7 +89,7 @@ only-one (only ∷ []) driver e = let same : only ≡ driver = cc in ap (λ (d :
 only-one (first ∷ second ∷ drivers) driver e = absurd (cc)
 
 -- a driver with which a list ends has what the list delivers
-module _ (all : List Pipe) (table : IsTable all) (i : ℕ) (driver : ℕ) (m : Content) (f : Bool) where
+module _ (all : List Pipe) (table : IsPipeTable all) (i : ℕ) (driver : ℕ) (m : Content) (f : Bool) where
   pub last-delivers : Some driver ≡ last_driver all (slice_get all i) → (walk (steps_at all i) m f).deliveries ≡ deliveries_to (driver ∷ []) m f
   last-delivers = by (slice_get all i) refl
     where
@@ -87,7 +99,7 @@ module _ (all : List Pipe) (table : IsTable all) (i : ℕ) (driver : ℕ) (m : C
       ends drivers next true is there e =
           let left : steps_at all next ≡ none_left = steps-read all next pipe.End table (end-there (slice_get all next) is) in
           let one : drivers.items ≡ driver ∷ [] = only-one drivers.items driver (sym e) in
-          ap (λ (w : Walked). w.deliveries) (sym (here all table i m f (pipe.Deliver drivers next) there))
+          ap (λ (w : WalkResult). w.deliveries) (sym (here all table i m f (pipe.Deliver drivers next) there))
           ∙ ap (λ (s : Steps). (walk (deliver drivers.items s) m f).deliveries) left
           ∙ ap (λ (ds : List ℕ). (walk (deliver ds none_left) m f).deliveries) one
 
@@ -95,6 +107,7 @@ module _ (all : List Pipe) (table : IsTable all) (i : ℕ) (driver : ℕ) (m : C
       by (Some pipe.End) there e = absurd (cc)
       by (Some (pipe.Filter decision next)) there e = absurd (cc)
       by (Some (pipe.Rewrite condition change next)) there e = absurd (cc)
+      by (Some (pipe.Parse rule next)) there e = absurd (cc)
       by (Some (pipe.Deliver drivers next)) there e = ends drivers next (is_end (slice_get all next)) refl there e
       by (Some (pipe.Junction channels next)) there e = absurd (cc)
       by (Some (pipe.If tests other next)) there e = absurd (cc)

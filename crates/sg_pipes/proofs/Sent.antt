@@ -5,14 +5,15 @@ use denote.Enum.Declared as choice
 use Rattle.std.proofs.Crossing as heap
 use Rattle.sg_filter.proofs.Sent.{filter}
 use Rattle.sg_rewrite.proofs.Sent.{rewrite}
+use Rattle.sg_parsers.proofs.Sent.{rule}
 use Rattle.sg_table.specs.contracts.pipe.Test as Test
 use Rattle.sg_pipes.proofs.peer.Peer.TheSendSync as peer
-use Rattle.sg_pipes.proofs.work.Work.TheSendSync as work
+use Rattle.sg_pipes.proofs.work.WalkWork.TheSendSync as work
 use Rattle.sg_table.specs.contracts.pipe.Pipe as Pipe
 use Rattle.sg_table.specs.contracts.table.Table as Table
 use Rattle.sg_pipes.specs.contracts.pipes.Pipes as Pipes
 
-ruleset parts = (heap.crosses, sendable, filter, rewrite)
+ruleset parts = (heap.crosses, sendable, filter, rewrite, rule)
 
 tests : IsSend Test.the_row
 tests = search parts depth 30 fits 20000
@@ -25,8 +26,11 @@ pipe = enum_send (choice.shape Pipe.the_type) (
     (
       (search parts depth 30 fits 20000, (rewrite, (search parts depth 30 fits 20000, tt))),
       (
-        (search parts depth 30 fits 20000, (search parts depth 30 fits 20000, tt)),
-        ((search parts depth 30 fits 20000, (search parts depth 30 fits 20000, tt)), ((search (tests, parts) depth 30 fits 20000, (search parts depth 30 fits 20000, (search parts depth 30 fits 20000, tt))), ((search parts depth 30 fits 20000, tt), tt))),
+        (rule, (search parts depth 30 fits 20000, tt)),
+        (
+          (search parts depth 30 fits 20000, (search parts depth 30 fits 20000, tt)),
+          ((search parts depth 30 fits 20000, (search parts depth 30 fits 20000, tt)), ((search (tests, parts) depth 30 fits 20000, (search parts depth 30 fits 20000, (search parts depth 30 fits 20000, tt))), ((search parts depth 30 fits 20000, tt), tt))),
+        ),
       ),
     ),
   ),

@@ -5,17 +5,17 @@ use Rattle.std.specs.Prelude.{◌&&◌, ◌||◌, cond, slice_get}
 use Rattle.std.proofs.lemmas.List.{append-nil}
 use Rattle.sg_msg.specs.Message.{Content}
 use Rattle.sg_msg.specs.declared.offer.Offer.{Offer}
-use Rattle.sg_tree.specs.Walk.{Walked, Siblings, no_siblings, sibling, walk, round, both, after_deliveries, counted, up_to_final, stopped}
-use Rattle.sg_tree.proofs.Going.{walked}
+use Rattle.sg_tree.specs.Walk.{WalkResult, Siblings, no_siblings, sibling, walk, round, both, after_deliveries, counted, up_to_final, stopped}
+use Rattle.sg_tree.proofs.Going.{walked, or-false}
 use Rattle.sg_tree.proofs.Turning.{in-round}
 use Rattle.sg_table.specs.declared.pipe.Branch.{Branch}
 use Rattle.sg_table.specs.declared.pipe.Pipe.{Pipe}
 use Rattle.sg_table.specs.Table.{marks, siblings_of, branches_at, steps_at}
-use Rattle.sg_pipes.specs.declared.frame.Trial.{Trial}
-use Rattle.sg_pipes.specs.declared.frame.Frame.TheVariants.{Tried}
+use Rattle.sg_pipes.specs.declared.frame.SiblingTrial.{SiblingTrial}
+use Rattle.sg_pipes.specs.declared.frame.WalkFrame.TheVariants.{Tried}
 use Rattle.sg_pipes.specs.Frames.{group_of, with_left, trying, from, tries, does}
 use Rattle.sg_pipes.specs.Messages.{messages_of}
-use Rattle.sg_pipes.proofs.Steps.{before, or-false, round-over, round-passes, round-walks}
+use Rattle.sg_pipes.proofs.Steps.{before, round-over, round-passes, round-walks}
 
 pub none-left : (xs : List Branch) (i : ℕ) → slice_get xs i ≡ None → drop i xs ≡ []
 none-left [] zero e = refl
@@ -29,14 +29,14 @@ some-left [] (suc i) b e = absurd (cc)
 some-left (x ∷ xs) zero b e = let same : x ≡ b = cc in ap (λ (y : Branch). y ∷ xs) same
 some-left (x ∷ xs) (suc i) b e = some-left xs i b e
 
-module _ (pipes : List Pipe) (offered : List Branch) (trial : Trial) (d : List Offer) where
+module _ (pipes : List Pipe) (offered : List Branch) (trial : SiblingTrial) (d : List Offer) where
   abbrev list : List Branch
   list = group_of offered pipes trial.group
 
   abbrev all : Siblings
   all = from pipes offered trial.group 0
 
-  abbrev start : Walked
+  abbrev start : WalkResult
   start = with_left trial.left (before d)
 
   none-from : slice_get list trial.index ≡ None → from pipes offered trial.group trial.index ≡ no_siblings
@@ -68,7 +68,7 @@ module _ (pipes : List Pipe) (offered : List Branch) (trial : Trial) (d : List O
         let k : suc trial.index ≡ n = omega arith in
         ap (λ (bs : List Branch). siblings_of (branches_at (steps_at pipes) bs)) (some-left list trial.index b e ∙ ap (λ (j : ℕ). b ∷ drop j list) k)
 
-    abbrev mine : Walked
+    abbrev mine : WalkResult
     mine = counted (marks b) (walk (steps_at pipes b.start) trial.message (trial.flow || b.flow))
 
     turned : (x : Bool) → beq b.fallback trial.late ≡ x
@@ -87,7 +87,7 @@ module _ (pipes : List Pipe) (offered : List Branch) (trial : Trial) (d : List O
     leaves-none h stops dropped =
         let more = round rest trial.late trial.message trial.flow in
         sym (round-passes trial.late start (from pipes offered trial.group trial.index) rest all trial.message trial.flow
-        (turned true h ∙ ap (λ (w : Walked). up_to_final b.is_final (counted (marks b) w) more) stops ∙ ap (λ (x : Bool). up_to_final b.is_final (record stopped { processed = x }) more) dropped))
+        (turned true h ∙ ap (λ (w : WalkResult). up_to_final b.is_final (counted (marks b) w) more) stops ∙ ap (λ (x : Bool). up_to_final b.is_final (record stopped { processed = x }) more) dropped))
 
     left-mine : both start mine ≡ with_left trial.left (record { deliveries = d ++ mine.deliveries; out = mine.out; processed = mine.processed })
     left-mine =
@@ -98,4 +98,4 @@ module _ (pipes : List Pipe) (offered : List Branch) (trial : Trial) (d : List O
         ≡ tries pipes offered trial start
     takes h =
         sym (round-walks trial.late b.is_final start mine (from pipes offered trial.group trial.index) rest all trial.message trial.flow (turned true h)
-        ∙ ap (λ (w : Walked). cond (mine.processed && b.is_final) w (trying trial.late w rest all trial.message trial.flow)) left-mine)
+        ∙ ap (λ (w : WalkResult). cond (mine.processed && b.is_final) w (trying trial.late w rest all trial.message trial.flow)) left-mine)

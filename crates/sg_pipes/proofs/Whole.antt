@@ -1,18 +1,18 @@
 -- The whole of the work.
 use Rattle.std.proofs.Common.{◌≡◌, ℕ, Bool, true, false, List, [], ◌∷◌, ◌++◌, map, refl, sym, ap, ◌∙◌}
 use Rattle.std.specs.Prelude.{cond, reverse}
-use Rattle.sg_tree.specs.Walk.{Walked, sibling}
+use Rattle.sg_tree.specs.Walk.{WalkResult, sibling}
 use Rattle.sg_tree.specs.Offers.{offered}
 use Rattle.sg_table.specs.declared.pipe.Pipe.{Pipe}
 use Rattle.sg_table.specs.declared.pipe.Top.{Top}
-use Rattle.sg_table.specs.Table.{Places, marks, siblings_of, branches_at}
+use Rattle.sg_table.specs.Table.{StepsByPlace, marks, siblings_of, branches_at}
 use Rattle.sg_table.specs.Forest.{statement_at}
-use Rattle.sg_pipes.specs.declared.work.Work.{Work}
+use Rattle.sg_pipes.specs.declared.work.WalkWork.{WalkWork}
 use Rattle.sg_pipes.specs.Chosen.{is_for, branches_for}
 use Rattle.sg_pipes.specs.Frames.{run}
-use Rattle.sg_pipes.specs.Turns.{Delivers, Works, now}
+use Rattle.sg_pipes.specs.Turns.{DeliversOffers, WorksWalk, now}
 
-pub chosen-offered : (at : Places) (inlet : ℕ) (tops : List Top) → siblings_of (branches_at at (branches_for inlet tops)) ≡ offered inlet (map (statement_at at) tops)
+pub chosen-offered : (at : StepsByPlace) (inlet : ℕ) (tops : List Top) → siblings_of (branches_at at (branches_for inlet tops)) ≡ offered inlet (map (statement_at at) tops)
 chosen-offered at inlet [] = refl
 chosen-offered at inlet (t ∷ ts) = go (is_for inlet t) (chosen-offered at inlet ts)
   where
@@ -22,9 +22,9 @@ chosen-offered at inlet (t ∷ ts) = go (is_for inlet t) (chosen-offered at inle
     go false h = h
 
 -- work that began with nothing waiting is done
-pub done-is : (pipes : List Pipe) (made : Walked) (old mid new : Work) → old.frames.items ≡ [] → Delivers pipes made old mid → Works pipes mid new → (now new).deliveries ≡ made.deliveries
+pub done-is : (pipes : List Pipe) (made : WalkResult) (old mid new : WalkWork) → old.frames.items ≡ [] → DeliversOffers pipes made old mid → WorksWalk pipes mid new → (now new).deliveries ≡ made.deliveries
 done-is pipes made old mid new e c w =
-    ap (λ (x : Walked). x.deliveries) (sym w.done
+    ap (λ (x : WalkResult). x.deliveries) (sym w.done
     ∙ ap (λ x. run pipes x (reverse mid.frames.items) (now mid)) (ap (λ v. v.items) c.offered)
     ∙ ap (λ x. run pipes old.offered.items (reverse x) (now mid)) (c.frames ∙ ap (λ x. x ++ c.more) e))
     ∙ c.delivers

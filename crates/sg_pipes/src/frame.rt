@@ -6,14 +6,14 @@ use sg_msg::Message;
 
 /// The siblings that are tried: the statements that are offered the message, or those of a pipe.
 #[derive(Clone, Copy)]
-pub(crate) enum Group {
+pub(crate) enum SiblingList {
     Offered,
     At(u32),
 }
 
 #[derive(Drop)]
-pub(crate) struct Trial {
-    pub(crate) group: Group,
+pub(crate) struct SiblingTrial {
+    pub(crate) group: SiblingList,
     /// The sibling that is next.
     pub(crate) index: usize,
     /// Whether those with `fallback` are tried, in the second round.
@@ -26,7 +26,7 @@ pub(crate) struct Trial {
 
 /// A list of elements that waits for the messages before it.
 #[derive(Drop)]
-pub(crate) struct Wait {
+pub(crate) struct WaitingElements {
     pub(crate) next: u32,
     pub(crate) flow: bool,
     /// Whether what stands before the elements processed the message.
@@ -38,7 +38,7 @@ pub(crate) struct Wait {
 }
 
 #[derive(Drop)]
-pub(crate) enum Frame {
+pub(crate) enum WalkFrame {
     /// Walks the pipes from there on.
     Walk {
         at: u32,
@@ -46,10 +46,10 @@ pub(crate) enum Frame {
         flow: bool,
     },
     /// Tries the next sibling.
-    Try(Trial),
+    Try(SiblingTrial),
     /// Takes what a sibling left.
     Tried {
-        trial: Trial,
+        trial: SiblingTrial,
         is_final: bool,
         drop_unmatched: bool,
     },
@@ -64,7 +64,7 @@ pub(crate) enum Frame {
         flow: bool,
     },
     /// Takes what the elements left of one message.
-    Each(Wait),
+    Each(WaitingElements),
     /// The message that stood before embedded statements comes out.
     Out(Message),
 }
@@ -75,6 +75,6 @@ pub(crate) enum Passed {
     /// It goes on at that place.
     On(u32),
     Stopped,
-    /// The pipe is no filter, no rewrite and no delivery.
+    /// The pipe is no filter, no rewrite, no parser and no delivery.
     Arrived,
 }

@@ -1,11 +1,11 @@
 // What single pipes do.
 ghost use Rattle.std.specs.Prelude.{◌≡◌, ◌<◌, ◌^◌, true, false, [], ◌∷◌, IfOk, IfSome, OnOk, slice_get};
-ghost use Rattle.sg_table.specs.Table.{IsTable};
-ghost use Rattle.sg_pipes.specs.Frames.{IsOver, group_of, has_fallback};
+ghost use Rattle.sg_table.specs.Table.{IsPipeTable};
+ghost use Rattle.sg_pipes.specs.Frames.{IsWalkOver, group_of, has_fallback};
 ghost use Rattle.sg_pipes.specs.Pipes.{changed, is_end, is_met, last_driver, only_driver, lets_pass, rewritten_at, start_at, start_of};
-ghost use Rattle.sg_pipes.specs.Turns.{Enters, Filters};
+ghost use Rattle.sg_pipes.specs.Turns.{Enters, FiltersMessage};
 
-use crate::frame::{Group, Passed};
+use crate::frame::{Passed, SiblingList};
 use sg_msg::Message;
 use sg_table::{Branch, Pipe, Test};
 use std::alloc::{AllocError, Global};
@@ -23,8 +23,8 @@ pub(crate) fn passes(pipe: &mut Pipe, message: &Message) -> Result<bool, AllocEr
 
 // Whether the message goes on behind a filter that stands there, is stopped by it, or there is none.
 fn filter_at(pipes: &mut Vec<Pipe>, at: u32, message: &Message) -> Result<Passed, AllocError>
-    requires { IsTable pipes.old.items }
-    ensures filters { IfOk result (λ passed. Filters pipes.old.items at message.now passed) }
+    requires { IsPipeTable pipes.old.items }
+    ensures filters { IfOk result (λ passed. FiltersMessage pipes.old.items at message.now passed) }
     ensures stays { pipes.new.items ≡ pipes.old.items }
 {
     let place = at as usize;
@@ -50,7 +50,7 @@ pub(crate) fn enter(
     start: u32,
     message: &Message,
 ) -> Result<Option<u32>, AllocError>
-    requires { IsTable pipes.old.items }
+    requires { IsPipeTable pipes.old.items }
     ensures enters { IfOk result (λ at. Enters pipes.old.items start message.now at) }
     ensures stays { pipes.new.items ≡ pipes.old.items }
 {
@@ -143,15 +143,15 @@ pub(crate) fn last_driver(pipes: &[Pipe], at: u32) -> Option<u32>
 pub(crate) fn branch_at(
     offered: &[Branch],
     pipes: &[Pipe],
-    group: Group,
+    group: SiblingList,
     index: usize,
 ) -> Option<Branch>
     ensures is { result ≡ slice_get (group_of offered.now pipes.now group) index }
     ensures small { IfSome result (λ _. index < 2 ^ 63) }
 {
     match group {
-        Group::Offered => offered.get(index).copied(),
-        Group::At(place) => match pipes.get(place as usize) {
+        SiblingList::Offered => offered.get(index).copied(),
+        SiblingList::At(place) => match pipes.get(place as usize) {
             Some(Pipe::Junction { channels, .. }) => channels.get(index).copied(),
             Some(Pipe::Embedded { logs }) => logs.get(index).copied(),
             _ => None,
@@ -182,12 +182,12 @@ fn is_late(branches: &[Branch]) -> bool
 }
 
 // Whether a sibling of the group waits for the second round.
-fn has_late(offered: &[Branch], pipes: &[Pipe], group: Group) -> bool
+fn has_late(offered: &[Branch], pipes: &[Pipe], group: SiblingList) -> bool
     ensures { result ≡ has_fallback (group_of offered.now pipes.now group) }
 {
     match group {
-        Group::Offered => is_late(offered),
-        Group::At(place) => match pipes.get(place as usize) {
+        SiblingList::Offered => is_late(offered),
+        SiblingList::At(place) => match pipes.get(place as usize) {
             Some(Pipe::Junction { channels, .. }) => is_late(channels),
             Some(Pipe::Embedded { logs }) => is_late(logs),
             _ => false,
@@ -199,11 +199,11 @@ fn has_late(offered: &[Branch], pipes: &[Pipe], group: Group) -> bool
 pub(crate) fn is_over(
     offered: &[Branch],
     pipes: &[Pipe],
-    group: Group,
+    group: SiblingList,
     index: usize,
     late: bool,
 ) -> bool
-    ensures { result ≡ true → IsOver pipes.now offered.now group index late }
+    ensures { result ≡ true → IsWalkOver pipes.now offered.now group index late }
 {
     match branch_at(offered, pipes, group, index) {
         Some(_) => false,

@@ -4,10 +4,10 @@ ghost use Rattle.sg_route.specs.Offers.{record_at};
 ghost use Rattle.sg_tree.specs.Offers.{AreOffers, deliveries_of};
 ghost use Rattle.sg_tree.specs.Readings.{inlet_of};
 ghost use Rattle.sg_table.specs.Forest.{forest_of};
-ghost use Rattle.sg_pipes.specs.Within.{IsWithin, IsWithin-prop};
+ghost use Rattle.sg_pipes.specs.Within.{AreWoodsWithin, AreWoodsWithin-prop};
 
 use crate::peer::Peer;
-use crate::work::Work;
+use crate::work::WalkWork;
 use bytes::Bytes;
 use sg_msg::{Message, Offer};
 use sg_route::Router;
@@ -19,9 +19,9 @@ use std::alloc::{AllocError, Global};
 pub struct Pipes {
     table: Table,
     /// Its memory is used again for each record.
-    work: Work,
+    work: WalkWork,
     peer: Peer,
-    ghost within: { IsWithin (forest_of table) } by { IsWithin-prop (forest_of table) },
+    ghost within: { AreWoodsWithin (forest_of table) } by { AreWoodsWithin-prop (forest_of table) },
 }
 
 impl Drop for Pipes {
@@ -37,7 +37,7 @@ impl Drop for Pipes {
 // What the statements offer for a message of an inlet.
 fn offers_of(
     table: &mut Table,
-    work: &mut Work,
+    work: &mut WalkWork,
     inlet: u32,
     message: Message,
 ) -> Result<Vec<Offer>, AllocError>
@@ -64,7 +64,7 @@ fn rule_at(table: &Table, inlet: u32) -> &InletRule
 fn routed(
     alloc: Global,
     table: &mut Table,
-    work: &mut Work,
+    work: &mut WalkWork,
     inlet: u32,
     item: Bytes,
     at: i64,
@@ -91,12 +91,12 @@ impl Pipes {
     /// The log paths of a table whose statements name only destinations that are there, and that gives a
     /// record at most 1,024 offers.
     pub fn new(alloc: Global, table: Table) -> Pipes
-        requires { IsWithin (forest_of table) }
+        requires { AreWoodsWithin (forest_of table) }
         ensures { result.table ≡ table }
     {
         Pipes {
             table,
-            work: Work::new(alloc),
+            work: WalkWork::new(alloc),
             peer: Peer::none(),
         }
     }
@@ -115,7 +115,7 @@ impl Pipes {
         let table = self.table.share(alloc)?;
         Ok(Pipes {
             table,
-            work: Work::new(alloc),
+            work: WalkWork::new(alloc),
             peer: Peer::none(),
         })
     }

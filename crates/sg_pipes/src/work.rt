@@ -1,16 +1,16 @@
 // The work that waits, and its turns.
 ghost use Rattle.std.specs.Prelude.{◌≡◌, ◌||◌, true, false, [], ◌∷◌, ◌++◌, IfOk, OnOk, List};
 ghost use Rattle.sg_tree.specs.Walk.{after_deliveries, branches, deliveries_to, stopped, walk};
-ghost use Rattle.sg_table.specs.Table.{IsTable, steps_at};
+ghost use Rattle.sg_table.specs.Table.{IsPipeTable, steps_at};
 ghost use Rattle.sg_table.specs.declared.pipe.Pipe.{Pipe as APipe};
 ghost use Rattle.sg_pipes.specs.Chosen.{branches_for, is_for};
-ghost use Rattle.sg_pipes.specs.declared.frame.Frame.TheVariants as frame;
-ghost use Rattle.sg_pipes.specs.declared.frame.Group.TheVariants.{Offered};
-ghost use Rattle.sg_pipes.specs.Frames.{IsFirst, does, from};
+ghost use Rattle.sg_pipes.specs.declared.frame.WalkFrame.TheVariants as frame;
+ghost use Rattle.sg_pipes.specs.declared.frame.SiblingList.TheVariants.{Offered};
+ghost use Rattle.sg_pipes.specs.Frames.{IsFirstTrial, does, from};
 ghost use Rattle.sg_pipes.specs.Messages.{messages_of};
-ghost use Rattle.sg_pipes.specs.Turns.{Comes, ComesTo, Delivers, Passes, Picks, Turns, Works, now};
+ghost use Rattle.sg_pipes.specs.Turns.{ComesToFrames, WorkComesTo, DeliversOffers, PassesPipe, Picks, TurnsWalk, WorksWalk, now};
 
-use crate::frame::{Frame, Group, Passed, Trial, Wait};
+use crate::frame::{Passed, SiblingList, SiblingTrial, WaitingElements, WalkFrame};
 use crate::gone::Gone;
 use crate::messages::{Messages, reversed, take_last};
 use crate::pipe::{alone, branch_at, choose, enter, is_over, last_driver, passes, rewrite};
@@ -20,20 +20,20 @@ use sg_tree::deliver;
 use std::alloc::{AllocError, Global};
 
 /// What is to be done for a message, and what was done.
-pub(crate) struct Work {
+pub(crate) struct WalkWork {
     pub(crate) alloc: Global,
     /// The statements that are offered the message.
     pub(crate) offered: Vec<Branch>,
     /// What is to be done, the first last.
-    pub(crate) frames: Vec<Frame>,
+    pub(crate) frames: Vec<WalkFrame>,
     /// What was left last.
     pub(crate) back: Gone,
     pub(crate) offers: Vec<Offer>,
 }
 
-impl Drop for Work {
+impl Drop for WalkWork {
     fn drop(self) {
-        let Work {
+        let WalkWork {
             alloc: _alloc,
             offered: _offered,
             frames: _frames,
@@ -62,10 +62,10 @@ fn put_offered(offered: &mut Vec<Branch>, tops: &[Top], inlet: u32) -> Result<()
 }
 
 // The first of the siblings is next.
-fn first_trial(group: Group, message: Message, flow: bool) -> Trial
-    ensures { IsFirst group message flow result }
+fn first_trial(group: SiblingList, message: Message, flow: bool) -> SiblingTrial
+    ensures { IsFirstTrial group message flow result }
 {
-    Trial {
+    SiblingTrial {
         group,
         index: 0,
         late: false,
@@ -80,9 +80,9 @@ fn first_trial(group: Group, message: Message, flow: bool) -> Trial
 fn pick(
     offered: &[Branch],
     pipes: &mut Vec<Pipe>,
-    trial: &mut Trial,
+    trial: &mut SiblingTrial,
 ) -> Result<Option<Branch>, AllocError>
-    requires { IsTable pipes.old.items }
+    requires { IsPipeTable pipes.old.items }
     ensures picks { IfOk result
         (λ branch. Picks pipes.old.items offered.now trial.old trial.new branch) }
     ensures stays { pipes.new.items ≡ pipes.old.items }
@@ -103,12 +103,12 @@ fn pick(
     Ok(None)
 }
 
-impl Work {
+impl WalkWork {
     /// Nothing is to be done.
-    pub(crate) fn new(alloc: Global) -> Work
+    pub(crate) fn new(alloc: Global) -> WalkWork
         ensures { result.frames.items ≡ [] }
     {
-        Work {
+        WalkWork {
             alloc,
             offered: Vec::new(alloc),
             frames: Vec::new(alloc),
@@ -131,7 +131,8 @@ impl Work {
 
     /// The message comes out.
     fn leave(&mut self, message: Message)
-        ensures { (pipes : List APipe) → Comes pipes (after_deliveries (now self.old).deliveries
+        ensures { (pipes : List APipe) → ComesToFrames pipes
+            (after_deliveries (now self.old).deliveries
             (record { deliveries = []; out = message ∷ []; processed = true })) self.old self.new }
     {
         self.back = Gone {
@@ -142,29 +143,29 @@ impl Work {
 
     /// Nothing comes out.
     fn stop(&mut self)
-        ensures { (pipes : List APipe)
-            → Comes pipes (after_deliveries (now self.old).deliveries stopped) self.old self.new }
+        ensures { (pipes : List APipe) → ComesToFrames pipes
+            (after_deliveries (now self.old).deliveries stopped) self.old self.new }
     {
         self.back = Gone::nothing();
     }
 
     fn go(&mut self, at: u32, message: Message, flow: bool) -> Result<(), AllocError>
-        ensures { OnOk result ((pipes : List APipe) → Comes pipes
+        ensures { OnOk result ((pipes : List APipe) → ComesToFrames pipes
             (after_deliveries (now self.old).deliveries (walk (steps_at pipes at) message flow))
             self.old self.new) }
     {
-        self.frames.push(Frame::Walk { at, message, flow })?;
+        self.frames.push(WalkFrame::Walk { at, message, flow })?;
         Ok(())
     }
 
-    fn begin(&mut self, group: Group, message: Message, flow: bool) -> Result<(), AllocError>
-        ensures { OnOk result ((pipes : List APipe) → Comes pipes
+    fn begin(&mut self, group: SiblingList, message: Message, flow: bool) -> Result<(), AllocError>
+        ensures { OnOk result ((pipes : List APipe) → ComesToFrames pipes
             (after_deliveries (now self.old).deliveries
             (branches (from pipes self.old.offered.items group 0) message flow)) self.old
             self.new) }
     {
         self.frames
-            .push(Frame::Try(first_trial(group, message, flow)))?;
+            .push(WalkFrame::Try(first_trial(group, message, flow)))?;
         Ok(())
     }
 
@@ -172,11 +173,11 @@ impl Work {
     fn try_last(
         &mut self,
         pipes: &mut Vec<Pipe>,
-        trial: Trial,
+        trial: SiblingTrial,
         branch: Branch,
     ) -> Result<(), AllocError>
-        requires { IsTable pipes.old.items }
-        ensures comes { OnOk result (Comes pipes.old.items
+        requires { IsPipeTable pipes.old.items }
+        ensures comes { OnOk result (ComesToFrames pipes.old.items
             (does pipes.old.items self.old.offered.items
             (frame.Last trial.left branch.drop_unmatched)
             (does pipes.old.items self.old.offered.items
@@ -184,7 +185,7 @@ impl Work {
             self.old self.new) }
         ensures stays { pipes.new.items ≡ pipes.old.items }
     {
-        let Trial {
+        let SiblingTrial {
             message,
             flow,
             left,
@@ -195,7 +196,7 @@ impl Work {
         if left.adds_nothing(drop_unmatched) {
             return self.walk(pipes, branch.start, message, flow, false);
         }
-        self.frames.push(Frame::Last {
+        self.frames.push(WalkFrame::Last {
             left,
             drop_unmatched,
         })?;
@@ -206,11 +207,11 @@ impl Work {
     fn try_this(
         &mut self,
         pipes: &mut Vec<Pipe>,
-        trial: Trial,
+        trial: SiblingTrial,
         branch: Branch,
     ) -> Result<(), AllocError>
-        requires { IsTable pipes.old.items }
-        ensures comes { OnOk result (Comes pipes.old.items
+        requires { IsPipeTable pipes.old.items }
+        ensures comes { OnOk result (ComesToFrames pipes.old.items
             (does pipes.old.items self.old.offered.items
             (frame.Tried trial branch.is_final branch.drop_unmatched)
             (does pipes.old.items self.old.offered.items
@@ -223,7 +224,7 @@ impl Work {
         }
         let message = trial.message.share()?;
         let flow = trial.flow | branch.flow;
-        self.frames.push(Frame::Tried {
+        self.frames.push(WalkFrame::Tried {
             trial,
             is_final: branch.is_final,
             drop_unmatched: branch.drop_unmatched,
@@ -231,10 +232,10 @@ impl Work {
         self.walk(pipes, branch.start, message, flow, false)
     }
 
-    fn try_next(&mut self, pipes: &mut Vec<Pipe>, trial: Trial) -> Result<(), AllocError>
-        requires { IsTable pipes.old.items }
+    fn try_next(&mut self, pipes: &mut Vec<Pipe>, trial: SiblingTrial) -> Result<(), AllocError>
+        requires { IsPipeTable pipes.old.items }
         ensures turns { OnOk result
-            (Turns pipes.old.items (frame.Try trial) self.old self.new) }
+            (TurnsWalk pipes.old.items (frame.Try trial) self.old self.new) }
         ensures stays { pipes.new.items ≡ pipes.old.items }
     {
         let mut trial = trial;
@@ -246,7 +247,7 @@ impl Work {
                 }
                 trial.late = true;
                 trial.index = 0;
-                self.frames.push(Frame::Try(trial))?;
+                self.frames.push(WalkFrame::Try(trial))?;
                 Ok(())
             }
             Some(branch) => self.try_this(pipes, trial, branch),
@@ -260,8 +261,8 @@ impl Work {
         message: Message,
         flow: bool,
     ) -> Result<(), AllocError>
-        requires { IsTable pipes.old.items }
-        ensures delivers { OnOk result (Delivers pipes.old.items
+        requires { IsPipeTable pipes.old.items }
+        ensures delivers { OnOk result (DeliversOffers pipes.old.items
             (after_deliveries (now self.old).deliveries
             (branches (from pipes.old.items self.old.offered.items Offered 0) message flow))
             self.old self.new) }
@@ -269,7 +270,7 @@ impl Work {
     {
         match alone(&self.offered) {
             Some(branch) => self.walk(pipes, branch.start, message, flow | branch.flow, true),
-            None => self.try_next(pipes, first_trial(Group::Offered, message, flow)),
+            None => self.try_next(pipes, first_trial(SiblingList::Offered, message, flow)),
         }
     }
 
@@ -285,12 +286,12 @@ impl Work {
     fn tried(
         &mut self,
         pipes: &mut Vec<Pipe>,
-        trial: Trial,
+        trial: SiblingTrial,
         is_final: bool,
         drop_unmatched: bool,
     ) -> Result<(), AllocError>
-        requires { IsTable pipes.old.items }
-        ensures turns { OnOk result (Turns pipes.old.items
+        requires { IsPipeTable pipes.old.items }
+        ensures turns { OnOk result (TurnsWalk pipes.old.items
             (frame.Tried trial is_final drop_unmatched) self.old self.new) }
         ensures stays { pipes.new.items ≡ pipes.old.items }
     {
@@ -308,7 +309,7 @@ impl Work {
 
     fn last(&mut self, left: Gone, drop_unmatched: bool) -> Result<(), AllocError>
         ensures { OnOk result ((pipes : List APipe)
-            → Turns pipes (frame.Last left drop_unmatched) self.old self.new) }
+            → TurnsWalk pipes (frame.Last left drop_unmatched) self.old self.new) }
     {
         let mut left = left;
         let mut own = self.take_back();
@@ -320,10 +321,10 @@ impl Work {
 
     fn rest(&mut self, next: u32, flow: bool) -> Result<(), AllocError>
         ensures { OnOk result
-            ((pipes : List APipe) → Turns pipes (frame.Rest next flow) self.old self.new) }
+            ((pipes : List APipe) → TurnsWalk pipes (frame.Rest next flow) self.old self.new) }
     {
         let first = self.take_back();
-        self.frames.push(Frame::Each(Wait {
+        self.frames.push(WalkFrame::Each(WaitingElements {
             next,
             flow,
             counts: first.processed,
@@ -333,9 +334,9 @@ impl Work {
         Ok(())
     }
 
-    fn each(&mut self, wait: Wait) -> Result<(), AllocError>
+    fn each(&mut self, wait: WaitingElements) -> Result<(), AllocError>
         ensures { OnOk result
-            ((pipes : List APipe) → Turns pipes (frame.Each wait) self.old self.new) }
+            ((pipes : List APipe) → TurnsWalk pipes (frame.Each wait) self.old self.new) }
     {
         let mut wait = wait;
         let last = self.take_back();
@@ -349,13 +350,13 @@ impl Work {
             Some(message) => {
                 let next = wait.next;
                 let flow = wait.flow;
-                self.frames.push(Frame::Each(wait))?;
+                self.frames.push(WalkFrame::Each(wait))?;
                 self.go(next, message, flow)
             }
         }
     }
 
-    // Lets the message through a filter, a rewrite or a delivery.
+    // Lets the message through a filter, a rewrite, a parser or a delivery.
     fn pass(
         &mut self,
         pipes: &mut Vec<Pipe>,
@@ -363,9 +364,9 @@ impl Work {
         message: &mut Message,
         flow: bool,
     ) -> Result<Passed, AllocError>
-        requires { IsTable pipes.old.items }
+        requires { IsPipeTable pipes.old.items }
         ensures passes { IfOk result
-            (Passes pipes.old.items at message.old message.new flow self.old self.new) }
+            (PassesPipe pipes.old.items at message.old message.new flow self.old self.new) }
         ensures stays { pipes.new.items ≡ pipes.old.items }
     {
         let place = at as usize;
@@ -387,6 +388,15 @@ impl Work {
                 rewrite(self.alloc, &mut pipes[place], message)?;
                 Ok(Passed::On(next))
             }
+            Pipe::Parse { rule, next } => {
+                let taken = rule.apply(self.alloc, message)?;
+                if taken {
+                    Ok(Passed::On(*next))
+                } else {
+                    self.stop();
+                    Ok(Passed::Stopped)
+                }
+            }
             Pipe::Deliver { drivers, next } => {
                 deliver(drivers, message, flow, &mut self.offers)?;
                 Ok(Passed::On(*next))
@@ -403,9 +413,9 @@ impl Work {
         message: Message,
         flow: bool,
     ) -> Result<(), AllocError>
-        requires { IsTable pipes.old.items }
+        requires { IsPipeTable pipes.old.items }
         ensures turns { OnOk result
-            (Turns pipes.old.items (frame.Walk at message flow) self.old self.new) }
+            (TurnsWalk pipes.old.items (frame.Walk at message flow) self.old self.new) }
         ensures stays { pipes.new.items ≡ pipes.old.items }
     {
         let place = at as usize;
@@ -419,14 +429,14 @@ impl Work {
                 Ok(())
             }
             Pipe::Junction { next, .. } => {
-                self.frames.push(Frame::Rest { next: *next, flow })?;
-                self.begin(Group::At(at), message, flow)
+                self.frames.push(WalkFrame::Rest { next: *next, flow })?;
+                self.begin(SiblingList::At(at), message, flow)
             }
             Pipe::If { other, next, .. } => {
                 let next = *next;
                 let other = *other;
                 let start = choose(&mut pipes[place], other, &message)?;
-                self.frames.push(Frame::Rest { next, flow })?;
+                self.frames.push(WalkFrame::Rest { next, flow })?;
                 match start {
                     Some(start) => self.go(start, message, flow),
                     None => {
@@ -437,8 +447,8 @@ impl Work {
             }
             Pipe::Embedded { .. } => {
                 let out = message.share()?;
-                self.frames.push(Frame::Out(out))?;
-                self.begin(Group::At(at), message, flow)
+                self.frames.push(WalkFrame::Out(out))?;
+                self.begin(SiblingList::At(at), message, flow)
             }
             _ => self.go(at, message, flow),
         }
@@ -468,8 +478,8 @@ impl Work {
         flow: bool,
         alone: bool,
     ) -> Result<(), AllocError>
-        requires { IsTable pipes.old.items }
-        ensures comes { OnOk result (ComesTo alone pipes.old.items
+        requires { IsPipeTable pipes.old.items }
+        ensures comes { OnOk result (WorkComesTo alone pipes.old.items
             (does pipes.old.items self.old.offered.items (frame.Walk start given flow)
             (now self.old)) self.old self.new) }
         ensures stays { pipes.new.items ≡ pipes.old.items }
@@ -491,26 +501,26 @@ impl Work {
         self.go(at, message, flow)
     }
 
-    fn turn(&mut self, pipes: &mut Vec<Pipe>, frame: Frame) -> Result<(), AllocError>
-        requires { IsTable pipes.old.items }
-        ensures turns { OnOk result (Turns pipes.old.items frame self.old self.new) }
+    fn turn(&mut self, pipes: &mut Vec<Pipe>, frame: WalkFrame) -> Result<(), AllocError>
+        requires { IsPipeTable pipes.old.items }
+        ensures turns { OnOk result (TurnsWalk pipes.old.items frame self.old self.new) }
         ensures stays { pipes.new.items ≡ pipes.old.items }
     {
         match frame {
-            Frame::Walk { at, message, flow } => self.walk(pipes, at, message, flow, false),
-            Frame::Try(trial) => self.try_next(pipes, trial),
-            Frame::Tried {
+            WalkFrame::Walk { at, message, flow } => self.walk(pipes, at, message, flow, false),
+            WalkFrame::Try(trial) => self.try_next(pipes, trial),
+            WalkFrame::Tried {
                 trial,
                 is_final,
                 drop_unmatched,
             } => self.tried(pipes, trial, is_final, drop_unmatched),
-            Frame::Last {
+            WalkFrame::Last {
                 left,
                 drop_unmatched,
             } => self.last(left, drop_unmatched),
-            Frame::Rest { next, flow } => self.rest(next, flow),
-            Frame::Each(wait) => self.each(wait),
-            Frame::Out(message) => {
+            WalkFrame::Rest { next, flow } => self.rest(next, flow),
+            WalkFrame::Each(wait) => self.each(wait),
+            WalkFrame::Out(message) => {
                 self.leave(message);
                 Ok(())
             }
@@ -519,8 +529,8 @@ impl Work {
 
     /// Does what waits until nothing is left.
     pub(crate) fn work(&mut self, pipes: &mut Vec<Pipe>) -> Result<(), AllocError>
-        requires { IsTable pipes.old.items }
-        ensures works { OnOk result (Works pipes.old.items self.old self.new) }
+        requires { IsPipeTable pipes.old.items }
+        ensures works { OnOk result (WorksWalk pipes.old.items self.old self.new) }
         ensures stays { pipes.new.items ≡ pipes.old.items }
     {
         'turns: for _ in 0..u64::MAX {

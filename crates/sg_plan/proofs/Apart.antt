@@ -6,7 +6,7 @@ abbrev pub IsUsedBy : (ℕ → Option ℕ) → (ℕ → Option ℕ) → ℕ → 
 IsUsedBy f g s = ((i : ℕ) × (f i ≡ Some s)) ⊎ ((d : ℕ) × (g d ≡ Some s))
 
 -- what inlets have and what destinations have: all numbers below this one
-pub record AreApart (f g : ℕ → Option ℕ) (n : ℕ) : Type 0 where
+pub record AreDriversApart (f g : ℕ → Option ℕ) (n : ℕ) : Type 0 where
   pub firsts : (i s : ℕ) → f i ≡ Some s → s < n
   pub seconds : (d s : ℕ) → g d ≡ Some s → s < n
   pub firsts_apart : (i j s : ℕ) → f i ≡ Some s → f j ≡ Some s → i ≡ j
@@ -22,7 +22,7 @@ used-kept : (f g h : ℕ → Option ℕ) (s : ℕ) → ((i : ℕ) → f i ≡ So
 used-kept f g h s keep (inl p) = inl (p.0, keep p.0 p.1)
 used-kept f g h s keep (inr p) = inr p
 
-pub swapped : (f g : ℕ → Option ℕ) (n : ℕ) → AreApart f g n → AreApart g f n
+pub swapped : (f g : ℕ → Option ℕ) (n : ℕ) → AreDriversApart f g n → AreDriversApart g f n
 swapped f g n a = record {
   firsts = a.seconds;
   seconds = a.firsts;
@@ -33,7 +33,7 @@ swapped f g n a = record {
 }
 
 -- nothing more is used
-pub none-more : (f g h : ℕ → Option ℕ) (n : ℕ) → ((i s : ℕ) → h i ≡ Some s → f i ≡ Some s) → ((i s : ℕ) → f i ≡ Some s → h i ≡ Some s) → AreApart f g n → AreApart h g n
+pub none-more : (f g h : ℕ → Option ℕ) (n : ℕ) → ((i s : ℕ) → h i ≡ Some s → f i ≡ Some s) → ((i s : ℕ) → f i ≡ Some s → h i ≡ Some s) → AreDriversApart f g n → AreDriversApart h g n
 none-more f g h n old keep a = record {
   firsts = λ i s e. a.firsts i s (old i s e);
   seconds = a.seconds;
@@ -71,7 +71,7 @@ used-more f g h k n s keep has old (inr next) = inl (k, has ∙ ap Some (sym nex
 
 -- the next number is used
 pub one-more : (f g h : ℕ → Option ℕ) (k n : ℕ) → ((i s : ℕ) → h i ≡ Some s → (f i ≡ Some s) ⊎ ((i ≡ k) × (s ≡ n))) → ((i s : ℕ) → f i ≡ Some s → h i ≡ Some s) → h k ≡ Some n
-    → AreApart f g n → AreApart h g (n + 1)
+    → AreDriversApart f g n → AreDriversApart h g (n + 1)
 one-more f g h k n new keep has a = record {
   firsts = λ i s e. below-more f k n i s (a.firsts i s) (new i s e);
   seconds = λ d s e. (let p = a.seconds d s e in omega arith);

@@ -27,17 +27,17 @@ use Rattle.sg_driver.specs.Limits.{connections, ports}
 use Rattle.sg_driver.specs.Driver.{driver_kind, options_of, missing_unless, long_names}
 use Rattle.sg_source.specs.declared.inlet.SourceDriver.{SourceDriver}
 use Rattle.sg_source.specs.Sources.{listener_checks, source_checks, port_words, connection_words, store_of_source, listening_faults, listener_faults, source_faults, connection_count, count_by, inlet_count}
-use Rattle.sg_source.specs.Inlets.{slots_of, place_by, slots_at, IsSource}
+use Rattle.sg_source.specs.Inlets.{slots_of, place_by, slots_at, IsSourceDriver}
 use Rattle.sg_resolve.specs.declared.templates.TemplateTexts.{TemplateTexts}
-use Rattle.sg_resolve.specs.declared.driver.Count.{Count}
+use Rattle.sg_resolve.specs.declared.driver.DriverCounts.{DriverCounts}
 use Rattle.sg_resolve.specs.Templates.{templates_of}
 use Rattle.sg_resolve.specs.Drivers.{no_drivers, own_faults, store_of, more_inlets, more_destinations, limit_faults, repeats, with_driver}
 use Rattle.sg_resolve.specs.Ends.{drivers_of, counted}
 use Rattle.sg_resolve.specs.Globals.{globals_faults}
 use Rattle.sg_resolve.specs.Places.{places_faults}
 use Rattle.sg_resolve.specs.First.{IsFirstFault}
-use Rattle.sg_plan.proofs.Elements.{some-same}
 use Rattle.sg_plan.proofs.Ranges.{number-or-within}
+use Rattle.sg_list.proofs.ListLemmas.{some-same}
 
 earlier-none : (a b : Option Placed) → earlier a b ≡ None → (a ≡ None) × (b ≡ None)
 earlier-none None b e = (refl, e)
@@ -83,12 +83,12 @@ pub record AreClean (texts : TemplateTexts) (inlets outlets : ℕ) (ds : List (S
   pub own : AllByRecursion (λ d. own_faults texts d.0 d.1 ≡ []) ds
 
 -- a driver more, without a fault
-record IsCounted (texts : TemplateTexts) (count : Count) (d : Side × Call) : Type 0 where
+record IsPlanCounted (texts : TemplateTexts) (count : DriverCounts) (d : Side × Call) : Type 0 where
   before : count.first ≡ None
   own : own_faults texts d.0 d.1 ≡ []
   limits : least (limit_faults (more_inlets count.inlets d.0 d.1) (more_destinations count.destinations d.0) d.0 d.1) ≡ None
 
-counted-none : (texts : TemplateTexts) (count : Count) (d : Side × Call) → (with_driver texts count d).first ≡ None → IsCounted texts count d
+counted-none : (texts : TemplateTexts) (count : DriverCounts) (d : Side × Call) → (with_driver texts count d).first ≡ None → IsPlanCounted texts count d
 unfolding with_driver
 counted-none texts count d e =
     let own = least (own_faults texts d.0 d.1) in
@@ -98,7 +98,7 @@ counted-none texts count d e =
     let q = earlier-none own (earlier limits repeat) p.1 in
     record { before = p.0; own = least-none (own_faults texts d.0 d.1) q.0; limits = (earlier-none limits repeat q.1).0 }
 
-first-kept : (texts : TemplateTexts) (count : Count) (ds : List (Side × Call)) → (fold (with_driver texts) count ds).first ≡ None → count.first ≡ None
+first-kept : (texts : TemplateTexts) (count : DriverCounts) (ds : List (Side × Call)) → (fold (with_driver texts) count ds).first ≡ None → count.first ≡ None
 first-kept texts count [] e = e
 first-kept texts count (d ∷ ds) e = (counted-none texts count d (first-kept texts (with_driver texts count d) ds e)).before
 
@@ -119,15 +119,15 @@ outlets-more inlets outlets side.Destination call few e =
     let p = at-most 64 (min 65 (outlets + 1)) (no-fault-if (nat_lt 64 (min 65 (outlets + 1))) _ e) in
     (omega arith, p)
 
-inlets-with : (texts : TemplateTexts) (count : Count) (d : Side × Call) → (with_driver texts count d).inlets ≡ more_inlets count.inlets d.0 d.1
+inlets-with : (texts : TemplateTexts) (count : DriverCounts) (d : Side × Call) → (with_driver texts count d).inlets ≡ more_inlets count.inlets d.0 d.1
 unfolding with_driver
 inlets-with texts count d = refl
 
-outlets-with : (texts : TemplateTexts) (count : Count) (d : Side × Call) → (with_driver texts count d).destinations ≡ more_destinations count.destinations d.0
+outlets-with : (texts : TemplateTexts) (count : DriverCounts) (d : Side × Call) → (with_driver texts count d).destinations ≡ more_destinations count.destinations d.0
 unfolding with_driver
 outlets-with texts count d = refl
 
-clean : (texts : TemplateTexts) (count : Count) (ds : List (Side × Call)) → count.inlets ≤ 128 → count.destinations ≤ 64
+clean : (texts : TemplateTexts) (count : DriverCounts) (ds : List (Side × Call)) → count.inlets ≤ 128 → count.destinations ≤ 64
     → (fold (with_driver texts) count ds).first ≡ None → AreClean texts count.inlets count.destinations ds
 clean texts count [] few some e = record { inlets_few = omega arith; outlets_few = omega arith; own = tt }
 clean texts count (d ∷ ds) few some e =
@@ -228,7 +228,7 @@ slots-by File call clean = refl
 slots-by Network call clean = listener-slots call clean
 slots-by Syslog call clean = listener-slots call clean
 
-pub source-slots : (defaults : Defaults) (call : Call) (source : SourceDriver) → IsSource defaults call source → source_faults call ≡ [] → slots_at source.place ≡ inlet_count call
+pub source-slots : (defaults : Defaults) (call : Call) (source : SourceDriver) → IsSourceDriver defaults call source → source_faults call ≡ [] → slots_at source.place ≡ inlet_count call
 source-slots defaults call source is clean =
     ap slots_at is.place
     ∙ slots-by (driver_kind call) call (no-faults (listener_faults (driver_kind call) call) (bad_values source_checks (options_of call) ++ long_names call (store_of_source call)) clean).0
@@ -238,5 +238,5 @@ slots-some File call = omega arith
 slots-some Network call = (number-or-within connections (last_value connection_words (options_of call)) 10 (omega arith, omega arith)).0
 slots-some Syslog call = (number-or-within connections (last_value connection_words (options_of call)) 10 (omega arith, omega arith)).0
 
-pub source-has-slots : (defaults : Defaults) (call : Call) (source : SourceDriver) → IsSource defaults call source → 1 ≤ slots_at source.place
+pub source-has-slots : (defaults : Defaults) (call : Call) (source : SourceDriver) → IsSourceDriver defaults call source → 1 ≤ slots_at source.place
 source-has-slots defaults call source is = subst (λ p. 1 ≤ slots_at p) (sym is.place) (slots-some (driver_kind call) call)

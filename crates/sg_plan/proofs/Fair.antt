@@ -17,22 +17,22 @@ use Rattle.sg_options.specs.Values.{number_or}
 use Rattle.sg_driver.specs.declared.defaults.Defaults.{Defaults}
 use Rattle.sg_driver.specs.Limits.{window_size, fetch_limit, message_size, fifo_size, buffer_size}
 use Rattle.sg_driver.specs.Driver.{driver_kind, options_of}
-use Rattle.sg_driver.specs.Defaults.{IsWithin, no_options, with_options}
+use Rattle.sg_driver.specs.Defaults.{IsWithinRange, no_options, with_options}
 use Rattle.sg_source.specs.declared.inlet.SourceDriver.{SourceDriver}
-use Rattle.sg_source.specs.Inlets.{window_by, slots_of, IsSource}
+use Rattle.sg_source.specs.Inlets.{window_by, slots_of, IsSourceDriver}
 use Rattle.sg_destination.specs.declared.outlet.DestinationDriver.{DestinationDriver}
 use Rattle.sg_destination.specs.declared.buffers.DiskBuffer.{DiskBuffer}
 use Rattle.sg_destination.specs.Templates.{Texts}
 use Rattle.sg_destination.specs.Buffers.{capacity_of, buffer_at, counting_buffer, size_words}
 use Rattle.sg_destination.specs.Outlets.{IsDestination}
 use Rattle.sg_plan.specs.Globals.{with_object, with_statement, defaults_of}
-use Rattle.sg_plan.proofs.Elements.{some-same}
 use Rattle.sg_plan.proofs.Ranges.{number-or-within}
+use Rattle.sg_list.proofs.ListLemmas.{some-same}
 
 -- ---- the global options
 
 abbrev pub AreFair : Defaults → Type 0
-AreFair defaults = IsWithin message_size defaults.message_size × IsWithin fifo_size defaults.fifo
+AreFair defaults = IsWithinRange message_size defaults.message_size × IsWithinRange fifo_size defaults.fifo
 
 options-fair : (calls : List Call) (defaults : Defaults) → AreFair defaults → AreFair (with_options calls defaults)
 options-fair calls defaults h = (
@@ -46,6 +46,7 @@ object-fair defaults (object.Source name calls) h = h
 object-fair defaults (object.Destination name calls) h = h
 object-fair defaults (object.Filter name expr) h = h
 object-fair defaults (object.Rewrite name calls) h = h
+object-fair defaults (object.Parser name calls) h = h
 object-fair defaults (object.Template name text) h = h
 
 statement-fair : (defaults : Defaults) (s : Statement) → AreFair defaults → AreFair (with_statement defaults s)
@@ -76,7 +77,7 @@ pub record IsFairSource (source : SourceDriver) : Type 0 where
   pub limit : (1 ≤ source.limit) × (source.limit ≤ 1048576)
   pub fetch : (1 ≤ source.fetch) × (source.fetch ≤ 1000)
 
-pub source-fair : (defaults : Defaults) (call : Call) (source : SourceDriver) → AreFair defaults → IsSource defaults call source → IsFairSource source
+pub source-fair : (defaults : Defaults) (call : Call) (source : SourceDriver) → AreFair defaults → IsSourceDriver defaults call source → IsFairSource source
 source-fair defaults call source h is = record {
   window = subst (λ w. (100 ≤ w) × (w ≤ 100000)) (sym is.window) (window-within (driver_kind call) (last_value (codes "log-iw-size" ∷ []) (options_of call)) (slots_of call));
   limit = subst (λ w. (1 ≤ w) × (w ≤ 1048576)) (sym is.limit) (number-or-within message_size (last_value (codes "log-msg-size" ∷ []) (options_of call)) defaults.message_size h.0);

@@ -13,4 +13,3 @@ pub mod Sound
 pub mod Growing
 pub mod Joined
 pub mod Within
-pub mod Directs

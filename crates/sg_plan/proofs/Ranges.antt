@@ -6,7 +6,7 @@ use Rattle.sg_parse_base.specs.declared.spot.Spot.{Spot}
 use Rattle.sg_options.specs.declared.numbers.Range.{Range}
 use Rattle.sg_options.specs.Numbers.{number_behind, digits_behind, number_to, at_least, number_in}
 use Rattle.sg_options.specs.Values.{number_or}
-use Rattle.sg_driver.specs.Defaults.{IsWithin}
+use Rattle.sg_driver.specs.Defaults.{IsWithinRange}
 
 behind : (c d : Bool) (x m : ℕ) → (if c then (if d then Some x else None) else None) ≡ Some m → (d ≡ true) × (x ≡ m)
 behind false d x m e = absurd (none-some m e)
@@ -32,13 +32,13 @@ at-least-within low high (Some m) n h e =
     let p = cond_some (nat_le low m) m n e in
     (subst (λ k. low ≤ k) p.1 (leb-true low m p.0), subst (λ k. k ≤ high) p.1 (h m refl))
 
-number-in-within : (range : Range) (text : List ℕ) (n : ℕ) → number_in range text ≡ Some n → IsWithin range n
+number-in-within : (range : Range) (text : List ℕ) (n : ℕ) → number_in range text ≡ Some n → IsWithinRange range n
 number-in-within range text n e = at-least-within range.low range.high (number_to 10 range.high text) n (λ m f. number-to-below 10 range.high text m f) e
 
-unwrapped-within : (range : Range) (o : Option ℕ) (default : ℕ) → ((n : ℕ) → o ≡ Some n → IsWithin range n) → IsWithin range default → IsWithin range (unwrap_or o default)
+unwrapped-within : (range : Range) (o : Option ℕ) (default : ℕ) → ((n : ℕ) → o ≡ Some n → IsWithinRange range n) → IsWithinRange range default → IsWithinRange range (unwrap_or o default)
 unwrapped-within range None default h d = d
 unwrapped-within range (Some n) default h d = h n refl
 
-pub number-or-within : (range : Range) (value : Option Spot) (default : ℕ) → IsWithin range default → IsWithin range (number_or value range default)
+pub number-or-within : (range : Range) (value : Option Spot) (default : ℕ) → IsWithinRange range default → IsWithinRange range (number_or value range default)
 number-or-within range None default d = d
 number-or-within range (Some spot) default d = unwrapped-within range (number_in range spot.token.text) default (λ n e. number-in-within range spot.token.text n e) d

@@ -10,28 +10,29 @@ use Rattle.sg_machine.specs.declared.setup.BufferSetup.{BufferSetup}
 use Rattle.sg_machine.specs.declared.setup.DestSetup.{DestSetup}
 use Rattle.sg_source.specs.declared.inlet.SourceDriver.{SourceDriver}
 use Rattle.sg_run_plan.specs.declared.inlet.InletPlan.{InletPlan}
-use Rattle.sg_source.specs.declared.inlet.Place.{Place}
-use Rattle.sg_source.specs.declared.inlet.Place.TheVariants as place
+use Rattle.sg_source.specs.declared.inlet.SourceOrigin.{SourceOrigin}
+use Rattle.sg_source.specs.declared.inlet.SourceOrigin.TheVariants as place
 use Rattle.sg_source.specs.Inlets.{plan_of, slots_at, store_at}
 use Rattle.sg_destination.specs.declared.outlet.DestinationDriver.{DestinationDriver}
 use Rattle.sg_destination.specs.declared.buffers.DiskBuffer.{DiskBuffer}
 use Rattle.sg_plan.specs.declared.owner.Owner.{Owner}
-use Rattle.sg_plan.specs.Parts.{Parts, no_parts, name_in, stores_by, number_by, buffer_by, buffer_stores, setup_of, inlets_of, with_source, dest_setup_of, with_destination}
-use Rattle.sg_plan.specs.Limits.{NumbersStores, HasWindow, HasRoom, IsInlet}
-use Rattle.sg_plan.proofs.Elements.{some-same, Each, each-none, each-push, each-append, each-replicate, each-map}
+use Rattle.sg_plan.specs.Parts.{PlanParts, no_parts, name_in, stores_by, number_by, buffer_by, buffer_stores, setup_of, inlets_of, with_source, dest_setup_of, with_destination}
+use Rattle.sg_plan.specs.Limits.{NumbersStores, HasWindow, HasPlannedRoom, IsInlet}
+use Rattle.sg_plan.proofs.Elements.{EachElement, each-none, each-push, each-append, each-replicate, each-map}
 use Rattle.sg_plan.proofs.StoreNumbers.{no-numbers, listeners-more, file-more, queue-more, buffer-more}
 use Rattle.sg_plan.proofs.Fair.{IsFairSource, IsFairDestination}
+use Rattle.sg_list.proofs.ListLemmas.{some-same}
 
-pub record IsSoundPart (parts : Parts) : Type 0 where
+pub record IsSoundPart (parts : PlanParts) : Type 0 where
   pub inlet_setups : length parts.inlet_setups ≡ length parts.inlets
   pub outlet_setups : length parts.outlet_setups ≡ length parts.outlets
   pub inlet_owners : length parts.inlet_owners ≡ length parts.inlets
   pub outlet_owners : length parts.outlet_owners ≡ length parts.outlets
   pub stores : length parts.stores ≤ length parts.inlets + length parts.outlets
   pub numbers : NumbersStores parts.inlet_setups parts.outlet_setups (length parts.stores)
-  pub windows : Each HasWindow parts.inlet_setups
-  pub rooms : Each HasRoom parts.outlet_setups
-  pub each : Each (IsInlet (length parts.sources)) parts.inlets
+  pub windows : EachElement HasWindow parts.inlet_setups
+  pub rooms : EachElement HasPlannedRoom parts.outlet_setups
+  pub each : EachElement (IsInlet (length parts.sources)) parts.inlets
 
 pub no-parts-sound : IsSoundPart no_parts
 no-parts-sound = record {
@@ -42,13 +43,13 @@ no-parts-sound = record {
   stores = omega arith;
   numbers = no-numbers;
   windows = each-none HasWindow;
-  rooms = each-none HasRoom;
+  rooms = each-none HasPlannedRoom;
   each = each-none (IsInlet 0);
 }
 
 -- ---- a source
 
-source-numbers : (at : Place) (inlets : List SourceSetup) (outlets : List DestSetup) (stores : List StoreSpec) (window : ℕ) → NumbersStores inlets outlets (length stores)
+source-numbers : (at : SourceOrigin) (inlets : List SourceSetup) (outlets : List DestSetup) (stores : List StoreSpec) (window : ℕ) → NumbersStores inlets outlets (length stores)
     → NumbersStores (inlets ++ replicate (slots_at at) (record { window = window; store = number_by (length stores) (store_at at) })) outlets (length (stores ++ stores_by (store_at at)))
 source-numbers (place.File path) inlets outlets stores window h =
     subst (λ n. NumbersStores (inlets ++ record { window = window; store = Some (length stores) } ∷ []) outlets n) (sym (length_push stores _))
@@ -58,7 +59,7 @@ source-numbers (place.Listener ip port slots) inlets outlets stores window h =
     (listeners-more inlets outlets (length stores) slots (record { window = window; store = None }) refl h)
 
 -- a file is one inlet, and has one store
-few-stores : (at : Place) → length (stores_by (store_at at)) ≤ slots_at at
+few-stores : (at : SourceOrigin) → length (stores_by (store_at at)) ≤ slots_at at
 few-stores (place.File path) = omega arith
 few-stores (place.Listener ip port slots) = omega arith
 
@@ -83,7 +84,7 @@ own-inlet n owner source slot fair = record {
 pub inlets-length : (number : ℕ) (owner : Owner) (source : SourceDriver) → length (inlets_of number owner source) ≡ slots_at source.place
 inlets-length number owner source = length-map-range_with_len (λ slot. plan_of source slot number (name_in owner)) 0 (slots_at source.place)
 
-pub source-sound : (parts : Parts) (owner : Owner) (source : SourceDriver) → IsFairSource source → IsSoundPart parts → IsSoundPart (with_source parts owner source)
+pub source-sound : (parts : PlanParts) (owner : Owner) (source : SourceDriver) → IsFairSource source → IsSoundPart parts → IsSoundPart (with_source parts owner source)
 source-sound parts owner source fair sound =
     let n = slots_at source.place in
     let setup = setup_of (length parts.stores) source in
@@ -103,7 +104,7 @@ source-sound parts owner source fair sound =
       numbers = source-numbers source.place parts.inlet_setups parts.outlet_setups parts.stores source.window sound.numbers;
       windows = each-append HasWindow parts.inlet_setups (replicate n setup) sound.windows (each-replicate HasWindow n setup fair.window);
       rooms = sound.rooms;
-      each = subst (λ k. Each (IsInlet k) (parts.inlets ++ plans)) (sym (length_push parts.sources source))
+      each = subst (λ k. EachElement (IsInlet k) (parts.inlets ++ plans)) (sym (length_push parts.sources source))
           (each-append (IsInlet (length parts.sources + 1)) parts.inlets plans
           (λ i inlet e. inlet-later (length parts.sources) inlet (sound.each i inlet e))
           (each-map (IsInlet (length parts.sources + 1)) (λ slot. plan_of source slot (length parts.sources) (name_in owner)) (range_with_len 0 n) (λ slot. own-inlet (length parts.sources) owner source slot fair)));
@@ -130,7 +131,7 @@ buffer-room count None setup fair e = absurd (none-some setup e)
 buffer-room count (Some buffer) setup fair e =
     subst (λ (s : BufferSetup). (2 ^ 20 ≤ s.capacity) × (s.capacity ≤ 2 ^ 30)) (some-same (record { store = count; capacity = buffer.capacity }) setup e) (fair buffer refl)
 
-destination-room : (count : ℕ) (dest : DestinationDriver) → IsFairDestination dest → HasRoom (dest_setup_of count dest)
+destination-room : (count : ℕ) (dest : DestinationDriver) → IsFairDestination dest → HasPlannedRoom (dest_setup_of count dest)
 destination-room count dest fair = record {
   some = fair.fifo.0;
   most = fair.fifo.1;
@@ -138,7 +139,7 @@ destination-room count dest fair = record {
   most_capacity = λ buffer e. (buffer-room count dest.buffer buffer fair.capacity e).1;
 }
 
-pub destination-sound : (parts : Parts) (owner : Owner) (dest : DestinationDriver) → IsFairDestination dest → IsSoundPart parts → IsSoundPart (with_destination parts owner dest)
+pub destination-sound : (parts : PlanParts) (owner : Owner) (dest : DestinationDriver) → IsFairDestination dest → IsSoundPart parts → IsSoundPart (with_destination parts owner dest)
 destination-sound parts owner dest fair sound =
     let setup = dest_setup_of (length parts.stores) dest in
     let len = length_push parts.outlets dest.plan in
@@ -156,6 +157,6 @@ destination-sound parts owner dest fair sound =
       stores = omega arith;
       numbers = destination-numbers dest.buffer parts.inlet_setups parts.outlet_setups parts.stores dest.fifo sound.numbers;
       windows = sound.windows;
-      rooms = each-append HasRoom parts.outlet_setups (setup ∷ []) sound.rooms (each-push HasRoom setup [] (destination-room (length parts.stores) dest fair) (each-none HasRoom));
+      rooms = each-append HasPlannedRoom parts.outlet_setups (setup ∷ []) sound.rooms (each-push HasPlannedRoom setup [] (destination-room (length parts.stores) dest fair) (each-none HasPlannedRoom));
       each = sound.each;
     }

@@ -7,8 +7,8 @@ use Rattle.sg_machine.specs.declared.setup.SourceSetup.{SourceSetup}
 use Rattle.sg_machine.specs.declared.setup.BufferSetup.{BufferSetup}
 use Rattle.sg_machine.specs.declared.setup.DestSetup.{DestSetup}
 use Rattle.sg_plan.specs.Limits.{NumbersStores}
-use Rattle.sg_plan.proofs.Elements.{some-same}
-use Rattle.sg_plan.proofs.Apart.{AreApart, swapped, none-more, one-more}
+use Rattle.sg_plan.proofs.Apart.{AreDriversApart, swapped, none-more, one-more}
+use Rattle.sg_list.proofs.ListLemmas.{some-same}
 
 -- of any lists of things that may have a number
 abbrev stored : {A : Type 0} → (A → Option ℕ) → List A → ℕ → Option ℕ
@@ -58,10 +58,10 @@ outlet_number setup = option_map_or (λ (buffer : BufferSetup). Some buffer.stor
 abbrev inlet_number : SourceSetup → Option ℕ
 inlet_number setup = setup.store
 
-numbers-of : (inlets : List SourceSetup) (outlets : List DestSetup) (n : ℕ) → AreApart (stored inlet_number inlets) (stored outlet_number outlets) n → NumbersStores inlets outlets n
+numbers-of : (inlets : List SourceSetup) (outlets : List DestSetup) (n : ℕ) → AreDriversApart (stored inlet_number inlets) (stored outlet_number outlets) n → NumbersStores inlets outlets n
 numbers-of inlets outlets n a = record { positions = a.firsts; buffers = a.seconds; inlets_apart = a.firsts_apart; dests_apart = a.seconds_apart; apart = a.apart; used = a.used }
 
-apart-of : (inlets : List SourceSetup) (outlets : List DestSetup) (n : ℕ) → NumbersStores inlets outlets n → AreApart (stored inlet_number inlets) (stored outlet_number outlets) n
+apart-of : (inlets : List SourceSetup) (outlets : List DestSetup) (n : ℕ) → NumbersStores inlets outlets n → AreDriversApart (stored inlet_number inlets) (stored outlet_number outlets) n
 apart-of inlets outlets n a = record { firsts = a.positions; seconds = a.buffers; firsts_apart = a.inlets_apart; seconds_apart = a.dests_apart; apart = a.apart; used = a.used }
 
 pub no-numbers : NumbersStores [] [] 0

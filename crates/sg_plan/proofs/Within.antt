@@ -7,7 +7,7 @@ use Rattle.sg_parse_obj.specs.declared.driver.Side.{Side}
 use Rattle.sg_parse_obj.specs.declared.driver.Side.TheVariants as side
 use Rattle.sg_parse_text.specs.declared.statement.Statement.{Statement}
 use Rattle.sg_source.specs.declared.inlet.SourceDriver.{SourceDriver}
-use Rattle.sg_source.specs.Inlets.{IsSource}
+use Rattle.sg_source.specs.Inlets.{IsSourceDriver}
 use Rattle.sg_source.specs.Sources.{source_faults}
 use Rattle.sg_plan.specs.declared.owner.Owner.{Owner}
 use Rattle.sg_resolve.specs.declared.templates.TemplateTexts.{TemplateTexts}
@@ -21,10 +21,10 @@ use Rattle.sg_plan.specs.declared.driver.OwnedDriver.{OwnedDriver}
 use Rattle.sg_plan.specs.declared.plan.Plan.{Plan}
 use Rattle.sg_plan.specs.Globals.{globals_of}
 use Rattle.sg_plan.specs.Owned.{Owned, owned_drivers}
-use Rattle.sg_plan.specs.Reading.{IsRead, AreRead}
-use Rattle.sg_plan.specs.Parts.{Parts, no_parts, with_one, with_driver}
+use Rattle.sg_plan.specs.Reading.{IsDriverRead, AreDriversRead}
+use Rattle.sg_plan.specs.Parts.{PlanParts, no_parts, with_one, with_driver}
 use Rattle.sg_plan.specs.Plans.{IsPlan}
-use Rattle.sg_plan.specs.Limits.{AreWithin, IsWithin}
+use Rattle.sg_plan.specs.Limits.{ArePartsWithin, IsPlanWithin}
 use Rattle.sg_plan.proofs.Fair.{AreFair, defaults-fair, source-fair, destination-fair}
 use Rattle.sg_plan.proofs.Clean.{inlets_by, outlets_by, inlets_in, outlets_in, drivers-are-clean, source-slots, source-has-slots}
 use Rattle.sg_plan.proofs.Sound.{IsSoundPart, no-parts-sound, inlets-length, source-sound, destination-sound}
@@ -32,13 +32,13 @@ use Rattle.sg_plan.proofs.Written.{written}
 use Rattle.sg_plan.proofs.Joined.{drivers-joined}
 
 -- with a driver more, which has no fault
-record IsMore (texts : TemplateTexts) (d : Side × Call) (old new : Parts) : Type 0 where
+record IsMore (texts : TemplateTexts) (d : Side × Call) (old new : PlanParts) : Type 0 where
   sound : IsSoundPart new
   inlets : length new.inlets ≡ length old.inlets + inlets_by d.0 d.1
   outlets : length new.outlets ≡ length old.outlets + outlets_by d.0
   some : 1 ≤ inlets_by d.0 d.1 + outlets_by d.0
 
-source-more : (globals : Globals) (call : Call) (source : SourceDriver) (owner : Owner) (parts : Parts) → AreFair globals.defaults → IsSource globals.defaults call source → source_faults call ≡ [] → IsSoundPart parts
+source-more : (globals : Globals) (call : Call) (source : SourceDriver) (owner : Owner) (parts : PlanParts) → AreFair globals.defaults → IsSourceDriver globals.defaults call source → source_faults call ≡ [] → IsSoundPart parts
     → IsMore globals.texts (side.Source, call) parts (with_one parts owner (driver.Source source))
 source-more globals call source owner parts fair is clean sound =
     let slots = source-slots globals.defaults call source is clean in
@@ -50,7 +50,7 @@ source-more globals call source owner parts fair is clean sound =
       some = (let p = subst (λ k. 1 ≤ k) slots some in omega arith);
     }
 
-driver-more : (globals : Globals) (d : Side × Call) (owner : Owner) (one : Driver) (parts : Parts) → AreFair globals.defaults → IsRead globals d.0 d.1 one → own_faults globals.texts d.0 d.1 ≡ [] → IsSoundPart parts
+driver-more : (globals : Globals) (d : Side × Call) (owner : Owner) (one : Driver) (parts : PlanParts) → AreFair globals.defaults → IsDriverRead globals d.0 d.1 one → own_faults globals.texts d.0 d.1 ≡ [] → IsSoundPart parts
     → IsMore globals.texts d parts (with_one parts owner one)
 driver-more globals (side.Source, call) owner (driver.Source source) parts fair is clean sound = source-more globals call source owner parts fair is clean sound
 driver-more globals (side.Source, call) owner (driver.Destination dest) parts fair is clean sound = absurd is
@@ -63,13 +63,13 @@ driver-more globals (side.Destination, call) owner (driver.Destination dest) par
 }
 
 -- with all drivers of a list
-record AreMore (ds : List (Side × Call)) (drivers : List OwnedDriver) (old new : Parts) : Type 0 where
+record AreMore (ds : List (Side × Call)) (drivers : List OwnedDriver) (old new : PlanParts) : Type 0 where
   sound : IsSoundPart new
   inlets : length new.inlets ≡ length old.inlets + inlets_in ds
   outlets : length new.outlets ≡ length old.outlets + outlets_in ds
   few : length drivers ≤ inlets_in ds + outlets_in ds
 
-drivers-more : (globals : Globals) (owned : Owned) (drivers : List OwnedDriver) (parts : Parts) → AreFair globals.defaults → AreRead globals owned drivers
+drivers-more : (globals : Globals) (owned : Owned) (drivers : List OwnedDriver) (parts : PlanParts) → AreFair globals.defaults → AreDriversRead globals owned drivers
     → AllByRecursion (λ d. own_faults globals.texts d.0 d.1 ≡ []) (written owned) → IsSoundPart parts → AreMore (written owned) drivers parts (fold with_driver parts drivers)
 drivers-more globals [] [] parts fair read clean sound = record { sound = sound; inlets = omega arith; outlets = omega arith; few = omega arith }
 drivers-more globals [] (d ∷ ds) parts fair read clean sound = absurd read
@@ -85,7 +85,7 @@ drivers-more globals (o ∷ os) (d ∷ ds) parts fair read clean sound =
     let rf = rest.few in
     record { sound = rest.sound; inlets = omega arith; outlets = omega arith; few = omega arith }
 
-all-more : (statements : List Statement) (drivers : List OwnedDriver) → IsFirstFault statements None → AreRead (globals_of statements) (owned_drivers statements) drivers
+all-more : (statements : List Statement) (drivers : List OwnedDriver) → IsFirstFault statements None → AreDriversRead (globals_of statements) (owned_drivers statements) drivers
     → AreMore (written (owned_drivers statements)) drivers no_parts (fold with_driver no_parts drivers)
 all-more statements drivers h read =
     drivers-more (globals_of statements) (owned_drivers statements) drivers no_parts (defaults-fair statements) read
@@ -102,7 +102,7 @@ drivers-are-few statements h =
     let o = clean.outlets_few in
     subst AreFew (drivers-joined statements) (record { inlets = omega arith; outlets = omega arith })
 
-pub few-drivers : (statements : List Statement) (drivers : List OwnedDriver) → IsFirstFault statements None → AreRead (globals_of statements) (owned_drivers statements) drivers → length drivers < 2 ^ 32
+pub few-drivers : (statements : List Statement) (drivers : List OwnedDriver) → IsFirstFault statements None → AreDriversRead (globals_of statements) (owned_drivers statements) drivers → length drivers < 2 ^ 32
 few-drivers statements drivers h read =
     let more = (all-more statements drivers h read).few in
     let few = drivers-are-few statements h in
@@ -110,7 +110,7 @@ few-drivers statements drivers h read =
     let o = few.outlets in
     omega arith
 
-parts-within : (statements : List Statement) (drivers : List OwnedDriver) → IsFirstFault statements None → AreRead (globals_of statements) (owned_drivers statements) drivers → AreWithin (fold with_driver no_parts drivers)
+parts-within : (statements : List Statement) (drivers : List OwnedDriver) → IsFirstFault statements None → AreDriversRead (globals_of statements) (owned_drivers statements) drivers → ArePartsWithin (fold with_driver no_parts drivers)
 parts-within statements drivers h read =
     let more = all-more statements drivers h read in
     let sound = more.sound in
@@ -134,5 +134,5 @@ parts-within statements drivers h read =
       each = sound.each;
     }
 
-pub plans_are_within : (statements : List Statement) (plan : Plan) → IsFirstFault statements None → IsPlan statements plan → IsWithin plan
-plans_are_within statements plan h is = subst AreWithin (sym is.parts) (parts-within statements is.drivers h is.read)
+pub plans_are_within : (statements : List Statement) (plan : Plan) → IsFirstFault statements None → IsPlan statements plan → IsPlanWithin plan
+plans_are_within statements plan h is = subst ArePartsWithin (sym is.parts) (parts-within statements is.drivers h is.read)

@@ -27,6 +27,7 @@ object-joined inline (object.Source name calls) = calls-joined inline name side.
 object-joined inline (object.Destination name calls) = calls-joined inline name side.Destination calls
 object-joined inline (object.Filter name expr) = refl
 object-joined inline (object.Rewrite name calls) = refl
+object-joined inline (object.Parser name calls) = refl
 object-joined inline (object.Template name text) = refl
 
 pub reference-joined : (r : RawRef) → reference_drivers r ≡ written (reference_owned r)

@@ -5,4 +5,3 @@ pub mod Reading
 pub mod Parts
 pub mod Plans
 pub mod Limits
-pub mod Direct

@@ -6,7 +6,7 @@ use Rattle.sg_machine.specs.declared.setup.BufferSetup.{BufferSetup}
 use Rattle.sg_machine.specs.declared.setup.DestSetup.{DestSetup}
 use Rattle.sg_run_plan.specs.declared.inlet.InletPlan.{InletPlan}
 use Rattle.sg_plan.specs.declared.plan.Plan.{Plan}
-use Rattle.sg_plan.specs.Parts.{Parts, parts_of}
+use Rattle.sg_plan.specs.Parts.{PlanParts, parts_of}
 
 -- the number of an inlet's store
 abbrev pub inlet_store : List SourceSetup → ℕ → Option ℕ
@@ -39,7 +39,7 @@ abbrev pub HasWindow : SourceSetup → Type 0
 HasWindow setup = (100 ≤ setup.window) × (setup.window ≤ 100000)
 
 -- a queue of 1 to 1,000,000 entries, and a disk-buffer of 1 MiB to 1 GiB
-pub record HasRoom (setup : DestSetup) : Type 0 where
+pub record HasPlannedRoom (setup : DestSetup) : Type 0 where
   pub some : 1 ≤ setup.fifo
   pub most : setup.fifo ≤ 1000000
   pub least_capacity : (buffer : BufferSetup) → setup.buffer ≡ Some buffer
@@ -54,7 +54,7 @@ pub record IsInlet (drivers : ℕ) (inlet : InletPlan) : Type 0 where
   pub some_records : 1 ≤ inlet.fetch
   pub most_records : inlet.fetch ≤ 1000
 
-pub record AreWithin (parts : Parts) : Type 0 where
+pub record ArePartsWithin (parts : PlanParts) : Type 0 where
   pub inlets : length parts.inlets ≤ 128
   pub outlets : length parts.outlets ≤ 64
   pub stores : length parts.stores ≤ 192
@@ -66,9 +66,9 @@ pub record AreWithin (parts : Parts) : Type 0 where
   pub windows : (i : ℕ) (setup : SourceSetup) → slice_get parts.inlet_setups i ≡ Some setup
       → HasWindow setup
   pub rooms : (d : ℕ) (setup : DestSetup) → slice_get parts.outlet_setups d ≡ Some setup
-      → HasRoom setup
+      → HasPlannedRoom setup
   pub each : (i : ℕ) (inlet : InletPlan) → slice_get parts.inlets i ≡ Some inlet
       → IsInlet (length parts.sources) inlet
 
-abbrev pub IsWithin : Plan → Type 0
-IsWithin plan = AreWithin (parts_of plan)
+abbrev pub IsPlanWithin : Plan → Type 0
+IsPlanWithin plan = ArePartsWithin (parts_of plan)

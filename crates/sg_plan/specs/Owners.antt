@@ -15,6 +15,7 @@ object_place (object.Source name drivers) = name.at
 object_place (object.Destination name drivers) = name.at
 object_place (object.Filter name expr) = name.at
 object_place (object.Rewrite name calls) = name.at
+object_place (object.Parser name calls) = name.at
 object_place (object.Template name text) = name.at
 
 -- the statement that a reference means

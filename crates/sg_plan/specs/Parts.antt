@@ -18,7 +18,7 @@ use Rattle.sg_plan.specs.declared.driver.Driver.TheVariants as driver
 use Rattle.sg_plan.specs.declared.driver.OwnedDriver.{OwnedDriver}
 use Rattle.sg_plan.specs.declared.plan.Plan.{Plan}
 
-pub record Parts : Type 0 where
+pub record PlanParts : Type 0 where
   pub inlet_owners : List Owner
   pub outlet_owners : List Owner
   pub sources : List SourceDriver
@@ -28,7 +28,7 @@ pub record Parts : Type 0 where
   pub outlets : List OutletPlan
   pub stores : List StoreSpec
 
-abbrev pub parts_of : Plan → Parts
+abbrev pub parts_of : Plan → PlanParts
 parts_of plan = record {
   inlet_owners = plan.ends.inlets;
   outlet_owners = plan.ends.outlets;
@@ -40,7 +40,7 @@ parts_of plan = record {
   stores = plan.stores.items;
 }
 
-abbrev pub no_parts : Parts
+abbrev pub no_parts : PlanParts
 no_parts = record {
   inlet_owners = [];
   outlet_owners = [];
@@ -89,7 +89,7 @@ abbrev pub inlets_of : ℕ → Owner → SourceDriver → List InletPlan
 inlets_of number owner source = map (λ slot. plan_of source slot number (name_in owner))
     (range_with_len 0 (slots_at source.place))
 
-abbrev pub with_source : Parts → Owner → SourceDriver → Parts
+abbrev pub with_source : PlanParts → Owner → SourceDriver → PlanParts
 with_source parts owner source = record {
   inlet_owners = parts.inlet_owners ++ replicate (slots_at source.place) owner;
   outlet_owners = parts.outlet_owners;
@@ -104,7 +104,7 @@ with_source parts owner source = record {
 abbrev pub dest_setup_of : ℕ → DestinationDriver → DestSetup
 dest_setup_of count dest = record { fifo = dest.fifo; buffer = buffer_by count dest.buffer }
 
-abbrev pub with_destination : Parts → Owner → DestinationDriver → Parts
+abbrev pub with_destination : PlanParts → Owner → DestinationDriver → PlanParts
 with_destination parts owner dest = record {
   inlet_owners = parts.inlet_owners;
   outlet_owners = parts.outlet_owners ++ owner ∷ [];
@@ -116,10 +116,10 @@ with_destination parts owner dest = record {
   stores = parts.stores ++ buffer_stores dest.buffer;
 }
 
-abbrev pub with_one : Parts → Owner → Driver → Parts
+abbrev pub with_one : PlanParts → Owner → Driver → PlanParts
 with_one parts owner (driver.Source source) = with_source parts owner source
 with_one parts owner (driver.Destination dest) = with_destination parts owner dest
 
 -- with a driver more
-abbrev pub with_driver : Parts → OwnedDriver → Parts
+abbrev pub with_driver : PlanParts → OwnedDriver → PlanParts
 with_driver parts owned = with_one parts owned.owner owned.driver

@@ -2,7 +2,7 @@
 ghost use Rattle.std.specs.Prelude.{◌≡◌, IfOk, OnOk, [], ◌∷◌};
 ghost use Rattle.sg_driver.specs.Defaults.{AreDefaults};
 ghost use Rattle.sg_plan.specs.Owned.{owner_at};
-ghost use Rattle.sg_plan.specs.Reading.{IsRead, Reads};
+ghost use Rattle.sg_plan.specs.Reading.{IsDriverRead, ReadsDrivers};
 
 use crate::Owner;
 use crate::globals::Globals;
@@ -38,7 +38,7 @@ fn owner_at(inline: bool, name: &Spot) -> Result<Owner, NoMemory>
 
 fn read_one(alloc: Global, globals: &Globals, side: Side, call: &Call) -> Result<Driver, NoMemory>
     requires { AreDefaults globals.now.defaults }
-    ensures { IfOk result (IsRead globals.now side call.now) }
+    ensures { IfOk result (IsDriverRead globals.now side call.now) }
 {
     match side {
         Side::Source => Ok(Driver::Source(read_source(alloc, call, &globals.defaults)?)),
@@ -63,7 +63,7 @@ pub fn read_driver(
     call: &Call,
 ) -> Result<(), NoMemory>
     requires { AreDefaults globals.now.defaults }
-    ensures { OnOk result (Reads globals.now ((owner_at inline name.now, (side, call.now)) ∷ [])
+    ensures { OnOk result (ReadsDrivers globals.now ((owner_at inline name.now, (side, call.now)) ∷ [])
         found.old.items found.new.items) }
 {
     let driver = read_one(alloc, globals, side, call)?;

@@ -3,7 +3,7 @@ ghost use Rattle.std.specs.Prelude.{◌≡◌, IfOk, OnOk};
 ghost use Rattle.std.proofs.Props.{props};
 ghost use Rattle.sg_driver.specs.Defaults.{AreDefaults};
 ghost use Rattle.sg_plan.specs.Owned.{calls_at, object_owned, reference_owned, leaf_owned, owned_drivers};
-ghost use Rattle.sg_plan.specs.Reading.{Reads, AreRead};
+ghost use Rattle.sg_plan.specs.Reading.{ReadsDrivers, AreDriversRead};
 
 use crate::driver::{OwnedDriver, read_driver};
 use crate::globals::Globals;
@@ -11,7 +11,7 @@ use sg_device::NoMemory;
 use sg_parse_base::Spot;
 use sg_parse_expr::{Call, RawExpr};
 use sg_parse_obj::{Object, Side};
-use sg_parse_path::{Kind, RawRef};
+use sg_parse_path::{RawRef, ReferenceKind};
 use sg_parse_text::Statement;
 use sg_visit::{Visit, visit_statements};
 use std::alloc::Global;
@@ -26,7 +26,7 @@ fn read_calls(
     calls: &[Call],
 ) -> Result<(), NoMemory>
     requires { AreDefaults globals.now.defaults }
-    ensures { OnOk result (Reads globals.now (calls_at inline name.now side calls.now)
+    ensures { OnOk result (ReadsDrivers globals.now (calls_at inline name.now side calls.now)
         found.old.items found.new.items) }
 {
     for call in calls {
@@ -44,7 +44,7 @@ fn read_object(
 ) -> Result<(), NoMemory>
     requires { AreDefaults globals.now.defaults }
     ensures { OnOk result
-        (Reads globals.now (object_owned inline object.now) found.old.items found.new.items) }
+        (ReadsDrivers globals.now (object_owned inline object.now) found.old.items found.new.items) }
 {
     match object {
         Object::Source { name, drivers } => {
@@ -77,7 +77,7 @@ fn read_reference(
 ) -> Result<(), NoMemory>
     requires { AreDefaults globals.now.defaults }
     ensures { OnOk result
-        (Reads globals.now (reference_owned reference.now) found.old.items found.new.items) }
+        (ReadsDrivers globals.now (reference_owned reference.now) found.old.items found.new.items) }
 {
     match reference {
         RawRef::Named(_) => Ok(()),
@@ -102,7 +102,7 @@ impl<'a> Visit for Reading<'a> {
     type Error = NoMemory;
 
     ghost step = { λ reading old leaf new.
-        Reads reading.globals.now (leaf_owned leaf) old.items new.items };
+        ReadsDrivers reading.globals.now (leaf_owned leaf) old.items new.items };
 
     fn object(&self, found: &mut Vec<OwnedDriver>, object: &Object) -> Result<(), NoMemory> {
         read_object(self.alloc, self.globals, found, false, object)?;
@@ -116,7 +116,7 @@ impl<'a> Visit for Reading<'a> {
     fn reference(
         &self,
         found: &mut Vec<OwnedDriver>,
-        _kind: Kind,
+        _kind: ReferenceKind,
         reference: &RawRef,
     ) -> Result<(), NoMemory> {
         read_reference(self.alloc, self.globals, found, reference)?;
@@ -140,7 +140,7 @@ pub fn read_drivers(
 ) -> Result<Vec<OwnedDriver>, NoMemory>
     requires { AreDefaults globals.now.defaults }
     ensures { IfOk result
-        (λ found. AreRead globals.now (owned_drivers statements.now) found.items) }
+        (λ found. AreDriversRead globals.now (owned_drivers statements.now) found.items) }
 {
     let mut found = Vec::new(alloc);
     visit_statements(&Reading { alloc, globals }, &mut found, statements)?;

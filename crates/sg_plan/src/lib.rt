@@ -11,6 +11,6 @@ mod owner;
 mod plan;
 
 pub use ends::{Endpoints, numbers_of};
-pub use laws::{numbers_are_within, outlets_are_direct, plans_are_one, plans_are_within};
+pub use laws::{numbers_are_within, plans_are_one, plans_are_within};
 pub use owner::Owner;
 pub use plan::{Plan, plan_of};

@@ -26,6 +26,7 @@ fn object_place(object: &Object) -> u32
         Object::Destination { name, .. } => name.at,
         Object::Filter { name, .. } => name.at,
         Object::Rewrite { name, .. } => name.at,
+        Object::Parser { name, .. } => name.at,
         Object::Template { name, .. } => name.at,
     }
 }

@@ -63,7 +63,7 @@ minutes_same m n s t hm hn e =
     two-digits_same (m % 60) (n % 60) s t (drop 3 (minutes_text m ++ s)) (omega arith) (omega arith) refl (ap (drop 3) e) in
     (omega arith, ap (drop 5) e)
 
-first_same : (a b : ℕ) (s t : List ℕ) → a ∷ s ≡ b ∷ t → a ≡ b
+pub first_same : (a b : ℕ) (s t : List ℕ) → a ∷ s ≡ b ∷ t → a ≡ b
 first_same a b s t e = cc
 
 zone_same : (x y s t : List ℕ) (a b : ℤ) → IsZone x a → IsZone y b → x ++ s ≡ y ++ t → (a ≡ b) × (s ≡ t)

@@ -3,7 +3,7 @@ use Rattle.std.specs.Prelude.{◌≡◌, ℕ, ℤ, ◌==◌, ◌||◌, ◌⊎◌
 use Rattle.sg_time.specs.declared.stamp.Stamp.{Stamp}
 use Rattle.sg_time.specs.Local.{local_time}
 use Rattle.sg_time.specs.Reading.{IsBsd, IsIso}
-use Rattle.sg_msg.specs.Message.{Pair, Content, with_all}
+use Rattle.sg_msg.specs.Message.{NameValue, Content, with_all}
 use Rattle.sg_msg.specs.Build.{some_pair}
 use Rattle.sg_msg.specs.Priority.{priority, has_at}
 use Rattle.sg_r3164.specs.declared.opts.ReadOpts.{ReadOpts}
@@ -53,13 +53,13 @@ behind_host None text = text
 behind_host (Some len) text = drop 1 (drop len text)
 
 -- the pairs that a reading gives
-abbrev pub parts : List ℕ → Option (List ℕ) → Option (List ℕ) → List ℕ → List Pair
+abbrev pub parts : List ℕ → Option (List ℕ) → Option (List ℕ) → List ℕ → List NameValue
 parts host program pid text =
     (record { name = codes "HOST"; value = host }) ∷ [] ++ some_pair (codes "PROGRAM") program ++ some_pair (codes "PID") pid
     ++ (record { name = codes "MESSAGE"; value = text }) ∷ []
 
 -- the same, set on others
-abbrev pub with_parts : List ℕ → Option (List ℕ) → Option (List ℕ) → List ℕ → List Pair → List Pair
+abbrev pub with_parts : List ℕ → Option (List ℕ) → Option (List ℕ) → List ℕ → List NameValue → List NameValue
 with_parts host program pid text pairs = with_all (parts host program pid text) pairs
 
 -- the message of an item that isn't parsed
@@ -73,11 +73,11 @@ unparsed opts received peer item = record {
 }
 
 -- The fourth and fifth steps: the tag, and what is left is MESSAGE
-abbrev pub parts_of : List ℕ → List ℕ → List Pair
+abbrev pub parts_of : List ℕ → List ℕ → List NameValue
 parts_of host text = parts host (program_of (tag text) text) (pid_of (tag text) text)
     (behind_tag (tag text) text)
 
-abbrev pub pairs_behind_stamp : ReadOpts → List ℕ → Bool → List ℕ → List Pair
+abbrev pub pairs_behind_stamp : ReadOpts → List ℕ → Bool → List ℕ → List NameValue
 pairs_behind_stamp opts peer stamped text =
     let host = host_behind stamped text in
     parts_of (host_of opts (option_map (λ len. take len text) host) peer) (behind_host host text)

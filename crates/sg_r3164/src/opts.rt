@@ -26,7 +26,7 @@ pub struct ReadOpts {
 
 impl ReadOpts {
     ghost use Rattle.std.specs.Option.{ForSome};
-    ghost use Rattle.sg_time.specs.Stamp.{IsValid};
+    ghost use Rattle.sg_time.specs.Stamp.{IsValidStamp};
     ghost use Rattle.sg_r3164.specs.Options.{received_at, sent_of, host_of};
 
     /// The received stamp of a record that was pulled at this moment: microseconds since
@@ -34,7 +34,7 @@ impl ReadOpts {
     pub fn received(&self, at: i64) -> Stamp
         requires { (pos 0 ≤ℤ at) × (at ≤ℤ pos 250_000_000_000_000_000) }
         ensures value { result ≡ received_at at self.now }
-        ensures valid { IsValid result }
+        ensures valid { IsValidStamp result }
     {
         Stamp {
             at,
@@ -44,10 +44,10 @@ impl ReadOpts {
 
     /// The message's stamp, where the record has this one, or none.
     pub fn sent(&self, found: Option<Stamp>, received: Stamp) -> Stamp
-        requires received { IsValid received }
-        requires found { ForSome found IsValid }
+        requires received { IsValidStamp received }
+        requires found { ForSome found IsValidStamp }
         ensures value { result ≡ sent_of self.now found received }
-        ensures valid { IsValid result }
+        ensures valid { IsValidStamp result }
     {
         match found {
             Some(stamp) if self.keep_timestamp => stamp,

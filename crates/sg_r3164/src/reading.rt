@@ -2,7 +2,7 @@
 ghost use Rattle.std.specs.Prelude.{◌≡◌, ◌≤◌, ◌≤ℤ◌, pos, [], true, false, length, take, drop, codes, option_map, is_some, IfOk, OnOk, OnErr, IfSome, MatchOption, ℕ};
 ghost use Rattle.std.specs.Option.{ForSome};
 ghost use Rattle.sg_time.specs.declared.stamp.Stamp.{Stamp as AStamp};
-ghost use Rattle.sg_time.specs.Stamp.{IsValid};
+ghost use Rattle.sg_time.specs.Stamp.{IsValidStamp};
 ghost use Rattle.sg_r3164.specs.Options.{sent_of};
 ghost use Rattle.sg_msg.specs.Priority.{priority};
 ghost use Rattle.sg_r3164.specs.Parts.{tag, program_of, pid_of, behind_tag};
@@ -57,11 +57,11 @@ fn ends_at(text: &[u8], place: usize) -> bool
 
 // The stamp of RFC 3164's form at the front of the text, and its length.
 fn bsd_stamp(text: &[u8], received: Stamp) -> Option<(Stamp, usize)>
-    requires { IsValid received }
+    requires { IsValidStamp received }
     ensures found { MatchOption result
         ((stamp : AStamp) (len : ℕ) → ¬ HasBsd text.now received stamp len)
         (λ found. HasBsd text.now received found.0 found.1) }
-    ensures valid { IfSome result (λ found. IsValid found.0) }
+    ensures valid { IfSome result (λ found. IsValidStamp found.0) }
     ensures within { IfSome result (λ found. found.1 ≤ length text.now) }
 {
     let Some((stamp, len)) = read_bsd(text, received) else {
@@ -78,7 +78,7 @@ fn iso_stamp(text: &[u8]) -> Option<(Stamp, usize)>
     ensures found { MatchOption result
         ((stamp : AStamp) (len : ℕ) → ¬ HasIso text.now stamp len)
         (λ found. HasIso text.now found.0 found.1) }
-    ensures valid { IfSome result (λ found. IsValid found.0) }
+    ensures valid { IfSome result (λ found. IsValidStamp found.0) }
     ensures within { IfSome result (λ found. found.1 ≤ length text.now) }
 {
     let Some((stamp, len)) = read_iso(text) else {
@@ -92,9 +92,9 @@ fn iso_stamp(text: &[u8]) -> Option<(Stamp, usize)>
 
 // The stamp at the front of the text, and its length.
 fn find_stamp(text: &[u8], received: Stamp) -> Option<(Stamp, usize)>
-    requires { IsValid received }
+    requires { IsValidStamp received }
     ensures found { FindsStamp text.now received result }
-    ensures valid { IfSome result (λ found. IsValid found.0) }
+    ensures valid { IfSome result (λ found. IsValidStamp found.0) }
     ensures within { IfSome result (λ found. found.1 ≤ length text.now) }
 {
     let Some(found) = bsd_stamp(text, received) else {
@@ -104,10 +104,10 @@ fn find_stamp(text: &[u8], received: Stamp) -> Option<(Stamp, usize)>
 }
 
 fn take_stamp(text: &mut Bytes, received: Stamp) -> Option<(Stamp, usize)>
-    requires { IsValid received }
+    requires { IsValidStamp received }
     ensures found { FindsStamp text.old received result }
     ensures rest { text.new ≡ behind_stamp result text.old }
-    ensures valid { IfSome result (λ found. IsValid found.0) }
+    ensures valid { IfSome result (λ found. IsValidStamp found.0) }
 {
     let found = find_stamp(text.as_slice(), received);
     match found {
@@ -186,10 +186,10 @@ fn put_rest(
 }
 
 fn sent(opts: &ReadOpts, found: Option<(Stamp, usize)>, received: Stamp) -> Stamp
-    requires received { IsValid received }
-    requires found { ForSome found (λ found. IsValid found.0) }
+    requires received { IsValidStamp received }
+    requires found { ForSome found (λ found. IsValidStamp found.0) }
     ensures value { result ≡ sent_of opts.now (option_map (λ found. found.0) found) received }
-    ensures valid { IsValid result }
+    ensures valid { IsValidStamp result }
 {
     match found {
         Some((stamp, _)) => opts.sent(Some(stamp), received),
@@ -204,7 +204,7 @@ fn read_parsed(
     peer: &Bytes,
     opts: &ReadOpts,
 ) -> Result<Message, AllocError>
-    requires { IsValid received }
+    requires { IsValidStamp received }
     ensures { IfOk result (ReadsAs true opts.now received peer.now item) }
 {
     let mut text = item;
@@ -223,7 +223,7 @@ fn read_unparsed(
     peer: &Bytes,
     opts: &ReadOpts,
 ) -> Result<Message, AllocError>
-    requires { IsValid received }
+    requires { IsValidStamp received }
     ensures { IfOk result (ReadsAs false opts.now received peer.now item) }
 {
     let mut builder = MessageBuilder::new(alloc, opts.pri, received, received);

@@ -6,8 +6,8 @@ use Rattle.std.proofs.lemmas.Bool.{true≢false, eqb-true, eq-eqb}
 use Rattle.std.proofs.lemmas.Slice.Eq.{bytes_eq-Decides}
 use Rattle.std.proofs.lemmas.List.Sums.{prefix_len-le-length}
 use Rattle.std.proofs.lemmas.List.{take-append-drop, drop-drop}
-use Rattle.sg_msg.specs.Message.{Pair}
-use Rattle.sg_template.specs.Elements.{SdName, Item, is_sd_name, is_param_name, is_no_dot, is_no_at, begins_with_digit, before_dot, id_length, split_name, checked, sd_name, item_of}
+use Rattle.sg_msg.specs.Message.{NameValue}
+use Rattle.sg_template.specs.Elements.{SdName, SdItem, is_sd_name, is_param_name, is_no_dot, is_no_at, begins_with_digit, before_dot, id_length, split_name, checked, sd_name, item_of}
 use Rattle.sg_r5424.specs.declared.params.Param.{Param}
 use Rattle.sg_r5424.specs.Data.{element_name, param_name, param_pair, element_pairs}
 use Rattle.sg_r5424.specs.Again.{is_data, data_pairs, begin_with, AreNamed, HasPlace, HavePlaces, KeepsData}
@@ -20,7 +20,7 @@ abbrev pub name_by : List ℕ → Option (List ℕ) → List ℕ
 name_by id None = element_name id
 name_by id (Some param) = param_name id param
 
-abbrev pub pair_of : Item → Pair
+abbrev pub pair_of : SdItem → NameValue
 pair_of item = record { name = name_by item.id item.param; value = item.value }
 
 same_bytes : (x y : List ℕ) → bytes_eq x y ≡ true → x ≡ y
@@ -105,55 +105,55 @@ unfolding sd_name
 named_back name found h = named_if name found (bytes_eq (take 7 name) (codes ".SDATA.")) refl h
 
 -- the pairs of the items are those of structured data
-abbrev item_by : List ℕ → SdName → Item
+abbrev item_by : List ℕ → SdName → SdItem
 item_by value found = record { id = found.id; param = found.param; value = value }
 
-one_back : (pair : Pair) (pairs : List Pair) (found : Option SdName) (test : Bool) → sd_name pair.name ≡ found → is_data pair ≡ test → (test ≡ true → is_some found ≡ true) → map pair_of (filter_map item_of pairs) ≡ data_pairs pairs
+one_back : (pair : NameValue) (pairs : List NameValue) (found : Option SdName) (test : Bool) → sd_name pair.name ≡ found → is_data pair ≡ test → (test ≡ true → is_some found ≡ true) → map pair_of (filter_map item_of pairs) ≡ data_pairs pairs
     → map pair_of (cons_option (option_map (item_by pair.value) found) (filter_map item_of pairs)) ≡ cond test (pair ∷ data_pairs pairs) (data_pairs pairs)
 one_back pair pairs None true e is named rest = absurd (true≢false (sym (named refl)))
 one_back pair pairs None false e is named rest = rest
 one_back pair pairs (Some found) true e is named rest =
     let back = named_back pair.name found e in
-    ap (λ (n : List ℕ). (record { name = n; value = pair.value }) ∷ map pair_of (filter_map item_of pairs)) back.1 ∙ ap (λ (l : List Pair). pair ∷ l) rest
+    ap (λ (n : List ℕ). (record { name = n; value = pair.value }) ∷ map pair_of (filter_map item_of pairs)) back.1 ∙ ap (λ (l : List NameValue). pair ∷ l) rest
 one_back pair pairs (Some found) false e is named rest = absurd (true≢false (sym (named_back pair.name found e).0 ∙ is))
 
-pub items_back : (pairs : List Pair) → AreNamed pairs → map pair_of (filter_map item_of pairs) ≡ data_pairs pairs
+pub items_back : (pairs : List NameValue) → AreNamed pairs → map pair_of (filter_map item_of pairs) ≡ data_pairs pairs
 items_back [] named = refl
 items_back (pair ∷ pairs) named =
     one_back pair pairs (sd_name pair.name) (is_data pair) refl refl named.0 (items_back pairs named.1)
 
 -- the pairs that a line says of items that have places are the items' own
-abbrev Said : List ℕ → List Item → Type 0
-Said id items = map (param_pair id) (open_params id items) ++ other_pairs id items ≡ map pair_of items
+abbrev SaidData : List ℕ → List SdItem → Type 0
+SaidData id items = map (param_pair id) (open_params id items) ++ other_pairs id items ≡ map pair_of items
 
-none_open : (id : List ℕ) (items : List Item) → begin_with id items ≡ false → open_params id items ≡ []
+none_open : (id : List ℕ) (items : List SdItem) → begin_with id items ≡ false → open_params id items ≡ []
 none_open id [] e = refl
 none_open id (item ∷ items) e = rw e refl
 
-one_said : (before : Option (List ℕ)) (id : List ℕ) (param : Option (List ℕ)) (value : List ℕ) (items : List Item) → HasPlace before id param value items → Said id items
+one_said : (before : Option (List ℕ)) (id : List ℕ) (param : Option (List ℕ)) (value : List ℕ) (items : List SdItem) → HasPlace before id param value items → SaidData id items
     → element_pairs id (param_list param value ++ open_params id items) ++ other_pairs id items ≡ pair_of (record { id = id; param = param; value = value }) ∷ map pair_of items
-one_said before id (Some name) value items place rest = ap (λ (l : List Pair). param_pair id (record { name = name; value = value }) ∷ l) rest
+one_said before id (Some name) value items place rest = ap (λ (l : List NameValue). param_pair id (record { name = name; value = value }) ∷ l) rest
 one_said before id None value items place rest =
     let none = none_open id items place.ends in
     let behind : other_pairs id items ≡ map pair_of items = ap (λ (l : List Param). map (param_pair id) l ++ other_pairs id items) (sym none) ∙ rest in
     ap (λ (l : List Param). element_pairs id l ++ other_pairs id items) none
-    ∙ (ap (λ (l : List Pair). (record { name = element_name id; value = [] }) ∷ l) behind
+    ∙ (ap (λ (l : List NameValue). (record { name = element_name id; value = [] }) ∷ l) behind
     ∙ ap (λ (v : List ℕ). (record { name = element_name id; value = v }) ∷ map pair_of items) (sym place.empty))
 
-open_said : (current id : List ℕ) (param : Option (List ℕ)) (value : List ℕ) (items : List Item) (test : Bool) → bytes_eq current id ≡ test → HasPlace (Some current) id param value items → Said id items
+open_said : (current id : List ℕ) (param : Option (List ℕ)) (value : List ℕ) (items : List SdItem) (test : Bool) → bytes_eq current id ≡ test → HasPlace (Some current) id param value items → SaidData id items
     → map (param_pair current) (cond test (param_list param value ++ open_params id items) []) ++ cond test (other_pairs id items) (element_pairs id (param_list param value ++ open_params id items) ++ other_pairs id items)
     ≡ pair_of (record { id = id; param = param; value = value }) ∷ map pair_of items
 open_said current id param value items false e place rest = one_said (Some current) id param value items place rest
 open_said current id None value items true e place rest = absurd (true≢false (sym e ∙ place.begins))
 open_said current id (Some name) value items true e place rest =
     ap (λ (x : List ℕ). map (param_pair x) ((record { name = name; value = value }) ∷ open_params id items) ++ other_pairs id items) (same_bytes current id e)
-    ∙ ap (λ (l : List Pair). param_pair id (record { name = name; value = value }) ∷ l) rest
+    ∙ ap (λ (l : List NameValue). param_pair id (record { name = name; value = value }) ∷ l) rest
 
-said_behind : (id : List ℕ) (items : List Item) → HavePlaces (Some id) items → Said id items
+said_behind : (id : List ℕ) (items : List SdItem) → HavePlaces (Some id) items → SaidData id items
 said_behind id [] places = refl
 said_behind id (item ∷ items) places = open_said id item.id item.param item.value items (bytes_eq id item.id) refl places.0 (said_behind item.id items places.1)
 
-pub items_said : (items : List Item) → HavePlaces None items → written_pairs items ≡ map pair_of items
+pub items_said : (items : List SdItem) → HavePlaces None items → written_pairs items ≡ map pair_of items
 items_said [] places = refl
 items_said (item ∷ items) places = one_said None item.id item.param item.value items places.0 (said_behind item.id items places.1)
 
@@ -166,15 +166,15 @@ element_data : (id : List ℕ) (params : List Param) → AreData (element_pairs 
 element_data id [] = (refl, tt)
 element_data id (param ∷ params) = (refl, map_data id params)
 
-data_both : (first second : List Pair) → AreData first → AreData second → AreData (first ++ second)
+data_both : (first second : List NameValue) → AreData first → AreData second → AreData (first ++ second)
 data_both [] second a b = b
 data_both (pair ∷ first) second a b = (a.0, data_both first second a.1 b)
 
-either_data : (test : Bool) (first second : List Pair) → AreData first → AreData second → AreData (cond test first second)
+either_data : (test : Bool) (first second : List NameValue) → AreData first → AreData second → AreData (cond test first second)
 either_data true first second a b = a
 either_data false first second a b = b
 
-other_data : (id : List ℕ) (items : List Item) → AreData (other_pairs id items)
+other_data : (id : List ℕ) (items : List SdItem) → AreData (other_pairs id items)
 other_data id [] = tt
 other_data id (item ∷ items) =
     let rest = other_data item.id items in
@@ -182,12 +182,12 @@ other_data id (item ∷ items) =
     either_data (bytes_eq id item.id) (other_pairs item.id items) (element_pairs item.id params ++ other_pairs item.id items) rest
     (data_both (element_pairs item.id params) (other_pairs item.id items) (element_data item.id params) rest)
 
-pub written_data : (items : List Item) → AreData (written_pairs items)
+pub written_data : (items : List SdItem) → AreData (written_pairs items)
 written_data [] = tt
 written_data (item ∷ items) =
     let params : List Param = param_list item.param item.value ++ open_params item.id items in
     data_both (element_pairs item.id params) (other_pairs item.id items) (element_data item.id params) (other_data item.id items)
 
 -- what a line says of structured data that it has a place for
-pub data_again : (pairs : List Pair) → KeepsData pairs → written_pairs (filter_map item_of pairs) ≡ data_pairs pairs
+pub data_again : (pairs : List NameValue) → KeepsData pairs → written_pairs (filter_map item_of pairs) ≡ data_pairs pairs
 data_again pairs keeps = items_said (filter_map item_of pairs) keeps.places ∙ items_back pairs keeps.named

@@ -4,11 +4,10 @@ use Rattle.std.proofs.lemmas.Bool.{false≢true}
 use Rattle.sg_time.specs.declared.stamp.Stamp.{Stamp}
 use Rattle.sg_time.specs.Reading.{IsIso, date_form, clock_form}
 use Rattle.sg_msg.specs.Priority.{priority}
-use Rattle.sg_r3164.proofs.StampsOnce.{iso_once}
-use Rattle.sg_r5424.specs.declared.header.Front.{Front}
-use Rattle.sg_r5424.specs.declared.header.Names.{Names}
-use Rattle.sg_r5424.specs.Grammar.{IsStart, IsStamp, IsFront, IsField, IsNames}
-use Rattle.sg_r5424.proofs.RunLemmas.{first_same}
+use Rattle.sg_r3164.proofs.StampsOnce.{iso_once, first_same}
+use Rattle.sg_r5424.specs.declared.header.HeaderFront.{HeaderFront}
+use Rattle.sg_r5424.specs.declared.header.HeaderNames.{HeaderNames}
+use Rattle.sg_r5424.specs.Grammar.{IsStart, IsStamp, IsHeaderFront, IsField, IsNames}
 use Rattle.sg_r5424.proofs.NameLemmas.{field_once}
 
 -- a PRI is the one that was found
@@ -54,10 +53,10 @@ stamp_once text (Some a) (Some b) s t p q =
     let texts : 32 ∷ s ≡ 32 ∷ t = sym p.1.1 ∙ (ap (λ n. drop n text) same.1 ∙ q.1.1) in
     (ap Some same.0, ap (drop 1) texts)
 
-abbrev front_of : ℕ → Option Stamp → Front
+abbrev front_of : ℕ → Option Stamp → HeaderFront
 front_of pri stamp = record { pri = pri; stamp = stamp }
 
-pub front_once : (text : List ℕ) (a b : Front) (s t : List ℕ) → IsFront text a s → IsFront text b t → (a ≡ b) × (s ≡ t)
+pub front_once : (text : List ℕ) (a b : HeaderFront) (s t : List ℕ) → IsHeaderFront text a s → IsHeaderFront text b t → (a ≡ b) × (s ≡ t)
 front_once text a b s t p q =
     let start = start_once text a.pri b.pri p.behind q.behind p.start q.start in
     let stamp = stamp_once q.behind a.stamp b.stamp s t (subst (λ (x : List ℕ). IsStamp x a.stamp s) start.1 p.stamp) q.stamp in
@@ -67,7 +66,7 @@ no_stamp : (text : List ℕ) (stamp : Option Stamp) (rest : List ℕ) → ((r : 
 no_stamp text None rest no_nil no_iso = λ h. no_nil rest h
 no_stamp text (Some s) rest no_nil no_iso = λ h. no_iso s rest h
 
-pub front_stuck : (text : List ℕ) (pri : ℕ) (behind : List ℕ) → IsStart text pri behind → ((r : List ℕ) → ¬ (behind ≡ 45 ∷ 32 ∷ r)) → ((s : Stamp) (r : List ℕ) → ¬ IsStamp behind (Some s) r) → (front : Front) (rest : List ℕ) → ¬ IsFront text front rest
+pub front_stuck : (text : List ℕ) (pri : ℕ) (behind : List ℕ) → IsStart text pri behind → ((r : List ℕ) → ¬ (behind ≡ 45 ∷ 32 ∷ r)) → ((s : Stamp) (r : List ℕ) → ¬ IsStamp behind (Some s) r) → (front : HeaderFront) (rest : List ℕ) → ¬ IsHeaderFront text front rest
 front_stuck text pri behind start no_nil no_iso front rest = λ h.
     let same = start_once text pri front.pri behind h.behind start h.start in
     no_stamp behind front.stamp rest no_nil no_iso (subst (λ (x : List ℕ). IsStamp x front.stamp rest) (sym same.1) h.stamp)
@@ -79,28 +78,28 @@ NoField most text = (field rest : List ℕ) → ¬ IsField most text field rest
 moved : (most : ℕ) (s t field rest : List ℕ) → s ≡ t → IsField most s field rest → IsField most t field rest
 moved most s t field rest e h = subst (λ (x : List ℕ). IsField most x field rest) e h
 
-pub no_program : (text host s : List ℕ) → IsField 255 text host s → NoField 48 s → (names : Names) (rest : List ℕ) → ¬ IsNames text names rest
+pub no_program : (text host s : List ℕ) → IsField 255 text host s → NoField 48 s → (names : HeaderNames) (rest : List ℕ) → ¬ IsNames text names rest
 no_program text host s a never names rest = λ h.
     let one = field_once 255 text host names.host s h.behind_host a h.host in
     never names.program h.behind_program (moved 48 h.behind_host s names.program h.behind_program (sym one.1) h.program)
 
-pub no_pid : (text host s program t : List ℕ) → IsField 255 text host s → IsField 48 s program t → NoField 128 t → (names : Names) (rest : List ℕ) → ¬ IsNames text names rest
+pub no_pid : (text host s program t : List ℕ) → IsField 255 text host s → IsField 48 s program t → NoField 128 t → (names : HeaderNames) (rest : List ℕ) → ¬ IsNames text names rest
 no_pid text host s program t a b never names rest = λ h.
     let one = field_once 255 text host names.host s h.behind_host a h.host in
     let two = field_once 48 s program names.program t h.behind_program b (moved 48 h.behind_host s names.program h.behind_program (sym one.1) h.program) in
     never names.pid h.behind_pid (moved 128 h.behind_program t names.pid h.behind_pid (sym two.1) h.pid)
 
-pub no_msgid : (text host s program t pid u : List ℕ) → IsField 255 text host s → IsField 48 s program t → IsField 128 t pid u → NoField 32 u → (names : Names) (rest : List ℕ) → ¬ IsNames text names rest
+pub no_msgid : (text host s program t pid u : List ℕ) → IsField 255 text host s → IsField 48 s program t → IsField 128 t pid u → NoField 32 u → (names : HeaderNames) (rest : List ℕ) → ¬ IsNames text names rest
 no_msgid text host s program t pid u a b d never names rest = λ h.
     let one = field_once 255 text host names.host s h.behind_host a h.host in
     let two = field_once 48 s program names.program t h.behind_program b (moved 48 h.behind_host s names.program h.behind_program (sym one.1) h.program) in
     let three = field_once 128 t pid names.pid u h.behind_pid d (moved 128 h.behind_program t names.pid h.behind_pid (sym two.1) h.pid) in
     never names.msgid rest (moved 32 h.behind_pid u names.msgid rest (sym three.1) h.msgid)
 
-abbrev names_of : List ℕ → List ℕ → List ℕ → List ℕ → Names
+abbrev names_of : List ℕ → List ℕ → List ℕ → List ℕ → HeaderNames
 names_of host program pid msgid = record { host = host; program = program; pid = pid; msgid = msgid }
 
-pub names_once : (text : List ℕ) (a b : Names) (s t : List ℕ) → IsNames text a s → IsNames text b t → (a ≡ b) × (s ≡ t)
+pub names_once : (text : List ℕ) (a b : HeaderNames) (s t : List ℕ) → IsNames text a s → IsNames text b t → (a ≡ b) × (s ≡ t)
 names_once text a b s t p q =
     let one = field_once 255 text a.host b.host p.behind_host q.behind_host p.host q.host in
     let two = field_once 48 q.behind_host a.program b.program p.behind_program q.behind_program (moved 48 p.behind_host q.behind_host a.program p.behind_program one.1 p.program) q.program in

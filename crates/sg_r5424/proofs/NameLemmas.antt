@@ -4,18 +4,18 @@ use Rattle.std.specs.List.{prefix_len}
 use Rattle.std.proofs.Math.Seq.{drop-append_seam}
 use Rattle.std.proofs.lemmas.List.{take-append-drop, length-take-le}
 use Rattle.sg_msg.specs.Sets.{is_print, is_sd_byte}
-use Rattle.sg_r5424.specs.Data.{IsName}
+use Rattle.sg_r5424.specs.Data.{IsSdName}
 use Rattle.sg_r5424.specs.Grammar.{IsField}
 use Rattle.sg_r5424.proofs.RunLemmas.{run_len, run_stops, run_passes, cut_same}
 
-pub name_len_is : (text name rest : List ℕ) → IsName text name rest → prefix_len is_sd_byte text ≡ length name
+pub name_len_is : (text name rest : List ℕ) → IsSdName text name rest → prefix_len is_sd_byte text ≡ length name
 name_len_is text name rest h = ap (prefix_len is_sd_byte) h.is_text ∙ run_len is_sd_byte name rest h.named h.ends
 
-pub name_once : (text a b s t : List ℕ) → IsName text a s → IsName text b t → (a ≡ b) × (s ≡ t)
+pub name_once : (text a b s t : List ℕ) → IsSdName text a s → IsSdName text b t → (a ≡ b) × (s ≡ t)
 name_once text a b s t p q =
     cut_same a b s t (sym p.is_text ∙ q.is_text) (sym (name_len_is text a s p) ∙ name_len_is text b t q)
 
-pub name_found : (text : List ℕ) (len : ℕ) → len ≡ prefix_len is_sd_byte text → 1 ≤ len → len ≤ 32 → len ≤ length text → IsName text (take len text) (drop len text)
+pub name_found : (text : List ℕ) (len : ℕ) → len ≡ prefix_len is_sd_byte text → 1 ≤ len → len ≤ 32 → len ≤ length text → IsSdName text (take len text) (drop len text)
 name_found text len e some most within =
     let size = length-take-le len text within in
     record {

@@ -10,9 +10,9 @@ use Rattle.std.proofs.lemmas.List.Folds.{list_all-append}
 use Rattle.sg_msg.specs.Sets.{is_sd_byte}
 use Rattle.sg_template.specs.Elements.{SdName, is_sd_name, is_param_name, is_no_dot, is_no_at, begins_with_digit, before_dot, id_length, split_name, checked, sd_name}
 use Rattle.sg_r5424.specs.declared.params.Param.{Param}
-use Rattle.sg_r5424.specs.Data.{IsName, Params, element_name, param_name}
+use Rattle.sg_r5424.specs.Data.{IsSdName, Params, element_name, param_name}
 use Rattle.sg_r5424.specs.Data.Params.{closed, more}
-use Rattle.sg_r5424.specs.OwnForm.{Element, IsTold, HasDigitsBehindDots}
+use Rattle.sg_r5424.specs.OwnForm.{SdElement, IsToldElement, HasDigitsBehindDots}
 use Rattle.sg_r5424.proofs.RunLemmas.{run_len}
 use Rattle.sg_r5424.proofs.DataAgain.{split_by}
 
@@ -67,13 +67,13 @@ with_at name behind all =
     ∙ ap (λ (t : List ℕ). length name + before_dot t) (drop-append_seam name (64 ∷ behind)))
 
 -- an ID alone isn't split, and one with a parameter's name behind it is, between them
-abbrev pub AreSplit : List ℕ → List Param → Type 0
-AreSplit id [] = Unit {0}
-AreSplit id (param ∷ params) = (id_length (id ++ 46 ∷ param.name) ≡ length id) × AreSplit id params
+abbrev pub AreNamesSplit : List ℕ → List Param → Type 0
+AreNamesSplit id [] = Unit {0}
+AreNamesSplit id (param ∷ params) = (id_length (id ++ 46 ∷ param.name) ≡ length id) × AreNamesSplit id params
 
-pub record IsSplit (element : Element) : Type 0 where
+pub record IsNameSplit (element : SdElement) : Type 0 where
   pub alone : id_length element.id ≡ length element.id
-  pub params : AreSplit element.id element.params
+  pub params : AreNamesSplit element.id element.params
 
 registered_alone : (id : List ℕ) → AllPass is_no_at id → AllPass is_no_dot id → id_length id ≡ length id
 registered_alone id at dot = without_at id at ∙ run_all is_no_dot id dot
@@ -83,7 +83,7 @@ registered_two id name at dot none =
     let behind : AllPass is_no_at (46 ∷ name) = All-cons (λ b. is_no_at b ≡ true) 46 name refl (AllPass-from_list_all is_no_at name none) in
     without_at (id ++ 46 ∷ name) (all_over is_no_at id (46 ∷ name) at behind) ∙ run_len is_no_dot id (46 ∷ name) dot refl
 
-registered_params : (id : List ℕ) (params : List Param) → AllPass is_no_at id → AllPass is_no_dot id → AllPass (λ param. list_all is_no_at param.name) params → AreSplit id params
+registered_params : (id : List ℕ) (params : List Param) → AllPass is_no_at id → AllPass is_no_dot id → AllPass (λ param. list_all is_no_at param.name) params → AreNamesSplit id params
 registered_params id [] at dot all = tt
 registered_params id (param ∷ params) at dot all =
     let test : Param → Type 0 = λ x. list_all is_no_at x.name ≡ true in
@@ -101,7 +101,7 @@ private_two name number param at dots digit =
     let size = length-append name (64 ∷ number) in
     ap id_length (append_assoc name (64 ∷ number) (46 ∷ param)) ∙ (with_at name (number ++ 46 ∷ param) at ∙ omega (arith, rest, size))
 
-private_params : (name number : List ℕ) (params : List Param) → AllPass is_no_at name → HasDigitsBehindDots number → AllPass (λ param. not (begins_with_digit param.name)) params → AreSplit (name ++ 64 ∷ number) params
+private_params : (name number : List ℕ) (params : List Param) → AllPass is_no_at name → HasDigitsBehindDots number → AllPass (λ param. not (begins_with_digit param.name)) params → AreNamesSplit (name ++ 64 ∷ number) params
 private_params name number [] at dots all = tt
 private_params name number (param ∷ params) at dots all =
     let test : Param → Type 0 = λ x. not (begins_with_digit x.name) ≡ true in (
@@ -109,12 +109,12 @@ private_params name number (param ∷ params) at dots all =
       private_params name number params at dots (All-tail test param params all),
     )
 
-split_by_id : (id other : List ℕ) (params : List Param) → id ≡ other → (id_length other ≡ length other) × AreSplit other params → IsSplit (record { id = id; params = params })
+split_by_id : (id other : List ℕ) (params : List Param) → id ≡ other → (id_length other ≡ length other) × AreNamesSplit other params → IsNameSplit (record { id = id; params = params })
 split_by_id id other params e both =
-    let here = subst (λ (x : List ℕ). (id_length x ≡ length x) × AreSplit x params) (sym e) both in
+    let here = subst (λ (x : List ℕ). (id_length x ≡ length x) × AreNamesSplit x params) (sym e) both in
     record { alone = here.0; params = here.1 }
 
-pub told : (element : Element) → IsTold element → IsSplit element
+pub told : (element : SdElement) → IsToldElement element → IsNameSplit element
 told element (inl is) = record { alone = registered_alone element.id is.no_at is.no_dot; params = registered_params element.id element.params is.no_at is.no_dot is.names }
 told element (inr is) =
     split_by_id element.id (is.name ++ 64 ∷ is.number) element.params is.is_id
@@ -150,7 +150,7 @@ named_two id name good also e =
     ∙ (ap checked (split_two id name e) ∙ checked_good (record { id = id; param = Some name }) good also)
 
 -- names that were read are of the grammar
-pub good_name : (text name rest : List ℕ) → IsName text name rest → is_sd_name name ≡ true
+pub good_name : (text name rest : List ℕ) → IsSdName text name rest → is_sd_name name ≡ true
 good_name text name rest is =
     let some = is.some in
     let most = is.most in

@@ -2,15 +2,15 @@
 use Rattle.std.proofs.Common.{◌≡◌, ℕ, ◌≤◌, ◌<◌, ◌⊎◌, inl, inr, List, [], ◌∷◌, ◌++◌, length, drop, codes, map, refl, sym, ap, ◌∙◌, subst, arith, append_assoc, append-nil, length-append, false}
 use Rattle.std.proofs.lemmas.List.{map-append}
 use Rattle.sg_msg.specs.Macros.{is_hard, date_macros, other_macros}
-use Rattle.sg_msg.specs.Message.{Pair, IsName as MayBeName}
+use Rattle.sg_msg.specs.Message.{NameValue, IsPairName as MayBeName}
 use Rattle.sg_msg.specs.Build.{Build}
 use Rattle.sg_r5424.specs.declared.params.Param.{Param}
-use Rattle.sg_r5424.specs.Data.{IsName, IsParam, Params, HasParams, element_name, param_name, param_pair}
+use Rattle.sg_r5424.specs.Data.{IsSdName, IsParam, Params, HasParams, element_name, param_name, param_pair}
 use Rattle.sg_r5424.specs.Values.{IsValue}
 use Rattle.sg_r5424.specs.Data.Params.{closed, more}
-use Rattle.sg_r5424.proofs.RunLemmas.{first_same}
 use Rattle.sg_r5424.proofs.NameLemmas.{name_once}
 use Rattle.sg_r5424.proofs.ValueLemmas.{value_once}
+use Rattle.sg_r3164.proofs.StampsOnce.{first_same}
 
 -- no macro is called like a pair of structured data
 pub soft_data : (name : List ℕ) → is_hard (codes ".SDATA." ++ name) ≡ false
@@ -27,32 +27,32 @@ param_of name value = record { name = name; value = value }
 pub param_once : (text : List ℕ) (a b : Param) (s t : List ℕ) → IsParam text a s → IsParam text b t → (a ≡ b) × (s ≡ t)
 param_once text a b s t p q =
     let behind : p.behind ≡ q.behind = ap (drop 1) (sym p.space ∙ q.space) in
-    let named = subst (λ (x : List ℕ). IsName x a.name (61 ∷ 34 ∷ p.quoted)) behind p.name in
+    let named = subst (λ (x : List ℕ). IsSdName x a.name (61 ∷ 34 ∷ p.quoted)) behind p.name in
     let name = name_once q.behind a.name b.name (61 ∷ 34 ∷ p.quoted) (61 ∷ 34 ∷ q.quoted) named q.name in
     let quoted : p.quoted ≡ q.quoted = ap (drop 2) name.1 in
     let value = value_once q.quoted a.value b.value s t (subst (λ (x : List ℕ). IsValue x a.value s) quoted p.value) q.value in
     (ap (λ x. param_of x a.value) name.0 ∙ ap (λ x. param_of b.name x) value.0, value.1)
 
 -- where a parameter can't be read
-pub no_name : (text behind : List ℕ) → text ≡ 32 ∷ behind → ((name rest : List ℕ) → ¬ IsName behind name rest) → (param : Param) (rest : List ℕ) → ¬ IsParam text param rest
+pub no_name : (text behind : List ℕ) → text ≡ 32 ∷ behind → ((name rest : List ℕ) → ¬ IsSdName behind name rest) → (param : Param) (rest : List ℕ) → ¬ IsParam text param rest
 no_name text behind e never param rest = λ h.
     let same : h.behind ≡ behind = ap (drop 1) (sym h.space ∙ e) in
-    never param.name (61 ∷ 34 ∷ h.quoted) (subst (λ (x : List ℕ). IsName x param.name (61 ∷ 34 ∷ h.quoted)) same h.name)
+    never param.name (61 ∷ 34 ∷ h.quoted) (subst (λ (x : List ℕ). IsSdName x param.name (61 ∷ 34 ∷ h.quoted)) same h.name)
 
-pub no_quote : (text behind name left : List ℕ) → text ≡ 32 ∷ behind → IsName behind name left → ((rest : List ℕ) → ¬ (left ≡ 61 ∷ 34 ∷ rest)) → (param : Param) (rest : List ℕ) → ¬ IsParam text param rest
+pub no_quote : (text behind name left : List ℕ) → text ≡ 32 ∷ behind → IsSdName behind name left → ((rest : List ℕ) → ¬ (left ≡ 61 ∷ 34 ∷ rest)) → (param : Param) (rest : List ℕ) → ¬ IsParam text param rest
 no_quote text behind name left e is_name never param rest = λ h.
     let same : h.behind ≡ behind = ap (drop 1) (sym h.space ∙ e) in
-    let named = subst (λ (x : List ℕ). IsName x param.name (61 ∷ 34 ∷ h.quoted)) same h.name in
+    let named = subst (λ (x : List ℕ). IsSdName x param.name (61 ∷ 34 ∷ h.quoted)) same h.name in
     never h.quoted (name_once behind name param.name left (61 ∷ 34 ∷ h.quoted) is_name named).1
 
-pub no_value : (text behind name quoted : List ℕ) → text ≡ 32 ∷ behind → IsName behind name (61 ∷ 34 ∷ quoted) → ((value rest : List ℕ) → ¬ IsValue quoted value rest) → (param : Param) (rest : List ℕ) → ¬ IsParam text param rest
+pub no_value : (text behind name quoted : List ℕ) → text ≡ 32 ∷ behind → IsSdName behind name (61 ∷ 34 ∷ quoted) → ((value rest : List ℕ) → ¬ IsValue quoted value rest) → (param : Param) (rest : List ℕ) → ¬ IsParam text param rest
 no_value text behind name quoted e is_name never param rest = λ h.
     let same : h.behind ≡ behind = ap (drop 1) (sym h.space ∙ e) in
-    let named = subst (λ (x : List ℕ). IsName x param.name (61 ∷ 34 ∷ h.quoted)) same h.name in
+    let named = subst (λ (x : List ℕ). IsSdName x param.name (61 ∷ 34 ∷ h.quoted)) same h.name in
     let left : h.quoted ≡ quoted = ap (drop 2) (sym (name_once behind name param.name (61 ∷ 34 ∷ quoted) (61 ∷ 34 ∷ h.quoted) is_name named).1) in
     never param.value rest (subst (λ (x : List ℕ). IsValue x param.value rest) left h.value)
 
-pub param_made : (text behind quoted : List ℕ) (param : Param) (rest : List ℕ) → text ≡ 32 ∷ behind → IsName behind param.name (61 ∷ 34 ∷ quoted) → IsValue quoted param.value rest → IsParam text param rest
+pub param_made : (text behind quoted : List ℕ) (param : Param) (rest : List ℕ) → text ≡ 32 ∷ behind → IsSdName behind param.name (61 ∷ 34 ∷ quoted) → IsValue quoted param.value rest → IsParam text param rest
 param_made text behind quoted param rest e is_name is_value = record { behind = behind; quoted = quoted; space = e; name = is_name; value = is_value }
 
 -- the cases of parameters
@@ -88,14 +88,14 @@ params_once _ _ b _ t (more text middle s param params first behind) q =
     ]
 
 -- The parameters of a text are those read so far and those of what is left.
-pub record Reached (start : List ℕ) (done : List Param) (text : List ℕ) : Type 0 where
+pub record ReachedParam (start : List ℕ) (done : List Param) (text : List ℕ) : Type 0 where
   pub whole : (params : List Param) (rest : List ℕ) → Params text params rest → Params start (done ++ params) rest
   pub only : (params : List Param) (rest : List ℕ) → Params start params rest → (left : List Param) × ((params ≡ done ++ left) × Params text left rest)
 
-pub reached_none : (start : List ℕ) → Reached start [] start
+pub reached_none : (start : List ℕ) → ReachedParam start [] start
 reached_none start = record { whole = λ params rest h. h; only = λ params rest h. (params, (refl, h)) }
 
-pub reached_more : (start : List ℕ) (done : List Param) (text : List ℕ) (param : Param) (middle : List ℕ) → Reached start done text → IsParam text param middle → Reached start (done ++ param ∷ []) middle
+pub reached_more : (start : List ℕ) (done : List Param) (text : List ℕ) (param : Param) (middle : List ℕ) → ReachedParam start done text → IsParam text param middle → ReachedParam start (done ++ param ∷ []) middle
 reached_more start done text param middle r first = record {
   whole = λ params rest h. rw append_assoc (r.whole (param ∷ params) rest (more text middle rest param params first h));
   only = λ params rest h.
@@ -114,13 +114,13 @@ reached_more start done text param middle r first = record {
 }
 
 -- the closing bracket ends them
-pub reached_end : (start : List ℕ) (done : List Param) (text rest : List ℕ) → Reached start done text → text ≡ 93 ∷ rest → Params start done rest
+pub reached_end : (start : List ℕ) (done : List Param) (text rest : List ℕ) → ReachedParam start done text → text ≡ 93 ∷ rest → Params start done rest
 reached_end start done text rest r e =
     let last : Params text [] rest = rw e (closed rest) in
     rw append-nil at (r.whole [] rest last)
 
 -- neither a parameter nor the bracket follows
-pub reached_stuck : (start : List ℕ) (done : List Param) (text : List ℕ) → Reached start done text → ((rest : List ℕ) → ¬ (text ≡ 93 ∷ rest)) → ((param : Param) (rest : List ℕ) → ¬ IsParam text param rest) → (params : List Param) (rest : List ℕ) → ¬ Params start params rest
+pub reached_stuck : (start : List ℕ) (done : List Param) (text : List ℕ) → ReachedParam start done text → ((rest : List ℕ) → ¬ (text ≡ 93 ∷ rest)) → ((param : Param) (rest : List ℕ) → ¬ IsParam text param rest) → (params : List Param) (rest : List ℕ) → ¬ Params start params rest
 reached_stuck start done text r no_end no_param params rest = λ h.
     let was = r.only params rest h in
     elim (params_cases text was.0 rest was.1.1) [ inl e ↦ no_end rest e.0 | inr m ↦ no_param m.param m.middle m.first ]
@@ -151,12 +151,12 @@ element_fits id short = (omega arith, omega arith, soft_data id)
 -- what was read and put of an element's parameters, as far as here
 pub record ParamsSoFar (id start : List ℕ) (before : Build) (text : List ℕ) (now : Build) : Type 0 where
   pub done : List Param
-  pub reached : Reached start done text
+  pub reached : ReachedParam start done text
   pub set : now ≡ record before { put = before.put ++ map (param_pair id) done }
   pub shorter : length text ≤ length start
 
 pub so_far_none : (id start : List ℕ) (before : Build) → ParamsSoFar id start before start before
-so_far_none id start before = record { done = []; reached = reached_none start; set = ap (λ (x : List Pair). record before { put = x }) (sym (append-nil before.put)); shorter = omega arith }
+so_far_none id start before = record { done = []; reached = reached_none start; set = ap (λ (x : List NameValue). record before { put = x }) (sym (append-nil before.put)); shorter = omega arith }
 
 pub so_far_more : (id start : List ℕ) (before : Build) (text : List ℕ) (now : Build) (param : Param) (middle : List ℕ) (after : Build) → ParamsSoFar id start before text now → IsParam text param middle → after ≡ record now { put = now.put ++ param_pair id param ∷ [] } → ParamsSoFar id start before middle after
 so_far_more id start before text now param middle after s first put =
@@ -164,20 +164,20 @@ so_far_more id start before text now param middle after s first put =
     let old = s.shorter in
     let change : Build → Build = λ x. record x { put = x.put ++ param_pair id param ∷ [] } in
     let pairs : before.put ++ map (param_pair id) (s.done ++ param ∷ []) ≡ (before.put ++ map (param_pair id) s.done) ++ param_pair id param ∷ [] =
-    ap (λ (x : List Pair). before.put ++ x) (map-append (param_pair id) s.done (param ∷ []))
+    ap (λ (x : List NameValue). before.put ++ x) (map-append (param_pair id) s.done (param ∷ []))
     ∙ sym (append_assoc before.put (map (param_pair id) s.done) (param_pair id param ∷ [])) in
     record {
       done = s.done ++ param ∷ [];
       reached = reached_more start s.done text param middle s.reached first;
-      set = put ∙ (ap change s.set ∙ ap (λ (x : List Pair). record before { put = x }) (sym pairs));
+      set = put ∙ (ap change s.set ∙ ap (λ (x : List NameValue). record before { put = x }) (sym pairs));
       shorter = omega arith;
     }
 
-pub so_far_end : (id start : List ℕ) (before : Build) (text : List ℕ) (now : Build) (rest : List ℕ) → ParamsSoFar id start before text now → text ≡ 93 ∷ rest → (pairs : List Pair) × (HasParams id start pairs rest × (now ≡ record before { put = before.put ++ pairs }) × (length rest ≤ length start))
+pub so_far_end : (id start : List ℕ) (before : Build) (text : List ℕ) (now : Build) (rest : List ℕ) → ParamsSoFar id start before text now → text ≡ 93 ∷ rest → (pairs : List NameValue) × (HasParams id start pairs rest × (now ≡ record before { put = before.put ++ pairs }) × (length rest ≤ length start))
 so_far_end id start before text now rest s e =
     let size = ap length e in
     let old = s.shorter in
     (map (param_pair id) s.done, ((s.done, (reached_end start s.done text rest s.reached e, refl)), s.set, omega arith))
 
-pub so_far_stuck : (id start : List ℕ) (before : Build) (text : List ℕ) (now : Build) → ParamsSoFar id start before text now → ((rest : List ℕ) → ¬ (text ≡ 93 ∷ rest)) → ((param : Param) (rest : List ℕ) → ¬ IsParam text param rest) → (pairs : List Pair) (rest : List ℕ) → ¬ HasParams id start pairs rest
+pub so_far_stuck : (id start : List ℕ) (before : Build) (text : List ℕ) (now : Build) → ParamsSoFar id start before text now → ((rest : List ℕ) → ¬ (text ≡ 93 ∷ rest)) → ((param : Param) (rest : List ℕ) → ¬ IsParam text param rest) → (pairs : List NameValue) (rest : List ℕ) → ¬ HasParams id start pairs rest
 so_far_stuck id start before text now s no_end no_param pairs rest = λ h. reached_stuck start s.done text s.reached no_end no_param h.0 rest h.1.0

@@ -1,32 +1,30 @@
 -- Runs of printing bytes in a field.
-use Rattle.std.proofs.Common.{◌≡◌, ℕ, suc, ◌+◌, ◌-◌, ◌≤◌, Bool, true, false, List, [], ◌∷◌, ◌++◌, length, take, drop, map, refl, ap, sym, ◌∙◌, arith, subst, append_assoc, append-nil}
+use Rattle.std.proofs.Common.{◌≡◌, ℕ, ◌-◌, ◌≤◌, Bool, true, false, List, [], ◌∷◌, ◌++◌, length, take, drop, map, refl, ap, sym, ◌∙◌, arith, subst, append_assoc, append-nil}
 use Rattle.std.specs.List.{prefix_len}
 use Rattle.std.proofs.lemmas.List.{take_all}
 use Rattle.sg_msg.specs.Sets.{is_print}
 use Rattle.sg_r5424.specs.Write.{printed}
+use Rattle.sg_template.proofs.Runs.{one_more}
 
 abbrev pub print_length : List ℕ → ℕ
 print_length value = prefix_len is_print value
 
-abbrev IsRun : List ℕ → Type 0
-IsRun value = map printed value ≡ take (print_length value) value ++ map printed (drop (print_length value) value)
+abbrev IsPrintedRun : List ℕ → Type 0
+IsPrintedRun value = map printed value ≡ take (print_length value) value ++ map printed (drop (print_length value) value)
 
-one_more : (n : ℕ) → 1 + n ≡ suc n
-one_more n = omega arith
-
-run_by : (e : Bool) (b : ℕ) (bytes : List ℕ) → is_print b ≡ e → IsRun bytes → IsRun (b ∷ bytes)
+run_by : (e : Bool) (b : ℕ) (bytes : List ℕ) → is_print b ≡ e → IsPrintedRun bytes → IsPrintedRun (b ∷ bytes)
 run_by false b bytes h so_far = rw (h, h) refl
 run_by true b bytes h so_far = rw (h, one_more (print_length bytes)) (ap (λ (t : List ℕ). b ∷ t) so_far)
 
 -- a value begins with such a run
-is_run : (value : List ℕ) → IsRun value
+is_run : (value : List ℕ) → IsPrintedRun value
 is_run [] = refl
 is_run (b ∷ bytes) = run_by (is_print b) b bytes refl (is_run bytes)
 
-abbrev Stops : List ℕ → Type 0
-Stops value = (b : ℕ) (bytes : List ℕ) → drop (print_length value) value ≡ b ∷ bytes → is_print b ≡ false
+abbrev StopsPrinting : List ℕ → Type 0
+StopsPrinting value = (b : ℕ) (bytes : List ℕ) → drop (print_length value) value ≡ b ∷ bytes → is_print b ≡ false
 
-stops_by : (e : Bool) (x : ℕ) (xs : List ℕ) → is_print x ≡ e → Stops xs → Stops (x ∷ xs)
+stops_by : (e : Bool) (x : ℕ) (xs : List ℕ) → is_print x ≡ e → StopsPrinting xs → StopsPrinting (x ∷ xs)
 stops_by false x xs h later b bytes e =
     let whole = rw h at e in
     let same : x ≡ b = cc in
@@ -35,7 +33,7 @@ stops_by true x xs h later b bytes e =
     later b bytes (rw (h, one_more (print_length xs)) at e)
 
 -- the byte behind such a run doesn't print
-stops : (value : List ℕ) → Stops value
+stops : (value : List ℕ) → StopsPrinting value
 stops [] b bytes e = absurd (let wrong : [] ≡ b ∷ bytes = e in cc)
 stops (x ∷ xs) b bytes e = stops_by (is_print x) x xs refl (stops xs) b bytes e
 

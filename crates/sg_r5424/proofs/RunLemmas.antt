@@ -3,10 +3,10 @@ use Rattle.std.proofs.Common.{◌≡◌, ℕ, suc, ◌+◌, Bool, true, false, �
 use Rattle.std.specs.List.{AllPass, prefix_len, starts_with}
 use Rattle.std.proofs.lemmas.List.Elements.{All-nil, All-cons, All-head, All-tail}
 use Rattle.std.proofs.lemmas.Bool.{false≢true, eqb-true, eq-eqb}
-use Rattle.sg_r5424.specs.Data.{Stops}
+use Rattle.sg_r5424.specs.Data.{StopsAtByte}
 
 -- a run of bytes that pass, with nothing behind it that passes, is as long as the front that passes
-pub run_len : (passes : ℕ → Bool) (xs ys : List ℕ) → AllPass passes xs → Stops passes ys → prefix_len passes (xs ++ ys) ≡ length xs
+pub run_len : (passes : ℕ → Bool) (xs ys : List ℕ) → AllPass passes xs → StopsAtByte passes ys → prefix_len passes (xs ++ ys) ≡ length xs
 run_len passes [] [] all stops = refl
 run_len passes [] (y ∷ ys) all stops = rw stops refl
 run_len passes (x ∷ xs) ys all stops =
@@ -15,11 +15,11 @@ run_len passes (x ∷ xs) ys all stops =
     rw first (omega (arith, more))
 
 -- what follows the front that passes
-stops_at : (passes : ℕ → Bool) (x : ℕ) (xs : List ℕ) (b : Bool) → passes x ≡ b → Stops passes (drop (prefix_len passes xs) xs) → Stops passes (drop (cond b (1 + prefix_len passes xs) 0) (x ∷ xs))
+stops_at : (passes : ℕ → Bool) (x : ℕ) (xs : List ℕ) (b : Bool) → passes x ≡ b → StopsAtByte passes (drop (prefix_len passes xs) xs) → StopsAtByte passes (drop (cond b (1 + prefix_len passes xs) 0) (x ∷ xs))
 stops_at passes x xs true e more = let one : 1 + prefix_len passes xs ≡ suc (prefix_len passes xs) = omega arith in rw one more
 stops_at passes x xs false e more = e
 
-pub run_stops : (passes : ℕ → Bool) (xs : List ℕ) → Stops passes (drop (prefix_len passes xs) xs)
+pub run_stops : (passes : ℕ → Bool) (xs : List ℕ) → StopsAtByte passes (drop (prefix_len passes xs) xs)
 run_stops passes [] = tt
 run_stops passes (x ∷ xs) = stops_at passes x xs (passes x) refl (run_stops passes xs)
 
@@ -44,9 +44,6 @@ cut_same (x ∷ a) (y ∷ b) s t e n =
     let r = cut_same a b s t tail (omega (arith, n)) in
     let front : a ≡ b = r.0 in
     (cc, r.1)
-
-pub first_same : (a b : ℕ) (s t : List ℕ) → a ∷ s ≡ b ∷ t → a ≡ b
-first_same a b s t e = cc
 
 -- a text that begins with these bytes
 pub and_true : (p q : Bool) → p && q ≡ true → (p ≡ true) × (q ≡ true)

@@ -4,7 +4,7 @@ use Rattle.std.specs.List.{AllPass, filter_map}
 use Rattle.std.proofs.lemmas.List.{take_all}
 use Rattle.std.proofs.lemmas.List.Elements.{All-head, All-tail}
 use Rattle.sg_time.specs.declared.stamp.Stamp.{Stamp}
-use Rattle.sg_msg.specs.Message.{Pair, Content, value_of, with_all, IsAscending}
+use Rattle.sg_msg.specs.Message.{NameValue, Content, value_of, with_all, IsAscending}
 use Rattle.sg_msg.specs.Message.{IsMessage as IsContent}
 use Rattle.sg_msg.specs.Build.{some_pair}
 use Rattle.sg_msg.specs.Sets.{is_print}
@@ -16,7 +16,7 @@ use Rattle.sg_template.specs.Elements.{item_of}
 use Rattle.sg_r5424.specs.Grammar.{unless_nil, without_bom}
 use Rattle.sg_r5424.specs.Is5424.{message_pair}
 use Rattle.sg_r5424.specs.Write.{printed, field_text}
-use Rattle.sg_r5424.specs.Again.{IsFieldText, HasForm, IsWhole, data_pairs, SaysAgain}
+use Rattle.sg_r5424.specs.Again.{IsFieldText, HasFieldForm, IsWholeText, data_pairs, SaysAgain}
 use Rattle.sg_r5424.proofs.WrittenHeader.{some_field}
 use Rattle.sg_r5424.proofs.WrittenData.{written_pairs, said_text}
 use Rattle.sg_r5424.proofs.NamedValues.{last_value, value_last, last_append, AreData, last_data, data_ascending, data_all, data_append, data_itself}
@@ -41,12 +41,12 @@ field_kept limit (b ∷ value) form =
 unless_kept : (value : List ℕ) → bytes_eq value (codes "-") ≡ false → unless_nil value ≡ Some value
 unless_kept value e = rw e refl
 
-field_again : (limit : ℕ) (found : Option (List ℕ)) → HasForm limit found → unless_nil (field_text limit (unwrap_or found [])) ≡ found
+field_again : (limit : ℕ) (found : Option (List ℕ)) → HasFieldForm limit found → unless_nil (field_text limit (unwrap_or found [])) ≡ found
 field_again limit None form = refl
 field_again limit (Some value) form = ap unless_nil (field_kept limit value form) ∙ unless_kept value form.named
 
 -- the last value of a name, part after part
-parts_last : (name : List ℕ) (host : Pair) (program pid msgid «data» : List Pair) (message : Pair) (others : Option (List ℕ))
+parts_last : (name : List ℕ) (host : NameValue) (program pid msgid «data» : List NameValue) (message : NameValue) (others : Option (List ℕ))
     → last_value name msgid (last_value name pid (last_value name program (last_value name (host ∷ []) None))) ≡ others
     → bytes_eq (take 7 name) (codes ".SDATA.") ≡ false → AreData «data»
     → last_value name (host ∷ [] ++ program ++ pid ++ msgid ++ «data» ++ message ∷ []) None ≡ last_value name (message ∷ []) others
@@ -78,12 +78,12 @@ msgid_one : (value : Option (List ℕ)) → last_value (codes "MSGID") (some_pai
 msgid_one None = refl
 msgid_one (Some value) = refl
 
-abbrev put_by : List ℕ → Option (List ℕ) → Option (List ℕ) → Option (List ℕ) → List Pair → List ℕ → List Pair
+abbrev put_by : List ℕ → Option (List ℕ) → Option (List ℕ) → Option (List ℕ) → List NameValue → List ℕ → List NameValue
 put_by host program pid msgid «data» text =
     (record { name = codes "HOST"; value = host }) ∷ [] ++ some_pair (codes "PROGRAM") program ++ some_pair (codes "PID") pid
     ++ some_pair (codes "MSGID") msgid ++ «data» ++ message_pair text ∷ []
 
-module _ (host : List ℕ) (program pid msgid : Option (List ℕ)) («data» : List Pair) (text : List ℕ) (are : AreData «data») where
+module _ (host : List ℕ) (program pid msgid : Option (List ℕ)) («data» : List NameValue) (text : List ℕ) (are : AreData «data») where
   host_said : value_of (codes "HOST") (with_all (put_by host program pid msgid «data» text) []) ≡ Some host
   host_said =
       value_last (codes "HOST") (put_by host program pid msgid «data» text) []
@@ -127,29 +127,29 @@ no_data : (name : List ℕ) (value : Option (List ℕ)) → bytes_eq (take 7 nam
 no_data name None e = refl
 no_data name (Some value) e = rw e refl
 
-only_data : (host : List ℕ) (program pid msgid : Option (List ℕ)) («data» : List Pair) (text : List ℕ) → AreData «data» → data_pairs (put_by host program pid msgid «data» text) ≡ «data»
+only_data : (host : List ℕ) (program pid msgid : Option (List ℕ)) («data» : List NameValue) (text : List ℕ) → AreData «data» → data_pairs (put_by host program pid msgid «data» text) ≡ «data»
 only_data host program pid msgid «data» text are =
-    let first : List Pair = (record { name = codes "HOST"; value = host }) ∷ [] in
-    let p : List Pair = some_pair (codes "PROGRAM") program in
-    let i : List Pair = some_pair (codes "PID") pid in
-    let g : List Pair = some_pair (codes "MSGID") msgid in
+    let first : List NameValue = (record { name = codes "HOST"; value = host }) ∷ [] in
+    let p : List NameValue = some_pair (codes "PROGRAM") program in
+    let i : List NameValue = some_pair (codes "PID") pid in
+    let g : List NameValue = some_pair (codes "MSGID") msgid in
     let names : data_pairs (first ++ p ++ i ++ g) ≡ [] =
     data_append (first ++ p ++ i) g
-    ∙ (ap (λ (l : List Pair). l ++ data_pairs g)
+    ∙ (ap (λ (l : List NameValue). l ++ data_pairs g)
     (data_append (first ++ p) i
-    ∙ (ap (λ (l : List Pair). l ++ data_pairs i) (data_append first p ∙ no_data (codes "PROGRAM") program refl)
+    ∙ (ap (λ (l : List NameValue). l ++ data_pairs i) (data_append first p ∙ no_data (codes "PROGRAM") program refl)
     ∙ no_data (codes "PID") pid refl))
     ∙ no_data (codes "MSGID") msgid refl) in
     data_append (first ++ p ++ i ++ g ++ «data») (message_pair text ∷ [])
     ∙ (append-nil (data_pairs (first ++ p ++ i ++ g ++ «data»))
     ∙ (data_append (first ++ p ++ i ++ g) «data»
-    ∙ (ap (λ (l : List Pair). l ++ data_pairs «data») names ∙ data_itself «data» are)))
+    ∙ (ap (λ (l : List NameValue). l ++ data_pairs «data») names ∙ data_itself «data» are)))
 
-data_said : (host : List ℕ) (program pid msgid : Option (List ℕ)) («data» pairs : List Pair) (text : List ℕ) → AreData «data» → IsAscending pairs → «data» ≡ data_pairs pairs
+data_said : (host : List ℕ) (program pid msgid : Option (List ℕ)) («data» pairs : List NameValue) (text : List ℕ) → AreData «data» → IsAscending pairs → «data» ≡ data_pairs pairs
     → data_pairs (with_all (put_by host program pid msgid «data» text) []) ≡ data_pairs pairs
 data_said host program pid msgid «data» pairs text are up same =
     data_all (put_by host program pid msgid «data» text) [] tt
-    ∙ (ap (λ (l : List Pair). with_all l []) (only_data host program pid msgid «data» text are ∙ same)
+    ∙ (ap (λ (l : List NameValue). with_all l []) (only_data host program pid msgid «data» text are ∙ same)
     ∙ all-ascending (data_pairs pairs) (data_ascending pairs up))
 
 -- HOST
@@ -157,7 +157,7 @@ host_kept : (opts : ReadOpts) (peer value : List ℕ) → opts.keep_hostname ≡
 host_kept opts peer value keep = rw keep refl
 
 -- MESSAGE
-text_kept : (text : List ℕ) → IsWhole text → said_text text ≡ text
+text_kept : (text : List ℕ) → IsWholeText text → said_text text ≡ text
 text_kept [] whole = refl
 text_kept (b ∷ text) whole = ap without_bom whole.end ∙ whole.front
 
@@ -168,7 +168,7 @@ says_again content is received peer opts stamp =
     let program : Option (List ℕ) = unless_nil names.program in
     let pid : Option (List ℕ) = unless_nil names.pid in
     let msgid : Option (List ℕ) = unless_nil names.msgid in
-    let «data» : List Pair = written_pairs (filter_map item_of content.pairs) in
+    let «data» : List NameValue = written_pairs (filter_map item_of content.pairs) in
     let text : List ℕ = said_text (text_of (codes "MESSAGE") content.pairs) in
     let are = written_data (filter_map item_of content.pairs) in
     record {

@@ -13,7 +13,7 @@ use Rattle.jiff_core.specs.declared.civil.date.Date.{Date}
 use Rattle.jiff_core.specs.declared.civil.time.Time.{Time}
 use Rattle.sg_time.specs.declared.stamp.Stamp.{Stamp}
 use Rattle.sg_time.specs.declared.local.LocalTime.{LocalTime}
-use Rattle.sg_time.specs.Stamp.{IsValid}
+use Rattle.sg_time.specs.Stamp.{IsValidStamp}
 use Rattle.sg_time.specs.Text.{digits, date_text, clock_text, fraction_text, offset_text, iso_local_text}
 use Rattle.sg_time.specs.Reading.{date_form, clock_form, IsDigit, micros_from, IsFraction, IsZone}
 use Rattle.sg_time.specs.Reading.IsZone.{east, west}
@@ -94,7 +94,7 @@ stamp_read local offset count rest s from to low high most =
 within : (low high z : ℤ) → int_le low z ≡ true → int_le z high ≡ true → (low ≤ℤ z) × (z ≤ℤ high)
 within low high z e f = (grind (arith, ints), grind (arith, ints))
 
-moved_valid : (stamp : Stamp) (offset : ℤ) (test : Bool) → IsValid stamp → negsuc 1438 ≤ℤ offset → offset ≤ℤ pos 1439 → has_year stamp.at offset ≡ test → IsValid (cond test (record { at = stamp.at; offset = offset }) stamp)
+moved_valid : (stamp : Stamp) (offset : ℤ) (test : Bool) → IsValidStamp stamp → negsuc 1438 ≤ℤ offset → offset ≤ℤ pos 1439 → has_year stamp.at offset ≡ test → IsValidStamp (cond test (record { at = stamp.at; offset = offset }) stamp)
 moved_valid stamp offset true valid low high e =
     let local : ℤ = stamp.at +ℤ (offset *ℤ pos 60000000) in
     let both = and_true (int_le (negsuc 62167219199999999) local) (int_le local (pos 253402300799999999)) e in
@@ -102,7 +102,7 @@ moved_valid stamp offset true valid low high e =
     record { east = low; west = high; begins = range.0; ends = range.1 }
 moved_valid stamp offset false valid low high e = valid
 
-pub shown_valid : (zone : Option ℤ) (stamp : Stamp) → ForSome zone (λ offset. (negsuc 1438 ≤ℤ offset) × (offset ≤ℤ pos 1439)) → IsValid stamp → IsValid (shown_stamp zone stamp)
+pub shown_valid : (zone : Option ℤ) (stamp : Stamp) → ForSome zone (λ offset. (negsuc 1438 ≤ℤ offset) × (offset ≤ℤ pos 1439)) → IsValidStamp stamp → IsValidStamp (shown_stamp zone stamp)
 unfolding shown_stamp
 shown_valid None stamp range valid = valid
 shown_valid (Some offset) stamp range valid =

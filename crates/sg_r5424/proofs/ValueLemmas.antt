@@ -5,8 +5,8 @@ use Rattle.std.proofs.lemmas.Bool.{true≢false, false≢true, eqb-true}
 use Rattle.std.proofs.lemmas.List.{drop_all}
 use Rattle.std.proofs.Math.Seq.{take-append_seam, drop-append_seam}
 use Rattle.sg_msg.specs.Sets.{is_escaped}
-use Rattle.sg_r5424.specs.Values.{is_bare, Spells, IsValue, quote_from, unescaped_byte, unescaped_from}
-use Rattle.sg_r5424.specs.Values.Spells.{none, escaped, backslash, plain}
+use Rattle.sg_r5424.specs.Values.{is_bare, SpellsValue, IsValue, quote_from, unescaped_byte, unescaped_from}
+use Rattle.sg_r5424.specs.Values.SpellsValue.{none, escaped, backslash, plain}
 use Rattle.sg_r5424.proofs.RunLemmas.{cut_same}
 
 or_false : (p q : Bool) → p || q ≡ false → (p ≡ false) × (q ≡ false)
@@ -29,7 +29,7 @@ is_plain : (b : ℕ) → is_escaped b ≡ false → IsPlain b
 is_plain b e = let t = plain_tests (nat_eq b 34) (nat_eq b 92) (nat_eq b 93) e in record { quote = t.0; slash = t.1; bracket = t.2 }
 
 -- where a text spells a value, the quote behind it is the first that closes it
-pub quote_is : (place : ℕ) (text value rest : List ℕ) → Spells text value → quote_from false place (text ++ 34 ∷ rest) ≡ Some (place + length text)
+pub quote_is : (place : ℕ) (text value rest : List ℕ) → SpellsValue text value → quote_from false place (text ++ 34 ∷ rest) ≡ Some (place + length text)
 quote_is place _ _ rest none = ap Some (omega arith)
 quote_is place _ _ rest (escaped b text value e more) = quote_is (place + 1 + 1) text value rest more ∙ ap Some (omega arith)
 quote_is place _ _ rest (backslash b text value e more) = quote_is (place + 1 + 1) text value rest more ∙ ap Some (omega arith)
@@ -38,7 +38,7 @@ quote_is place _ _ rest (plain b text value e more) =
     rw (t.quote, t.bracket, t.slash) (quote_is (place + 1) text value rest more ∙ ap Some (omega arith))
 
 -- and the text comes to the value
-pub value_is : (text value : List ℕ) → Spells text value → unescaped_from false text ≡ value
+pub value_is : (text value : List ℕ) → SpellsValue text value → unescaped_from false text ≡ value
 value_is _ _ none = refl
 value_is _ _ (escaped b text value e more) = rw e (ap (λ t. b ∷ t) (value_is text value more))
 value_is _ _ (backslash b text value e more) = rw e (ap (λ t. 92 ∷ b ∷ t) (value_is text value more))
@@ -54,18 +54,18 @@ value_once text a b s t p q =
     (sym (value_is p.spelled a p.spells) ∙ (ap (unescaped_from false) same.0 ∙ value_is q.spelled b q.spells), ap (drop 1) same.1)
 
 -- a text whose closing quote stands so far ahead begins with a value
-record Closes (text : List ℕ) (ahead : ℕ) : Type 0 where
+record ClosesValue (text : List ℕ) (ahead : ℕ) : Type 0 where
   spelled : List ℕ
   rest : List ℕ
   is_text : text ≡ spelled ++ 34 ∷ rest
   is_ahead : ahead ≡ length spelled
-  spells : Spells spelled (unescaped_from false spelled)
+  spells : SpellsValue spelled (unescaped_from false spelled)
 
 -- the closing quote at this place, counted from where the text begins
 record Found (text : List ℕ) (place end : ℕ) : Type 0 where
   ahead : ℕ
   is_end : end ≡ place + ahead
-  closes : Closes text ahead
+  closes : ClosesValue text ahead
 
 record FoundBehind (text : List ℕ) (place end : ℕ) : Type 0 where
   byte : ℕ
@@ -78,7 +78,7 @@ FoundIn true text place end = FoundBehind text place end
 FoundIn false text place end = Found text place end
 
 -- a backslash and a byte before a text that closes
-escape : (b : ℕ) (text : List ℕ) (ahead : ℕ) (test : Bool) → is_escaped b ≡ test → Closes text ahead → Closes (92 ∷ b ∷ text) (ahead + 2)
+escape : (b : ℕ) (text : List ℕ) (ahead : ℕ) (test : Bool) → is_escaped b ≡ test → ClosesValue text ahead → ClosesValue (92 ∷ b ∷ text) (ahead + 2)
 escape b text ahead true e c = record {
   spelled = 92 ∷ b ∷ c.spelled;
   rest = c.rest;
@@ -118,7 +118,7 @@ step b text place end false false true eq eb es e more =
     record {
       ahead = f.ahead + 2;
       is_end = omega (arith, f.is_end);
-      closes = subst (λ (t : List ℕ). Closes t (f.ahead + 2)) is_text (escape m.byte m.behind f.ahead (is_escaped m.byte) refl f.closes);
+      closes = subst (λ (t : List ℕ). ClosesValue t (f.ahead + 2)) is_text (escape m.byte m.behind f.ahead (is_escaped m.byte) refl f.closes);
     }
 step b text place end false false false eq eb es e more =
     let f = more e in

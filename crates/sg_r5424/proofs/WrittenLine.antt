@@ -3,7 +3,7 @@ use Rattle.std.proofs.Common.{◌≡◌, ℕ, Some, List, [], ◌∷◌, ◌++�
 use Rattle.sg_time.specs.declared.stamp.Stamp.{Stamp}
 use Rattle.sg_time.specs.Local.{local_time}
 use Rattle.sg_time.specs.Text.{iso_stamp_text, iso_local_text}
-use Rattle.sg_msg.specs.Message.{Pair, Content}
+use Rattle.sg_msg.specs.Message.{NameValue, Content}
 use Rattle.sg_msg.specs.Message.{IsMessage as IsContent}
 use Rattle.sg_r3164.specs.declared.opts.ReadOpts.{ReadOpts}
 use Rattle.sg_template.specs.declared.env.Env.{Env}
@@ -11,8 +11,8 @@ use Rattle.sg_template.specs.Texts.{text_of}
 use Rattle.std.specs.List.{filter_map}
 use Rattle.sg_template.specs.Elements.{item_of, sdata_text}
 use Rattle.sg_template.specs.Zone.{shown_stamp}
-use Rattle.sg_r5424.specs.declared.header.Names.{Names}
-use Rattle.sg_r5424.specs.Is5424.{header_build, whole_content, without_end, Reads}
+use Rattle.sg_r5424.specs.declared.header.HeaderNames.{HeaderNames}
+use Rattle.sg_r5424.specs.Is5424.{header_build, whole_content, without_end, ReadsSyslogMsg}
 use Rattle.sg_r5424.specs.Write.{field_text, message_text, pri_text, line_text, HasYear}
 use Rattle.sg_time.proofs.Dates.{shows}
 use Rattle.sg_r5424.proofs.StampLemmas.{stamp_read, shown_valid}
@@ -32,7 +32,7 @@ in_front : (pri stamp host program pid msgid rest : List ℕ) →
 in_front pri stamp host program pid msgid rest = simp append_assoc
 
 -- the names of a line
-abbrev pub names_of : List Pair → Names
+abbrev pub names_of : List NameValue → HeaderNames
 names_of pairs = record {
   host = field_text 255 (text_of (codes "HOST") pairs);
   program = field_text 48 (text_of (codes "PROGRAM") pairs);
@@ -46,7 +46,7 @@ said_by received peer opts stamp content =
     whole_content (header_build received peer opts (record { pri = content.pri; stamp = Some stamp }) (names_of content.pairs))
     (written_pairs (filter_map item_of content.pairs)) (said_text (text_of (codes "MESSAGE") content.pairs))
 
-pub line_read : (content : Content) (env : Env) → IsContent content → HasYear content env → (received : Stamp) (peer : List ℕ) (opts : ReadOpts) → (stamp : Stamp) × Reads received peer opts (without_end (line_text content env)) (said_by received peer opts stamp content)
+pub line_read : (content : Content) (env : Env) → IsContent content → HasYear content env → (received : Stamp) (peer : List ℕ) (opts : ReadOpts) → (stamp : Stamp) × ReadsSyslogMsg received peer opts (without_end (line_text content env)) (said_by received peer opts stamp content)
 unfolding line_text iso_stamp_text
 line_read content env is year received peer opts =
     let shown : Stamp = shown_stamp env.zone content.sent in
@@ -70,7 +70,7 @@ line_read content env is year received peer opts =
     ap without_end is_line
     ∙ (line_ended header content.pairs text
     ∙ sym (in_front (pri_text content.pri) stamp_text (field_text 255 host) (field_text 48 program) (field_text 128 pid) (field_text 32 msgid) ended)) in
-    let read : Reads received peer opts (pri_text content.pri ++ (stamp_text ++ 32 ∷ behind_stamp)) (said_by received peer opts stamp.0 content) = record {
+    let read : ReadsSyslogMsg received peer opts (pri_text content.pri ++ (stamp_text ++ 32 ∷ behind_stamp)) (said_by received peer opts stamp.0 content) = record {
       front = record { pri = content.pri; stamp = Some stamp.0 };
       names = names_of content.pairs;
       behind_front = behind_stamp;
@@ -86,4 +86,4 @@ line_read content env is year received peer opts =
         is_content = refl;
       };
     } in
-    (stamp.0, subst (λ (x : List ℕ). Reads received peer opts x (said_by received peer opts stamp.0 content)) (sym whole) read)
+    (stamp.0, subst (λ (x : List ℕ). ReadsSyslogMsg received peer opts x (said_by received peer opts stamp.0 content)) (sym whole) read)

@@ -5,8 +5,8 @@ use Rattle.sg_time.specs.declared.stamp.Stamp.{Stamp}
 use Rattle.sg_time.specs.Reading.{IsIso}
 use Rattle.sg_msg.specs.Priority.{priority}
 use Rattle.sg_msg.specs.Sets.{is_print}
-use Rattle.sg_r5424.specs.declared.header.Front.{Front}
-use Rattle.sg_r5424.specs.declared.header.Names.{Names}
+use Rattle.sg_r5424.specs.declared.header.HeaderFront.{HeaderFront}
+use Rattle.sg_r5424.specs.declared.header.HeaderNames.{HeaderNames}
 
 -- PRI and VERSION, which is 1, and a space (sections 6.2.1 and 6.2.2)
 pub record IsStart (text : List ℕ) (pri : ℕ) (rest : List ℕ) : Type 0 where
@@ -19,7 +19,7 @@ abbrev pub IsStamp : List ℕ → Option Stamp → List ℕ → Type 0
 IsStamp text None rest = text ≡ codes "- " ++ rest
 IsStamp text (Some stamp) rest = (len : ℕ) × (IsIso text stamp len × (drop len text ≡ 32 ∷ rest))
 
-pub record IsFront (text : List ℕ) (front : Front) (rest : List ℕ) : Type 0 where
+pub record IsHeaderFront (text : List ℕ) (front : HeaderFront) (rest : List ℕ) : Type 0 where
   pub behind : List ℕ
   pub start : IsStart text front.pri behind
   pub stamp : IsStamp behind front.stamp rest
@@ -32,7 +32,7 @@ pub record IsField (limit : ℕ) (text field rest : List ℕ) : Type 0 where
   pub print : AllPass is_print field
 
 -- HOSTNAME, APP-NAME, PROCID and MSGID
-pub record IsNames (text : List ℕ) (names : Names) (rest : List ℕ) : Type 0 where
+pub record IsNames (text : List ℕ) (names : HeaderNames) (rest : List ℕ) : Type 0 where
   pub behind_host : List ℕ
   pub behind_program : List ℕ
   pub behind_pid : List ℕ
@@ -50,6 +50,6 @@ abbrev pub without_bom : List ℕ → List ℕ
 without_bom text = if starts_with nat_eq text (239 ∷ 187 ∷ 191 ∷ []) then drop 3 text else text
 
 -- what follows the structured data: nothing, or a space and MSG
-abbrev pub IsMessage : List ℕ → List ℕ → Type 0
-IsMessage [] message = message ≡ []
-IsMessage (b ∷ text) message = (b ≡ 32) × (message ≡ without_bom text)
+abbrev pub IsMsgPart : List ℕ → List ℕ → Type 0
+IsMsgPart [] message = message ≡ []
+IsMsgPart (b ∷ text) message = (b ≡ 32) × (message ≡ without_bom text)

@@ -2,20 +2,20 @@
 use Rattle.std.specs.Prelude.{◌≡◌, ◌≤◌, ◌==◌, ◌||◌, ◌-◌, ℕ, ℤ, Bool, List, [], ◌∷◌, ◌++◌, length, take, codes, Option, MatchOption, Result, MatchResult, IfOk}
 use Rattle.sg_time.specs.declared.stamp.Stamp.{Stamp}
 use Rattle.std.specs.List.{suffix_len}
-use Rattle.sg_msg.specs.Message.{Pair, Content, with_all}
+use Rattle.sg_msg.specs.Message.{NameValue, Content, with_all}
 use Rattle.sg_msg.specs.Build.{Build, some_pair, built}
 use Rattle.sg_r3164.specs.declared.opts.ReadOpts.{ReadOpts}
 use Rattle.sg_r3164.specs.Options.{received_at, sent_of, host_of}
-use Rattle.sg_r5424.specs.declared.header.Front.{Front}
-use Rattle.sg_r5424.specs.declared.header.Names.{Names}
+use Rattle.sg_r5424.specs.declared.header.HeaderFront.{HeaderFront}
+use Rattle.sg_r5424.specs.declared.header.HeaderNames.{HeaderNames}
 use Rattle.std.specs.declared.alloc.AllocError.{AllocError}
 use Rattle.sg_r5424.specs.declared.refusal.R5424Refusal.{R5424Refusal}
 use Rattle.sg_r5424.specs.declared.refusal.R5424Refusal.TheVariants.{Syntax, NoMemory}
-use Rattle.sg_r5424.specs.Grammar.{IsFront, IsNames, IsMessage, unless_nil}
+use Rattle.sg_r5424.specs.Grammar.{IsHeaderFront, IsNames, IsMsgPart, unless_nil}
 use Rattle.sg_r5424.specs.Data.{IsData}
 
 -- the pairs of the names, each where it isn't nil
-abbrev pub name_pairs : ReadOpts → List ℕ → Names → List Pair
+abbrev pub name_pairs : ReadOpts → List ℕ → HeaderNames → List NameValue
 name_pairs opts peer names =
     (record { name = codes "HOST"; value = host_of opts (unless_nil names.host) peer }) ∷ []
     ++ some_pair (codes "PROGRAM") (unless_nil names.program)
@@ -23,7 +23,7 @@ name_pairs opts peer names =
     ++ some_pair (codes "MSGID") (unless_nil names.msgid)
 
 -- what a record says, before its structured data
-abbrev pub header_build : Stamp → List ℕ → ReadOpts → Front → Names → Build
+abbrev pub header_build : Stamp → List ℕ → ReadOpts → HeaderFront → HeaderNames → Build
 header_build received peer opts front names = record {
   pri = front.pri;
   sent = sent_of opts front.stamp received;
@@ -33,32 +33,32 @@ header_build received peer opts front names = record {
 }
 
 -- MESSAGE
-abbrev pub message_pair : List ℕ → Pair
+abbrev pub message_pair : List ℕ → NameValue
 message_pair message = record { name = codes "MESSAGE"; value = message }
 
 -- the same with pairs of structured data put, in their order, and with MESSAGE
-abbrev pub whole_build : Build → List Pair → List ℕ → Build
+abbrev pub whole_build : Build → List NameValue → List ℕ → Build
 whole_build build pairs message = record build { put = build.put ++ pairs ++ message_pair message ∷ [] }
 
-abbrev pub whole_content : Build → List Pair → List ℕ → Content
+abbrev pub whole_content : Build → List NameValue → List ℕ → Content
 whole_content build pairs message = built (whole_build build pairs message)
 
 -- what stands behind the header: structured data and MSG
 pub record Behind (build : Build) (text : List ℕ) (whole : Content) : Type 0 where
-  pub pairs : List Pair
+  pub pairs : List NameValue
   pub message : List ℕ
   pub rest : List ℕ
   pub is_data : IsData text pairs rest
-  pub is_message : IsMessage rest message
+  pub is_message : IsMsgPart rest message
   pub is_content : whole ≡ whole_content build pairs message
 
 -- SYSLOG-MSG (RFC 5424, section 6): the item is related to a message, its received stamp being this one
-pub record Reads (received : Stamp) (peer : List ℕ) (opts : ReadOpts) (item : List ℕ) (content : Content) : Type 0 where
-  pub front : Front
-  pub names : Names
+pub record ReadsSyslogMsg (received : Stamp) (peer : List ℕ) (opts : ReadOpts) (item : List ℕ) (content : Content) : Type 0 where
+  pub front : HeaderFront
+  pub names : HeaderNames
   pub behind_front : List ℕ
   pub behind_names : List ℕ
-  pub is_front : IsFront item front behind_front
+  pub is_front : IsHeaderFront item front behind_front
   pub are_names : IsNames behind_front names behind_names
   pub behind : Behind (header_build received peer opts front names) behind_names content
 
@@ -71,17 +71,17 @@ without_end text = take (length text - suffix_len is_end_byte text) text
 
 -- the item, its moment, its peer and the source's options are related to this message
 abbrev pub Is5424 : List ℕ → ℤ → List ℕ → ReadOpts → Content → Type 0
-Is5424 item at peer opts content = Reads (received_at at opts) peer opts (without_end item) content
+Is5424 item at peer opts content = ReadsSyslogMsg (received_at at opts) peer opts (without_end item) content
 
 -- why an item has no message: nothing is related to it, and the place is at most its length; or memory lacks
-abbrev pub IsRefusal : List ℕ → ℤ → List ℕ → ReadOpts → R5424Refusal → Type 0
-IsRefusal item at peer opts (Syntax place) = (place ≤ length item)
+abbrev pub Is5424Refusal : List ℕ → ℤ → List ℕ → ReadOpts → R5424Refusal → Type 0
+Is5424Refusal item at peer opts (Syntax place) = (place ≤ length item)
     × ((content : Content) → ¬ Is5424 item at peer opts content)
-IsRefusal item at peer opts NoMemory = Unit {0}
+Is5424Refusal item at peer opts NoMemory = Unit {0}
 
 abbrev pub Answers5424 : List ℕ → ℤ → List ℕ → ReadOpts → Result Content R5424Refusal → Type 0
 Answers5424 item at peer opts result = MatchResult result
-    (λ content. Is5424 item at peer opts content) (λ refusal. IsRefusal item at peer opts refusal)
+    (λ content. Is5424 item at peer opts content) (λ refusal. Is5424Refusal item at peer opts refusal)
 
 -- a text is related to the message found, or to none, and what is left of it is no longer
 abbrev pub TryReads : (Content → Type 0) → List ℕ → List ℕ → Result (Option Content) AllocError
@@ -91,7 +91,7 @@ TryReads Is old new result =
     (((content : Content) → ¬ Is content) × (length new ≤ length old)) (λ content. Is content))
 
 -- what a record that isn't so becomes
-abbrev pub refusal_pairs : List ℕ → List ℕ → List Pair
+abbrev pub refusal_pairs : List ℕ → List ℕ → List NameValue
 refusal_pairs item peer =
     (record { name = codes "HOST"; value = peer }) ∷ (record { name = codes "PROGRAM"; value = codes "syslog-ng" })
     ∷ message_pair (codes "Error processing log message: " ++ item) ∷ []

@@ -4,20 +4,20 @@ use Rattle.sg_msg.specs.Sets.{is_escaped}
 
 -- A text spells a value: a backslash makes the byte behind it stand for itself, where that is a quote, a backslash or a closing
 -- bracket. Before another byte a backslash is itself. The three bytes stand in no other way.
-pub data Spells : List ℕ → List ℕ → Type 0 where
-  none : Spells [] []
-  escaped : (b : ℕ) (text value : List ℕ) → is_escaped b ≡ true → Spells text value
-      → Spells (92 ∷ b ∷ text) (b ∷ value)
-  backslash : (b : ℕ) (text value : List ℕ) → is_escaped b ≡ false → Spells text value
-      → Spells (92 ∷ b ∷ text) (92 ∷ b ∷ value)
-  plain : (b : ℕ) (text value : List ℕ) → is_escaped b ≡ false → Spells text value
-      → Spells (b ∷ text) (b ∷ value)
+pub data SpellsValue : List ℕ → List ℕ → Type 0 where
+  none : SpellsValue [] []
+  escaped : (b : ℕ) (text value : List ℕ) → is_escaped b ≡ true → SpellsValue text value
+      → SpellsValue (92 ∷ b ∷ text) (b ∷ value)
+  backslash : (b : ℕ) (text value : List ℕ) → is_escaped b ≡ false → SpellsValue text value
+      → SpellsValue (92 ∷ b ∷ text) (92 ∷ b ∷ value)
+  plain : (b : ℕ) (text value : List ℕ) → is_escaped b ≡ false → SpellsValue text value
+      → SpellsValue (b ∷ text) (b ∷ value)
 
 -- a value at the front, up to the quote that closes it
 pub record IsValue (text value rest : List ℕ) : Type 0 where
   pub spelled : List ℕ
   pub is_text : text ≡ spelled ++ 34 ∷ rest
-  pub spells : Spells spelled value
+  pub spells : SpellsValue spelled value
 
 -- the byte is this mark, and no backslash stands before it
 abbrev pub is_bare : Bool → ℕ → ℕ → Bool

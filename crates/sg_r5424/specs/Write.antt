@@ -2,7 +2,7 @@
 use Rattle.std.specs.Prelude.{ℕ, ◌≤◌, ◌==◌, if◌then◌else◌, List, [], ◌++◌, length, take, map, codes, decimal}
 use Rattle.sg_time.specs.Local.{local_time}
 use Rattle.sg_time.specs.Text.{iso_stamp_text}
-use Rattle.sg_msg.specs.Message.{Content, Pair}
+use Rattle.sg_msg.specs.Message.{Content, NameValue}
 use Rattle.sg_msg.specs.Sets.{is_print}
 use Rattle.sg_template.specs.declared.env.Env.{Env}
 use Rattle.sg_template.specs.Texts.{text_of}
@@ -24,7 +24,7 @@ abbrev pub pri_text : ℕ → List ℕ
 pri_text pri = codes "<" ++ decimal pri ++ codes ">1 "
 
 -- HOSTNAME, APP-NAME, PROCID and MSGID
-abbrev pub fields_text : List Pair → List ℕ
+abbrev pub fields_text : List NameValue → List ℕ
 fields_text pairs =
     codes " " ++ field_text 255 (text_of (codes "HOST") pairs)
     ++ codes " " ++ field_text 48 (text_of (codes "PROGRAM") pairs)

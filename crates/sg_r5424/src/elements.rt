@@ -1,7 +1,7 @@
 // Structured data.
 ghost use Rattle.std.specs.Prelude.{◌≡◌, ◌≤◌, ◌++◌, ◌∷◌, [], length, OnOk};
 ghost use Rattle.sg_r5424.specs.Data.{IsElement, IsData, element_name};
-ghost use Rattle.sg_r5424.specs.Takes.{Puts};
+ghost use Rattle.sg_r5424.specs.Takes.{PutsPairs};
 
 use crate::names::NameRoom;
 use crate::params::take_params;
@@ -33,7 +33,7 @@ fn take_element(
     builder: &mut MessageBuilder,
     text: &mut Bytes,
 ) -> Result<bool, AllocError>
-    ensures { Puts IsElement text.old text.new builder.old builder.new result }
+    ensures { PutsPairs IsElement text.old text.new builder.old builder.new result }
 {
     if !take_text(text, b"[") {
         return Ok(false);
@@ -54,7 +54,7 @@ pub(crate) fn take_data(
     builder: &mut MessageBuilder,
     text: &mut Bytes,
 ) -> Result<bool, AllocError>
-    ensures { Puts IsData text.old text.new builder.old builder.new result }
+    ensures { PutsPairs IsData text.old text.new builder.old builder.new result }
 {
     if take_text(text, b"-") {
         return Ok(true);

@@ -1,9 +1,9 @@
 // The header of a record.
 ghost use Rattle.std.specs.Prelude.{◌≡◌, ◌≤◌, Some, IfSome, IfOk};
 ghost use Rattle.std.specs.Option.{ForSome};
-ghost use Rattle.sg_time.specs.Stamp.{IsValid};
-ghost use Rattle.sg_r5424.specs.Grammar.{IsStart, IsStamp, IsFront, IsNames, unless_nil};
-ghost use Rattle.sg_r5424.specs.Takes.{Takes, TryTakes};
+ghost use Rattle.sg_time.specs.Stamp.{IsValidStamp};
+ghost use Rattle.sg_r5424.specs.Grammar.{IsStart, IsStamp, IsHeaderFront, IsNames, unless_nil};
+ghost use Rattle.sg_r5424.specs.Takes.{TakesValue, TryTakes};
 ghost use Rattle.sg_r5424.specs.Is5424.{header_build};
 
 use crate::take::{take_field, take_text};
@@ -15,14 +15,14 @@ use std::alloc::{AllocError, Global};
 
 /// PRI and TIMESTAMP, which is none where it is nil.
 #[derive(Clone, Copy, Debug, Drop)]
-pub(crate) struct Front {
+pub(crate) struct HeaderFront {
     pub(crate) pri: u8,
     pub(crate) stamp: Option<Stamp>,
 }
 
 /// HOSTNAME, APP-NAME, PROCID and MSGID as they are written.
 #[derive(Debug, Drop)]
-pub(crate) struct Names {
+pub(crate) struct HeaderNames {
     pub(crate) host: Bytes,
     pub(crate) program: Bytes,
     pub(crate) pid: Bytes,
@@ -32,7 +32,7 @@ pub(crate) struct Names {
 // Takes PRI, VERSION and the space behind them.
 #[tactic(none)]
 fn take_start(text: &mut Bytes) -> Option<u8>
-    ensures start { Takes IsStart text.old text.new result }
+    ensures start { TakesValue IsStart text.old text.new result }
     ensures range { IfSome result (λ pri. pri ≤ 191) }
 {
     let Some((pri, len)) = priority(text.as_slice()) else {
@@ -48,9 +48,9 @@ fn take_start(text: &mut Bytes) -> Option<u8>
 // Takes a TIMESTAMP that isn't nil, and the space behind it.
 #[tactic(none)]
 fn take_iso(text: &mut Bytes) -> Option<Stamp>
-    ensures stamp { Takes (λ text stamp rest. IsStamp text (Some stamp) rest) text.old text.new
+    ensures stamp { TakesValue (λ text stamp rest. IsStamp text (Some stamp) rest) text.old text.new
         result }
-    ensures valid { IfSome result IsValid }
+    ensures valid { IfSome result IsValidStamp }
 {
     let Some((stamp, len)) = read_iso(text.as_slice()) else {
         return None;
@@ -64,28 +64,28 @@ fn take_iso(text: &mut Bytes) -> Option<Stamp>
 
 // Takes PRI, VERSION and TIMESTAMP.
 #[tactic(none)]
-pub(crate) fn take_front(text: &mut Bytes) -> Option<Front>
-    ensures front { Takes IsFront text.old text.new result }
+pub(crate) fn take_front(text: &mut Bytes) -> Option<HeaderFront>
+    ensures front { TakesValue IsHeaderFront text.old text.new result }
     ensures pri { IfSome result (λ front. front.pri ≤ 191) }
-    ensures stamp { IfSome result (λ front. ForSome front.stamp IsValid) }
+    ensures stamp { IfSome result (λ front. ForSome front.stamp IsValidStamp) }
 {
     let Some(pri) = take_start(text) else {
         return None;
     };
     if take_text(text, b"- ") {
-        return Some(Front { pri, stamp: None });
+        return Some(HeaderFront { pri, stamp: None });
     }
     let Some(stamp) = take_iso(text) else {
         return None;
     };
-    Some(Front {
+    Some(HeaderFront {
         pri,
         stamp: Some(stamp),
     })
 }
 
 // Takes HOSTNAME, APP-NAME, PROCID and MSGID.
-pub(crate) fn take_names(text: &mut Bytes) -> Result<Option<Names>, AllocError>
+pub(crate) fn take_names(text: &mut Bytes) -> Result<Option<HeaderNames>, AllocError>
     ensures { TryTakes IsNames text.old text.new result }
 {
     let Some(host) = take_field(text, 255)? else {
@@ -100,7 +100,7 @@ pub(crate) fn take_names(text: &mut Bytes) -> Result<Option<Names>, AllocError>
     let Some(msgid) = take_field(text, 32)? else {
         return Ok(None);
     };
-    Ok(Some(Names {
+    Ok(Some(HeaderNames {
         host,
         program,
         pid,
@@ -124,12 +124,12 @@ pub(crate) fn start_message(
     received: Stamp,
     peer: &Bytes,
     opts: &ReadOpts,
-    front: Front,
-    names: Names,
+    front: HeaderFront,
+    names: HeaderNames,
 ) -> Result<MessageBuilder, AllocError>
     requires pri { front.pri ≤ 191 }
-    requires sent { ForSome front.stamp IsValid }
-    requires received { IsValid received }
+    requires sent { ForSome front.stamp IsValidStamp }
+    requires received { IsValidStamp received }
     ensures { IfOk result
         (λ builder. builder ≡ header_build received peer.now opts.now front names) }
 {

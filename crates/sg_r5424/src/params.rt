@@ -1,7 +1,7 @@
 // The parameters of an element.
 ghost use Rattle.std.specs.Prelude.{◌≡◌, ◌≤◌, ◌++◌, ◌∷◌, [], length, IfOk, OnOk};
 ghost use Rattle.sg_r5424.specs.Data.{IsParam, HasParams, param_pair};
-ghost use Rattle.sg_r5424.specs.Takes.{TryTakes, Puts};
+ghost use Rattle.sg_r5424.specs.Takes.{TryTakes, PutsPairs};
 
 use crate::names::NameRoom;
 use crate::take::{take_name, take_text};
@@ -62,7 +62,7 @@ pub(crate) fn take_params(
     id: &[u8],
 ) -> Result<bool, AllocError>
     requires { length id.now ≤ 32 }
-    ensures { Puts (HasParams id.now) text.old text.new builder.old builder.new result }
+    ensures { PutsPairs (HasParams id.now) text.old text.new builder.old builder.new result }
 {
     'params: loop {
         if take_text(text, b"]") {

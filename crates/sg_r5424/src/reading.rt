@@ -1,10 +1,10 @@
 // From a record to its message.
 ghost use Rattle.std.specs.Prelude.{◌≡◌, ◌≤◌, ◌≤ℤ◌, ◌++◌, [], ◌∷◌, pos, List, ℕ, codes, length, IfOk, MatchOption};
 ghost use Rattle.std.specs.List.{suffix_len};
-ghost use Rattle.sg_time.specs.Stamp.{IsValid};
+ghost use Rattle.sg_time.specs.Stamp.{IsValidStamp};
 ghost use Rattle.sg_msg.specs.Build.{built};
-ghost use Rattle.sg_r5424.specs.Grammar.{IsMessage};
-ghost use Rattle.sg_r5424.specs.Is5424.{is_end_byte, without_end, message_pair, Behind, Reads, Answers5424, TryReads, refusal};
+ghost use Rattle.sg_r5424.specs.Grammar.{IsMsgPart};
+ghost use Rattle.sg_r5424.specs.Is5424.{is_end_byte, without_end, message_pair, Behind, ReadsSyslogMsg, Answers5424, TryReads, refusal};
 
 use crate::R5424Refusal;
 use crate::elements::take_data;
@@ -43,8 +43,8 @@ fn drop_end(text: &mut Bytes)
 
 // What MSG says, where a text is at its end or goes on with it.
 fn message_in(mut text: Bytes) -> Option<Bytes>
-    ensures { MatchOption result ((message : List ℕ) → ¬ IsMessage text message)
-        (λ message. IsMessage text message) }
+    ensures { MatchOption result ((message : List ℕ) → ¬ IsMsgPart text message)
+        (λ message. IsMsgPart text message) }
 {
     if text.is_empty() {
         return Some(text);
@@ -94,8 +94,8 @@ fn read_record(
     peer: &Bytes,
     opts: &ReadOpts,
 ) -> Result<Option<Message>, AllocError>
-    requires { IsValid received }
-    ensures { TryReads (Reads received peer.now opts.now text.old) text.old text.new result }
+    requires { IsValidStamp received }
+    ensures { TryReads (ReadsSyslogMsg received peer.now opts.now text.old) text.old text.new result }
 {
     let Some(front) = take_front(text) else {
         return Ok(None);

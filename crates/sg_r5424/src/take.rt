@@ -3,7 +3,7 @@ ghost use Rattle.std.specs.Prelude.{◌≡◌, ◌≤◌, ℕ, List, ◌∷◌, 
 ghost use Rattle.std.specs.List.{prefix_len};
 ghost use Rattle.std.specs.Bool.{OnFalse};
 ghost use Rattle.sg_msg.specs.Sets.{is_print, is_sd_byte};
-ghost use Rattle.sg_r5424.specs.Data.{IsName};
+ghost use Rattle.sg_r5424.specs.Data.{IsSdName};
 ghost use Rattle.sg_r5424.specs.Grammar.{IsField};
 ghost use Rattle.sg_r5424.specs.Takes.{TryTakes};
 
@@ -52,7 +52,7 @@ fn name_len(text: &[u8]) -> usize
 
 // Takes an SD-ID or a PARAM-NAME.
 pub(crate) fn take_name(text: &mut Bytes) -> Result<Option<Bytes>, AllocError>
-    ensures { TryTakes IsName text.old text.new result }
+    ensures { TryTakes IsSdName text.old text.new result }
 {
     let len = name_len(text.as_slice());
     if len == 0 || len > 32 {

@@ -1,5 +1,5 @@
 -- Options that are read and checked.
-use Rattle.std.proofs.Common.{◌≡◌, ℕ, ◌+◌, ◌*◌, List, [], ◌∷◌, ◌++◌, Option, None, refl, sym, ap, ◌∙◌, subst}
+use Rattle.std.proofs.Common.{◌≡◌, ℕ, ◌+◌, ◌*◌, List, [], ◌∷◌, ◌++◌, Option, Some, None, refl, sym, ap, ◌∙◌, subst}
 use Rattle.std.specs.Option.{option_map}
 use Rattle.std.specs.Prelude.{◌&&◌, ◌||◌, not, is_none, if◌then◌else◌, codes, false}
 use Rattle.sg_parse_expr.specs.declared.tree.Call.{Call}
@@ -11,41 +11,42 @@ use Rattle.sg_options.specs.Stores.{buffer_name}
 use Rattle.sg_options.specs.Values.{text_or, number_or, truth_or, zone_or, zone_or_none, mode_or, facility_or, level_or}
 use Rattle.sg_driver.specs.Defaults.{global_checks, iso_or}
 use Rattle.sg_driver.specs.Driver.{driver_kind, name_of, options_of}
-use Rattle.sg_driver.specs.Limits.{window_size, fetch_limit, message_size, connections, ports, fifo_size, fraction_digits, reopen_time}
+use Rattle.sg_driver.specs.Limits.{window_size, fetch_limit, message_size, connections, ports, fifo_size, fraction_digits, reopen_time, reap_time}
 use Rattle.sg_driver.specs.declared.defaults.Defaults.{Defaults}
 use Rattle.sg_outside.specs.declared.request.OutletSpec.TheVariants as outlet
-use Rattle.sg_source.specs.Inlets.{place_by, listener_of, frames_by, window_by, is_syslog, texts_behind, facility_words, level_words, IsSource}
+use Rattle.sg_source.specs.Inlets.{place_by, listener_of, frames_by, window_by, is_syslog, texts_behind, facility_words, level_words, IsSourceDriver}
 use Rattle.sg_source.specs.Sources.{source_checks, listener_checks, port_words, connection_words}
-use Rattle.sg_source.specs.declared.inlet.Place.TheVariants as place
+use Rattle.sg_source.specs.declared.inlet.SourceOrigin.TheVariants as place
 use Rattle.sg_source.specs.declared.inlet.SourceDriver.{SourceDriver}
 use Rattle.sg_destination.specs.Buffers.{buffer_checks, buffer_words, directory_of, destination_text, capacity_of, whole_of, buffer_of}
 use Rattle.sg_destination.specs.Destinations.{destination_checks, file_checks, host_checks}
-use Rattle.sg_destination.specs.Outlets.{file_of, host_of, spec_by, IsDestination}
+use Rattle.sg_destination.specs.Outlets.{folders_of, file_of, host_of, spec_by, IsDestination}
+use Rattle.sg_destination.specs.ByPath.{is_template, parts_for, path_parts, with_path}
 use Rattle.sg_destination.specs.Templates.{Texts, template_words, HasShape}
 use Rattle.sg_destination.specs.declared.outlet.DestinationDriver.{DestinationDriver}
-use Rattle.sg_resolve.specs.Options.{AreAlike, AreChecked, AreCheckedOrSkipped, AreRead, AreReadOrSkipped, destination_words, disk_words, framed_words, global_words, listener_words, sender_words, settled_words, source_words, writer_words}
+use Rattle.sg_resolve.specs.Options.{AreAlikeDrivers, AreChecked, AreCheckedOrSkipped, AreOptionsRead, AreReadOrSkipped, destination_words, disk_words, framed_words, global_words, listener_words, sender_words, settled_words, source_words, writer_words}
 
-pub source-read : AreRead source source_words
+pub source-read : AreOptionsRead source source_words
 unfolding source
 source-read = (refl, refl)
 
-pub listener-read : AreRead listener (settled_words ++ listener_words)
+pub listener-read : AreOptionsRead listener (settled_words ++ listener_words)
 unfolding listener
 listener-read = (refl, refl)
 
-pub destination-read : AreRead destination destination_words
+pub destination-read : AreOptionsRead destination destination_words
 unfolding destination
 destination-read = (refl, refl)
 
-pub writer-read : AreRead writer writer_words
+pub writer-read : AreOptionsRead writer writer_words
 unfolding writer
 writer-read = (refl, refl)
 
-pub sender-read : AreRead sender (settled_words ++ sender_words)
+pub sender-read : AreOptionsRead sender (settled_words ++ sender_words)
 unfolding sender
 sender-read = (refl, refl)
 
-pub framed-read : AreRead framed framed_words
+pub framed-read : AreOptionsRead framed framed_words
 unfolding framed
 framed-read = (refl, refl)
 
@@ -86,7 +87,7 @@ unfolding global global_checks
 global-checked = (refl, refl)
 
 -- the same options make the same driver
-module _ (a b : Call) (h : AreAlike (listener_words ++ source_words) a b) where
+module _ (a b : Call) (h : AreAlikeDrivers (listener_words ++ source_words) a b) where
   listener-alike : listener_of a ≡ listener_of b
   listener-alike =
       let ip = h.same (codes "ip" ∷ []) refl in
@@ -99,7 +100,7 @@ module _ (a b : Call) (h : AreAlike (listener_words ++ source_words) a b) where
   place-alike Network = listener-alike
   place-alike Syslog = listener-alike
 
-  pub sources-alike : (defaults : Defaults) (driver : SourceDriver) → IsSource defaults a driver → IsSource defaults b driver
+  pub sources-alike : (defaults : Defaults) (driver : SourceDriver) → IsSourceDriver defaults a driver → IsSourceDriver defaults b driver
   sources-alike defaults driver s =
       let sized = h.same (codes "log-iw-size" ∷ []) refl in
       let most = h.same connection_words refl in
@@ -125,7 +126,7 @@ module _ (a b : Call) (h : AreAlike (listener_words ++ source_words) a b) where
         tags = s.tags ∙ ap texts_behind (h.same (codes "tags" ∷ []) refl);
       }
 
-module _ (a b : Call) (h : AreAlike (writer_words ++ (sender_words ++ destination_words)) a b) (defaults : Defaults) where
+module _ (a b : Call) (h : AreAlikeDrivers (writer_words ++ (sender_words ++ destination_words)) a b) (defaults : Defaults) where
   host-alike : host_of defaults a ≡ host_of defaults b
   host-alike =
       let to = h.same (codes "port" ∷ []) refl in
@@ -137,7 +138,17 @@ module _ (a b : Call) (h : AreAlike (writer_words ++ (sender_words ++ destinatio
       let reopen = h.same (codes "time-reopen" ∷ []) refl in
       let fsync = h.same (codes "fsync" ∷ []) refl in
       let perm = h.same (codes "perm" ∷ []) refl in
-      λ i. outlet.File (h.name i) (truth_or (value_behind (fsync i)) false) (mode_or (value_behind (perm i)) defaults.mode) None (number_or (value_behind (reopen i)) reopen_time defaults.reopen)
+      let dirs = h.same (codes "create-dirs" ∷ []) refl in
+      let dir_perm = h.same (codes "dir-perm" ∷ []) refl in
+      let reap = h.same (codes "time-reap" ∷ []) refl in
+      let folders : folders_of defaults a ≡ folders_of defaults b =
+      λ i. if truth_or (value_behind (dirs i)) defaults.folders then Some (mode_or (value_behind (dir_perm i)) defaults.folder_mode) else None in
+      λ i. if is_template (h.kind i) (h.name i)
+      then outlet.ByPath (truth_or (value_behind (fsync i)) false) (mode_or (value_behind (perm i)) defaults.mode) (folders i) (number_or (value_behind (reopen i)) reopen_time defaults.reopen) (number_or (value_behind (reap i)) reap_time defaults.reap)
+      else outlet.File (h.name i) (truth_or (value_behind (fsync i)) false) (mode_or (value_behind (perm i)) defaults.mode) (folders i) (number_or (value_behind (reopen i)) reopen_time defaults.reopen)
+
+  path-alike : path_parts a ≡ path_parts b
+  path-alike = λ i. parts_for (h.kind i) (h.name i)
 
   spec-alike : (kind : DriverKind) → spec_by kind defaults a ≡ spec_by kind defaults b
   spec-alike File = file-alike
@@ -156,7 +167,11 @@ module _ (a b : Call) (h : AreAlike (writer_words ++ (sender_words ++ destinatio
       record {
         plan = record {
           spec = d.plan.spec ∙ ap (λ k. spec_by k defaults a) h.kind ∙ spec-alike (driver_kind b);
-          shape = subst (λ o. HasShape texts (driver_kind b) (value_behind o) driver.plan.shape) shape (subst (λ (k : DriverKind). HasShape texts k (last_value template_words (options_of a)) driver.plan.shape) h.kind d.plan.shape);
+          shape = record {
+            text = d.plan.shape.text;
+            has_text = subst (λ o. HasShape texts (driver_kind b) (value_behind o) d.plan.shape.text) shape (subst (λ (k : DriverKind). HasShape texts k (last_value template_words (options_of a)) d.plan.shape.text) h.kind d.plan.shape.has_text);
+            shape_is = d.plan.shape.shape_is ∙ ap (λ p. with_path p d.plan.shape.text) path-alike;
+          };
           env = record {
             zone = d.plan.env.zone ∙ ap (λ o. zone_or_none (value_behind o) defaults.zone) (h.same (codes "time-zone" ∷ []) refl);
             digits = d.plan.env.digits ∙ ap (λ o. number_or (value_behind o) fraction_digits defaults.digits) (h.same (codes "frac-digits" ∷ []) refl);

@@ -5,13 +5,13 @@ use Rattle.sg_parse_obj.specs.declared.driver.Side.{Side}
 use Rattle.sg_fault.specs.declared.placed.Placed.{Placed}
 use Rattle.sg_fault.specs.Faults.{earlier, least}
 use Rattle.sg_resolve.specs.declared.templates.TemplateTexts.{TemplateTexts}
-use Rattle.sg_resolve.specs.declared.driver.Count.{Count}
-use Rattle.sg_resolve.specs.Drivers.{Stores, own_faults, store_of, more_inlets, more_destinations, limit_faults, repeats, with_store, with_driver}
+use Rattle.sg_resolve.specs.declared.driver.DriverCounts.{DriverCounts}
+use Rattle.sg_resolve.specs.Drivers.{StoreCounts, own_faults, store_of, more_inlets, more_destinations, limit_faults, repeats, with_store, with_driver}
 
-abbrev pub count_of : Option Placed → ℕ → ℕ → Stores → Count
+abbrev pub count_of : Option Placed → ℕ → ℕ → StoreCounts → DriverCounts
 count_of first inlets destinations stores = record { first = first; inlets = inlets; destinations = destinations; stores = stores }
 
-pub driver-counted : (texts : TemplateTexts) (count : Count) (side : Side) (call : Call) (first own limit repeat inner both : Option Placed) (inlets destinations : ℕ) (stores : Stores) (store : Option (List ℕ))
+pub driver-counted : (texts : TemplateTexts) (count : DriverCounts) (side : Side) (call : Call) (first own limit repeat inner both : Option Placed) (inlets destinations : ℕ) (stores : StoreCounts) (store : Option (List ℕ))
     → own ≡ least (own_faults texts side call)
     → store ≡ store_of side call
     → inlets ≡ more_inlets count.inlets side call

@@ -17,13 +17,13 @@ use Rattle.sg_source.specs.Sources.{source_faults, store_of_source, inlet_count}
 use Rattle.sg_destination.specs.Destinations.{destination_faults}
 use Rattle.sg_destination.specs.Buffers.{store_of_destination}
 use Rattle.sg_resolve.specs.declared.templates.TemplateTexts.{TemplateTexts}
-use Rattle.sg_resolve.specs.declared.driver.Count.{Count}
+use Rattle.sg_resolve.specs.declared.driver.DriverCounts.{DriverCounts}
 use Rattle.sg_resolve.specs.Templates.{text_in}
 
-abbrev pub Stores : Type 0
-Stores = fin.FinMap (slice_cmp nat_cmp) ℕ
+abbrev pub StoreCounts : Type 0
+StoreCounts = fin.FinMap (slice_cmp nat_cmp) ℕ
 
-abbrev pub no_drivers : Count
+abbrev pub no_drivers : DriverCounts
 no_drivers = record { first = None; inlets = 0; destinations = 0; stores = fin.empty }
 
 abbrev pub own_faults : TemplateTexts → Side → Call → List Placed
@@ -53,23 +53,23 @@ limit_faults inlets destinations Source call = if nat_lt 128 inlets then at_word
 limit_faults inlets destinations Destination call = if nat_lt 64 destinations then at_word Limit call ∷ [] else []
 
 -- "name defined twice": at a driver whose store one before has
-abbrev pub repeats : Stores → Option (List ℕ) → Call → List Placed
+abbrev pub repeats : StoreCounts → Option (List ℕ) → Call → List Placed
 repeats stores None call = []
 repeats stores (Some name) call = if fin.contains_key stores name then at_word DuplicateName call ∷ [] else []
 
-abbrev pub with_store : Stores → Option (List ℕ) → Stores
+abbrev pub with_store : StoreCounts → Option (List ℕ) → StoreCounts
 with_store stores None = stores
 with_store stores (Some name) = fin.insert stores name 0
 
 -- the first fault with that of a driver more
-abbrev pub first_with : TemplateTexts → Count → ℕ → ℕ → Side → Call → Option Placed
+abbrev pub first_with : TemplateTexts → DriverCounts → ℕ → ℕ → Side → Call → Option Placed
 first_with texts count inlets destinations side call =
     earlier count.first (earlier (least (own_faults texts side call))
     (earlier (least (limit_faults inlets destinations side call))
     (least (repeats count.stores (store_of side call) call))))
 
 -- with a driver more
-unfoldable pub with_driver : TemplateTexts → Count → Side × Call → Count
+unfoldable pub with_driver : TemplateTexts → DriverCounts → Side × Call → DriverCounts
 with_driver texts count driver = record {
   first = first_with texts count (more_inlets count.inlets driver.0 driver.1) (more_destinations count.destinations driver.0) driver.0 driver.1;
   inlets = more_inlets count.inlets driver.0 driver.1;

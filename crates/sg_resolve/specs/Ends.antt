@@ -11,7 +11,7 @@ use Rattle.sg_parse_path.specs.declared.tree.RawRef.TheVariants as ref
 use Rattle.sg_parse_text.specs.declared.statement.Statement.{Statement}
 use Rattle.sg_visit.specs.Leaves.{Leaf, leaves_of}
 use Rattle.sg_resolve.specs.declared.templates.TemplateTexts.{TemplateTexts}
-use Rattle.sg_resolve.specs.declared.driver.Count.{Count}
+use Rattle.sg_resolve.specs.declared.driver.DriverCounts.{DriverCounts}
 use Rattle.sg_resolve.specs.Drivers.{no_drivers, with_driver}
 
 abbrev pub Drivers : Type 0
@@ -36,5 +36,5 @@ abbrev pub drivers_of : List Statement → Drivers
 drivers_of statements = flat_map leaf_drivers (leaves_of statements)
 
 -- what is found of all of them
-unfoldable pub counted : TemplateTexts → List Statement → Count
+unfoldable pub counted : TemplateTexts → List Statement → DriverCounts
 counted texts statements = fold (with_driver texts) no_drivers (drivers_of statements)

@@ -34,7 +34,9 @@ destination_words =
     ∷ codes "ts-format" ∷ codes "time-reopen" ∷ []
 
 abbrev pub writer_words : Words
-writer_words = codes "template" ∷ codes "fsync" ∷ codes "perm" ∷ []
+writer_words =
+    codes "template" ∷ codes "fsync" ∷ codes "perm" ∷ codes "create-dirs" ∷ codes "dir-perm"
+    ∷ codes "time-reap" ∷ []
 
 abbrev pub sender_words : Words
 sender_words = codes "port" ∷ []
@@ -53,7 +55,8 @@ abbrev pub global_words : Words
 global_words =
     codes "log-fifo-size" ∷ codes "log-msg-size" ∷ codes "keep-hostname" ∷ codes "keep-timestamp"
     ∷ codes "recv-time-zone" ∷ codes "time-zone" ∷ codes "frac-digits" ∷ codes "ts-format"
-    ∷ codes "time-reopen" ∷ codes "perm" ∷ []
+    ∷ codes "time-reopen" ∷ codes "time-reap" ∷ codes "perm" ∷ codes "create-dirs"
+    ∷ codes "dir-perm" ∷ []
 
 -- `transport` has one value alone, which the driver's word means too
 abbrev pub settled_words : Words
@@ -68,8 +71,8 @@ has_effect None = false
 has_effect (Some form) = not (is_skipped form)
 
 -- each option of a table is read, and each that is read is in it
-abbrev pub AreRead : List (List ℕ × OptionForm) → Words → Type 0
-AreRead rows words = (list_all (λ row. is_one_of row.0 words) rows ≡ true)
+abbrev pub AreOptionsRead : List (List ℕ × OptionForm) → Words → Type 0
+AreOptionsRead rows words = (list_all (λ row. is_one_of row.0 words) rows ≡ true)
     × (list_all (λ word. is_some (row_of rows word)) words ≡ true)
 
 -- the same of a table that has those without effect too
@@ -91,7 +94,8 @@ form_has_range option.Disk = false
 
 -- a time zone and a mode are names of a form of their own
 abbrev pub formed_words : Words
-formed_words = codes "recv-time-zone" ∷ codes "time-zone" ∷ codes "perm" ∷ []
+formed_words =
+    codes "recv-time-zone" ∷ codes "time-zone" ∷ codes "perm" ∷ codes "dir-perm" ∷ []
 
 -- each option of a table that has a range or such a form is checked, and each that is checked is in the table
 abbrev pub AreChecked : List (List ℕ × OptionForm) → List (List ℕ × Check) → Type 0
@@ -107,7 +111,7 @@ AreCheckedOrSkipped rows checks =
     × (list_all (λ row. has_effect (row_of rows row.0)) checks ≡ true)
 
 -- two drivers of one kind and name, with the same options of these words
-pub record AreAlike (words : Words) (a b : Call) : Type 0 where
+pub record AreAlikeDrivers (words : Words) (a b : Call) : Type 0 where
   pub kind : driver_kind a ≡ driver_kind b
   pub name : name_of a ≡ name_of b
   pub same : (some : Words) → list_all (λ word. is_one_of word words) some ≡ true

@@ -23,7 +23,7 @@ pub const DESTINATION_LIMIT: u32 = 64;
 
 /// What was found of the drivers so far.
 #[derive(Drop)]
-pub struct Count {
+pub struct DriverCounts {
     pub first: Option<Placed>,
     /// Counted no further than to the first number above the limit.
     pub inlets: u32,
@@ -32,10 +32,10 @@ pub struct Count {
     pub stores: NameMap<u32>,
 }
 
-pub fn no_drivers(alloc: Global) -> Count
+pub fn no_drivers(alloc: Global) -> DriverCounts
     ensures { result ≡ no_drivers }
 {
-    Count {
+    DriverCounts {
         first: None,
         inlets: 0,
         destinations: 0,
@@ -145,7 +145,7 @@ fn enter_store(stores: &mut NameMap<u32>, store: Option<Name>) -> Result<(), NoM
 pub fn count_driver(
     alloc: Global,
     texts: &TemplateTexts,
-    count: &mut Count,
+    count: &mut DriverCounts,
     side: Side,
     call: &Call,
 ) -> Result<(), NoMemory>

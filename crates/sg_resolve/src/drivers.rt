@@ -4,13 +4,13 @@ ghost use Rattle.std.specs.List.{fold};
 ghost use Rattle.sg_resolve.specs.Drivers.{with_driver};
 ghost use Rattle.sg_resolve.specs.Ends.{object_drivers, reference_drivers, leaf_drivers, counted};
 
-use crate::driver::{Count, count_driver, no_drivers};
+use crate::driver::{DriverCounts, count_driver, no_drivers};
 use crate::templates::TemplateTexts;
 use sg_device::NoMemory;
 use sg_parse_base::Spot;
 use sg_parse_expr::{Call, RawExpr};
 use sg_parse_obj::{Object, Side};
-use sg_parse_path::{Kind, RawRef};
+use sg_parse_path::{RawRef, ReferenceKind};
 use sg_parse_text::Statement;
 use sg_visit::{Visit, visit_statements};
 use std::alloc::Global;
@@ -18,7 +18,7 @@ use std::alloc::Global;
 fn count_calls(
     alloc: Global,
     texts: &TemplateTexts,
-    count: &mut Count,
+    count: &mut DriverCounts,
     side: Side,
     calls: &[Call],
 ) -> Result<(), NoMemory>
@@ -34,7 +34,7 @@ fn count_calls(
 fn count_object(
     alloc: Global,
     texts: &TemplateTexts,
-    count: &mut Count,
+    count: &mut DriverCounts,
     object: &Object,
 ) -> Result<(), NoMemory>
     ensures { OnOk result
@@ -56,7 +56,7 @@ fn count_object(
 fn count_reference(
     alloc: Global,
     texts: &TemplateTexts,
-    count: &mut Count,
+    count: &mut DriverCounts,
     reference: &RawRef,
 ) -> Result<(), NoMemory>
     ensures { OnOk result
@@ -79,37 +79,37 @@ struct Counting<'a> {
 }
 
 impl<'a> Visit for Counting<'a> {
-    type State = Count;
+    type State = DriverCounts;
 
     type Error = NoMemory;
 
     ghost step = { λ counting old leaf new.
         new ≡ fold (with_driver counting.texts.now) old (leaf_drivers leaf) };
 
-    fn object(&self, count: &mut Count, object: &Object) -> Result<(), NoMemory> {
+    fn object(&self, count: &mut DriverCounts, object: &Object) -> Result<(), NoMemory> {
         count_object(self.alloc, self.texts, count, object)?;
         Ok(())
     }
 
-    fn source(&self, _count: &mut Count, _word: &Spot) -> Result<(), NoMemory> {
+    fn source(&self, _count: &mut DriverCounts, _word: &Spot) -> Result<(), NoMemory> {
         Ok(())
     }
 
     fn reference(
         &self,
-        count: &mut Count,
-        _kind: Kind,
+        count: &mut DriverCounts,
+        _kind: ReferenceKind,
         reference: &RawRef,
     ) -> Result<(), NoMemory> {
         count_reference(self.alloc, self.texts, count, reference)?;
         Ok(())
     }
 
-    fn test(&self, _count: &mut Count, _test: &RawExpr) -> Result<(), NoMemory> {
+    fn test(&self, _count: &mut DriverCounts, _test: &RawExpr) -> Result<(), NoMemory> {
         Ok(())
     }
 
-    fn flags(&self, _count: &mut Count, _flags: &[Spot]) -> Result<(), NoMemory> {
+    fn flags(&self, _count: &mut DriverCounts, _flags: &[Spot]) -> Result<(), NoMemory> {
         Ok(())
     }
 }
@@ -121,7 +121,7 @@ pub fn count_drivers(
     alloc: Global,
     texts: &TemplateTexts,
     statements: &[Statement],
-) -> Result<Count, NoMemory>
+) -> Result<DriverCounts, NoMemory>
     ensures { IfOk result (λ count. count ≡ counted texts.now statements.now) }
 {
     let mut count = no_drivers(alloc);

@@ -9,29 +9,29 @@ ghost use Rattle.sg_driver.specs.Defaults.{global_checks};
 ghost use Rattle.sg_driver.specs.declared.defaults.Defaults.{Defaults};
 ghost use Rattle.sg_parse_expr.specs.declared.tree.Call.{Call};
 ghost use Rattle.sg_parse_obj.specs.Tables.{destination, disk, framed, global, listener, sender, source, writer};
-ghost use Rattle.sg_resolve.specs.Options.{AreAlike, AreChecked, AreCheckedOrSkipped, AreRead, AreReadOrSkipped, destination_words, disk_words, framed_words, global_words, listener_words, sender_words, settled_words, source_words, writer_words};
-ghost use Rattle.sg_source.specs.Inlets.{IsSource};
+ghost use Rattle.sg_resolve.specs.Options.{AreAlikeDrivers, AreChecked, AreCheckedOrSkipped, AreOptionsRead, AreReadOrSkipped, destination_words, disk_words, framed_words, global_words, listener_words, sender_words, settled_words, source_words, writer_words};
+ghost use Rattle.sg_source.specs.Inlets.{IsSourceDriver};
 ghost use Rattle.sg_source.specs.Sources.{listener_checks, source_checks};
 ghost use Rattle.sg_source.specs.declared.inlet.SourceDriver.{SourceDriver};
 
 /// Each option that the grammar has at a driver of a source is read there, or takes one value alone, and each that
 /// is read is one of the grammar's. With the same of these a driver is read as the same.
 pub fn source_options_are_read()
-    ensures source { AreRead source source_words }
-    ensures listener { AreRead listener (settled_words ++ listener_words) }
+    ensures source { AreOptionsRead source source_words }
+    ensures listener { AreOptionsRead listener (settled_words ++ listener_words) }
     ensures alone { (defaults : Defaults) (a b : Call) (driver : SourceDriver)
-        → AreAlike (listener_words ++ source_words) a b → IsSource defaults a driver
-        → IsSource defaults b driver }
+        → AreAlikeDrivers (listener_words ++ source_words) a b → IsSourceDriver defaults a driver
+        → IsSourceDriver defaults b driver }
 {}
 
 /// The same of destinations.
 pub fn destination_options_are_read()
-    ensures destination { AreRead destination destination_words }
-    ensures writer { AreRead writer writer_words }
-    ensures sender { AreRead sender (settled_words ++ sender_words) }
-    ensures framed { AreRead framed framed_words }
+    ensures destination { AreOptionsRead destination destination_words }
+    ensures writer { AreOptionsRead writer writer_words }
+    ensures sender { AreOptionsRead sender (settled_words ++ sender_words) }
+    ensures framed { AreOptionsRead framed framed_words }
     ensures alone { (defaults : Defaults) (texts : Texts) (a b : Call) (driver : DestinationDriver)
-        → AreAlike (writer_words ++ (sender_words ++ destination_words)) a b
+        → AreAlikeDrivers (writer_words ++ (sender_words ++ destination_words)) a b
         → IsDestination defaults texts a driver → IsDestination defaults texts b driver }
 {}
 

@@ -10,7 +10,7 @@ mod options;
 mod place;
 mod templates;
 
-pub use driver::{Count, DESTINATION_LIMIT, INLET_LIMIT};
+pub use driver::{DESTINATION_LIMIT, DriverCounts, INLET_LIMIT};
 pub use first::first_fault;
 pub use laws::{
     destination_options_are_read, options_are_checked, other_options_are_read,

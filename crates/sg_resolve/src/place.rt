@@ -10,7 +10,7 @@ use sg_lex::ConfigKind;
 use sg_parse_base::{Spot, line_of, same_keyword};
 use sg_parse_expr::RawExpr;
 use sg_parse_obj::Object;
-use sg_parse_path::{Kind, RawElement, RawLog, RawRef};
+use sg_parse_path::{RawElement, RawLog, RawRef, ReferenceKind};
 use sg_parse_text::Statement;
 use sg_visit::{Visit, visit_element, visit_logs};
 use std::convert::Infallible;
@@ -67,7 +67,7 @@ impl Visit for PlaceVisitor {
     fn reference(
         &self,
         _first: &mut Option<Placed>,
-        _kind: Kind,
+        _kind: ReferenceKind,
         _reference: &RawRef,
     ) -> Result<(), Infallible> {
         Ok(())

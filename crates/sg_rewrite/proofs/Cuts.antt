@@ -3,6 +3,7 @@ use Rattle.std.proofs.Common.{◌≡◌, ℕ, ◌+◌, ◌≤◌, List, [], ◌�
 use Rattle.std.proofs.lemmas.List.{take_all, take_at, take-append-drop, length-take-le, take-take}
 use Rattle.sg_pattern.specs.Pattern.{InOrder}
 use Rattle.sg_rewrite.specs.Values.{cut}
+use Rattle.sg_pattern.proofs.Orders.{order_end}
 
 -- Bytes that fit are put whole. Of others as many as make it full.
 pub cut_full : (old bytes rest : List ℕ) (room : ℕ) → length old + room ≡ 1048576 → room ≤ length bytes →
@@ -27,10 +28,6 @@ unfolding cut
 cut_cut bytes = take-take 1048576 1048576 bytes (omega arith)
 
 pub ruleset cut_append = (cut_full, cut_short)
-
-pub order_end : (at end : ℕ) (xs : List (ℕ × ℕ)) → InOrder at end xs → at ≤ end
-order_end at end [] h = h
-order_end at end (s ∷ ss) h = omega (arith, h.0, h.1, order_end s.1 end ss h.2)
 
 -- the value, once nothing more is put behind it
 pub cut_behind : (old bytes new : List ℕ) → ((rest : List ℕ) → cut (new ++ rest) ≡ cut (old ++ (bytes ++ rest))) → length new ≤ 1048576 → new ≡ cut (old ++ bytes)

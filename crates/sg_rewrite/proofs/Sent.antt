@@ -8,9 +8,9 @@ use Rattle.sg_list.proofs.seq.Seq.TheSendSync as seq
 use Rattle.sg_list.specs.contracts.seq.Seq as Seq
 use Rattle.std.proofs.Crossing as heap
 use Rattle.bytes.proofs.shared.Bytes.TheSendSync as bytes
-use Rattle.sg_rewrite.proofs.text.Text.TheSendSync as text
+use Rattle.sg_rewrite.proofs.text.RewriteText.TheSendSync as text
 use Rattle.sg_rewrite.proofs.rewrite.Buffers.TheSendSync as buffers
-use Rattle.sg_rewrite.specs.contracts.change.Search as Search
+use Rattle.sg_rewrite.specs.contracts.change.Substitution as Search
 use Rattle.sg_rewrite.specs.contracts.change.Change as Change
 use Rattle.sg_rewrite.specs.contracts.rewrite.Rewrite as Rewrite
 use Rattle.sg_rewrite.specs.contracts.rewrite.Rewrite.TheInside as inside

@@ -1,7 +1,7 @@
 -- Rewrites as a configuration writes them.
 use Rattle.std.specs.Prelude.{◌≡◌}
 use Rattle.sg_outside.specs.World.{WorldState}
-use Rattle.sg_msg.specs.Message.{IsName}
+use Rattle.sg_msg.specs.Message.{IsPairName}
 use Rattle.sg_pattern.specs.Pattern.{pattern_of}
 use Rattle.sg_pattern.specs.Builds.{RefusesText}
 use Rattle.sg_pattern.specs.declared.text.BuildRefusal.{BuildRefusal}
@@ -13,9 +13,9 @@ use Rattle.sg_rewrite.specs.declared.op.Op.TheVariants.{Set, Unset, Subst, Group
 
 -- its name has 1 to 255 bytes and is no macro's
 abbrev pub IsOp : Op → Type 0
-IsOp (Set name text) = IsName name
-IsOp (Unset name) = IsName name
-IsOp (Subst name pattern text) = IsName name
+IsOp (Set name text) = IsPairName name
+IsOp (Unset name) = IsPairName name
+IsOp (Subst name pattern text) = IsPairName name
 IsOp (GroupSet globs text) = Unit {0}
 IsOp (GroupUnset globs) = Unit {0}
 IsOp (SetTag tag) = Unit {0}

@@ -1,7 +1,7 @@
 -- The values that rewrites set.
 use Rattle.std.specs.Prelude.{ℕ, List, [], ◌∷◌, ◌++◌, take, drop, slice_range, Option}
 use Rattle.sg_msg.specs.Message.{Content, with_pair, without_pair}
-use Rattle.sg_macro.specs.declared.part.Part.{Part}
+use Rattle.sg_macro.specs.declared.part.TemplatePart.{TemplatePart}
 use Rattle.sg_template.specs.Own.{own_env}
 use Rattle.sg_template.specs.Render.{render_of}
 
@@ -17,7 +17,7 @@ abbrev pub without_value : List ℕ → Content → Content
 without_value name content = record content { pairs = without_pair name content.pairs }
 
 -- a template's text over the message; `$_` is the old value
-abbrev pub text_over : List Part → Option (List ℕ) → Content → List ℕ
+abbrev pub text_over : List TemplatePart → Option (List ℕ) → Content → List ℕ
 text_over parts old content = render_of parts content (own_env old)
 
 -- the bytes from a place on, with the text in the place of each span; the spans stand one behind the other

@@ -1,6 +1,6 @@
 // Messages made anew, without a group of names.
 ghost use Rattle.std.specs.Prelude.{◌≡◌, ◌+◌, ◌++◌, [], ◌∷◌, IfOk, OnOk};
-ghost use Rattle.sg_msg.specs.Message.{IsName};
+ghost use Rattle.sg_msg.specs.Message.{IsPairName};
 ghost use Rattle.sg_rewrite.specs.Rewritten.{unpicked, unset_each};
 
 use crate::groups::is_picked;
@@ -17,7 +17,7 @@ fn keep(
     value: &[u8],
     builder: &mut MessageBuilder,
 ) -> Result<(), NoMemory>
-    requires { IsName name.now }
+    requires { IsPairName name.now }
     ensures { OnOk result (builder.new ≡ record builder.old {
       put = builder.old.put ++ unpicked globs.now
           ((record { name = name.now; value = value.now }) ∷ []);

@@ -6,7 +6,7 @@ ghost use Rattle.sg_rewrite.specs.Ops.{change_of, RefusesOp, IsOp};
 ghost use Rattle.sg_rewrite.specs.Changes.{IsChange, HasPattern};
 
 use crate::Op;
-use crate::text::{Text, kept};
+use crate::text::{RewriteText, kept};
 use bytes::Bytes;
 use sg_device::{Name, NoMemory};
 use sg_list::Seq;
@@ -15,18 +15,18 @@ use std::alloc::Global;
 
 /// A name, what searches in its value, and the template whose text replaces what is found.
 #[derive(Drop)]
-pub(crate) struct Search {
+pub(crate) struct Substitution {
     pub(crate) name: Bytes,
     pub(crate) matcher: Matcher,
-    pub(crate) text: Text,
+    pub(crate) text: RewriteText,
 }
 
 /// A rewrite with what searches for its pattern.
 pub(crate) enum Change {
-    Set { name: Bytes, text: Text },
+    Set { name: Bytes, text: RewriteText },
     Unset { name: Name },
-    Subst(Search),
-    GroupSet { globs: Seq<Name>, text: Text },
+    Subst(Substitution),
+    GroupSet { globs: Seq<Name>, text: RewriteText },
     GroupUnset { globs: Seq<Name> },
     SetTag { tag: Name },
     ClearTag { tag: Name },
@@ -76,21 +76,21 @@ pub(crate) fn change_of<B: Builder>(
     match op {
         Op::Set { name, text } => Ok(Change::Set {
             name: kept(alloc, name.bytes())?,
-            text: Text::new(alloc, text)?,
+            text: RewriteText::new(alloc, text)?,
         }),
         Op::Unset { name } => Ok(Change::Unset { name: name.copy()? }),
         Op::Subst {
             name,
             pattern,
             text,
-        } => Ok(Change::Subst(Search {
+        } => Ok(Change::Subst(Substitution {
             name: kept(alloc, name.bytes())?,
-            text: Text::new(alloc, text)?,
+            text: RewriteText::new(alloc, text)?,
             matcher: Matcher::of_text(alloc, builder, pattern)?,
         })),
         Op::GroupSet { globs, text } => Ok(Change::GroupSet {
             globs: copied_names(alloc, globs)?,
-            text: Text::new(alloc, text)?,
+            text: RewriteText::new(alloc, text)?,
         }),
         Op::GroupUnset { globs } => Ok(Change::GroupUnset {
             globs: copied_names(alloc, globs)?,
@@ -110,7 +110,7 @@ pub(crate) fn shared(alloc: Global, change: &Change) -> Result<Change, NoMemory>
             text: text.share(alloc)?,
         }),
         Change::Unset { name } => Ok(Change::Unset { name: name.copy()? }),
-        Change::Subst(search) => Ok(Change::Subst(Search {
+        Change::Subst(search) => Ok(Change::Subst(Substitution {
             name: search.name.clone()?,
             matcher: search.matcher.share(alloc)?,
             text: search.text.share(alloc)?,

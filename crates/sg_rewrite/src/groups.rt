@@ -1,13 +1,13 @@
 // Rewrites of groups of names.
 ghost use Rattle.std.specs.Prelude.{◌≡◌, IfOk, OnOk, OnErr, if◌then◌else◌};
-ghost use Rattle.sg_msg.specs.Message.{IsName, value_of};
+ghost use Rattle.sg_msg.specs.Message.{IsPairName, value_of};
 ghost use Rattle.sg_rewrite.specs.Values.{without_value};
 ghost use Rattle.sg_rewrite.specs.Rewritten.{is_picked, with_text, set_each, unset_each};
 
 use crate::anew::without_group;
 use crate::render::{set, unset};
 use crate::rewrite::Buffers;
-use crate::text::Text;
+use crate::text::RewriteText;
 use sg_device::{Name, NoMemory};
 use sg_msg::Message;
 use sg_pattern::glob_matches;
@@ -47,11 +47,11 @@ fn buffer_of(alloc: Global, old: Option<Name>) -> Vec<u8> {
 fn set_text(
     alloc: Global,
     name: &[u8],
-    text: &Text,
+    text: &RewriteText,
     message: &mut Message,
     buffers: &mut Buffers,
 ) -> Result<(), NoMemory>
-    requires { IsName name.now }
+    requires { IsPairName name.now }
     ensures { OnOk result (message.new ≡ with_text text.now name.now message.old) }
 {
     let buffer = replace(&mut buffers.old, Vec::new(alloc));
@@ -66,11 +66,11 @@ fn set_picked(
     alloc: Global,
     globs: &[Name],
     name: &[u8],
-    text: &Text,
+    text: &RewriteText,
     message: &mut Message,
     buffers: &mut Buffers,
 ) -> Result<(), NoMemory>
-    requires { IsName name.now }
+    requires { IsPairName name.now }
     ensures { OnOk result (message.new
         ≡ (if is_picked globs.now name.now then with_text text.now name.now message.old
         else message.old)) }
@@ -85,7 +85,7 @@ fn set_picked(
 pub(crate) fn set_group(
     alloc: Global,
     globs: &[Name],
-    text: &Text,
+    text: &RewriteText,
     message: &mut Message,
     buffers: &mut Buffers,
 ) -> Result<(), NoMemory>
@@ -107,7 +107,7 @@ pub(crate) fn set_group(
 
 // Takes the name's value away, where a glob matches it.
 fn unset_picked(globs: &[Name], name: &[u8], message: &mut Message) -> Result<(), NoMemory>
-    requires { IsName name.now }
+    requires { IsPairName name.now }
     ensures { OnOk result (message.new
         ≡ (if is_picked globs.now name.now then without_value name.now message.old
         else message.old)) }

@@ -1,6 +1,6 @@
 // The values that rewrites set, and the changes of one name.
 ghost use Rattle.std.specs.Prelude.{◌≡◌, OnOk, OnErr};
-ghost use Rattle.sg_msg.specs.Message.{IsName};
+ghost use Rattle.sg_msg.specs.Message.{IsPairName};
 ghost use Rattle.sg_rewrite.specs.Values.{cut, with_value, without_value};
 
 use bytes::Bytes;
@@ -13,7 +13,7 @@ pub(crate) const VALUE_LIMIT: usize = 1_048_576;
 
 /// Gives the name this value.
 pub(crate) fn set(message: &mut Message, name: &[u8], value: &[u8]) -> Result<(), NoMemory>
-    requires { IsName name.now }
+    requires { IsPairName name.now }
     ensures ok { OnOk result (message.new ≡ with_value name.now value.now message.old) }
     ensures err { OnErr result (message.new ≡ message.old) }
 {
@@ -31,7 +31,7 @@ pub(crate) fn put(
     name: &Bytes,
     value: &[u8],
 ) -> Result<(), NoMemory>
-    requires { IsName name.now }
+    requires { IsPairName name.now }
     ensures ok { OnOk result (message.new ≡ with_value name.now value.now message.old) }
     ensures err { OnErr result (message.new ≡ message.old) }
 {
@@ -53,7 +53,7 @@ pub(crate) fn at_most(value: &[u8]) -> &[u8]
 
 /// Takes the name's value away.
 pub(crate) fn unset(message: &mut Message, name: &[u8]) -> Result<(), NoMemory>
-    requires { IsName name.now }
+    requires { IsPairName name.now }
     ensures ok { OnOk result (message.new ≡ without_value name.now message.old) }
     ensures err { OnErr result (message.new ≡ message.old) }
 {

@@ -1,14 +1,14 @@
 // Rewrites of one name.
 ghost use Rattle.std.specs.Prelude.{◌≡◌, OnOk, OnErr, None};
-ghost use Rattle.sg_msg.specs.Message.{IsName, value_of};
+ghost use Rattle.sg_msg.specs.Message.{IsPairName, value_of};
 ghost use Rattle.sg_rewrite.specs.Values.{with_value, text_over};
 ghost use Rattle.sg_rewrite.specs.Rewritten.{substituted};
 
-use crate::change::Search;
+use crate::change::Substitution;
 use crate::render::put;
 use crate::replacing::replace;
 use crate::rewrite::Buffers;
-use crate::text::Text;
+use crate::text::RewriteText;
 use bytes::Bytes;
 use sg_device::NoMemory;
 use sg_msg::Message;
@@ -19,11 +19,11 @@ use std::alloc::Global;
 pub(crate) fn set_text(
     alloc: Global,
     name: &Bytes,
-    text: &Text,
+    text: &RewriteText,
     message: &mut Message,
     buffers: &mut Buffers,
 ) -> Result<(), NoMemory>
-    requires { IsName name.now }
+    requires { IsPairName name.now }
     ensures ok { OnOk result
         (message.new ≡ with_value name.now (text_over text.now None message.old) message.old) }
     ensures err { OnErr result (message.new ≡ message.old) }
@@ -36,11 +36,11 @@ pub(crate) fn set_text(
 /// Puts the template's text in the place of what is found in the name's value.
 pub(crate) fn substitute(
     alloc: Global,
-    search: &mut Search,
+    search: &mut Substitution,
     message: &mut Message,
     buffers: &mut Buffers,
 ) -> Result<(), NoMemory>
-    requires { IsName search.old.name }
+    requires { IsPairName search.old.name }
     ensures ok { OnOk result (message.new
         ≡ substituted search.old (value_of search.old.name message.old.pairs) message.old) }
     ensures err { OnErr result (message.new ≡ message.old) }

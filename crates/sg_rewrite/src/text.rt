@@ -1,7 +1,7 @@
 // The texts that rewrites set.
 ghost use Rattle.std.specs.Prelude.{◌≡◌, None, IfOk, OnOk};
 ghost use Rattle.sg_template.specs.Render.{render_of};
-ghost use Rattle.sg_rewrite.specs.Texts.{IsText};
+ghost use Rattle.sg_rewrite.specs.Texts.{IsConstantText};
 ghost use Rattle.sg_rewrite.specs.Values.{cut, text_over};
 
 use crate::render::{VALUE_LIMIT, at_most};
@@ -14,22 +14,22 @@ use std::marker::Model;
 
 /// A template, and its text where that is the same over every message and short enough for a value.
 #[derive(Drop)]
-pub(crate) struct Text {
+pub(crate) struct RewriteText {
     template: Template,
     constant: Option<Bytes>,
 }
 
-impl Model for Text {
+impl Model for RewriteText {
     ghost use Rattle.std.specs.Prelude.{List};
-    ghost use Rattle.sg_macro.specs.declared.part.Part.{Part};
+    ghost use Rattle.sg_macro.specs.declared.part.TemplatePart.{TemplatePart};
 
-    ghost Value = { List Part };
+    ghost Value = { List TemplatePart };
 
-    ghost use Rattle.sg_rewrite.specs.Texts.{IsText};
+    ghost use Rattle.sg_rewrite.specs.Texts.{IsConstantText};
 
     ghost view = { λ t. t.template };
 
-    ghost invariant = { λ t. IsText t.template t.constant };
+    ghost invariant = { λ t. IsConstantText t.template t.constant };
 }
 
 /// The bytes in memory that isn't freed, so that what has them keeps no count of owners: a program makes
@@ -43,7 +43,7 @@ pub(crate) fn kept(alloc: Global, bytes: &[u8]) -> Result<Bytes, NoMemory>
 
 // The text, where it is the same over every message and short enough for a value.
 fn constant(alloc: Global, template: &Template) -> Result<Option<Bytes>, NoMemory>
-    ensures { IfOk result (IsText template.now) }
+    ensures { IfOk result (IsConstantText template.now) }
 {
     let Some(text) = template.constant() else {
         return Ok(None);
@@ -68,26 +68,26 @@ fn shared(constant: &Option<Bytes>) -> Result<Option<Bytes>, NoMemory>
     }
 }
 
-impl Text {
+impl RewriteText {
     /// The texts of the template.
-    pub(crate) fn new(alloc: Global, template: &Template) -> Result<Text, NoMemory>
+    pub(crate) fn new(alloc: Global, template: &Template) -> Result<RewriteText, NoMemory>
         ensures { IfOk result (λ text. text ≡ template.now) }
     {
         let copy = template.copy(alloc)?;
         let constant = constant(alloc, &copy)?;
-        Ok(Text {
+        Ok(RewriteText {
             template: copy,
             constant,
         })
     }
 
     /// An equal one.
-    pub(crate) fn share(&self, alloc: Global) -> Result<Text, NoMemory>
+    pub(crate) fn share(&self, alloc: Global) -> Result<RewriteText, NoMemory>
         ensures { IfOk result (λ text. text ≡ self.now) }
     {
         let copy = self.template.copy(alloc)?;
         let constant = shared(&self.constant)?;
-        Ok(Text {
+        Ok(RewriteText {
             template: copy,
             constant,
         })

@@ -1,12 +1,7 @@
 -- Offers, and the records that they are of.
-use Rattle.std.specs.Prelude.{◌≡◌, ◌<◌, ℕ, ℤ, List, [], ◌∷◌}
+use Rattle.std.specs.Prelude.{◌≡◌, ℕ, ℤ, List, []}
 use Rattle.sg_msg.specs.declared.offer.Offer.{Offer}
 use Rattle.sg_frame.specs.Records.{Record}
-
--- each goes to one of so many destinations
-abbrev pub AllWithin : ℕ → List Offer → Type 0
-AllWithin dests [] = Unit {0}
-AllWithin dests (offer ∷ offers) = (offer.dest < dests) × AllWithin dests offers
 
 -- a record of this peer, text and moment; where it stood in its stream doesn't count
 abbrev pub record_at : List ℕ → List ℕ → ℤ → Record

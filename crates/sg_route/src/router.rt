@@ -2,7 +2,8 @@
 ghost use Rattle.std.specs.Prelude.{◌<◌, ◌≤◌, ◌≤ℤ◌, ℕ, List, pos, length, IfOk};
 ghost use Rattle.sg_msg.specs.declared.offer.Offer.{Offer as AnOffer};
 ghost use Rattle.sg_frame.specs.Records.{Record};
-ghost use Rattle.sg_route.specs.Offers.{AllWithin, SameRouter, record_at};
+ghost use Rattle.sg_route.specs.Offers.{SameRouter, record_at};
+ghost use Rattle.sg_msg.specs.Offers.{AllWithin};
 
 use bytes::Bytes;
 use sg_msg::Offer;

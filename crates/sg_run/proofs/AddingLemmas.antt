@@ -5,8 +5,7 @@ use Rattle.sg_device.specs.Inlet.{InletState}
 use Rattle.sg_device.specs.Outlet.{OutletState}
 use Rattle.sg_lex.specs.declared.token.Token.{Token}
 use Rattle.sg_pipes.specs.declared.pipes.Pipes.{Pipes}
-use Rattle.sg_plan.specs.Direct.{AreDirect}
-use Rattle.sg_config.specs.Alike.{IsWithin}
+use Rattle.sg_config.specs.Alike.{IsConfigWithin}
 use Rattle.sg_config.specs.Means.{Means}
 use Rattle.sg_config.specs.declared.config.Config.{Config}
 use Rattle.sg_loaded.specs.declared.loaded.Unloaded.{Unloaded}
@@ -30,7 +29,7 @@ use Rattle.sg_run.specs.Adding.{ConfigRun, ConfigRunOf, Opened, Unopened, plan_r
 use Rattle.sg_run.specs.Fresh.{NewConfigRunsAddUp, ConfigRunsStayCovered, ReturnsClean, AllReturnClean, ConfigRunsTakeOnce}
 use Rattle.sg_run.specs.Ends.{quiet_end, end_after, early_end}
 use Rattle.sg_run.specs.Meaning.{planned, AreRouters}
-use Rattle.sg_run.specs.Outcomes.{Tells}
+use Rattle.sg_run.specs.Outcomes.{TellsOutcome}
 use Rattle.sg_run.specs.Run.{offers_by, inlets_by, dests_by}
 use Rattle.sg_run.specs.declared.end.End.{End}
 use Rattle.sg_run.specs.declared.end.End.TheVariants.{Clean, OpenFault, Damage, SinkFault, DiskFault, InletFault, RoundsSpent}
@@ -63,7 +62,7 @@ ran-clean Quiet counts end h q = let fault = first_fault counts.sinks counts.sto
 ran-clean Spent counts end h q = absurd (let wrong : RoundsSpent ≡ Clean = some-same RoundsSpent end h ∙ q in cc)
 ran-clean NoMemory counts end h q = absurd (let wrong : None ≡ Some end = h in cc)
 
-ends-well : (plan : RunPlan) (ending : PlanEnded) (result : Result Outcome Unloaded) → Tells plan ending result → IsClean result → EndsWellBy ending
+ends-well : (plan : RunPlan) (ending : PlanEnded) (result : Result Outcome Unloaded) → TellsOutcome plan ending result → IsClean result → EndsWellBy ending
 ends-well plan (Before e) (Ok outcome) tells clean = absurd (early-unclean e outcome.end tells.0 clean)
 ends-well plan (Ran ended None) (Ok outcome) tells clean = absurd tells
 ends-well plan (Ran ended (Some counts)) (Ok outcome) tells clean = ran-clean ended counts outcome.end tells.0 clean
@@ -86,11 +85,11 @@ module _ {I O : Type 0} (feed : I → InletState) (drain : O → OutletState) (c
   )
   follow-by bytes before (Unopened run ∷ runs) last follow = (record { runs = (run.ran).runs; stops = follow.0 }, follow-by bytes run.images runs last follow.1)
 
-pub config-runs-add-up : {I O : Type 0} (feed : I → InletState) (drain : O → OutletState) → ((tokens : List Token) (config : Config) → Means tokens config → IsWithin config) → ((tokens : List Token) (config : Config) → Means tokens config → AreDirect config.outlets.items)
+pub config-runs-add-up : {I O : Type 0} (feed : I → InletState) (drain : O → OutletState) → ((tokens : List Token) (config : Config) → Means tokens config → IsConfigWithin config)
     → PlanRunsAddUp feed drain offers_by inlets_by dests_by → ConfigRunsAddUp feed drain
-config-runs-add-up feed drain within direct add tokens config by are bytes taken passes before runs last means covered follow clean returned =
+config-runs-add-up feed drain within add tokens config by are bytes taken passes before runs last means covered follow clean returned =
     let reads = reads-files tokens config false means in
-    let can = runnable config false (within tokens config means) (direct tokens config means) in
+    let can = runnable config false (within tokens config means) in
     let well = ends-well (planned config last.once) (last.ran).ending last.result (last.ran).tells clean in
     add (planned config false) by bytes taken passes before (map (run_of by are) runs) (plan_run by are last) can reads.0 reads.1 covered (follow-by feed drain config by are bytes before runs last follow)
     (record { counts = well.counts; ending_is = well.ending_is; well = well.well; returned = returned })
@@ -129,27 +128,27 @@ module _ {I O : Type 0} (feed : I → InletState) (drain : O → OutletState) (c
   all-return-well [] last all = (returns-well last all.0, tt)
   all-return-well (run ∷ runs) last all = (returns-well run all.0, all-return-well runs last all.1)
 
-pub new-runs-add-up : {I O : Type 0} (feed : I → InletState) (drain : O → OutletState) → ((tokens : List Token) (config : Config) → Means tokens config → IsWithin config) → ((tokens : List Token) (config : Config) → Means tokens config → AreDirect config.outlets.items)
+pub new-runs-add-up : {I O : Type 0} (feed : I → InletState) (drain : O → OutletState) → ((tokens : List Token) (config : Config) → Means tokens config → IsConfigWithin config)
     → NewAreCovered offers_by → PlanRunsAddUp feed drain offers_by inlets_by dests_by → NewConfigRunsAddUp feed drain
-new-runs-add-up feed drain within direct fresh add tokens config by are bytes runs last means follow clean returned =
+new-runs-add-up feed drain within fresh add tokens config by are bytes runs last means follow clean returned =
     let plan = planned config false in
-    let can = runnable config false (within tokens config means) (direct tokens config means) in
-    config-runs-add-up feed drain within direct add tokens config by are bytes [] [] (new_stores plan) runs last means
+    let can = runnable config false (within tokens config means) in
+    config-runs-add-up feed drain within add tokens config by are bytes [] [] (new_stores plan) runs last means
     (λ lists in_lists. fresh plan by bytes (position_in (held_by config.setup (new_stores plan) lists)) lists can in_lists) follow clean returned
 
-pub config-runs-stay-covered : {I O : Type 0} (feed : I → InletState) (drain : O → OutletState) → ((tokens : List Token) (config : Config) → Means tokens config → IsWithin config)
-    → ((tokens : List Token) (config : Config) → Means tokens config → AreDirect config.outlets.items) → PlanRunsStayCovered feed drain offers_by inlets_by dests_by → ConfigRunsStayCovered feed drain
-config-runs-stay-covered feed drain within direct stay tokens config by are bytes runs lists means follow in_lists =
+pub config-runs-stay-covered : {I O : Type 0} (feed : I → InletState) (drain : O → OutletState) → ((tokens : List Token) (config : Config) → Means tokens config → IsConfigWithin config)
+    → PlanRunsStayCovered feed drain offers_by inlets_by dests_by → ConfigRunsStayCovered feed drain
+config-runs-stay-covered feed drain within stay tokens config by are bytes runs lists means follow in_lists =
     let reads = reads-files tokens config false means in
-    let can = runnable config false (within tokens config means) (direct tokens config means) in
+    let can = runnable config false (within tokens config means) in
     let plan = planned config false in
     stay plan by bytes (map (run_of by are) runs) lists can reads.0 reads.1 (follow-all feed drain config by are bytes (new_stores plan) runs follow) in_lists
 
-pub config-runs-take-once : {I O : Type 0} (feed : I → InletState) (drain : O → OutletState) → ((tokens : List Token) (config : Config) → Means tokens config → IsWithin config)
-    → ((tokens : List Token) (config : Config) → Means tokens config → AreDirect config.outlets.items) → PlanRunsTakeOnce feed drain offers_by inlets_by dests_by → ConfigRunsTakeOnce feed drain
-config-runs-take-once feed drain within direct once tokens config by are bytes runs last means follow all =
+pub config-runs-take-once : {I O : Type 0} (feed : I → InletState) (drain : O → OutletState) → ((tokens : List Token) (config : Config) → Means tokens config → IsConfigWithin config)
+    → PlanRunsTakeOnce feed drain offers_by inlets_by dests_by → ConfigRunsTakeOnce feed drain
+config-runs-take-once feed drain within once tokens config by are bytes runs last means follow all =
     let reads = reads-files tokens config false means in
-    let can = runnable config false (within tokens config means) (direct tokens config means) in
+    let can = runnable config false (within tokens config means) in
     let plan = planned config false in
     once plan by bytes (map (plan_run by are) runs) (plan_run by are last) can reads.0 reads.1 (have-limits tokens config false means) (follow-opened feed drain config by are bytes (new_stores plan) runs last follow)
     (all-return-well feed drain config by are runs last all)

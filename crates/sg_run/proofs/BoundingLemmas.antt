@@ -13,7 +13,8 @@ use Rattle.sg_stores.specs.declared.kind.StoreKind.TheVariants.{Position, Buffer
 use Rattle.sg_loaded.specs.declared.loaded.Unloaded.{Unloaded}
 use Rattle.sg_loaded.specs.declared.loaded.Unloaded.TheVariants.{Bad, Unread, NoMemory}
 use Rattle.sg_serve.specs.Counts.{first_fault}
-use Rattle.sg_serve.specs.Run.{Reached, IsDamagedIn, HasCause, HasEnding}
+use Rattle.sg_serve.specs.Exits.{OneRose}
+use Rattle.sg_serve.specs.Run.{Reached, IsDamagedIn, HasEarlyCause, HasEnding}
 use Rattle.sg_serve.specs.declared.counts.Counts.{Counts}
 use Rattle.sg_serve.specs.declared.ending.Device.TheVariants.{Store, Inlet, Dest}
 use Rattle.sg_serve.specs.declared.ending.Early.{Early}
@@ -24,11 +25,11 @@ use Rattle.sg_run_plan.specs.declared.plan.RunPlan.{RunPlan}
 use Rattle.sg_turns.specs.declared.ended.Ended.TheVariants.{Quiet, RoundsSpent as Spent, NoMemory as Starved}
 use Rattle.sg_one_run.specs.Bounds.{given_rounds, IsFew}
 use Rattle.sg_one_run.proofs.RiseLemmas.{inlet-rose, outlet-rose}
-use Rattle.sg_run.specs.Bounding.{AreSpelled, GoesWell, Completes}
-use Rattle.sg_run.specs.Causes.{FailsThrice, RoseIn, FaultsAreDue, AreDue}
+use Rattle.sg_run.specs.Bounding.{AreStoresSpelled, GoesWell, Completes}
+use Rattle.sg_run.specs.Causes.{FailsThrice, RoseIn, FaultsAreDue, AreCausesDue}
 use Rattle.sg_run.specs.Ends.{quiet_end, end_after, early_end}
 use Rattle.sg_run.specs.Meaning.{drivers_in, files_in}
-use Rattle.sg_run.specs.Outcomes.{EndsBy, Tells}
+use Rattle.sg_run.specs.Outcomes.{PlanEndsBy, TellsOutcome}
 use Rattle.sg_run.specs.declared.end.End.{End}
 use Rattle.sg_run.specs.declared.end.End.TheVariants.{Clean}
 use Rattle.sg_run.specs.declared.end.Outcome.{Outcome}
@@ -52,7 +53,7 @@ whole (Buffer capacity) at bytes (entries, is) (inr found) =
     let kept = stored-at entries none.payloads none.payload none.after (subst (λ (es : Entries). AreStoredAs entries es) one is.stored) in
     none.none kept.0 kept.1
 
-not-damaged : (plan : RunPlan) (reached : Reached) (s at : ℕ) → AreSpelled plan.setup.dests reached.stores → IsDamagedIn plan.setup reached.stores s at → ⊥
+not-damaged : (plan : RunPlan) (reached : Reached) (s at : ℕ) → AreStoresSpelled plan.setup.dests reached.stores → IsDamagedIn plan.setup reached.stores s at → ⊥
 not-damaged plan reached s at spelled is =
     let lowest = is.damaged in
     let store = spelled s lowest.disk lowest.is_disk in
@@ -67,11 +68,15 @@ none-failed [] [] (i ∷ is) no_sink no_store no_inlet = absurd (no_inlet 0 i re
 none-failed [] [] [] no_sink no_store no_inlet = refl
 
 module _ (old new : WorldState) (plan : RunPlan) (recovered offered rounds : ℕ) (reached : Reached) (well : GoesWell old new plan reached) where
+  opens-exits : OneRose old new → ⊥
+  opens-exits (inl rose) = well.opens_outlets rose
+  opens-exits (inr rose) = well.opens_paths rose
+
   -- the rounds began
-  begins : (early : Early) (end : End) → HasCause old new plan reached early → early_end early ≡ Some end → ⊥
+  begins : (early : Early) (end : End) → HasEarlyCause old new plan reached early → early_end early ≡ Some end → ⊥
   begins (early.OpenFault (Store n)) end cause is = well.opens_stores cause.2
   begins (early.OpenFault (Inlet n)) end cause is = well.opens_inlets cause.1
-  begins (early.OpenFault (Dest n)) end cause is = well.opens_outlets cause.1
+  begins (early.OpenFault (Dest n)) end cause is = opens-exits cause.1
   begins (early.Damage s at) end cause is = not-damaged plan reached s at well.spelled cause.1
   begins (early.DiskFault s) end cause is = well.stores s cause
   begins early.NoMemory end cause is = let wrong : None ≡ Some end = is in cc
@@ -94,8 +99,8 @@ module _ (old new : WorldState) (plan : RunPlan) (recovered offered rounds : ℕ
       let none = none-failed counts.sinks counts.stores counts.inlets (λ k d h. no-sink d (due.sinks k d h)) (λ k s h. well.stores s (due.stores k s h)) (λ k i h. no-inlet i (due.inlets k i h)) in
       sym (some-same (quiet_end (first_fault counts.sinks counts.stores counts.inlets)) end is) ∙ ap quiet_end none
 
-  clean-of : (ending : PlanEnded) (drivers : List ℕ) (files : List Bool) (outcome : Outcome) → HasEnding old new plan reached ending → AreDue plan reached ending → IsFew recovered offered rounds reached ending
-      → 4 * given_rounds recovered offered reached ≤ rounds → EndsBy drivers files ending (Some outcome) → outcome.end ≡ Clean
+  clean-of : (ending : PlanEnded) (drivers : List ℕ) (files : List Bool) (outcome : Outcome) → HasEnding old new plan reached ending → AreCausesDue plan reached ending → IsFew recovered offered rounds reached ending
+      → 4 * given_rounds recovered offered reached ≤ rounds → PlanEndsBy drivers files ending (Some outcome) → outcome.end ≡ Clean
   clean-of (Before early) drivers files outcome cause due few enough ends = absurd (begins early outcome.end cause ends.0)
   clean-of (Ran Quiet None) drivers files outcome cause due few enough ends = absurd ends
   clean-of (Ran Quiet (Some counts)) drivers files outcome cause due few enough ends = quiet-clean counts outcome.end due ends.0
@@ -109,8 +114,8 @@ module _ (old new : WorldState) (plan : RunPlan) (recovered offered rounds : ℕ
 
 -- The end that is told is the clean one: before the rounds each refusal has its cause, the rounds of an untroubled run aren't spent, and
 -- behind a quiet one what is told to have failed has failed.
-pub completes-by : (old new : WorldState) (plan : RunPlan) (recovered offered rounds : ℕ) (ending : PlanEnded) (reached : Reached) (result : Result Outcome Unloaded) → HasEnding old new plan reached ending → AreDue plan reached ending
-    → IsFew recovered offered rounds reached ending → Tells plan ending result → Completes old new plan recovered offered rounds reached result
+pub completes-by : (old new : WorldState) (plan : RunPlan) (recovered offered rounds : ℕ) (ending : PlanEnded) (reached : Reached) (result : Result Outcome Unloaded) → HasEnding old new plan reached ending → AreCausesDue plan reached ending
+    → IsFew recovered offered rounds reached ending → TellsOutcome plan ending result → Completes old new plan recovered offered rounds reached result
 completes-by old new plan recovered offered rounds ending reached (Ok outcome) cause due few tells well enough =
     clean-of old new plan recovered offered rounds reached well ending (drivers_in plan.inlets.items) (files_in plan.setup.sources) outcome cause due few enough tells
 completes-by old new plan recovered offered rounds ending reached (Err (Bad fault names)) cause due few tells well enough = absurd tells

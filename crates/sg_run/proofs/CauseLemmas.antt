@@ -1,60 +1,50 @@
 -- What a run tells to have failed has failed.
-use Rattle.std.proofs.Common.{◌≡◌, ◌≤◌, ℕ, ◌+◌, suc, zero, Bool, true, false, List, [], ◌∷◌, Option, Some, None, map, length, slice_get, refl, sym, ap, ◌∙◌, subst, arith}
+use Rattle.std.proofs.Common.{◌≡◌, ◌≤◌, ℕ, true, List, [], ◌∷◌, Option, Some, None, map, length, slice_get, sym, ap, ◌∙◌, subst, arith}
 use Rattle.std.proofs.lemmas.List.{length-map}
-use Rattle.sg_list.proofs.ListLemmas.{some-same, slice_get-some, slice_get-below, slice_get-map}
+use Rattle.sg_list.proofs.ListLemmas.{slice_get-some, slice_get-below, slice_get-map}
 use Rattle.sg_device.specs.Faults.{Rose}
 use Rattle.sg_device.specs.Inlet.{InletState}
 use Rattle.sg_device.specs.Outlet.{OutletState}
 use Rattle.sg_outside.specs.World.{WorldState}
 use Rattle.sg_msg.specs.declared.offer.Offer.{Offer}
 use Rattle.sg_frame.specs.Records.{Record}
-use Rattle.sg_actor.specs.DestTurns.{HasCause}
+use Rattle.sg_actor.specs.DestTurns.{HasGivenUpCause}
 use Rattle.sg_actor.specs.SourceTurns.{actor}
 use Rattle.sg_actor.specs.declared.dest.DestActor.{DestActor}
 use Rattle.sg_actor.specs.declared.outage.Outage.{Outage}
 use Rattle.sg_actor.specs.declared.rendering.DestSpec.{DestSpec}
 use Rattle.sg_actor.specs.declared.source.SourceActor.{SourceActor}
 use Rattle.sg_actor.specs.declared.turned.GivenUp.{GivenUp}
-use Rattle.sg_actor.specs.declared.turned.GivenUp.TheVariants.{Outlet, Store}
+use Rattle.sg_actor.specs.declared.turned.GivenUp.TheVariants.{Outlet}
 use Rattle.sg_turns.specs.Actors.{source_seen, dest_seen, SourceTook, DestTook}
 use Rattle.sg_turns.specs.Turns.{Turn, DestState, SendsBy, SentTurns}
 use Rattle.sg_turns.specs.declared.ended.Ended.{Ended}
 use Rattle.sg_turns.proofs.FailingLemmas.{dest-fails, source-fails}
 use Rattle.sg_counter.specs.Exchanges.{OfSource, OfDest}
 use Rattle.sg_serve.specs.Actors.{SourceView, DestView, source_view, dest_view}
-use Rattle.sg_serve.specs.Counts.{gave_up_outlet, numbers_from}
+use Rattle.sg_serve.specs.Counts.{gave_up_outlet}
 use Rattle.sg_serve.specs.Plan.{IsRunnable}
-use Rattle.sg_serve.specs.Run.{CoreRun, Reached, Holds, IsServed, RunsWith}
+use Rattle.sg_serve.specs.Run.{CoreRun, Reached, PlanRunHolds, IsServed, RunsWith}
 use Rattle.sg_serve.specs.declared.counts.Counts.{Counts}
 use Rattle.sg_serve.specs.declared.ending.PlanEnded.{PlanEnded}
 use Rattle.sg_serve.specs.declared.ending.PlanEnded.TheVariants.{Before, Ran}
 use Rattle.sg_run_plan.specs.declared.plan.RunPlan.{RunPlan}
 use Rattle.sg_one_run.proofs.PreludeLemmas.{get-back}
 use Rattle.sg_one_run.specs.Failing.{AreUsed, FailedStoresCount}
-use Rattle.sg_run.specs.Causes.{FailsThrice, RoseIn, AreDue}
-
--- a number in the list is the place of a mark
-marked : (k n d : ℕ) (marks : List Bool) → slice_get (numbers_from k marks) n ≡ Some d → (j : ℕ) × ((slice_get marks j ≡ Some true) × (d ≡ k + j))
-marked k n d [] h = absurd (let wrong : None ≡ Some d = h in cc)
-marked k zero d (true ∷ marks) h = let same = some-same k d h in (0, (refl, omega (arith, same)))
-marked k (suc n) d (true ∷ marks) h = let r = marked (k + 1) n d marks h in let at = r.1.1 in (suc r.0, (r.1.0, omega (arith, at)))
-marked k n d (false ∷ marks) h = let r = marked (k + 1) n d marks h in let at = r.1.1 in (suc r.0, (r.1.0, omega (arith, at)))
-
-for-outlet : (cause : Option GivenUp) → gave_up_outlet cause ≡ true → cause ≡ Some Outlet
-for-outlet None h = cc
-for-outlet (Some Outlet) h = refl
-for-outlet (Some Store) h = cc
+use Rattle.sg_run.specs.Causes.{FailsThrice, RoseIn, AreCausesDue}
+use Rattle.sg_one_run.proofs.FactLemmas.{for-outlet}
+use Rattle.sg_one_run.proofs.FailingLemmas.{marked}
 
 -- Once a destination is given up for its outlet, the outlet's count of faults rose.
-record Rises (first : OutletState) (s : DestState) : Type 0 where
+record CountRises (first : OutletState) (s : DestState) : Type 0 where
   later : first.faults ≤ s.drain.faults
   rose : s.outage.given_up ≡ Some Outlet → Rose first.faults s.drain.faults
 
-turn-rises : (cause : Option GivenUp) (spec : DestSpec) (first : OutletState) (old new : DestState) (turn : Turn) → SendsBy cause spec old new turn → Rises first old → Rises first new
+turn-rises : (cause : Option GivenUp) (spec : DestSpec) (first : OutletState) (old new : DestState) (turn : Turn) → SendsBy cause spec old new turn → CountRises first old → CountRises first new
 turn-rises None spec first old new turn (taken, (refused, h)) before = record {
   later = (let sooner = before.later in let more = h.takes.faults in omega (arith, sooner, more));
   rose = λ e. (
-      let why = subst (λ c. HasCause spec.gives_up refused new.drain turn.made c) e h.cause in
+      let why = subst (λ c. HasGivenUpCause spec.gives_up refused new.drain turn.made c) e h.cause in
       let one : Rose old.drain.faults new.drain.faults = h.rose why.1 in
       let sooner = before.later in
       omega (arith, one, sooner));
@@ -64,8 +54,8 @@ turn-rises (Some cause) spec first old new turn h before = record {
   rose = λ e. subst (λ (drain : OutletState). Rose first.faults drain.faults) (sym h.1.drain_stays) (before.rose (ap (λ (outage : Outage). outage.given_up) (sym h.1.outage_stays) ∙ e));
 }
 
-turns-rise : (spec : DestSpec) (first : OutletState) (old new : DestState) (turns : List Turn) → SentTurns spec old new turns → Rises first old → Rises first new
-turns-rise spec first old new [] same before = subst (λ (s : DestState). Rises first s) (sym same) before
+turns-rise : (spec : DestSpec) (first : OutletState) (old new : DestState) (turns : List Turn) → SentTurns spec old new turns → CountRises first old → CountRises first new
+turns-rise spec first old new [] same before = subst (λ (s : DestState). CountRises first s) (sym same) before
 turns-rise spec first old new (turn ∷ turns) (mid, (sent, rest)) before = turns-rise spec first mid new turns rest (turn-rises old.outage.given_up spec first old mid turn sent before)
 
 module _ {R I O : Type 0} (feed : I → InletState) (drain : O → OutletState) (offers : R → ℕ → Record → List Offer → Type 0) (inlets dests : R → ℕ) (plan : RunPlan) (routers : List R) (rounds : ℕ) (reached : Reached) (run : CoreRun) (ended : Ended)
@@ -132,8 +122,8 @@ module _ {R I O : Type 0} (feed : I → InletState) (drain : O → OutletState) 
 
 module _ {R I O : Type 0} (feed : I → InletState) (drain : O → OutletState) (offers : R → ℕ → Record → List Offer → Type 0) (inlets dests : R → ℕ) (old new : WorldState) (plan : RunPlan) (routers : List R) (rounds : ℕ) (reached : Reached)
     (runnable : IsRunnable plan) (used : AreUsed plan) (law : FailedStoresCount feed drain offers inlets dests) where
-  due-served : (ended : Ended) (counts : Counts) (core : Option CoreRun) → Holds feed drain offers inlets dests old.files plan routers rounds reached core (Ran ended (Some counts))
-      → RunsWith feed drain offers inlets dests old new plan routers rounds (Ran ended (Some counts)) reached → AreDue plan reached (Ran ended (Some counts))
+  due-served : (ended : Ended) (counts : Counts) (core : Option CoreRun) → PlanRunHolds feed drain offers inlets dests old.files plan routers rounds reached core (Ran ended (Some counts))
+      → RunsWith feed drain offers inlets dests old new plan routers rounds (Ran ended (Some counts)) reached → AreCausesDue plan reached (Ran ended (Some counts))
   due-served ended counts None holds runs = absurd holds
   due-served ended counts (Some run) (holds, served) runs = record {
     sinks = sink-due feed drain offers inlets dests plan routers rounds reached run ended counts runnable served;
@@ -141,7 +131,7 @@ module _ {R I O : Type 0} (feed : I → InletState) (drain : O → OutletState) 
     inlets = inlet-due feed drain offers inlets dests plan routers rounds reached run ended counts runnable served;
   }
 
-  pub due-by : (ending : PlanEnded) → RunsWith feed drain offers inlets dests old new plan routers rounds ending reached → AreDue plan reached ending
+  pub due-by : (ending : PlanEnded) → RunsWith feed drain offers inlets dests old new plan routers rounds ending reached → AreCausesDue plan reached ending
   due-by (Before early) runs = tt
   due-by (Ran ended None) runs = tt
   due-by (Ran ended (Some counts)) runs = due-served ended counts reached.core runs.holds runs

@@ -20,7 +20,7 @@ use Rattle.sg_one_run.proofs.PreludeLemmas.{get-back}
 use Rattle.sg_many_runs.specs.Covered.{Pass, Delivery, Covered}
 use Rattle.sg_many_runs.specs.Adding.{offers_in}
 use Rattle.sg_many_runs.specs.Happened.{AllTell, AreOfFiles, TellFiles, EachChoice, files_of, PlanRunsHappen, PlanRunsCover}
-use Rattle.sg_many_runs.specs.Clean.{AreLines, PlanRunsEndClean}
+use Rattle.sg_many_runs.specs.Clean.{AreFilesByLines, PlanRunsEndClean}
 use Rattle.sg_many_runs.specs.Rest.{PlanRunsRest}
 use Rattle.sg_many_runs.proofs.HappenedLemmas.{happened-too}
 use Rattle.sg_run.specs.Covering.{CleanSo, Covers}
@@ -37,7 +37,7 @@ same-offers config routers by are others pass given (router, (at, says)) =
     (other.0, (other.1.0, subst P (sym other.1.1) says))
 
 module _ {R I O : Type 0} (feed : I → InletState) (drain : O → OutletState) (offers : R → ℕ → Record → List Offer → Type 0) (inlets dests : R → ℕ) (old new : WorldState) (plan : RunPlan) (routers by : List R) (rounds : ℕ) (reached : Reached) (can : IsRunnable plan)
-    (of_files : AreOfFiles plan) (lines : AreLines plan) (same : (pass : Pass) (given : List Offer) → offers_in offers routers pass given → offers_in offers by pass given) (happen : PlanRunsHappen feed drain offers inlets dests)
+    (of_files : AreOfFiles plan) (lines : AreFilesByLines plan) (same : (pass : Pass) (given : List Offer) → offers_in offers routers pass given → offers_in offers by pass given) (happen : PlanRunsHappen feed drain offers inlets dests)
     (cover : PlanRunsCover feed drain offers inlets dests) (clean : PlanRunsEndClean feed drain offers inlets dests) (rest : PlanRunsRest feed drain offers inlets dests) where
   clean-by : (ending : PlanEnded) (run : CoreRun) (bytes : ℕ → List ℕ) (taken : List Delivery) (passes : List Pass) (places : ℕ → ℕ) → RunsWith feed drain offers inlets dests old new plan routers rounds ending reached → reached.core ≡ Some run → AllTell reached.stores
       → TellFiles old.files plan reached.inlets bytes → EachChoice plan.setup reached.stores (Covered plan.setup (offers_in offers by) (files_of plan.inlets.items bytes) taken passes places) → CleanSo plan reached ending bytes

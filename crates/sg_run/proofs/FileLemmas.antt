@@ -18,9 +18,9 @@ use Rattle.sg_outfmt.specs.declared.shape.DriverKind.{DriverKind}
 use Rattle.sg_outfmt.specs.declared.shape.DriverKind.TheVariants.{File, Network, Syslog}
 use Rattle.sg_driver.specs.Driver.{driver_kind}
 use Rattle.sg_run_plan.specs.declared.inlet.InletPlan.{InletPlan}
-use Rattle.sg_source.specs.declared.inlet.Place.{Place}
+use Rattle.sg_source.specs.declared.inlet.SourceOrigin.{SourceOrigin}
 use Rattle.sg_source.specs.declared.inlet.SourceDriver.{SourceDriver}
-use Rattle.sg_source.specs.Inlets.{IsSource, place_by, frames_by, spec_at, plan_of, slots_at, store_at}
+use Rattle.sg_source.specs.Inlets.{IsSourceDriver, place_by, frames_by, spec_at, plan_of, slots_at, store_at}
 use Rattle.sg_plan.specs.declared.globals.Globals.{Globals}
 use Rattle.sg_plan.specs.declared.driver.Driver.{Driver}
 use Rattle.sg_plan.specs.declared.driver.Driver.TheVariants as driver
@@ -28,9 +28,9 @@ use Rattle.sg_plan.specs.declared.driver.OwnedDriver.{OwnedDriver}
 use Rattle.sg_plan.specs.declared.plan.Plan.{Plan}
 use Rattle.sg_plan.specs.Globals.{globals_of}
 use Rattle.sg_plan.specs.Owned.{Owned, owned_drivers}
-use Rattle.sg_plan.specs.Parts.{Parts, parts_of, no_parts, name_in, number_by, setup_of, with_one, with_driver}
+use Rattle.sg_plan.specs.Parts.{PlanParts, parts_of, no_parts, name_in, number_by, setup_of, with_one, with_driver}
 use Rattle.sg_plan.specs.Plans.{IsPlan}
-use Rattle.sg_plan.specs.Reading.{IsRead, AreRead}
+use Rattle.sg_plan.specs.Reading.{IsDriverRead, AreDriversRead}
 use Rattle.sg_config.specs.Means.{Means}
 use Rattle.sg_config.specs.declared.config.Config.{Config}
 use Rattle.sg_many_runs.specs.Covered.{IsFile}
@@ -71,21 +71,21 @@ tied-slots (suc n) setup f [] each = tt
 tied-slots (suc n) setup f (x ∷ slots) each = (each x, tied-slots n setup f slots each)
 
 -- a driver that has a store is of a file, and reads lines
-of-kind : (kind : DriverKind) (call : Call) (count limit slot : ℕ) (place : Place) (frames : FrameKind) → place ≡ place_by kind call → frames ≡ frames_by kind → is_some (number_by count (store_at place)) ≡ true → IsOfFile (spec_at place limit slot) × (frames ≡ Lines) × HasLimit (spec_at place limit slot) limit
+of-kind : (kind : DriverKind) (call : Call) (count limit slot : ℕ) (place : SourceOrigin) (frames : FrameKind) → place ≡ place_by kind call → frames ≡ frames_by kind → is_some (number_by count (store_at place)) ≡ true → IsOfFile (spec_at place limit slot) × (frames ≡ Lines) × HasLimit (spec_at place limit slot) limit
 of-kind File call count limit slot place frames is by has =
-    let P : Place → Type 0 = λ p. IsOfFile (spec_at p limit slot) in
-    let Q : Place → Type 0 = λ p. HasLimit (spec_at p limit slot) limit in
+    let P : SourceOrigin → Type 0 = λ p. IsOfFile (spec_at p limit slot) in
+    let Q : SourceOrigin → Type 0 = λ p. HasLimit (spec_at p limit slot) limit in
     (subst P (sym is) tt, by, subst Q (sym is) refl)
-of-kind Network call count limit slot place frames is by has = let P : Place → Type 0 = λ p. is_some (number_by count (store_at p)) ≡ true in absurd (let wrong : false ≡ true = subst P is has in cc)
-of-kind Syslog call count limit slot place frames is by has = let P : Place → Type 0 = λ p. is_some (number_by count (store_at p)) ≡ true in absurd (let wrong : false ≡ true = subst P is has in cc)
+of-kind Network call count limit slot place frames is by has = let P : SourceOrigin → Type 0 = λ p. is_some (number_by count (store_at p)) ≡ true in absurd (let wrong : false ≡ true = subst P is has in cc)
+of-kind Syslog call count limit slot place frames is by has = let P : SourceOrigin → Type 0 = λ p. is_some (number_by count (store_at p)) ≡ true in absurd (let wrong : false ≡ true = subst P is has in cc)
 
 -- All drivers.
 
-record Tied (parts : Parts) : Type 0 where
+record Tied (parts : PlanParts) : Type 0 where
   same : length parts.inlet_setups ≡ length parts.inlets
   tied : AreTied parts.inlet_setups parts.inlets
 
-source-tied : (globals : Globals) (call : Call) (parts : Parts) (owned : OwnedDriver) (source : SourceDriver) → IsSource globals.defaults call source → Tied parts → Tied (with_one parts owned.owner (driver.Source source))
+source-tied : (globals : Globals) (call : Call) (parts : PlanParts) (owned : OwnedDriver) (source : SourceDriver) → IsSourceDriver globals.defaults call source → Tied parts → Tied (with_one parts owned.owner (driver.Source source))
 source-tied globals call parts owned source is all =
     let n = slots_at source.place in
     let setup = setup_of (length parts.stores) source in
@@ -103,13 +103,13 @@ source-tied globals call parts owned source is all =
           (tied-slots n setup f slots (λ slot. of-kind (driver_kind call) call (length parts.stores) source.limit slot source.place source.kind is.place is.kind));
     }
 
-with-tied : (globals : Globals) (kind : Side) (call : Call) (parts : Parts) (owned : OwnedDriver) (d : Driver) → owned.driver ≡ d → IsRead globals kind call d → Tied parts → Tied (with_driver parts owned)
+with-tied : (globals : Globals) (kind : Side) (call : Call) (parts : PlanParts) (owned : OwnedDriver) (d : Driver) → owned.driver ≡ d → IsDriverRead globals kind call d → Tied parts → Tied (with_driver parts owned)
 with-tied globals side.Source call parts owned (driver.Source source) e is all = subst (λ d. Tied (with_one parts owned.owner d)) (sym e) (source-tied globals call parts owned source is all)
 with-tied globals side.Destination call parts owned (driver.Destination dest) e is all = subst (λ d. Tied (with_one parts owned.owner d)) (sym e) (record { same = all.same; tied = all.tied })
 with-tied globals side.Source call parts owned (driver.Destination dest) e is all = absurd is
 with-tied globals side.Destination call parts owned (driver.Source source) e is all = absurd is
 
-drivers-tied : (globals : Globals) (written : Owned) (drivers : List OwnedDriver) (parts : Parts) → AreRead globals written drivers → Tied parts → Tied (fold with_driver parts drivers)
+drivers-tied : (globals : Globals) (written : Owned) (drivers : List OwnedDriver) (parts : PlanParts) → AreDriversRead globals written drivers → Tied parts → Tied (fold with_driver parts drivers)
 drivers-tied globals [] [] parts read all = all
 drivers-tied globals [] (d ∷ ds) parts read all = absurd read
 drivers-tied globals (w ∷ ws) [] parts read all = absurd read

@@ -4,7 +4,7 @@ use Rattle.sg_machine.specs.declared.event.Event.{Event}
 use Rattle.sg_machine.specs.declared.state.State.{State}
 use Rattle.sg_tree.specs.Offers.{Woods, AreOffers}
 use Rattle.sg_pipes.specs.declared.pipes.Pipes.{Pipes}
-use Rattle.sg_one_run.specs.Texts.{taken_from, TakesFirst}
+use Rattle.sg_one_run.specs.Texts.{taken_from, TakesFirstTexts}
 use Rattle.sg_serve.specs.Run.{CoreRun, Reached}
 use Rattle.sg_run_plan.specs.declared.plan.RunPlan.{RunPlan}
 use Rattle.sg_one_run.specs.Headline.{frame_at, records_of, TakesPrefixes, Headline, Delivers}
@@ -17,7 +17,7 @@ texts-by : (plan : RunPlan) (routers : List Pipes) (reached : Reached) (start : 
 texts-by plan routers reached start events texts i d inlet woods closed first last at_inlet at_woods at_closed is =
     let a = get-back paths_of routers i woods at_woods in
     let frame = frame_at plan.outlets.items in
-    subst (λ (w : Woods). TakesFirst (AreOffers w) frame i d (records_of inlet closed) events (taken_from frame i d first last) last.left) a.1.1
+    subst (λ (w : Woods). TakesFirstTexts (AreOffers w) frame i d (records_of inlet closed) events (taken_from frame i d first last) last.left) a.1.1
     (texts i d inlet a.0 closed first last at_inlet a.1.0 at_closed is)
 
 headline-by : (plan : RunPlan) (routers : List Pipes) (reached : Reached) (run : CoreRun) → Headline offers_by plan routers reached run → Headline AreOffers plan (map paths_of routers) reached run
@@ -30,6 +30,7 @@ headline-by plan routers reached run h = record {
   holds = record {
     texts = texts-by plan routers reached _ (run.prelude ++ h.later) (h.holds).texts;
     taken = (h.holds).taken;
+    by_path = (h.holds).by_path;
     legal = (h.holds).legal;
     due = (h.holds).due;
     windows = (h.holds).windows;

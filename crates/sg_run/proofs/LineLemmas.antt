@@ -10,7 +10,7 @@ use Rattle.sg_machine.specs.Runs.{opened, after_all}
 use Rattle.sg_machine.specs.Tallies.{source_tallies}
 use Rattle.sg_machine.specs.declared.setup.SourceSetup.{SourceSetup}
 use Rattle.sg_machine.specs.declared.state.Dest.{Dest}
-use Rattle.sg_machine.specs.declared.state.Inlet.{Inlet}
+use Rattle.sg_machine.specs.declared.state.InletRecords.{InletRecords}
 use Rattle.sg_machine.specs.declared.state.State.{State}
 use Rattle.sg_machine.specs.declared.tally.Tally.{Tally}
 use Rattle.sg_machine.proofs.RunLemmas.{length-inlets}
@@ -21,22 +21,22 @@ use Rattle.sg_actor.specs.declared.source.SourceActor.{SourceActor}
 use Rattle.sg_run_plan.specs.declared.inlet.InletPlan.{InletPlan}
 use Rattle.sg_turns.specs.declared.ended.Ended.{Ended}
 use Rattle.sg_serve.specs.Plan.{IsRunnable}
-use Rattle.sg_serve.specs.Run.{CoreRun, Reached, Holds, IsServed}
+use Rattle.sg_serve.specs.Run.{CoreRun, Reached, PlanRunHolds, IsServed}
 use Rattle.sg_serve.specs.declared.counts.Counts.{Counts}
 use Rattle.sg_serve.specs.declared.ending.PlanEnded.{PlanEnded}
 use Rattle.sg_serve.specs.declared.ending.PlanEnded.TheVariants.{Before, Ran}
 use Rattle.sg_run_plan.specs.declared.plan.RunPlan.{RunPlan}
 use Rattle.sg_one_run.specs.Headline.{Headline, Delivers}
 use Rattle.sg_config.specs.declared.config.Config.{Config}
-use Rattle.sg_run.specs.Outcomes.{HasLines, HasLinesAt, AreLines}
+use Rattle.sg_run.specs.Outcomes.{HasLines, HasLinesAt, AreReportRows}
 use Rattle.sg_run.specs.Meaning.{planned}
-use Rattle.sg_run.specs.declared.reporting.Lines.{Lines}
+use Rattle.sg_run.specs.declared.reporting.ReportRows.{ReportRows}
 
-length-sources : (dests : List Dest) (i : ℕ) (inlets : List Inlet) → length (sources_from dests i inlets) ≡ length inlets
+length-sources : (dests : List Dest) (i : ℕ) (inlets : List InletRecords) → length (sources_from dests i inlets) ≡ length inlets
 length-sources dests i [] = refl
 length-sources dests i (x ∷ xs) = ap suc (length-sources dests (i + 1) xs)
 
-length-tallies : (dests : List Dest) (i : ℕ) (inlets : List Inlet) → length (source_tallies dests i inlets) ≡ length inlets
+length-tallies : (dests : List Dest) (i : ℕ) (inlets : List InletRecords) → length (source_tallies dests i inlets) ≡ length inlets
 length-tallies dests i [] = refl
 length-tallies dests i (x ∷ xs) = ap suc (length-tallies dests (i + 1) xs)
 
@@ -56,7 +56,7 @@ tallied offers plan routers reached run tally h each =
     ∙ (ap (λ ss. length ss) (h.opens).sources ∙ length-map plan.setup.sources (opened_source (run.first).stores))))
 
 lines-of : {R I O : Type 0} (feed : I → InletState) (drain : O → OutletState) (offers : R → ℕ → Record → List Offer → Type 0) (inlets dests : R → ℕ) (plan : RunPlan) (routers : List R) (rounds : ℕ) (reached : Reached) (run : CoreRun)
-    (ended : Ended) (counts : Counts) (lines : Lines) → IsRunnable plan → length lines.drivers ≡ length plan.inlets.items → length lines.files ≡ length plan.setup.sources
+    (ended : Ended) (counts : Counts) (lines : ReportRows) → IsRunnable plan → length lines.drivers ≡ length plan.inlets.items → length lines.files ≡ length plan.setup.sources
     → IsServed feed drain offers inlets dests plan routers rounds reached run ended (Some counts) → Headline offers plan routers reached run → HasLines lines counts
 lines-of {R} {I} feed drain offers inlets dests plan routers rounds reached run ended counts lines runnable drivers files served h =
     let runs = served.runs in
@@ -71,8 +71,8 @@ lines-of {R} {I} feed drain offers inlets dests plan routers rounds reached run 
     }
 
 lines-by : {R I O : Type 0} (feed : I → InletState) (drain : O → OutletState) (offers : R → ℕ → Record → List Offer → Type 0) (inlets dests : R → ℕ) (files : Option Files) (plan : RunPlan) (routers : List R) (rounds : ℕ) (reached : Reached)
-    (core : Option CoreRun) (ending : PlanEnded) (lines : Lines) → IsRunnable plan → length lines.drivers ≡ length plan.inlets.items → length lines.files ≡ length plan.setup.sources
-    → Holds feed drain offers inlets dests files plan routers rounds reached core ending → Delivers offers plan routers reached core → HasLinesAt lines ending
+    (core : Option CoreRun) (ending : PlanEnded) (lines : ReportRows) → IsRunnable plan → length lines.drivers ≡ length plan.inlets.items → length lines.files ≡ length plan.setup.sources
+    → PlanRunHolds feed drain offers inlets dests files plan routers rounds reached core ending → Delivers offers plan routers reached core → HasLinesAt lines ending
 lines-by feed drain offers inlets dests files plan routers rounds reached None (Before early) lines runnable drivers has_files holds h = tt
 lines-by feed drain offers inlets dests files plan routers rounds reached None (Ran ended counts) lines runnable drivers has_files holds h = absurd holds
 lines-by feed drain offers inlets dests files plan routers rounds reached (Some run) (Before early) lines runnable drivers has_files holds h = tt
@@ -81,7 +81,7 @@ lines-by feed drain offers inlets dests files plan routers rounds reached (Some 
     lines-of feed drain offers inlets dests plan routers rounds reached run ended counts lines runnable drivers has_files served h
 
 pub lines-at : {R I O : Type 0} (feed : I → InletState) (drain : O → OutletState) (offers : R → ℕ → Record → List Offer → Type 0) (inlets dests : R → ℕ) (files : Option Files) (config : Config) (once : Bool) (routers : List R) (rounds : ℕ) (reached : Reached)
-    (ending : PlanEnded) (lines : Lines) → IsRunnable (planned config once) → AreLines config lines → Holds feed drain offers inlets dests files (planned config once) routers rounds reached reached.core ending
+    (ending : PlanEnded) (lines : ReportRows) → IsRunnable (planned config once) → AreReportRows config lines → PlanRunHolds feed drain offers inlets dests files (planned config once) routers rounds reached reached.core ending
     → Delivers offers (planned config once) routers reached reached.core → HasLinesAt lines ending
 lines-at feed drain offers inlets dests files config once routers rounds reached ending lines runnable are holds h =
     lines-by feed drain offers inlets dests files (planned config once) routers rounds reached reached.core ending lines runnable

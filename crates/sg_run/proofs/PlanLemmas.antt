@@ -10,14 +10,13 @@ use Rattle.sg_tree.specs.Offers.{Woods, woods_of}
 use Rattle.sg_tree.specs.Readings.{inlet_of}
 use Rattle.sg_table.specs.Forest.{forest_of}
 use Rattle.sg_table.specs.declared.table.Table.{Table}
-use Rattle.sg_pipes.specs.Within.{IsWithin as StaysWithin}
+use Rattle.sg_pipes.specs.Within.{AreWoodsWithin as StaysWithin}
 use Rattle.sg_pipes.specs.declared.pipes.Pipes.{Pipes}
-use Rattle.sg_plan.specs.Direct.{AreDirect}
 use Rattle.sg_plan.specs.Limits.{HasWindow, IsInlet}
-use Rattle.sg_config.specs.Alike.{IsWithin}
+use Rattle.sg_config.specs.Alike.{IsConfigWithin}
 use Rattle.sg_config.specs.declared.config.Config.{Config}
 use Rattle.sg_loaded.specs.Compiling.{Compiles}
-use Rattle.sg_serve.specs.Devices.{AreFetching, AreNotByPath}
+use Rattle.sg_serve.specs.Devices.{AreFetching}
 use Rattle.sg_serve.specs.Plan.{IsRunnable, AllKnow}
 use Rattle.sg_one_run.specs.Failing.{AreUsed}
 use Rattle.sg_run.specs.Meaning.{planned, paths_of, paths_in, AreRouters}
@@ -35,12 +34,8 @@ fetching-of drivers (p ∷ ps) each =
     let is = each 0 p refl in
     (record { limit = is.some_bytes; some = is.some_records; most = is.most_records }, fetching-of drivers ps (λ i inlet at. each (suc i) inlet at))
 
-not-by-path : (outlets : List OutletPlan) → AreDirect outlets → AreNotByPath outlets
-not-by-path [] direct = tt
-not-by-path (o ∷ os) (not, direct) = (not, not-by-path os direct)
-
-pub runnable : (config : Config) (once : Bool) → IsWithin config → AreDirect config.outlets.items → IsRunnable (planned config once)
-runnable config once within direct = record {
+pub runnable : (config : Config) (once : Bool) → IsConfigWithin config → IsRunnable (planned config once)
+runnable config once within = record {
   numbers = record {
     positions = within.numbers.positions;
     buffers = within.numbers.buffers;
@@ -56,15 +51,14 @@ runnable config once within direct = record {
   few_outlets = within.outlets;
   few_stores = within.stores;
   fetches = fetching-of within.drivers config.inlets.items within.each;
-  paths = not-by-path config.outlets.items direct;
 }
 
-pub used : (config : Config) (once : Bool) → IsWithin config → AreUsed (planned config once)
+pub used : (config : Config) (once : Bool) → IsConfigWithin config → AreUsed (planned config once)
 used config once within = within.numbers.used
 
 -- The routers.
 
-pub pipes-within : (config : Config) (table : Table) → IsWithin config → Compiles config table → StaysWithin (forest_of table)
+pub pipes-within : (config : Config) (table : Table) → IsConfigWithin config → Compiles config table → StaysWithin (forest_of table)
 pipes-within config table within compiles = subst StaysWithin (sym compiles.paths) (within.paths, compiles.can.bounded.0)
 
 -- a router for each inlet, all by the table of the log paths
@@ -84,14 +78,14 @@ router-paths : (config : Config) (routers : List Pipes) (i : ℕ) (router : Pipe
 router-paths config routers i router are at =
     its-paths config i (paths_of router) (ap (λ (ws : List Woods). slice_get ws i) (sym are) ∙ slice_get-map paths_of routers i router at)
 
-inlets-known : (config : Config) (router : Pipes) → IsWithin config → paths_of router ≡ woods_of config.forest → inlets_by router ≡ length config.inlets.items
+inlets-known : (config : Config) (router : Pipes) → IsConfigWithin config → paths_of router ≡ woods_of config.forest → inlets_by router ≡ length config.inlets.items
 inlets-known config router within is =
     sym (length-map router.table.inlets.items inlet_of) ∙ (ap (λ (woods : Woods). length woods.inlets) is ∙ within.readings)
 
-dests-known : (config : Config) (router : Pipes) → IsWithin config → paths_of router ≡ woods_of config.forest → dests_by router ≡ length config.setup.dests
+dests-known : (config : Config) (router : Pipes) → IsConfigWithin config → paths_of router ≡ woods_of config.forest → dests_by router ≡ length config.setup.dests
 dests-known config router within is = ap (λ (woods : Woods). woods.dests) is ∙ (within.dests ∙ sym within.outlet_setups)
 
-pub all-know : (config : Config) (once : Bool) (routers : List Pipes) → IsWithin config → AreRouters config routers → AllKnow inlets_by dests_by (planned config once) routers
+pub all-know : (config : Config) (once : Bool) (routers : List Pipes) → IsConfigWithin config → AreRouters config routers → AllKnow inlets_by dests_by (planned config once) routers
 all-know config once routers within are = record {
   all = sym (length-map routers paths_of) ∙ (ap (λ (ws : List Woods). length ws) are ∙ length-replicate (length config.inlets.items) (woods_of config.forest));
   each = λ i router at. let is = router-paths config routers i router are at in (inlets-known config router within is, dests-known config router within is);

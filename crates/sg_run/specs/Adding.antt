@@ -6,7 +6,7 @@ use Rattle.sg_device.specs.Outlet.{OutletState}
 use Rattle.sg_outside.specs.World.{WorldState}
 use Rattle.sg_lex.specs.declared.token.Token.{Token}
 use Rattle.sg_machine.specs.declared.event.Event.{Event}
-use Rattle.sg_machine.specs.Runs.{Kept}
+use Rattle.sg_machine.specs.Runs.{BufferedEntry}
 use Rattle.sg_pipes.specs.declared.pipes.Pipes.{Pipes}
 use Rattle.sg_config.specs.Means.{Means}
 use Rattle.sg_config.specs.declared.config.Config.{Config}
@@ -126,7 +126,7 @@ ConfigRunsAddUp feed drain =
     (bytes : ℕ → List ℕ) (taken : List Delivery) (passes : List Pass) (before : List (List ℕ))
     (runs : List (ConfigRunOf feed drain config)) (last : ConfigRun feed drain config)
     → Means tokens config
-    → ((lists : List (List Kept)) → AreListsBy config.setup.dests before lists
+    → ((lists : List (List BufferedEntry)) → AreListsBy config.setup.dests before lists
     → Covered config.setup (offers_in offers_by by) (files_of config.inlets.items bytes) taken
     passes (position_in (held_by config.setup before lists))
     (held_by config.setup before lists))

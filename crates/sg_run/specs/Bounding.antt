@@ -10,13 +10,13 @@ use Rattle.sg_stores.specs.Opening.{IsStore}
 use Rattle.sg_core.specs.Opening.{kind_of}
 use Rattle.sg_serve.specs.Run.{Reached, RoseAt}
 use Rattle.sg_run_plan.specs.declared.plan.RunPlan.{RunPlan}
-use Rattle.sg_one_run.specs.Bounds.{given_rounds, IsUntroubled}
+use Rattle.sg_one_run.specs.Bounds.{given_rounds, RunsUntroubled}
 use Rattle.sg_run.specs.declared.end.End.TheVariants.{Clean}
 use Rattle.sg_run.specs.declared.end.Outcome.{Outcome}
 
 -- each store tells its bytes, which are a position, or at a disk-buffer a list of entries
-abbrev pub AreSpelled : List DestSetup → List DiskState → Type 0
-AreSpelled dests disks = (s : ℕ) (disk : DiskState) → slice_get disks s ≡ Some disk
+abbrev pub AreStoresSpelled : List DestSetup → List DiskState → Type 0
+AreStoresSpelled dests disks = (s : ℕ) (disk : DiskState) → slice_get disks s ≡ Some disk
     → (bytes : List ℕ) × ((content disk ≡ Some bytes) × IsStore (kind_of dests s) bytes)
 
 -- The stores are spellings, and no count of faults rose: of the openings of each kind, and of each store, inlet and outlet that was opened.
@@ -25,19 +25,20 @@ pub record GoesWell (old new : WorldState) (plan : RunPlan) (reached : Reached) 
   pub opens_stores : Rose old.store_faults new.store_faults → ⊥
   pub opens_inlets : Rose old.inlet_faults new.inlet_faults → ⊥
   pub opens_outlets : Rose old.outlet_faults new.outlet_faults → ⊥
-  pub spelled : AreSpelled plan.setup.dests reached.stores
+  pub opens_paths : Rose old.paths_faults new.paths_faults → ⊥
+  pub spelled : AreStoresSpelled plan.setup.dests reached.stores
   pub stores : (s : ℕ) → RoseAt reached.stores reached.stores_closed s → ⊥
-  pub untroubled : IsUntroubled reached
+  pub untroubled : RunsUntroubled reached
 
 -- the end is the clean one, but for lack of memory
-abbrev pub EndsClean : Result Outcome Unloaded → Type 0
-EndsClean (Ok outcome) = outcome.end ≡ Clean
-EndsClean (Err (Bad fault names)) = ⊥
-EndsClean (Err (Unread name)) = ⊥
-EndsClean (Err NoMemory) = Unit {0}
+abbrev pub IsCleanOutcome : Result Outcome Unloaded → Type 0
+IsCleanOutcome (Ok outcome) = outcome.end ≡ Clean
+IsCleanOutcome (Err (Bad fault names)) = ⊥
+IsCleanOutcome (Err (Unread name)) = ⊥
+IsCleanOutcome (Err NoMemory) = Unit {0}
 
 -- With four rounds for each byte, part, inlet, offer and recovered entry, and four more, a run in which all goes well ends clean.
 abbrev pub Completes : WorldState → WorldState → RunPlan → (recovered offered rounds : ℕ) → Reached
     → Result Outcome Unloaded → Type 0
 Completes old new plan recovered offered rounds reached result = GoesWell old new plan reached
-    → 4 * given_rounds recovered offered reached ≤ rounds → EndsClean result
+    → 4 * given_rounds recovered offered reached ≤ rounds → IsCleanOutcome result

@@ -36,7 +36,7 @@ pub record FaultsAreDue (plan : RunPlan) (reached : Reached) (counts : Counts) :
   pub inlets : (k i : ℕ) → slice_get counts.inlets k ≡ Some i
       → RoseIn reached.inlets reached.inlets_closed i
 
-abbrev pub AreDue : RunPlan → Reached → PlanEnded → Type 0
-AreDue plan reached (Before early) = Unit {0}
-AreDue plan reached (Ran ended None) = Unit {0}
-AreDue plan reached (Ran ended (Some counts)) = FaultsAreDue plan reached counts
+abbrev pub AreCausesDue : RunPlan → Reached → PlanEnded → Type 0
+AreCausesDue plan reached (Before early) = Unit {0}
+AreCausesDue plan reached (Ran ended None) = Unit {0}
+AreCausesDue plan reached (Ran ended (Some counts)) = FaultsAreDue plan reached counts

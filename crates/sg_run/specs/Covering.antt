@@ -13,12 +13,12 @@ use Rattle.sg_frame.specs.Records.{Record}
 use Rattle.sg_many_runs.specs.Covered.{Pass, Delivery, Offers, Covered}
 use Rattle.sg_many_runs.specs.Adding.{offers_in, EndsClean}
 use Rattle.sg_many_runs.specs.Happened.{AllTell, AreOfFiles, TellFiles, EachChoice, files_of, Happened, LeavesCovered}
-use Rattle.sg_many_runs.specs.Clean.{AreLines}
+use Rattle.sg_many_runs.specs.Clean.{AreFilesByLines}
 use Rattle.sg_run.specs.Meaning.{planned}
 
 -- each inlet with a stored position is that of a file, and is read by lines
 abbrev pub ReadsFiles : Config → Bool → Type 0
-ReadsFiles config once = AreOfFiles (planned config once) × AreLines (planned config once)
+ReadsFiles config once = AreOfFiles (planned config once) × AreFilesByLines (planned config once)
 
 -- where nothing is counted as failed behind a quiet round, each choice of what the stores hold then has no entry, and each position behind the
 -- last record of its file

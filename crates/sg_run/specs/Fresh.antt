@@ -3,7 +3,7 @@ use Rattle.std.specs.Prelude.{ℕ, false, List, [], ◌∷◌, ◌++◌, map}
 use Rattle.sg_device.specs.Inlet.{InletState}
 use Rattle.sg_device.specs.Outlet.{OutletState}
 use Rattle.sg_lex.specs.declared.token.Token.{Token}
-use Rattle.sg_machine.specs.Runs.{Kept}
+use Rattle.sg_machine.specs.Runs.{BufferedEntry}
 use Rattle.sg_pipes.specs.declared.pipes.Pipes.{Pipes}
 use Rattle.sg_config.specs.Means.{Means}
 use Rattle.sg_config.specs.declared.config.Config.{Config}
@@ -33,7 +33,7 @@ NewConfigRunsAddUp feed drain =
 abbrev pub ConfigRunsStayCovered : {I O : Type 0} → (I → InletState) → (O → OutletState) → Type 0
 ConfigRunsStayCovered feed drain =
     (tokens : List Token) (config : Config) (by : List Pipes) (are : AreRouters config by)
-    (bytes : ℕ → List ℕ) (runs : List (ConfigRunOf feed drain config)) (lists : List (List Kept))
+    (bytes : ℕ → List ℕ) (runs : List (ConfigRunOf feed drain config)) (lists : List (List BufferedEntry))
     → Means tokens config
     → ConfigRunsFollow by are bytes (new_stores_of config) runs
     → AreListsBy config.setup.dests

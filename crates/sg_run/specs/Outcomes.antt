@@ -16,7 +16,7 @@ use Rattle.sg_run.specs.Ends.{code_of, end_after, early_end, early_text}
 use Rattle.sg_run.specs.Meaning.{drivers_in, files_in}
 use Rattle.sg_run.specs.declared.end.End.{End}
 use Rattle.sg_run.specs.declared.end.Outcome.{Outcome}
-use Rattle.sg_run.specs.declared.reporting.Lines.{Lines}
+use Rattle.sg_run.specs.declared.reporting.ReportRows.{ReportRows}
 
 -- What the report shows: a line for each driver of a source, with the position of a file; what failed; and the exit status.
 abbrev pub shown_of : List ℕ → List Bool → Counts → End → Shown
@@ -49,44 +49,44 @@ abbrev pub IsNone : Option Outcome → Type 0
 IsNone None = Unit {0}
 IsNone (Some outcome) = ⊥
 
-abbrev pub EndsBy : List ℕ → List Bool → PlanEnded → Option Outcome → Type 0
-EndsBy drivers files (Before early) outcome = EndsBefore early outcome
-EndsBy drivers files (Ran ended None) outcome = IsNone outcome
-EndsBy drivers files (Ran ended (Some counts)) outcome = ReportsBy drivers files ended counts
+abbrev pub PlanEndsBy : List ℕ → List Bool → PlanEnded → Option Outcome → Type 0
+PlanEndsBy drivers files (Before early) outcome = EndsBefore early outcome
+PlanEndsBy drivers files (Ran ended None) outcome = IsNone outcome
+PlanEndsBy drivers files (Ran ended (Some counts)) outcome = ReportsBy drivers files ended counts
     outcome
 
 -- The run of a plan ended so, which is told, and its text is the report, or the line on what kept its rounds from beginning. Lack of memory
 -- is free.
-abbrev pub Tells : RunPlan → PlanEnded → Result Outcome Unloaded → Type 0
-Tells plan ending (Ok outcome) = EndsBy (drivers_in plan.inlets.items) (files_in plan.setup.sources)
+abbrev pub TellsOutcome : RunPlan → PlanEnded → Result Outcome Unloaded → Type 0
+TellsOutcome plan ending (Ok outcome) = PlanEndsBy (drivers_in plan.inlets.items) (files_in plan.setup.sources)
     ending (Some outcome)
-Tells plan ending (Err (Bad fault names)) = ⊥
-Tells plan ending (Err (Unread name)) = ⊥
-Tells plan ending (Err NoMemory) = Unit {0}
+TellsOutcome plan ending (Err (Bad fault names)) = ⊥
+TellsOutcome plan ending (Err (Unread name)) = ⊥
+TellsOutcome plan ending (Err NoMemory) = Unit {0}
 
 -- ---- the parts
 
-abbrev pub Drawn : Lines → Counts → End → List ℕ → Type 0
+abbrev pub Drawn : ReportRows → Counts → End → List ℕ → Type 0
 Drawn lines counts end text = text
     ≡ report_text counts.tally (shown_of lines.drivers lines.files counts end)
 
-abbrev pub EndsAfter : Lines → Ended → Counts → Option Outcome → Type 0
+abbrev pub EndsAfter : ReportRows → Ended → Counts → Option Outcome → Type 0
 EndsAfter lines ended counts outcome = ReportsBy lines.drivers lines.files ended counts outcome
 
-abbrev pub EndsSo : Lines → PlanEnded → Option Outcome → Type 0
-EndsSo lines ending outcome = EndsBy lines.drivers lines.files ending outcome
+abbrev pub EndsSo : ReportRows → PlanEnded → Option Outcome → Type 0
+EndsSo lines ending outcome = PlanEndsBy lines.drivers lines.files ending outcome
 
 -- there is a line for each source, and the number of its bad parts
-pub record HasLines (lines : Lines) (counts : Counts) : Type 0 where
+pub record HasLines (lines : ReportRows) (counts : Counts) : Type 0 where
   pub drivers : length lines.drivers ≡ length counts.tally.sources
   pub files : length lines.files ≡ length counts.tally.sources
   pub bad_frames : length counts.bad_frames ≡ length counts.tally.sources
 
-abbrev pub HasLinesAt : Lines → PlanEnded → Type 0
+abbrev pub HasLinesAt : ReportRows → PlanEnded → Type 0
 HasLinesAt lines (Before early) = Unit {0}
 HasLinesAt lines (Ran ended None) = Unit {0}
 HasLinesAt lines (Ran ended (Some counts)) = HasLines lines counts
 
-abbrev pub AreLines : Config → Lines → Type 0
-AreLines config lines = (lines.drivers ≡ drivers_in config.inlets.items)
+abbrev pub AreReportRows : Config → ReportRows → Type 0
+AreReportRows config lines = (lines.drivers ≡ drivers_in config.inlets.items)
     × (lines.files ≡ files_in config.setup.sources)

@@ -17,10 +17,10 @@ use Rattle.sg_serve.specs.declared.ending.PlanEnded.{PlanEnded}
 use Rattle.sg_one_run.specs.Headline.{Delivers}
 use Rattle.sg_one_run.specs.Bounds.{recovered_by, offered_by, IsFew}
 use Rattle.sg_run.specs.Bounding.{Completes}
-use Rattle.sg_run.specs.Causes.{AreDue}
+use Rattle.sg_run.specs.Causes.{AreCausesDue}
 use Rattle.sg_run.specs.Covering.{Covers}
 use Rattle.sg_run.specs.Meaning.{planned, paths_of, paths_in, AreRouters}
-use Rattle.sg_run.specs.Outcomes.{Tells}
+use Rattle.sg_run.specs.Outcomes.{TellsOutcome}
 use Rattle.sg_run.specs.Resting.{RestsSo}
 use Rattle.sg_run.specs.declared.end.Outcome.{Outcome}
 
@@ -45,9 +45,9 @@ pub record RunsBy {I O : Type 0} (feed : I → InletState) (drain : O → Outlet
       routers rounds ending reached
   -- each destination takes from each source what the log paths of the configuration give for its records
   pub headline : Delivers AreOffers (planned config once) (paths_in config) reached reached.core
-  pub tells : Tells (planned config once) ending result
+  pub tells : TellsOutcome (planned config once) ending result
   -- what is told to have failed has failed
-  pub due : AreDue (planned config once) reached ending
+  pub due : AreCausesDue (planned config once) reached ending
   -- behind a quiet round nothing is left to do
   pub rests : RestsSo offers_by (planned config once) routers reached ending
   -- where all rounds were run and the last one wasn't quiet, as `runs` says of such an end, what came in and failed pays for so many
@@ -60,9 +60,9 @@ pub record RunsBy {I O : Type 0} (feed : I → InletState) (drain : O → Outlet
       → Covers offers_by loaded.files (planned config once) by reached ending
 
 -- why it wasn't run; lack of memory is free
-abbrev pub IsLeft : WorldState → WorldState → List ℕ → Result Outcome Unloaded → Type 0
-IsLeft old loaded file (Ok outcome) = ⊥
-IsLeft old loaded file (Err unloaded) = LoadsFile old loaded file (Err unloaded)
+abbrev pub IsNotRun : WorldState → WorldState → List ℕ → Result Outcome Unloaded → Type 0
+IsNotRun old loaded file (Ok outcome) = ⊥
+IsNotRun old loaded file (Err unloaded) = LoadsFile old loaded file (Err unloaded)
 
 abbrev pub IsStarved : Result Outcome Unloaded → Type 0
 IsStarved (Ok outcome) = ⊥
@@ -81,6 +81,6 @@ abbrev pub RunsFile : {I O : Type 0} → (I → InletState) → (O → OutletSta
     → WorldState → List ℕ → Bool → ℕ → Result Outcome Unloaded → Type 0
 RunsFile feed drain old new file once rounds result =
     (loaded : WorldState) × (OnlyLoads old loaded × (
-    ((new ≡ loaded) × IsLeft old loaded file result) ⊎ ((of_file : Loaded)
+    ((new ≡ loaded) × IsNotRun old loaded file result) ⊎ ((of_file : Loaded)
     × (IsConfigured old file of_file
     × RunsBy feed drain loaded new of_file.config once rounds result))))

@@ -1,8 +1,9 @@
 // What runs one after another come to.
 ghost use Rattle.sg_run.specs.Adding.{ConfigRunsAddUp};
 ghost use Rattle.sg_run.specs.Fresh.{NewConfigRunsAddUp, ConfigRunsStayCovered, ConfigRunsTakeOnce};
+ghost use Rattle.sg_serve.specs.Exits.{exit_of};
 
-use sg_config::{outlets_are_direct, texts_mean_one};
+use sg_config::texts_mean_one;
 use sg_many_runs::{
     new_stores_are_covered, plan_runs_add_up, plan_runs_stay_covered, plan_runs_take_once,
 };
@@ -14,19 +15,17 @@ use sg_world::World;
 /// offer with flow-control was taken at least once, and nothing but offers was taken. The function does
 /// nothing: its contract is a law.
 pub fn config_runs_add_up<W: World>(world: &W, routers: &[Pipes])
-    ensures { ConfigRunsAddUp W.Feed.state W.Drain.state }
+    ensures { ConfigRunsAddUp W.Feed.state (exit_of W.Drain.state W.Paths.state) }
 {
     texts_mean_one();
-    outlets_are_direct();
     plan_runs_add_up(world, routers);
 }
 
 /// The same from stores on that are as they were made, of whose files nothing was read.
 pub fn new_config_runs_add_up<W: World>(world: &W, routers: &[Pipes])
-    ensures { NewConfigRunsAddUp W.Feed.state W.Drain.state }
+    ensures { NewConfigRunsAddUp W.Feed.state (exit_of W.Drain.state W.Paths.state) }
 {
     texts_mean_one();
-    outlets_are_direct();
     new_stores_are_covered(routers);
     plan_runs_add_up(world, routers);
 }
@@ -35,10 +34,9 @@ pub fn new_config_runs_add_up<W: World>(world: &W, routers: &[Pipes])
 /// each record up to a stored position each offer with flow-control was taken in one of them, or stands
 /// in a disk-buffer.
 pub fn config_runs_stay_covered<W: World>(world: &W, routers: &[Pipes])
-    ensures { ConfigRunsStayCovered W.Feed.state W.Drain.state }
+    ensures { ConfigRunsStayCovered W.Feed.state (exit_of W.Drain.state W.Paths.state) }
 {
     texts_mean_one();
-    outlets_are_direct();
     plan_runs_stay_covered(world, routers);
 }
 
@@ -46,9 +44,8 @@ pub fn config_runs_stay_covered<W: World>(world: &W, routers: &[Pipes])
 /// came in once, and of its offers each destination took each once, but for those that were dropped
 /// without flow-control.
 pub fn config_runs_take_once<W: World>(world: &W, routers: &[Pipes])
-    ensures { ConfigRunsTakeOnce W.Feed.state W.Drain.state }
+    ensures { ConfigRunsTakeOnce W.Feed.state (exit_of W.Drain.state W.Paths.state) }
 {
     texts_mean_one();
-    outlets_are_direct();
     plan_runs_take_once(world, routers);
 }

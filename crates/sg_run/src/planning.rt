@@ -1,6 +1,6 @@
 // What is run of a configuration.
 ghost use Rattle.std.specs.Prelude.{◌≡◌, ◌++◌, ◌∷◌, [], map, length, replicate, is_some, IfOk};
-ghost use Rattle.sg_pipes.specs.Within.{IsWithin};
+ghost use Rattle.sg_pipes.specs.Within.{AreWoodsWithin};
 ghost use Rattle.sg_table.specs.Forest.{forest_of};
 ghost use Rattle.sg_run.specs.Meaning.{planned, paths_of};
 
@@ -35,7 +35,7 @@ pub(crate) fn plan_of(config: Config, once: bool) -> RunPlan
 
 /// So many routers, all by the same table.
 pub(crate) fn routers_of(alloc: Global, table: Table, count: usize) -> Result<Vec<Pipes>, NoMemory>
-    requires { IsWithin (forest_of table) }
+    requires { AreWoodsWithin (forest_of table) }
     ensures { IfOk result
         (λ routers. map paths_of routers.items ≡ replicate count (forest_of table)) }
 {

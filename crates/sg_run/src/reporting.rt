@@ -12,7 +12,7 @@ use std::alloc::Global;
 
 /// What the report shows of a plan: for each inlet the number of its driver, and whether it is a file.
 #[derive(Drop)]
-pub(crate) struct Lines {
+pub(crate) struct ReportRows {
     pub(crate) drivers: Seq<u32>,
     pub(crate) files: Seq<bool>,
 }
@@ -43,7 +43,12 @@ fn outcome_before(alloc: Global, early: Early) -> Result<Option<Outcome>, NoMemo
 }
 
 // The report of a run that ended so.
-fn report_of(alloc: Global, lines: Lines, counts: Counts, end: End) -> Result<Vec<u8>, NoMemory>
+fn report_of(
+    alloc: Global,
+    lines: ReportRows,
+    counts: Counts,
+    end: End,
+) -> Result<Vec<u8>, NoMemory>
     requires { HasLines lines counts }
     ensures { IfOk result (λ text. Drawn lines counts end text.items) }
 {
@@ -54,7 +59,7 @@ fn report_of(alloc: Global, lines: Lines, counts: Counts, end: End) -> Result<Ve
         stores,
         inlets,
     } = counts;
-    let Lines { drivers, files } = lines;
+    let ReportRows { drivers, files } = lines;
     let shown = Shown {
         drivers,
         files,
@@ -73,7 +78,7 @@ fn report_of(alloc: Global, lines: Lines, counts: Counts, end: End) -> Result<Ve
 // How the run ended whose rounds ended so, with its report; none where memory ran out.
 fn outcome_after(
     alloc: Global,
-    lines: Lines,
+    lines: ReportRows,
     ended: Ended,
     counts: Counts,
 ) -> Result<Option<Outcome>, NoMemory>
@@ -90,7 +95,7 @@ fn outcome_after(
 /// How the run of a plan ended, and what is to be said of it; none where memory ran out.
 pub(crate) fn outcome_of(
     alloc: Global,
-    lines: Lines,
+    lines: ReportRows,
     ending: PlanEnded,
 ) -> Result<Option<Outcome>, NoMemory>
     requires { HasLinesAt lines ending }

@@ -1,17 +1,17 @@
 // The command.
 ghost use Rattle.std.specs.Prelude.{◌≡◌, ◌≤◌, ◌<◌, ◌^◌, IfOk};
-ghost use Rattle.sg_config.specs.Alike.{IsWithin};
-ghost use Rattle.sg_plan.specs.Direct.{AreDirect};
+ghost use Rattle.sg_config.specs.Alike.{IsConfigWithin};
 ghost use Rattle.sg_loaded.specs.Compiling.{Compiles};
 ghost use Rattle.sg_run.specs.Covering.{ReadsFiles};
 ghost use Rattle.sg_run.specs.Meaning.{AreRouters};
-ghost use Rattle.sg_run.specs.Outcomes.{AreLines};
+ghost use Rattle.sg_run.specs.Outcomes.{AreReportRows};
 ghost use Rattle.sg_run.specs.Run.{RunsBy, RunsConfig, RunsFile};
+ghost use Rattle.sg_serve.specs.Exits.{exit_of};
 
 use crate::end::Outcome;
 use crate::planning::{drivers_of, files_of, plan_of, routers_of};
-use crate::reporting::{Lines, outcome_of};
-use sg_config::{Config, outlets_are_direct, texts_mean_one};
+use crate::reporting::{ReportRows, outcome_of};
+use sg_config::{Config, texts_mean_one};
 use sg_device::NoMemory;
 use sg_loaded::{Loaded, Unloaded, load_file};
 use sg_many_runs::{plan_runs_cover, plan_runs_end_clean, plan_runs_happen, plan_runs_rest};
@@ -21,38 +21,39 @@ use sg_one_run::{
 use sg_pipes::Pipes;
 use sg_serve::run_plan;
 use sg_table::Table;
+use sg_warnings::tell_warnings;
 use sg_world::World;
 use std::alloc::Global;
 use std::sync::Wait;
 use std::thread::Threads;
 
-fn lines_of(alloc: Global, config: &Config) -> Result<Lines, NoMemory>
-    ensures { IfOk result (AreLines config.now) }
+fn lines_of(alloc: Global, config: &Config) -> Result<ReportRows, NoMemory>
+    ensures { IfOk result (AreReportRows config.now) }
 {
-    Ok(Lines {
+    Ok(ReportRows {
         drivers: drivers_of(alloc, &config.inlets)?,
         files: files_of(alloc, config.setup.sources.as_slice())?,
     })
 }
 
 // Runs the plan of a configuration by these routers.
-fn run_by<T: Threads + Wait + Sync, W: World>(
+fn run_by<T: Threads + Wait + Eprint + Sync, W: World>(
     rt: &T,
     alloc: Global,
     config: Config,
     once: bool,
     routers: Vec<Pipes>,
-    lines: Lines,
+    lines: ReportRows,
     rounds: u64,
     world: &mut W,
 ) -> Result<Outcome, Unloaded>
-    requires within { IsWithin config }
-    requires direct { AreDirect config.outlets.items }
+    requires within { IsConfigWithin config }
     requires files { ReadsFiles config once }
     requires routers { AreRouters config routers.items }
-    requires lines { AreLines config lines }
+    requires lines { AreReportRows config lines }
     requires rounds { (0 < rounds) × (rounds ≤ 2 ^ 36) }
-    ensures { RunsBy W.Feed.state W.Drain.state (W.state world.old) (W.state world.new) config once
+    ensures { RunsBy W.Feed.state (exit_of W.Drain.state W.Paths.state)
+        (W.state world.old) (W.state world.new) config once
         rounds result }
 {
     runs_deliver(world, routers.as_slice());
@@ -74,7 +75,7 @@ fn run_by<T: Threads + Wait + Sync, W: World>(
 }
 
 // Runs a configuration with the table of its log paths.
-fn run_config<T: Threads + Wait + Sync, W: World>(
+fn run_config<T: Threads + Wait + Eprint + Sync, W: World>(
     rt: &T,
     alloc: Global,
     loaded: Loaded,
@@ -82,13 +83,13 @@ fn run_config<T: Threads + Wait + Sync, W: World>(
     rounds: u64,
     world: &mut W,
 ) -> Result<Outcome, Unloaded>
-    requires within { IsWithin loaded.config }
-    requires direct { AreDirect loaded.config.outlets.items }
+    requires within { IsConfigWithin loaded.config }
     requires files { ReadsFiles loaded.config once }
     requires compiles { Compiles loaded.config loaded.table }
     requires some { 0 < rounds }
     requires rounds { rounds ≤ 2 ^ 36 }
-    ensures { RunsConfig W.Feed.state W.Drain.state (W.state world.old) (W.state world.new)
+    ensures { RunsConfig W.Feed.state (exit_of W.Drain.state W.Paths.state)
+        (W.state world.old) (W.state world.new)
         loaded.config once rounds result }
 {
     let Loaded { config, table } = loaded;
@@ -104,8 +105,8 @@ fn run_config<T: Threads + Wait + Sync, W: World>(
 /// Loads the configuration FILE and runs it: opens its devices, runs the rounds over them, so many at
 /// most, 1 to 2^36, and closes the devices. With `once` the run ends once all input was taken, and a
 /// destination whose outlet fails three times in a row is given up. The outcome has the text that is to
-/// be said. A file that isn't loaded opens nothing.
-pub fn run_file<T: Threads + Wait + Sync, W: World>(
+/// be said. A file that isn't loaded opens nothing. What the configuration is warned of is told before its devices are opened.
+pub fn run_file<T: Threads + Wait + Eprint + Sync, W: World>(
     rt: &T,
     alloc: Global,
     file: &[u8],
@@ -117,13 +118,16 @@ pub fn run_file<T: Threads + Wait + Sync, W: World>(
     requires rounds { rounds ≤ 2 ^ 36 }
     // The configuration was run, or why it wasn't; the headline; what is told; the causes of failures; what
     // the end means; how many rounds there are at most; and that a run in which all goes well ends clean.
-    ensures { RunsFile W.Feed.state W.Drain.state (W.state world.old) (W.state world.new) file.now
+    ensures { RunsFile W.Feed.state (exit_of W.Drain.state W.Paths.state)
+        (W.state world.old) (W.state world.new) file.now
         once rounds result }
 {
     texts_mean_one();
-    outlets_are_direct();
     match load_file(alloc, file, world) {
-        Ok(loaded) => run_config(rt, alloc, loaded, once, rounds, world),
+        Ok(loaded) => {
+            tell_warnings(alloc, world, file);
+            run_config(rt, alloc, loaded, once, rounds, world)
+        }
         Err(unloaded) => Err(unloaded),
     }
 }

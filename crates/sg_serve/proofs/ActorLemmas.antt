@@ -20,13 +20,14 @@ use Rattle.sg_standing.specs.Standing.{StandsFor}
 use Rattle.sg_run_plan.specs.declared.inlet.InletPlan.{InletPlan}
 use Rattle.sg_serve.specs.Actors.{DestView, IsDestFor, AreDestsFor, SourceView, IsSourceFor, AreSourcesFor, BeginsAt, AllBeginAt, OpensAt}
 use Rattle.sg_serve.specs.Devices.{IsFetching, AreFetching}
-use Rattle.sg_serve.specs.Early.{OutletsFail, InletsFail, SourceFails, SourcesFail}
-use Rattle.sg_serve.specs.Rewinds.{AreApartIn, Begins, HasBegun, AwaitsFrom, FailsBehind, position_at, places_of, rewinds_from}
+use Rattle.sg_serve.specs.Early.{OutletsFail, InletsFail, SourceFailsToOpen, SourcesFail}
+use Rattle.sg_serve.specs.Exits.{OneRose}
+use Rattle.sg_serve.specs.Rewinds.{AreApartIn, BeginsSource, HasBegun, AwaitsFrom, FailsBehind, position_at, places_of, rewinds_from}
 use Rattle.sg_serve.specs.declared.ending.Device.TheVariants.{Store, Inlet, Dest}
 use Rattle.sg_serve.specs.declared.ending.Early.{Early}
 use Rattle.sg_serve.specs.declared.ending.Early.TheVariants.{OpenFault, Damage, DiskFault, NoMemory}
 use Rattle.sg_serve.proofs.DeviceLemmas.{get-push, inlets-none, inlets-kept, inlets-more, rose-wider, map-push}
-use Rattle.sg_serve.proofs.RewindLemmas.{Steps, step, fails-by, store-of}
+use Rattle.sg_serve.proofs.RewindLemmas.{StepsRewind, step, fails-by, store-of}
 
 pub no-dests : (once : Bool) (plans : List OutletPlan) → AreDestsFor once plans []
 no-dests once plans d plan view p h = let wrong : None ≡ Some view = h in cc
@@ -39,13 +40,18 @@ dests-more once plans views plan view are at is d plan' view' p v = elim (get-pu
       subst (λ n. IsDestFor once n plan' view') (sym h.0) (subst (λ q. IsDestFor once (length views) q view') same (subst (λ w. IsDestFor once (length views) plan w) (sym h.1) is)))
 ]
 
-pub outlets-fail : (old mid new : WorldState) (n m : ℕ) (early : Early) → old.outlet_faults ≤ mid.outlet_faults → n ≡ m → OutletsFail mid new n early → OutletsFail old new m early
-outlets-fail old mid new n m (OpenFault (Store k)) later same h = h
-outlets-fail old mid new n m (OpenFault (Inlet k)) later same h = h
-outlets-fail old mid new n m (OpenFault (Dest k)) later same h = (h.0 ∙ same, rose-wider old.outlet_faults mid.outlet_faults new.outlet_faults new.outlet_faults later h.1 (omega arith))
-outlets-fail old mid new n m (Damage s at) later same h = h
-outlets-fail old mid new n m (DiskFault s) later same h = h
-outlets-fail old mid new n m NoMemory later same h = h
+-- the count of one kind rose, seen from farther
+pub one-wider : (a b c d : WorldState) → a.outlet_faults ≤ b.outlet_faults → a.paths_faults ≤ b.paths_faults → c.outlet_faults ≤ d.outlet_faults → c.paths_faults ≤ d.paths_faults → OneRose b c → OneRose a d
+one-wider a b c d h p k q (inl rose) = inl (rose-wider a.outlet_faults b.outlet_faults c.outlet_faults d.outlet_faults h rose k)
+one-wider a b c d h p k q (inr rose) = inr (rose-wider a.paths_faults b.paths_faults c.paths_faults d.paths_faults p rose q)
+
+pub outlets-fail : (old mid new : WorldState) (n m : ℕ) (early : Early) → old.outlet_faults ≤ mid.outlet_faults → old.paths_faults ≤ mid.paths_faults → n ≡ m → OutletsFail mid new n early → OutletsFail old new m early
+outlets-fail old mid new n m (OpenFault (Store k)) later later_paths same h = h
+outlets-fail old mid new n m (OpenFault (Inlet k)) later later_paths same h = h
+outlets-fail old mid new n m (OpenFault (Dest k)) later later_paths same h = (h.0 ∙ same, one-wider old mid new new later later_paths (omega arith) (omega arith) h.1)
+outlets-fail old mid new n m (Damage s at) later later_paths same h = h
+outlets-fail old mid new n m (DiskFault s) later later_paths same h = h
+outlets-fail old mid new n m NoMemory later later_paths same h = h
 
 -- Sources.
 
@@ -124,26 +130,26 @@ long-places feeds = length-map feeds (λ (f : InletState). f.place)
 
 -- one source more has begun
 pub begun-next : (first mid new : CoreState) (opening : Opening) (setup : Setup) (feeds : List InletState) (feed : InletState) (n : ℕ) → n ≡ length feeds → AreApartIn (setup_of mid).sources → StandsFor first (opened setup opening) []
-    → HasBegun first mid (rewinds_from (position_at first) 0 (places_of feeds)) → AwaitsFrom first mid n → Begins mid new n (position_at mid n) feed.place true
-    → Steps first new (rewinds_from (position_at first) 0 (places_of (feeds ++ feed ∷ []))) (n + 1)
+    → HasBegun first mid (rewinds_from (position_at first) 0 (places_of feeds)) → AwaitsFrom first mid n → BeginsSource mid new n (position_at mid n) feed.place true
+    → StepsRewind first new (rewinds_from (position_at first) 0 (places_of (feeds ++ feed ∷ []))) (n + 1)
 begun-next first mid new opening setup feeds feed n is apart stands begun awaits h =
     let long : n ≡ length (places_of feeds) = is ∙ sym (long-places feeds) in
     let awaits' = subst (AwaitsFrom first mid) long awaits in
-    let h' = subst (λ k. Begins mid new k (position_at mid k) feed.place true) long h in
+    let h' = subst (λ k. BeginsSource mid new k (position_at mid k) feed.place true) long h in
     let next = step first mid new setup opening (places_of feeds) feed.place apart stands begun awaits' h' in
-    subst (λ k. Steps first new (rewinds_from (position_at first) 0 (places_of (feeds ++ feed ∷ []))) (k + 1)) (sym long)
-    (subst (λ ps. Steps first new (rewinds_from (position_at first) 0 ps) (length (places_of feeds) + 1)) (sym (places-push feeds feed)) next)
+    subst (λ k. StepsRewind first new (rewinds_from (position_at first) 0 (places_of (feeds ++ feed ∷ []))) (k + 1)) (sym long)
+    (subst (λ ps. StepsRewind first new (rewinds_from (position_at first) 0 ps) (length (places_of feeds) + 1)) (sym (places-push feeds feed)) next)
 
 pub sources-fail : (old mid new : WorldState) (first core core' : CoreState) (opening : Opening) (setup : Setup) (setups : List SourceSetup) (feeds : List InletState) (n : ℕ) (store : Option ℕ) (last : Option InletState) (early : Early)
     → n ≡ length feeds → old.inlet_faults ≤ mid.inlet_faults → AreApartIn (setup_of core).sources → StandsFor first (opened setup opening) [] → store_in setups n ≡ store → store_at core.sources n ≡ store
-    → HasBegun first core (rewinds_from (position_at first) 0 (places_of feeds)) → AwaitsFrom first core n → SourceFails mid new core core' n store last early → SourcesFail old new first core' setups feeds last early
+    → HasBegun first core (rewinds_from (position_at first) 0 (places_of feeds)) → AwaitsFrom first core n → SourceFailsToOpen mid new core core' n store last early → SourcesFail old new first core' setups feeds last early
 sources-fail old mid new first core core' opening setup setups feeds n store None early is later apart stands has at begun awaits h =
     (subst (λ c. HasBegun first c (rewinds_from (position_at first) 0 (places_of feeds))) (sym h.0) begun, inlets-fail old mid new n (length feeds) early later is h.1)
 sources-fail old mid new first core core' opening setup setups feeds n store (Some feed) NoMemory is later apart stands has at begun awaits h = (begun-next first core core' opening setup feeds feed n is apart stands begun awaits h).begun
 sources-fail old mid new first core core' opening setup setups feeds n store (Some feed) (DiskFault s) is later apart stands has at begun awaits h =
     let long : n ≡ length (places_of feeds) = is ∙ sym (long-places feeds) in
     let awaits' = subst (AwaitsFrom first core) long awaits in
-    let h' = subst (λ k. Begins core core' k (position_at core k) feed.place false) long h.1 in
+    let h' = subst (λ k. BeginsSource core core' k (position_at core k) feed.place false) long h.1 in
     let f = fails-by first core core' (places_of feeds) (position_at core (length (places_of feeds))) feed.place begun awaits' h' in
     let same : f.0 ≡ s = some-same f.0 s (sym f.1 ∙ ap (store_at core.sources) (sym long) ∙ at ∙ h.0) in
     (subst (FailsBehind first core' (places_of feeds)) same f.2, ap (store_in setups) (sym is) ∙ has ∙ h.0)

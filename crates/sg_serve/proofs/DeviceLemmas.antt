@@ -4,13 +4,11 @@ use Rattle.std.proofs.lemmas.List.{append-nil, length-append, map-append}
 use Rattle.sg_device.specs.Disk.{DiskState}
 use Rattle.sg_device.specs.Faults.{Rose}
 use Rattle.sg_device.specs.Inlet.{InletState}
-use Rattle.sg_device.specs.Outlet.{OutletState}
-use Rattle.sg_outside.specs.World.{WorldState, Opened, Ledger, StandsNamed, StoreOpens, ClosesStore, ClosesInlet, ClosesOutlet}
+use Rattle.sg_outside.specs.World.{WorldState, Opened, Ledger, StandsNamed, StoreOpens, ClosesStore, ClosesInlet}
 use Rattle.sg_outside.specs.declared.request.InletSpec.{InletSpec}
-use Rattle.sg_outside.specs.declared.request.OutletSpec.{OutletSpec}
 use Rattle.sg_outside.specs.declared.request.StoreSpec.{StoreSpec}
 use Rattle.sg_list.proofs.ListLemmas.{some-same}
-use Rattle.sg_serve.specs.Devices.{opened_for, with_all_opened, with_all_closed, AreStoresNamed, OpensStores, OpensInlets, AllAreNew, OpensOutlets, ClosesStores, ClosesInlets, ClosesOutlets}
+use Rattle.sg_serve.specs.Devices.{opened_for, with_all_opened, with_all_closed, AreStoresNamed, OpensStores, OpensInlets, ClosesStores, ClosesInlets}
 
 pub rose-wider : (a b c d : ℕ) → a ≤ b → Rose b c → c ≤ d → Rose a d
 rose-wider a b c d h r k = grind (arith, h, r, k)
@@ -46,7 +44,7 @@ pub opened-next : {P S : Type 0} (specs : List P) (states : List S) (spec : P) (
     → opened_for specs (states ++ more) ≡ opened_for specs states ++ opened_for (spec ∷ []) more
 opened-next specs states spec more h few = opened-join specs states more ∙ ap (λ os. opened_for specs states ++ os) (opened-one specs (length states) spec more h few)
 
-below : {A : Type 0} (xs : List A) (n : ℕ) (x : A) → slice_get xs n ≡ Some x → n + 1 ≤ length xs
+pub below : {A : Type 0} (xs : List A) (n : ℕ) (x : A) → slice_get xs n ≡ Some x → n + 1 ≤ length xs
 below [] n x h = let wrong : None ≡ Some x = h in cc
 below (y ∷ ys) zero x h = omega arith
 below (y ∷ ys) (suc n) x h = omega (arith, below ys n x h)
@@ -76,34 +74,6 @@ inlets-more old mid new specs feeds spec more a at b =
           ∙ ap (λ (m : WorldState). record m { inlet_faults = new.inlet_faults; inlets = with_all_opened m.inlets (opened_for (spec ∷ []) more) }) a.state
           ∙ ap (λ l. record old { inlet_faults = new.inlet_faults; inlets = l }) (opened-two old.inlets (opened_for specs feeds) (opened_for (spec ∷ []) more))
           ∙ ap (λ os. record old { inlet_faults = new.inlet_faults; inlets = with_all_opened old.inlets os }) (sym join);
-      faults = (let f = a.faults in let g = b.faults in omega (arith, f, g));
-    }
-
--- Outlets.
-
-pub outlets-none : (w : WorldState) (specs : List OutletSpec) → OpensOutlets w w specs []
-outlets-none w specs = record { count = omega arith; are_new = tt; state = ap (λ l. record w { outlets = l }) (sym (opened-none w.outlets)); faults = omega arith }
-
-pub outlets-kept : (old new : WorldState) (specs : List OutletSpec) → new ≡ record old { outlet_faults = new.outlet_faults } → old.outlet_faults ≤ new.outlet_faults → OpensOutlets old new specs []
-outlets-kept old new specs state faults = record { count = omega arith; are_new = tt; state = state ∙ ap (λ l. record old { outlet_faults = new.outlet_faults; outlets = l }) (sym (opened-none old.outlets)); faults = faults }
-
-new-join : (drains more : List OutletState) → AllAreNew drains → AllAreNew more → AllAreNew (drains ++ more)
-new-join [] more a b = b
-new-join (d ∷ ds) more a b = (a.0, new-join ds more a.1 b)
-
-pub outlets-more : (old mid new : WorldState) (specs : List OutletSpec) (drains : List OutletState) (spec : OutletSpec) (more : List OutletState)
-    → OpensOutlets old mid specs drains → slice_get specs (length drains) ≡ Some spec → OpensOutlets mid new (spec ∷ []) more → OpensOutlets old new specs (drains ++ more)
-outlets-more old mid new specs drains spec more a at b =
-    let few : length more ≤ 1 = b.count in
-    let low = below specs (length drains) spec at in
-    let join = opened-next specs drains spec more at few in
-    record {
-      count = (let n = length-append drains more in omega (arith, n, few, low));
-      are_new = new-join drains more a.are_new b.are_new;
-      state = b.state
-          ∙ ap (λ (m : WorldState). record m { outlet_faults = new.outlet_faults; outlets = with_all_opened m.outlets (opened_for (spec ∷ []) more) }) a.state
-          ∙ ap (λ l. record old { outlet_faults = new.outlet_faults; outlets = l }) (opened-two old.outlets (opened_for specs drains) (opened_for (spec ∷ []) more))
-          ∙ ap (λ os. record old { outlet_faults = new.outlet_faults; outlets = with_all_opened old.outlets os }) (sym join);
       faults = (let f = a.faults in let g = b.faults in omega (arith, f, g));
     }
 
@@ -142,7 +112,7 @@ stores-kept old mid new specs disks a state faults =
 
 -- Closings.
 
-closed-join : {P S : Type 0} (ledger : Ledger P S) (states more : List S) → with_all_closed (with_all_closed ledger states) more ≡ with_all_closed ledger (states ++ more)
+pub closed-join : {P S : Type 0} (ledger : Ledger P S) (states more : List S) → with_all_closed (with_all_closed ledger states) more ≡ with_all_closed ledger (states ++ more)
 closed-join ledger states more = ap (λ ss. record { opened = ledger.opened; closed = ss }) (append_assoc ledger.closed states more)
 
 pub closes-no-store : (w : WorldState) → ClosesStores w w []
@@ -159,19 +129,6 @@ closes-inlets old mid new feed feeds a b = let join = closed-join old.inlets (fe
 
 pub closes-inlets-last : (old mid new : WorldState) (feeds : List InletState) (feed : InletState) → ClosesInlets old mid feeds → ClosesInlet mid new feed → ClosesInlets old new (feeds ++ feed ∷ [])
 closes-inlets-last old mid new feeds feed a b = let join = closed-join old.inlets feeds (feed ∷ []) in grind (arith, a, b, join)
-
-pub closes-no-outlet : (w : WorldState) → ClosesOutlets w w []
-closes-no-outlet w = ap (λ l. record w { outlets = l }) (sym (closed-none w.outlets))
-
-pub closes-outlets : (old mid new : WorldState) (drain : OutletState) (drains : List OutletState) → ClosesOutlet old mid drain → ClosesOutlets mid new drains → ClosesOutlets old new (drain ∷ drains)
-closes-outlets old mid new drain drains a b = let join = closed-join old.outlets (drain ∷ []) drains in grind (arith, a, b, join)
-
-pub closes-outlets-last : (old mid new : WorldState) (drains : List OutletState) (drain : OutletState) → ClosesOutlets old mid drains → ClosesOutlet mid new drain → ClosesOutlets old new (drains ++ drain ∷ [])
-closes-outlets-last old mid new drains drain a b = let join = closed-join old.outlets drains (drain ∷ []) in grind (arith, a, b, join)
-
-pub none-of : {A : Type 0} (xs : List A) → length xs ≡ 0 → xs ≡ []
-none-of [] none = refl
-none-of (x ∷ xs) none = absurd (omega (arith, none))
 
 -- Lists that are gone over.
 

@@ -1,4 +1,5 @@
 pub mod DeviceLemmas
+pub mod ExitLemmas
 pub mod RewindLemmas
 pub mod ActorLemmas
 pub mod CountLemmas

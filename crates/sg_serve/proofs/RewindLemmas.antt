@@ -2,16 +2,16 @@
 use Rattle.std.proofs.Common.{◌≡◌, ◌≤◌, inl, inr, ℕ, ◌+◌, zero, suc, true, false, List, [], ◌∷◌, ◌++◌, length, map, Some, None, Option, append_assoc, refl, sym, ap, ◌∙◌, arith, slice_get, subst}
 use Rattle.std.proofs.lemmas.List.{append-nil, length-append}
 use Rattle.sg_list.specs.Lists.{change, passes_at}
-use Rattle.sg_list.proofs.ListLemmas.{some-same, slice_get-some, slice_get-below, get-change-other, get-change-same}
+use Rattle.sg_list.proofs.ListLemmas.{some-same, slice_get-some, slice_get-below, get-change-other, get-change-same, get-change}
 use Rattle.sg_device.specs.Disk.{DiskState}
 use Rattle.sg_device.specs.Faults.{Rose}
 use Rattle.sg_stores.proofs.StoreLemmas.{all_go_trans}
-use Rattle.sg_buffer.specs.declared.found.Found.{Found}
+use Rattle.sg_buffer.specs.declared.found.BufferEntries.{BufferEntries}
 use Rattle.sg_machine.specs.declared.event.Act.{Act}
 use Rattle.sg_machine.specs.declared.event.Act.TheVariants.{Rewind, Look}
 use Rattle.sg_machine.specs.declared.event.Event.{Event}
 use Rattle.sg_machine.specs.declared.setup.Setup.{Setup}
-use Rattle.sg_machine.specs.declared.state.Inlet.{Inlet}
+use Rattle.sg_machine.specs.declared.state.InletRecords.{InletRecords}
 use Rattle.sg_machine.specs.declared.state.State.{State}
 use Rattle.sg_machine.specs.Effects.{after_act, rewound}
 use Rattle.sg_machine.specs.Legal.{is_nil, may_rewind}
@@ -25,14 +25,13 @@ use Rattle.sg_stores.specs.declared.kind.StoreKind.{StoreKind}
 use Rattle.sg_stores.specs.declared.kind.StoreKind.TheVariants.{Position, Buffer}
 use Rattle.sg_standing.specs.Sources.{store_at, begun_in}
 use Rattle.sg_standing.specs.States.{CoreState, setup_of}
-use Rattle.sg_standing.specs.Standing.{IsAt, Does, StandsFor}
+use Rattle.sg_standing.specs.Standing.{IsAt, DoesAct, StandsFor}
 use Rattle.sg_standing.specs.declared.source.Source.{Source}
 use Rattle.sg_standing.proofs.Calls.{all-go-same}
 use Rattle.sg_standing.proofs.ImageLaws.{shows-at}
-use Rattle.sg_standing.proofs.ListSteps.{get-change}
 use Rattle.sg_core.specs.Opening.{IsOpen}
 use Rattle.sg_core.proofs.PositionSteps.{behind}
-use Rattle.sg_serve.specs.Rewinds.{position_at, rewinds_at, rewinds_from, AreApartIn, BeginsAnew, Begins, HasBegun, FailsBehind, AwaitsFrom}
+use Rattle.sg_serve.specs.Rewinds.{position_at, rewinds_at, rewinds_from, AreApartIn, BeginsAnew, BeginsSource, HasBegun, FailsBehind, AwaitsFrom}
 use Rattle.sg_serve.proofs.DeviceLemmas.{rose-wider}
 
 -- Events before the rounds.
@@ -51,7 +50,7 @@ begun-none core = record {
   still = λ e. refl;
 }
 
-pub begun-more : (first mid new : CoreState) (events : List Event) (act : Act) (does : Does mid new act) → HasBegun first mid events
+pub begun-more : (first mid new : CoreState) (events : List Event) (act : Act) (does : DoesAct mid new act) → HasBegun first mid events
     → HasBegun first new (events ++ (record { act = act; failed = does.failed }) ∷ [])
 begun-more first mid new events act does begun = record {
   stands = λ setup opening stands. does.stands (opened setup opening) events (begun.stands setup opening stands);
@@ -67,10 +66,10 @@ nil-of [] h = refl
 nil-of (x ∷ xs) h = absurd (grind arith)
 
 -- no store fails as a source begins anew
-rewind-fails-none : (mid new : CoreState) (s : State) (i : ℕ) (does : Does mid new (Rewind i)) → IsAt mid s → does.failed ≡ []
+rewind-fails-none : (mid new : CoreState) (s : State) (i : ℕ) (does : DoesAct mid new (Rewind i)) → IsAt mid s → does.failed ≡ []
 rewind-fails-none mid new s i does at = nil-of does.failed (both-true (passes_at s.inlets i (may_rewind s.failed)) (is_nil does.failed) (does.step s at).0).1
 
-pub begun-rewind : (first mid new : CoreState) (events : List Event) (setup : Setup) (opening : Opening) (i : ℕ) → Does mid new (Rewind i) → StandsFor first (opened setup opening) [] → HasBegun first mid events
+pub begun-rewind : (first mid new : CoreState) (events : List Event) (setup : Setup) (opening : Opening) (i : ℕ) → DoesAct mid new (Rewind i) → StandsFor first (opened setup opening) [] → HasBegun first mid events
     → HasBegun first new (events ++ (record { act = Rewind i; failed = [] }) ∷ [])
 begun-rewind first mid new events setup opening i does stands begun =
     let at = (begun.stands setup opening stands).at in
@@ -87,11 +86,11 @@ same-store (x ∷ xs) (suc i) = same-store xs i
 pub store-of : (core : CoreState) (i : ℕ) → store_at core.sources i ≡ store_in (setup_of core).sources i
 store-of core i = same-store core.sources i
 
-ends-of : (core : CoreState) (s : State) (i : ℕ) (source : Source) (inlet : Inlet) → IsAt core s → slice_get core.sources i ≡ Some source → slice_get s.inlets i ≡ Some inlet → source.tracker.begun ≡ length inlet.ends
+ends-of : (core : CoreState) (s : State) (i : ℕ) (source : Source) (inlet : InletRecords) → IsAt core s → slice_get core.sources i ≡ Some source → slice_get s.inlets i ≡ Some inlet → source.tracker.begun ≡ length inlet.ends
 ends-of core s i source inlet at h k =
     let b = behind core s i source at h in
     let same : b.inlet ≡ inlet = some-same b.inlet inlet (sym b.there ∙ k) in
-    ap (λ (x : Source). x.tracker.begun) b.shown ∙ ap (λ (y : Inlet). length y.ends) same
+    ap (λ (x : Source). x.tracker.begun) b.shown ∙ ap (λ (y : InletRecords). length y.ends) same
 
 begun-zero : (sources : List Source) (i : ℕ) (o : Option Source) → slice_get sources i ≡ o → ((x : Source) → o ≡ Some x → x.tracker.begun ≡ 0) → begun_in sources i ≡ 0
 begun-zero sources i None e h = rw e refl
@@ -101,17 +100,17 @@ zero-begun : (sources : List Source) (i : ℕ) (x : Source) → slice_get source
 zero-begun sources i x e h = rw e at h
 
 -- the inlet before a source began anew
-record WasInlet (s : State) (i : ℕ) (new : Inlet) : Type 0 where
-  was : Inlet
+record WasInlet (s : State) (i : ℕ) (new : InletRecords) : Type 0 where
+  was : InletRecords
   there : slice_get s.inlets i ≡ Some was
   ends : new.ends ≡ was.ends
 
-was-inlet : (s : State) (n i : ℕ) (failed : List ℕ) (new : Inlet) → slice_get (after_act s (Rewind n) failed).inlets i ≡ Some new → WasInlet s i new
+was-inlet : (s : State) (n i : ℕ) (failed : List ℕ) (new : InletRecords) → slice_get (after_act s (Rewind n) failed).inlets i ≡ Some new → WasInlet s i new
 was-inlet s n i failed new h =
     let r = get-change s.inlets n i rewound new h in
-    record { was = r.0; there = r.1; ends = elim r.2 [ inl p ↦ ap (λ (x : Inlet). x.ends) p.1 | inr p ↦ ap (λ (x : Inlet). x.ends) p.1 ] }
+    record { was = r.0; there = r.1; ends = elim r.2 [ inl p ↦ ap (λ (x : InletRecords). x.ends) p.1 | inr p ↦ ap (λ (x : InletRecords). x.ends) p.1 ] }
 
-unbegun-more : (mid new : CoreState) (s : State) (n : ℕ) → Does mid new (Rewind n) → IsAt mid s → ((i : ℕ) → begun_in mid.sources i ≡ 0) → (i : ℕ) → begun_in new.sources i ≡ 0
+unbegun-more : (mid new : CoreState) (s : State) (n : ℕ) → DoesAct mid new (Rewind n) → IsAt mid s → ((i : ℕ) → begun_in mid.sources i ≡ 0) → (i : ℕ) → begun_in new.sources i ≡ 0
 unbegun-more mid new s n does at none i =
     let now = (does.step s at).1 in
     let s' = after_act s (Rewind n) does.failed in
@@ -130,7 +129,7 @@ position-kept : (stores : List StoreState) (new : StoreState) (o : Option ℕ) (
 position-kept stores new None u apart = refl
 position-kept stores new (Some v) u apart = ap position_of (get-change-other stores u v (λ _. new) (λ e. apart (ap Some e)))
 
-opened-works : (kind : StoreKind) (disk : DiskState) (found : Found) (store : StoreState) → IsOpenedAs kind disk found store → store.failed ≡ false
+opened-works : (kind : StoreKind) (disk : DiskState) (found : BufferEntries) (store : StoreState) → IsOpenedAs kind disk found store → store.failed ≡ false
 opened-works Position disk found store h = h.0.works
 opened-works (Buffer capacity) disk found store h = h.works
 
@@ -182,12 +181,12 @@ rewinds-push positions k (p ∷ ps) place =
     ∙ sym (append_assoc (rewinds_at k (positions k) p) (rewinds_from positions (k + 1) ps) (rewinds_at (k + suc (length ps)) (positions (k + suc (length ps))) place))
 
 -- where a source has begun
-pub record Steps (first new : CoreState) (events : List Event) (n : ℕ) : Type 0 where
+pub record StepsRewind (first new : CoreState) (events : List Event) (n : ℕ) : Type 0 where
   pub begun : HasBegun first new events
   pub awaits : AwaitsFrom first new n
 
 pub step-by : (first mid new : CoreState) (events : List Event) (setup : Setup) (opening : Opening) (n p place : ℕ) → AreApartIn (setup_of mid).sources → StandsFor first (opened setup opening) []
-    → HasBegun first mid events → AwaitsFrom first mid n → Begins mid new n p place true → Steps first new (events ++ rewinds_at n p place) (n + 1)
+    → HasBegun first mid events → AwaitsFrom first mid n → BeginsSource mid new n p place true → StepsRewind first new (events ++ rewinds_at n p place) (n + 1)
 step-by first mid new events setup opening n zero place apart stands begun a h =
     let same = sym h.0 in
     record { begun = subst (λ c. HasBegun first c (events ++ [])) same (subst (HasBegun first mid) (sym (append-nil events)) begun); awaits = subst (λ c. AwaitsFrom first c (n + 1)) same (awaits-next first mid n a) }
@@ -198,18 +197,18 @@ step-by first mid new events setup opening n (suc p) zero apart stands begun a h
     record { begun = begun-rewind first mid new events setup opening n h.does stands begun; awaits = awaits-rewind first mid new events setup opening n apart h stands begun a }
 
 pub step : (first mid new : CoreState) (setup : Setup) (opening : Opening) (places : List ℕ) (place : ℕ) → AreApartIn (setup_of mid).sources → StandsFor first (opened setup opening) []
-    → HasBegun first mid (rewinds_from (position_at first) 0 places) → AwaitsFrom first mid (length places) → Begins mid new (length places) (position_at mid (length places)) place true
-    → Steps first new (rewinds_from (position_at first) 0 (places ++ place ∷ [])) (length places + 1)
+    → HasBegun first mid (rewinds_from (position_at first) 0 places) → AwaitsFrom first mid (length places) → BeginsSource mid new (length places) (position_at mid (length places)) place true
+    → StepsRewind first new (rewinds_from (position_at first) 0 (places ++ place ∷ [])) (length places + 1)
 step first mid new setup opening places place apart stands begun a h =
     let n = length places in
     let at = a.positions n (omega arith) in
-    let h' = subst (λ p. Begins mid new n p place true) at h in
+    let h' = subst (λ p. BeginsSource mid new n p place true) at h in
     let push = rewinds-push (position_at first) 0 places place ∙ ap (λ k. rewinds_from (position_at first) 0 places ++ rewinds_at k (position_at first k) place) (let e : 0 + n ≡ n = omega arith in e) in
-    subst (λ es. Steps first new es (n + 1)) (sym push) (step-by first mid new (rewinds_from (position_at first) 0 places) setup opening n (position_at first n) place apart stands begun a h')
+    subst (λ es. StepsRewind first new es (n + 1)) (sym push) (step-by first mid new (rewinds_from (position_at first) 0 places) setup opening n (position_at first n) place apart stands begun a h')
 
 -- where the store fails
 pub fails-by : (first mid new : CoreState) (places : List ℕ) (p place : ℕ) → HasBegun first mid (rewinds_from (position_at first) 0 places) → AwaitsFrom first mid (length places)
-    → Begins mid new (length places) p place false → (s : ℕ) × (store_at mid.sources (length places) ≡ Some s) × FailsBehind first new places s
+    → BeginsSource mid new (length places) p place false → (s : ℕ) × (store_at mid.sources (length places) ≡ Some s) × FailsBehind first new places s
 fails-by first mid new places zero place begun a h = absurd (let wrong : false ≡ true = h.1 in cc)
 fails-by first mid new places (suc p) (suc q) begun a h = absurd (let wrong : false ≡ true = h.1 in cc)
 fails-by first mid new places (suc p) zero begun a h = (

@@ -1,7 +1,7 @@
 -- What takes the turns of a plan's sources and destinations, before the first of them.
 use Rattle.std.specs.Prelude.{◌≡◌, ℕ, Bool, Option, is_some, Some, List, length, slice_get}
 use Rattle.sg_device.specs.Inlet.{InletState, IsFresh}
-use Rattle.sg_device.specs.Outlet.{OutletState, IsNew}
+use Rattle.sg_device.specs.Outlet.{OutletState, IsUnusedOutlet}
 use Rattle.sg_outside.specs.World.{WorldState, Files, StandsIn}
 use Rattle.sg_outside.specs.declared.request.InletSpec.{InletSpec}
 use Rattle.sg_machine.specs.declared.setup.SourceSetup.{SourceSetup}
@@ -28,7 +28,7 @@ dest_view spec outage drain = record { spec = spec; outage = outage; drain = dra
 -- It is the destination of that number of a plan. With `--once` it gives up after three failures in a row.
 pub record IsDestFor (once : Bool) (d : ℕ) (plan : OutletPlan) (view : DestView) : Type 0 where
   pub is : IsNewDest d once plan.shape plan.env view.spec view.outage view.drain
-  pub untaken : IsNew view.drain
+  pub untaken : IsUnusedOutlet view.drain
 
 abbrev pub AreDestsFor : Bool → List OutletPlan → List DestView → Type 0
 AreDestsFor once plans views = (d : ℕ) (plan : OutletPlan) (view : DestView)

@@ -2,8 +2,9 @@
 use Rattle.std.specs.Prelude.{◌≡◌, ◌≤◌, ◌<◌, ℕ, Bool, true, false, Option, List, [], ◌∷◌, ◌++◌, length, map}
 use Rattle.sg_device.specs.Disk.{DiskState}
 use Rattle.sg_device.specs.Inlet.{InletState}
-use Rattle.sg_device.specs.Outlet.{OutletState, IsNew}
-use Rattle.sg_outside.specs.World.{WorldState, Opened, Ledger, StandsNamed, IsByPath}
+use Rattle.sg_device.specs.Outlet.{OutletState, IsUnusedOutlet}
+use Rattle.sg_device.specs.Paths.{PathsState}
+use Rattle.sg_outside.specs.World.{WorldState, Opened, Ledger, StandsNamed}
 use Rattle.sg_outside.specs.declared.request.InletSpec.{InletSpec}
 use Rattle.sg_outside.specs.declared.request.InletSpec.TheVariants.{File as FileFrom, Slot}
 use Rattle.sg_outside.specs.declared.request.OutletSpec.{OutletSpec}
@@ -11,6 +12,7 @@ use Rattle.sg_outside.specs.declared.request.OutletSpec.TheVariants.{File as Fil
 use Rattle.sg_outside.specs.declared.request.StoreSpec.{StoreSpec}
 use Rattle.sg_run_plan.specs.declared.inlet.InletPlan.{InletPlan}
 use Rattle.sg_run_plan.specs.declared.outlet.OutletPlan.{OutletPlan}
+use Rattle.sg_serve.specs.Exits.{Out, outlets_in, openers_in, singles, by_paths, present, AreLeft, AreAsked, AllAreNewOpeners}
 
 -- What is asked for.
 
@@ -28,19 +30,14 @@ abbrev pub outlet_asked : Bool → OutletSpec → OutletSpec
 outlet_asked once (FileTo path fsync mode folders reopen) = FileTo path fsync mode folders
     (reopen_asked once reopen)
 outlet_asked once (Tcp host port reopen) = Tcp host port (reopen_asked once reopen)
-outlet_asked once (ByPath fsync mode folders reopen) = ByPath fsync mode folders
-    (reopen_asked once reopen)
+outlet_asked once (ByPath fsync mode folders reopen reap) = ByPath fsync mode folders
+    (reopen_asked once reopen) reap
 
 abbrev pub inlets_asked : Bool → List InletPlan → List InletSpec
 inlets_asked once plans = map (λ (plan : InletPlan). inlet_asked once plan.spec) plans
 
 abbrev pub outlets_asked : Bool → List OutletPlan → List OutletSpec
 outlets_asked once plans = map (λ (plan : OutletPlan). outlet_asked once plan.spec) plans
-
--- the paths of none come with its texts
-abbrev pub AreNotByPath : List OutletPlan → Type 0
-AreNotByPath [] = Unit {0}
-AreNotByPath (plan ∷ plans) = (IsByPath plan.spec → ⊥) × AreNotByPath plans
 
 -- a turn takes 1 to 1,000 records, whose texts may have a byte at least
 pub record IsFetching (plan : InletPlan) : Type 0 where
@@ -104,14 +101,31 @@ ClosesInlets old new feeds = new ≡ record old { inlets = with_all_closed old.i
 -- nothing was taken yet
 abbrev pub AllAreNew : List OutletState → Type 0
 AllAreNew [] = Unit {0}
-AllAreNew (drain ∷ drains) = IsNew drain × AllAreNew drains
+AllAreNew (drain ∷ drains) = IsUnusedOutlet drain × AllAreNew drains
 
+-- each by its ledger: one file or one connection, or an opener of files by their paths
 pub record OpensOutlets (old new : WorldState) (specs : List OutletSpec) (drains : List OutletState) : Type 0 where
+  pub openers : List (Option PathsState)
+  pub each : length openers ≡ length drains
   pub count : length drains ≤ length specs
+  pub asked : AreAsked specs openers
   pub are_new : AllAreNew drains
-  pub state : new ≡ record old
-      { outlet_faults = new.outlet_faults; outlets = with_all_opened old.outlets (opened_for specs drains) }
+  pub new_openers : AllAreNewOpeners openers
+  pub state : new ≡ record old {
+    outlet_faults = new.outlet_faults;
+    paths_faults = new.paths_faults;
+    outlets = with_all_opened old.outlets (opened_for (singles specs openers) (singles drains openers));
+    paths = with_all_opened old.paths (opened_for (by_paths specs openers) (present openers));
+  }
   pub faults : old.outlet_faults ≤ new.outlet_faults
+  pub paths_faults : old.paths_faults ≤ new.paths_faults
 
-abbrev pub ClosesOutlets : WorldState → WorldState → List OutletState → Type 0
-ClosesOutlets old new drains = new ≡ record old { outlets = with_all_closed old.outlets drains }
+-- these outlets were closed, each by its ledger: those without an opener, and the openers
+abbrev pub ClosesEach : WorldState → WorldState → List OutletState → List (Option PathsState)
+    → Type 0
+ClosesEach old new drains openers = new ≡ record old
+    { outlets = with_all_closed old.outlets (singles drains openers); paths = with_all_closed old.paths (present openers) }
+
+abbrev pub ClosesOutlets : WorldState → WorldState → List Out → Type 0
+ClosesOutlets old new outs = (openers : List (Option PathsState)) × AreLeft outs openers
+    × ClosesEach old new (outlets_in outs) openers

@@ -8,7 +8,8 @@ use Rattle.sg_outside.specs.World.{WorldState}
 use Rattle.sg_machine.specs.declared.setup.SourceSetup.{SourceSetup}
 use Rattle.sg_counter.specs.Bringing.{store_in}
 use Rattle.sg_standing.specs.States.{CoreState}
-use Rattle.sg_serve.specs.Rewinds.{position_at, rewinds_from, places_of, Begins, HasBegun, FailsBehind}
+use Rattle.sg_serve.specs.Exits.{OneRose}
+use Rattle.sg_serve.specs.Rewinds.{position_at, rewinds_from, places_of, BeginsSource, HasBegun, FailsBehind}
 use Rattle.sg_serve.specs.declared.ending.Device.TheVariants.{Store, Inlet, Dest}
 use Rattle.sg_serve.specs.declared.ending.Early.{Early}
 use Rattle.sg_serve.specs.declared.ending.Early.TheVariants.{OpenFault, DiskFault, NoMemory}
@@ -22,8 +23,7 @@ StoresFail old new count early = ⊥
 
 -- the outlet behind so many couldn't be opened
 abbrev pub OutletsFail : WorldState → WorldState → ℕ → Early → Type 0
-OutletsFail old new count (OpenFault (Dest n)) = (n ≡ count)
-    × Rose old.outlet_faults new.outlet_faults
+OutletsFail old new count (OpenFault (Dest n)) = (n ≡ count) × OneRose old new
 OutletsFail old new count NoMemory = Unit {0}
 OutletsFail old new count early = ⊥
 
@@ -43,14 +43,14 @@ inlet_refusal i OpenFailed = OpenFault (Inlet i)
 inlet_refusal i OpenNoMemory = NoMemory
 
 -- Why a source isn't ready, with its inlet where that was opened: it couldn't be, or the store failed as the source was to begin anew.
-abbrev pub SourceFails : WorldState → WorldState → CoreState → CoreState → ℕ → Option ℕ
+abbrev pub SourceFailsToOpen : WorldState → WorldState → CoreState → CoreState → ℕ → Option ℕ
     → Option InletState → Early → Type 0
-SourceFails old new core core' i store None early = (core' ≡ core) × InletsFail old new i early
-SourceFails old new core core' i store (Some feed) NoMemory = Begins core core' i
+SourceFailsToOpen old new core core' i store None early = (core' ≡ core) × InletsFail old new i early
+SourceFailsToOpen old new core core' i store (Some feed) NoMemory = BeginsSource core core' i
     (position_at core i) feed.place true
-SourceFails old new core core' i store (Some feed) (DiskFault s) = (store ≡ Some s)
-    × Begins core core' i (position_at core i) feed.place false
-SourceFails old new core core' i store (Some feed) early = ⊥
+SourceFailsToOpen old new core core' i store (Some feed) (DiskFault s) = (store ≡ Some s)
+    × BeginsSource core core' i (position_at core i) feed.place false
+SourceFailsToOpen old new core core' i store (Some feed) early = ⊥
 
 -- So many sources are ready, from the first on, and the next isn't, with its inlet where that was opened.
 abbrev pub SourcesFail : WorldState → WorldState → CoreState → CoreState → List SourceSetup

@@ -1,3 +1,4 @@
+pub mod Exits
 pub mod Devices
 pub mod Rewinds
 pub mod Early

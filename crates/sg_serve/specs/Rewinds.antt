@@ -13,7 +13,7 @@ use Rattle.sg_stores.specs.Stores.{StoreState, AllGo}
 use Rattle.sg_stores.specs.Positions.{stored_in, WritesAt}
 use Rattle.sg_standing.specs.Sources.{store_at, begun_in}
 use Rattle.sg_standing.specs.States.{CoreState, setup_of}
-use Rattle.sg_standing.specs.Standing.{StandsFor, Does, KeepsRows}
+use Rattle.sg_standing.specs.Standing.{StandsFor, DoesAct, KeepsRows}
 
 -- the stored position of a source, 0 where it has no store
 abbrev pub position_at : CoreState → ℕ → ℕ
@@ -42,7 +42,7 @@ AreApartIn setups = (i j s : ℕ) → store_in setups i ≡ Some s → store_in 
 -- One source.
 
 pub record BeginsAnew (old new : CoreState) (i : ℕ) : Type 0 where
-  pub does : Does old new (Rewind i)
+  pub does : DoesAct old new (Rewind i)
   pub store : ℕ
   pub has : store_at old.sources i ≡ Some store
   pub written : ℕ
@@ -50,16 +50,16 @@ pub record BeginsAnew (old new : CoreState) (i : ℕ) : Type 0 where
 
 -- its store fails, and it begins where it was
 pub record FailsAnew (old new : CoreState) (i : ℕ) : Type 0 where
-  pub does : Does old new Look
+  pub does : DoesAct old new Look
   pub store : ℕ
   pub has : store_at old.sources i ≡ Some store
   pub writes : WritesAt old.stores new.stores store 0 Broken
 
-abbrev pub Begins : CoreState → CoreState → (i position place : ℕ) → Bool → Type 0
-Begins old new i zero place begun = (new ≡ old) × (begun ≡ true)
-Begins old new i (suc position) (suc place) begun = (new ≡ old) × (begun ≡ true)
-Begins old new i (suc position) zero true = BeginsAnew old new i
-Begins old new i (suc position) zero false = FailsAnew old new i
+abbrev pub BeginsSource : CoreState → CoreState → (i position place : ℕ) → Bool → Type 0
+BeginsSource old new i zero place begun = (new ≡ old) × (begun ≡ true)
+BeginsSource old new i (suc position) (suc place) begun = (new ≡ old) × (begun ≡ true)
+BeginsSource old new i (suc position) zero true = BeginsAnew old new i
+BeginsSource old new i (suc position) zero false = FailsAnew old new i
 
 -- All of them.
 

@@ -4,6 +4,7 @@ use Rattle.sg_device.specs.Disk.{DiskState}
 use Rattle.sg_device.specs.Faults.{Rose}
 use Rattle.sg_device.specs.Inlet.{InletState}
 use Rattle.sg_device.specs.Outlet.{OutletState}
+use Rattle.sg_device.specs.Paths.{PathsState}
 use Rattle.sg_outside.specs.World.{WorldState, Files}
 use Rattle.sg_msg.specs.declared.offer.Offer.{Offer}
 use Rattle.sg_frame.specs.Records.{Record}
@@ -15,7 +16,7 @@ use Rattle.sg_actor.specs.SourceTurns.{actor}
 use Rattle.sg_actor.specs.declared.dest.DestActor.{DestActor}
 use Rattle.sg_actor.specs.declared.source.SourceActor.{SourceActor}
 use Rattle.sg_stores.specs.Stores.{StoreState}
-use Rattle.sg_stores.specs.Opening.{IsDamaged}
+use Rattle.sg_stores.specs.Opening.{IsLowestDamaged}
 use Rattle.sg_stores.specs.declared.answers.CoreRefusal.{CoreRefusal}
 use Rattle.sg_stores.specs.declared.answers.CoreRefusal.TheVariants.{Damage as CoreDamage, DiskFault as CoreFault, NoMemory as CoreNoMemory}
 use Rattle.sg_stores.specs.declared.kind.StoreKind.{StoreKind}
@@ -25,12 +26,13 @@ use Rattle.sg_core.specs.Opening.{AreKinds, IsOpen, IsUnopened}
 use Rattle.sg_run_plan.specs.declared.outlet.OutletPlan.{OutletPlan}
 use Rattle.sg_serve.specs.Early.{OutletsFail}
 use Rattle.sg_turns.specs.Actors.{SourceTook, DestTook}
-use Rattle.sg_turns.specs.Serving.{Serves, ServesWith}
+use Rattle.sg_turns.specs.Serving.{ServesRounds, ServesWith}
 use Rattle.sg_turns.specs.Turns.{Turn}
 use Rattle.sg_turns.specs.declared.ended.Ended.{Ended}
 use Rattle.sg_serve.specs.Actors.{source_view, dest_view, AreSourcesFor, AreDestsFor, AllBeginAt}
-use Rattle.sg_serve.specs.Counts.{IsCounted}
+use Rattle.sg_serve.specs.Counts.{AreCountsOf}
 use Rattle.sg_serve.specs.Devices.{with_all_closed, OpensStores, OpensInlets, OpensOutlets, inlets_asked, outlets_asked}
+use Rattle.sg_serve.specs.Exits.{Out, OneRose, AreLeft, AllLie, outlets_in, singles, present}
 use Rattle.sg_serve.specs.Rewinds.{position_at, places_of, rewinds_from, HasBegun}
 use Rattle.sg_serve.specs.declared.counts.Counts.{Counts}
 use Rattle.sg_serve.specs.declared.ending.Device.TheVariants.{Store, Inlet, Dest}
@@ -59,17 +61,20 @@ pub record Reached : Type 0 where
   pub inlets_closed : List InletState
   pub outlets : List OutletState
   pub outlets_closed : List OutletState
+  -- of each outlet whose files' paths come with the texts, its opener as it was closed
+  pub openers : List (Option PathsState)
   pub core : Option CoreRun
 
 abbrev pub reached_by : List DiskState → List DiskState → List InletState → List InletState
-    → List OutletState → List OutletState → Option CoreRun → Reached
-reached_by stores stores_closed inlets inlets_closed outlets outlets_closed core = record {
+    → List OutletState → List OutletState → List (Option PathsState) → Option CoreRun → Reached
+reached_by stores stores_closed inlets inlets_closed outlets outlets_closed openers core = record {
   stores = stores;
   stores_closed = stores_closed;
   inlets = inlets;
   inlets_closed = inlets_closed;
   outlets = outlets;
   outlets_closed = outlets_closed;
+  openers = openers;
   core = core;
 }
 
@@ -77,10 +82,20 @@ reached_by stores stores_closed inlets inlets_closed outlets outlets_closed core
 
 -- these were closed, each kind in this order, and nothing else changed
 abbrev pub ClosesAll : WorldState → WorldState → List DiskState → List InletState → List OutletState
+    → List (Option PathsState) → Type 0
+ClosesAll old new disks feeds drains openers =
+    new ≡ record old {
+      stores = with_all_closed old.stores disks;
+      inlets = with_all_closed old.inlets feeds;
+      outlets = with_all_closed old.outlets (singles drains openers);
+      paths = with_all_closed old.paths (present openers);
+    }
+
+-- the same, with the outlets as they were before; their openers are closed as these
+abbrev pub ClosesHeld : WorldState → WorldState → List DiskState → List InletState → List Out
     → Type 0
-ClosesAll old new disks feeds drains =
-    new ≡ record old
-    { stores = with_all_closed old.stores disks; inlets = with_all_closed old.inlets feeds; outlets = with_all_closed old.outlets drains }
+ClosesHeld old new disks feeds outs = (openers : List (Option PathsState)) × AreLeft outs openers
+    × ClosesAll old new disks feeds (outlets_in outs) openers
 
 -- These devices were opened, in the order of the plan, first stores, then inlets, then outlets, and closed; nothing else of the world
 -- changed but its counts of faults.
@@ -94,7 +109,8 @@ pub record UsesDevices (old new : WorldState) (plan : RunPlan) (reached : Reache
   pub outlets : OpensOutlets with_inlets with_outlets (outlets_asked plan.once plan.outlets.items)
       reached.outlets
   pub closes : ClosesAll with_outlets new reached.stores_closed reached.inlets_closed
-      reached.outlets_closed
+      reached.outlets_closed reached.openers
+  pub lie : AllLie reached.outlets_closed reached.openers
 
 -- The core.
 
@@ -133,7 +149,7 @@ pub record RunsRounds {R I O : Type 0} (feed : I → InletState) (drain : O → 
   pub serves : ServesWith (SourceTook feed offers inlets dests) (DestTook drain) CoreServes
       run.begun run.last sources sources_then dests_first dests_then rounds ended run.made account
       number
-  pub counted : IfSome counts (IsCounted run.last sources_then dests_then)
+  pub counted : IfSome counts (AreCountsOf run.last sources_then dests_then)
   pub same_routers : map (λ (a : SourceActor R I). a.router) sources ≡ routers
   pub are_sources : AreSourcesFor plan.inlets.items plan.setup.sources
       (map (λ (a : SourceActor R I). source_view a.spec
@@ -178,15 +194,15 @@ pub record HoldsNone (plan : RunPlan) (reached : Reached) : Type 0 where
   pub no_inlets : (reached.inlets ≡ []) × (reached.inlets_closed ≡ [])
   pub no_outlets : (reached.outlets ≡ []) × (reached.outlets_closed ≡ [])
 
-abbrev pub Holds : {R I O : Type 0} → (I → InletState) → (O → OutletState)
+abbrev pub PlanRunHolds : {R I O : Type 0} → (I → InletState) → (O → OutletState)
     → (R → ℕ → Record → List Offer → Type 0) → (R → ℕ) → (R → ℕ) → Option Files → RunPlan → List R
     → ℕ → Reached → Option CoreRun → PlanEnded → Type 0
-Holds feed drain offers inlets dests files plan routers rounds reached None (Before early) =
+PlanRunHolds feed drain offers inlets dests files plan routers rounds reached None (Before early) =
     HoldsNone plan reached
-Holds feed drain offers inlets dests files plan routers rounds reached None (Ran ended counts) = ⊥
-Holds feed drain offers inlets dests files plan routers rounds reached (Some run) (Before early) =
+PlanRunHolds feed drain offers inlets dests files plan routers rounds reached None (Ran ended counts) = ⊥
+PlanRunHolds feed drain offers inlets dests files plan routers rounds reached (Some run) (Before early) =
     HoldsRun files plan reached run × StaysUnserved plan reached run
-Holds feed drain offers inlets dests files plan routers rounds reached (Some run) (Ran ended counts) =
+PlanRunHolds feed drain offers inlets dests files plan routers rounds reached (Some run) (Ran ended counts) =
     HoldsRun files plan reached run
     × IsServed feed drain offers inlets dests plan routers rounds reached run ended counts
 
@@ -200,23 +216,22 @@ RoseAt olds news s = (old : DiskState) × ((new : DiskState)
 pub record IsDamagedIn (setup : Setup) (disks : List DiskState) (s at : ℕ) : Type 0 where
   pub kinds : List StoreKind
   pub kinds_are : AreKinds setup.dests (length disks) kinds
-  pub damaged : IsDamaged kinds disks s at
+  pub damaged : IsLowestDamaged kinds disks s at
 
 -- Why the rounds didn't begin: each device by its number, behind those that were opened. Lack of memory is free.
-abbrev pub HasCause : WorldState → WorldState → RunPlan → Reached → Early → Type 0
-HasCause old new plan reached (OpenFault (Store n)) = (n ≡ length reached.stores)
+abbrev pub HasEarlyCause : WorldState → WorldState → RunPlan → Reached → Early → Type 0
+HasEarlyCause old new plan reached (OpenFault (Store n)) = (n ≡ length reached.stores)
     × (reached.core ≡ None) × Rose old.store_faults new.store_faults
-HasCause old new plan reached (OpenFault (Inlet n)) = (n ≡ length reached.inlets)
+HasEarlyCause old new plan reached (OpenFault (Inlet n)) = (n ≡ length reached.inlets)
     × Rose old.inlet_faults new.inlet_faults
-HasCause old new plan reached (OpenFault (Dest n)) = (n ≡ length reached.outlets)
-    × Rose old.outlet_faults new.outlet_faults
-HasCause old new plan reached (Damage s at) = (reached.core ≡ None)
+HasEarlyCause old new plan reached (OpenFault (Dest n)) = (n ≡ length reached.outlets) × OneRose old new
+HasEarlyCause old new plan reached (Damage s at) = (reached.core ≡ None)
     × IsDamagedIn plan.setup reached.stores s at
-HasCause old new plan reached (DiskFault s) = RoseAt reached.stores reached.stores_closed s
-HasCause old new plan reached NoMemory = Unit {0}
+HasEarlyCause old new plan reached (DiskFault s) = RoseAt reached.stores reached.stores_closed s
+HasEarlyCause old new plan reached NoMemory = Unit {0}
 
 abbrev pub HasEnding : WorldState → WorldState → RunPlan → Reached → PlanEnded → Type 0
-HasEnding old new plan reached (Before early) = HasCause old new plan reached early
+HasEnding old new plan reached (Before early) = HasEarlyCause old new plan reached early
 HasEnding old new plan reached (Ran ended counts) = Unit {0}
 
 -- what a refused opening of the core is to the run
@@ -230,7 +245,7 @@ early_of CoreNoMemory = NoMemory
 pub record RunsWith {R I O : Type 0} (feed : I → InletState) (drain : O → OutletState) (offers : R → ℕ → Record → List Offer → Type 0) (inlets dests : R → ℕ)
     (old new : WorldState) (plan : RunPlan) (routers : List R) (rounds : ℕ) (ending : PlanEnded) (reached : Reached) : Type 0 where
   pub devices : UsesDevices old new plan reached
-  pub holds : Holds feed drain offers inlets dests old.files plan routers rounds reached
+  pub holds : PlanRunHolds feed drain offers inlets dests old.files plan routers rounds reached
       reached.core ending
   pub ends : HasEnding old new plan reached ending
 
@@ -244,7 +259,7 @@ RunsPlan feed drain offers inlets dests old new plan routers rounds ending = (re
 
 -- With the stores open: the core is opened, and then the inlets and outlets, from the second world state on; the stores come back as those.
 pub record RunsOver {R I O : Type 0} (feed : I → InletState) (drain : O → OutletState) (offers : R → ℕ → Record → List Offer → Type 0) (inlets dests : R → ℕ)
-    (old new : WorldState) (plan : RunPlan) (routers : List R) (rounds : ℕ) (stores stores_closed : List DiskState) (inlets_closed : List InletState) (outlets_closed : List OutletState) (ending : PlanEnded) : Type 0 where
+    (old new : WorldState) (plan : RunPlan) (routers : List R) (rounds : ℕ) (stores stores_closed : List DiskState) (inlets_closed : List InletState) (outlets_closed : List OutletState) (openers : List (Option PathsState)) (ending : PlanEnded) : Type 0 where
   pub inlets_opened : List InletState
   pub outlets_opened : List OutletState
   pub core : Option CoreRun
@@ -253,11 +268,11 @@ pub record RunsOver {R I O : Type 0} (feed : I → InletState) (drain : O → Ou
       inlets_opened
   pub opens_outlets : OpensOutlets between new (outlets_asked plan.once plan.outlets.items)
       outlets_opened
-  pub holds : Holds feed drain offers inlets dests old.files plan routers rounds
+  pub holds : PlanRunHolds feed drain offers inlets dests old.files plan routers rounds
       (reached_by stores stores_closed inlets_opened inlets_closed outlets_opened outlets_closed
-      core) core ending
+      openers core) core ending
   pub ends : HasEnding old new plan (reached_by stores stores_closed inlets_opened inlets_closed
-      outlets_opened outlets_closed core) ending
+      outlets_opened outlets_closed openers core) ending
 
 -- The rounds were run over these destinations, those of the plan.
 pub record ServesDests {R I O : Type 0} (feed : I → InletState) (drain : O → OutletState) (offers : R → ℕ → Record → List Offer → Type 0) (inlets dests : R → ℕ)
@@ -265,9 +280,9 @@ pub record ServesDests {R I O : Type 0} (feed : I → InletState) (drain : O →
   pub sources_then : List (SourceActor R I)
   pub dests_first : List (DestActor O)
   pub dests_then : List (DestActor O)
-  pub serves : Serves (SourceTook feed offers inlets dests) (DestTook drain) CoreServes begun last
+  pub serves : ServesRounds (SourceTook feed offers inlets dests) (DestTook drain) CoreServes begun last
       sources sources_then dests_first dests_then rounds ended
-  pub counted : IfSome counts (IsCounted last sources_then dests_then)
+  pub counted : IfSome counts (AreCountsOf last sources_then dests_then)
   pub are_dests : AreDestsFor once plans
       (map (λ (a : DestActor O). dest_view a.spec a.outage (drain a.outlet)) dests_first)
   pub all : length opened ≡ length plans

@@ -1,6 +1,6 @@
 // What a run has come to.
 ghost use Rattle.std.specs.Prelude.{◌≡◌, ◌<◌, ◌^◌, ◌++◌, ◌∷◌, [], map, length, IfOk, OnOk};
-ghost use Rattle.sg_serve.specs.Counts.{gave_up_outlet, numbers_from, first_fault, IsCounted};
+ghost use Rattle.sg_serve.specs.Counts.{gave_up_outlet, numbers_from, first_fault, AreCountsOf};
 
 use sg_actor::{DestActor, GivenUp, SourceActor};
 use sg_core::Core;
@@ -139,7 +139,7 @@ pub(crate) fn count_all<D: Disk, R: Router + Drop, I: Inlet, O: Outlet>(
     requires stores { stores ≡ length core.now.stores }
     requires few_sources { length sources.now < 2 ^ 32 }
     requires few_dests { length dests.now < 2 ^ 32 }
-    ensures { IfOk result (IsCounted core.now sources.now dests.now) }
+    ensures { IfOk result (AreCountsOf core.now sources.now dests.now) }
 {
     Ok(Counts {
         tally: core.tally(alloc)?,

@@ -1,7 +1,9 @@
 // The devices that are open.
 ghost use Rattle.std.specs.Prelude.{◌≡◌, ◌++◌, [], None, map, option_map, option_to_list};
-ghost use Rattle.sg_serve.specs.Run.{ClosesAll};
+ghost use Rattle.sg_serve.specs.Exits.{out_of};
+ghost use Rattle.sg_serve.specs.Run.{ClosesHeld};
 
+use crate::Exit;
 use crate::outlets::close_dests;
 use crate::sources::close_sources;
 use crate::stores::close_stores;
@@ -11,7 +13,7 @@ use sg_world::World;
 use std::alloc::Global;
 
 /// The devices that are open, in order. The last inlet or outlet may be without what takes its turns.
-pub(crate) struct Held<S, R, I, O> {
+pub(crate) struct OpenDevices<S, R, I, O> {
     pub(crate) stores: Vec<S>,
     pub(crate) sources: Vec<SourceActor<R, I>>,
     pub(crate) feed: Option<I>,
@@ -20,14 +22,14 @@ pub(crate) struct Held<S, R, I, O> {
 }
 
 /// Stores, and nothing else.
-pub(crate) fn hold_stores<S, R, I, O>(alloc: Global, stores: Vec<S>) -> Held<S, R, I, O>
+pub(crate) fn hold_stores<S, R, I, O>(alloc: Global, stores: Vec<S>) -> OpenDevices<S, R, I, O>
     ensures stores { result.stores ≡ stores }
     ensures sources { result.sources.items ≡ [] }
     ensures feed { result.feed ≡ None }
     ensures dests { result.dests.items ≡ [] }
     ensures drain { result.drain ≡ None }
 {
-    Held {
+    OpenDevices {
         stores,
         sources: Vec::new(alloc),
         feed: None,
@@ -39,16 +41,16 @@ pub(crate) fn hold_stores<S, R, I, O>(alloc: Global, stores: Vec<S>) -> Held<S, 
 /// Closes all that is open: the stores, the inlets and the outlets, each in the order in which they were
 /// opened.
 pub(crate) fn close_all<W: World, R: Router + Drop>(
-    held: Held<W::Store, R, W::Feed, W::Drain>,
+    held: OpenDevices<W::Store, R, W::Feed, Exit<W::Drain, W::Paths>>,
     world: &mut W,
 )
-    ensures { ClosesAll (W.state world.old) (W.state world.new)
+    ensures { ClosesHeld (W.state world.old) (W.state world.new)
         (map W.Store.state held.stores.items) (map (λ a. W.Feed.state a.inlet) held.sources.items
         ++ option_to_list (option_map W.Feed.state held.feed))
-        (map (λ a. W.Drain.state a.outlet) held.dests.items
-        ++ option_to_list (option_map W.Drain.state held.drain)) }
+        (map (λ a. out_of W.Drain.state W.Paths.state a.outlet) held.dests.items
+        ++ option_to_list (option_map (out_of W.Drain.state W.Paths.state) held.drain)) }
 {
-    let Held {
+    let OpenDevices {
         stores,
         sources,
         feed,

@@ -3,6 +3,7 @@
 
 mod counts;
 mod ending;
+mod exit;
 mod held;
 mod outlets;
 mod rewinds;
@@ -12,5 +13,6 @@ mod stores;
 
 pub use counts::{Counts, Fault};
 pub use ending::{Device, Early, PlanEnded};
+pub use exit::Exit;
 pub use run::run_plan;
 pub use sg_engine::Ended;

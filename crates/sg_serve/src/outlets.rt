@@ -1,11 +1,12 @@
 // The outlets of a plan, each with the turns of its destination.
 ghost use Rattle.std.specs.Prelude.{◌≡◌, ◌<◌, ◌+◌, ◌^◌, ◌++◌, ◌∷◌, [], map, length, option_map, option_to_list, IfOk, IfErr};
-ghost use Rattle.sg_outside.specs.World.{IsByPath};
-ghost use Rattle.sg_serve.specs.Devices.{outlet_asked, outlets_asked, reopen_asked, AreNotByPath, OpensOutlets, ClosesOutlets};
+ghost use Rattle.sg_serve.specs.Devices.{outlet_asked, outlets_asked, reopen_asked, OpensOutlets, ClosesOutlets};
+ghost use Rattle.sg_serve.specs.Exits.{exit_of, out_of};
 ghost use Rattle.sg_serve.specs.Early.{outlet_refusal, OutletsFail};
 ghost use Rattle.sg_serve.specs.Actors.{dest_view, IsDestFor, AreDestsFor};
 
-use crate::{Device, Early};
+use crate::exit::{close_exit, open_exit};
+use crate::{Device, Early, Exit};
 use sg_actor::DestActor;
 use sg_device::OpenRefusal;
 use sg_outside::OutletSpec;
@@ -48,11 +49,13 @@ fn asked(spec: OutletSpec, once: bool) -> OutletSpec
             mode,
             folders,
             reopen,
+            reap,
         } => OutletSpec::ByPath {
             fsync,
             mode,
             folders,
             reopen: reopen_or_now(reopen, once),
+            reap,
         },
     }
 }
@@ -75,26 +78,27 @@ fn open_dest<W: World>(
     once: bool,
     d: u32,
     world: &mut W,
-) -> Result<DestActor<W::Drain>, (Option<W::Drain>, Early)>
-    requires path { IsByPath plan.spec → ⊥ }
+) -> Result<DestActor<Exit<W::Drain, W::Paths>>, (Option<Exit<W::Drain, W::Paths>>, Early)>
     ensures opened { IfOk result (λ made. OpensOutlets (W.state world.old) (W.state world.new)
-        (outlet_asked once plan.spec ∷ []) (W.Drain.state made.outlet ∷ [])) }
+        (outlet_asked once plan.spec ∷ [])
+        (exit_of W.Drain.state W.Paths.state made.outlet ∷ [])) }
     ensures new { IfOk result (λ made. IsDestFor once d plan
-        (dest_view made.spec made.outage (W.Drain.state made.outlet))) }
+        (dest_view made.spec made.outage (exit_of W.Drain.state W.Paths.state made.outlet))) }
     ensures refused { IfErr result (λ e. OpensOutlets (W.state world.old) (W.state world.new)
-        (outlet_asked once plan.spec ∷ []) (option_to_list (option_map W.Drain.state e.0))) }
+        (outlet_asked once plan.spec ∷ [])
+        (option_to_list (option_map (exit_of W.Drain.state W.Paths.state) e.0))) }
     ensures cause { IfErr result (λ e. OutletsFail (W.state world.old) (W.state world.new)
-        (d + length (option_to_list (option_map W.Drain.state e.0))) e.1) }
+        (d + length (option_to_list (option_map (exit_of W.Drain.state W.Paths.state) e.0))) e.1) }
 {
     let OutletPlan { spec, shape, env } = plan;
     let spec = asked(spec, once);
-    let drain = match world.open_outlet(alloc, &spec) {
-        Ok(drain) => drain,
+    let exit = match open_exit(alloc, &spec, world) {
+        Ok(exit) => exit,
         Err(refusal) => return Err((None, refused(d, refusal))),
     };
-    match DestActor::new(alloc, drain, shape, env, d, once) {
+    match DestActor::new(alloc, exit, shape, env, d, once) {
         Ok(made) => Ok(made),
-        Err((drain, _)) => Err((Some(drain), Early::NoMemory)),
+        Err((exit, _)) => Err((Some(exit), Early::NoMemory)),
     }
 }
 
@@ -105,20 +109,29 @@ pub fn open_dests<W: World>(
     plans: Vec<OutletPlan>,
     once: bool,
     world: &mut W,
-) -> Result<Vec<DestActor<W::Drain>>, (Vec<DestActor<W::Drain>>, Option<W::Drain>, Early)>
+) -> Result<
+    Vec<DestActor<Exit<W::Drain, W::Paths>>>,
+    (
+        Vec<DestActor<Exit<W::Drain, W::Paths>>>,
+        Option<Exit<W::Drain, W::Paths>>,
+        Early,
+    ),
+>
     requires few { length plans.items < 2 ^ 32 }
-    requires paths { AreNotByPath plans.items }
     ensures opened { IfOk result (λ dests. OpensOutlets (W.state world.old) (W.state world.new)
-        (outlets_asked once plans.items) (map (λ a. W.Drain.state a.outlet) dests.items)) }
+        (outlets_asked once plans.items)
+        (map (λ a. exit_of W.Drain.state W.Paths.state a.outlet) dests.items)) }
     ensures all { IfOk result (λ dests. length dests.items ≡ length plans.items) }
     ensures new { IfOk result (λ dests. AreDestsFor once plans.items
-        (map (λ a. dest_view a.spec a.outage (W.Drain.state a.outlet)) dests.items)) }
+        (map (λ a. dest_view a.spec a.outage (exit_of W.Drain.state W.Paths.state a.outlet))
+        dests.items)) }
     ensures refused { IfErr result (λ e. OpensOutlets (W.state world.old) (W.state world.new)
-        (outlets_asked once plans.items) (map (λ a. W.Drain.state a.outlet) e.0.items
-        ++ option_to_list (option_map W.Drain.state e.1))) }
+        (outlets_asked once plans.items)
+        (map (λ a. exit_of W.Drain.state W.Paths.state a.outlet) e.0.items
+        ++ option_to_list (option_map (exit_of W.Drain.state W.Paths.state) e.1))) }
     ensures cause { IfErr result (λ e. OutletsFail (W.state world.old) (W.state world.new)
-        (length (map (λ a. W.Drain.state a.outlet) e.0.items
-        ++ option_to_list (option_map W.Drain.state e.1))) e.2) }
+        (length (map (λ a. exit_of W.Drain.state W.Paths.state a.outlet) e.0.items
+        ++ option_to_list (option_map (exit_of W.Drain.state W.Paths.state) e.1))) e.2) }
 {
     let mut dests = match Vec::with_capacity(alloc, plans.len()) {
         Ok(dests) => dests,
@@ -135,17 +148,21 @@ pub fn open_dests<W: World>(
 }
 
 /// Closes the outlets of these destinations, in order, and then the last one.
-pub fn close_dests<W: World>(dests: Vec<DestActor<W::Drain>>, last: Option<W::Drain>, world: &mut W)
+pub fn close_dests<W: World>(
+    dests: Vec<DestActor<Exit<W::Drain, W::Paths>>>,
+    last: Option<Exit<W::Drain, W::Paths>>,
+    world: &mut W,
+)
     ensures { ClosesOutlets (W.state world.old) (W.state world.new)
-        (map (λ a. W.Drain.state a.outlet) dests.items
-        ++ option_to_list (option_map W.Drain.state last)) }
+        (map (λ a. out_of W.Drain.state W.Paths.state a.outlet) dests.items
+        ++ option_to_list (option_map (out_of W.Drain.state W.Paths.state) last)) }
 {
     let mut rest = VecDeque::from(dests);
     while let Some(dest) = rest.pop_front() {
-        world.close_outlet(dest.into_outlet());
+        close_exit(dest.into_outlet(), world);
     }
     rest.destroy_empty();
-    if let Some(drain) = last {
-        world.close_outlet(drain);
+    if let Some(exit) = last {
+        close_exit(exit, world);
     }
 }

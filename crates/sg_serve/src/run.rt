@@ -1,18 +1,19 @@
 // The run of a plan.
-ghost use Rattle.std.specs.Prelude.{◌≡◌, ◌≤◌, ◌<◌, ◌^◌, ◌++◌, map, length, option_map, option_to_list};
+ghost use Rattle.std.specs.Prelude.{◌≡◌, ◌≤◌, ◌<◌, ◌^◌, ◌++◌, List, Option, map, length, option_map, option_to_list};
 ghost use Rattle.sg_outside.specs.World.{WorldState};
 ghost use Rattle.sg_standing.specs.States.{setup_of};
 ghost use Rattle.sg_turns.specs.Actors.{AreFewActors, AreSources};
-ghost use Rattle.sg_serve.specs.Devices.{AreNotByPath};
+ghost use Rattle.sg_device.specs.Paths.{PathsState};
+ghost use Rattle.sg_serve.specs.Exits.{exit_of, out_of};
 ghost use Rattle.sg_serve.specs.Plan.{IsRunnable, AllKnow};
-ghost use Rattle.sg_serve.specs.Run.{early_of, ClosesAll, RunsPlan, RunsOver, RunsDests};
+ghost use Rattle.sg_serve.specs.Run.{early_of, ClosesHeld, RunsPlan, RunsOver, RunsDests};
 
 use crate::counts::count_all;
-use crate::held::{Held, close_all, hold_stores};
+use crate::held::{OpenDevices, close_all, hold_stores};
 use crate::outlets::open_dests;
 use crate::sources::open_sources;
 use crate::stores::open_stores;
-use crate::{Early, PlanEnded};
+use crate::{Early, Exit, PlanEnded};
 use sg_actor::SourceActor;
 use sg_core::{Core, CoreRefusal};
 use sg_crew::serve;
@@ -36,7 +37,7 @@ fn refused(refusal: CoreRefusal) -> Early
 }
 
 // With the core and the inlets open: opens the outlets, and runs the rounds.
-fn run_dests<T: Threads + Wait + Sync, W: World, R: Router + Send + Drop>(
+fn run_dests<T: Threads + Wait + Eprint + Sync, W: World, R: Router + Send + Drop>(
     rt: &T,
     alloc: Global,
     core: Core<W::Store>,
@@ -46,26 +47,29 @@ fn run_dests<T: Threads + Wait + Sync, W: World, R: Router + Send + Drop>(
     once: bool,
     rounds: u64,
     world: &mut W,
-) -> (Held<W::Store, R, W::Feed, W::Drain>, PlanEnded)
+) -> (
+    OpenDevices<W::Store, R, W::Feed, Exit<W::Drain, W::Paths>>,
+    PlanEnded,
+)
     requires rounds { (0 < rounds) × (rounds ≤ 2 ^ 36) }
     requires calls { core.calls ≤ 2 ^ 50 }
     requires counts { (stores ≡ length core.stores)
         × (length outlets.items ≡ length (setup_of core).dests) }
     requires few { AreFewActors (length sources.items) (length outlets.items) }
-    requires paths { AreNotByPath outlets.items }
     requires sources { AreSources W.Feed.state R.inlets R.dests (setup_of core) sources.items }
-    ensures { RunsDests W.Feed.state W.Drain.state R.offers R.inlets R.dests (W.state world.old)
-        (W.state world.new) once outlets.items rounds core sources.items
+    ensures { RunsDests W.Feed.state (exit_of W.Drain.state W.Paths.state) R.offers R.inlets R.dests
+        (W.state world.old) (W.state world.new) once outlets.items rounds core sources.items
         (map W.Store.state result.0.stores.items)
         (map (λ a. W.Feed.state a.inlet) result.0.sources.items
         ++ option_to_list (option_map W.Feed.state result.0.feed))
-        (map (λ a. W.Drain.state a.outlet) result.0.dests.items
-        ++ option_to_list (option_map W.Drain.state result.0.drain)) result.1 }
+        (map (λ a. exit_of W.Drain.state W.Paths.state a.outlet) result.0.dests.items
+        ++ option_to_list (option_map (exit_of W.Drain.state W.Paths.state) result.0.drain))
+        result.1 }
 {
     let dests = match open_dests(alloc, outlets, once, world) {
         Ok(dests) => dests,
         Err((dests, drain, early)) => {
-            let held = Held {
+            let held = OpenDevices {
                 stores: core.into_stores(),
                 sources,
                 feed: None,
@@ -82,7 +86,7 @@ fn run_dests<T: Threads + Wait + Sync, W: World, R: Router + Send + Drop>(
         dests,
     } = serve(rt, alloc, core, sources, dests, rounds);
     let counts = count_all(alloc, &core, stores, &sources, &dests).ok();
-    let held = Held {
+    let held = OpenDevices {
         stores: core.into_stores(),
         sources,
         feed: None,
@@ -93,7 +97,7 @@ fn run_dests<T: Threads + Wait + Sync, W: World, R: Router + Send + Drop>(
 }
 
 // With the stores open: opens the core over them, and then the inlets.
-fn run_core<T: Threads + Wait + Sync, W: World, R: Router + Send + Drop>(
+fn run_core<T: Threads + Wait + Eprint + Sync, W: World, R: Router + Send + Drop>(
     rt: &T,
     alloc: Global,
     plan: RunPlan,
@@ -101,19 +105,24 @@ fn run_core<T: Threads + Wait + Sync, W: World, R: Router + Send + Drop>(
     routers: Vec<R>,
     rounds: u64,
     world: &mut W,
-) -> (Held<W::Store, R, W::Feed, W::Drain>, PlanEnded)
+) -> (
+    OpenDevices<W::Store, R, W::Feed, Exit<W::Drain, W::Paths>>,
+    PlanEnded,
+)
     requires some { 0 < rounds }
     requires rounds { rounds ≤ 2 ^ 36 }
     requires plan { IsRunnable plan }
     requires stores { length stores.items ≡ length plan.stores.items }
     requires routers { AllKnow R.inlets R.dests plan routers.items }
-    ensures { RunsOver W.Feed.state W.Drain.state R.offers R.inlets R.dests (W.state world.old)
-        (W.state world.new) plan routers.items rounds (map W.Store.state stores.items)
-        (map W.Store.state result.0.stores.items)
+    ensures { (openers : List (Option PathsState))
+        → RunsOver W.Feed.state (exit_of W.Drain.state W.Paths.state) R.offers R.inlets R.dests
+        (W.state world.old) (W.state world.new) plan routers.items rounds
+        (map W.Store.state stores.items) (map W.Store.state result.0.stores.items)
         (map (λ a. W.Feed.state a.inlet) result.0.sources.items
         ++ option_to_list (option_map W.Feed.state result.0.feed))
-        (map (λ a. W.Drain.state a.outlet) result.0.dests.items
-        ++ option_to_list (option_map W.Drain.state result.0.drain)) result.1 }
+        (map (λ a. exit_of W.Drain.state W.Paths.state a.outlet) result.0.dests.items
+        ++ option_to_list (option_map (exit_of W.Drain.state W.Paths.state) result.0.drain))
+        openers result.1 }
 {
     let RunPlan {
         setup,
@@ -144,7 +153,7 @@ fn run_core<T: Threads + Wait + Sync, W: World, R: Router + Send + Drop>(
             rt, alloc, core, count, sources, outlets, once, rounds, world,
         ),
         Err((sources, feed, early)) => {
-            let held = Held {
+            let held = OpenDevices {
                 stores: core.into_stores(),
                 sources,
                 feed,
@@ -157,26 +166,29 @@ fn run_core<T: Threads + Wait + Sync, W: World, R: Router + Send + Drop>(
 }
 
 // Opens the stores, and runs what stands over them. What is left open comes back.
-fn run_stores<T: Threads + Wait + Sync, W: World, R: Router + Send + Drop>(
+fn run_stores<T: Threads + Wait + Eprint + Sync, W: World, R: Router + Send + Drop>(
     rt: &T,
     alloc: Global,
     plan: RunPlan,
     routers: Vec<R>,
     rounds: u64,
     world: &mut W,
-) -> (Held<W::Store, R, W::Feed, W::Drain>, PlanEnded)
+) -> (
+    OpenDevices<W::Store, R, W::Feed, Exit<W::Drain, W::Paths>>,
+    PlanEnded,
+)
     requires some { 0 < rounds }
     requires rounds { rounds ≤ 2 ^ 36 }
     requires plan { IsRunnable plan }
     requires routers { AllKnow R.inlets R.dests plan routers.items }
-    ensures { (closed : WorldState) → ClosesAll (W.state world.new) closed
+    ensures { (closed : WorldState) → ClosesHeld (W.state world.new) closed
         (map W.Store.state result.0.stores.items)
         (map (λ a. W.Feed.state a.inlet) result.0.sources.items
         ++ option_to_list (option_map W.Feed.state result.0.feed))
-        (map (λ a. W.Drain.state a.outlet) result.0.dests.items
-        ++ option_to_list (option_map W.Drain.state result.0.drain))
-        → RunsPlan W.Feed.state W.Drain.state R.offers R.inlets R.dests (W.state world.old) closed
-        plan routers.items rounds result.1 }
+        (map (λ a. out_of W.Drain.state W.Paths.state a.outlet) result.0.dests.items
+        ++ option_to_list (option_map (out_of W.Drain.state W.Paths.state) result.0.drain))
+        → RunsPlan W.Feed.state (exit_of W.Drain.state W.Paths.state) R.offers R.inlets R.dests
+        (W.state world.old) closed plan routers.items rounds result.1 }
 {
     match open_stores(alloc, &plan.stores, world) {
         Ok(stores) => run_core(rt, alloc, plan, stores, routers, rounds, world),
@@ -187,7 +199,7 @@ fn run_stores<T: Threads + Wait + Sync, W: World, R: Router + Send + Drop>(
 /// Opens the devices of a plan, stores, inlets and outlets, each in its order, and the flow core over
 /// its stores; runs the rounds, so many at most, 1 to 2^36; and closes the devices, each kind in the order
 /// in which it was opened. There is a router for each inlet.
-pub fn run_plan<T: Threads + Wait + Sync, W: World, R: Router + Send + Drop>(
+pub fn run_plan<T: Threads + Wait + Eprint + Sync, W: World, R: Router + Send + Drop>(
     rt: &T,
     alloc: Global,
     plan: RunPlan,
@@ -199,8 +211,8 @@ pub fn run_plan<T: Threads + Wait + Sync, W: World, R: Router + Send + Drop>(
     requires rounds { rounds ≤ 2 ^ 36 }
     requires plan { IsRunnable plan }
     requires routers { AllKnow R.inlets R.dests plan routers.items }
-    ensures { RunsPlan W.Feed.state W.Drain.state R.offers R.inlets R.dests (W.state world.old)
-        (W.state world.new) plan routers.items rounds result }
+    ensures { RunsPlan W.Feed.state (exit_of W.Drain.state W.Paths.state) R.offers R.inlets R.dests
+        (W.state world.old) (W.state world.new) plan routers.items rounds result }
 {
     let (held, ending) = run_stores(rt, alloc, plan, routers, rounds, world);
     close_all(held, world);

@@ -7,9 +7,9 @@ ghost use Rattle.sg_standing.specs.States.{setup_of};
 ghost use Rattle.sg_standing.specs.Sources.{store_at, begun_in};
 ghost use Rattle.sg_core.specs.Opening.{IsOpen};
 ghost use Rattle.sg_serve.specs.Devices.{inlet_asked, inlets_asked, IsFetching, AreFetching, ClosesInlets};
-ghost use Rattle.sg_serve.specs.Early.{inlet_refusal, SourceFails, SourcesFail};
+ghost use Rattle.sg_serve.specs.Early.{inlet_refusal, SourceFailsToOpen, SourcesFail};
 ghost use Rattle.sg_serve.specs.declared.ending.Early.TheVariants.{DiskFault};
-ghost use Rattle.sg_serve.specs.Rewinds.{position_at, places_of, rewinds_from, AreApartIn, Begins, HasBegun};
+ghost use Rattle.sg_serve.specs.Rewinds.{position_at, places_of, rewinds_from, AreApartIn, BeginsSource, HasBegun};
 ghost use Rattle.sg_serve.specs.Actors.{source_view, IsSourceFor, AreAllSources, OpensAt};
 
 use crate::rewinds::begin;
@@ -125,7 +125,7 @@ fn open_source<W: World, R: Router + Drop>(
     ensures opened { IfOk result (λ made. OpensAt (W.state world.old) (W.state world.new)
         (inlet_asked once plan.now.spec ∷ []) (λ _. position_at core.old i)
         (W.Feed.state made.inlet ∷ [])) }
-    ensures begins { IfOk result (λ made. Begins core.old core.new i (position_at core.old i)
+    ensures begins { IfOk result (λ made. BeginsSource core.old core.new i (position_at core.old i)
         (W.Feed.state made.inlet).place true) }
     ensures source { IfOk result (λ made. IsSourceFor i plan.now setup.store
         (source_view made.spec (actor (W.Feed.state made.inlet) made.reader made.buffer.items
@@ -134,7 +134,7 @@ fn open_source<W: World, R: Router + Drop>(
     ensures refused { IfErr result (λ e. OpensAt (W.state world.old) (W.state world.new)
         (inlet_asked once plan.now.spec ∷ []) (λ _. position_at core.old i)
         (option_to_list (option_map W.Feed.state e.0))) }
-    ensures cause { IfErr result (λ e. SourceFails (W.state world.old) (W.state world.new) core.old
+    ensures cause { IfErr result (λ e. SourceFailsToOpen (W.state world.old) (W.state world.new) core.old
         core.new i setup.store (option_map W.Feed.state e.0) e.1) }
 {
     let Ok(spec) = asked(&plan.spec, once) else {

@@ -15,13 +15,13 @@ use Rattle.sg_sinks.specs.Fitting.{space, has_space}
 use Rattle.sg_sinks.specs.Blocks.{block_of_offer}
 use Rattle.sg_sinks.specs.Offers.{broken_then, verdict_of, keeps, takes, offered}
 use Rattle.sg_sinks.specs.Standing.{lengths_of, waiting_from, sink_of, is_split_by, IsSplit}
-use Rattle.sg_sinks.specs.Laws.{Offering}
+use Rattle.sg_sinks.specs.Laws.{OfferLeaves}
 use Rattle.sg_sinks.proofs.LeftLemmas.{waiting-any, none-waits, lengths-spooled, lengths-waiting, waiting-spooled, waiting-waiting, blocks-spooled, blocks-waiting, are-waiting-push, are-split-push, are-split-spooled}
 
 -- no entry waits where the offer is spooled, and there is a disk-buffer
-abbrev pub Empties : Option BufferSetup → Dest → Verdict → Type 0
-Empties None dest v = v ≡ Spooled → ⊥
-Empties (Some buffer) dest v = v ≡ Spooled → any_waits dest.left ≡ false
+abbrev pub EmptiesSink : Option BufferSetup → Dest → Verdict → Type 0
+EmptiesSink None dest v = v ≡ Spooled → ⊥
+EmptiesSink (Some buffer) dest v = v ≡ Spooled → any_waits dest.left ≡ false
 
 -- an entry that waits
 kept-seen : (dest : Dest) (broken new : Bool) (origin : Origin) (offer : Offer)
@@ -46,7 +46,7 @@ spooled-seen dest broken new origin offer h =
     let b = blocks-spooled dest.setup.buffer dest.left x refl in
     rw (l, w, b, none-waits p dest.left h, none-waits q dest.left h) refl
 
-taken-seen : (buffer : Option BufferSetup) (v : Verdict) (dest : Dest) (broken new : Bool) (origin : Origin) (offer : Offer) → Empties buffer dest v
+taken-seen : (buffer : Option BufferSetup) (v : Verdict) (dest : Dest) (broken new : Bool) (origin : Origin) (offer : Offer) → EmptiesSink buffer dest v
     → sink_of new (take_offer origin offer v dest) ≡ record (takes origin.inlet origin.number offer (block_of_offer dest.setup.buffer origin.inlet origin.end offer) v (sink_of broken dest)) { broken = new }
 taken-seen buffer Queued dest broken new origin offer h = kept-seen dest broken new origin offer
 taken-seen None Spooled dest broken new origin offer h = absurd (h refl)
@@ -60,7 +60,7 @@ split-push : (buffer : Option BufferSetup) (dest : Dest) (origin : Origin) (offe
 split-push None dest origin offer s = are-waiting-push dest.left (entry_from origin offer false) s refl refl
 split-push (Some buffer) dest origin offer s = are-split-push dest.left (entry_from origin offer false) s refl refl
 
-taken-split : (buffer : Option BufferSetup) (v : Verdict) (dest : Dest) (origin : Origin) (offer : Offer) → Empties buffer dest v → is_split_by buffer dest.left ≡ true
+taken-split : (buffer : Option BufferSetup) (v : Verdict) (dest : Dest) (origin : Origin) (offer : Offer) → EmptiesSink buffer dest v → is_split_by buffer dest.left ≡ true
     → is_split_by buffer (take_offer origin offer v dest).left ≡ true
 taken-split buffer Queued dest origin offer h s = split-push buffer dest origin offer s
 taken-split None Spooled dest origin offer h s = absurd (h refl)
@@ -90,7 +90,7 @@ queued-not true e = let wrong : Queued ≡ Spooled = e in cc
 queued-not false e = let wrong : DroppedFull ≡ Spooled = e in cc
 
 empties-by : (buffer : Option BufferSetup) (dest : Dest) (broken fails : Bool) (offer : Offer) → dest.setup.buffer ≡ buffer
-    → Empties buffer dest (verdict_of fails (sink_of broken dest) offer)
+    → EmptiesSink buffer dest (verdict_of fails (sink_of broken dest) offer)
 empties-by None dest broken fails offer e =
     let p : ℕ = length dest.settled + length (lengths_of dest.left) in
     rw e (queued-not (offer.flow || nat_lt (unflowed_of (waiting_from p dest.left)) dest.setup.fifo))
@@ -107,14 +107,14 @@ offering-by buffer dest broken fails origin offer e s =
     let h = empties-by buffer dest broken fails offer e in
     (taken-split buffer v dest origin offer h s, taken-seen buffer v dest broken (broken_then fails (sink_of broken dest) offer) origin offer h)
 
-same-setup : (origin : Origin) (offer : Offer) (v : Verdict) (dest : Dest) → (take_offer origin offer v dest).setup ≡ dest.setup
+pub same-setup : (origin : Origin) (offer : Offer) (v : Verdict) (dest : Dest) → (take_offer origin offer v dest).setup ≡ dest.setup
 same-setup origin offer Queued dest = refl
 same-setup origin offer Spooled dest = refl
 same-setup origin offer Waits dest = refl
 same-setup origin offer DroppedFull dest = refl
 same-setup origin offer DroppedDisk dest = refl
 
-pub offering : (dest : Dest) (broken fails : Bool) (origin : Origin) (offer : Offer) → IsSplit dest → Offering dest broken fails origin offer
+pub offering : (dest : Dest) (broken fails : Bool) (origin : Origin) (offer : Offer) → IsSplit dest → OfferLeaves dest broken fails origin offer
 offering dest broken fails origin offer s =
     let v = verdict_of fails (sink_of broken dest) offer in
     let o = offering-by dest.setup.buffer dest broken fails origin offer refl s in

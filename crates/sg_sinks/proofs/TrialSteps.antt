@@ -22,12 +22,12 @@ takes-by buffer sink offer e b = rw (e, b) (takes-as (length sink.entries == 0) 
 some-more : {A : Type 0} (xs : List A) (x : A) → (length (xs ++ x ∷ []) == 0) ≡ false
 some-more xs x = let l = length_push xs x in grind (arith, l)
 
-abbrev pub Follows : BufferSetup → SinkState → ℕ → ℕ → Offer → Option (List ℕ) → Type 0
-Follows buffer sink inlet number offer block = trial_of buffer (offered false inlet number offer block (verdict_of false sink offer) sink) ≡ tried offer.flow (encoded_len offer.message) (trial_of buffer sink)
+abbrev pub FollowsTrial : BufferSetup → SinkState → ℕ → ℕ → Offer → Option (List ℕ) → Type 0
+FollowsTrial buffer sink inlet number offer block = trial_of buffer (offered false inlet number offer block (verdict_of false sink offer) sink) ≡ tried offer.flow (encoded_len offer.message) (trial_of buffer sink)
 
 after-by : (none fits flow : Bool) (buffer : BufferSetup) (sink : SinkState) (inlet number : ℕ) (offer : Offer) (block : Option (List ℕ))
     → sink.setup.buffer ≡ Some buffer → sink.broken ≡ false → (length sink.entries == 0) ≡ none → has_space buffer.capacity (space sink.lengths) (encoded_len offer.message) ≡ fits → offer.flow ≡ flow
-    → Follows buffer sink inlet number offer block
+    → FollowsTrial buffer sink inlet number offer block
 after-by true true flow buffer sink inlet number offer block e b n f w = rw (e, b, n, f) (rw (n, space_push sink.lengths (encoded_len offer.message)) refl)
 after-by true false true buffer sink inlet number offer block e b n f w = rw (e, b, n, f, w) (rw (some-more sink.entries (record (entry_at inlet number offer sink) { flow = true })) refl)
 after-by true false false buffer sink inlet number offer block e b n f w = rw (e, b, n, f, w) (rw n refl)

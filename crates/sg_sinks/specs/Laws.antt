@@ -38,7 +38,7 @@ Judging dest failing failed offer =
     ≡ Some (failed_by dest.setup.buffer failed (fails && would_spool sink offer))
 
 -- what an offer with that verdict leaves
-pub record Offering (dest : Dest) (broken fails : Bool) (origin : Origin) (offer : Offer) : Type 0 where
+pub record OfferLeaves (dest : Dest) (broken fails : Bool) (origin : Origin) (offer : Offer) : Type 0 where
   pub split : IsSplit (take_offer origin offer (verdict_of fails (sink_of broken dest) offer) dest)
   pub seen : sink_of (broken_then fails (sink_of broken dest) offer)
       (take_offer origin offer (verdict_of fails (sink_of broken dest) offer) dest)

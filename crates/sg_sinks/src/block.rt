@@ -1,6 +1,6 @@
 // The block of an offer's entry.
 ghost use Rattle.std.specs.Prelude.{◌≡◌, ◌<◌, ◌^◌, IfOk, IsSome};
-ghost use Rattle.sg_codec.specs.Spelling.{IsKept};
+ghost use Rattle.sg_codec.specs.Spelling.{IsSpellable};
 ghost use Rattle.sg_sinks.specs.Blocks.{is_short_entry, block_of_offer, kept_of_offer};
 
 use sg_buffer::entry_block;
@@ -29,7 +29,7 @@ pub fn offer_block(
     requires { end < 2 ^ 63 }
     ensures block { IfOk result (λ block. block ≡ block_of_offer buffer inlet end offer.now) }
     ensures kept { IfOk result
-        (λ block. IsSome block → IsKept (kept_of_offer inlet end offer.now)) }
+        (λ block. IsSome block → IsSpellable (kept_of_offer inlet end offer.now)) }
 {
     if buffer.is_none() || !is_short(&offer.message) {
         return Ok(None);

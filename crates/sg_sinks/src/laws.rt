@@ -7,7 +7,7 @@ ghost use Rattle.sg_machine.specs.declared.state.Origin.{Origin};
 ghost use Rattle.sg_machine.specs.declared.state.Dest.{Dest};
 ghost use Rattle.sg_sinks.specs.States.{SinkState};
 ghost use Rattle.sg_sinks.specs.Standing.{IsSplit};
-ghost use Rattle.sg_sinks.specs.Laws.{Judging, Offering, Settling, Moving, Trying};
+ghost use Rattle.sg_sinks.specs.Laws.{Judging, OfferLeaves, Settling, Moving, Trying};
 
 /// The verdict of an offer is the one that the machine judges right.
 pub fn verdicts_hold()
@@ -18,7 +18,7 @@ pub fn verdicts_hold()
 /// What an offer leaves is what is kept of what the machine has then.
 pub fn offers_hold()
     ensures { (dest : Dest) (broken fails : Bool) (origin : Origin) (offer : Offer) → IsSplit dest
-        → Offering dest broken fails origin offer }
+        → OfferLeaves dest broken fails origin offer }
 {}
 
 /// So it is of entries that are settled.

@@ -6,7 +6,7 @@ use Rattle.sg_parse_expr.specs.declared.tree.Call.{Call}
 use Rattle.sg_r3164.specs.declared.opts.ReadOpts.{ReadOpts}
 use Rattle.sg_driver.specs.declared.defaults.Defaults.{Defaults}
 use Rattle.sg_source.specs.declared.inlet.SourceDriver.{SourceDriver}
-use Rattle.sg_source.specs.Inlets.{HasOpts, IsSource}
+use Rattle.sg_source.specs.Inlets.{HasOpts, IsSourceDriver}
 
 same_opts : (a b : ReadOpts) → a.pri ≡ b.pri → a.zone ≡ b.zone → a.keep_hostname ≡ b.keep_hostname → a.keep_timestamp ≡ b.keep_timestamp → a.parse ≡ b.parse → a ≡ b
 same_opts a b pri zone host stamp parse = λ i. record {
@@ -39,7 +39,7 @@ same_source a b place kind limit fetch window opts rfc5424 empty_lines one_line 
   tags = tags i;
 }
 
-pub sources_are_one : (defaults : Defaults) (call : Call) (a b : SourceDriver) → IsSource defaults call a → IsSource defaults call b → a ≡ b
+pub sources_are_one : (defaults : Defaults) (call : Call) (a b : SourceDriver) → IsSourceDriver defaults call a → IsSourceDriver defaults call b → a ≡ b
 sources_are_one defaults call a b p q =
     same_source a b (p.place ∙ sym q.place) (p.kind ∙ sym q.kind) (p.limit ∙ sym q.limit) (p.fetch ∙ sym q.fetch) (p.window ∙ sym q.window)
     (opts_are_one defaults call a.opts b.opts p.opts q.opts) (p.rfc5424 ∙ sym q.rfc5424) (p.empty_lines ∙ sym q.empty_lines) (p.one_line ∙ sym q.one_line) (p.tags ∙ sym q.tags)

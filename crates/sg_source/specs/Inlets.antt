@@ -14,8 +14,8 @@ use Rattle.sg_options.specs.Values.{text_or, number_or, truth_or, zone_or, facil
 use Rattle.sg_options.specs.Stores.{position_name}
 use Rattle.sg_driver.specs.declared.defaults.Defaults.{Defaults}
 use Rattle.sg_source.specs.declared.inlet.SourceDriver.{SourceDriver}
-use Rattle.sg_source.specs.declared.inlet.Place.{Place}
-use Rattle.sg_source.specs.declared.inlet.Place.TheVariants as place
+use Rattle.sg_source.specs.declared.inlet.SourceOrigin.{SourceOrigin}
+use Rattle.sg_source.specs.declared.inlet.SourceOrigin.TheVariants as place
 use Rattle.sg_run_plan.specs.declared.inlet.InletPlan.{InletPlan}
 use Rattle.sg_driver.specs.Limits.{window_size, fetch_limit, message_size, connections, ports}
 use Rattle.sg_driver.specs.Driver.{driver_kind, options_of, name_of}
@@ -39,15 +39,15 @@ address_of call = text_or (last_value (codes "ip" ∷ []) (options_of call)) (co
 abbrev pub port_of : Call → ℕ
 port_of call = number_or (last_value port_words (options_of call)) ports 0
 
-abbrev pub listener_of : Call → Place
+abbrev pub listener_of : Call → SourceOrigin
 listener_of call = place.Listener (address_of call) (port_of call) (slots_of call)
 
-abbrev pub place_by : DriverKind → Call → Place
+abbrev pub place_by : DriverKind → Call → SourceOrigin
 place_by File call = place.File (name_of call)
 place_by Network call = listener_of call
 place_by Syslog call = listener_of call
 
-abbrev pub place_of : Call → Place
+abbrev pub place_of : Call → SourceOrigin
 place_of call = place_by (driver_kind call) call
 
 -- `syslog` counts octets
@@ -117,7 +117,7 @@ pub record HasOpts (defaults : Defaults) (call : Call) (opts : ReadOpts) : Type 
   pub parse : opts.parse ≡ not (is_flagged (codes "no-parse") call)
 
 -- what the options of a driver make, with these defaults
-pub record IsSource (defaults : Defaults) (call : Call) (source : SourceDriver) : Type 0 where
+pub record IsSourceDriver (defaults : Defaults) (call : Call) (source : SourceDriver) : Type 0 where
   pub place : source.place ≡ place_of call
   pub kind : source.kind ≡ frames_by (driver_kind call)
   pub limit : source.limit ≡ number_or (last_value (codes "log-msg-size" ∷ []) (options_of call)) message_size defaults.message_size
@@ -131,7 +131,7 @@ pub record IsSource (defaults : Defaults) (call : Call) (source : SourceDriver) 
 
 -- ---- its inlets
 
-abbrev pub spec_at : Place → ℕ → ℕ → InletSpec
+abbrev pub spec_at : SourceOrigin → ℕ → ℕ → InletSpec
 spec_at (place.File path) limit slot = inlet.File path false limit
 spec_at (place.Listener ip port slots) limit slot = inlet.Slot ip port slot false
 
@@ -140,10 +140,10 @@ abbrev pub plan_of : SourceDriver → ℕ → ℕ → Option (List ℕ) → Inle
 plan_of source slot driver name =
     record { spec = spec_at source.place source.limit slot; source = name; driver = driver; kind = source.kind; limit = source.limit; fetch = source.fetch }
 
-abbrev pub slots_at : Place → ℕ
+abbrev pub slots_at : SourceOrigin → ℕ
 slots_at (place.File path) = 1
 slots_at (place.Listener ip port slots) = slots
 
-abbrev pub store_at : Place → Option (List ℕ)
+abbrev pub store_at : SourceOrigin → Option (List ℕ)
 store_at (place.File path) = Some (position_name path)
 store_at (place.Listener ip port slots) = None

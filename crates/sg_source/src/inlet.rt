@@ -25,7 +25,7 @@ use std::alloc::Global;
 
 /// Where the records of a source's driver come from.
 #[derive(Debug, Drop)]
-pub enum Place {
+pub enum SourceOrigin {
     File { path: Name },
     /// Connections to this address, so many at a time.
     Listener { ip: Name, port: u16, slots: u16 },
@@ -34,7 +34,7 @@ pub enum Place {
 /// A driver of a source.
 #[derive(Drop)]
 pub struct SourceDriver {
-    pub place: Place,
+    pub place: SourceOrigin,
     pub kind: FrameKind,
     /// How many bytes a record may have.
     pub limit: u32,
@@ -81,23 +81,23 @@ fn port_of(call: &Call) -> u16
     number_or(value, PORTS, 0) as u16
 }
 
-fn listener_of(alloc: Global, call: &Call) -> Result<Place, NoMemory>
+fn listener_of(alloc: Global, call: &Call) -> Result<SourceOrigin, NoMemory>
     ensures { IfOk result (λ place. place ≡ spec.listener_of call.now) }
 {
     let args = args_of(call);
     let ip = text_or(last_argument_value(&[b"ip"], args), b"0.0.0.0");
-    Ok(Place::Listener {
+    Ok(SourceOrigin::Listener {
         ip: Name::new(alloc, ip)?,
         port: port_of(call),
         slots: slots_of(call) as u16,
     })
 }
 
-fn place_of(alloc: Global, call: &Call) -> Result<Place, NoMemory>
+fn place_of(alloc: Global, call: &Call) -> Result<SourceOrigin, NoMemory>
     ensures { IfOk result (λ place. place ≡ spec.place_of call.now) }
 {
     match driver_kind(call) {
-        DriverKind::File => Ok(Place::File {
+        DriverKind::File => Ok(SourceOrigin::File {
             path: Name::new(alloc, name_of(call))?,
         }),
         DriverKind::Network => listener_of(alloc, call),
@@ -238,7 +238,7 @@ pub fn read_source(
     defaults: &Defaults,
 ) -> Result<SourceDriver, NoMemory>
     requires { AreDefaults defaults.now }
-    ensures { IfOk result (spec.IsSource defaults.now call.now) }
+    ensures { IfOk result (spec.IsSourceDriver defaults.now call.now) }
 {
     let args = args_of(call);
     Ok(SourceDriver {
@@ -269,8 +269,8 @@ impl SourceDriver {
         ensures { result ≡ spec.slots_at self.now.place }
     {
         match &self.place {
-            Place::File { .. } => 1,
-            Place::Listener { slots, .. } => *slots,
+            SourceOrigin::File { .. } => 1,
+            SourceOrigin::Listener { slots, .. } => *slots,
         }
     }
 
@@ -293,12 +293,12 @@ impl SourceDriver {
         ensures { IfOk result (λ inlet. inlet ≡ spec.spec_at self.now.place self.now.limit slot) }
     {
         match &self.place {
-            Place::File { path } => Ok(InletSpec::File {
+            SourceOrigin::File { path } => Ok(InletSpec::File {
                 path: path.copy()?,
                 once: false,
                 limit: self.limit,
             }),
-            Place::Listener { ip, port, .. } => Ok(InletSpec::Slot {
+            SourceOrigin::Listener { ip, port, .. } => Ok(InletSpec::Slot {
                 ip: ip.copy()?,
                 port: *port,
                 slot,
@@ -312,8 +312,8 @@ impl SourceDriver {
         ensures { IfOk result (λ store. store ≡ spec.store_at self.now.place) }
     {
         match &self.place {
-            Place::File { path } => Ok(Some(position_name(alloc, path.bytes())?)),
-            Place::Listener { .. } => Ok(None),
+            SourceOrigin::File { path } => Ok(Some(position_name(alloc, path.bytes())?)),
+            SourceOrigin::Listener { .. } => Ok(None),
         }
     }
 }

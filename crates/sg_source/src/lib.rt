@@ -5,6 +5,6 @@ mod inlet;
 mod laws;
 mod source;
 
-pub use inlet::{Place, SourceDriver, read_source};
+pub use inlet::{SourceDriver, SourceOrigin, read_source};
 pub use laws::sources_are_one;
 pub use source::{inlet_count, source_fault, store_of_source};

@@ -4,13 +4,13 @@ use Rattle.std.proofs.lemmas.Bool.{cases_lt}
 use Rattle.std.proofs.lemmas.Bool.Decides.{nat_tests}
 use Rattle.sg_device.specs.Disk.{DiskLog, DiskState, content, IsImage, Within, EachNow, bytes_after}
 use Rattle.sg_device.proofs.Disks.{within_as}
-use Rattle.sg_stable.specs.Cell.{HasCell, Puts}
+use Rattle.sg_stable.specs.Cell.{HasCell, PutsValue}
 use Rattle.sg_stable.specs.declared.cell.Pair.{Pair}
-use Rattle.sg_spool.specs.Places.{AreOrdered, IsOrdered, AreCompact, skipped, skip}
+use Rattle.sg_spool.specs.Places.{AreGatesOrdered, IsOrdered, AreCompact, skipped, skip}
 use Rattle.sg_spool.specs.Ring.{Entries, IsLaid}
 use Rattle.sg_spool.specs.View.{IsRing}
 use Rattle.sg_spool.specs.declared.places.Places.{Places}
-use Rattle.sg_spool.specs.Advancing.{HasEntries, IsAdvanced, IsReadyAt}
+use Rattle.sg_spool.specs.Advancing.{HasRingEntries, IsAdvanced, IsReadyAt}
 use Rattle.sg_spool.proofs.CellPuts.{IsPrepared, put_laid, put_new}
 use Rattle.sg_spool.proofs.Advancing.{ready_skip}
 
@@ -22,12 +22,12 @@ log_told (Some log) f c left = (bytes_after log.first log.events, refl)
 pub image_told : (d : DiskState) (c : List ℕ) → IsImage d c → (b : List ℕ) × (content d ≡ Some b)
 image_told d c left = log_told d.told d.faults c left
 
-pub head_high : (jump : Option ℕ) (head end : ℕ) → AreOrdered jump head end → 64 ≤ head
+pub head_high : (jump : Option ℕ) (head end : ℕ) → AreGatesOrdered jump head end → 64 ≤ head
 head_high None head end ordered = ordered.0
 head_high (Some jump) head end ordered = omega (arith, ordered.0, ordered.1)
 
 -- a ring that is within the bound stays within it
-pub compact_skip : (capacity : ℕ) (jump : Option ℕ) (head end size : ℕ) → AreOrdered jump head end → AreCompact capacity jump head end → AreCompact capacity (skipped jump head end size).jump (skipped jump head end size).head (skipped jump head end size).end
+pub compact_skip : (capacity : ℕ) (jump : Option ℕ) (head end size : ℕ) → AreGatesOrdered jump head end → AreCompact capacity jump head end → AreCompact capacity (skipped jump head end size).jump (skipped jump head end size).head (skipped jump head end size).end
 compact_skip capacity None head end size ordered compact = compact
 compact_skip capacity (Some jump) head end size ordered compact = elim (cases_lt size (jump - head)) [
   | inl before ↦
@@ -42,10 +42,10 @@ pub next_value : (q next : Places) → q ≡ next → IsOrdered q → 64 + (q.he
 next_value q next is ordered = let high = head_high q.jump q.head q.end ordered in omega (arith, high) ∙ ap (λ (r : Places). r.head) is
 
 -- a file's length stays, while the cell is put
-pub short_put : (most old value : ℕ) (d0 d1 : DiskState) → EachNow d0 (λ c. length c ≤ most) → Within d0 d1 (Puts (IsImage d0) old value) → Within d0 d1 (λ c. length c ≤ most)
-short_put most old value d0 d1 start put = within_as d0 d1 (Puts (IsImage d0) old value) (λ c. length c ≤ most) put (λ c puts. let long = puts.outside.size in let was = start puts.before puts.was in omega (arith, long, was))
+pub short_put : (most old value : ℕ) (d0 d1 : DiskState) → EachNow d0 (λ c. length c ≤ most) → Within d0 d1 (PutsValue (IsImage d0) old value) → Within d0 d1 (λ c. length c ≤ most)
+short_put most old value d0 d1 start put = within_as d0 d1 (PutsValue (IsImage d0) old value) (λ c. length c ≤ most) put (λ c puts. let long = puts.outside.size in let was = start puts.before puts.was in omega (arith, long, was))
 
-module _ (cell : Pair) (places next : Places) (n size : ℕ) (es : Entries) (ordered : IsOrdered places) (goes : next ≡ skip places size) (d0 d1 : DiskState) (start : EachNow d0 (HasEntries cell places n size es)) (value : ℕ) (is : 64 + value ≡ next.head) (put : Within d0 d1 (Puts (IsImage d0) cell.value value)) where
+module _ (cell : Pair) (places next : Places) (n size : ℕ) (es : Entries) (ordered : IsOrdered places) (goes : next ≡ skip places size) (d0 d1 : DiskState) (start : EachNow d0 (HasRingEntries cell places n size es)) (value : ℕ) (is : 64 + value ≡ next.head) (put : Within d0 d1 (PutsValue (IsImage d0) cell.value value)) where
   prepared : EachNow d0 (IsPrepared cell places.jump places.head places.end es next.jump next.head next.end (drop n es))
   prepared c left =
       let at = start c left in

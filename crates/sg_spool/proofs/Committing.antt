@@ -43,16 +43,16 @@ module _ (cell : Pair) (jump : Option ℕ) (head end : ℕ) (longer : Option ℕ
   abbrev P : List ℕ → Type 0
   P c = Old c ⊎ New c
 
-  abbrev Staged : List ℕ → Type 0
-  Staged c = StagedAt cell jump head end longer first last es (p ∷ ps) c
+  abbrev StagedRing : List ℕ → Type 0
+  StagedRing c = StagedAt cell jump head end longer first last es (p ∷ ps) c
 
-  gate_torn : (d c : List ℕ) → Staged d → Torn end 1 d c → P c
+  gate_torn : (d c : List ℕ) → StagedRing d → Torn end 1 d c → P c
   gate_torn d c at torn = elim (cases_eq (get_or c end 0) 0) [
     | inl shut ↦ inl (ring_spared cell jump head end es d c at.ring (shut_spares cell jump head end es d c at.ring torn shut))
     | inr opened ↦ inr (at.opens c torn opened)
   ]
 
-  gate_written : (d c : List ℕ) → Staged d → Written end (1 ∷ []) d c → New c
+  gate_written : (d c : List ℕ) → StagedRing d → Written end (1 ∷ []) d c → New c
   gate_written d c at put =
       let one : get_or c end 0 ≡ 1 = ap (λ (k : ℕ). get_or c k 0) (omega arith) ∙ sym (part_at end 1 c 0 (omega arith)) ∙ ap (λ (l : List ℕ). get_or l 0 0) put.there in
       at.opens c (torn_of_written end (1 ∷ []) d c put) (λ shut. let no : 1 ≡ 0 = sym one ∙ shut in omega (arith, no))
@@ -62,20 +62,20 @@ module _ (cell : Pair) (jump : Option ℕ) (head end : ℕ) (longer : Option ℕ
     commit1 still = same_on d0 d0 d1 P (started d0 P (λ c left. inl (start c left))) still
 
     module _ (opens : WhereTold (content d0) (OpensTo cell end longer first last es (p ∷ ps))) (keeps1 : Preserves d0 d1) (durable1 : Durable d1) (d2 : DiskState) where
-      staged0 : WhereTold (content d0) Staged
+      staged0 : WhereTold (content d0) StagedRing
       staged0 b told = record { ring = start b (reads_as_image d0 b told); opens = opens b told }
 
-      now1 : EachNow d1 Staged
-      now1 = durable_now d1 Staged durable1 (told_same Staged keeps1.told staged0)
+      now1 : EachNow d1 StagedRing
+      now1 = durable_now d1 StagedRing durable1 (told_same StagedRing keeps1.told staged0)
 
       pub commit2 : Elapses (Torn end 1) d1 d2 → Within d0 d2 P
-      commit2 images2 = goes_on d0 d1 d2 P Staged (commit1 keeps1.still) images2 now1 gate_torn
+      commit2 images2 = goes_on d0 d1 d2 P StagedRing (commit1 keeps1.still) images2 now1 gate_torn
 
       pub commit3 : Elapses (Torn end 1) d1 d2 → (d3 : DiskState) → Elapses Same d2 d3 → Within d0 d3 P
       commit3 images2 d3 still3 = same_on d0 d2 d3 P (commit2 images2) still3
 
       pub committed3 : Changes (Written end (1 ∷ [])) (content d1) (content d2) → (d3 : DiskState) → Preserves d2 d3 → Durable d3 → EachNow d3 New
-      committed3 written2 d3 keeps3 durable3 = durable_now d3 New durable3 (told_same New keeps3.told (told_on Staged New written2 (λ b told. now1 b (reads_as_image d1 b told)) gate_written))
+      committed3 written2 d3 keeps3 durable3 = durable_now d3 New durable3 (told_same New keeps3.told (told_on StagedRing New written2 (λ b told. now1 b (reads_as_image d1 b told)) gate_written))
 
 -- where something is staged
 pub some_staged : (O Q : Entries → Type 0) (count : ℕ) (staged : Entries) → count ≡ length staged → (count ≡ 0 → ⊥) → ((p : List ℕ) (ps : Entries) → O (p ∷ ps) → Q (p ∷ ps)) → O staged → Q staged

@@ -3,14 +3,14 @@ use Rattle.std.proofs.Common.{◌≡◌, inl, inr, ℕ, ◌+◌, ◌-◌, ◌<�
 use Rattle.std.proofs.lemmas.Bool.{cases_lt}
 use Rattle.std.proofs.lemmas.List.{ext_get_or}
 use Rattle.std.specs.Int.{from_be_bytes, w32}
-use Rattle.sg_device.specs.DiskBytes.{part, Torn, Written, IsRead}
+use Rattle.sg_device.specs.DiskBytes.{part, Torn, Written, AreBytesRead}
 use Rattle.sg_device.proofs.Parts.{part_at, length-part, read_here, torn_of_written}
 use Rattle.sg_spool.specs.Copying.{Beyond, Copies}
-use Rattle.sg_spool.specs.Places.{AreOrdered}
+use Rattle.sg_spool.specs.Places.{AreGatesOrdered}
 use Rattle.sg_spool.specs.Rewriting.{past_end}
-use Rattle.sg_spool.specs.Ring.{size_at, Entries, IsEntry, Run, IsLaid}
-use Rattle.sg_spool.specs.Steps.{IsUsed, Spares}
-use Rattle.sg_spool.specs.Advancing.{IsReady}
+use Rattle.sg_spool.specs.Ring.{size_at, Entries, IsEntry, EntryRun, IsLaid}
+use Rattle.sg_spool.specs.Steps.{IsPlaceUsed, Spares}
+use Rattle.sg_spool.specs.Advancing.{IsRingReady}
 use Rattle.sg_spool.proofs.Rings.{run_grows}
 
 pub beyond_refl : (at : ℕ) (c : List ℕ) → Beyond at c c
@@ -28,14 +28,14 @@ beyond_less at more c d le beyond = record { longer = beyond.longer; same = λ k
 pub beyond_torn : (at n : ℕ) (c d : List ℕ) → Torn at n c d → Beyond at c d
 beyond_torn at n c d torn = record { longer = torn.no_shorter; same = λ k lt in_c. torn.before k (omega arith) (omega (arith, lt, in_c)) }
 
-used_before : (jump : Option ℕ) (head end k : ℕ) → AreOrdered jump head end → IsUsed jump head end k → k < past_end jump end
+used_before : (jump : Option ℕ) (head end k : ℕ) → AreGatesOrdered jump head end → IsPlaceUsed jump head end k → k < past_end jump end
 used_before None head end k ordered (inl front) = omega (arith, front, ordered.0, ordered.1)
 used_before None head end k ordered (inr row) = omega (arith, row.1)
 used_before (Some jump) head end k ordered (inl front) = omega (arith, front, ordered.0, ordered.1, ordered.2)
 used_before (Some jump) head end k ordered (inr (inl row)) = omega (arith, row, ordered.1, ordered.2)
 used_before (Some jump) head end k ordered (inr (inr row)) = omega (arith, row.1)
 
-pub beyond_spares : (jump : Option ℕ) (head end : ℕ) (c d : List ℕ) → AreOrdered jump head end → Beyond (past_end jump end) c d → Spares jump head end c d
+pub beyond_spares : (jump : Option ℕ) (head end : ℕ) (c d : List ℕ) → AreGatesOrdered jump head end → Beyond (past_end jump end) c d → Spares jump head end c d
 beyond_spares jump head end c d ordered beyond = record { longer = beyond.longer; same = λ k used lt. beyond.same k (used_before jump head end k ordered used) lt }
 
 pub copies_none : (source at : ℕ) (c : List ℕ) → Copies source at 0 c c
@@ -63,7 +63,7 @@ copies_more source at done count a b c apart one two = record {
 }
 
 -- a piece that was read and written
-pub copies_piece : (source at size count : ℕ) (b c before after : List ℕ) → IsRead source b before after count → length before ≡ size → length after ≡ size → Written at after b c → Copies source at size b c
+pub copies_piece : (source at size count : ℕ) (b c before after : List ℕ) → AreBytesRead source b before after count → length before ≡ size → length after ≡ size → Written at after b c → Copies source at size b c
 copies_piece source at size count b c before after r long_before long put = record {
   beyond = beyond_torn at (length after) b c (torn_of_written at after b c put);
   copied = λ in_b near. (
@@ -99,21 +99,21 @@ entry_moved k by p c d entry inside same =
       next = inside;
     }
 
-pub run_moved : (k by : ℕ) (es : Entries) (e : ℕ) (c d : List ℕ) → Run c k es e → e + by < length d → ((j : ℕ) → k ≤ j → j < e → get_or d (j + by) 0 ≡ get_or c j 0) → Run d (k + by) es (e + by)
+pub run_moved : (k by : ℕ) (es : Entries) (e : ℕ) (c d : List ℕ) → EntryRun c k es e → e + by < length d → ((j : ℕ) → k ≤ j → j < e → get_or d (j + by) 0 ≡ get_or c j 0) → EntryRun d (k + by) es (e + by)
 run_moved k by [] e c d run inside same = ap (λ (i : ℕ). i + by) run
 run_moved k by (p ∷ ps) e c d run inside same =
     let up = run_grows c (k + 5 + length p) ps e run.1 in
     let at : k + 5 + length p + by ≡ k + by + 5 + length p = omega arith in (
       entry_moved k by p c d run.0 (omega (arith, up, inside)) (λ j low high. same j low (omega (arith, high, up))),
-      subst (λ (i : ℕ). Run d i ps (e + by)) at (run_moved (k + 5 + length p) by ps e c d run.1 inside (λ j low high. same j (omega (arith, low)) high)),
+      subst (λ (i : ℕ). EntryRun d i ps (e + by)) at (run_moved (k + 5 + length p) by ps e c d run.1 inside (λ j low high. same j (omega (arith, low)) high)),
     )
 
-pub run_append : (k m e : ℕ) (es fs : Entries) (c : List ℕ) → Run c k es m → Run c m fs e → Run c k (es ++ fs) e
-run_append k m e [] fs c one two = subst (λ (i : ℕ). Run c i fs e) (sym one) two
+pub run_append : (k m e : ℕ) (es fs : Entries) (c : List ℕ) → EntryRun c k es m → EntryRun c m fs e → EntryRun c k (es ++ fs) e
+run_append k m e [] fs c one two = subst (λ (i : ℕ). EntryRun c i fs e) (sym one) two
 run_append k m e (p ∷ ps) fs c one two = (one.0, run_append (k + 5 + length p) m e ps fs c one.1 two)
 
 -- the two parts of a ring, copied behind its jump
-module _ (jump head end : ℕ) (es : Entries) (a b c : List ℕ) (ordered : AreOrdered (Some jump) head end) (laid : IsLaid (Some jump) head end es a)
+module _ (jump head end : ℕ) (es : Entries) (a b c : List ℕ) (ordered : AreGatesOrdered (Some jump) head end) (laid : IsLaid (Some jump) head end es a)
     (one : Copies head (jump + 5) (jump - head) a b) (two : Copies 64 (jump + 5 + (jump - head)) (end - 63) b c) where
   abbrev first : ℕ
   first = jump + 5
@@ -164,19 +164,19 @@ module _ (jump head end : ℕ) (es : Entries) (a b c : List ℕ) (ordered : AreO
   in_file : last < length c
   in_file = omega (arith, second_copied.0, low)
 
-  pub gathered : IsReady None (jump + 5) (jump + 5 + (jump - head) + (end - 64)) es c
+  pub gathered : IsRingReady None (jump + 5) (jump + 5 + (jump - head) + (end - 64)) es c
   gathered =
       let row = laid.row in
       let run_one = run_moved head (first - head) row.first jump a c row.to_jump (omega (arith, up, in_file)) in_first in
       let run_two = run_moved 64 (middle - 64) row.second end a c row.from_front (omega (arith, up, low, in_file)) (λ j from to. in_second j from (omega (arith, to))) in
-      let one_at : Run c first row.first middle = subst (λ (i : ℕ). Run c i row.first middle) (omega (arith, up)) (subst (λ (i : ℕ). Run c (head + (first - head)) row.first i) (omega (arith, up)) run_one) in
-      let two_at : Run c middle row.second last = subst (λ (i : ℕ). Run c i row.second last) (omega (arith, up)) (subst (λ (i : ℕ). Run c (64 + (middle - 64)) row.second i) (omega (arith, up, low)) run_two) in
+      let one_at : EntryRun c first row.first middle = subst (λ (i : ℕ). EntryRun c i row.first middle) (omega (arith, up)) (subst (λ (i : ℕ). EntryRun c (head + (first - head)) row.first i) (omega (arith, up)) run_one) in
+      let two_at : EntryRun c middle row.second last = subst (λ (i : ℕ). EntryRun c i row.second last) (omega (arith, up)) (subst (λ (i : ℕ). EntryRun c (64 + (middle - 64)) row.second i) (omega (arith, up, low)) run_two) in
       record {
         size = omega (arith, laid.buffer.size, longer, two.beyond.longer);
         high = omega (arith, low, below, up);
         low = omega (arith, low, below, up);
         inside = omega (arith, in_file);
-        row = subst (λ (l : Entries). Run c first l last) (sym row.both) (run_append first middle last row.first row.second c one_at two_at);
+        row = subst (λ (l : Entries). EntryRun c first l last) (sym row.both) (run_append first middle last row.first row.second c one_at two_at);
         ends = record { inside = in_file; shut = ap (λ (i : ℕ). get_or c i 0) (omega (arith, low, up)) ∙ in_second end low (omega arith) ∙ laid.ends.shut };
         below = tt;
       }

@@ -2,13 +2,13 @@
 use Rattle.std.proofs.Common.{◌≡◌, ◌≢◌, ◌⊎◌, inl, inr, ℕ, ◌+◌, ◌<◌, ◌≤◌, List, [], ◌∷◌, length, get_or, refl, sym, ◌∙◌, ap, subst, arith, Some, None, Option}
 use Rattle.std.proofs.lemmas.Bool.{cases_lt}
 use Rattle.sg_stable.specs.Cell.{cell_value, IsFirstNonzero}
-use Rattle.sg_spool.specs.Opening.{IsReached, IsBadGate, IsDamagedBehind, IsDamagedAt}
-use Rattle.sg_spool.specs.Ring.{Entries, IsEntry, Run, IsEnd, IsJump, IsRow, IsLaid, IsList}
+use Rattle.sg_spool.specs.Opening.{IsReached, IsBadGate, IsDamagedBehind, IsRingDamagedAt}
+use Rattle.sg_spool.specs.Ring.{Entries, IsEntry, EntryRun, IsEnd, IsJump, IsRow, IsLaid, IsList}
 use Rattle.sg_spool.proofs.Rings.{run_grows}
 use Rattle.sg_spool.proofs.Unique.{run_unique, at_end, at_jump}
 
 -- a run that ends at a closed gate passes no gate at which no entry ends in time
-passes : (c : List ℕ) (k end at : ℕ) (ps qs : Entries) → Run c k ps end → Run c k qs at → IsEnd c end → get_or c at 0 ≢ 0 → ((p : List ℕ) → IsEntry c at p → at + 5 + length p ≤ end → ⊥) → ⊥
+passes : (c : List ℕ) (k end at : ℕ) (ps qs : Entries) → EntryRun c k ps end → EntryRun c k qs at → IsEnd c end → get_or c at 0 ≢ 0 → ((p : List ℕ) → IsEntry c at p → at + 5 + length p ≤ end → ⊥) → ⊥
 passes c k end at [] [] one two ends opened none = opened (ap (λ (j : ℕ). get_or c j 0) (sym two ∙ one) ∙ ends.shut)
 passes c k end at [] (q ∷ qs) one two ends opened none = two.0.opened (ap (λ (j : ℕ). get_or c j 0) one ∙ ends.shut)
 passes c k end at (p ∷ ps) [] one two ends opened none =
@@ -16,7 +16,7 @@ passes c k end at (p ∷ ps) [] one two ends opened none =
     none p (subst (λ (j : ℕ). IsEntry c j p) two one.0) (subst (λ (j : ℕ). j + 5 + length p ≤ end) two up)
 passes c k end at (p ∷ ps) (q ∷ qs) one two ends opened none =
     let long : length q ≡ length p = sym two.0.size ∙ one.0.size in
-    passes c (k + 5 + length p) end at ps qs one.1 (subst (λ (n : ℕ). Run c (k + 5 + n) qs at) long two.1) ends opened none
+    passes c (k + 5 + length p) end at ps qs one.1 (subst (λ (n : ℕ). EntryRun c (k + 5 + n) qs at) long two.1) ends opened none
 
 no_bad_gate : (jump other : Option ℕ) (head end at : ℕ) (es fs : Entries) (c : List ℕ) → IsLaid jump head end es c → IsRow other c head at fs → IsBadGate other head at c → ⊥
 no_bad_gate None None head end at es fs c laid row bad = passes c head end at es fs laid.row row laid.ends bad.opened (λ p entry in_time. bad.no_entry p entry tt)
@@ -30,7 +30,7 @@ no_bad_gate (Some j) (Some i) head end at es fs c laid row bad =
     let below : end < head = laid.below in
     passes c 64 end at laid.row.second row.second laid.row.from_front row.from_front laid.ends bad.opened (λ p entry in_time. bad.no_entry p entry (omega (arith, in_time, below)))
 
-pub no_damage : (es : Entries) (at : ℕ) (c : List ℕ) → IsList es c → IsDamagedAt at c → ⊥
+pub no_damage : (es : Entries) (at : ℕ) (c : List ℕ) → IsList es c → IsRingDamagedAt at c → ⊥
 no_damage es at c is (inl front) = front.nonzero (is.laid.buffer.zeros at front.inside front.outside)
 no_damage es at c is (inr (zeros, inl short)) = let size = is.laid.buffer.size in omega (arith, short.0, size)
 no_damage es at c is (inr (zeros, inr (size, inl out))) =
@@ -41,7 +41,7 @@ no_damage es at c is (inr (zeros, inr (size, inr walk))) =
     no_bad_gate is.jump walk.1.jump is.head is.end at es walk.1.entries c is.laid (subst (λ (h : ℕ). IsRow walk.1.jump c h at walk.1.entries) is.laid.buffer.at_head walk.1.row) (subst (λ (h : ℕ). IsBadGate walk.1.jump h at c) is.laid.buffer.at_head walk.1.bad)
 
 -- two runs from one gate to gates at which no entry ends in time
-meets : (c : List ℕ) (k one two : ℕ) (ps qs : Entries) → Run c k ps one → Run c k qs two
+meets : (c : List ℕ) (k one two : ℕ) (ps qs : Entries) → EntryRun c k ps one → EntryRun c k qs two
     → ((p : List ℕ) → IsEntry c one p → one + 5 + length p ≤ two → ⊥) → ((p : List ℕ) → IsEntry c two p → two + 5 + length p ≤ one → ⊥) → one ≡ two
 meets c k one two [] [] a b no_one no_two = sym a ∙ b
 meets c k one two [] (q ∷ qs) a b no_one no_two =
@@ -52,7 +52,7 @@ meets c k one two (p ∷ ps) [] a b no_one no_two =
     absurd (no_two p (subst (λ (j : ℕ). IsEntry c j p) b a.0) (subst (λ (j : ℕ). j + 5 + length p ≤ one) b up))
 meets c k one two (p ∷ ps) (q ∷ qs) a b no_one no_two =
     let long : length q ≡ length p = sym b.0.size ∙ a.0.size in
-    meets c (k + 5 + length p) one two ps qs a.1 (subst (λ (n : ℕ). Run c (k + 5 + n) qs two) long b.1) no_one no_two
+    meets c (k + 5 + length p) one two ps qs a.1 (subst (λ (n : ℕ). EntryRun c (k + 5 + n) qs two) long b.1) no_one no_two
 
 -- behind a jump an entry that ends at or before a gate that is reached, ends below the head
 in_time : (head gate end : ℕ) (c : List ℕ) (k : ℕ) → 64 ≤ k → (gate < head) ⊎ (gate ≡ 64) → end ≤ gate → k + 5 ≤ end → end < head
@@ -93,7 +93,7 @@ behind_one at bt c (inr (size, inr walk)) (inr (large, inl out)) = absurd (omega
 behind_one at bt c (inr (size, inr walk)) (inr (large, inr other)) =
     one_gate walk.1.jump other.1.jump (64 + cell_value c) at bt walk.1.entries other.1.entries c walk.1.row other.1.row walk.1.reached other.1.reached walk.1.bad other.1.bad
 
-pub one_damage : (at bt : ℕ) (c : List ℕ) → IsDamagedAt at c → IsDamagedAt bt c → at ≡ bt
+pub one_damage : (at bt : ℕ) (c : List ℕ) → IsRingDamagedAt at c → IsRingDamagedAt bt c → at ≡ bt
 one_damage at bt c (inl one) (inl two) = first_one at bt c one two
 one_damage at bt c (inl one) (inr two) = absurd (one.nonzero (two.0 at one.inside one.outside))
 one_damage at bt c (inr one) (inl two) = absurd (two.nonzero (one.0 bt two.inside two.outside))

@@ -4,13 +4,13 @@ use Rattle.sg_device.proofs.Parts.{zeros_at}
 use Rattle.sg_stable.specs.Cell.{word, cell_value}
 use Rattle.sg_spool.specs.Places.{AreCompact}
 use Rattle.sg_spool.specs.View.{IsCompactIn}
-use Rattle.sg_spool.specs.Ring.{Entries, Run, IsLaid}
+use Rattle.sg_spool.specs.Ring.{Entries, EntryRun, IsLaid}
 
 fresh_value : cell_value (replicate 128 0) ≡ 0
 unfolding word
 fresh_value = refl
 
-fresh_run : (k : ℕ) (es : Entries) (e : ℕ) → Run (replicate 128 0) k es e → k ≡ e
+fresh_run : (k : ℕ) (es : Entries) (e : ℕ) → EntryRun (replicate 128 0) k es e → k ≡ e
 fresh_run k [] e run = run
 fresh_run k (p ∷ ps) e run = absurd (run.0.opened (zeros_at 128 k))
 

@@ -18,14 +18,14 @@ take_less (suc k) [] = omega arith
 take_less (suc k) (e ∷ es) = omega (arith, take_less k es)
 
 -- The gate behind so many entries, and what these take.
-pub record IsBehind (b : List ℕ) (jump : Option ℕ) (end k gate size : ℕ) (known : Option ℕ) (es : Entries) : Type 0 where
+pub record IsBehindGate (b : List ℕ) (jump : Option ℕ) (end k gate size : ℕ) (known : Option ℕ) (es : Entries) : Type 0 where
   pub remains : Remains b jump gate (drop k es) end
   pub sized : size ≡ space (take k es)
   pub first : IsFirstSize known (drop k es)
 
-pub behind_more : (b : List ℕ) (jump : Option ℕ) (end k gate size len next past most : ℕ) (known : Option ℕ) (es : Entries) → k < length es → space es ≤ most → IsBehind b jump end k gate size known es
+pub behind_more : (b : List ℕ) (jump : Option ℕ) (end k gate size len next past most : ℕ) (known : Option ℕ) (es : Entries) → k < length es → space es ≤ most → IsBehindGate b jump end k gate size known es
     → ((p : List ℕ) → (known ≡ None) ⊎ (known ≡ Some (length p)) → IsEntry b gate p → len ≡ length p)
-    → (gate + 5 + len < length b → next ≡ gate_past jump (gate + 5 + len)) → (size + 5 + len ≤ most → past ≡ size + 5 + len) → IsBehind b jump end (suc k) next past None es
+    → (gate + 5 + len < length b → next ≡ gate_past jump (gate + 5 + len)) → (size + 5 + len ≤ most → past ≡ size + 5 + len) → IsBehindGate b jump end (suc k) next past None es
 behind_more b jump end k gate size len next past most known es lt all at reads goes adds =
     let split = drop_split k es lt in
     let p = split.0 in

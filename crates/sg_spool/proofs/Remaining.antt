@@ -2,10 +2,10 @@
 use Rattle.std.proofs.Common.{◌≡◌, ℕ, ◌+◌, ◌<◌, List, [], ◌∷◌, ◌++◌, length, get_or, refl, sym, ◌∙◌, ap, subst, arith, Some, None, Option}
 use Rattle.std.proofs.lemmas.Bool.Decides.{nat_tests}
 use Rattle.sg_spool.specs.Places.{gate_past, Remains}
-use Rattle.sg_spool.specs.Ring.{Entries, Run, IsEntry, IsEnd, IsLaid}
+use Rattle.sg_spool.specs.Ring.{Entries, EntryRun, IsEntry, IsEnd, IsLaid}
 use Rattle.sg_spool.proofs.Rings.{run_grows}
 
-past_none : (c : List ℕ) (k : ℕ) (es : Entries) (e : ℕ) → Run c k es e → Remains c None k es e
+past_none : (c : List ℕ) (k : ℕ) (es : Entries) (e : ℕ) → EntryRun c k es e → Remains c None k es e
 past_none c k [] e run = run
 past_none c k (p ∷ ps) e run = (run.0, past_none c (k + 5 + length p) ps e run.1)
 
@@ -16,14 +16,14 @@ pub past_jump : (j k : ℕ) → k ≡ j → gate_past (Some j) k ≡ 64
 past_jump j k is = grind (arith, nat_tests)
 
 -- behind the jump
-past_second : (c : List ℕ) (j k : ℕ) (es : Entries) (e : ℕ) → e < j → Run c k es e → Remains c (Some j) k es e
+past_second : (c : List ℕ) (j k : ℕ) (es : Entries) (e : ℕ) → e < j → EntryRun c k es e → Remains c (Some j) k es e
 past_second c j k [] e below run = run
 past_second c j k (p ∷ ps) e below run =
     let up = run_grows c (k + 5 + length p) ps e run.1 in
     (run.0, subst (λ (i : ℕ). Remains c (Some j) i ps e) (sym (past_other j (k + 5 + length p) (omega (arith, up, below)))) (past_second c j (k + 5 + length p) ps e below run.1))
 
 -- before it
-past_first : (c : List ℕ) (j k : ℕ) (es fs : Entries) (e : ℕ) → Run c k es j → Remains c (Some j) 64 fs e → Remains c (Some j) (gate_past (Some j) k) (es ++ fs) e
+past_first : (c : List ℕ) (j k : ℕ) (es fs : Entries) (e : ℕ) → EntryRun c k es j → Remains c (Some j) 64 fs e → Remains c (Some j) (gate_past (Some j) k) (es ++ fs) e
 past_first c j k [] fs e run rest = subst (λ (i : ℕ). Remains c (Some j) i fs e) (sym (past_jump j k run)) rest
 past_first c j k (p ∷ ps) fs e run rest =
     let up = run_grows c (k + 5 + length p) ps j run.1 in

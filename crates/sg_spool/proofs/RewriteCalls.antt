@@ -5,7 +5,7 @@ use Rattle.sg_device.specs.DiskBytes.{Written, Same}
 use Rattle.sg_device.specs.Disk.{DiskState, content, IsImage, Changes, Elapses, Preserves, Durable, Within, EachNow, WhereTold}
 use Rattle.sg_device.proofs.Disks.{durable_now, told_same, same_on}
 use Rattle.sg_device.proofs.DiskCalls.{reads_as_image}
-use Rattle.sg_stable.specs.Cell.{HasCell, Puts}
+use Rattle.sg_stable.specs.Cell.{HasCell, PutsValue}
 use Rattle.sg_stable.specs.declared.cell.Pair.{Pair}
 use Rattle.sg_device.specs.Faults.{Rose}
 use Rattle.sg_spool.specs.Answers.{HasReadCause, WhereNoMemory}
@@ -14,7 +14,7 @@ use Rattle.sg_spool.specs.declared.answers.RewriteRefusal.TheVariants.{DiskFault
 use Rattle.sg_spool.specs.Copying.{Beyond}
 use Rattle.sg_spool.specs.Lists.{Perhaps, Recodes}
 use Rattle.sg_spool.specs.Places.{IsOrdered, gate_past}
-use Rattle.sg_spool.specs.Rewriting.{past, written_of, Adds, Spells}
+use Rattle.sg_spool.specs.Rewriting.{past, written_of, AddsSpelled, SpellsRing}
 use Rattle.sg_spool.specs.Ring.{Entries, IsPayload, IsEntry}
 use Rattle.sg_spool.specs.Steps.{RingAt, Stems, After, Spares}
 use Rattle.sg_spool.specs.View.{IsRing}
@@ -45,7 +45,7 @@ module _ (cell : Pair) (places : Places) (es : Entries) (meaning : List ℕ → 
     pub rewriting_on : Elapses Same d1 d2 → Within d0 d2 P
     rewriting_on still = same_on d0 d1 d2 P rewriting still
 
-    module _ (keeps : Preserves d1 d2) (end : ℕ) (long : EachNow d0 (λ c. count ≡ length es)) (after : past places ≤ end) (spelled : Changes (Spells meaning places count end) (content d0) (content d1)) (durable : Durable d2) (value : ℕ) (is : 64 + value ≡ past places) (d3 : DiskState) (put : Within d2 d3 (Puts (IsImage d2) cell.value value)) where
+    module _ (keeps : Preserves d1 d2) (end : ℕ) (long : EachNow d0 (λ c. count ≡ length es)) (after : past places ≤ end) (spelled : Changes (SpellsRing meaning places count end) (content d0) (content d1)) (durable : Durable d2) (value : ℕ) (is : 64 + value ≡ past places) (d3 : DiskState) (put : Within d2 d3 (PutsValue (IsImage d2) cell.value value)) where
       abbrev Prepared : List ℕ → Type 0
       Prepared c = IsPrepared cell places.jump places.head places.end es None (past places) end (map meaning es) c
 
@@ -72,7 +72,7 @@ module _ (cell : Pair) (places : Places) (es : Entries) (meaning : List ℕ → 
       pub new_ring : (next : Pair) → next.value ≡ value → EachNow d3 (HasCell next.selector next.value) → EachNow d3 (Stems (IsImage d0) (RingAt next None (past places) end (map meaning es)))
       new_ring next same has = put_ring cell places.jump places.head places.end es None (past places) end (map meaning es) (Recodes meaning) refl value is d0 d2 d3 now2 put next same has
 
-pub added_changes : (last : Bool) (at : ℕ) (p : List ℕ) (old new : Option (List ℕ)) → IsPayload p → Changes (Written at (written_of last p)) old new → Changes (Adds at p last) old new
+pub added_changes : (last : Bool) (at : ℕ) (p : List ℕ) (old new : Option (List ℕ)) → IsPayload p → Changes (Written at (written_of last p)) old new → Changes (AddsSpelled at p last) old new
 added_changes last at p old new fits change = record {
   back = λ c told. let from = change.back c told in (from.0, from.1, adds_by last at p from.0 c fits from.2);
   tells = change.tells;
@@ -86,7 +86,7 @@ spelling_start meaning places count gate at old some gate_is at_is = record {
 
 pub spelling_on : (meaning : List ℕ → List ℕ) (places : Places) (count left gate at : ℕ) (payload : List ℕ) (next : ℕ) (last : Bool)
     → IsPayload payload → 1 ≤ left → past places ≤ at → (left ≡ 1 → last ≡ true) → (gate + 5 + length payload < 2 ^ 63 → next ≡ gate_past places.jump (gate + 5 + length payload))
-    → (d0 d1 d2 d3 : Option (List ℕ)) → Changes (Spelling meaning places count left gate at) d0 d1 → d2 ≡ d1 → WhereTold d1 (λ b. length b < 2 ^ 63) → WhereTold d1 (λ b. (p : List ℕ) → IsEntry b gate p → payload ≡ p) → Changes (Adds at (meaning payload) last) d2 d3
+    → (d0 d1 d2 d3 : Option (List ℕ)) → Changes (Spelling meaning places count left gate at) d0 d1 → d2 ≡ d1 → WhereTold d1 (λ b. length b < 2 ^ 63) → WhereTold d1 (λ b. (p : List ℕ) → IsEntry b gate p → payload ≡ p) → Changes (AddsSpelled at (meaning payload) last) d2 d3
     → Changes (Spelling meaning places count (left - 1) next (at + 5 + length (meaning payload))) d0 d3
 spelling_on meaning places count left gate at payload next last fits some high last_is next_is d0 d1 d2 d3 so same short read added = record {
   back = λ c told.
@@ -97,7 +97,7 @@ spelling_on meaning places count left gate at payload next last fits some high l
   tells = added.tells ∙ ap is_some same ∙ so.tells;
 }
 
-pub spelling_end : (meaning : List ℕ → List ℕ) (places : Places) (count left gate at : ℕ) (d0 d1 : Option (List ℕ)) → left ≡ 0 → Changes (Spelling meaning places count left gate at) d0 d1 → Changes (Spells meaning places count at) d0 d1
+pub spelling_end : (meaning : List ℕ → List ℕ) (places : Places) (count left gate at : ℕ) (d0 d1 : Option (List ℕ)) → left ≡ 0 → Changes (Spelling meaning places count left gate at) d0 d1 → Changes (SpellsRing meaning places count at) d0 d1
 spelling_end meaning places count left gate at d0 d1 none so = record {
   back = λ c told. let a = so.back c told in (a.0, a.1, spelled_all meaning places count left gate at a.0 c none a.2);
   tells = so.tells;

@@ -5,12 +5,12 @@ use Rattle.std.specs.Int.{to_be_bytes, w32}
 use Rattle.sg_device.specs.DiskBytes.{part, Written}
 use Rattle.sg_device.proofs.Parts.{part_at, part_same, part_front, part_back, torn_of_written}
 use Rattle.sg_spool.specs.Copying.{Beyond}
-use Rattle.sg_spool.specs.Places.{AreOrdered, IsOrdered, gate_past}
-use Rattle.sg_spool.specs.Rewriting.{past_end, past, written_of, HasPayload, Stand, IsShutAt, Adds, Spells}
-use Rattle.sg_spool.specs.Ring.{Entries, IsPayload, IsEntry, Run, IsEnd, IsLaid, block_of}
+use Rattle.sg_spool.specs.Places.{AreGatesOrdered, IsOrdered, gate_past}
+use Rattle.sg_spool.specs.Rewriting.{past_end, past, written_of, HasPayload, Stand, IsShutAt, AddsSpelled, SpellsRing}
+use Rattle.sg_spool.specs.Ring.{Entries, IsPayload, IsEntry, EntryRun, IsEnd, IsLaid, block_of}
 use Rattle.sg_spool.specs.declared.places.Places.{Places}
 use Rattle.sg_spool.proofs.Behind.{length-block}
-use Rattle.sg_spool.specs.Advancing.{IsReady}
+use Rattle.sg_spool.specs.Advancing.{IsRingReady}
 use Rattle.sg_spool.proofs.Copying.{beyond_refl, beyond_trans, beyond_less, beyond_torn}
 use Rattle.sg_spool.proofs.Remaining.{past_other, past_jump}
 use Rattle.sg_spool.proofs.Rings.{run_grows, size_same, size_of}
@@ -64,7 +64,7 @@ added_there true at p b c fits near put =
       },
     )
 
-pub adds_by : (last : Bool) (at : ℕ) (p b c : List ℕ) → IsPayload p → Written at (written_of last p) b c → Adds at p last b c
+pub adds_by : (last : Bool) (at : ℕ) (p b c : List ℕ) → IsPayload p → Written at (written_of last p) b c → AddsSpelled at p last b c
 adds_by last at p b c fits put = record {
   beyond = beyond_torn at (length (written_of last p)) b c (torn_of_written at (written_of last p) b c put);
   added = λ near. added_there last at p b c fits near put;
@@ -95,7 +95,7 @@ stand_push : (k : ℕ) (es : Entries) (e : ℕ) (p c : List ℕ) → Stand c k e
 stand_push k [] e p c stand has = let same : k ≡ e = stand in (subst (λ (j : ℕ). HasPayload c j p) (sym same) has, ap (λ (j : ℕ). j + 5 + length p) same)
 stand_push k (q ∷ qs) e p c stand has = (stand.0, stand_push (k + 5 + length q) qs e p c stand.1 has)
 
-run_of : (k : ℕ) (es : Entries) (e : ℕ) (c : List ℕ) → Stand c k es e → e < length c → Run c k es e
+run_of : (k : ℕ) (es : Entries) (e : ℕ) (c : List ℕ) → Stand c k es e → e < length c → EntryRun c k es e
 run_of k [] e c stand inside = stand
 run_of k (p ∷ ps) e c stand inside =
     let up = stand_grows c (k + 5 + length p) ps e stand.1 in
@@ -103,25 +103,25 @@ run_of k (p ∷ ps) e c stand inside =
     (record { opened = has.opened; size = has.size; fits = has.fits; there = has.there; next = omega (arith, up, inside) }, run_of (k + 5 + length p) ps e c stand.1 inside)
 
 -- from this gate on these entries are left, and all of them end before the limit
-abbrev pub Left : List ℕ → Option ℕ → ℕ → ℕ → Entries → ℕ → Type 0
-Left c jump limit gate [] end = gate ≡ end
-Left c jump limit gate (p ∷ ps) end = IsEntry c gate p × (gate + 5 + length p ≤ limit) × Left c jump limit (gate_past jump (gate + 5 + length p)) ps end
+abbrev pub LeftBehind : List ℕ → Option ℕ → ℕ → ℕ → Entries → ℕ → Type 0
+LeftBehind c jump limit gate [] end = gate ≡ end
+LeftBehind c jump limit gate (p ∷ ps) end = IsEntry c gate p × (gate + 5 + length p ≤ limit) × LeftBehind c jump limit (gate_past jump (gate + 5 + length p)) ps end
 
-left_none : (c : List ℕ) (k : ℕ) (es : Entries) (e : ℕ) → Run c k es e → Left c None e k es e
+left_none : (c : List ℕ) (k : ℕ) (es : Entries) (e : ℕ) → EntryRun c k es e → LeftBehind c None e k es e
 left_none c k [] e run = run
 left_none c k (p ∷ ps) e run = (run.0, run_grows c (k + 5 + length p) ps e run.1, left_none c (k + 5 + length p) ps e run.1)
 
-left_second : (c : List ℕ) (j k : ℕ) (es : Entries) (e : ℕ) → e < j → Run c k es e → Left c (Some j) j k es e
+left_second : (c : List ℕ) (j k : ℕ) (es : Entries) (e : ℕ) → e < j → EntryRun c k es e → LeftBehind c (Some j) j k es e
 left_second c j k [] e below run = run
 left_second c j k (p ∷ ps) e below run =
     let up = run_grows c (k + 5 + length p) ps e run.1 in
-    (run.0, omega (arith, up, below), subst (λ (i : ℕ). Left c (Some j) j i ps e) (sym (past_other j (k + 5 + length p) (omega (arith, up, below)))) (left_second c j (k + 5 + length p) ps e below run.1))
+    (run.0, omega (arith, up, below), subst (λ (i : ℕ). LeftBehind c (Some j) j i ps e) (sym (past_other j (k + 5 + length p) (omega (arith, up, below)))) (left_second c j (k + 5 + length p) ps e below run.1))
 
-left_first : (c : List ℕ) (j k : ℕ) (es fs : Entries) (e : ℕ) → Run c k es j → Left c (Some j) j 64 fs e → Left c (Some j) j (gate_past (Some j) k) (es ++ fs) e
-left_first c j k [] fs e run rest = subst (λ (i : ℕ). Left c (Some j) j i fs e) (sym (past_jump j k run)) rest
+left_first : (c : List ℕ) (j k : ℕ) (es fs : Entries) (e : ℕ) → EntryRun c k es j → LeftBehind c (Some j) j 64 fs e → LeftBehind c (Some j) j (gate_past (Some j) k) (es ++ fs) e
+left_first c j k [] fs e run rest = subst (λ (i : ℕ). LeftBehind c (Some j) j i fs e) (sym (past_jump j k run)) rest
 left_first c j k (p ∷ ps) fs e run rest =
     let up = run_grows c (k + 5 + length p) ps j run.1 in
-    subst (λ (i : ℕ). Left c (Some j) j i ((p ∷ ps) ++ fs) e) (sym (past_other j k (omega (arith, up)))) (run.0, up, left_first c j (k + 5 + length p) ps fs e run.1 rest)
+    subst (λ (i : ℕ). LeftBehind c (Some j) j i ((p ∷ ps) ++ fs) e) (sym (past_other j k (omega (arith, up)))) (run.0, up, left_first c j (k + 5 + length p) ps fs e run.1 rest)
 
 -- the last place that entries may reach
 abbrev pub reach : Option ℕ → ℕ → ℕ
@@ -132,13 +132,13 @@ pub reach_past : (jump : Option ℕ) (end : ℕ) → reach jump end < past_end j
 reach_past None end = omega arith
 reach_past (Some jump) end = omega arith
 
-left_of : (jump : Option ℕ) (head end : ℕ) (es : Entries) (c : List ℕ) → IsLaid jump head end es c → Left c jump (reach jump end) (gate_past jump head) es end
+left_of : (jump : Option ℕ) (head end : ℕ) (es : Entries) (c : List ℕ) → IsLaid jump head end es c → LeftBehind c jump (reach jump end) (gate_past jump head) es end
 left_of None head end es c laid = left_none c head es end laid.row
 left_of (Some j) head end es c laid =
     let row = laid.row in
     let up = run_grows c head row.first j row.to_jump in
     let below = laid.below in
-    subst (λ (l : Entries). Left c (Some j) j (gate_past (Some j) head) l end) (sym row.both) (left_first c j head row.first row.second end row.to_jump (left_second c j 64 row.second end (omega (arith, below, up)) row.from_front))
+    subst (λ (l : Entries). LeftBehind c (Some j) j (gate_past (Some j) head) l end) (sym row.both) (left_first c j head row.first row.second end row.to_jump (left_second c j 64 row.second end (omega (arith, below, up)) row.from_front))
 
 pub past_inside : (jump : Option ℕ) (head end : ℕ) (es : Entries) (c : List ℕ) → IsLaid jump head end es c → past_end jump end ≤ length c
 past_inside None head end es c laid = omega (arith, laid.ends.inside)
@@ -150,7 +150,7 @@ pub record SoFar (meaning : List ℕ → List ℕ) (places : Places) (left gate 
   pub rest : Entries
   pub both : es ≡ done ++ rest
   pub number : left ≡ length rest
-  pub remains : Left a places.jump (reach places.jump places.end) gate rest places.end
+  pub remains : LeftBehind a places.jump (reach places.jump places.end) gate rest places.end
   pub stand : Stand c (past places) (map meaning done) at
   pub inside : at ≤ length c
   pub shut : left ≡ 0 → IsEnd c at
@@ -187,14 +187,14 @@ entry_beyond gate p a b most entry le beyond =
 module _ (meaning : List ℕ → List ℕ) (places : Places) (count left gate at : ℕ) (payload : List ℕ) (next : ℕ) (last : Bool)
     (fits : IsPayload payload) (some : 1 ≤ left) (high : past places ≤ at)
     (last_is : left ≡ 1 → last ≡ true) (next_is : gate + 5 + length payload < 2 ^ 63 → next ≡ gate_past places.jump (gate + 5 + length payload)) where
-  more : (es : Entries) (a b c : List ℕ) → length b < 2 ^ 63 → SoFar meaning places left gate at es a b → Beyond (past places) a b → ((p : List ℕ) → IsEntry b gate p → payload ≡ p) → Adds at (meaning payload) last b c → SoFar meaning places (left - 1) next (at + 5 + length (meaning payload)) es a c
+  more : (es : Entries) (a b c : List ℕ) → length b < 2 ^ 63 → SoFar meaning places left gate at es a b → Beyond (past places) a b → ((p : List ℕ) → IsEntry b gate p → payload ≡ p) → AddsSpelled at (meaning payload) last b c → SoFar meaning places (left - 1) next (at + 5 + length (meaning payload)) es a c
   more es a b c small so beyond read adds = step so.rest so.both so.number so.remains
     where
       shut_at : (l : Bool) → l ≡ true → IsShutAt l c (at + 5 + length (meaning payload)) → IsEnd c (at + 5 + length (meaning payload))
       shut_at true is shut = shut
       shut_at false is shut = absurd (let e : false ≡ true = is in cc)
 
-      step : (rest : Entries) → es ≡ so.done ++ rest → left ≡ length rest → Left a places.jump (reach places.jump places.end) gate rest places.end → SoFar meaning places (left - 1) next (at + 5 + length (meaning payload)) es a c
+      step : (rest : Entries) → es ≡ so.done ++ rest → left ≡ length rest → LeftBehind a places.jump (reach places.jump places.end) gate rest places.end → SoFar meaning places (left - 1) next (at + 5 + length (meaning payload)) es a c
       step [] both number remains = absurd (omega (arith, some, number))
       step (p ∷ ps) both number remains =
           let below = remains.1 in
@@ -210,20 +210,20 @@ module _ (meaning : List ℕ → List ℕ) (places : Places) (count left gate at
             rest = ps;
             both = both ∙ sym (append_assoc so.done (p ∷ []) ps);
             number = omega (arith, number);
-            remains = subst (λ (k : ℕ). Left a places.jump (reach places.jump places.end) k ps places.end) (sym goes) remains.2;
+            remains = subst (λ (k : ℕ). LeftBehind a places.jump (reach places.jump places.end) k ps places.end) (sym goes) remains.2;
             stand = subst (λ (l : Entries). Stand c (past places) l (at + 5 + length (meaning payload))) (ap (λ (l : List ℕ). map meaning so.done ++ meaning l ∷ []) same ∙ sym (map_push meaning so.done p))
                 (stand_push (past places) (map meaning so.done) at (meaning payload) c (stand_same (past places) (map meaning so.done) at b c so.stand adds.beyond) added.0);
             inside = added.0.whole;
             shut = λ none. shut_at last (last_is (omega (arith, none, some))) added.1;
           }
 
-  pub spelling_more : (a b c : List ℕ) → length b < 2 ^ 63 → Spelling meaning places count left gate at a b → ((p : List ℕ) → IsEntry b gate p → payload ≡ p) → Adds at (meaning payload) last b c → Spelling meaning places count (left - 1) next (at + 5 + length (meaning payload)) a c
+  pub spelling_more : (a b c : List ℕ) → length b < 2 ^ 63 → Spelling meaning places count left gate at a b → ((p : List ℕ) → IsEntry b gate p → payload ≡ p) → AddsSpelled at (meaning payload) last b c → Spelling meaning places count (left - 1) next (at + 5 + length (meaning payload)) a c
   spelling_more a b c small so read adds = record {
     beyond = beyond_trans (past places) a b c so.beyond (beyond_less (past places) at b c high adds.beyond);
     so_far = λ es laid long. more es a b c small (so.so_far es laid long) so.beyond read adds;
   }
 
-pub spelled_all : (meaning : List ℕ → List ℕ) (places : Places) (count left gate at : ℕ) (a c : List ℕ) → left ≡ 0 → Spelling meaning places count left gate at a c → Spells meaning places count at a c
+pub spelled_all : (meaning : List ℕ → List ℕ) (places : Places) (count left gate at : ℕ) (a c : List ℕ) → left ≡ 0 → Spelling meaning places count left gate at a c → SpellsRing meaning places count at a c
 spelled_all meaning places count left gate at a c none so = record {
   beyond = so.beyond;
   spelled = λ es laid long. let s = so.so_far es laid long in
@@ -235,7 +235,7 @@ spelled_all meaning places count left gate at a c none so = record {
     nothing (e ∷ es) is = absurd (omega (arith, is))
 
 -- the new list waits for the cell's value
-pub ready_spelled : (meaning : List ℕ → List ℕ) (places : Places) (count end : ℕ) (es : Entries) (a c : List ℕ) → IsOrdered places → IsLaid places.jump places.head places.end es a → count ≡ length es → past places ≤ end → Spells meaning places count end a c → IsReady None (past places) end (map meaning es) c
+pub ready_spelled : (meaning : List ℕ → List ℕ) (places : Places) (count end : ℕ) (es : Entries) (a c : List ℕ) → IsOrdered places → IsLaid places.jump places.head places.end es a → count ≡ length es → past places ≤ end → SpellsRing meaning places count end a c → IsRingReady None (past places) end (map meaning es) c
 ready_spelled meaning places count end es a c ordered laid long after spells =
     let both = spells.spelled es laid long in
     let inside = both.1.inside in
@@ -250,7 +250,7 @@ ready_spelled meaning places count end es a c ordered laid long after spells =
       below = tt;
     }
   where
-    past_high : (jump : Option ℕ) (head end : ℕ) → AreOrdered jump head end → 64 < past_end jump end
+    past_high : (jump : Option ℕ) (head end : ℕ) → AreGatesOrdered jump head end → 64 < past_end jump end
     past_high None head end ordered = omega (arith, ordered.0, ordered.1)
     past_high (Some jump) head end ordered = omega (arith, ordered.0, ordered.1, ordered.2)
 

@@ -9,8 +9,8 @@ use Rattle.sg_stable.specs.Cell.{HasCell}
 use Rattle.sg_stable.specs.declared.cell.Pair.{Pair}
 use Rattle.sg_stable.proofs.Cells.{cell_same, has_cell_same as cell_stays}
 use Rattle.sg_spool.specs.Places.{HasRoom, bytes_between}
-use Rattle.sg_spool.specs.Ring.{size_at, Entries, space, IsEntry, Run, IsBuffer, IsRow, IsBelow, IsLaid, IsList}
-use Rattle.sg_spool.specs.Steps.{RingAt, IsUsed, Spares}
+use Rattle.sg_spool.specs.Ring.{size_at, Entries, space, IsEntry, EntryRun, IsBufferFile, IsRow, IsEndBelow, IsLaid, IsList}
+use Rattle.sg_spool.specs.Steps.{RingAt, IsPlaceUsed, Spares}
 
 pub size_same : (at : ℕ) (c d : List ℕ) → at + 4 ≤ length c → at + 4 ≤ length d → SameIn at (at + 4) c d → size_at at d ≡ size_at at c
 unfolding size_at
@@ -21,11 +21,11 @@ unfolding size_at
 size_of at v c fits is = ap (λ (l : List ℕ). from_be_bytes w32 l) is ∙ from_be_bytes-to_be_bytes_4 v fits
 
 -- a row goes up, by the space of its entries
-pub run_space : (c : List ℕ) (k : ℕ) (es : Entries) (e : ℕ) → Run c k es e → e ≡ k + space es
+pub run_space : (c : List ℕ) (k : ℕ) (es : Entries) (e : ℕ) → EntryRun c k es e → e ≡ k + space es
 run_space c k [] e run = omega (arith, run)
 run_space c k (p ∷ ps) e run = omega (arith, run_space c (k + 5 + length p) ps e run.1)
 
-pub run_grows : (c : List ℕ) (k : ℕ) (es : Entries) (e : ℕ) → Run c k es e → k ≤ e
+pub run_grows : (c : List ℕ) (k : ℕ) (es : Entries) (e : ℕ) → EntryRun c k es e → k ≤ e
 run_grows c k es e run = omega (arith, run_space c k es e run)
 
 pub space-append : (es fs : Entries) → space (es ++ fs) ≡ space es + space fs
@@ -46,7 +46,7 @@ entry_same c d k p entry same longer = record {
 }
 
 -- a row stands where its bytes do
-pub run_same : (c d : List ℕ) (k : ℕ) (es : Entries) (e : ℕ) → Run c k es e → SameIn k e c d → length c ≤ length d → Run d k es e
+pub run_same : (c d : List ℕ) (k : ℕ) (es : Entries) (e : ℕ) → EntryRun c k es e → SameIn k e c d → length c ≤ length d → EntryRun d k es e
 run_same c d k [] e run same longer = run
 run_same c d k (p ∷ ps) e run same longer =
     let up = run_grows c (k + 5 + length p) ps e run.1 in (
@@ -55,12 +55,12 @@ run_same c d k (p ∷ ps) e run same longer =
     )
 
 -- one entry more
-pub run_push : (c : List ℕ) (k : ℕ) (es : Entries) (e : ℕ) (p : List ℕ) → Run c k es e → IsEntry c e p → Run c k (es ++ p ∷ []) (e + 5 + length p)
+pub run_push : (c : List ℕ) (k : ℕ) (es : Entries) (e : ℕ) (p : List ℕ) → EntryRun c k es e → IsEntry c e p → EntryRun c k (es ++ p ∷ []) (e + 5 + length p)
 run_push c k [] e p run entry = let same : k ≡ e = run in (subst (λ (j : ℕ). IsEntry c j p) (sym same) entry, ap (λ (j : ℕ). j + 5 + length p) same)
 run_push c k (q ∷ qs) e p run entry = (run.0, run_push c (k + 5 + length q) qs e p run.1 entry)
 
 -- the front of the file, where the first 64 bytes stay
-pub buffer_same : (c d : List ℕ) (head : ℕ) → IsBuffer c head → SameIn 0 64 c d → length c ≤ length d → IsBuffer d head
+pub buffer_same : (c d : List ℕ) (head : ℕ) → IsBufferFile c head → SameIn 0 64 c d → length c ≤ length d → IsBufferFile d head
 buffer_same c d head buffer same longer = record {
   size = omega (arith, buffer.size, longer);
   zeros = λ k lt out. same k (omega arith) lt ∙ buffer.zeros k lt out;
@@ -68,22 +68,22 @@ buffer_same c d head buffer same longer = record {
   inside = omega (arith, buffer.inside, longer);
 }
 
-pub head_above : (c : List ℕ) (head : ℕ) → IsBuffer c head → 64 ≤ head
+pub head_above : (c : List ℕ) (head : ℕ) → IsBufferFile c head → 64 ≤ head
 head_above c head buffer = omega (arith, buffer.at_head)
 
-pub end_above : (jump : Option ℕ) (c : List ℕ) (head end : ℕ) (es : Entries) → IsBuffer c head → IsRow jump c head end es → 64 ≤ end
+pub end_above : (jump : Option ℕ) (c : List ℕ) (head end : ℕ) (es : Entries) → IsBufferFile c head → IsRow jump c head end es → 64 ≤ end
 end_above None c head end es buffer row = omega (arith, head_above c head buffer, run_grows c head es end row)
 end_above (Some jump) c head end es buffer row = run_grows c 64 row.second end row.from_front
 
-pub used_front : (jump : Option ℕ) (head end k : ℕ) → k < 64 → IsUsed jump head end k
+pub used_front : (jump : Option ℕ) (head end k : ℕ) → k < 64 → IsPlaceUsed jump head end k
 used_front None head end k lt = inl lt
 used_front (Some jump) head end k lt = inl lt
 
 -- All that a ring uses but its last gate.
 abbrev pub SameButEnd : Option ℕ → ℕ → ℕ → List ℕ → List ℕ → Type 0
-SameButEnd jump head end c d = (k : ℕ) → IsUsed jump head end k → (k ≡ end → ⊥) → k < length c → get_or d k 0 ≡ get_or c k 0
+SameButEnd jump head end c d = (k : ℕ) → IsPlaceUsed jump head end k → (k ≡ end → ⊥) → k < length c → get_or d k 0 ≡ get_or c k 0
 
-pub buffer_kept : (jump : Option ℕ) (head end : ℕ) (es : Entries) (c d : List ℕ) → IsLaid jump head end es c → length c ≤ length d → SameButEnd jump head end c d → IsBuffer d head
+pub buffer_kept : (jump : Option ℕ) (head end : ℕ) (es : Entries) (c d : List ℕ) → IsLaid jump head end es c → length c ≤ length d → SameButEnd jump head end c d → IsBufferFile d head
 buffer_kept jump head end es c d laid longer same =
     let low = end_above jump c head end es laid.buffer laid.row in
     let size = laid.buffer.size in
@@ -113,7 +113,7 @@ row_kept (Some jump) head end es c d laid longer same =
       from_front = run_same c d 64 row.second end row.from_front (λ k low high. same k (inr (inl (omega (arith, high)))) (λ (e : k ≡ end). omega (arith, e, high)) (omega (arith, high, inside))) longer;
     }
 
-end_used : (jump : Option ℕ) (head end : ℕ) (es : Entries) (c : List ℕ) → IsLaid jump head end es c → IsUsed jump head end end
+end_used : (jump : Option ℕ) (head end : ℕ) (es : Entries) (c : List ℕ) → IsLaid jump head end es c → IsPlaceUsed jump head end end
 end_used None head end es c laid = inr (run_grows c head es end laid.row, omega arith)
 end_used (Some jump) head end es c laid = inr (inl (omega arith))
 
@@ -168,7 +168,7 @@ spares_trans jump head end a b c one two = record {
 }
 
 -- a torn write outside what the ring uses
-pub spares_torn : (jump : Option ℕ) (head end at n : ℕ) (c d : List ℕ) → ((k : ℕ) → IsUsed jump head end k → (k < at) ⊎ (at + n ≤ k)) → Torn at n c d → Spares jump head end c d
+pub spares_torn : (jump : Option ℕ) (head end at n : ℕ) (c d : List ℕ) → ((k : ℕ) → IsPlaceUsed jump head end k → (k < at) ⊎ (at + n ≤ k)) → Torn at n c d → Spares jump head end c d
 spares_torn jump head end at n c d away torn = record {
   longer = torn.no_shorter;
   same = λ k used lt. elim (away k used) [
@@ -178,7 +178,7 @@ spares_torn jump head end at n c d away torn = record {
 }
 
 -- a block behind the end, in the room that is there
-pub behind_away : (jump : Option ℕ) (head end n : ℕ) → 64 ≤ end → HasRoom jump head end n → (k : ℕ) → IsUsed jump head end k → (k < end + 1) ⊎ (end + 1 + (n + 5) ≤ k)
+pub behind_away : (jump : Option ℕ) (head end n : ℕ) → 64 ≤ end → HasRoom jump head end n → (k : ℕ) → IsPlaceUsed jump head end k → (k < end + 1) ⊎ (end + 1 + (n + 5) ≤ k)
 behind_away None head end n low room k (inl front) = inl (omega (arith, front, low))
 behind_away None head end n low room k (inr row) = inl (omega (arith, row.1))
 behind_away (Some jump) head end n low room k (inl front) = inl (omega (arith, front, low))
@@ -186,12 +186,12 @@ behind_away (Some jump) head end n low room k (inr (inl row)) = inl (omega (arit
 behind_away (Some jump) head end n low room k (inr (inr row)) = inr (omega (arith, row.0, room))
 
 -- a block at the front, below the head
-pub front_away : (head end n : ℕ) → 64 + n + 6 ≤ head → (k : ℕ) → IsUsed None head end k → (k < 64) ⊎ (64 + (n + 6) ≤ k)
+pub front_away : (head end n : ℕ) → 64 + n + 6 ≤ head → (k : ℕ) → IsPlaceUsed None head end k → (k < 64) ⊎ (64 + (n + 6) ≤ k)
 front_away head end n room k (inl front) = inl front
 front_away head end n room k (inr row) = inr (omega (arith, row.0, room))
 
 -- a jump's length behind the end
-pub length_away : (head end : ℕ) → 64 ≤ end → (k : ℕ) → IsUsed None head end k → (k < end + 1) ⊎ (end + 1 + 4 ≤ k)
+pub length_away : (head end : ℕ) → 64 ≤ end → (k : ℕ) → IsPlaceUsed None head end k → (k < end + 1) ⊎ (end + 1 + 4 ≤ k)
 length_away head end low k (inl front) = inl (omega (arith, front, low))
 length_away head end low k (inr row) = inl (omega (arith, row.1))
 
@@ -215,6 +215,6 @@ row_push (Some jump) d head end es p row entry = record {
   from_front = run_push d 64 row.second end p row.from_front entry;
 }
 
-pub below_room : (jump : Option ℕ) (head end n : ℕ) → HasRoom jump head end n → IsBelow jump head (end + 5 + n)
+pub below_room : (jump : Option ℕ) (head end n : ℕ) → HasRoom jump head end n → IsEndBelow jump head (end + 5 + n)
 below_room None head end n room = tt
 below_room (Some jump) head end n room = omega (arith, room)

@@ -7,11 +7,11 @@ use Rattle.std.proofs.lemmas.List.{take_all}
 use Rattle.sg_device.specs.DiskBytes.{part, overwritten, Torn, Written}
 use Rattle.sg_device.proofs.Parts.{part_at, part_same, part_back, torn_length, torn_elsewhere, torn_of_written, written_by}
 use Rattle.sg_stable.specs.declared.cell.Pair.{Pair}
-use Rattle.sg_spool.specs.Places.{AreOrdered, HasRoom}
+use Rattle.sg_spool.specs.Places.{AreGatesOrdered, HasRoom}
 use Rattle.sg_spool.specs.Ring.{Entries, IsPayload, block_of}
-use Rattle.sg_spool.specs.Rows.{IsPast, IsAhead}
+use Rattle.sg_spool.specs.Rows.{IsPast, AreStagedAhead}
 use Rattle.sg_spool.specs.Staging.{StagedAt, IsStaged, Lays, LaysTorn}
-use Rattle.sg_spool.specs.Steps.{RingAt, IsUsed, Spares, Grows}
+use Rattle.sg_spool.specs.Steps.{RingAt, IsPlaceUsed, Spares, FileGrows}
 use Rattle.sg_spool.specs.declared.places.Places.{Places}
 use Rattle.sg_spool.proofs.Behind.{length-block, length_front, opened_behind}
 use Rattle.sg_spool.proofs.InFront.{opened_front}
@@ -23,20 +23,20 @@ is_zero n is = grind (arith, nat_tests)
 pub is_more : (n : ℕ) → (n == 0) ≡ false → n ≡ 0 → ⊥
 is_more n is none = grind (arith, nat_tests)
 
-pub ahead_none : (n : ℕ) (list ahead : Places) → n ≡ 0 → IsAhead n list ahead → ahead ≡ list
+pub ahead_none : (n : ℕ) (list ahead : Places) → n ≡ 0 → AreStagedAhead n list ahead → ahead ≡ list
 ahead_none zero list ahead none is = is
 ahead_none (suc n) list ahead none is = absurd (omega (arith, none))
 
-pub ahead_more : (n : ℕ) (list ahead : Places) → (n ≡ 0 → ⊥) → IsAhead n list ahead → (ahead.head ≡ list.head) × IsPast list.jump list.end ahead.jump ahead.end
+pub ahead_more : (n : ℕ) (list ahead : Places) → (n ≡ 0 → ⊥) → AreStagedAhead n list ahead → (ahead.head ≡ list.head) × IsPast list.jump list.end ahead.jump ahead.end
 ahead_more zero list ahead some is = absurd (some refl)
 ahead_more (suc n) list ahead some is = is
 
-pub end_in : (jump : Option ℕ) (head end : ℕ) → AreOrdered jump head end → IsUsed jump head end end
+pub end_in : (jump : Option ℕ) (head end : ℕ) → AreGatesOrdered jump head end → IsPlaceUsed jump head end end
 end_in None head end ordered = inr (ordered.1, omega arith)
 end_in (Some jump) head end ordered = inr (inl (omega arith))
 
 -- what the list uses is used ahead, and isn't the last gate there
-pub inner_of : (jump : Option ℕ) (head end : ℕ) (longer : Option ℕ) (first last : ℕ) → AreOrdered jump head end → AreOrdered longer first last → first ≡ head → IsPast jump end longer last → (k : ℕ) → IsUsed jump head end k → IsUsed longer first last k × (k ≡ last → ⊥)
+pub inner_of : (jump : Option ℕ) (head end : ℕ) (longer : Option ℕ) (first last : ℕ) → AreGatesOrdered jump head end → AreGatesOrdered longer first last → first ≡ head → IsPast jump end longer last → (k : ℕ) → IsPlaceUsed jump head end k → IsPlaceUsed longer first last k × (k ≡ last → ⊥)
 inner_of None head end None first last one two same past k (inl front) = (inl front, λ is. omega (arith, front, is, two.0, two.1))
 inner_of None head end None first last one two same past k (inr row) = (inr (omega (arith, row.0, same), omega (arith, row.1, past)), λ is. omega (arith, row.1, is, past))
 inner_of None head end (Some j) first last one two same past k (inl front) = (inl front, λ is. omega (arith, front, is, two.0))
@@ -46,7 +46,7 @@ inner_of (Some i) head end (Some j) first last one two same past k (inl front) =
 inner_of (Some i) head end (Some j) first last one two same past k (inr (inl row)) = (inr (inl (omega (arith, row, past.1))), λ is. omega (arith, row, is, past.1))
 inner_of (Some i) head end (Some j) first last one two same past k (inr (inr row)) = (inr (inr (omega (arith, row.0, same), omega (arith, row.1, past.0))), λ is. omega (arith, row.0, same, is, two.1))
 
-pub low_end : (jump : Option ℕ) (head end : ℕ) → AreOrdered jump head end → 64 ≤ end
+pub low_end : (jump : Option ℕ) (head end : ℕ) → AreGatesOrdered jump head end → 64 ≤ end
 low_end None head end ordered = omega (arith, ordered.0, ordered.1)
 low_end (Some jump) head end ordered = ordered.0
 
@@ -134,7 +134,7 @@ module _ (cell : Pair) (head end : ℕ) (es : Entries) (payload : List ℕ) (fit
 
 -- One payload more: the gate at the list's end is any that opens, and behind it the ring goes on.
 module _ (cell : Pair) (jump : Option ℕ) (head end : ℕ) (es : Entries) (longer : Option ℕ) (first last : ℕ) (q : List ℕ) (qs : Entries) (payload : List ℕ) (fits : IsPayload payload) (low : 64 ≤ last)
-    (inner : (k : ℕ) → IsUsed jump head end k → IsUsed longer first last k × (k ≡ last → ⊥)) (at_end : IsUsed jump head end end) where
+    (inner : (k : ℕ) → IsPlaceUsed jump head end k → IsPlaceUsed longer first last k × (k ≡ last → ⊥)) (at_end : IsPlaceUsed jump head end end) where
   other : end ≡ last → ⊥
   other = (inner end at_end).1
 
@@ -143,7 +143,7 @@ module _ (cell : Pair) (jump : Option ℕ) (head end : ℕ) (es : Entries) (long
 
   -- behind what is staged
   module _ (room : HasRoom longer first last (length payload)) where
-    away : (k : ℕ) → IsUsed longer first last k → (k ≡ last → ⊥) → (k < last) ⊎ (last + (length payload + 6) ≤ k)
+    away : (k : ℕ) → IsPlaceUsed longer first last k → (k ≡ last → ⊥) → (k < last) ⊎ (last + (length payload + 6) ≤ k)
     away k used differs = ⊎_elim (λ below. inl (omega (arith, below, differs))) (λ above. inr (omega (arith, above))) (behind_away longer first last (length payload) low room k used)
 
     pub more_spares : (c d : List ℕ) → Torn last (length payload + 6) c d → Spares jump head end c d
@@ -181,8 +181,8 @@ module _ (cell : Pair) (jump : Option ℕ) (head end : ℕ) (es : Entries) (long
         }
 
 -- at the front of the ring, behind a jump at the end of what is staged
-module _ (cell : Pair) (jump : Option ℕ) (head end : ℕ) (es : Entries) (first last : ℕ) (q : List ℕ) (qs : Entries) (payload : List ℕ) (fits : IsPayload payload) (ordered : AreOrdered None first last)
-    (inner : (k : ℕ) → IsUsed jump head end k → IsUsed None first last k × (k ≡ last → ⊥)) (at_end : IsUsed jump head end end) (low_list : 64 ≤ end) (room : 64 + length payload + 6 ≤ first) where
+module _ (cell : Pair) (jump : Option ℕ) (head end : ℕ) (es : Entries) (first last : ℕ) (q : List ℕ) (qs : Entries) (payload : List ℕ) (fits : IsPayload payload) (ordered : AreGatesOrdered None first last)
+    (inner : (k : ℕ) → IsPlaceUsed jump head end k → IsPlaceUsed None first last k × (k ≡ last → ⊥)) (at_end : IsPlaceUsed jump head end end) (low_list : 64 ≤ end) (room : 64 + length payload + 6 ≤ first) where
   abbrev m : ℕ
   m = length payload
 
@@ -195,7 +195,7 @@ module _ (cell : Pair) (jump : Option ℕ) (head end : ℕ) (es : Entries) (firs
       let differs = (inner end at_end).1 in
       ⊎_elim (λ front. absurd (omega (arith, front, low_list))) (λ row. (row.0, omega (arith, row.1, differs))) used
 
-  before_last : (k : ℕ) → IsUsed None first last k → (k ≡ last → ⊥) → k < last
+  before_last : (k : ℕ) → IsPlaceUsed None first last k → (k ≡ last → ⊥) → k < last
   before_last k used differs = ⊎_elim (λ front. omega (arith, front, low_last)) (λ row. omega (arith, row.1, differs)) used
 
   pub front_spares : (c b : List ℕ) → Torn 64 (m + 6) c b → Spares jump head end c b
@@ -251,7 +251,7 @@ spares_jump : (list a : Places) → a ≡ list → a.jump ≡ None → 64 ≤ li
 spares_jump list a is = subst (λ (a : Places). a.jump ≡ None → 64 ≤ list.end → (c d : List ℕ) → Torn (a.end + 1) 4 c d → Spares list.jump list.head list.end c d) (sym is)
     (λ none low c d torn. subst (λ (j : Option ℕ). Spares j list.head list.end c d) (sym none) (spares_torn None list.head list.end (list.end + 1) 4 c d (length_away list.head list.end low) torn))
 
-pub lay_spares : (list ahead : Places) (count n : ℕ) → AreOrdered list.jump list.head list.end → AreOrdered ahead.jump ahead.head ahead.end → IsAhead count list ahead → HasRoom ahead.jump ahead.head ahead.end n
+pub lay_spares : (list ahead : Places) (count n : ℕ) → AreGatesOrdered list.jump list.head list.end → AreGatesOrdered ahead.jump ahead.head ahead.end → AreStagedAhead count list ahead → HasRoom ahead.jump ahead.head ahead.end n
     → (first : Bool) → (first ≡ true → count ≡ 0) → (first ≡ false → count ≡ 0 → ⊥) → (c d : List ℕ) → LaysTorn first ahead.end (n + 6) c d → Spares list.jump list.head list.end c d
 lay_spares list ahead count n in_list in_ahead apart room true at_first at_more c d torn =
     spares_none list ahead n (ahead_none count list ahead (at_first refl) apart) (low_end list.jump list.head list.end in_list) room c d (subst (λ (k : ℕ). Torn (ahead.end + 1) k c d) (omega arith) torn)
@@ -264,7 +264,7 @@ lay_spares list ahead count n in_list in_ahead apart room false at_first at_more
     ⊎_elim (λ below. inl (omega (arith, below, in_.1))) (λ above. inr (omega (arith, above))) (behind_away ahead.jump ahead.head ahead.end n low room k in_.0)) torn
 
 -- and so do an entry at the front, and a jump to it
-pub front_list : (list ahead : Places) (count n : ℕ) → AreOrdered list.jump list.head list.end → AreOrdered ahead.jump ahead.head ahead.end → IsAhead count list ahead → ahead.jump ≡ None → 64 + n + 6 ≤ ahead.head
+pub front_list : (list ahead : Places) (count n : ℕ) → AreGatesOrdered list.jump list.head list.end → AreGatesOrdered ahead.jump ahead.head ahead.end → AreStagedAhead count list ahead → ahead.jump ≡ None → 64 + n + 6 ≤ ahead.head
     → (c d : List ℕ) → Torn 64 (n + 6) c d → Spares list.jump list.head list.end c d
 front_list list ahead count n in_list in_ahead apart none room c d torn = elim (cases_eq count 0) [
   | inl zero_ ↦
@@ -275,10 +275,10 @@ front_list list ahead count n in_list in_ahead apart none room c d torn = elim (
   | inr some ↦
       let more = ahead_more count list ahead some apart in
       let inner = inner_of list.jump list.head list.end ahead.jump ahead.head ahead.end in_list in_ahead more.0 more.1 in
-      spares_torn list.jump list.head list.end 64 (n + 6) c d (λ k used. front_away ahead.head ahead.end n room k (subst (λ (j : Option ℕ). IsUsed j ahead.head ahead.end k) none (inner k used).0)) torn
+      spares_torn list.jump list.head list.end 64 (n + 6) c d (λ k used. front_away ahead.head ahead.end n room k (subst (λ (j : Option ℕ). IsPlaceUsed j ahead.head ahead.end k) none (inner k used).0)) torn
 ]
 
-pub jump_list : (list ahead : Places) (count : ℕ) → AreOrdered list.jump list.head list.end → AreOrdered ahead.jump ahead.head ahead.end → IsAhead count list ahead → ahead.jump ≡ None
+pub jump_list : (list ahead : Places) (count : ℕ) → AreGatesOrdered list.jump list.head list.end → AreGatesOrdered ahead.jump ahead.head ahead.end → AreStagedAhead count list ahead → ahead.jump ≡ None
     → (first : Bool) → (first ≡ true → count ≡ 0) → (first ≡ false → count ≡ 0 → ⊥) → (c d : List ℕ) → LaysTorn first ahead.end 5 c d → Spares list.jump list.head list.end c d
 jump_list list ahead count in_list in_ahead apart none true at_first at_more c d torn = spares_jump list ahead (ahead_none count list ahead (at_first refl) apart) none (low_end list.jump list.head list.end in_list) c d torn
 jump_list list ahead count in_list in_ahead apart none false at_first at_more c d torn =
@@ -287,7 +287,7 @@ jump_list list ahead count in_list in_ahead apart none false at_first at_more c 
     let low = low_end ahead.jump ahead.head ahead.end in_ahead in
     spares_torn list.jump list.head list.end ahead.end 5 c d (λ k used.
     let in_ = inner k used in
-    let used_none = subst (λ (j : Option ℕ). IsUsed j ahead.head ahead.end k) none in_.0 in
+    let used_none = subst (λ (j : Option ℕ). IsPlaceUsed j ahead.head ahead.end k) none in_.0 in
     inl (⊎_elim (λ front. omega (arith, front, low)) (λ row. omega (arith, row.1, in_.1)) used_none)) torn
 
 -- the places behind an entry, and at the front of the ring
@@ -308,7 +308,7 @@ none_front cell list a es payload fits is low = subst (λ (a : Places). a.jump �
     (λ none room c b d ring one two. subst (λ (j : Option ℕ). StagedAt cell j list.head list.end (Some list.end) list.head (69 + length payload) es (payload ∷ []) d) (sym none)
     (front_first cell list.head list.end es payload fits low room c b d (subst (λ (j : Option ℕ). RingAt cell j list.head list.end es c) none ring) one two))
 
-pub told_behind : (cell : Pair) (list ahead : Places) (count : ℕ) (es ps : Entries) (payload : List ℕ) → IsPayload payload → AreOrdered list.jump list.head list.end → AreOrdered ahead.jump ahead.head ahead.end → IsAhead count list ahead → HasRoom ahead.jump ahead.head ahead.end (length payload)
+pub told_behind : (cell : Pair) (list ahead : Places) (count : ℕ) (es ps : Entries) (payload : List ℕ) → IsPayload payload → AreGatesOrdered list.jump list.head list.end → AreGatesOrdered ahead.jump ahead.head ahead.end → AreStagedAhead count list ahead → HasRoom ahead.jump ahead.head ahead.end (length payload)
     → count ≡ length ps → (first : Bool) → (first ≡ true → count ≡ 0) → (first ≡ false → count ≡ 0 → ⊥) → (c d : List ℕ) → IsStaged cell list ahead es ps c → Lays first ahead.end (1 ∷ block_of payload) c d → IsStaged cell list (grown ahead (length payload)) es (ps ++ payload ∷ []) d
 told_behind cell list ahead count es [] payload fits in_list in_ahead apart room number true at_first at_more c d at put = none_behind cell list ahead es payload fits (ahead_none count list ahead number apart) (low_end list.jump list.head list.end in_list) room c d at.ring put
 told_behind cell list ahead count es [] payload fits in_list in_ahead apart room number false at_first at_more c d at put = absurd (at_more refl number)
@@ -318,7 +318,7 @@ told_behind cell list ahead count es (q ∷ qs) payload fits in_list in_ahead ap
     behind_more cell list.jump list.head list.end es ahead.jump ahead.head ahead.end q qs payload fits (low_end ahead.jump ahead.head ahead.end in_ahead)
     (inner_of list.jump list.head list.end ahead.jump ahead.head ahead.end in_list in_ahead more.0 more.1) (end_in list.jump list.head list.end in_list) room c d at put
 
-pub told_front : (cell : Pair) (list ahead : Places) (count : ℕ) (es ps : Entries) (payload : List ℕ) → IsPayload payload → AreOrdered list.jump list.head list.end → AreOrdered ahead.jump ahead.head ahead.end → IsAhead count list ahead → ahead.jump ≡ None → 64 + length payload + 6 ≤ ahead.head
+pub told_front : (cell : Pair) (list ahead : Places) (count : ℕ) (es ps : Entries) (payload : List ℕ) → IsPayload payload → AreGatesOrdered list.jump list.head list.end → AreGatesOrdered ahead.jump ahead.head ahead.end → AreStagedAhead count list ahead → ahead.jump ≡ None → 64 + length payload + 6 ≤ ahead.head
     → count ≡ length ps → (first : Bool) → (first ≡ true → count ≡ 0) → (first ≡ false → count ≡ 0 → ⊥) → (c b d : List ℕ) → IsStaged cell list ahead es ps c → Written 64 (1 ∷ block_of payload) c b → Lays first ahead.end (1 ∷ jump_size) b d → IsStaged cell list (fronted ahead (length payload)) es (ps ++ payload ∷ []) d
 told_front cell list ahead count es [] payload fits in_list in_ahead apart none room number true at_first at_more c b d at one two = none_front cell list ahead es payload fits (ahead_none count list ahead number apart) (low_end list.jump list.head list.end in_list) none room c b d at.ring one two
 told_front cell list ahead count es [] payload fits in_list in_ahead apart none room number false at_first at_more c b d at one two = absurd (at_more refl number)
@@ -326,8 +326,8 @@ told_front cell list ahead count es (q ∷ qs) payload fits in_list in_ahead apa
 told_front cell list ahead count es (q ∷ qs) payload fits in_list in_ahead apart none room number false at_first at_more c b d at one two =
     let more = ahead_more count list ahead (at_more refl) apart in
     let inner = inner_of list.jump list.head list.end ahead.jump ahead.head ahead.end in_list in_ahead more.0 more.1 in
-    front_more cell list.jump list.head list.end es ahead.head ahead.end q qs payload fits (subst (λ (j : Option ℕ). AreOrdered j ahead.head ahead.end) none in_ahead)
-    (λ k used. let in_ = inner k used in (subst (λ (j : Option ℕ). IsUsed j ahead.head ahead.end k) none in_.0, in_.1)) (end_in list.jump list.head list.end in_list) (low_end list.jump list.head list.end in_list) room c b d
+    front_more cell list.jump list.head list.end es ahead.head ahead.end q qs payload fits (subst (λ (j : Option ℕ). AreGatesOrdered j ahead.head ahead.end) none in_ahead)
+    (λ k used. let in_ = inner k used in (subst (λ (j : Option ℕ). IsPlaceUsed j ahead.head ahead.end k) none in_.0, in_.1)) (end_in list.jump list.head list.end in_list) (low_end list.jump list.head list.end in_list) room c b d
     (subst (λ (j : Option ℕ). StagedAt cell list.jump list.head list.end j ahead.head ahead.end es (q ∷ qs) c) none at) one two
 
 -- the bytes behind the first
@@ -338,15 +338,15 @@ pub rest_long : (l : List ℕ) → length (take (length l - 1) (drop 1 l)) ≡ l
 rest_long l = ap length (rest_is l) ∙ length-drop 1 l
 
 -- how far a file may grow
-pub grows_torn : (most at n : ℕ) (c d : List ℕ) → at + n ≤ most → Torn at n c d → Grows most c d
+pub grows_torn : (most at n : ℕ) (c d : List ℕ) → at + n ≤ most → Torn at n c d → FileGrows most c d
 grows_torn most at n c d fits torn = omega (arith, fits, torn.no_longer)
 
-pub grows_lay : (most at n : ℕ) (first : Bool) (c d : List ℕ) → 1 ≤ n → at + n ≤ most → LaysTorn first at n c d → Grows most c d
+pub grows_lay : (most at n : ℕ) (first : Bool) (c d : List ℕ) → 1 ≤ n → at + n ≤ most → LaysTorn first at n c d → FileGrows most c d
 grows_lay most at n true c d some fits torn = grows_torn most (at + 1) (n - 1) c d (omega (arith, some, fits)) torn
 grows_lay most at n false c d some fits torn = grows_torn most at n c d fits torn
 
-pub grows_refl : (most : ℕ) (c : List ℕ) → Grows most c c
+pub grows_refl : (most : ℕ) (c : List ℕ) → FileGrows most c c
 grows_refl most c = omega arith
 
-pub grows_trans : (most : ℕ) (a b c : List ℕ) → Grows most a b → Grows most b c → Grows most a c
+pub grows_trans : (most : ℕ) (a b c : List ℕ) → FileGrows most a b → FileGrows most b c → FileGrows most a c
 grows_trans most a b c one two = omega (arith, one, two)

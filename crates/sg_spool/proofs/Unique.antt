@@ -1,7 +1,7 @@
 -- Bytes stand for one list.
 use Rattle.std.proofs.Common.{◌≡◌, ℕ, ◌+◌, List, [], ◌∷◌, ◌++◌, length, get_or, refl, sym, ◌∙◌, ap, subst, arith, Some, None, Option}
 use Rattle.sg_device.specs.DiskBytes.{part}
-use Rattle.sg_spool.specs.Ring.{Entries, IsEntry, Run, IsEnd, IsJump, IsRow, IsLaid, IsList}
+use Rattle.sg_spool.specs.Ring.{Entries, IsEntry, EntryRun, IsEnd, IsJump, IsRow, IsLaid, IsList}
 
 -- no entry stands here
 abbrev pub NoEntry : List ℕ → ℕ → Type 0
@@ -13,14 +13,14 @@ at_end c gate ends p entry = entry.opened ends.shut
 pub at_jump : (c : List ℕ) (gate : ℕ) → IsJump c gate → NoEntry c gate
 at_jump c gate jump p entry = let none : 0 ≡ length p = sym jump.jumps ∙ entry.size in omega (arith, none, entry.fits.some)
 
-pub run_unique : (c : List ℕ) (k : ℕ) (ps qs : Entries) (e f : ℕ) → Run c k ps e → Run c k qs f → NoEntry c e → NoEntry c f → (ps ≡ qs) × (e ≡ f)
+pub run_unique : (c : List ℕ) (k : ℕ) (ps qs : Entries) (e f : ℕ) → EntryRun c k ps e → EntryRun c k qs f → NoEntry c e → NoEntry c f → (ps ≡ qs) × (e ≡ f)
 run_unique c k [] [] e f one two stop_e stop_f = (refl, sym one ∙ two)
 run_unique c k [] (q ∷ qs) e f one two stop_e stop_f = absurd (stop_e q (subst (λ (j : ℕ). IsEntry c j q) one two.0))
 run_unique c k (p ∷ ps) [] e f one two stop_e stop_f = absurd (stop_f p (subst (λ (j : ℕ). IsEntry c j p) two one.0))
 run_unique c k (p ∷ ps) (q ∷ qs) e f one two stop_e stop_f =
     let long : length p ≡ length q = sym one.0.size ∙ two.0.size in
     let same : p ≡ q = sym one.0.there ∙ ap (λ (n : ℕ). part (k + 5) n c) long ∙ two.0.there in
-    let rest = run_unique c (k + 5 + length p) ps qs e f one.1 (subst (λ (n : ℕ). Run c (k + 5 + n) qs f) (sym long) two.1) stop_e stop_f in
+    let rest = run_unique c (k + 5 + length p) ps qs e f one.1 (subst (λ (n : ℕ). EntryRun c (k + 5 + n) qs f) (sym long) two.1) stop_e stop_f in
     (λ i. same i ∷ rest.0 i, rest.1)
 
 pub row_unique : (j i : Option ℕ) (c : List ℕ) (h e f : ℕ) (es fs : Entries) → IsRow j c h e es → IsRow i c h f fs → IsEnd c e → IsEnd c f → es ≡ fs

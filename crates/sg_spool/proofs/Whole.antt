@@ -2,20 +2,20 @@
 use Rattle.std.proofs.Common.{◌≡◌, ◌⊎◌, inl, inr, ⊎_elim, ℕ, ◌+◌, ◌-◌, ◌<◌, ◌≤◌, ◌^◌, List, [], ◌∷◌, ◌++◌, length, take, drop, map, refl, sym, ◌∙◌, ap, subst, arith, length-append, length-drop, Some, None, Option}
 use Rattle.std.proofs.lemmas.List.{append-nil, append_cancel_left, drop_all, length-map}
 use Rattle.std.specs.Option.{option_map}
-use Rattle.sg_device.specs.Disk.{DiskLog, DiskState, DiskEvent, content, clock, bytes_after, IsLeft, IsImage, IsImageAt, Moves, Elapses, Preserves, Durable, Within, EachNow, WhereTold}
+use Rattle.sg_device.specs.Disk.{DiskLog, DiskState, DiskEvent, content, clock, bytes_after, IsLeftByCrash, IsImage, IsImageAt, Moves, Elapses, Preserves, Durable, Within, EachNow, WhereTold}
 use Rattle.sg_device.specs.DiskBytes.{Torn}
 use Rattle.sg_device.proofs.Disks.{started, goes_on, now_same, within_as, told_back}
 use Rattle.sg_device.proofs.DiskCalls.{unchanged, reads_as_image}
 use Rattle.sg_stable.specs.Cell.{HasCell}
 use Rattle.sg_stable.specs.declared.cell.Pair.{Pair}
-use Rattle.sg_spool.specs.Advancing.{HasEntries, IsFirstSize, IsAdvanced}
-use Rattle.sg_spool.specs.Lists.{IsOneOf, Perhaps, Recodes}
-use Rattle.sg_spool.specs.Places.{AreOrdered, IsOrdered, live, gate_past, Remains, AreCompact, bound}
+use Rattle.sg_spool.specs.Advancing.{HasRingEntries, IsFirstSize, IsAdvanced}
+use Rattle.sg_spool.specs.Lists.{IsEitherList, Perhaps, Recodes}
+use Rattle.sg_spool.specs.Places.{AreGatesOrdered, IsOrdered, live, gate_past, Remains, AreCompact, bound}
 use Rattle.sg_spool.specs.Ring.{Entries, IsEntry, IsList, IsRow, IsLaid, space}
 use Rattle.sg_spool.specs.Rows.{AreRows, listed, committed}
 use Rattle.sg_spool.specs.Staging.{OpensTo}
-use Rattle.sg_spool.specs.Steps.{Spares, Grows, Stems, After}
-use Rattle.sg_spool.specs.View.{Awaits, HoldsAt, IsCompactIn, IsCompactAt, IsRing, AreHeld, AreHeldAfter, IsFront, IsHeld, IsWhole}
+use Rattle.sg_spool.specs.Steps.{Spares, FileGrows, Stems, After}
+use Rattle.sg_spool.specs.View.{Awaits, HoldsAt, IsCompactIn, IsCompactAt, IsRing, AreImagesHeld, AreHeldAfter, IsFrontPayload, IsRingHeld, IsWholeRing}
 use Rattle.sg_spool.specs.declared.places.Places.{Places}
 use Rattle.sg_spool.specs.declared.rows.Rows.{Rows}
 use Rattle.sg_spool.proofs.AdvanceCalls.{image_told}
@@ -35,17 +35,17 @@ log_before d0 d1 first left moves (Some log) is = (bytes_after log.first log.eve
 
 first_left : (told : Option DiskLog) (f moment : ℕ) (c : List ℕ) → IsImageAt (record { told = told; faults = f }) moment c → (first : List ℕ) × IsImageAt (record { told = told; faults = f }) 0 first
 first_left None f moment c left = absurd left
-first_left (Some log) f moment c left = (log.first, subst (λ (l : List DiskEvent). IsLeft log.first l log.first) (sym (drop_all (length log.events - 0) log.events (omega arith))) refl)
+first_left (Some log) f moment c left = (log.first, subst (λ (l : List DiskEvent). IsLeftByCrash log.first l log.first) (sym (drop_all (length log.events - 0) log.events (omega arith))) refl)
 
 pub told_at : (d0 d1 : DiskState) → Moves d0 d1 → (moment : ℕ) (c : List ℕ) → IsImageAt d1 moment c → (b : List ℕ) × (content d0 ≡ Some b)
 told_at d0 d1 moves moment c left = let first = first_left d1.told d1.faults moment c left in log_before d0 d1 first.0 first.1 moves d0.told refl
 
-pub front_longer : (front : Option (List ℕ)) (es ps : Entries) → IsFront front es → IsFront front (es ++ ps)
+pub front_longer : (front : Option (List ℕ)) (es ps : Entries) → IsFrontPayload front es → IsFrontPayload front (es ++ ps)
 front_longer None es ps is = tt
 front_longer (Some q) [] ps is = absurd is
 front_longer (Some q) (e ∷ es) ps is = is
 
-pub front_size : (front : Option (List ℕ)) (es : Entries) → IsFront front es → IsFirstSize (option_map length front) es
+pub front_size : (front : Option (List ℕ)) (es : Entries) → IsFrontPayload front es → IsFirstSize (option_map length front) es
 front_size None es is = tt
 front_size (Some q) [] is = absurd is
 front_size (Some q) (e ∷ es) is = ap length is
@@ -54,7 +54,7 @@ split_off : (es : Entries) → 1 ≤ length es → (p : List ℕ) × (ps : Entri
 split_off [] some = absurd (omega (arith, some))
 split_off (p ∷ ps) some = (p, ps, refl)
 
-front_known : (payload : List ℕ) (es : Entries) → IsFront (Some payload) es → (rest : Entries) × (es ≡ payload ∷ rest)
+front_known : (payload : List ℕ) (es : Entries) → IsFrontPayload (Some payload) es → (rest : Entries) × (es ≡ payload ∷ rest)
 front_known payload [] is = absurd is
 front_known payload (e ∷ es) is = (es, ap (λ (l : List ℕ). l ∷ es) (sym is))
 
@@ -86,7 +86,7 @@ awaits_of cell end longer first last es [] b opens = tt
 awaits_of cell end longer first last es (p ∷ ps) b opens =
     list_of cell longer first last (es ++ p ∷ ps) (with_gate end 1 b) (opens (with_gate end 1 b) (with_gate_torn end 1 b) (λ shut. let no : 1 ≡ 0 = sym (with_gate_is end 1 b) ∙ shut in omega (arith, no)))
 
-pub held_holds : (cell : Pair) (rows : Rows) (list staged : Entries) (d : DiskState) → AreHeld d cell rows list staged → HoldsAt d rows list staged
+pub held_holds : (cell : Pair) (rows : Rows) (list staged : Entries) (d : DiskState) → AreImagesHeld d cell rows list staged → HoldsAt d rows list staged
 held_holds cell rows list staged d held = record {
   images = λ c left. list_of cell rows.list.jump rows.list.head rows.list.end list c (held.rings c left);
   number = held.waits;
@@ -98,8 +98,8 @@ pub list_holds : (cell : Pair) (rows : Rows) (list : Entries) (d : DiskState) �
 list_holds cell rows list d none rings = record { images = λ c left. list_of cell rows.list.jump rows.list.head rows.list.end list c (rings c left); number = none; waits = λ b told. tt }
 
 -- nothing is done
-pub stay_one : (rows : Rows) (list staged other : Entries) (d : DiskState) → HoldsAt d rows list staged → Within d d (IsOneOf list other)
-stay_one rows list staged other d holds = started d (IsOneOf list other) (λ c left. inl (holds.images c left))
+pub stay_one : (rows : Rows) (list staged other : Entries) (d : DiskState) → HoldsAt d rows list staged → Within d d (IsEitherList list other)
+stay_one rows list staged other d holds = started d (IsEitherList list other) (λ c left. inl (holds.images c left))
 
 pub stay_short : (rows : Rows) (capacity : ℕ) (d : DiskState) → IsCompactAt d capacity rows → Within d d (IsCompactIn capacity)
 stay_short rows capacity d compact = started d (IsCompactIn capacity) compact.images
@@ -116,15 +116,15 @@ compact_in capacity jump head end es c compact laid short = record {
 pub within_both : (d0 d1 : DiskState) (P Q R : List ℕ → Type 0) → Within d0 d1 P → Within d0 d1 Q → ((c : List ℕ) → P c → Q c → R c) → Within d0 d1 R
 within_both d0 d1 P Q R one two goes = record { later = one.later; past = one.past; kept = one.kept; each = λ t c low high left. goes c (one.each t c low high left) (two.each t c low high left) }
 
-pub within_short : (most : ℕ) (d0 d1 : DiskState) → EachNow d0 (λ c. length c ≤ most) → Elapses (Grows most) d0 d1 → Within d0 d1 (λ c. length c ≤ most)
+pub within_short : (most : ℕ) (d0 d1 : DiskState) → EachNow d0 (λ c. length c ≤ most) → Elapses (FileGrows most) d0 d1 → Within d0 d1 (λ c. length c ≤ most)
 within_short most d0 d1 start time = goes_on d0 d0 d1 (λ c. length c ≤ most) (λ c. length c ≤ most) (started d0 (λ c. length c ≤ most) start) time start (λ d c short grows. omega (arith, short, grows))
 
-end_bound : (capacity : ℕ) (jump : Option ℕ) (head end : ℕ) → AreOrdered jump head end → AreCompact capacity jump head end → end + 1 ≤ bound capacity
+end_bound : (capacity : ℕ) (jump : Option ℕ) (head end : ℕ) → AreGatesOrdered jump head end → AreCompact capacity jump head end → end + 1 ≤ bound capacity
 end_bound capacity None head end ordered compact = omega (arith, compact)
 end_bound capacity (Some jump) head end ordered compact = omega (arith, ordered.1, ordered.2, compact.1)
 
-module _ (cell : Pair) (rows : Rows) (front : Option (List ℕ)) (d0 : DiskState) (w : IsWhole d0 cell rows front) where
-  pub held : AreHeld d0 cell rows w.entries w.staged
+module _ (cell : Pair) (rows : Rows) (front : Option (List ℕ)) (d0 : DiskState) (w : IsWholeRing d0 cell rows front) where
+  pub held : AreImagesHeld d0 cell rows w.entries w.staged
   held = record { rings = λ c left. (w.each c left).ring; opens = w.opens; waits = w.waits }
 
   pub holds : HoldsAt d0 rows w.entries w.staged
@@ -145,7 +145,7 @@ module _ (cell : Pair) (rows : Rows) (front : Option (List ℕ)) (d0 : DiskState
       let left = reads_as_image d0 b told in
       staged_unique cell rows.list.end rows.ahead.jump rows.ahead.head rows.ahead.end w.entries w.staged list staged b (is_entries list b left (h.images b left)) (sym w.waits ∙ h.number) (w.opens b told) (h.waits b told)
 
-  pub holds_held : (list staged : Entries) → HoldsAt d0 rows list staged → AreHeld d0 cell rows list staged
+  pub holds_held : (list staged : Entries) → HoldsAt d0 rows list staged → AreImagesHeld d0 cell rows list staged
   holds_held list staged h = record {
     rings = λ c left. subst (λ (l : Entries). IsRing cell rows.list l c) (is_entries list c left (h.images c left)) (w.each c left).ring;
     opens = λ b told.
@@ -159,7 +159,7 @@ module _ (cell : Pair) (rows : Rows) (front : Option (List ℕ)) (d0 : DiskState
   counts list c left is = (w.each c left).number ∙ ap length (is_entries list c left is)
 
   -- at any image of a later moment
-  pub number_at : (d1 : DiskState) → Moves d0 d1 → (c : List ℕ) → IsImage d1 c → (rows.count ≡ length w.entries) × IsFront front w.entries
+  pub number_at : (d1 : DiskState) → Moves d0 d1 → (c : List ℕ) → IsImage d1 c → (rows.count ≡ length w.entries) × IsFrontPayload front w.entries
   number_at d1 moves c left =
       let b = told_at d0 d1 moves (clock d1) c left in
       let at = w.each b.0 (reads_as_image d0 b.0 b.1) in
@@ -169,7 +169,7 @@ module _ (cell : Pair) (rows : Rows) (front : Option (List ℕ)) (d0 : DiskState
   pub spaces : AreRows rows → (list staged : Entries) → HoldsAt d0 rows list staged → (b : List ℕ) → content d0 ≡ Some b → live rows.ahead ≡ space (list ++ staged)
   spaces are list staged h b told = space_of staged (holds_held list staged h)
     where
-      space_of : (ps : Entries) → AreHeld d0 cell rows list ps → live rows.ahead ≡ space (list ++ ps)
+      space_of : (ps : Entries) → AreImagesHeld d0 cell rows list ps → live rows.ahead ≡ space (list ++ ps)
       space_of [] at =
           let ring = at.rings b (reads_as_image d0 b told) in
           let none : rows.ahead ≡ rows.list = alone rows are at.waits in
@@ -190,7 +190,7 @@ module _ (cell : Pair) (rows : Rows) (front : Option (List ℕ)) (d0 : DiskState
       spaces are w.entries w.staged holds b told ∙ ap (λ (l : Entries). space (w.entries ++ l)) empty ∙ ap space (append-nil w.entries) ∙ ap space same
 
   -- something more is staged
-  pub whole_staged : (d1 : DiskState) (after : Pair) (next : Rows) (more : Entries) → Moves d0 d1 → AreRows next → AreHeldAfter d1 after rows next w.entries w.staged more → IsWhole d1 after next front
+  pub whole_staged : (d1 : DiskState) (after : Pair) (next : Rows) (more : Entries) → Moves d0 d1 → AreRows next → AreHeldAfter d1 after rows next w.entries w.staged more → IsWholeRing d1 after next front
   whole_staged d1 after next more moves are (inl at) = record {
     entries = w.entries;
     staged = w.staged ++ more;
@@ -214,7 +214,7 @@ module _ (cell : Pair) (rows : Rows) (front : Option (List ℕ)) (d0 : DiskState
   }
 
   -- what was staged is in the list
-  pub whole_committed : (d1 : DiskState) (next : Rows) → Moves d0 d1 → next ≡ committed rows → IsOrdered rows.ahead → EachNow d1 (IsRing cell next.list (w.entries ++ w.staged)) → IsWhole d1 cell next front
+  pub whole_committed : (d1 : DiskState) (next : Rows) → Moves d0 d1 → next ≡ committed rows → IsOrdered rows.ahead → EachNow d1 (IsRing cell next.list (w.entries ++ w.staged)) → IsWholeRing d1 cell next front
   whole_committed d1 next moves is ordered rings = record {
     entries = w.entries ++ w.staged;
     staged = [];
@@ -231,11 +231,11 @@ module _ (cell : Pair) (rows : Rows) (front : Option (List ℕ)) (d0 : DiskState
   }
 
   -- the first entries, and what they take
-  pub has_entries : (n size : ℕ) → n ≤ rows.count → WhereTold (content d0) (λ b. (list : Entries) → IsList list b → size ≡ space (take n list)) → (list staged : Entries) → HoldsAt d0 rows list staged → EachNow d0 (HasEntries cell rows.list n size list)
+  pub has_entries : (n size : ℕ) → n ≤ rows.count → WhereTold (content d0) (λ b. (list : Entries) → IsList list b → size ≡ space (take n list)) → (list staged : Entries) → HoldsAt d0 rows list staged → EachNow d0 (HasRingEntries cell rows.list n size list)
   has_entries n size enough sized list staged h c left =
       let at = w.each c left in
       let b = image_told d0 c left in
-      subst (λ (l : Entries). HasEntries cell rows.list n size l c) (is_entries list c left (h.images c left))
+      subst (λ (l : Entries). HasRingEntries cell rows.list n size l c) (is_entries list c left (h.images c left))
       (record { ring = at.ring; enough = omega (arith, enough, at.number); sized = sized b.0 b.1 w.entries (lists b.0 (reads_as_image d0 b.0 b.1)) })
 
   -- what was read of them
@@ -247,7 +247,7 @@ module _ (cell : Pair) (rows : Rows) (front : Option (List ℕ)) (d0 : DiskState
       let at = w.each b left in
       subst (λ (l : Entries). size ≡ space (take n l)) (is_entries list b left is) (read b told w.entries (omega (arith, enough, at.number)) (front_size front w.entries at.first) at.ring.laid)
 
-  pub whole_advanced : (n : ℕ) (d1 : DiskState) (after : Pair) (next : Places) → Moves d0 d1 → n ≤ rows.count → EachNow d1 (IsRing after next (drop n w.entries)) → IsWhole d1 after (listed next (rows.count - n)) None
+  pub whole_advanced : (n : ℕ) (d1 : DiskState) (after : Pair) (next : Places) → Moves d0 d1 → n ≤ rows.count → EachNow d1 (IsRing after next (drop n w.entries)) → IsWholeRing d1 after (listed next (rows.count - n)) None
   whole_advanced n d1 after next moves enough rings = record {
     entries = drop n w.entries;
     staged = [];
@@ -257,7 +257,7 @@ module _ (cell : Pair) (rows : Rows) (front : Option (List ℕ)) (d0 : DiskState
   }
 
   -- each entry is spelled anew
-  pub whole_respelled : (f : List ℕ → List ℕ) (d1 : DiskState) (after : Pair) (next : Places) → Moves d0 d1 → EachNow d1 (Stems (IsImage d0) (IsRing after next (map f w.entries))) → IsWhole d1 after (listed next rows.count) None
+  pub whole_respelled : (f : List ℕ → List ℕ) (d1 : DiskState) (after : Pair) (next : Places) → Moves d0 d1 → EachNow d1 (Stems (IsImage d0) (IsRing after next (map f w.entries))) → IsWholeRing d1 after (listed next rows.count) None
   whole_respelled f d1 after next moves rings = record {
     entries = map f w.entries;
     staged = [];
@@ -267,7 +267,7 @@ module _ (cell : Pair) (rows : Rows) (front : Option (List ℕ)) (d0 : DiskState
   }
 
   -- the list as it was, behind which nothing is staged
-  pub whole_before : (d1 : DiskState) → rows.staged ≡ 0 → Moves d0 d1 → EachNow d1 (Stems (IsImage d0) (IsRing cell rows.list w.entries)) → IsWhole d1 cell rows front
+  pub whole_before : (d1 : DiskState) → rows.staged ≡ 0 → Moves d0 d1 → EachNow d1 (Stems (IsImage d0) (IsRing cell rows.list w.entries)) → IsWholeRing d1 cell rows front
   whole_before d1 none moves rings = record {
     entries = w.entries;
     staged = [];
@@ -277,11 +277,11 @@ module _ (cell : Pair) (rows : Rows) (front : Option (List ℕ)) (d0 : DiskState
   }
 
   -- a call that changes nothing
-  pub whole_still : (d1 : DiskState) → d1.told ≡ d0.told → IsWhole d1 cell rows front
+  pub whole_still : (d1 : DiskState) → d1.told ≡ d0.told → IsWholeRing d1 cell rows front
   whole_still d1 is = record {
     entries = w.entries;
     staged = w.staged;
-    each = now_same d0 d1 (IsHeld cell rows.list rows.count front w.entries) (unchanged d0 d1 is).still w.each;
+    each = now_same d0 d1 (IsRingHeld cell rows.list rows.count front w.entries) (unchanged d0 d1 is).still w.each;
     opens = λ b told. w.opens b (ap (λ (t : Option DiskLog). content (record { told = t; faults = 0 })) (sym is) ∙ told);
     waits = w.waits;
   }
@@ -297,7 +297,7 @@ module _ (cell : Pair) (rows : Rows) (front : Option (List ℕ)) (d0 : DiskState
       (split.0, split.1, split.2, first_entry rows.list.jump rows.list.head rows.list.end split.0 split.1 b (subst (λ (l : Entries). IsRow rows.list.jump b rows.list.head rows.list.end l) split.2 was.ring.laid.row))
 
   -- its payload is read
-  pub whole_read : (d1 : DiskState) (payload : List ℕ) → d1.told ≡ d0.told → 1 ≤ rows.count → WhereTold (content d0) (λ b. (p : List ℕ) → IsEntry b (gate_past rows.list.jump rows.list.head) p → payload ≡ p) → IsWhole d1 cell rows (Some payload)
+  pub whole_read : (d1 : DiskState) (payload : List ℕ) → d1.told ≡ d0.told → 1 ≤ rows.count → WhereTold (content d0) (λ b. (p : List ℕ) → IsEntry b (gate_past rows.list.jump rows.list.head) p → payload ≡ p) → IsWholeRing d1 cell rows (Some payload)
   whole_read d1 payload is some read = record {
     entries = w.entries;
     staged = w.staged;
@@ -307,7 +307,7 @@ module _ (cell : Pair) (rows : Rows) (front : Option (List ℕ)) (d0 : DiskState
         let b = image_told d0 c at in
         let there = first_there b.0 b.1 some in
         let same = read b.0 b.1 there.0 there.3 in
-        record { ring = was.ring; number = was.number; first = subst (λ (l : Entries). IsFront (Some payload) l) (sym there.2) same };
+        record { ring = was.ring; number = was.number; first = subst (λ (l : Entries). IsFrontPayload (Some payload) l) (sym there.2) same };
     opens = λ b told. w.opens b (ap (λ (t : Option DiskLog). content (record { told = t; faults = 0 })) (sym is) ∙ told);
     waits = w.waits;
   }
@@ -322,7 +322,7 @@ module _ (cell : Pair) (rows : Rows) (front : Option (List ℕ)) (d0 : DiskState
   pub first_known : (payload : List ℕ) → front ≡ Some payload → WhereTold (content d0) (λ b. (fs : Entries) → IsList fs b → (rest : Entries) × (fs ≡ payload ∷ rest))
   first_known payload is b told fs list =
       let left = reads_as_image d0 b told in
-      let known = front_known payload w.entries (subst (λ (f : Option (List ℕ)). IsFront f w.entries) is (w.each b left).first) in
+      let known = front_known payload w.entries (subst (λ (f : Option (List ℕ)). IsFrontPayload f w.entries) is (w.each b left).first) in
       (known.0, sym (is_entries fs b left list) ∙ known.1)
 
   pub remains : (list : Entries) (c : List ℕ) → IsImage d0 c → IsList list c → Remains c rows.list.jump (gate_past rows.list.jump rows.list.head) list rows.list.end
@@ -337,8 +337,8 @@ module _ (cell : Pair) (rows : Rows) (front : Option (List ℕ)) (d0 : DiskState
   }
 
   -- the list, or what is made of it
-  pub advance_one : (n : ℕ) (d1 : DiskState) (list : Entries) → Within d0 d1 (IsAdvanced rows.list n list) → Within d0 d1 (IsOneOf list (drop n list))
-  advance_one n d1 list so_far = within_as d0 d1 (IsAdvanced rows.list n list) (IsOneOf list (drop n list)) so_far (λ c at. ⊎_elim
+  pub advance_one : (n : ℕ) (d1 : DiskState) (list : Entries) → Within d0 d1 (IsAdvanced rows.list n list) → Within d0 d1 (IsEitherList list (drop n list))
+  advance_one n d1 list so_far = within_as d0 d1 (IsAdvanced rows.list n list) (IsEitherList list (drop n list)) so_far (λ c at. ⊎_elim
       (λ old. inl (record { jump = rows.list.jump; head = rows.list.head; end = rows.list.end; laid = old }))
       (λ new. inr (record { jump = new.next.jump; head = new.next.head; end = new.next.end; laid = new.laid })) at)
 
@@ -348,7 +348,7 @@ module _ (cell : Pair) (rows : Rows) (front : Option (List ℕ)) (d0 : DiskState
     shorts c left = (compact.images c left).short
 
     -- while something is staged where there is room
-    pub stage_short : (d1 : DiskState) → Elapses (Spares rows.list.jump rows.list.head rows.list.end) d0 d1 → Elapses (Grows (bound capacity)) d0 d1 → Within d0 d1 (IsCompactIn capacity)
+    pub stage_short : (d1 : DiskState) → Elapses (Spares rows.list.jump rows.list.head rows.list.end) d0 d1 → Elapses (FileGrows (bound capacity)) d0 d1 → Within d0 d1 (IsCompactIn capacity)
     stage_short d1 spares grows = within_both d0 d1 (IsRing cell rows.list w.entries) (λ c. length c ≤ bound capacity) (IsCompactIn capacity)
         (spared_rings cell rows.list w.entries d0 d1 (held).rings spares) (within_short (bound capacity) d0 d1 shorts grows)
         (λ c ring short. compact_in capacity rows.list.jump rows.list.head rows.list.end w.entries c compact.list ring.laid short)
@@ -380,7 +380,7 @@ pub committed_compact : (rows next : Rows) (capacity : ℕ) (d0 d1 : DiskState) 
 committed_compact rows next capacity d0 d1 is compact now = subst (IsCompactAt d1 capacity) (sym is) (let all : IsCompactAt d1 capacity (committed rows) = record { list = compact.ahead; ahead = compact.ahead; images = now } in all)
 
 -- a store that was opened
-open_at : (cell : Pair) (places : Places) (count : ℕ) (d0 d1 : DiskState) → WhereTold (content d0) (λ b. (es : Entries) × IsHeld cell places count None es b) → ((c : List ℕ) → IsImage d1 c → content d0 ≡ Some c) → (told : Option (List ℕ)) → told ≡ content d0 → IsWhole d1 cell (listed places count) None
+open_at : (cell : Pair) (places : Places) (count : ℕ) (d0 d1 : DiskState) → WhereTold (content d0) (λ b. (es : Entries) × IsRingHeld cell places count None es b) → ((c : List ℕ) → IsImage d1 c → content d0 ≡ Some c) → (told : Option (List ℕ)) → told ≡ content d0 → IsWholeRing d1 cell (listed places count) None
 open_at cell places count d0 d1 held at None is = record {
   entries = [];
   staged = [];
@@ -393,20 +393,20 @@ open_at cell places count d0 d1 held at (Some b) is =
     record {
       entries = found.0;
       staged = [];
-      each = λ c left. let both : Some b ≡ Some c = is ∙ at c left in let same : b ≡ c = cc in subst (IsHeld cell places count None found.0) same found.1;
+      each = λ c left. let both : Some b ≡ Some c = is ∙ at c left in let same : b ≡ c = cc in subst (IsRingHeld cell places count None found.0) same found.1;
       opens = λ b told. tt;
       waits = refl;
     }
 
-pub whole_open : (cell : Pair) (places : Places) (count : ℕ) (rows : Rows) (d0 d1 : DiskState) → rows ≡ listed places count → WhereTold (content d0) (λ b. (es : Entries) × IsHeld cell places count None es b) → Preserves d0 d1 → Durable d1 → IsWhole d1 cell rows None
-whole_open cell places count rows d0 d1 is held keeps durable = subst (λ (r : Rows). IsWhole d1 cell r None) (sym is) (open_at cell places count d0 d1 held (λ c left. told_back d0 d1 c keeps (durable c left)) (content d0) refl)
+pub whole_open : (cell : Pair) (places : Places) (count : ℕ) (rows : Rows) (d0 d1 : DiskState) → rows ≡ listed places count → WhereTold (content d0) (λ b. (es : Entries) × IsRingHeld cell places count None es b) → Preserves d0 d1 → Durable d1 → IsWholeRing d1 cell rows None
+whole_open cell places count rows d0 d1 is held keeps durable = subst (λ (r : Rows). IsWholeRing d1 cell r None) (sym is) (open_at cell places count d0 d1 held (λ c left. told_back d0 d1 c keeps (durable c left)) (content d0) refl)
 
 -- a list of so many entries at these places
 pub advanced_rows : (places : Places) (count : ℕ) (next : Rows) → next ≡ listed places count → IsOrdered places → AreRows next
 advanced_rows places count next is ordered = subst AreRows (sym is) (let all : AreRows (listed places count) = record { list = ordered; ahead = ordered; apart = refl; few = omega arith } in all)
 
-pub advanced_whole : (cell : Pair) (places : Places) (count : ℕ) (next : Rows) (d : DiskState) → next ≡ listed places count → IsWhole d cell (listed places count) None → IsWhole d cell next None
-advanced_whole cell places count next d is w = subst (λ (r : Rows). IsWhole d cell r None) (sym is) w
+pub advanced_whole : (cell : Pair) (places : Places) (count : ℕ) (next : Rows) (d : DiskState) → next ≡ listed places count → IsWholeRing d cell (listed places count) None → IsWholeRing d cell next None
+advanced_whole cell places count next d is w = subst (λ (r : Rows). IsWholeRing d cell r None) (sym is) w
 
 pub advanced_holds : (cell : Pair) (places : Places) (count : ℕ) (next : Rows) (list : Entries) (d : DiskState) → next ≡ listed places count → EachNow d (IsRing cell places list) → HoldsAt d next list []
 advanced_holds cell places count next list d is rings = subst (λ (r : Rows). HoldsAt d r list []) (sym is) (list_holds cell (listed places count) list d refl rings)
@@ -424,8 +424,8 @@ unstaged_same rows are none =
     λ i. record { list = rows.list; ahead = same i; count = rows.count; staged = none i }
 
 -- the list, or its new spelling
-pub respell_one : (f : List ℕ → List ℕ) (d0 d1 : DiskState) (list : Entries) → Within d0 d1 (Stems (IsImage d0) (After (Perhaps (Recodes f)) list)) → Within d0 d1 (IsOneOf list (map f list))
-respell_one f d0 d1 list so_far = within_as d0 d1 (Stems (IsImage d0) (After (Perhaps (Recodes f)) list)) (IsOneOf list (map f list)) so_far
+pub respell_one : (f : List ℕ → List ℕ) (d0 d1 : DiskState) (list : Entries) → Within d0 d1 (Stems (IsImage d0) (After (Perhaps (Recodes f)) list)) → Within d0 d1 (IsEitherList list (map f list))
+respell_one f d0 d1 list so_far = within_as d0 d1 (Stems (IsImage d0) (After (Perhaps (Recodes f)) list)) (IsEitherList list (map f list)) so_far
     (λ c stem. ⊎_elim (λ same. inl (subst (λ (l : Entries). IsList l c) same stem.holds.2)) (λ step. inr (subst (λ (l : Entries). IsList l c) step stem.holds.2)) stem.holds.1)
 
 pub respelled_holds : (cell : Pair) (places : Places) (count : ℕ) (next : Rows) (list : Entries) (d0 d1 : DiskState) → next ≡ listed places count → EachNow d1 (Stems (IsImage d0) (IsRing cell places list)) → HoldsAt d1 next list []

@@ -2,7 +2,7 @@
 use Rattle.std.specs.Prelude.{◌≡◌, ◌⊎◌, ℕ, ◌+◌, ◌<◌, ◌≤◌, List, [], ◌∷◌, length, take, drop, Option, Some, None}
 use Rattle.sg_stable.specs.declared.cell.Pair.{Pair}
 use Rattle.sg_spool.specs.Places.{IsOrdered, AreCompact, live}
-use Rattle.sg_spool.specs.Ring.{Entries, IsEnd, IsRow, IsBelow, IsLaid, space}
+use Rattle.sg_spool.specs.Ring.{Entries, IsEnd, IsRow, IsEndBelow, IsLaid, space}
 use Rattle.sg_spool.specs.View.{IsRing}
 use Rattle.sg_spool.specs.declared.places.Places.{Places}
 
@@ -13,23 +13,23 @@ IsFirstSize (Some size) [] = ⊥
 IsFirstSize (Some size) (payload ∷ payloads) = size ≡ length payload
 
 -- the bytes are the ring of at least so many entries, the first of which take so many bytes
-pub record HasEntries (cell : Pair) (places : Places) (n size : ℕ) (entries : Entries) (bytes : List ℕ) : Type 0 where
+pub record HasRingEntries (cell : Pair) (places : Places) (n size : ℕ) (entries : Entries) (bytes : List ℕ) : Type 0 where
   pub ring : IsRing cell places entries bytes
   pub enough : n ≤ length entries
   pub sized : size ≡ space (take n entries)
 
 -- a ring stands at these places, but for the cell's value
-pub record IsReady (jump : Option ℕ) (head end : ℕ) (entries : Entries) (bytes : List ℕ) : Type 0 where
+pub record IsRingReady (jump : Option ℕ) (head end : ℕ) (entries : Entries) (bytes : List ℕ) : Type 0 where
   pub size : 128 ≤ length bytes
   pub high : 64 ≤ head
   pub low : 64 ≤ end
   pub inside : head < length bytes
   pub row : IsRow jump bytes head end entries
   pub ends : IsEnd bytes end
-  pub below : IsBelow jump head end
+  pub below : IsEndBelow jump head end
 
 abbrev pub IsReadyAt : Places → Entries → List ℕ → Type 0
-IsReadyAt places entries bytes = IsReady places.jump places.head places.end entries bytes
+IsReadyAt places entries bytes = IsRingReady places.jump places.head places.end entries bytes
 
 -- the places behind entries that take so many bytes; they are within each capacity that those were within
 pub record IsSkipped (size : ℕ) (places next : Places) : Type 0 where

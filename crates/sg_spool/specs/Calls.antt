@@ -2,18 +2,18 @@
 use Rattle.std.specs.Prelude.{◌≡◌, ℕ, ◌≤◌, true, false, None, Result, OnOk, IfOk}
 use Rattle.sg_device.specs.Disk.{DiskState, Moves, Within, Elapses, HasCause}
 use Rattle.sg_device.specs.Faults.{Rose}
-use Rattle.sg_spool.specs.Lists.{IsOneOf}
+use Rattle.sg_spool.specs.Lists.{IsEitherList}
 use Rattle.sg_spool.specs.Ring.{Entries}
 use Rattle.sg_spool.specs.Rows.{listed}
 use Rattle.sg_spool.specs.Steps.{Spares}
-use Rattle.sg_spool.specs.View.{View, Holds, IsCompact, IsCompactIn}
+use Rattle.sg_spool.specs.View.{View, RingHolds, IsCompact, IsCompactIn}
 use Rattle.sg_spool.specs.declared.rows.Rows.{Rows}
 use Rattle.sg_stable.specs.declared.cell.Pair.{Pair}
 
 -- What outlives a call: the capacity, and the images of past moments. A closed one stays as it is. The count of faults never
 -- falls, and one that isn't closed left it as it was; one that is closed has its cause, which is that the count rose since any
 -- moment at which it was open.
-pub record Lasts {D : Type 0} (state : D → DiskState) (old new : View D) : Type 0 where
+pub record SpoolLasts {D : Type 0} (state : D → DiskState) (old new : View D) : Type 0 where
   pub capacity : new.capacity ≡ old.capacity
   pub moves : Moves (state old.disk) (state new.disk)
   pub untouched : old.closed ≡ true → new ≡ old
@@ -25,21 +25,21 @@ pub record Lasts {D : Type 0} (state : D → DiskState) (old new : View D) : Typ
 
 -- What a crash leaves: the list, or what the call makes of the list and of what is staged. Of a file that is within its bound
 -- each image is, and it stays so.
-pub record Leaves {D : Type 0} (state : D → DiskState) (old new : View D) (step : Entries → Entries → Entries) : Type 0 where
-  pub within : (list staged : Entries) → Holds state old list staged
-      → Within (state old.disk) (state new.disk) (IsOneOf list (step list staged))
+pub record LeavesImages {D : Type 0} (state : D → DiskState) (old new : View D) (step : Entries → Entries → Entries) : Type 0 where
+  pub within : (list staged : Entries) → RingHolds state old list staged
+      → Within (state old.disk) (state new.disk) (IsEitherList list (step list staged))
   pub short : IsCompact state old
       → Within (state old.disk) (state new.disk) (IsCompactIn old.capacity)
   pub compact : IsCompact state old → IsCompact state new
 
 -- What a call that only reads keeps: all but the first payload, where it is kept, and whether a fault closed it.
-pub record Reads {D : Type 0} (state : D → DiskState) (old new : View D) : Type 0 where
+pub record OnlyReadsSpool {D : Type 0} (state : D → DiskState) (old new : View D) : Type 0 where
   pub told : (state new.disk).told ≡ (state old.disk).told
   pub rows : new.rows ≡ old.rows
-  pub lasts : Lasts state old new
+  pub lasts : SpoolLasts state old new
 
 -- an open disk-buffer of this capacity, with nothing staged and the first payload unread
-pub record IsOpened {D : Type 0} (capacity : ℕ) (view : View D) : Type 0 where
+pub record IsOpenedSpool {D : Type 0} (capacity : ℕ) (view : View D) : Type 0 where
   pub opened : view.closed ≡ false
   pub limit : view.capacity ≡ capacity
   pub rows : view.rows ≡ listed view.rows.list view.rows.count

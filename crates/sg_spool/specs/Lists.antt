@@ -3,12 +3,12 @@ use Rattle.std.specs.Prelude.{◌≡◌, ◌⊎◌, ℕ, List, map}
 use Rattle.sg_spool.specs.Ring.{Entries, IsList}
 
 -- the bytes stand for the one list or the other
-abbrev pub IsOneOf : Entries → Entries → List ℕ → Type 0
-IsOneOf one other bytes = IsList one bytes ⊎ IsList other bytes
+abbrev pub IsEitherList : Entries → Entries → List ℕ → Type 0
+IsEitherList one other bytes = IsList one bytes ⊎ IsList other bytes
 
 -- the list stays
-abbrev pub Stays : Entries → Entries → Type 0
-Stays old new = new ≡ old
+abbrev pub ListStays : Entries → Entries → Type 0
+ListStays old new = new ≡ old
 
 -- each payload is spelled anew
 abbrev pub Recodes : (List ℕ → List ℕ) → Entries → Entries → Type 0

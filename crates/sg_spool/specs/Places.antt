@@ -4,9 +4,9 @@ use Rattle.sg_spool.specs.Ring.{Entries, IsEntry}
 use Rattle.sg_spool.specs.declared.places.Places.{Places}
 
 -- the order that they keep
-abbrev pub AreOrdered : Option ℕ → ℕ → ℕ → Type 0
-AreOrdered None head end = (64 ≤ head) × (head ≤ end) × (end < 2 ^ 63)
-AreOrdered (Some jump) head end = (64 ≤ end) × (end < head) × (head ≤ jump) × (jump + 5 < 2 ^ 63)
+abbrev pub AreGatesOrdered : Option ℕ → ℕ → ℕ → Type 0
+AreGatesOrdered None head end = (64 ≤ head) × (head ≤ end) × (end < 2 ^ 63)
+AreGatesOrdered (Some jump) head end = (64 ≤ end) × (end < head) × (head ≤ jump) × (jump + 5 < 2 ^ 63)
 
 -- the bytes between the head and the end, over the jump
 abbrev pub bytes_between : Option ℕ → ℕ → ℕ → ℕ
@@ -14,7 +14,7 @@ bytes_between None head end = end - head
 bytes_between (Some jump) head end = (jump - head) + (end - 64)
 
 abbrev pub IsOrdered : Places → Type 0
-IsOrdered places = AreOrdered places.jump places.head places.end
+IsOrdered places = AreGatesOrdered places.jump places.head places.end
 
 -- the bytes that the entries take, with their gates and lengths
 abbrev pub live : Places → ℕ
@@ -32,8 +32,8 @@ Remains bytes jump gate (payload ∷ payloads) end = IsEntry bytes gate payload
     × Remains bytes jump (gate_past jump (gate + 5 + length payload)) payloads end
 
 -- a payload of n bytes is within the capacity
-abbrev pub Fits : ℕ → Places → ℕ → Type 0
-Fits capacity places n = live places + n + 6 ≤ capacity
+abbrev pub FitsRing : ℕ → Places → ℕ → Type 0
+FitsRing capacity places n = live places + n + 6 ≤ capacity
 
 -- there is room behind the end for a payload of n bytes: always in one row, else up to the head
 abbrev pub HasRoom : Option ℕ → ℕ → ℕ → ℕ → Type 0

@@ -42,13 +42,13 @@ IsShutAt true bytes gate = IsEnd bytes gate
 IsShutAt false bytes gate = Unit {0}
 
 -- an entry more at this place, and behind the last one a closed gate
-pub record Adds (at : ℕ) (payload : List ℕ) (last : Bool) (old new : List ℕ) : Type 0 where
+pub record AddsSpelled (at : ℕ) (payload : List ℕ) (last : Bool) (old new : List ℕ) : Type 0 where
   pub beyond : Beyond at old new
   pub added : at ≤ length old
       → HasPayload new at payload × IsShutAt last new (at + 5 + length payload)
 
 -- the entries of the list, spelled anew behind all that it uses
-pub record Spells (meaning : List ℕ → List ℕ) (places : Places) (count end : ℕ) (old new : List ℕ) : Type 0 where
+pub record SpellsRing (meaning : List ℕ → List ℕ) (places : Places) (count end : ℕ) (old new : List ℕ) : Type 0 where
   pub beyond : Beyond (past places) old new
   pub spelled : (entries : Entries) → IsLaid places.jump places.head places.end entries old
       → count ≡ length entries → Stand new (past places) (map meaning entries) end × IsEnd new end

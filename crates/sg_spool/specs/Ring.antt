@@ -36,10 +36,10 @@ pub record IsEntry (bytes : List ℕ) (gate : ℕ) (payload : List ℕ) : Type 0
   pub next : gate + 5 + length payload < length bytes
 
 -- these entries stand one behind another, from the first gate up to the last
-abbrev pub Run : List ℕ → ℕ → Entries → ℕ → Type 0
-Run bytes gate [] end = gate ≡ end
-Run bytes gate (payload ∷ payloads) end = IsEntry bytes gate payload
-    × Run bytes (gate + 5 + length payload) payloads end
+abbrev pub EntryRun : List ℕ → ℕ → Entries → ℕ → Type 0
+EntryRun bytes gate [] end = gate ≡ end
+EntryRun bytes gate (payload ∷ payloads) end = IsEntry bytes gate payload
+    × EntryRun bytes (gate + 5 + length payload) payloads end
 
 -- a gate that ends the list
 pub record IsEnd (bytes : List ℕ) (gate : ℕ) : Type 0 where
@@ -53,7 +53,7 @@ pub record IsJump (bytes : List ℕ) (gate : ℕ) : Type 0 where
   pub jumps : size_at (gate + 1) bytes ≡ 0
 
 -- a file with a head in it, and zeros outside its cell
-pub record IsBuffer (bytes : List ℕ) (head : ℕ) : Type 0 where
+pub record IsBufferFile (bytes : List ℕ) (head : ℕ) : Type 0 where
   pub size : 128 ≤ length bytes
   pub zeros : (k : ℕ) → k < 64 → IsOutside k → slice_index bytes k ≡ 0
   pub at_head : 64 + cell_value bytes ≡ head
@@ -64,26 +64,26 @@ pub record IsWrapped (bytes : List ℕ) (head jump end : ℕ) (entries : Entries
   pub first : Entries
   pub second : Entries
   pub both : entries ≡ first ++ second
-  pub to_jump : Run bytes head first jump
+  pub to_jump : EntryRun bytes head first jump
   pub jumps : IsJump bytes jump
-  pub from_front : Run bytes 64 second end
+  pub from_front : EntryRun bytes 64 second end
 
 -- the entries' places: in one row, or over a jump
 abbrev pub IsRow : Option ℕ → List ℕ → ℕ → ℕ → Entries → Type 0
-IsRow None bytes head end entries = Run bytes head entries end
+IsRow None bytes head end entries = EntryRun bytes head entries end
 IsRow (Some jump) bytes head end entries = IsWrapped bytes head jump end entries
 
 -- behind a jump the list ends below the head
-abbrev pub IsBelow : Option ℕ → ℕ → ℕ → Type 0
-IsBelow None head end = Unit {0}
-IsBelow (Some jump) head end = end < head
+abbrev pub IsEndBelow : Option ℕ → ℕ → ℕ → Type 0
+IsEndBelow None head end = Unit {0}
+IsEndBelow (Some jump) head end = end < head
 
 -- the ring with this jump, head and end
 pub record IsLaid (jump : Option ℕ) (head end : ℕ) (entries : Entries) (bytes : List ℕ) : Type 0 where
-  pub buffer : IsBuffer bytes head
+  pub buffer : IsBufferFile bytes head
   pub row : IsRow jump bytes head end entries
   pub ends : IsEnd bytes end
-  pub below : IsBelow jump head end
+  pub below : IsEndBelow jump head end
 
 -- the list that the bytes stand for
 pub record IsList (entries : Entries) (bytes : List ℕ) : Type 0 where

@@ -24,16 +24,16 @@ IsPast (Some jump) end None last = ⊥
 IsPast (Some jump) end (Some other) last = (other ≡ jump) × (end < last)
 
 -- so many entries are staged behind the list
-abbrev pub IsAhead : ℕ → Places → Places → Type 0
-IsAhead zero list ahead = ahead ≡ list
-IsAhead (suc staged) list ahead = (ahead.head ≡ list.head)
+abbrev pub AreStagedAhead : ℕ → Places → Places → Type 0
+AreStagedAhead zero list ahead = ahead ≡ list
+AreStagedAhead (suc staged) list ahead = (ahead.head ≡ list.head)
     × IsPast list.jump list.end ahead.jump ahead.end
 
 -- both places are in order
 pub record AreRows (rows : Rows) : Type 0 where
   pub list : IsOrdered rows.list
   pub ahead : IsOrdered rows.ahead
-  pub apart : IsAhead rows.staged rows.list rows.ahead
+  pub apart : AreStagedAhead rows.staged rows.list rows.ahead
   pub few : rows.staged ≤ live rows.ahead
 
 -- the same entries, with room behind them for a payload of n bytes

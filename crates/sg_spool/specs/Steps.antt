@@ -20,16 +20,16 @@ abbrev pub After : (Entries → Entries → Type 0) → Entries → List ℕ →
 After step entries bytes = (after : Entries) × step entries after × IsList after bytes
 
 -- a place that the ring with this jump, head and end uses
-abbrev pub IsUsed : Option ℕ → ℕ → ℕ → ℕ → Type 0
-IsUsed None head end k = (k < 64) ⊎ ((head ≤ k) × (k ≤ end))
-IsUsed (Some jump) head end k = (k < 64) ⊎ ((k ≤ end) ⊎ ((head ≤ k) × (k < jump + 5)))
+abbrev pub IsPlaceUsed : Option ℕ → ℕ → ℕ → ℕ → Type 0
+IsPlaceUsed None head end k = (k < 64) ⊎ ((head ≤ k) × (k ≤ end))
+IsPlaceUsed (Some jump) head end k = (k < 64) ⊎ ((k ≤ end) ⊎ ((head ≤ k) × (k < jump + 5)))
 
 -- the bytes that the ring uses stay
 pub record Spares (jump : Option ℕ) (head end : ℕ) (old new : List ℕ) : Type 0 where
   pub longer : length old ≤ length new
-  pub same : (k : ℕ) → IsUsed jump head end k → k < length old
+  pub same : (k : ℕ) → IsPlaceUsed jump head end k → k < length old
       → slice_index new k ≡ slice_index old k
 
 -- no file grows past this length
-abbrev pub Grows : ℕ → List ℕ → List ℕ → Type 0
-Grows most old new = length new ≤ max (length old) most
+abbrev pub FileGrows : ℕ → List ℕ → List ℕ → Type 0
+FileGrows most old new = length new ≤ max (length old) most

@@ -32,8 +32,8 @@ pub record HoldsAt (disk : DiskState) (rows : Rows) (list staged : Entries) : Ty
   pub number : rows.staged ≡ length staged
   pub waits : WhereTold (content disk) (Awaits rows.list.end list staged)
 
-abbrev pub Holds : {D : Type 0} → (D → DiskState) → View D → Entries → Entries → Type 0
-Holds state view list staged = HoldsAt (state view.disk) view.rows list staged
+abbrev pub RingHolds : {D : Type 0} → (D → DiskState) → View D → Entries → Entries → Type 0
+RingHolds state view list staged = HoldsAt (state view.disk) view.rows list staged
 
 -- the bytes are no longer than the bound, and the ring's places are within the capacity
 pub record IsCompactIn (capacity : ℕ) (bytes : List ℕ) : Type 0 where
@@ -56,7 +56,7 @@ abbrev pub IsRing : Pair → Places → Entries → List ℕ → Type 0
 IsRing cell places entries bytes = RingAt cell places.jump places.head places.end entries bytes
 
 -- the images are the ring of this list, and these payloads are staged behind it
-pub record AreHeld (disk : DiskState) (cell : Pair) (rows : Rows) (list staged : Entries) : Type 0 where
+pub record AreImagesHeld (disk : DiskState) (cell : Pair) (rows : Rows) (list staged : Entries) : Type 0 where
   pub rings : EachNow disk (IsRing cell rows.list list)
   pub opens : WhereTold (content disk)
       (OpensTo cell rows.list.end rows.ahead.jump rows.ahead.head rows.ahead.end list staged)
@@ -64,34 +64,34 @@ pub record AreHeld (disk : DiskState) (cell : Pair) (rows : Rows) (list staged :
 
 -- More payloads are staged, behind the others or behind a list that has taken those.
 abbrev pub AreHeldAfter : DiskState → Pair → Rows → Rows → Entries → Entries → Entries → Type 0
-AreHeldAfter disk cell old new list staged more = (AreHeld disk cell new list (staged ++ more)
+AreHeldAfter disk cell old new list staged more = (AreImagesHeld disk cell new list (staged ++ more)
     × (new.count ≡ old.count))
-    ⊎ (AreHeld disk cell new (list ++ staged) more × (new.count ≡ total old))
+    ⊎ (AreImagesHeld disk cell new (list ++ staged) more × (new.count ≡ total old))
 
 -- the first payload, where it was read
-abbrev pub IsFront : Option (List ℕ) → Entries → Type 0
-IsFront None entries = Unit {0}
-IsFront (Some payload) [] = ⊥
-IsFront (Some payload) (first ∷ entries) = payload ≡ first
+abbrev pub IsFrontPayload : Option (List ℕ) → Entries → Type 0
+IsFrontPayload None entries = Unit {0}
+IsFrontPayload (Some payload) [] = ⊥
+IsFrontPayload (Some payload) (first ∷ entries) = payload ≡ first
 
 -- the same, with the number of its entries and the first payload
-pub record IsHeld (cell : Pair) (places : Places) (count : ℕ) (front : Option (List ℕ)) (entries : Entries) (bytes : List ℕ) : Type 0 where
+pub record IsRingHeld (cell : Pair) (places : Places) (count : ℕ) (front : Option (List ℕ)) (entries : Entries) (bytes : List ℕ) : Type 0 where
   pub ring : IsRing cell places entries bytes
   pub number : count ≡ length entries
-  pub first : IsFront front entries
+  pub first : IsFrontPayload front entries
 
 -- each image is the ring with one list, and the disk holds one list of what is staged
-pub record IsWhole (disk : DiskState) (cell : Pair) (rows : Rows) (front : Option (List ℕ)) : Type 0 where
+pub record IsWholeRing (disk : DiskState) (cell : Pair) (rows : Rows) (front : Option (List ℕ)) : Type 0 where
   pub entries : Entries
   pub staged : Entries
-  pub each : EachNow disk (IsHeld cell rows.list rows.count front entries)
+  pub each : EachNow disk (IsRingHeld cell rows.list rows.count front entries)
   pub opens : WhereTold (content disk)
       (OpensTo cell rows.list.end rows.ahead.jump rows.ahead.head rows.ahead.end entries staged)
   pub waits : rows.staged ≡ length staged
 
 -- what is true of every disk-buffer: its places are in order, and until a fault closes it each image is the ring
-pub record IsSound {D : Type 0} (state : D → DiskState) (cell : Pair) (view : View D) : Type 0 where
+pub record IsSoundSpool {D : Type 0} (state : D → DiskState) (cell : Pair) (view : View D) : Type 0 where
   pub rows : AreRows view.rows
   pub unstaged : view.closed ≡ true → view.rows.staged ≡ 0
   pub cell_open : view.closed ≡ false → cell.closed ≡ false
-  pub whole : view.closed ≡ false → IsWhole (state view.disk) cell view.rows view.front
+  pub whole : view.closed ≡ false → IsWholeRing (state view.disk) cell view.rows view.front

@@ -1,15 +1,15 @@
 -- What a walk along the gates meets.
 use Rattle.std.specs.Prelude.{◌≡◌, ◌≢◌, ℕ, ◌+◌, ◌-◌, ◌<◌, ◌≤◌, ◌^◌, min, List, length, slice_index, Option, Some, None}
-use Rattle.sg_spool.specs.Ring.{size_at, Entries, IsEntry, IsEnd, IsJump, IsRow, IsBelow}
+use Rattle.sg_spool.specs.Ring.{size_at, Entries, IsEntry, IsEnd, IsJump, IsRow, IsEndBelow}
 use Rattle.sg_spool.specs.Opening.{IsReached, IsDamagedWalk}
 use Rattle.sg_spool.specs.declared.walk.Gate.{Gate}
 use Rattle.sg_spool.specs.declared.walk.Gate.TheVariants.{Shut, Entry, Jump, Broken}
-use Rattle.sg_spool.specs.declared.walk.Place.{Place}
-use Rattle.sg_spool.specs.declared.walk.Step.{Step}
-use Rattle.sg_spool.specs.declared.walk.Step.TheVariants.{On, End, Damaged}
+use Rattle.sg_spool.specs.declared.walk.GatePlace.{GatePlace}
+use Rattle.sg_spool.specs.declared.walk.GateStep.{GateStep}
+use Rattle.sg_spool.specs.declared.walk.GateStep.TheVariants.{On, End, Damaged}
 
 -- an open gate with a whole entry of this size behind it, and the next gate in the file
-pub record HasSize (bytes : List ℕ) (gate size : ℕ) : Type 0 where
+pub record HasEntrySize (bytes : List ℕ) (gate size : ℕ) : Type 0 where
   pub opened : slice_index bytes gate ≢ 0
   pub told : size_at (gate + 1) bytes ≡ size
   pub some : 1 ≤ size
@@ -19,7 +19,7 @@ pub record HasSize (bytes : List ℕ) (gate size : ℕ) : Type 0 where
 -- what stands at a gate
 abbrev pub IsGate : List ℕ → ℕ → Gate → Type 0
 IsGate bytes gate Shut = IsEnd bytes gate
-IsGate bytes gate (Entry size) = HasSize bytes gate size
+IsGate bytes gate (Entry size) = HasEntrySize bytes gate size
 IsGate bytes gate Jump = IsJump bytes gate
 IsGate bytes gate Broken = (slice_index bytes gate ≢ 0)
     × ((payload : List ℕ) → IsEntry bytes gate payload → ⊥) × (IsJump bytes gate → ⊥)
@@ -42,26 +42,26 @@ IsAmongPlaces len head None gate = (head ≤ gate) × (gate < len)
 IsAmongPlaces len head (Some jump) gate = (64 ≤ gate) × (gate < head) × (head ≤ jump)
     × (jump + 5 ≤ len)
 
-abbrev pub IsAmong : ℕ → ℕ → Place → Type 0
-IsAmong len head place = IsAmongPlaces len head place.jump place.gate
+abbrev pub IsGateAmong : ℕ → ℕ → GatePlace → Type 0
+IsGateAmong len head place = IsAmongPlaces len head place.jump place.gate
 
 -- the walk is at this place, behind these entries
-pub record IsAt (bytes : List ℕ) (head : ℕ) (place : Place) : Type 0 where
+pub record IsWalkAt (bytes : List ℕ) (head : ℕ) (place : GatePlace) : Type 0 where
   pub entries : Entries
   pub row : IsRow place.jump bytes head place.gate entries
-  pub below : IsBelow place.jump head place.gate
+  pub below : IsEndBelow place.jump head place.gate
   pub reached : IsReached place.jump head place.gate
   pub number : place.count ≡ min (length entries) (2 ^ 64 - 1)
 
 -- where a step leads, from a place where the bytes have this gate
-abbrev pub Leads : List ℕ → ℕ → Place → Step → Type 0
-Leads bytes head place (On next) = IsAt bytes head next
-Leads bytes head place End = IsEnd bytes place.gate
-Leads bytes head place (Damaged at) = IsDamagedWalk head at bytes
+abbrev pub StepLeads : List ℕ → ℕ → GatePlace → GateStep → Type 0
+StepLeads bytes head place (On next) = IsWalkAt bytes head next
+StepLeads bytes head place End = IsEnd bytes place.gate
+StepLeads bytes head place (Damaged at) = IsDamagedWalk head at bytes
 
 -- a step goes on within the file
-abbrev pub GoesOn : ℕ → ℕ → Place → Step → Type 0
-GoesOn len head place (On next) = IsAmong len head next
+abbrev pub WalkGoesOn : ℕ → ℕ → GatePlace → GateStep → Type 0
+WalkGoesOn len head place (On next) = IsGateAmong len head next
     × (ahead len next.jump next.gate < ahead len place.jump place.gate)
-GoesOn len head place End = Unit {0}
-GoesOn len head place (Damaged at) = Unit {0}
+WalkGoesOn len head place End = Unit {0}
+WalkGoesOn len head place (Damaged at) = Unit {0}

@@ -3,7 +3,7 @@ ghost use Rattle.std.specs.Prelude.{◌≡◌, ◌⊎◌, ◌≤◌, ◌<◌, �
 ghost use Rattle.sg_device.specs.Disk.{content, Within, EachNow, HasCause, WhereTold};
 ghost use Rattle.sg_stable.specs.Cell.{HasCell};
 ghost use Rattle.sg_spool.specs.Calls.{LeavesOpen};
-ghost use Rattle.sg_spool.specs.Advancing.{IsSkipped, HasEntries, IsAdvanced, IsFirstSize};
+ghost use Rattle.sg_spool.specs.Advancing.{IsSkipped, HasRingEntries, IsAdvanced, IsFirstSize};
 ghost use Rattle.sg_spool.specs.Places.{IsOrdered, gate_past, live};
 ghost use Rattle.sg_spool.specs.Ring.{Entries, IsEntry, IsLaid, space};
 ghost use Rattle.sg_spool.specs.View.{IsRing};
@@ -26,11 +26,11 @@ pub(crate) fn advance_past<D: Disk>(
     requires has_cell { EachNow (D.state disk.old) (HasCell cell.old.selector cell.old.value) }
 
     ensures within { (n : ℕ) (entries : Entries)
-        → EachNow (D.state disk.old) (HasEntries cell.old places n size entries)
+        → EachNow (D.state disk.old) (HasRingEntries cell.old places n size entries)
         → Within (D.state disk.old) (D.state disk.new) (IsAdvanced places n entries) }
 
     ensures ring { IfOk result (λ next. (n : ℕ) (entries : Entries)
-        → EachNow (D.state disk.old) (HasEntries cell.old places n size entries)
+        → EachNow (D.state disk.old) (HasRingEntries cell.old places n size entries)
         → EachNow (D.state disk.new) (IsRing cell.new next (drop n entries))) }
 
     ensures places { IfOk result (IsSkipped size places) }

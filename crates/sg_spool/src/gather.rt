@@ -3,7 +3,7 @@ ghost use Rattle.std.specs.Prelude.{◌≡◌, ◌≤◌, ◌<◌, ◌+◌, ◌-
 ghost use Rattle.sg_device.specs.Disk.{content, IsImage, Within, EachNow, HasCause, Changes, Elapses};
 ghost use Rattle.sg_stable.specs.Cell.{HasCell};
 ghost use Rattle.sg_spool.specs.Calls.{LeavesOpen};
-ghost use Rattle.sg_spool.specs.Lists.{Stays};
+ghost use Rattle.sg_spool.specs.Lists.{ListStays};
 ghost use Rattle.sg_spool.specs.Places.{IsOrdered, IsInOneRow};
 ghost use Rattle.sg_spool.specs.Ring.{Entries};
 ghost use Rattle.sg_spool.specs.Steps.{Stems, After};
@@ -31,7 +31,7 @@ pub(crate) fn gather<D: Disk>(
 
     ensures within { (es : Entries) → EachNow (D.state disk.old) (IsRing cell.old places es)
         → Within (D.state disk.old) (D.state disk.new)
-        (Stems (IsImage (D.state disk.old)) (After Stays es)) }
+        (Stems (IsImage (D.state disk.old)) (After ListStays es)) }
 
     ensures ring { IfOk result (λ moved. (es : Entries)
         → EachNow (D.state disk.old) (IsRing cell.old places es)

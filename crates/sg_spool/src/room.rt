@@ -3,12 +3,12 @@ ghost use Rattle.std.specs.Prelude.{◌≡◌, ◌≤◌, ◌<◌, ◌+◌, ◌-
 ghost use Rattle.sg_device.specs.Disk.{Within, EachNow, Elapses};
 ghost use Rattle.sg_stable.specs.Cell.{HasCell};
 ghost use Rattle.sg_spool.specs.Calls.{LeavesOpen, SparesList};
-ghost use Rattle.sg_spool.specs.Lists.{IsOneOf};
-ghost use Rattle.sg_spool.specs.Places.{IsOrdered, IsInOneRow, live, Fits, HasRoom, AreCompact, bound};
+ghost use Rattle.sg_spool.specs.Lists.{IsEitherList};
+ghost use Rattle.sg_spool.specs.Places.{IsOrdered, IsInOneRow, live, FitsRing, HasRoom, AreCompact, bound};
 ghost use Rattle.sg_spool.specs.Ring.{Entries};
 ghost use Rattle.sg_spool.specs.Rows.{AreRows, HasRoomFor, HasOneMore, listed, total};
-ghost use Rattle.sg_spool.specs.Steps.{Grows};
-ghost use Rattle.sg_spool.specs.View.{IsRing, AreHeld, AreHeldAfter};
+ghost use Rattle.sg_spool.specs.Steps.{FileGrows};
+ghost use Rattle.sg_spool.specs.View.{IsRing, AreImagesHeld, AreHeldAfter};
 
 use crate::commit::commit_rows;
 use crate::gather::gather;
@@ -21,7 +21,7 @@ use sg_stable::Pair;
 pub(crate) fn fits(places: Places, capacity: u64, size: u64) -> bool
     requires ordered { IsOrdered places }
     requires small { size ≤ 2 ^ 62 }
-    ensures { IsTrue result ↔ Fits capacity places size }
+    ensures { IsTrue result ↔ FitsRing capacity places size }
 {
     places.live() + size + 6 <= capacity
 }
@@ -36,15 +36,15 @@ pub(crate) fn stage_block<D: Disk>(
     block: &Block,
 ) -> Result<Rows, DiskFault>
     requires rows { AreRows rows }
-    requires fits { Fits capacity rows.ahead (length block.now) }
+    requires fits { FitsRing capacity rows.ahead (length block.now) }
     requires cell_open { cell.old.closed ≡ false }
     requires has_cell { EachNow (D.state disk.old) (HasCell cell.old.selector cell.old.value) }
 
-    ensures within { (list staged : Entries) → AreHeld (D.state disk.old) cell.old rows list staged
-        → Within (D.state disk.old) (D.state disk.new) (IsOneOf list (list ++ staged)) }
+    ensures within { (list staged : Entries) → AreImagesHeld (D.state disk.old) cell.old rows list staged
+        → Within (D.state disk.old) (D.state disk.new) (IsEitherList list (list ++ staged)) }
 
     ensures staged { IfOk result (λ next. (list staged : Entries)
-        → AreHeld (D.state disk.old) cell.old rows list staged
+        → AreImagesHeld (D.state disk.old) cell.old rows list staged
         → AreHeldAfter (D.state disk.new) cell.new rows next list staged (block.now ∷ [])) }
 
     ensures rows { IfOk result (HasOneMore capacity (length block.now) rows) }
@@ -53,7 +53,7 @@ pub(crate) fn stage_block<D: Disk>(
     ensures spared { HasRoom rows.ahead.jump rows.ahead.head rows.ahead.end (length block.now)
         → SparesList rows (D.state disk.old) (D.state disk.new) result }
     ensures short { AreCompact capacity rows.ahead.jump rows.ahead.head rows.ahead.end
-        → Elapses (Grows (bound capacity)) (D.state disk.old) (D.state disk.new) }
+        → Elapses (FileGrows (bound capacity)) (D.state disk.old) (D.state disk.new) }
     ensures answer { LeavesOpen cell.new (D.state disk.old).faults (D.state disk.new).faults
         result }
 {
@@ -80,11 +80,11 @@ fn make_room<D: Disk>(
     requires cell_open { cell.old.closed ≡ false }
     requires has_cell { EachNow (D.state disk.old) (HasCell cell.old.selector cell.old.value) }
 
-    ensures within { (list staged : Entries) → AreHeld (D.state disk.old) cell.old rows list staged
-        → Within (D.state disk.old) (D.state disk.new) (IsOneOf list (list ++ staged)) }
+    ensures within { (list staged : Entries) → AreImagesHeld (D.state disk.old) cell.old rows list staged
+        → Within (D.state disk.old) (D.state disk.new) (IsEitherList list (list ++ staged)) }
 
     ensures held { IfOk result (λ next. (list staged : Entries)
-        → AreHeld (D.state disk.old) cell.old rows list staged
+        → AreImagesHeld (D.state disk.old) cell.old rows list staged
         → AreHeldAfter (D.state disk.new) cell.new rows next list staged []) }
 
     ensures rows { IfOk result (HasRoomFor size rows) }
@@ -119,11 +119,11 @@ fn gather_rows<D: Disk>(
     requires cell_open { cell.old.closed ≡ false }
     requires has_cell { EachNow (D.state disk.old) (HasCell cell.old.selector cell.old.value) }
 
-    ensures within { (list staged : Entries) → AreHeld (D.state disk.old) cell.old rows list staged
-        → Within (D.state disk.old) (D.state disk.new) (IsOneOf list (list ++ staged)) }
+    ensures within { (list staged : Entries) → AreImagesHeld (D.state disk.old) cell.old rows list staged
+        → Within (D.state disk.old) (D.state disk.new) (IsEitherList list (list ++ staged)) }
 
     ensures ring { IfOk result (λ next. (list staged : Entries)
-        → AreHeld (D.state disk.old) cell.old rows list staged
+        → AreImagesHeld (D.state disk.old) cell.old rows list staged
         → EachNow (D.state disk.new) (IsRing cell.new next.list (list ++ staged))) }
 
     ensures rows { IfOk result (λ next. next ≡ listed next.list (total rows)) }

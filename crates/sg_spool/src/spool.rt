@@ -3,14 +3,14 @@ ghost use Rattle.std.specs.Prelude.{◌≡◌, ◌↔◌, ◌≤◌, ◌<◌, �
 ghost use Rattle.std.specs.Option.{option_map};
 ghost use Rattle.sg_device.specs.Disk.{content, Within, EachNow, WhereTold};
 ghost use Rattle.sg_stable.specs.Opening.{IsSynced, IsUnwritten};
-ghost use Rattle.sg_spool.specs.Answers.{Stages, Appends, Commits, Advances, Respells, IsFronted, IsFirst, IsWalked, IsNextOf, IsWholeItem};
-ghost use Rattle.sg_spool.specs.Calls.{Lasts, Leaves, Reads, IsOpened};
-ghost use Rattle.sg_spool.specs.Lists.{IsOneOf};
-ghost use Rattle.sg_spool.specs.Opening.{HasReason};
-ghost use Rattle.sg_spool.specs.Places.{live, Fits, gate_past, Remains};
+ghost use Rattle.sg_spool.specs.Answers.{Stages, Appends, Commits, AdvancesSpool, Respells, IsFronted, IsFirstPayload, IsWalked, IsNextOf, IsWholeItem};
+ghost use Rattle.sg_spool.specs.Calls.{SpoolLasts, LeavesImages, OnlyReadsSpool, IsOpenedSpool};
+ghost use Rattle.sg_spool.specs.Lists.{IsEitherList};
+ghost use Rattle.sg_spool.specs.Opening.{HasRingReason};
+ghost use Rattle.sg_spool.specs.Places.{live, FitsRing, gate_past, Remains};
 ghost use Rattle.sg_spool.specs.Ring.{Entries, IsList, IsLaid, space};
 ghost use Rattle.sg_spool.specs.Rows.{listed};
-ghost use Rattle.sg_spool.specs.View.{View, Holds, IsCompact, IsCompactIn};
+ghost use Rattle.sg_spool.specs.View.{View, RingHolds, IsCompact, IsCompactIn};
 
 use crate::advance::{advance_past, space_of};
 use crate::commit::commit_rows;
@@ -41,7 +41,7 @@ pub struct Spool<D: Disk> {
 }
 
 impl<D: Disk> Model for Spool<D> {
-    ghost use Rattle.sg_spool.specs.View.{View, IsSound};
+    ghost use Rattle.sg_spool.specs.View.{View, IsSoundSpool};
     ghost use Rattle.std.specs.Option.{option_map};
 
     ghost Value = { View D };
@@ -54,7 +54,7 @@ impl<D: Disk> Model for Spool<D> {
       closed = s.closed;
     } };
 
-    ghost invariant = { λ s. IsSound D.state s.cell
+    ghost invariant = { λ s. IsSoundSpool D.state s.cell
         (record {
           disk = s.disk;
           capacity = s.capacity;
@@ -70,9 +70,9 @@ impl<D: Disk> Spool<D> {
     /// of the images since. A refusal gives the disk back.
     pub fn open(disk: D, capacity: u64) -> Result<Spool<D>, (D, StoreRefusal)>
         ensures list { IfOk result (λ spool. WhereTold (content (D.state disk))
-            (λ bytes. (list : Entries) × IsList list bytes × Holds D.state spool list []
+            (λ bytes. (list : Entries) × IsList list bytes × RingHolds D.state spool list []
             × (spool.rows.count ≡ length list))) }
-        ensures opened { IfOk result (IsOpened capacity) }
+        ensures opened { IfOk result (IsOpenedSpool capacity) }
         ensures synced { IfOk result (λ spool. IsSynced (D.state disk) (D.state spool.disk)) }
 
         // The bound on the file's length, taken up again: any image of one within its bound is, and so is a fresh store.
@@ -81,7 +81,7 @@ impl<D: Disk> Spool<D> {
             → IsCompact D.state spool) }
 
         ensures unwritten { IfErr result (λ e. IsUnwritten (D.state disk) (D.state e.0)) }
-        ensures reason { IfErr result (λ e. HasReason (D.state disk) (D.state e.0) e.1) }
+        ensures reason { IfErr result (λ e. HasRingReason (D.state disk) (D.state e.0) e.1) }
     {
         let mut disk = disk;
         match look(&mut disk) {
@@ -101,9 +101,9 @@ impl<D: Disk> Spool<D> {
     /// the capacity, beside the entries that stand and those staged.
     pub fn fits(&self, length: u64) -> bool
         requires { length ≤ 2 ^ 62 }
-        ensures fits { IsTrue result ↔ Fits self.now.capacity self.now.rows.ahead length }
+        ensures fits { IsTrue result ↔ FitsRing self.now.capacity self.now.rows.ahead length }
         ensures space { self.now.closed ≡ false → WhereTold (content (D.state self.now.disk))
-            (λ bytes. (list staged : Entries) → Holds D.state self.now list staged
+            (λ bytes. (list staged : Entries) → RingHolds D.state self.now list staged
             → live self.now.rows.ahead ≡ space (list ++ staged)) }
     {
         fits(self.rows.ahead, self.capacity, length)
@@ -113,8 +113,8 @@ impl<D: Disk> Spool<D> {
     /// no room behind them, which only a capacity greater than an earlier run's brings, those are put into
     /// the list first. It takes no memory.
     pub fn stage(&mut self, block: &Block) -> Appended
-        ensures lasts { Lasts D.state self.old self.new }
-        ensures leaves { Leaves D.state self.old self.new (λ list staged. list ++ staged) }
+        ensures lasts { SpoolLasts D.state self.old self.new }
+        ensures leaves { LeavesImages D.state self.old self.new (λ list staged. list ++ staged) }
         ensures answer { Stages D.state self.old self.new block.now result }
         ensures front { self.new.front ≡ self.old.front }
     {
@@ -140,8 +140,8 @@ impl<D: Disk> Spool<D> {
     /// payloads that are, it syncs twice; where nothing is staged, it makes no call to the disk. It takes
     /// no memory.
     pub fn commit(&mut self) -> Result<(), DiskFault>
-        ensures lasts { Lasts D.state self.old self.new }
-        ensures leaves { Leaves D.state self.old self.new (λ list staged. list ++ staged) }
+        ensures lasts { SpoolLasts D.state self.old self.new }
+        ensures leaves { LeavesImages D.state self.old self.new (λ list staged. list ++ staged) }
         ensures answer { Commits D.state self.old self.new result }
         ensures quiet { self.old.rows.staged ≡ 0 → self.new ≡ self.old }
         ensures front { self.new.front ≡ self.old.front }
@@ -164,8 +164,8 @@ impl<D: Disk> Spool<D> {
     /// Puts an entry behind the list: it is staged and committed. It takes no memory.
     pub fn append(&mut self, block: &Block) -> Appended
         requires { self.old.rows.staged ≡ 0 }
-        ensures lasts { Lasts D.state self.old self.new }
-        ensures leaves { Leaves D.state self.old self.new (λ list staged. list ++ block.now ∷ []) }
+        ensures lasts { SpoolLasts D.state self.old self.new }
+        ensures leaves { LeavesImages D.state self.old self.new (λ list staged. list ++ block.now ∷ []) }
         ensures answer { Appends D.state self.old self.new block.now result }
         ensures front { self.new.front ≡ self.old.front }
     {
@@ -184,10 +184,10 @@ impl<D: Disk> Spool<D> {
     /// it reads nothing.
     pub fn front(&mut self, alloc: Global) -> Result<Front, NoMemory>
         requires { self.old.rows.staged ≡ 0 }
-        ensures reads { Reads D.state self.old self.new }
+        ensures reads { OnlyReadsSpool D.state self.old self.new }
         ensures answer { IfOk result (IsFronted self.old self.new (D.state self.old.disk).faults
             (D.state self.new.disk).faults) }
-        ensures first { IfOk result (IsFirst (D.state self.old.disk)) }
+        ensures first { IfOk result (IsFirstPayload (D.state self.old.disk)) }
         ensures no_memory { OnErr result (self.new.closed ≡ false) }
         ensures unread { OnErr result (self.new.front ≡ self.old.front) }
         ensures again { (payload : List ℕ) → self.old.front ≡ Some payload
@@ -223,9 +223,9 @@ impl<D: Disk> Spool<D> {
         requires some { 1 ≤ n }
         requires enough { n ≤ self.old.rows.count }
         requires unstaged { self.old.rows.staged ≡ 0 }
-        ensures lasts { Lasts D.state self.old self.new }
-        ensures leaves { Leaves D.state self.old self.new (λ list staged. drop n list) }
-        ensures answer { Advances D.state self.old self.new n result }
+        ensures lasts { SpoolLasts D.state self.old self.new }
+        ensures leaves { LeavesImages D.state self.old self.new (λ list staged. drop n list) }
+        ensures answer { AdvancesSpool D.state self.old self.new n result }
     {
         if self.closed {
             return Err(DiskFault);
@@ -249,9 +249,9 @@ impl<D: Disk> Spool<D> {
         requires inside { size ≤ live self.old.rows.list }
         requires sized { self.old.closed ≡ false → WhereTold (content (D.state self.old.disk))
             (λ bytes. (list : Entries) → IsList list bytes → size ≡ space (take n list)) }
-        ensures lasts { Lasts D.state self.old self.new }
-        ensures leaves { Leaves D.state self.old self.new (λ list staged. drop n list) }
-        ensures answer { Advances D.state self.old self.new n result }
+        ensures lasts { SpoolLasts D.state self.old self.new }
+        ensures leaves { LeavesImages D.state self.old self.new (λ list staged. drop n list) }
+        ensures answer { AdvancesSpool D.state self.old self.new n result }
         ensures live { OnOk result (live self.new.rows.list + size ≡ live self.old.rows.list) }
     {
         if self.closed {
@@ -316,7 +316,7 @@ impl<D: Disk> Spool<D> {
         requires left { self.old.closed ≡ false → WhereTold (content (D.state self.old.disk))
             (λ bytes. (entries : Entries)
             × Remains bytes self.old.rows.list.jump gate entries self.old.rows.list.end) }
-        ensures reads { Reads D.state self.old self.new }
+        ensures reads { OnlyReadsSpool D.state self.old self.new }
         ensures answer { IfOk result (IsWalked self.old self.new gate (D.state self.old.disk).faults
             (D.state self.new.disk).faults) }
         ensures next { IfOk result (λ walked. WhereTold (content (D.state self.old.disk))
@@ -357,10 +357,10 @@ impl<D: Disk> Spool<D> {
         recode: &mut M,
     ) -> Result<(), RewriteRefusal>
         requires { self.old.rows.staged ≡ 0 }
-        ensures lasts { Lasts D.state self.old self.new }
-        ensures within { (list : Entries) → Holds D.state self.old list []
+        ensures lasts { SpoolLasts D.state self.old self.new }
+        ensures within { (list : Entries) → RingHolds D.state self.old list []
             → Within (D.state self.old.disk) (D.state self.new.disk)
-            (IsOneOf list (map (M.meaning recode.old) list)) }
+            (IsEitherList list (map (M.meaning recode.old) list)) }
         ensures answer { Respells D.state self.old self.new (M.meaning recode.old) result }
         ensures empty { self.old.rows.count ≡ 0 → self.new ≡ self.old }
     {

@@ -2,10 +2,10 @@
 ghost use Rattle.std.specs.Prelude.{◌≡◌, ◌≤◌, ◌<◌, ◌+◌, ◌-◌, ◌*◌, ◌^◌, ◌++◌, [], ◌∷◌, ℕ, length, OnOk, IfOk, Some, None, true, false, IsTrue, ◌↔◌};
 ghost use Rattle.sg_device.specs.Disk.{content, Changes, Elapses, HasCause, WhereTold};
 ghost use Rattle.sg_stable.specs.declared.cell.Pair.{Pair};
-ghost use Rattle.sg_spool.specs.Places.{Fits, HasRoom, AreCompact, bound};
+ghost use Rattle.sg_spool.specs.Places.{FitsRing, HasRoom, AreCompact, bound};
 ghost use Rattle.sg_spool.specs.Ring.{Entries};
 ghost use Rattle.sg_spool.specs.Rows.{AreRows, IsLonger};
-ghost use Rattle.sg_spool.specs.Steps.{Spares, Grows};
+ghost use Rattle.sg_spool.specs.Steps.{Spares, FileGrows};
 ghost use Rattle.sg_spool.specs.Staging.{IsStaged, Lays, LaysTorn};
 
 use crate::{Block, Places, Rows};
@@ -20,7 +20,7 @@ pub(crate) fn stage_entry<D: Disk>(
     block: &Block,
 ) -> Result<Places, DiskFault>
     requires rows { AreRows rows }
-    requires fits { Fits capacity rows.ahead (length block.now) }
+    requires fits { FitsRing capacity rows.ahead (length block.now) }
     requires room { HasRoom rows.ahead.jump rows.ahead.head rows.ahead.end (length block.now) }
 
     // Nothing that the list uses is written.
@@ -36,7 +36,7 @@ pub(crate) fn stage_entry<D: Disk>(
 
     // The bound on the file's length goes on.
     ensures short { AreCompact capacity rows.ahead.jump rows.ahead.head rows.ahead.end
-        → Elapses (Grows (bound capacity)) (D.state disk.old) (D.state disk.new) }
+        → Elapses (FileGrows (bound capacity)) (D.state disk.old) (D.state disk.new) }
 
     ensures cause { HasCause (D.state disk.old).faults (D.state disk.new).faults result }
 {
@@ -72,7 +72,7 @@ fn stage_in_front<D: Disk>(disk: &mut D, rows: Rows, block: &Block) -> Result<()
         (record { jump = Some rows.ahead.end; head = rows.ahead.head; end = 69 + length block.now })
         list (staged ++ block.now ∷ []))) }
     ensures short { (most : ℕ) → 64 + length block.now + 6 ≤ most → rows.ahead.end + 5 ≤ most
-        → Elapses (Grows most) (D.state disk.old) (D.state disk.new) }
+        → Elapses (FileGrows most) (D.state disk.old) (D.state disk.new) }
     ensures inside { OnOk result (rows.ahead.end + 5 < 2 ^ 63) }
     ensures cause { HasCause (D.state disk.old).faults (D.state disk.new).faults result }
 {
@@ -98,7 +98,7 @@ fn stage_behind<D: Disk>(disk: &mut D, rows: Rows, block: &Block) -> Result<(), 
         })
         list (staged ++ block.now ∷ []))) }
     ensures short { (most : ℕ) → rows.ahead.end + length block.now + 6 ≤ most
-        → Elapses (Grows most) (D.state disk.old) (D.state disk.new) }
+        → Elapses (FileGrows most) (D.state disk.old) (D.state disk.new) }
     ensures inside { OnOk result (rows.ahead.end + length block.now + 6 < 2 ^ 63) }
     ensures cause { HasCause (D.state disk.old).faults (D.state disk.new).faults result }
 {

@@ -2,9 +2,9 @@
 ghost use Rattle.std.specs.Prelude.{◌≡◌, ◌≢◌, ◌<◌, ◌≤◌, ◌+◌, ◌^◌, List, ℕ, length, IfOk, IfErr, OnOk, None};
 ghost use Rattle.sg_device.specs.Disk.{content, WhereTold, HasCause};
 ghost use Rattle.sg_spool.specs.Opening.{WalkReason};
-ghost use Rattle.sg_spool.specs.Places.{AreOrdered};
+ghost use Rattle.sg_spool.specs.Places.{AreGatesOrdered};
 ghost use Rattle.sg_spool.specs.Ring.{IsEnd, size_at};
-ghost use Rattle.sg_spool.specs.Walk.{IsGate, FitsIn, IsAt, IsAmong, Leads, GoesOn};
+ghost use Rattle.sg_spool.specs.Walk.{IsGate, FitsIn, IsWalkAt, IsGateAmong, StepLeads, WalkGoesOn};
 
 use sg_device::{Disk, DiskFault};
 use sg_stable::StoreRefusal;
@@ -20,7 +20,7 @@ pub enum Gate {
 
 /// A gate's place, the jump that was met on the way to it, and the number of entries before it.
 #[derive(Clone, Copy)]
-pub struct Place {
+pub struct GatePlace {
     pub jump: Option<u64>,
     /// A byte offset in the store.
     pub gate: u64,
@@ -29,8 +29,8 @@ pub struct Place {
 
 /// Where a walk goes on.
 #[derive(Clone, Copy)]
-pub enum Step {
-    On(Place),
+pub enum GateStep {
+    On(GatePlace),
     End,
     Damaged(u64),
 }
@@ -73,26 +73,26 @@ pub(crate) fn size_of(bytes: &[u8]) -> u32
 }
 
 // One step of the walk.
-fn next_step(place: Place, gate: Gate, head: u64, len: u64) -> Step
+fn next_step(place: GatePlace, gate: Gate, head: u64, len: u64) -> GateStep
     requires above { 64 ≤ head }
     requires inside { place.gate < len }
     requires size { 128 ≤ len }
     requires small { len < 2 ^ 63 }
-    requires among { IsAmong len head place }
+    requires among { IsGateAmong len head place }
     requires fits { FitsIn len place.gate gate }
-    ensures leads { (b : List ℕ) → length b ≡ len → IsAt b head place → IsGate b place.gate gate
-        → Leads b head place result }
-    ensures goes { GoesOn len head place result }
+    ensures leads { (b : List ℕ) → length b ≡ len → IsWalkAt b head place → IsGate b place.gate gate
+        → StepLeads b head place result }
+    ensures goes { WalkGoesOn len head place result }
 {
     match gate {
-        Gate::Shut => Step::End,
-        Gate::Broken => Step::Damaged(place.gate),
+        Gate::Shut => GateStep::End,
+        Gate::Broken => GateStep::Damaged(place.gate),
         Gate::Entry(size) => {
             let next = place.gate + 5 + size as u64;
             if place.jump.is_some() && next >= head {
-                return Step::Damaged(place.gate);
+                return GateStep::Damaged(place.gate);
             }
-            Step::On(Place {
+            GateStep::On(GatePlace {
                 jump: place.jump,
                 gate: next,
                 count: place.count.saturating_add(1),
@@ -100,12 +100,12 @@ fn next_step(place: Place, gate: Gate, head: u64, len: u64) -> Step
         }
         Gate::Jump => {
             if place.jump.is_some() {
-                return Step::Damaged(place.gate);
+                return GateStep::Damaged(place.gate);
             }
             if head == 64 {
-                return Step::Damaged(64);
+                return GateStep::Damaged(64);
             }
-            Step::On(Place {
+            GateStep::On(GatePlace {
                 jump: Some(place.gate),
                 gate: 64,
                 count: place.count,
@@ -115,21 +115,25 @@ fn next_step(place: Place, gate: Gate, head: u64, len: u64) -> Step
 }
 
 // Walks from the head to the end of the list. It reads each gate once.
-pub(crate) fn walk_from<D: Disk>(disk: &mut D, head: u64, len: u64) -> Result<Place, StoreRefusal>
+pub(crate) fn walk_from<D: Disk>(
+    disk: &mut D,
+    head: u64,
+    len: u64,
+) -> Result<GatePlace, StoreRefusal>
     requires above { 64 ≤ head }
     requires inside { head < len }
     requires size { 128 ≤ len }
     requires small { len < 2 ^ 63 }
     requires whole { WhereTold (content (D.state disk.old)) (λ b. length b ≡ len) }
     ensures found { IfOk result (λ place. WhereTold (content (D.state disk.old))
-        (λ b. IsAt b head place × IsEnd b place.gate)) }
-    ensures ordered { IfOk result (λ place. AreOrdered place.jump head place.gate) }
+        (λ b. IsWalkAt b head place × IsEnd b place.gate)) }
+    ensures ordered { IfOk result (λ place. AreGatesOrdered place.jump head place.gate) }
     ensures told { (D.state disk.new).told ≡ (D.state disk.old).told }
     ensures later { (D.state disk.old).faults ≤ (D.state disk.new).faults }
     ensures well { OnOk result ((D.state disk.new).faults ≡ (D.state disk.old).faults) }
     ensures reason { IfErr result (WalkReason (D.state disk.old) (D.state disk.new) head) }
 {
-    let mut place = Place {
+    let mut place = GatePlace {
         jump: None,
         gate: head,
         count: 0,
@@ -137,9 +141,9 @@ pub(crate) fn walk_from<D: Disk>(disk: &mut D, head: u64, len: u64) -> Result<Pl
     loop {
         let gate = gate_at(disk, place.gate, len)?;
         match next_step(place, gate, head, len) {
-            Step::On(next) => place = next,
-            Step::End => return Ok(place),
-            Step::Damaged(at) => return Err(StoreRefusal::Damage(at)),
+            GateStep::On(next) => place = next,
+            GateStep::End => return Ok(place),
+            GateStep::Damaged(at) => return Err(StoreRefusal::Damage(at)),
         }
     }
 }

@@ -1,3 +1,4 @@
 pub mod EntryLemmas
 pub mod WalkLemmas
 pub mod ListLemmas
+pub mod SalvageLemmas

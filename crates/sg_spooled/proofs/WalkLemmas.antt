@@ -7,7 +7,7 @@ use Rattle.sg_device.proofs.DiskCalls.{content_same, reads_as_image}
 use Rattle.sg_outside.specs.World.{WorldState}
 use Rattle.sg_codec.specs.declared.kept.Kept.{Kept}
 use Rattle.sg_spool.specs.Answers.{IsWalked, IsNextOf}
-use Rattle.sg_spool.specs.Calls.{Reads}
+use Rattle.sg_spool.specs.Calls.{OnlyReadsSpool}
 use Rattle.sg_spool.specs.Places.{Remains, gate_past}
 use Rattle.sg_spool.specs.Ring.{Entries, IsEntry, IsLaid, IsList}
 use Rattle.sg_spool.specs.View.{View}
@@ -16,9 +16,9 @@ use Rattle.sg_spool.specs.declared.answers.Walked.TheVariants.{Item}
 use Rattle.sg_spool.specs.declared.places.Places.{Places}
 use Rattle.sg_spool.specs.declared.rows.Rows.{Rows}
 use Rattle.sg_spool.proofs.Remaining.{remains_of}
-use Rattle.sg_spooled.specs.Entries.{Row, IsStored, IsNoEntry, AreStored, payloads_of, row_line, row_lines, IsBegun, IsFirstBad}
+use Rattle.sg_spooled.specs.Entries.{SpooledRow, IsStoredEntry, IsNoEntry, AreRowsStored, payloads_of, row_line, row_lines, IsListBegun, IsFirstBadEntry}
 use Rattle.sg_output.specs.Saying.{OnlySays, SaidSome}
-use Rattle.sg_spooled.specs.Walking.{Appends, IsHere, IsNoneHere, ListsEntry, SaysSome, UnlessUnsaid, WalkEnds, WalksBy, Walks}
+use Rattle.sg_spooled.specs.Walking.{AppendsRow, IsHere, IsNoneHere, ListsEntry, SaysSome, UnlessUnsaid, WalkEnds, WalksBy, Walks}
 use Rattle.sg_spooled.specs.declared.unlisted.Unlisted.{Unlisted}
 use Rattle.sg_spooled.specs.declared.unlisted.Unlisted.TheVariants.{NotOpened, Damage, DiskFault, SayFault, NoMemory}
 use Rattle.sg_output.proofs.Sayings.{rose-later, says-none, only-says-none, only-says-then, some-then, some-more}
@@ -30,14 +30,14 @@ err-is (Err x) e h = ap Err h
 
 -- where a walk stands
 
-pub record StandsAt (list : Places) (gate : ℕ) (rows : List Row) (bytes : List ℕ) : Type 0 where
+pub record StandsAt (list : Places) (gate : ℕ) (rows : List SpooledRow) (bytes : List ℕ) : Type 0 where
   pub rest : Entries
   pub laid : IsLaid list.jump list.head list.end (payloads_of rows ++ rest) bytes
   pub left : Remains bytes list.jump gate rest list.end
   pub passed : Remains bytes list.jump (gate_past list.jump list.head) (payloads_of rows) gate
 
-pub record WalkedTo {D : Type 0} (state : D → DiskState) (old now : View D) (world world' : WorldState) (text : List ℕ) (gate number : ℕ) (rows : List Row) : Type 0 where
-  pub stored : AreStored rows
+pub record WalkedTo {D : Type 0} (state : D → DiskState) (old now : View D) (world world' : WorldState) (text : List ℕ) (gate number : ℕ) (rows : List SpooledRow) : Type 0 where
+  pub stored : AreRowsStored rows
   pub count : length rows ≡ number
   pub told : (state now.disk).told ≡ (state old.disk).told
   pub later : (state old.disk).faults ≤ (state now.disk).faults
@@ -48,7 +48,7 @@ pub record WalkedTo {D : Type 0} (state : D → DiskState) (old now : View D) (w
   pub stands : WhereTold (content (state old.disk)) (StandsAt old.rows.list gate rows)
 
 abbrev pub IsWalking : {D : Type 0} → (D → DiskState) → View D → View D → WorldState → WorldState → List ℕ → ℕ → ℕ → Type 0
-IsWalking state old now world world' text gate number = (rows : List Row) × WalkedTo state old now world world' text gate number rows
+IsWalking state old now world world' text gate number = (rows : List SpooledRow) × WalkedTo state old now world world' text gate number rows
 
 pub stands-first : (list : Places) (gate : ℕ) (bytes : List ℕ) (entries : Entries) → IsLaid list.jump list.head list.end entries bytes → gate ≡ gate_past list.jump list.head → StandsAt list gate [] bytes
 stands-first list gate bytes entries laid is = record {
@@ -63,7 +63,7 @@ passed-more bytes jump gate [] payload at next is entry e =
     (subst (λ (k : ℕ). IsEntry bytes k payload) (sym is) entry, ap (λ (k : ℕ). gate_past jump (k + 5 + length payload)) is ∙ sym e)
 passed-more bytes jump gate (p ∷ ps) payload at next h entry e = (h.0, passed-more bytes jump (gate_past jump (gate + 5 + length p)) ps payload at next h.1 entry e)
 
-pub stands-next : (list : Places) (gate next : ℕ) (rows : List Row) (row : Row) (bytes : List ℕ) → IsHere list bytes gate row next → StandsAt list gate rows bytes → StandsAt list next (rows ++ row ∷ []) bytes
+pub stands-next : (list : Places) (gate next : ℕ) (rows : List SpooledRow) (row : SpooledRow) (bytes : List ℕ) → IsHere list bytes gate row next → StandsAt list gate rows bytes → StandsAt list next (rows ++ row ∷ []) bytes
 stands-next list gate next rows row bytes here s =
     let (rest, (is, (at, left))) = here s.rest s.left in
     let laid : IsLaid list.jump list.head list.end (payloads_of rows ++ row.payload ∷ rest) bytes = subst (λ (es : Entries). IsLaid list.jump list.head list.end (payloads_of rows ++ es) bytes) is s.laid in
@@ -75,7 +75,7 @@ stands-next list gate next rows row bytes here s =
       passed = subst (λ (es : Entries). Remains bytes list.jump (gate_past list.jump list.head) es next) (sym (payloads-more rows row)) (passed-more bytes list.jump (gate_past list.jump list.head) (payloads_of rows) row.payload gate next s.passed remains.0 at);
     }
 
-pub list-begun : (list : Places) (gate : ℕ) (rows : List Row) (bytes : List ℕ) → StandsAt list gate rows bytes → IsBegun rows bytes
+pub list-begun : (list : Places) (gate : ℕ) (rows : List SpooledRow) (bytes : List ℕ) → StandsAt list gate rows bytes → IsListBegun rows bytes
 list-begun list gate rows bytes s = inr (s.rest, record { jump = list.jump; head = list.head; end = list.end; laid = s.laid })
 
 none-left : (rest : Entries) → length rest ≡ 0 → rest ≡ []
@@ -83,7 +83,7 @@ none-left [] e = refl
 none-left (p ∷ ps) e = absurd (omega (arith, e))
 
 -- all entries were listed
-pub list-whole : (list : Places) (gate count : ℕ) (rows : List Row) (bytes : List ℕ) → ((entries : Entries) → IsList entries bytes → count ≡ length entries) → length rows ≡ count → StandsAt list gate rows bytes → IsList (payloads_of rows) bytes
+pub list-whole : (list : Places) (gate count : ℕ) (rows : List SpooledRow) (bytes : List ℕ) → ((entries : Entries) → IsList entries bytes → count ≡ length entries) → length rows ≡ count → StandsAt list gate rows bytes → IsList (payloads_of rows) bytes
 list-whole list gate count rows bytes counts is s =
     let all = counts (payloads_of rows ++ s.rest) (record { jump = list.jump; head = list.head; end = list.end; laid = s.laid }) in
     let sum = length-append (payloads_of rows) s.rest in
@@ -96,8 +96,8 @@ list-whole list gate count rows bytes counts is s =
       laid = subst (λ (es : Entries). IsLaid list.jump list.head list.end es bytes) (ap (λ (es : Entries). payloads_of rows ++ es) none ∙ append-nil (payloads_of rows)) s.laid;
     }
 
-bad-here : (list : Places) (gate count : ℕ) (rows : List Row) (bytes : List ℕ) → ((entries : Entries) → IsList entries bytes → count ≡ length entries) → length rows < count → (s : StandsAt list gate rows bytes)
-    → (s.rest ≡ []) ⊎ ((payload : List ℕ) × ((rest : Entries) × ((s.rest ≡ payload ∷ rest) × IsNoEntry payload))) → IsFirstBad gate rows bytes
+bad-here : (list : Places) (gate count : ℕ) (rows : List SpooledRow) (bytes : List ℕ) → ((entries : Entries) → IsList entries bytes → count ≡ length entries) → length rows < count → (s : StandsAt list gate rows bytes)
+    → (s.rest ≡ []) ⊎ ((payload : List ℕ) × ((rest : Entries) × ((s.rest ≡ payload ∷ rest) × IsNoEntry payload))) → IsFirstBadEntry gate rows bytes
 bad-here list gate count rows bytes counts few s (inl none) =
     let all = counts (payloads_of rows ++ s.rest) (record { jump = list.jump; head = list.head; end = list.end; laid = s.laid }) in
     let sum = length-append (payloads_of rows) s.rest in
@@ -116,18 +116,18 @@ bad-here list gate count rows bytes counts few s (inr (payload, (rest, (is, bad)
 }
 
 -- the first payload that is no entry
-pub first-bad : (list : Places) (gate count : ℕ) (rows : List Row) (bytes : List ℕ) → ((entries : Entries) → IsList entries bytes → count ≡ length entries) → length rows < count → IsNoneHere list bytes gate → StandsAt list gate rows bytes → IsFirstBad gate rows bytes
+pub first-bad : (list : Places) (gate count : ℕ) (rows : List SpooledRow) (bytes : List ℕ) → ((entries : Entries) → IsList entries bytes → count ≡ length entries) → length rows < count → IsNoneHere list bytes gate → StandsAt list gate rows bytes → IsFirstBadEntry gate rows bytes
 first-bad list gate count rows bytes counts few none s = bad-here list gate count rows bytes counts few s (none s.rest s.left)
 
 -- one entry
 
 pub entry-listed : {D : Type 0} (state : D → DiskState) (old new : View D) (gate number next before now : ℕ) (payload : Vec ℕ Global) (walked : Walked) (bytes' text text' : List ℕ) (good : Bool)
-    → walked ≡ Item payload next → bytes' ≡ payload.items → Appends number bytes' text text' good → good ≡ true → IsWalked old new gate before now walked
+    → walked ≡ Item payload next → bytes' ≡ payload.items → AppendsRow number bytes' text text' good → good ≡ true → IsWalked old new gate before now walked
     → WhereTold (content (state old.disk)) (λ bytes. (entries : Entries) → Remains bytes old.rows.list.jump gate entries old.rows.list.end → IsNextOf old gate bytes entries walked)
     → ListsEntry state old new gate number text text' (Ok next)
 entry-listed state old new gate number next before now payload walked bytes' text text' good item same appends is answer follows =
-    let (kept, (stored, more)) : (kept : Kept) × (IsStored kept payload.items × (text' ≡ text ++ row_line number (record { kept = kept; payload = payload.items }))) =
-    subst (λ (p : List ℕ). Appends number p text text' true) same (subst (λ (b : Bool). Appends number bytes' text text' b) is appends) in
+    let (kept, (stored, more)) : (kept : Kept) × (IsStoredEntry kept payload.items × (text' ≡ text ++ row_line number (record { kept = kept; payload = payload.items }))) =
+    subst (λ (p : List ℕ). AppendsRow number p text text' true) same (subst (λ (b : Bool). AppendsRow number bytes' text text' b) is appends) in
     let shut = (subst (λ (w : Walked). IsWalked old new gate before now w) item answer).2 in (
       record { kept = kept; payload = payload.items },
       (
@@ -147,8 +147,8 @@ entry-listed state old new gate number next before now payload walked bytes' tex
 
 -- the loop
 
-abbrev pub Counts : {D : Type 0} → (D → DiskState) → View D → ℕ → Type 0
-Counts state old count = WhereTold (content (state old.disk)) (λ bytes. (entries : Entries) → IsList entries bytes → count ≡ length entries)
+abbrev pub CountsRows : {D : Type 0} → (D → DiskState) → View D → ℕ → Type 0
+CountsRows state old count = WhereTold (content (state old.disk)) (λ bytes. (entries : Entries) → IsList entries bytes → count ≡ length entries)
 
 pub counts-of : (disk : DiskState) (count : ℕ) → EachNow disk (λ bytes. (entries : Entries) → IsList entries bytes → count ≡ length entries) → WhereTold (content disk) (λ bytes. (entries : Entries) → IsList entries bytes → count ≡ length entries)
 counts-of disk count each = λ bytes told. each bytes (reads_as_image disk bytes told)
@@ -177,7 +177,7 @@ walk-left state old now world world' text gate number (rows, w) =
     subst (λ (r : Rows). WhereTold (content (state now.disk)) (λ bytes. (entries : Entries) × Remains bytes r.list.jump gate entries r.list.end)) (sym w.places)
     (λ bytes told. let s = w.stands bytes (sym (content_same (state old.disk) (state now.disk) w.told) ∙ told) in (s.rest, s.left))
 
-here-in : {D : Type 0} (state : D → DiskState) (old now : View D) (gate next : ℕ) (row : Row) → (state now.disk).told ≡ (state old.disk).told → now.rows ≡ old.rows
+here-in : {D : Type 0} (state : D → DiskState) (old now : View D) (gate next : ℕ) (row : SpooledRow) → (state now.disk).told ≡ (state old.disk).told → now.rows ≡ old.rows
     → WhereTold (content (state now.disk)) (λ bytes. IsHere now.rows.list bytes gate row next) → WhereTold (content (state old.disk)) (λ bytes. IsHere old.rows.list bytes gate row next)
 here-in state old now gate next row told places here = λ bytes is.
     subst (λ (r : Rows). IsHere r.list bytes gate row next) places (here bytes (content_same (state old.disk) (state now.disk) told ∙ is))
@@ -188,18 +188,18 @@ none-here-in state old now gate told places none = λ bytes is.
     subst (λ (r : Rows). IsNoneHere r.list bytes gate) places (none bytes (content_same (state old.disk) (state now.disk) told ∙ is))
 
 -- an entry more, of which the text has the line
-lines-next : (a b : WorldState) (rows : List Row) (row : Row) (number : ℕ) (text text' : List ℕ) → length rows ≡ number → text' ≡ text ++ row_line number row → SaidSome a b (row_lines 0 rows) text → SaidSome a b (row_lines 0 (rows ++ row ∷ [])) text'
+lines-next : (a b : WorldState) (rows : List SpooledRow) (row : SpooledRow) (number : ℕ) (text text' : List ℕ) → length rows ≡ number → text' ≡ text ++ row_line number row → SaidSome a b (row_lines 0 rows) text → SaidSome a b (row_lines 0 (rows ++ row ∷ [])) text'
 lines-next a b rows row number text text' is more said =
     let place : number ≡ 0 + length rows = omega (arith, is) in
     let grown : SaidSome a b (row_lines 0 rows ++ row_line number row) (text ++ row_line number row) = some-more a b (row_lines 0 rows) text (row_line number row) said in
     let all : row_lines 0 rows ++ row_line number row ≡ row_lines 0 (rows ++ row ∷ []) = ap (λ (n : ℕ). row_lines 0 rows ++ row_line n row) place ∙ sym (lines-more 0 rows row) in
     subst (λ (xs : List ℕ). SaidSome a b xs text') all (subst (λ (xs : List ℕ). SaidSome a b (row_lines 0 rows ++ row_line number row) xs) (sym more) grown)
 
-count-more : (rows : List Row) (row : Row) (number : ℕ) → length rows ≡ number → length (rows ++ row ∷ []) ≡ number + 1
+count-more : (rows : List SpooledRow) (row : SpooledRow) (number : ℕ) → length rows ≡ number → length (rows ++ row ∷ []) ≡ number + 1
 count-more rows row number is = (let sum = length-append rows (row ∷ []) in omega (arith, sum, is))
 
 pub walk-next : {D : Type 0} (state : D → DiskState) (old now next' : View D) (a b c : WorldState) (text text' text'' : List ℕ) (gate next number : ℕ)
-    → IsWalking state old now a b text gate number → Reads state now next' → ListsEntry state now next' gate number text text' (Ok next) → OnlySays b c → SaysSome b c text' text'' (Ok tt)
+    → IsWalking state old now a b text gate number → OnlyReadsSpool state now next' → ListsEntry state now next' gate number text text' (Ok next) → OnlySays b c → SaysSome b c text' text'' (Ok tt)
     → IsWalking state old next' a c text'' next (number + 1)
 walk-next state old now next' a b c text text' text'' gate next number (rows, w) reads (row, (stored, (more, (shut, here)))) says said = (
   rows ++ row ∷ [],
@@ -224,8 +224,8 @@ unless-said (Err DiskFault) P p = p
 unless-said (Err SayFault) P p = tt
 unless-said (Err NoMemory) P p = tt
 
-walked : {D : Type 0} (state : D → DiskState) (old now next' : View D) (a b : WorldState) (text : List ℕ) (gate number : ℕ) (rows : List Row) (result : Result ℕ Unlisted)
-    → WalkedTo state old now a b text gate number rows → Reads state now next' → WalkEnds state old next' a b rows result → WalksBy state old next' a b text result rows
+walked : {D : Type 0} (state : D → DiskState) (old now next' : View D) (a b : WorldState) (text : List ℕ) (gate number : ℕ) (rows : List SpooledRow) (result : Result ℕ Unlisted)
+    → WalkedTo state old now a b text gate number rows → OnlyReadsSpool state now next' → WalkEnds state old next' a b rows result → WalksBy state old next' a b text result rows
 walked state old now next' a b text gate number rows result w reads ends = record {
   stored = w.stored;
   told = reads.told ∙ w.told;
@@ -237,7 +237,7 @@ walked state old now next' a b text gate number rows result w reads ends = recor
 
 -- no entry was listed at this gate
 pub walk-stopped : {D : Type 0} (state : D → DiskState) (old now next' : View D) (a b : WorldState) (text text' : List ℕ) (gate number count : ℕ) (e : Unlisted)
-    → Counts state old count → number < count → IsWalking state old now a b text gate number → Reads state now next' → ListsEntry state now next' gate number text text' (Err e)
+    → CountsRows state old count → number < count → IsWalking state old now a b text gate number → OnlyReadsSpool state now next' → ListsEntry state now next' gate number text text' (Err e)
     → Walks state old next' a b text' (Err e)
 walk-stopped state old now next' a b text text' gate number count NotOpened counts few walking reads lists = absurd lists
 walk-stopped state old now next' a b text text' gate number count SayFault counts few walking reads lists = absurd lists
@@ -260,16 +260,16 @@ walk-stopped state old now next' a b text text' gate number count DiskFault coun
 )
 walk-stopped state old now next' a b text text' gate number count (Damage at) counts few (rows, w) reads (here, same, none) =
     let some : length rows < count = (let is = w.count in omega (arith, is, few)) in
-    let ends : WhereTold (content (state old.disk)) (IsFirstBad gate rows) = λ bytes told.
+    let ends : WhereTold (content (state old.disk)) (IsFirstBadEntry gate rows) = λ bytes told.
     first-bad old.rows.list gate count rows bytes (counts bytes told) some (none-here-in state old now gate w.told w.places none bytes told) (w.stands bytes told) in (
       rows,
       subst (λ (t : List ℕ). WalksBy state old next' a b t (Err (Damage at)) rows) (sym same)
-          (walked state old now next' a b text gate number rows (Err (Damage at)) w reads (subst (λ (k : ℕ). WhereTold (content (state old.disk)) (IsFirstBad k rows)) (sym here) ends)),
+          (walked state old now next' a b text gate number rows (Err (Damage at)) w reads (subst (λ (k : ℕ). WhereTold (content (state old.disk)) (IsFirstBadEntry k rows)) (sym here) ends)),
     )
 
 -- the text couldn't be said
 pub walk-unsaid : {D : Type 0} (state : D → DiskState) (old now next' : View D) (a b c : WorldState) (text text' text'' : List ℕ) (gate next number : ℕ) (e : Unlisted)
-    → IsWalking state old now a b text gate number → Reads state now next' → ListsEntry state now next' gate number text text' (Ok next) → OnlySays b c → SaysSome b c text' text'' (Err e)
+    → IsWalking state old now a b text gate number → OnlyReadsSpool state now next' → ListsEntry state now next' gate number text text' (Ok next) → OnlySays b c → SaysSome b c text' text'' (Err e)
     → Walks state old next' a c text'' (Err e)
 walk-unsaid state old now next' a b c text text' text'' gate next number NotOpened walking reads lists says some = absurd some
 walk-unsaid state old now next' a b c text text' text'' gate next number (Damage at) walking reads lists says some = absurd some
@@ -299,7 +299,7 @@ walk-unsaid state old now next' a b c text text' text'' gate next number SayFaul
 
 -- all entries were listed
 pub walk-whole : {D : Type 0} (state : D → DiskState) (old now : View D) (a b : WorldState) (text : List ℕ) (gate number count : ℕ)
-    → Counts state old count → number ≡ count → IsWalking state old now a b text gate number → Walks state old now a b text (Ok count)
+    → CountsRows state old count → number ≡ count → IsWalking state old now a b text gate number → Walks state old now a b text (Ok count)
 walk-whole state old now a b text gate number count counts is (rows, w) =
     let all : length rows ≡ count = w.count ∙ is in (
       rows,

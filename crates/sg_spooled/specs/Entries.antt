@@ -7,17 +7,17 @@ use Rattle.sg_spool.specs.Places.{Remains, gate_past}
 use Rattle.sg_spool.specs.Ring.{Entries, IsLaid, IsList}
 
 -- an entry, and the payload that spells it
-pub record Row : Type 0 where
+pub record SpooledRow : Type 0 where
   pub kept : Kept
   pub payload : List ℕ
 
 -- in a store an entry is spelled in format 2, or in format 1 with at most 2 ^ 30 bytes
-abbrev pub IsStored : Kept → List ℕ → Type 0
-IsStored kept payload = Spells2 kept payload ⊎ (Spells1 kept payload × (length payload ≤ 2 ^ 30))
+abbrev pub IsStoredEntry : Kept → List ℕ → Type 0
+IsStoredEntry kept payload = Spells2 kept payload ⊎ (Spells1 kept payload × (length payload ≤ 2 ^ 30))
 
 -- the payload is no entry
 abbrev pub IsNoEntry : List ℕ → Type 0
-IsNoEntry payload = (kept : Kept) → IsStored kept payload → ⊥
+IsNoEntry payload = (kept : Kept) → IsStoredEntry kept payload → ⊥
 
 -- the first byte tells the format
 abbrev pub is_older : List ℕ → Bool
@@ -30,32 +30,32 @@ is_older (suc (suc other) ∷ rest) = false
 abbrev pub is_beyond : List ℕ → Bool
 is_beyond payload = is_older payload && nat_lt (2 ^ 30) (length payload)
 
-abbrev pub AreStored : List Row → Type 0
-AreStored [] = Unit {0}
-AreStored (row ∷ rows) = IsStored row.kept row.payload × AreStored rows
+abbrev pub AreRowsStored : List SpooledRow → Type 0
+AreRowsStored [] = Unit {0}
+AreRowsStored (row ∷ rows) = IsStoredEntry row.kept row.payload × AreRowsStored rows
 
-abbrev pub payload_in : Row → List ℕ
+abbrev pub payload_in : SpooledRow → List ℕ
 payload_in row = row.payload
 
-abbrev pub payloads_of : List Row → Entries
+abbrev pub payloads_of : List SpooledRow → Entries
 payloads_of rows = map payload_in rows
 
 -- the line of an entry of this number
-abbrev pub row_line : ℕ → Row → List ℕ
+abbrev pub row_line : ℕ → SpooledRow → List ℕ
 row_line number row = entry_line number row.kept.source row.kept.end row.kept.flow
     (length row.payload)
 
 -- the lines of entries from this number on
-abbrev pub row_lines : ℕ → List Row → List ℕ
+abbrev pub row_lines : ℕ → List SpooledRow → List ℕ
 row_lines number [] = []
 row_lines number (row ∷ rows) = row_line number row ++ row_lines (number + 1) rows
 
 -- the bytes' list begins with these entries, or there are none
-abbrev pub IsBegun : List Row → List ℕ → Type 0
-IsBegun rows bytes = (rows ≡ []) ⊎ ((rest : Entries) × IsList (payloads_of rows ++ rest) bytes)
+abbrev pub IsListBegun : List SpooledRow → List ℕ → Type 0
+IsListBegun rows bytes = (rows ≡ []) ⊎ ((rest : Entries) × IsList (payloads_of rows ++ rest) bytes)
 
 -- Behind these entries of the bytes' list a payload stands at this gate that is no entry.
-pub record IsFirstBad (at : ℕ) (rows : List Row) (bytes : List ℕ) : Type 0 where
+pub record IsFirstBadEntry (at : ℕ) (rows : List SpooledRow) (bytes : List ℕ) : Type 0 where
   pub jump : Option ℕ
   pub head : ℕ
   pub end : ℕ

@@ -7,11 +7,11 @@ use Rattle.sg_outside.specs.World.{WorldState, Ledger, with_opened, with_closed}
 use Rattle.sg_outside.specs.declared.request.StoreSpec.{StoreSpec}
 use Rattle.sg_report.specs.Entry.{entries_line}
 use Rattle.sg_report.specs.Store.{unopened_line, damaged_line, failed_line}
-use Rattle.sg_spool.specs.Opening.{IsDamagedAt}
+use Rattle.sg_spool.specs.Opening.{IsRingDamagedAt}
 use Rattle.sg_spool.specs.Ring.{IsList}
 use Rattle.sg_stable.specs.declared.fault.StoreRefusal.{StoreRefusal}
 use Rattle.sg_stable.specs.declared.fault.StoreRefusal.TheVariants.{Damage as StoreDamage, DiskFault as StoreFault, NoMemory as StoreNoMemory}
-use Rattle.sg_spooled.specs.Entries.{Row, AreStored, payloads_of, row_lines, IsBegun, IsFirstBad}
+use Rattle.sg_spooled.specs.Entries.{SpooledRow, AreRowsStored, payloads_of, row_lines, IsListBegun, IsFirstBadEntry}
 use Rattle.sg_output.specs.Saying.{OnlySays, SaidText}
 use Rattle.sg_spooled.specs.declared.unlisted.Unlisted.{Unlisted}
 use Rattle.sg_spooled.specs.declared.unlisted.Unlisted.TheVariants.{NotOpened, Damage, DiskFault, SayFault, NoMemory}
@@ -40,35 +40,35 @@ IsOpenedAnd None P = ⊥
 IsOpenedAnd (Some store_use) P = P store_use
 
 -- a store of this name was there, where the machine tells its stores
-abbrev pub IsThere : Option (List (List ℕ)) → List ℕ → Type 0
-IsThere None file = Unit {0}
-IsThere (Some names) file = Contains names file
+abbrev pub IsStoreFileThere : Option (List (List ℕ)) → List ℕ → Type 0
+IsStoreFileThere None file = Unit {0}
+IsStoreFileThere (Some names) file = Contains names file
 
 -- Nothing was written: the bytes are as they were, and so is each image. Where the opening failed a read may give another of the images.
-abbrev pub IsKept : Result Unit Unlisted → DiskState → DiskState → Type 0
-IsKept (Ok done) opened closed = Preserves opened closed
-IsKept (Err refusal) opened closed = Rests opened closed
+abbrev pub IsListingKept : Result Unit Unlisted → DiskState → DiskState → Type 0
+IsListingKept (Ok done) opened closed = Preserves opened closed
+IsListingKept (Err refusal) opened closed = Rests opened closed
 
 -- what a store of bytes is damaged at, behind these entries: the bytes are no store, or a payload is no entry
-abbrev pub IsDamaged : ℕ → List Row → List ℕ → Type 0
-IsDamaged at rows bytes = ((rows ≡ []) × IsDamagedAt at bytes) ⊎ IsFirstBad at rows bytes
+abbrev pub IsListDamaged : ℕ → List SpooledRow → List ℕ → Type 0
+IsListDamaged at rows bytes = ((rows ≡ []) × IsRingDamagedAt at bytes) ⊎ IsFirstBadEntry at rows bytes
 
 -- When each answer comes, behind these entries. Lack of memory is free.
-abbrev pub HasCause : WorldState → WorldState → Option StoreUse → List Row → Result Unit Unlisted
+abbrev pub HasListingCause : WorldState → WorldState → Option StoreUse → List SpooledRow → Result Unit Unlisted
     → Type 0
-HasCause old new store_use rows (Ok done) = IsOpenedAnd store_use
+HasListingCause old new store_use rows (Ok done) = IsOpenedAnd store_use
     (λ s. WhereTold (content s.opened) (IsList (payloads_of rows)))
-HasCause old new store_use rows (Err NotOpened) = (store_use ≡ None) × (rows ≡ [])
+HasListingCause old new store_use rows (Err NotOpened) = (store_use ≡ None) × (rows ≡ [])
     × Rose old.store_faults new.store_faults
-HasCause old new store_use rows (Err (Damage at)) = IsOpenedAnd store_use
-    (λ s. WhereTold (content s.opened) (IsDamaged at rows))
-HasCause old new store_use rows (Err DiskFault) = IsOpenedAnd store_use
-    (λ s. Rose s.opened.faults s.closed.faults × WhereTold (content s.opened) (IsBegun rows))
-HasCause old new store_use rows (Err SayFault) = Rose old.say_faults new.say_faults
-HasCause old new store_use rows (Err NoMemory) = Unit {0}
+HasListingCause old new store_use rows (Err (Damage at)) = IsOpenedAnd store_use
+    (λ s. WhereTold (content s.opened) (IsListDamaged at rows))
+HasListingCause old new store_use rows (Err DiskFault) = IsOpenedAnd store_use
+    (λ s. Rose s.opened.faults s.closed.faults × WhereTold (content s.opened) (IsListBegun rows))
+HasListingCause old new store_use rows (Err SayFault) = Rose old.say_faults new.say_faults
+HasListingCause old new store_use rows (Err NoMemory) = Unit {0}
 
 -- what is said: a line for each of these entries, and how it ended
-abbrev pub SaysList : WorldState → WorldState → List Row → Result Unit Unlisted → Type 0
+abbrev pub SaysList : WorldState → WorldState → List SpooledRow → Result Unit Unlisted → Type 0
 SaysList old new rows (Ok done) = SaidText old new (row_lines 0 rows ++ entries_line (length rows))
 SaysList old new rows (Err NotOpened) = SaidText old new (row_lines 0 rows ++ unopened_line (codes "store") 0)
 SaysList old new rows (Err (Damage at)) = SaidText old new (row_lines 0 rows ++ damaged_line 0 at)
@@ -77,27 +77,27 @@ SaysList old new rows (Err SayFault) = Unit {0}
 SaysList old new rows (Err NoMemory) = Unit {0}
 
 -- a disk whose bytes are a store of entries
-pub record IsSpelled (disk : DiskState) : Type 0 where
+pub record IsDiskSpelled (disk : DiskState) : Type 0 where
   pub bytes : List ℕ
-  pub rows : List Row
+  pub rows : List SpooledRow
   pub told : content disk ≡ Some bytes
   pub list : IsList (payloads_of rows) bytes
-  pub stored : AreStored rows
+  pub stored : AreRowsStored rows
 
 -- no count of faults rose
-pub record IsUntroubled (old new : WorldState) (store_use : Option StoreUse) : Type 0 where
+pub record ListsUntroubled (old new : WorldState) (store_use : Option StoreUse) : Type 0 where
   pub open' : ¬ Rose old.store_faults new.store_faults
   pub say : ¬ Rose old.say_faults new.say_faults
   pub disk : IfOpened store_use (λ s. ¬ Rose s.opened.faults s.closed.faults)
 
 -- all was listed, or memory ran out
-abbrev pub IsComplete : Result Unit Unlisted → Type 0
-IsComplete (Ok done) = Unit {0}
-IsComplete (Err NoMemory) = Unit {0}
-IsComplete (Err NotOpened) = ⊥
-IsComplete (Err (Damage at)) = ⊥
-IsComplete (Err DiskFault) = ⊥
-IsComplete (Err SayFault) = ⊥
+abbrev pub WasListed : Result Unit Unlisted → Type 0
+WasListed (Ok done) = Unit {0}
+WasListed (Err NoMemory) = Unit {0}
+WasListed (Err NotOpened) = ⊥
+WasListed (Err (Damage at)) = ⊥
+WasListed (Err DiskFault) = ⊥
+WasListed (Err SayFault) = ⊥
 
 -- why a store wasn't opened as a disk-buffer's
 abbrev pub unlisted_for : StoreRefusal → Unlisted
@@ -106,35 +106,35 @@ unlisted_for StoreFault = DiskFault
 unlisted_for StoreNoMemory = NoMemory
 
 -- the part that has the store open, which comes back
-pub record ListsBy (old new : WorldState) (opened closed : DiskState) (result : Result Unit Unlisted) (rows : List Row) : Type 0 where
+pub record ListsBy (old new : WorldState) (opened closed : DiskState) (result : Result Unit Unlisted) (rows : List SpooledRow) : Type 0 where
   pub says : OnlySays old new
-  pub kept : IsKept result opened closed
+  pub kept : IsListingKept result opened closed
   pub later : opened.faults ≤ closed.faults
-  pub stored : AreStored rows
-  pub cause : HasCause old new (Some (record { opened = opened; closed = closed })) rows result
+  pub stored : AreRowsStored rows
+  pub cause : HasListingCause old new (Some (record { opened = opened; closed = closed })) rows result
   pub said : SaysList old new rows result
 
-abbrev pub Lists : WorldState → WorldState → (opened closed : DiskState) → Result Unit Unlisted
+abbrev pub ListsStore : WorldState → WorldState → (opened closed : DiskState) → Result Unit Unlisted
     → Type 0
-Lists old new opened closed result = (rows : List Row) × ListsBy old new opened closed result rows
+ListsStore old new opened closed result = (rows : List SpooledRow) × ListsBy old new opened closed result rows
 
 -- the store of FILE was listed up to these entries
-pub record SpoolsBy (old new : WorldState) (file : List ℕ) (result : Result Unit Unlisted) (store_use : Option StoreUse) (rows : List Row) : Type 0 where
+pub record SpoolsBy (old new : WorldState) (file : List ℕ) (result : Result Unit Unlisted) (store_use : Option StoreUse) (rows : List SpooledRow) : Type 0 where
   -- nothing but that store was opened, and it was closed; no store was made, and no file changed
   pub state : new ≡ record old
       { stores = with_use old.stores file store_use; store_faults = new.store_faults; say_faults = new.say_faults; said = new.said }
   pub store_later : old.store_faults ≤ new.store_faults
   pub say_later : old.say_faults ≤ new.say_faults
-  pub there : IfOpened store_use (λ s. IsThere old.store_names file)
+  pub there : IfOpened store_use (λ s. IsStoreFileThere old.store_names file)
   pub kept : IfOpened store_use
-      (λ s. IsKept result s.opened s.closed × (s.opened.faults ≤ s.closed.faults))
-  pub stored : AreStored rows
-  pub cause : HasCause old new store_use rows result
+      (λ s. IsListingKept result s.opened s.closed × (s.opened.faults ≤ s.closed.faults))
+  pub stored : AreRowsStored rows
+  pub cause : HasListingCause old new store_use rows result
   pub said : SaysList old new rows result
   -- a store of entries and no trouble give success, where memory is there
-  pub complete : IsUntroubled old new store_use → IfOpened store_use (λ s. IsSpelled s.opened)
-      → IsComplete result
+  pub complete : ListsUntroubled old new store_use → IfOpened store_use (λ s. IsDiskSpelled s.opened)
+      → WasListed result
 
 abbrev pub Spools : WorldState → WorldState → List ℕ → Result Unit Unlisted → Type 0
 Spools old new file result = (store_use : Option StoreUse)
-    × ((rows : List Row) × SpoolsBy old new file result store_use rows)
+    × ((rows : List SpooledRow) × SpoolsBy old new file result store_use rows)

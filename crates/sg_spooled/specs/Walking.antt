@@ -11,19 +11,19 @@ use Rattle.sg_spool.specs.Places.{Remains, gate_past}
 use Rattle.sg_spool.specs.Ring.{Entries, IsList}
 use Rattle.sg_spool.specs.View.{View}
 use Rattle.sg_spool.specs.declared.places.Places.{Places}
-use Rattle.sg_spooled.specs.Entries.{Row, IsStored, IsNoEntry, AreStored, payloads_of, row_line, row_lines, IsBegun, IsFirstBad}
+use Rattle.sg_spooled.specs.Entries.{SpooledRow, IsStoredEntry, IsNoEntry, AreRowsStored, payloads_of, row_line, row_lines, IsListBegun, IsFirstBadEntry}
 use Rattle.sg_spooled.specs.declared.unlisted.Unlisted.{Unlisted}
 use Rattle.sg_spooled.specs.declared.unlisted.Unlisted.TheVariants.{NotOpened, Damage, DiskFault, SayFault, NoMemory}
 
 -- a line was appended where the payload is an entry, and else nothing
-abbrev pub Appends : ℕ → List ℕ → (text text' : List ℕ) → Bool → Type 0
-Appends number payload text text' true = (kept : Kept) × (IsStored kept payload
+abbrev pub AppendsRow : ℕ → List ℕ → (text text' : List ℕ) → Bool → Type 0
+AppendsRow number payload text text' true = (kept : Kept) × (IsStoredEntry kept payload
     × (text' ≡ text ++ row_line number (record { kept = kept; payload = payload })))
-Appends number payload text text' false = IsNoEntry payload × (text' ≡ text)
+AppendsRow number payload text text' false = IsNoEntry payload × (text' ≡ text)
 
 -- the entry at a gate of a list at these places: of the entries that are left from the gate on it is the first, and the others are left
 -- from the next gate on, which is the one behind it
-abbrev pub IsHere : Places → List ℕ → ℕ → Row → ℕ → Type 0
+abbrev pub IsHere : Places → List ℕ → ℕ → SpooledRow → ℕ → Type 0
 IsHere list bytes gate row next = (entries : Entries)
     → Remains bytes list.jump gate entries list.end
     → (rest : Entries) × ((entries ≡ row.payload ∷ rest) × (
@@ -40,7 +40,7 @@ IsNoneHere list bytes gate = (entries : Entries) → Remains bytes list.jump gat
 abbrev pub ListsEntry : {D : Type 0} → (D → DiskState) → View D → View D → (gate number : ℕ)
     → (text text' : List ℕ) → Result ℕ Unlisted → Type 0
 ListsEntry state old new gate number text text' (Ok next) =
-    (row : Row) × (IsStored row.kept row.payload × ((text' ≡ text ++ row_line number row)
+    (row : SpooledRow) × (IsStoredEntry row.kept row.payload × ((text' ≡ text ++ row_line number row)
     × ((new.closed ≡ false)
     × WhereTold (content (state old.disk)) (λ bytes. IsHere old.rows.list bytes gate row next))))
 ListsEntry state old new gate number text text' (Err (Damage at)) =
@@ -82,21 +82,21 @@ SaysSome old new text text' (Err DiskFault) = ⊥
 
 -- why a walk ended, behind these entries: the list is these, or it begins with them
 abbrev pub WalkEnds : {D : Type 0} → (D → DiskState) → View D → View D → WorldState → WorldState
-    → List Row → Result ℕ Unlisted → Type 0
+    → List SpooledRow → Result ℕ Unlisted → Type 0
 WalkEnds state old new world world' rows (Ok count) = (count ≡ length rows)
     × WhereTold (content (state old.disk)) (IsList (payloads_of rows))
 WalkEnds state old new world world' rows (Err (Damage at)) = WhereTold (content (state old.disk))
-    (IsFirstBad at rows)
+    (IsFirstBadEntry at rows)
 WalkEnds state old new world world' rows (Err DiskFault) =
     Rose (state old.disk).faults (state new.disk).faults
-    × WhereTold (content (state old.disk)) (IsBegun rows)
+    × WhereTold (content (state old.disk)) (IsListBegun rows)
 WalkEnds state old new world world' rows (Err SayFault) = Rose world.say_faults world'.say_faults
 WalkEnds state old new world world' rows (Err NoMemory) = Unit {0}
 WalkEnds state old new world world' rows (Err NotOpened) = ⊥
 
 -- a walk over the entries of a disk-buffer: the lines of these were said, or are the text
-pub record WalksBy {D : Type 0} (state : D → DiskState) (old new : View D) (world world' : WorldState) (text : List ℕ) (result : Result ℕ Unlisted) (rows : List Row) : Type 0 where
-  pub stored : AreStored rows
+pub record WalksBy {D : Type 0} (state : D → DiskState) (old new : View D) (world world' : WorldState) (text : List ℕ) (result : Result ℕ Unlisted) (rows : List SpooledRow) : Type 0 where
+  pub stored : AreRowsStored rows
   pub told : (state new.disk).told ≡ (state old.disk).told
   pub later : (state old.disk).faults ≤ (state new.disk).faults
   pub says : OnlySays world world'
@@ -105,7 +105,7 @@ pub record WalksBy {D : Type 0} (state : D → DiskState) (old new : View D) (wo
 
 abbrev pub Walks : {D : Type 0} → (D → DiskState) → View D → View D → WorldState → WorldState
     → List ℕ → Result ℕ Unlisted → Type 0
-Walks state old new world world' text result = (rows : List Row)
+Walks state old new world world' text result = (rows : List SpooledRow)
     × WalksBy state old new world world' text result rows
 
 -- what is said at the end
@@ -122,7 +122,7 @@ answer_of (Ok count) = Ok tt
 answer_of (Err unlisted) = Err unlisted
 
 -- The text and the end were said, but where saying had failed before; or saying failed now, or memory ran out.
-pub record Ends (old new : WorldState) (text : List ℕ) (walked : Result ℕ Unlisted) (result : Result Unit Unlisted) : Type 0 where
+pub record EndsListing (old new : WorldState) (text : List ℕ) (walked : Result ℕ Unlisted) (result : Result Unit Unlisted) : Type 0 where
   pub says : OnlySays old new
   pub ends : ((result ≡ answer_of walked)
       × UnlessUnsaid walked (SaidText old new (text ++ end_text walked)))

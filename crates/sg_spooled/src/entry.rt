@@ -1,26 +1,28 @@
 // One entry of a store.
 ghost use Rattle.std.specs.Prelude.{◌≡◌, ℕ, false, List, IfOk};
 ghost use Rattle.sg_device.specs.Disk.{content, WhereTold};
-ghost use Rattle.sg_spool.specs.Calls.{Reads};
+ghost use Rattle.sg_spool.specs.Calls.{OnlyReadsSpool};
 ghost use Rattle.sg_spool.specs.Places.{Remains};
 ghost use Rattle.sg_spool.specs.Ring.{Entries};
-ghost use Rattle.sg_spooled.specs.Walking.{Appends, ListsEntry};
+ghost use Rattle.sg_spooled.specs.Walking.{AppendsRow, ListsEntry};
 
 use crate::Unlisted;
+use crate::about::append_about;
 use crate::payload::read_payload;
 use sg_device::{Disk, NoMemory};
 use sg_report::entry_text;
 use sg_spool::{Spool, Walked};
 use std::alloc::Global;
 
-// Appends the line of an entry of this number, where the payload is one.
+// Appends the line of an entry of this number, where the payload is one, and what is told of it.
 fn append_entry(
     alloc: Global,
     number: u64,
     payload: &[u8],
     text: &mut Vec<u8>,
+    about: &mut Vec<u8>,
 ) -> Result<bool, NoMemory>
-    ensures { IfOk result (Appends number payload.now text.old.items text.new.items) }
+    ensures { IfOk result (AppendsRow number payload.now text.old.items text.new.items) }
 {
     match read_payload(alloc, payload)? {
         Some(kept) => {
@@ -34,6 +36,7 @@ fn append_entry(
                 length,
                 text,
             )?;
+            append_about(alloc, number, &kept.message, about)?;
             Ok(true)
         }
         None => Ok(false),
@@ -48,19 +51,20 @@ pub(crate) fn list_entry<D: Disk>(
     gate: u64,
     number: u64,
     text: &mut Vec<u8>,
+    about: &mut Vec<u8>,
 ) -> Result<u64, Unlisted>
     requires unstaged { spool.old.rows.staged ≡ 0 }
     requires opened { spool.old.closed ≡ false }
     requires left { WhereTold (content (D.state spool.old.disk))
         (λ bytes. (entries : Entries)
         × Remains bytes spool.old.rows.list.jump gate entries spool.old.rows.list.end) }
-    ensures reads { Reads D.state spool.old spool.new }
+    ensures reads { OnlyReadsSpool D.state spool.old spool.new }
     ensures lists { ListsEntry D.state spool.old spool.new gate number text.old.items text.new.items
         result }
 {
     match spool.item(alloc, gate)? {
         Walked::Item { payload, next } => {
-            if append_entry(alloc, number, &payload, text)? {
+            if append_entry(alloc, number, &payload, text, about)? {
                 Ok(next)
             } else {
                 Err(Unlisted::Damage(gate))

@@ -1,8 +1,9 @@
 // The command.
 ghost use Rattle.std.specs.Prelude.{◌≡◌};
-ghost use Rattle.sg_spooled.specs.Listing.{unlisted_for, Lists, Spools};
+ghost use Rattle.sg_spooled.specs.Listing.{unlisted_for, ListsStore, Spools};
 
 use crate::Unlisted;
+use crate::salvage::salvage;
 use crate::saying::end;
 use crate::walking::walk;
 use sg_device::{Name, OpenRefusal};
@@ -29,7 +30,7 @@ fn list_opened<W: World>(
     store: W::Store,
     world: &mut W,
 ) -> (W::Store, Result<(), Unlisted>)
-    ensures { Lists (W.state world.old) (W.state world.new) (W.Store.state store)
+    ensures { ListsStore (W.state world.old) (W.state world.new) (W.Store.state store)
         (W.Store.state result.0) result.1 }
 {
     let mut text = Vec::new(alloc);
@@ -38,10 +39,14 @@ fn list_opened<W: World>(
             let mut spool = spool;
             let walked = walk(alloc, &mut spool, &mut text, world);
             let result = end(alloc, walked, &mut text, world);
-            (spool.into_disk(), result)
+            let mut store = spool.into_disk();
+            salvage(alloc, &mut store, &result, true, world);
+            (store, result)
         }
         Err((store, refusal)) => {
             let result = end(alloc, Err(unlisted(refusal)), &mut text, world);
+            let mut store = store;
+            salvage(alloc, &mut store, &result, false, world);
             (store, result)
         }
     }

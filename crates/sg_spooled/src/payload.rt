@@ -1,6 +1,6 @@
 // The entry that a payload spells.
 ghost use Rattle.std.specs.Prelude.{◌≡◌, IfOk, MatchOption};
-ghost use Rattle.sg_spooled.specs.Entries.{IsStored, IsNoEntry, is_beyond};
+ghost use Rattle.sg_spooled.specs.Entries.{IsStoredEntry, IsNoEntry, is_beyond};
 
 use sg_codec::{CodecRefusal, Kept, decode};
 use sg_device::NoMemory;
@@ -16,7 +16,7 @@ fn is_beyond(payload: &[u8]) -> bool
 // The entry that a payload in a store spells, where it is one.
 pub(crate) fn read_payload(alloc: Global, payload: &[u8]) -> Result<Option<Kept>, NoMemory>
     ensures { IfOk result
-        (λ read. MatchOption read (IsNoEntry payload.now) (λ kept. IsStored kept payload.now)) }
+        (λ read. MatchOption read (IsNoEntry payload.now) (λ kept. IsStoredEntry kept payload.now)) }
 {
     if is_beyond(payload) {
         return Ok(None);

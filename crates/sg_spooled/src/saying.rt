@@ -1,9 +1,10 @@
 // What is said on the way, and at the end.
 ghost use Rattle.std.specs.Prelude.{◌≡◌, ◌++◌, OnOk};
 ghost use Rattle.sg_output.specs.Saying.{OnlySays};
-ghost use Rattle.sg_spooled.specs.Walking.{SaysAll, SaysSome, end_text, Ends};
+ghost use Rattle.sg_spooled.specs.Walking.{SaysAll, SaysSome, end_text, EndsListing};
 
 use crate::Unlisted;
+use crate::about::tell_about;
 use sg_device::{NoMemory, SayRefusal};
 use sg_report::{damaged_text, entries_text, failed_text, unopened_text};
 use sg_world::World;
@@ -28,16 +29,18 @@ fn say<W: World>(alloc: Global, text: &mut Vec<u8>, world: &mut W) -> Result<(),
     }
 }
 
-// Says the text and empties it, once there is enough of it.
+// Tells what is told of entries; says the text and empties it, once there is enough of it.
 pub(crate) fn say_piece<W: World>(
     alloc: Global,
     text: &mut Vec<u8>,
+    about: &mut Vec<u8>,
     world: &mut W,
 ) -> Result<(), Unlisted>
     ensures says { OnlySays (W.state world.old) (W.state world.new) }
     ensures some { SaysSome (W.state world.old) (W.state world.new) text.old.items text.new.items
         result }
 {
+    tell_about(about, world);
     if text.len() < PIECE {
         return Ok(());
     }
@@ -69,7 +72,7 @@ pub(crate) fn end<W: World>(
     text: &mut Vec<u8>,
     world: &mut W,
 ) -> Result<(), Unlisted>
-    ensures { Ends (W.state world.old) (W.state world.new) text.old.items walked result }
+    ensures { EndsListing (W.state world.old) (W.state world.new) text.old.items walked result }
 {
     if let Err(Unlisted::SayFault) = walked {
         return Err(Unlisted::SayFault);

@@ -24,9 +24,10 @@ pub(crate) fn walk<W: World>(
 {
     let count = spool.count();
     let mut gate = spool.head();
+    let mut about = Vec::new(alloc);
     for number in 0..count {
-        gate = list_entry(alloc, spool, gate, number, text)?;
-        say_piece(alloc, text, world)?;
+        gate = list_entry(alloc, spool, gate, number, text, &mut about)?;
+        say_piece(alloc, text, &mut about, world)?;
     }
     Ok(count)
 }

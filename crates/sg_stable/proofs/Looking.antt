@@ -6,10 +6,10 @@ use Rattle.sg_device.proofs.Disks.{told_before}
 use Rattle.sg_stable.specs.declared.cell.Pair.{Pair}
 use Rattle.sg_stable.specs.declared.fault.StoreRefusal.{StoreRefusal}
 use Rattle.sg_stable.specs.declared.fault.StoreRefusal.TheVariants.{Damage, DiskFault, NoMemory}
-use Rattle.sg_stable.specs.Refusal.{HasReason}
+use Rattle.sg_stable.specs.Refusal.{HasPositionReason}
 use Rattle.sg_stable.specs.Cell.{HasCell, AreZero, IsFirstNonzero}
 use Rattle.sg_stable.specs.Opening.{FindsCell, IsSynced}
-use Rattle.sg_stable.specs.Position.{IsPosition, IsDamagedAt}
+use Rattle.sg_stable.specs.Position.{IsPosition, IsPositionDamagedAt}
 use Rattle.sg_stable.proofs.Cells.{value_of}
 
 -- a buffer that holds the first bytes
@@ -33,13 +33,13 @@ module _ (b after : List ℕ) (same : (k : ℕ) → k < 128 → get_or after k 0
   }
 
 -- the reason, from before a call that changed nothing
-reason_before : (d0 d1 d2 : DiskState) (refusal : StoreRefusal) → Preserves d0 d1 → d0.faults ≤ d1.faults → HasReason d1 d2 refusal → HasReason d0 d2 refusal
-reason_before d0 d1 d2 (Damage at) keeps later why = told_before d0 d1 (IsDamagedAt at) keeps why
+reason_before : (d0 d1 d2 : DiskState) (refusal : StoreRefusal) → Preserves d0 d1 → d0.faults ≤ d1.faults → HasPositionReason d1 d2 refusal → HasPositionReason d0 d2 refusal
+reason_before d0 d1 d2 (Damage at) keeps later why = told_before d0 d1 (IsPositionDamagedAt at) keeps why
 reason_before d0 d1 d2 DiskFault keeps later why = omega (arith, later, why)
 reason_before d0 d1 d2 NoMemory keeps later why = absurd why
 
 module _ (d0 d1 d2 : DiskState) (keeps : Preserves d0 d1) where
-  pub reasons_before : (r : Result Pair StoreRefusal) → d0.faults ≤ d1.faults → IfErr r (HasReason d1 d2) → IfErr r (HasReason d0 d2)
+  pub reasons_before : (r : Result Pair StoreRefusal) → d0.faults ≤ d1.faults → IfErr r (HasPositionReason d1 d2) → IfErr r (HasPositionReason d0 d2)
   reasons_before (Ok cell) later why = why
   reasons_before (Err refusal) later why = reason_before d0 d1 d2 refusal keeps later why
 

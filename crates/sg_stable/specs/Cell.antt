@@ -42,7 +42,7 @@ pub record SameOutside (old new : List ℕ) : Type 0 where
   pub rest : (k : ℕ) → IsOutside k → slice_index new k ≡ slice_index old k
 
 -- one of these images, with the cell's value or another in its cell
-pub record Puts (from : List ℕ → Type 0) (old new : ℕ) (bytes : List ℕ) : Type 0 where
+pub record PutsValue (from : List ℕ → Type 0) (old new : ℕ) (bytes : List ℕ) : Type 0 where
   pub before : List ℕ
   pub was : from before
   pub outside : SameOutside before bytes

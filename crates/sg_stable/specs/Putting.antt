@@ -25,7 +25,7 @@ pub record LeavesEither {T E : Type 0} (old new : DiskState) (closed : Bool) (on
 
 -- What outlives a put: the images of past moments. The count of faults never falls, and a store that isn't closed left it as it
 -- was; one that is closed has its cause, which is that the count rose since any moment at which it was open.
-pub record Lasts (old new : DiskState) (was_closed is_closed : Bool) : Type 0 where
+pub record DiskLasts (old new : DiskState) (was_closed is_closed : Bool) : Type 0 where
   pub moves : Moves old new
   pub later : old.faults ≤ new.faults
   pub works : is_closed ≡ false → new.faults ≡ old.faults

@@ -4,7 +4,7 @@ ghost use Rattle.std.specs.Int.{to_be_bytes, w64};
 ghost use Rattle.sg_device.specs.Disk.{content, IsImage, Changes, Elapses, Durable, Within, EachNow, WhereTold, HasCause};
 ghost use Rattle.sg_device.specs.DiskBytes.{Torn, Written};
 ghost use Rattle.sg_stable.specs.Putting.{IsPut, StaysClosed};
-ghost use Rattle.sg_stable.specs.Cell.{word, slot, HasCell, IsOutside, AreZero, IsFirstNonzero, SameOutside, Puts};
+ghost use Rattle.sg_stable.specs.Cell.{word, slot, HasCell, IsOutside, AreZero, IsFirstNonzero, SameOutside, PutsValue};
 
 use sg_device::{Disk, DiskFault, write_through};
 
@@ -64,7 +64,7 @@ impl Pair {
 
         // Within the call each image is one from before it with the old number or the new one in its cell.
         ensures within { self.old.closed ≡ false → Within (D.state disk.old) (D.state disk.new)
-            (Puts (IsImage (D.state disk.old)) self.old.value value) }
+            (PutsValue (IsImage (D.state disk.old)) self.old.value value) }
         ensures outside { OnOk result
             (Changes SameOutside (content (D.state disk.old)) (content (D.state disk.new))) }
 

@@ -2,10 +2,10 @@
 ghost use Rattle.std.specs.Prelude.{◌≡◌, ◌<◌, ◌≤◌, true, false, IfOk, IfErr, OnOk};
 ghost use Rattle.sg_device.specs.Disk.{EachNow, HasCause};
 ghost use Rattle.sg_stable.specs.Cell.{HasCell};
-ghost use Rattle.sg_stable.specs.Refusal.{HasReason};
+ghost use Rattle.sg_stable.specs.Refusal.{HasPositionReason};
 ghost use Rattle.sg_stable.specs.Opening.{FindsCell, IsSynced, IsUnwritten};
 ghost use Rattle.sg_stable.specs.Position.{IsEither};
-ghost use Rattle.sg_stable.specs.Putting.{IsPut, StaysClosed, LeavesEither, Lasts};
+ghost use Rattle.sg_stable.specs.Putting.{IsPut, StaysClosed, LeavesEither, DiskLasts};
 
 use crate::{Pair, StoreRefusal, first_nonzero};
 use sg_device::{Disk, DiskFault};
@@ -32,7 +32,7 @@ impl<D: Disk> Stable<D> {
         ensures tried { IfOk result (λ stable. stable.tried ≡ stable.cell.value) }
         ensures synced { IfOk result (λ stable. IsSynced (D.state disk) (D.state stable.disk)) }
         ensures unwritten { IfErr result (λ e. IsUnwritten (D.state disk) (D.state e.0)) }
-        ensures reason { IfErr result (λ e. HasReason (D.state disk) (D.state e.0) e.1) }
+        ensures reason { IfErr result (λ e. HasPositionReason (D.state disk) (D.state e.0) e.1) }
     {
         let mut disk = disk;
         match look(&mut disk) {
@@ -58,7 +58,7 @@ impl<D: Disk> Stable<D> {
         ensures tried { self.old.cell.closed ≡ false → self.new.tried ≡ value }
         ensures leaves { LeavesEither (D.state self.old.disk) (D.state self.new.disk)
             self.old.cell.closed self.old.cell.value value result }
-        ensures lasts { Lasts (D.state self.old.disk) (D.state self.new.disk)
+        ensures lasts { DiskLasts (D.state self.old.disk) (D.state self.new.disk)
             self.old.cell.closed self.new.cell.closed }
         ensures cause { self.old.cell.closed ≡ false
             → HasCause (D.state self.old.disk).faults (D.state self.new.disk).faults result }
@@ -91,7 +91,7 @@ fn look<D: Disk>(disk: &mut D) -> Result<Pair, StoreRefusal>
     ensures found { IfOk result (FindsCell (D.state disk.old)) }
     ensures synced { OnOk result (IsSynced (D.state disk.old) (D.state disk.new)) }
     ensures unwritten { IsUnwritten (D.state disk.old) (D.state disk.new) }
-    ensures reason { IfErr result (HasReason (D.state disk.old) (D.state disk.new)) }
+    ensures reason { IfErr result (HasPositionReason (D.state disk.old) (D.state disk.new)) }
 {
     disk.sync()?;
     inspect(disk)
@@ -103,7 +103,7 @@ fn inspect<D: Disk>(disk: &mut D) -> Result<Pair, StoreRefusal>
     ensures told { (D.state disk.new).told ≡ (D.state disk.old).told }
     ensures later { (D.state disk.old).faults ≤ (D.state disk.new).faults }
     ensures well { OnOk result ((D.state disk.new).faults ≡ (D.state disk.old).faults) }
-    ensures reason { IfErr result (HasReason (D.state disk.old) (D.state disk.new)) }
+    ensures reason { IfErr result (HasPositionReason (D.state disk.old) (D.state disk.new)) }
 {
     let len = disk.len()?;
     let mut bytes = [0; 128];

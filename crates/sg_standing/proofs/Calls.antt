@@ -10,7 +10,7 @@ use Rattle.sg_machine.specs.declared.event.Act.{Act}
 use Rattle.sg_machine.specs.declared.event.Event.{Event}
 use Rattle.sg_machine.specs.declared.setup.BufferSetup.{BufferSetup}
 use Rattle.sg_machine.specs.declared.state.Dest.{Dest}
-use Rattle.sg_machine.specs.declared.state.Inlet.{Inlet}
+use Rattle.sg_machine.specs.declared.state.InletRecords.{InletRecords}
 use Rattle.sg_machine.specs.declared.state.State.{State}
 use Rattle.sg_machine.specs.Effects.{after_act}
 use Rattle.sg_machine.specs.Legal.{is_legal_act}
@@ -18,9 +18,9 @@ use Rattle.sg_machine.specs.Runs.{after_all}
 use Rattle.sg_machine.specs.Safe.{failed_entries}
 use Rattle.sg_machine.specs.Verdicts.{is_listed}
 use Rattle.sg_counter.specs.Bringing.{store_in}
-use Rattle.sg_stores.specs.Stores.{StoreState, Goes, AllGo}
+use Rattle.sg_stores.specs.Stores.{StoreState, StoreGoesOn, AllGo}
 use Rattle.sg_standing.specs.States.{CoreState, setup_of}
-use Rattle.sg_standing.specs.Standing.{IsAt, IsOneOf, IsSafeStore, StandsFor, StandsOn, HavePositionsWithin, HaveListsWithin, HaveRisen, Does, AreApart, setups_of, buffer_in, positions_within, failed_then}
+use Rattle.sg_standing.specs.Standing.{IsAt, IsPositionOf, IsSafeStore, StandsFor, StandsOn, HavePositionsWithin, HaveListsWithin, HaveRisen, DoesAct, AreApart, setups_of, buffer_in, positions_within, failed_then}
 use Rattle.sg_standing.proofs.More.{more-stands}
 use Rattle.sg_standing.proofs.Still.{StaysSame, within-same, position-before, list-before}
 
@@ -39,7 +39,7 @@ pub does-of : (old new : CoreState) (act : Act) (failed : List ℕ) → HaveRise
     → ((s : State) → IsAt old s → (is_legal_act s act failed ≡ true) × IsAt new (after_act s act failed))
     → ((start : State) (events : List Event) → StandsFor old start events → HavePositionsWithin old.stores new.stores start events (record { act = act; failed = failed }))
     → ((start : State) (events : List Event) → StandsFor old start events → HaveListsWithin old.stores new.stores start events (record { act = act; failed = failed }))
-    → Does old new act
+    → DoesAct old new act
 does-of old new act failed risen goes calls setup step positions lists = record {
   failed = failed;
   risen = risen;
@@ -55,7 +55,7 @@ does-of old new act failed risen goes calls setup step positions lists = record 
 
 -- Stores that stay.
 
-pub goes-refl : (o : StoreState) → Goes o o
+pub goes-refl : (o : StoreState) → StoreGoesOn o o
 goes-refl o = record {
   moves = record { later = omega arith; past = λ t c l i. i; kept = λ t c l i. i };
   later = omega arith;
@@ -73,7 +73,7 @@ same-stores olds news v o n same g h = some-same o n (sym g ∙ ap (λ xs. slice
 pub all-go-same : (olds news : List StoreState) → news ≡ olds → AllGo olds news
 all-go-same olds news same = record {
   count = ap length same;
-  each = λ v o n g h. subst (λ (m : StoreState). Goes o m) (same-stores olds news v o n same g h) (goes-refl o);
+  each = λ v o n g h. subst (λ (m : StoreState). StoreGoesOn o m) (same-stores olds news v o n same g h) (goes-refl o);
 }
 
 pub risen-none : (olds news : List StoreState) → HaveRisen olds news []
@@ -82,12 +82,12 @@ risen-none olds news v o n l g h = let wrong : false ≡ true = l in cc
 -- of each inlet or destination the image is of a store that stays, or as the call says
 
 pub positions-by : (old : CoreState) (news : List StoreState) (start : State) (events : List Event) (e : Event) → StandsFor old start events
-    → ((i u : ℕ) (x : Inlet) (o n : StoreState) → slice_get (after_all start events).inlets i ≡ Some x → x.setup.store ≡ Some u → slice_get old.stores u ≡ Some o → slice_get news u ≡ Some n
-    → StaysSame o n ⊎ Within o.disk n.disk (IsOneOf (positions_within start events e i x)))
+    → ((i u : ℕ) (x : InletRecords) (o n : StoreState) → slice_get (after_all start events).inlets i ≡ Some x → x.setup.store ≡ Some u → slice_get old.stores u ≡ Some o → slice_get news u ≡ Some n
+    → StaysSame o n ⊎ Within o.disk n.disk (IsPositionOf (positions_within start events e i x)))
     → HavePositionsWithin old.stores news start events e
 positions-by old news start events e h by i x u o n there has g k =
     elim (by i u x o n there has g k) [
-      | inl same ↦ within-same o n (IsOneOf (positions_within start events e i x)) same (position-before old start events e i u x o h there has g)
+      | inl same ↦ within-same o n (IsPositionOf (positions_within start events e i x)) same (position-before old start events e i u x o h there has g)
       | inr within ↦ within
     ]
 
@@ -103,7 +103,7 @@ lists-by old news start events e h by d x buffer o n there has g k =
 
 -- a call that leaves all stores
 pub quiet : (old new : CoreState) (act : Act) → new.stores ≡ old.stores → new.calls ≡ old.calls + 1 → setup_of new ≡ setup_of old
-    → ((s : State) → IsAt old s → (is_legal_act s act [] ≡ true) × IsAt new (after_act s act [])) → Does old new act
+    → ((s : State) → IsAt old s → (is_legal_act s act [] ≡ true) × IsAt new (after_act s act [])) → DoesAct old new act
 quiet old new act stores calls setup step =
     does-of old new act [] (risen-none old.stores new.stores) (all-go-same old.stores new.stores stores) calls setup step
     (λ start events h. positions-by old new.stores start events (record { act = act; failed = [] }) h (λ i u x o n there has g k. inl (stays-refl o n (same-stores old.stores new.stores u o n stores g k))))
@@ -131,13 +131,13 @@ touched-or olds news u v was now o n get others g k =
       | inr ne ↦ inr (ne, some-same o n (sym g ∙ sym (get-change-other olds u v (λ _. now) ne) ∙ k2))
     ]
 
-pub all-go-touched : (olds news : List StoreState) (u : ℕ) (was now : StoreState) → slice_get olds u ≡ Some was → news ≡ change olds u (λ _. now) → Goes was now → AllGo olds news
+pub all-go-touched : (olds news : List StoreState) (u : ℕ) (was now : StoreState) → slice_get olds u ≡ Some was → news ≡ change olds u (λ _. now) → StoreGoesOn was now → AllGo olds news
 all-go-touched olds news u was now get others goes = record {
   count = ap length others ∙ length-change olds u (λ _. now);
   each = λ v o n g k.
       elim (touched-or olds news u v was now o n get others g k) [
-        | inl t ↦ subst (λ (y : StoreState). Goes o y) (t.1).after (subst (λ (y : StoreState). Goes y now) (t.1).before goes)
-        | inr t ↦ subst (λ (y : StoreState). Goes o y) t.1 (goes-refl o)
+        | inl t ↦ subst (λ (y : StoreState). StoreGoesOn o y) (t.1).after (subst (λ (y : StoreState). StoreGoesOn y now) (t.1).before goes)
+        | inr t ↦ subst (λ (y : StoreState). StoreGoesOn o y) t.1 (goes-refl o)
       ];
 }
 
@@ -157,19 +157,19 @@ risen-touched olds news u was now get others rose v o n l g k =
 
 -- The stores of a state.
 
-pub store_in-of : (inlets : List Inlet) (j : ℕ) (x : Inlet) → slice_get inlets j ≡ Some x → store_in (setups_of inlets) j ≡ x.setup.store
+pub store_in-of : (inlets : List InletRecords) (j : ℕ) (x : InletRecords) → slice_get inlets j ≡ Some x → store_in (setups_of inlets) j ≡ x.setup.store
 store_in-of [] j x h = let wrong : None ≡ Some x = h in cc
-store_in-of (y ∷ inlets) zero x h = ap (λ (z : Inlet). z.setup.store) (some-same y x h)
+store_in-of (y ∷ inlets) zero x h = ap (λ (z : InletRecords). z.setup.store) (some-same y x h)
 store_in-of (y ∷ inlets) (suc j) x h = store_in-of inlets j x h
 
 pub buffer_in-of : (dests : List Dest) (d : ℕ) (x : Dest) (buffer : BufferSetup) → slice_get dests d ≡ Some x → x.setup.buffer ≡ Some buffer → buffer_in dests d ≡ Some buffer.store
 buffer_in-of dests d x buffer h has = rw (h, has) refl
 
 -- the store of an inlet isn't that of a disk-buffer
-pub apart-both : (s : State) (i d u : ℕ) (x : Inlet) (y : Dest) (buffer : BufferSetup) → AreApart s → slice_get s.inlets i ≡ Some x → x.setup.store ≡ Some u → slice_get s.dests d ≡ Some y → y.setup.buffer ≡ Some buffer → u ≢ buffer.store
+pub apart-both : (s : State) (i d u : ℕ) (x : InletRecords) (y : Dest) (buffer : BufferSetup) → AreApart s → slice_get s.inlets i ≡ Some x → x.setup.store ≡ Some u → slice_get s.dests d ≡ Some y → y.setup.buffer ≡ Some buffer → u ≢ buffer.store
 apart-both s i d u x y buffer apart hx sx hy sy e = apart.both i d buffer.store (store_in-of s.inlets i x hx ∙ sx ∙ ap Some e) (buffer_in-of s.dests d y buffer hy sy)
 
-pub apart-inlets : (s : State) (i j u v : ℕ) (x y : Inlet) → AreApart s → slice_get s.inlets i ≡ Some x → slice_get s.inlets j ≡ Some y → x.setup.store ≡ Some u → y.setup.store ≡ Some v → j ≢ i → v ≢ u
+pub apart-inlets : (s : State) (i j u v : ℕ) (x y : InletRecords) → AreApart s → slice_get s.inlets i ≡ Some x → slice_get s.inlets j ≡ Some y → x.setup.store ≡ Some u → y.setup.store ≡ Some v → j ≢ i → v ≢ u
 apart-inlets s i j u v x y apart hx hy sx sy ne e =
     ne (apart.inlets j i u (store_in-of s.inlets j y hy ∙ sy ∙ ap Some e) (store_in-of s.inlets i x hx ∙ sx))
 
@@ -188,15 +188,15 @@ touched-list old start events e d f x y b buffer was now o n h there has hx sx s
     let P : ℕ → Dest → StoreState → StoreState → Type 0 = λ k z p q. StaysSame p q ⊎ Within p.disk q.disk (IsSafeStore z k e.act (failed_then start events e) (failed_entries start (events ++ e ∷ []) k)) in
     subst (λ (k : ℕ). P k x o n) (sym at) (subst (λ (z : Dest). P d z o n) is (subst (λ (q : StoreState). P d y o q) t.after (subst (λ (p : StoreState). P d y p now) t.before by)))
 
-touched-position : (old : CoreState) (start : State) (events : List Event) (e : Event) (i j u v : ℕ) (x y : Inlet) (was now o n : StoreState) → StandsFor old start events
+touched-position : (old : CoreState) (start : State) (events : List Event) (e : Event) (i j u v : ℕ) (x y : InletRecords) (was now o n : StoreState) → StandsFor old start events
     → slice_get (after_all start events).inlets i ≡ Some y → y.setup.store ≡ Some u → slice_get (after_all start events).inlets j ≡ Some x → x.setup.store ≡ Some v → v ≡ u → IsTouched was now o n
-    → Within was.disk now.disk (IsOneOf (positions_within start events e i y)) → Within o.disk n.disk (IsOneOf (positions_within start events e j x))
+    → Within was.disk now.disk (IsPositionOf (positions_within start events e i y)) → Within o.disk n.disk (IsPositionOf (positions_within start events e j x))
 touched-position old start events e i j u v x y was now o n h there has hx sx same t within =
     let s = after_all start events in
     let at : j ≡ i = (h.at.sound.apart).inlets j i u (store_in-of s.inlets j x hx ∙ sx ∙ ap Some same) (store_in-of s.inlets i y there ∙ has) in
     let is : y ≡ x = some-same y x (sym there ∙ ap (slice_get s.inlets) (sym at) ∙ hx) in
-    let P : ℕ → Inlet → StoreState → StoreState → Type 0 = λ k z p q. Within p.disk q.disk (IsOneOf (positions_within start events e k z)) in
-    subst (λ (k : ℕ). P k x o n) (sym at) (subst (λ (z : Inlet). P i z o n) is (subst (λ (q : StoreState). P i y o q) t.after (subst (λ (p : StoreState). P i y p now) t.before within)))
+    let P : ℕ → InletRecords → StoreState → StoreState → Type 0 = λ k z p q. Within p.disk q.disk (IsPositionOf (positions_within start events e k z)) in
+    subst (λ (k : ℕ). P k x o n) (sym at) (subst (λ (z : InletRecords). P i z o n) is (subst (λ (q : StoreState). P i y o q) t.after (subst (λ (p : StoreState). P i y p now) t.before within)))
 
 -- A call that touches the store of a disk-buffer.
 
@@ -223,7 +223,7 @@ lists-buffer old news start events e d y buffer was now h there has get others b
 
 -- A call that touches the store of an inlet.
 
-pub lists-inlet : (old : CoreState) (news : List StoreState) (start : State) (events : List Event) (e : Event) (i u : ℕ) (y : Inlet) (was now : StoreState) → StandsFor old start events
+pub lists-inlet : (old : CoreState) (news : List StoreState) (start : State) (events : List Event) (e : Event) (i u : ℕ) (y : InletRecords) (was now : StoreState) → StandsFor old start events
     → slice_get (after_all start events).inlets i ≡ Some y → y.setup.store ≡ Some u → slice_get old.stores u ≡ Some was → news ≡ change old.stores u (λ _. now)
     → HaveListsWithin old.stores news start events e
 lists-inlet old news start events e i u y was now h there has get others =
@@ -233,9 +233,9 @@ lists-inlet old news start events e i u y was now h there has get others =
       | inr t ↦ inl (stays-refl o n t.1)
     ])
 
-pub positions-inlet : (old : CoreState) (news : List StoreState) (start : State) (events : List Event) (e : Event) (i u : ℕ) (y : Inlet) (was now : StoreState) → StandsFor old start events
+pub positions-inlet : (old : CoreState) (news : List StoreState) (start : State) (events : List Event) (e : Event) (i u : ℕ) (y : InletRecords) (was now : StoreState) → StandsFor old start events
     → slice_get (after_all start events).inlets i ≡ Some y → y.setup.store ≡ Some u → slice_get old.stores u ≡ Some was → news ≡ change old.stores u (λ _. now)
-    → Within was.disk now.disk (IsOneOf (positions_within start events e i y))
+    → Within was.disk now.disk (IsPositionOf (positions_within start events e i y))
     → HavePositionsWithin old.stores news start events e
 positions-inlet old news start events e i u y was now h there has get others within =
     positions-by old news start events e h (λ j v x o n hx sx g k.

@@ -5,7 +5,7 @@ use Rattle.std.specs.Option.{option_map_or}
 use Rattle.std.proofs.lemmas.Bool.{cases_eq}
 use Rattle.std.proofs.lemmas.List.{append-nil}
 use Rattle.sg_list.specs.Lists.{change, passes_at}
-use Rattle.sg_list.proofs.ListLemmas.{some-same, get-change-same, get-change-other, length-change, passes_at-some}
+use Rattle.sg_list.proofs.ListLemmas.{some-same, get-change-same, get-change-other, length-change, passes_at-some, get-change}
 use Rattle.sg_msg.specs.declared.offer.Offer.{Offer}
 use Rattle.sg_machine.specs.declared.event.Act.{Act}
 use Rattle.sg_machine.specs.declared.event.Act.TheVariants.{Admit, Settle, Refill, Store, Rewind, Look}
@@ -16,22 +16,22 @@ use Rattle.sg_machine.specs.declared.setup.BufferSetup.{BufferSetup}
 use Rattle.sg_machine.specs.declared.setup.DestSetup.{DestSetup}
 use Rattle.sg_machine.specs.declared.setup.SourceSetup.{SourceSetup}
 use Rattle.sg_machine.specs.declared.state.Dest.{Dest}
-use Rattle.sg_machine.specs.declared.state.Entry.{Entry}
-use Rattle.sg_machine.specs.declared.state.Inlet.{Inlet}
+use Rattle.sg_machine.specs.declared.state.DestEntry.{DestEntry}
+use Rattle.sg_machine.specs.declared.state.InletRecords.{InletRecords}
 use Rattle.sg_machine.specs.declared.state.Origin.{Origin}
 use Rattle.sg_machine.specs.declared.state.State.{State}
 use Rattle.sg_machine.specs.Effects.{next_of, admitted, settled_some, refilled_some, stored_at, rewound, after_act}
 use Rattle.sg_machine.specs.Legal.{is_legal_act, is_same_list, is_nil, fit_in_turn, store_of, works, may_admit, may_refill, may_store, may_rewind}
 use Rattle.sg_machine.specs.Marks.{mark_of}
-use Rattle.sg_machine.specs.Runs.{Kept}
+use Rattle.sg_machine.specs.Runs.{BufferedEntry}
 use Rattle.sg_machine.specs.Safe.{IsSafeList, spooled_of, settled_by, has_failed, running_position, kept_from, spooled_offers, appends}
 use Rattle.sg_machine.specs.Verdicts.{Claim, claims_of, origin_of, is_listed, same_verdict, disk_verdict, queue_verdict, judged_by, judged_at, judged, take_offer, take_claim, take_claims, entry_from}
-use Rattle.sg_machine.proofs.BatchLemmas.{failing-appends}
+use Rattle.sg_machine.proofs.BatchLemmas.{failing-appends, none-is}
 use Rattle.sg_machine.proofs.CountLemmas.{take-drop}
 use Rattle.sg_machine.proofs.FlowLemmas.{mapped-some, then-some}
 use Rattle.sg_machine.proofs.RunLemmas.{both-true}
-use Rattle.sg_standing.proofs.ListSteps.{get-change}
 use Rattle.sg_standing.proofs.Safes.{spooled-append}
+use Rattle.sg_machine.proofs.AckLemmas.{length-claims}
 
 -- Lists of stores.
 
@@ -68,7 +68,7 @@ froze-refl x = record { setup = refl; settled = refl; spooled = refl }
 froze-then : (x y z : Dest) → Froze x y → Froze y z → Froze x z
 froze-then x y z p q = record { setup = q.setup ∙ p.setup; settled = q.settled ∙ p.settled; spooled = q.spooled ∙ p.spooled }
 
-froze-keep : (x : Dest) (e : Entry) → e.spooled ≡ false → Froze x (record x { left = x.left ++ e ∷ [] })
+froze-keep : (x : Dest) (e : DestEntry) → e.spooled ≡ false → Froze x (record x { left = x.left ++ e ∷ [] })
 froze-keep x e memory =
     let none : spooled_of (e ∷ []) ≡ [] = rw memory refl in
     record {
@@ -85,11 +85,11 @@ froze-offer origin o Waits x h = froze-keep x (entry_from origin o false) refl
 froze-offer origin o DroppedFull x h = record { setup = refl; settled = refl; spooled = refl }
 froze-offer origin o DroppedDisk x h = record { setup = refl; settled = refl; spooled = refl }
 
-cons-none : (k : Kept) (ks : List Kept) → k ∷ ks ≡ [] → ⊥
+cons-none : (k : BufferedEntry) (ks : List BufferedEntry) → k ∷ ks ≡ [] → ⊥
 cons-none k ks h = cc
 
 -- nothing is spooled here, nor by the rest
-none-spooled : (p q : Bool) (k : Kept) (ks : List Kept) → (if p && q then k ∷ ks else ks) ≡ [] → (ks ≡ []) × (p ≡ true → q ≡ false)
+none-spooled : (p q : Bool) (k : BufferedEntry) (ks : List BufferedEntry) → (if p && q then k ∷ ks else ks) ≡ [] → (ks ≡ []) × (p ≡ true → q ≡ false)
 none-spooled true true k ks h = absurd (cons-none k ks h)
 none-spooled true false k ks h = (h, λ p. refl)
 none-spooled false q k ks h = (h, λ p. let wrong : false ≡ true = p in cc)
@@ -119,14 +119,11 @@ broken-verdict : (flow : Bool) → same_verdict Spooled (if flow then Waits else
 broken-verdict true = refl
 broken-verdict false = refl
 
-none-is : (x : List ℕ) → None ≡ Some x → ⊥
-none-is x h = cc
-
 when-false : (p q : Bool) (y z : Option (List ℕ)) → q ≡ false → (if p && q then y else z) ≡ z
 when-false true q y z h = rw h refl
 when-false false q y z h = refl
 
-unspooled : (b : BufferSetup) (fifo : ℕ) (left : List Entry) (failing failed : List ℕ) (o : Offer) (v : Verdict) (x : List ℕ) → is_listed b.store failed ≡ true → judged_by (Some b) fifo left failing failed o v ≡ Some x
+unspooled : (b : BufferSetup) (fifo : ℕ) (left : List DestEntry) (failing failed : List ℕ) (o : Offer) (v : Verdict) (x : List ℕ) → is_listed b.store failed ≡ true → judged_by (Some b) fifo left failing failed o v ≡ Some x
     → same_verdict Spooled v ≡ false
 unspooled b fifo left failing failed o Queued x l j = refl
 unspooled b fifo left failing failed o Spooled x l j =
@@ -147,7 +144,7 @@ grows-if : (u : ℕ) (a b c : Bool) (failed x : List ℕ) (s : ℕ) → is_liste
 grows-if u true b c failed x s l h = rw (← (if-some b (failed ++ s ∷ []) x h)) (listed-front u failed (s ∷ []) l)
 grows-if u false b c failed x s l h = rw (← (if-some c failed x h)) l
 
-grows-by : (o : Option BufferSetup) (fifo : ℕ) (left : List Entry) (failing failed : List ℕ) (offer : Offer) (v : Verdict) (x : List ℕ) (u : ℕ) → is_listed u failed ≡ true → judged_by o fifo left failing failed offer v ≡ Some x
+grows-by : (o : Option BufferSetup) (fifo : ℕ) (left : List DestEntry) (failing failed : List ℕ) (offer : Offer) (v : Verdict) (x : List ℕ) (u : ℕ) → is_listed u failed ≡ true → judged_by o fifo left failing failed offer v ≡ Some x
     → is_listed u x ≡ true
 grows-by None fifo left failing failed offer v x u l j = rw (← (if-some (same_verdict v (queue_verdict fifo left offer)) failed x j)) l
 grows-by (Some b) fifo left failing failed offer v x u l j =
@@ -172,7 +169,7 @@ judged-here ds k d x b failing failed o v z e h q j =
     let Q : Option BufferSetup → Type 0 = λ y. judged_by y x.setup.fifo x.left failing failed o v ≡ Some z in
     subst Q q (subst P at j)
 
-skip-if : (p q : Bool) (k : Kept) (ks : List Kept) → (p ≡ true → q ≡ false) → (if p && q then k ∷ ks else ks) ≡ ks
+skip-if : (p q : Bool) (k : BufferedEntry) (ks : List BufferedEntry) → (p ≡ true → q ≡ false) → (if p && q then k ∷ ks else ks) ≡ ks
 skip-if true q k ks h = rw (h refl) refl
 skip-if false q k ks h = refl
 
@@ -278,11 +275,6 @@ freezes s (Store i w) failed d old b legal h q l = (old, h, freezes-same old d (
 freezes s (Rewind i) failed d old b legal h q l = (old, h, freezes-same old d (Rewind i) refl)
 freezes s Look failed d old b legal h q l = (old, h, freezes-same old d Look refl)
 
-length-claims : (i next : ℕ) (ds : List Dest) (cs : List Claim) (vs : List Verdict) → length (take_claims i next ds cs vs) ≡ length ds
-length-claims i next ds [] vs = refl
-length-claims i next ds (c ∷ cs) [] = refl
-length-claims i next ds (c ∷ cs) (v ∷ vs) = length-claims i next (take_claim i next ds c v) cs vs ∙ length-change ds c.offer.dest (take_offer (origin_of i next c) c.offer v)
-
 pub length-dests : (s : State) (act : Act) (failed : List ℕ) → length (after_act s act failed).dests ≡ length s.dests
 length-dests s (Admit i records vs) failed = length-claims i (next_of s i) s.dests (claims_of records) vs
 length-dests s (Settle d n) failed = length-change s.dests d (settled_some n)
@@ -324,7 +316,7 @@ kept-setup s (Rewind i) failed d x h = (x, h, refl)
 kept-setup s Look failed d x h = (x, h, refl)
 
 -- a list that was safe within the act is safe after it
-pub safe-after : (old new : Dest) (d : ℕ) (act : Act) (failed : List ℕ) (tried list : List Kept) → Freezes old new d act → has_failed failed (store_of old) ≡ true → IsSafeList old d act failed tried list → IsSafeList new d Look failed tried list
+pub safe-after : (old new : Dest) (d : ℕ) (act : Act) (failed : List ℕ) (tried list : List BufferedEntry) → Freezes old new d act → has_failed failed (store_of old) ≡ true → IsSafeList old d act failed tried list → IsSafeList new d Look failed tried list
 safe-after old new d act failed tried list f broken h =
     let store : store_of new ≡ store_of old = ap (λ (x : DestSetup). option_map_or (λ (y : BufferSetup). Some y.store) x.buffer None) f.setup in
     let still : has_failed failed (store_of new) ≡ true = ap (has_failed failed) store ∙ broken in
@@ -334,17 +326,17 @@ safe-after old new d act failed tried list f broken h =
       parts =
           let P : Bool → Type 0 = λ b. list ≡ drop h.gone (spooled_of (old.settled ++ old.left)) ++ take h.added (if b then tried else appends act d old) in
           let Q : Bool → Type 0 = λ b. list ≡ drop h.gone (spooled_of (new.settled ++ new.left)) ++ take h.added (if b then tried else []) in
-          let R : List Kept → Type 0 = λ ks. list ≡ drop h.gone ks ++ take h.added tried in
+          let R : List BufferedEntry → Type 0 = λ ks. list ≡ drop h.gone ks ++ take h.added tried in
           subst Q (sym still) (subst R (sym f.spooled) (subst P broken h.parts));
-      settled = subst (λ (xs : List Entry). h.gone ≤ length (spooled_of xs)) (sym f.settled) h.settled;
+      settled = subst (λ (xs : List DestEntry). h.gone ≤ length (spooled_of xs)) (sym f.settled) h.settled;
       all_settled = λ no s. let wrong : true ≡ false = sym still ∙ no in cc;
     }
 
 -- Inlets.
 
 -- an inlet whose store has failed was there before, and nothing is written
-pub record WasThere (s : State) (act : Act) (i : ℕ) (new : Inlet) : Type 0 where
-  pub old : Inlet
+pub record WasThere (s : State) (act : Act) (i : ℕ) (new : InletRecords) : Type 0 where
+  pub old : InletRecords
   pub there : slice_get s.inlets i ≡ Some old
   pub setup : old.setup ≡ new.setup
   pub stored : old.stored ≡ new.stored
@@ -357,9 +349,9 @@ not-works-inlet failed store u q l w =
     cc
 
 -- where an act writes the position of j, its store works
-never : (s : State) (j i u : ℕ) (failed : List ℕ) (f : Inlet → Inlet) (p : Inlet → Bool) (new : Inlet) → ((x : Inlet) → (f x).setup ≡ x.setup) → ((x : Inlet) → p x ≡ true → works s.failed x.setup.store ≡ true)
+never : (s : State) (j i u : ℕ) (failed : List ℕ) (f : InletRecords → InletRecords) (p : InletRecords → Bool) (new : InletRecords) → ((x : InletRecords) → (f x).setup ≡ x.setup) → ((x : InletRecords) → p x ≡ true → works s.failed x.setup.store ≡ true)
     → passes_at s.inlets j p ≡ true → is_nil failed ≡ true → slice_get (change s.inlets j f) i ≡ Some new → new.setup.store ≡ Some u → is_listed u (s.failed ++ failed) ≡ true
-    → (old : Inlet) × (slice_get s.inlets i ≡ Some old) × (new ≡ old) × (j ≢ i)
+    → (old : InletRecords) × (slice_get s.inlets i ≡ Some old) × (new ≡ old) × (j ≢ i)
 never s j i u failed f p new setup working passes nil h has l =
     let g = get-change s.inlets j i f new h in
     elim g.2 [
@@ -367,24 +359,24 @@ never s j i u failed f p new setup working passes nil h has l =
           let r = passes_at-some s.inlets j p passes in
           let at_j : slice_get s.inlets j ≡ Some g.0 = ap (λ k. slice_get s.inlets k) (sym q.0) ∙ g.1 in
           let same : r.0 ≡ g.0 = some-same r.0 g.0 (sym r.1 ∙ at_j) in
-          let store : (r.0).setup.store ≡ Some u = ap (λ (x : Inlet). x.setup.store) same ∙ ap (λ (x : SourceSetup). x.store) (sym (setup g.0)) ∙ ap (λ (x : Inlet). x.setup.store) (sym q.1) ∙ has in
+          let store : (r.0).setup.store ≡ Some u = ap (λ (x : InletRecords). x.setup.store) same ∙ ap (λ (x : SourceSetup). x.store) (sym (setup g.0)) ∙ ap (λ (x : InletRecords). x.setup.store) (sym q.1) ∙ has in
           absurd (not-works-inlet s.failed (r.0).setup.store u store (none-failed s.failed failed u nil l) (working r.0 r.2)))
       | inr q ↦ (g.0, g.1, q.1, λ e. q.0 (sym e))
     ]
 
-store-works : (s : State) (j w : ℕ) (x : Inlet) → may_store s j w x ≡ true → works s.failed x.setup.store ≡ true
+store-works : (s : State) (j w : ℕ) (x : InletRecords) → may_store s j w x ≡ true → works s.failed x.setup.store ≡ true
 store-works s j w x h = and-head (works s.failed x.setup.store) (w == mark_of s.dests j x) (and-head (works s.failed x.setup.store && w == mark_of s.dests j x) (not (w == x.stored)) h)
 
-rewind-works : (failed : List ℕ) (x : Inlet) → may_rewind failed x ≡ true → works failed x.setup.store ≡ true
+rewind-works : (failed : List ℕ) (x : InletRecords) → may_rewind failed x ≡ true → works failed x.setup.store ≡ true
 rewind-works failed x h = and-head (works failed x.setup.store) (is_nil x.ends) (and-head (works failed x.setup.store && is_nil x.ends) (not (x.stored == 0)) h)
 
-pub was-there : (s : State) (act : Act) (failed : List ℕ) (i u : ℕ) (new : Inlet) → is_legal_act s act failed ≡ true → slice_get (after_act s act failed).inlets i ≡ Some new → new.setup.store ≡ Some u → is_listed u (s.failed ++ failed) ≡ true
+pub was-there : (s : State) (act : Act) (failed : List ℕ) (i u : ℕ) (new : InletRecords) → is_legal_act s act failed ≡ true → slice_get (after_act s act failed).inlets i ≡ Some new → new.setup.store ≡ Some u → is_listed u (s.failed ++ failed) ≡ true
     → WasThere s act i new
 was-there s (Admit j records vs) failed i u new legal h has l =
     let g = get-change s.inlets j i (admitted records) new h in
     elim g.2 [
-      | inl p ↦ record { old = g.0; there = g.1; setup = ap (λ (x : Inlet). x.setup) (sym p.1); stored = ap (λ (x : Inlet). x.stored) (sym p.1); quiet = refl }
-      | inr p ↦ record { old = g.0; there = g.1; setup = ap (λ (x : Inlet). x.setup) (sym p.1); stored = ap (λ (x : Inlet). x.stored) (sym p.1); quiet = refl }
+      | inl p ↦ record { old = g.0; there = g.1; setup = ap (λ (x : InletRecords). x.setup) (sym p.1); stored = ap (λ (x : InletRecords). x.stored) (sym p.1); quiet = refl }
+      | inr p ↦ record { old = g.0; there = g.1; setup = ap (λ (x : InletRecords). x.setup) (sym p.1); stored = ap (λ (x : InletRecords). x.stored) (sym p.1); quiet = refl }
     ]
 was-there s (Settle d n) failed i u new legal h has l = record { old = new; there = h; setup = refl; stored = refl; quiet = refl }
 was-there s (Refill d n) failed i u new legal h has l = record { old = new; there = h; setup = refl; stored = refl; quiet = refl }
@@ -392,10 +384,10 @@ was-there s (Store j w) failed i u new legal h has l =
     let parts = both-true (passes_at s.inlets j (may_store s j w)) (is_nil failed) legal in
     let r = never s j i u failed (stored_at w) (may_store s j w) new (λ x. refl) (λ x p. store-works s j w x p) parts.0 parts.1 h has l in
     let miss : (j == i) ≡ false = grind (arith, r.3) in
-    record { old = r.0; there = r.1; setup = ap (λ (x : Inlet). x.setup) (sym r.2); stored = ap (λ (x : Inlet). x.stored) (sym r.2); quiet = rw miss refl }
+    record { old = r.0; there = r.1; setup = ap (λ (x : InletRecords). x.setup) (sym r.2); stored = ap (λ (x : InletRecords). x.stored) (sym r.2); quiet = rw miss refl }
 was-there s (Rewind j) failed i u new legal h has l =
     let parts = both-true (passes_at s.inlets j (may_rewind s.failed)) (is_nil failed) legal in
     let r = never s j i u failed rewound (may_rewind s.failed) new (λ x. refl) (λ x p. rewind-works s.failed x p) parts.0 parts.1 h has l in
     let miss : (j == i) ≡ false = grind (arith, r.3) in
-    record { old = r.0; there = r.1; setup = ap (λ (x : Inlet). x.setup) (sym r.2); stored = ap (λ (x : Inlet). x.stored) (sym r.2); quiet = rw miss refl }
+    record { old = r.0; there = r.1; setup = ap (λ (x : InletRecords). x.setup) (sym r.2); stored = ap (λ (x : InletRecords). x.stored) (sym r.2); quiet = rw miss refl }
 was-there s Look failed i u new legal h has l = record { old = new; there = h; setup = refl; stored = refl; quiet = refl }

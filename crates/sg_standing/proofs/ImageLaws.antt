@@ -18,10 +18,10 @@ use Rattle.sg_machine.specs.declared.setup.DestSetup.{DestSetup}
 use Rattle.sg_machine.specs.declared.setup.Setup.{Setup}
 use Rattle.sg_machine.specs.declared.setup.SourceSetup.{SourceSetup}
 use Rattle.sg_machine.specs.declared.state.Dest.{Dest}
-use Rattle.sg_machine.specs.declared.state.Inlet.{Inlet}
+use Rattle.sg_machine.specs.declared.state.InletRecords.{InletRecords}
 use Rattle.sg_machine.specs.declared.state.State.{State}
 use Rattle.sg_machine.specs.Effects.{admitted, stored_at, rewound, after, after_act}
-use Rattle.sg_machine.specs.Runs.{Kept, Opening, opened, after_all, are_legal}
+use Rattle.sg_machine.specs.Runs.{BufferedEntry, Opening, opened, after_all, are_legal}
 use Rattle.sg_machine.specs.Safe.{Safe, ImagesAt, IsSafeList, nothing, failed_entries}
 use Rattle.sg_machine.specs.Verdicts.{is_listed}
 use Rattle.sg_machine.proofs.RunLemmas.{after_all-append, are_legal-parts, length-inlets-after_act}
@@ -30,7 +30,7 @@ use Rattle.sg_sinks.specs.Standing.{sink_of}
 use Rattle.sg_sinks.specs.States.{SinkState}
 use Rattle.sg_stores.specs.Stores.{StoreState, coded}
 use Rattle.sg_standing.specs.States.{CoreState}
-use Rattle.sg_standing.specs.Standing.{IsAt, IsOneOf, IsSafeStore, IsStored, HoldsPosition, StandsFor, Does, is_broken, source_of, sources_from, positions_within, failed_then}
+use Rattle.sg_standing.specs.Standing.{IsAt, IsPositionOf, IsSafeStore, IsStoredPosition, HoldsPosition, StandsFor, DoesAct, is_broken, source_of, sources_from, positions_within, failed_then}
 use Rattle.sg_standing.specs.Images.{position_in, positions_in, AreListsIn, AreImages, AreImagesWithin, AreImagesBetween, AreStores}
 use Rattle.sg_standing.specs.declared.source.Source.{Source}
 use Rattle.sg_standing.proofs.Frozen.{kept-setup, length-dests}
@@ -39,47 +39,47 @@ use Rattle.sg_standing.proofs.Still.{position-before, list-before}
 
 -- What is kept of a state has its setup.
 
-pub record Shows (core : CoreState) (s : State) : Type 0 where
+pub record ShowsImage (core : CoreState) (s : State) : Type 0 where
   pub every_source : length core.sources ≡ length s.inlets
   pub every_sink : length core.sinks ≡ length s.dests
-  pub sources : (i : ℕ) (x : Inlet) → slice_get s.inlets i ≡ Some x → (source : Source) × (slice_get core.sources i ≡ Some source) × (source.setup ≡ x.setup)
+  pub sources : (i : ℕ) (x : InletRecords) → slice_get s.inlets i ≡ Some x → (source : Source) × (slice_get core.sources i ≡ Some source) × (source.setup ≡ x.setup)
   pub sinks : (d : ℕ) (x : Dest) → slice_get s.dests d ≡ Some x → (sink : SinkState) × (slice_get core.sinks d ≡ Some sink) × (sink.setup ≡ x.setup)
-  pub positions : (i u : ℕ) (x : Inlet) → slice_get s.inlets i ≡ Some x → x.setup.store ≡ Some u → (store : StoreState) × (slice_get core.stores u ≡ Some store)
+  pub positions : (i u : ℕ) (x : InletRecords) → slice_get s.inlets i ≡ Some x → x.setup.store ≡ Some u → (store : StoreState) × (slice_get core.stores u ≡ Some store)
   pub buffers : (d : ℕ) (x : Dest) (buffer : BufferSetup) → slice_get s.dests d ≡ Some x → x.setup.buffer ≡ Some buffer → (store : StoreState) × (slice_get core.stores buffer.store ≡ Some store)
 
-length-sources : (ds : List Dest) (i : ℕ) (inlets : List Inlet) → length (sources_from ds i inlets) ≡ length inlets
+length-sources : (ds : List Dest) (i : ℕ) (inlets : List InletRecords) → length (sources_from ds i inlets) ≡ length inlets
 length-sources ds i [] = refl
 length-sources ds i (x ∷ inlets) = ap suc (length-sources ds (i + 1) inlets)
 
-get-sources : (ds : List Dest) (j i : ℕ) (inlets : List Inlet) (x : Inlet) → slice_get inlets i ≡ Some x → (source : Source) × (slice_get (sources_from ds j inlets) i ≡ Some source) × (source.setup ≡ x.setup)
+get-sources : (ds : List Dest) (j i : ℕ) (inlets : List InletRecords) (x : InletRecords) → slice_get inlets i ≡ Some x → (source : Source) × (slice_get (sources_from ds j inlets) i ≡ Some source) × (source.setup ≡ x.setup)
 get-sources ds j i [] x h = let wrong : None ≡ Some x = h in cc
-get-sources ds j zero (y ∷ inlets) x h = (source_of ds j y, refl, ap (λ (z : Inlet). z.setup) (some-same y x h))
+get-sources ds j zero (y ∷ inlets) x h = (source_of ds j y, refl, ap (λ (z : InletRecords). z.setup) (some-same y x h))
 get-sources ds j (suc i) (y ∷ inlets) x h = get-sources ds (j + 1) i inlets x h
 
 held-store : (o : Option StoreState) (p : ℕ) (f : Bool) → HoldsPosition o p f → (store : StoreState) × (o ≡ Some store)
 held-store None p f h = absurd h
 held-store (Some store) p f h = (store, refl)
 
-pub shows-at : (core : CoreState) (s : State) → IsAt core s → Shows core s
+pub shows-at : (core : CoreState) (s : State) → IsAt core s → ShowsImage core s
 shows-at core s at = record {
   every_source = ap length at.sources ∙ length-sources s.dests 0 s.inlets;
   every_sink = ap length at.sinks ∙ length-map s.dests (λ (x : Dest). sink_of (is_broken s.failed x) x);
   sources = λ i x h. let r = get-sources s.dests 0 i s.inlets x h in (r.0, ap (λ xs. slice_get xs i) at.sources ∙ r.1, r.2);
   sinks = λ d x h. (sink_of (is_broken s.failed x) x, ap (λ xs. slice_get xs d) at.sinks ∙ slice_get-map (λ (y : Dest). sink_of (is_broken s.failed y) y) s.dests d x h, refl);
   positions = λ i u x h has.
-      let P : Option ℕ → Type 0 = λ o. IsStored core.stores s.failed o x.stored in
+      let P : Option ℕ → Type 0 = λ o. IsStoredPosition core.stores s.failed o x.stored in
       held-store (slice_get core.stores u) x.stored (is_listed u s.failed) (subst P has (at.stores i x h));
   buffers = λ d x buffer h has. let b = at.buffers d x buffer h has in (b.store, b.there);
 }
 
-inlet-change : (xs : List Inlet) (j i : ℕ) (f : Inlet → Inlet) (x : Inlet) → ((z : Inlet) → (f z).setup ≡ z.setup) → slice_get xs i ≡ Some x → (y : Inlet) × (slice_get (change xs j f) i ≡ Some y) × (y.setup ≡ x.setup)
+inlet-change : (xs : List InletRecords) (j i : ℕ) (f : InletRecords → InletRecords) (x : InletRecords) → ((z : InletRecords) → (f z).setup ≡ z.setup) → slice_get xs i ≡ Some x → (y : InletRecords) × (slice_get (change xs j f) i ≡ Some y) × (y.setup ≡ x.setup)
 inlet-change xs j i f x keeps h =
     elim (cases_eq j i) [
       | inl p ↦ (f x, rw p (get-change-same xs i f x h), keeps x)
       | inr ne ↦ (x, get-change-other xs j i f (λ p. ne (sym p)) ∙ h, refl)
     ]
 
-pub kept-inlet : (s : State) (act : Act) (failed : List ℕ) (i : ℕ) (x : Inlet) → slice_get s.inlets i ≡ Some x → (y : Inlet) × (slice_get (after_act s act failed).inlets i ≡ Some y) × (y.setup ≡ x.setup)
+pub kept-inlet : (s : State) (act : Act) (failed : List ℕ) (i : ℕ) (x : InletRecords) → slice_get s.inlets i ≡ Some x → (y : InletRecords) × (slice_get (after_act s act failed).inlets i ≡ Some y) × (y.setup ≡ x.setup)
 kept-inlet s (Admit j records vs) failed i x h = inlet-change s.inlets j i (admitted records) x (λ z. refl) h
 kept-inlet s (Settle d n) failed i x h = (x, h, refl)
 kept-inlet s (Refill d n) failed i x h = (x, h, refl)
@@ -87,7 +87,7 @@ kept-inlet s (Store j w) failed i x h = inlet-change s.inlets j i (stored_at w) 
 kept-inlet s (Rewind j) failed i x h = inlet-change s.inlets j i rewound x (λ z. refl) h
 kept-inlet s Look failed i x h = (x, h, refl)
 
-shows-before : (core : CoreState) (s : State) (e : Event) → Shows core (after s e) → Shows core s
+shows-before : (core : CoreState) (s : State) (e : Event) → ShowsImage core (after s e) → ShowsImage core s
 shows-before core s e h = record {
   every_source = h.every_source ∙ length-inlets-after_act s e.act e.failed;
   every_sink = h.every_sink ∙ length-dests s e.act e.failed;
@@ -107,7 +107,7 @@ shows-before core s e h = record {
       h.buffers d k.0 buffer k.1 (ap (λ (y : DestSetup). y.buffer) k.2 ∙ has);
 }
 
-shows-all : (core : CoreState) (s : State) (es : List Event) → Shows core (after_all s es) → Shows core s
+shows-all : (core : CoreState) (s : State) (es : List Event) → ShowsImage core (after_all s es) → ShowsImage core s
 shows-all core s [] h = h
 shows-all core s (e ∷ es) h = shows-before core s e (shows-all core (after s e) es h)
 
@@ -117,12 +117,12 @@ split-at [] k e h = let wrong : None ≡ Some e = h in cc
 split-at (x ∷ es) zero e h = ap (λ y. y ∷ es) (some-same x e h)
 split-at (x ∷ es) (suc k) e h = ap (λ xs. x ∷ xs) (split-at es k e h)
 
-shows-then : (core : CoreState) (start : State) (events : List Event) (k : ℕ) (e : Event) → Shows core (after_all start events) → slice_get events k ≡ Some e → Shows core (after_all start (take k events))
+shows-then : (core : CoreState) (start : State) (events : List Event) (k : ℕ) (e : Event) → ShowsImage core (after_all start events) → slice_get events k ≡ Some e → ShowsImage core (after_all start (take k events))
 shows-then core start events k e h g =
     let rest = e ∷ drop (suc k) events in
     let parts : events ≡ take k events ++ rest = split-at events k e g ∙ append_assoc (take k events) (e ∷ []) (drop (suc k) events) in
     let same : after_all start events ≡ after_all (after_all start (take k events)) rest = ap (after_all start) parts ∙ after_all-append start (take k events) rest in
-    shows-all core (after_all start (take k events)) rest (subst (Shows core) same h)
+    shows-all core (after_all start (take k events)) rest (subst (ShowsImage core) same h)
 
 legal-then : (start : State) (events : List Event) (k : ℕ) (e : Event) → are_legal start events ≡ true → slice_get events k ≡ Some e → are_legal start (take k events ++ e ∷ []) ≡ true
 legal-then start events k e legal g =
@@ -133,9 +133,9 @@ legal-then start events k e legal g =
 
 -- each image of a store has one of its positions, or a safe list
 pub record AreHeld (core : CoreState) (start : State) (events : List Event) (e : Event) (images : List (List ℕ)) : Type 0 where
-  pub shows : Shows core (after_all start events)
+  pub shows : ShowsImage core (after_all start events)
   pub chosen : (s : ℕ) (store : StoreState) → slice_get core.stores s ≡ Some store → (bytes : List ℕ) × (slice_get images s ≡ Some bytes)
-  pub positions : (i u : ℕ) (x : Inlet) (bytes : List ℕ) → slice_get (after_all start events).inlets i ≡ Some x → x.setup.store ≡ Some u → slice_get images u ≡ Some bytes → IsOneOf (positions_within start events e i x) bytes
+  pub positions : (i u : ℕ) (x : InletRecords) (bytes : List ℕ) → slice_get (after_all start events).inlets i ≡ Some x → x.setup.store ≡ Some u → slice_get images u ≡ Some bytes → IsPositionOf (positions_within start events e i x) bytes
   pub lists : (d : ℕ) (x : Dest) (buffer : BufferSetup) (bytes : List ℕ) → slice_get (after_all start events).dests d ≡ Some x → x.setup.buffer ≡ Some buffer → slice_get images buffer.store ≡ Some bytes
       → IsSafeStore x d e.act (failed_then start events e) (failed_entries start (events ++ e ∷ []) d) bytes
 
@@ -147,7 +147,7 @@ buffer-of : (o : Option BufferSetup) → is_some o ≡ true → (b : BufferSetup
 buffer-of None h = let wrong : false ≡ true = h in cc
 buffer-of (Some b) h = (b, refl)
 
-coded-same : (a b : Kept) → coded a ≡ coded b → a ≡ b
+coded-same : (a b : BufferedEntry) → coded a ≡ coded b → a ≡ b
 coded-same a b h =
     let inlet : a.inlet ≡ b.inlet = ap (λ (k : Coded). k.source) h in
     let end : a.end ≡ b.end = ap (λ (k : Coded). k.end) h in
@@ -158,7 +158,7 @@ coded-same a b h =
 head-same : (x y : Coded) (xs ys : List Coded) → x ∷ xs ≡ y ∷ ys → (x ≡ y) × (xs ≡ ys)
 head-same x y xs ys h = (cc, cc)
 
-pub codes-same : (a b : List Kept) → map coded a ≡ map coded b → a ≡ b
+pub codes-same : (a b : List BufferedEntry) → map coded a ≡ map coded b → a ≡ b
 codes-same [] [] h = refl
 codes-same [] (y ∷ ys) h = let wrong : [] ≡ coded y ∷ map coded ys = h in cc
 codes-same (x ∷ xs) [] h = let wrong : coded x ∷ map coded xs ≡ [] = h in cc
@@ -174,10 +174,10 @@ abbrev pub AreOneIn : CoreState → Type 0
 AreOneIn core = (d : ℕ) (sink : SinkState) (buffer : BufferSetup) → slice_get core.sinks d ≡ Some sink → sink.setup.buffer ≡ Some buffer → AreOne
 
 -- the position of an image is listed
-listed-of : (ps : List ℕ) (bytes : List ℕ) → IsOneOf ps bytes → is_listed (cell_value bytes) ps ≡ true
+listed-of : (ps : List ℕ) (bytes : List ℕ) → IsPositionOf ps bytes → is_listed (cell_value bytes) ps ≡ true
 listed-of ps bytes one = rw one.is_position.holds one.listed
 
-pub images-at : (core : CoreState) (start : State) (events : List Event) (e : Event) (images : List (List ℕ)) (lists : List (List Kept)) → AreOneIn core → AreHeld core start events e images → AreListsIn core.sinks images lists
+pub images-at : (core : CoreState) (start : State) (events : List Event) (e : Event) (images : List (List ℕ)) (lists : List (List BufferedEntry)) → AreOneIn core → AreHeld core start events e images → AreListsIn core.sinks images lists
     → ImagesAt start events e (record { positions = positions_in core.sources images; lists = lists })
 images-at core start events e images lists one h are =
     let s = after_all start events in
@@ -202,10 +202,10 @@ images-at core start events e images lists one h are =
           let has : (sink.0).setup.buffer ≡ Some b.0 = ap (λ (y : DestSetup). y.buffer) sink.2 ∙ b.1 in
           let held = h.lists d x b.0 image.0 there b.1 image.1 in
           let same = codes-same held.list list (one d sink.0 b.0 sink.1 has (map coded held.list) (map coded list) image.0 held.entries (are.each d sink.0 b.0 list image.0 sink.1 has get image.1)) in
-          subst (λ (ks : List Kept). IsSafeList x d e.act (failed_then start events e) (failed_entries start (events ++ e ∷ []) d) ks) same held.safe;
+          subst (λ (ks : List BufferedEntry). IsSafeList x d e.act (failed_then start events e) (failed_entries start (events ++ e ∷ []) d) ks) same held.safe;
     }
 
-pub safe-held : (setup : Setup) (opening : Opening) (events : List Event) (e : Event) (core : CoreState) (images : List (List ℕ)) (lists : List (List Kept)) → AreOne → are_legal (opened setup opening) (events ++ e ∷ []) ≡ true
+pub safe-held : (setup : Setup) (opening : Opening) (events : List Event) (e : Event) (core : CoreState) (images : List (List ℕ)) (lists : List (List BufferedEntry)) → AreOne → are_legal (opened setup opening) (events ++ e ∷ []) ≡ true
     → AreHeld core (opened setup opening) events e images → AreListsIn core.sinks images lists → Safe (opened setup opening) events e (record { positions = positions_in core.sources images; lists = lists })
 safe-held setup opening events e core images lists one legal h are =
     safe setup opening events e (record { positions = positions_in core.sources images; lists = lists }) legal (images-at core (opened setup opening) events e images lists (λ d sink buffer there has. one) h are)
@@ -259,7 +259,7 @@ held-now core start events images h are =
 new-store : (olds news : List StoreState) (u : ℕ) (old : StoreState) → length news ≡ length olds → slice_get olds u ≡ Some old → (new : StoreState) × (slice_get news u ≡ Some new)
 new-store olds news u old count h = let below = slice_get-below olds u old h in slice_get-some news u (omega (arith, below, count))
 
-pub held-within : (old new : CoreState) (start : State) (events : List Event) (act : Act) (does : Does old new act) (images : List (List ℕ)) → StandsFor old start events → AreImagesWithin old.stores new.stores images
+pub held-within : (old new : CoreState) (start : State) (events : List Event) (act : Act) (does : DoesAct old new act) (images : List (List ℕ)) → StandsFor old start events → AreImagesWithin old.stores new.stores images
     → AreHeld old start events (record { act = act; failed = does.failed }) images
 held-within old new start events act does images h are =
     let s = after_all start events in
@@ -285,7 +285,7 @@ held-within old new start events act does images h are =
           within.each r.moment bytes r.since r.before (subst (λ (b : List ℕ). IsImageAt (now.0).disk r.moment b) same r.image);
     }
 
-pub legal-within : (old new : CoreState) (start : State) (events : List Event) (act : Act) (does : Does old new act) → StandsFor old start events → are_legal start (events ++ record { act = act; failed = does.failed } ∷ []) ≡ true
+pub legal-within : (old new : CoreState) (start : State) (events : List Event) (act : Act) (does : DoesAct old new act) → StandsFor old start events → are_legal start (events ++ record { act = act; failed = does.failed } ∷ []) ≡ true
 legal-within old new start events act does h = legal-more start events (record { act = act; failed = does.failed }) h.legal (does.step (after_all start events) h.at).0
 
 pub legal-now : (core : CoreState) (start : State) (events : List Event) → StandsFor core start events → are_legal start (events ++ nothing ∷ []) ≡ true

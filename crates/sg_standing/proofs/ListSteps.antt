@@ -1,5 +1,5 @@
 -- Lists of parts, one item at a time.
-use Rattle.std.proofs.Common.{◌≡◌, ◌≢◌, ◌<◌, ◌≤◌, ℕ, List, [], ◌∷◌, ◌++◌, length, take, drop, set, Some, None, refl, sym, ap, ◌∙◌, arith, suc, zero, slice_get, map, inl, inr, ◌⊎◌}
+use Rattle.std.proofs.Common.{◌≡◌, ◌<◌, ◌≤◌, ℕ, List, [], ◌∷◌, ◌++◌, length, take, set, Some, refl, sym, ap, ◌∙◌, arith, suc, zero, slice_get, map}
 use Rattle.sg_list.specs.Lists.{change}
 use Rattle.sg_list.proofs.ListLemmas.{some-same}
 
@@ -14,29 +14,6 @@ pub seen-same : {A B : Type 0} (f : A → B) (xs : List A) (k : ℕ) (x y : A) �
 seen-same f [] k x y e h = refl
 seen-same f (z ∷ xs) zero x y e h = let same = some-same z x e in ap (λ v. v ∷ map f xs) (h ∙ ap f (sym same))
 seen-same f (z ∷ xs) (suc k) x y e h = ap (λ vs. f z ∷ vs) (seen-same f xs k x y e h)
-
--- a change that keeps a part of each item
-pub map-kept : {A B : Type 0} (g : A → B) (f : A → A) (xs : List A) (k : ℕ) → ((x : A) → g (f x) ≡ g x) → map g (change xs k f) ≡ map g xs
-map-kept g f [] k h = refl
-map-kept g f (x ∷ xs) zero h = ap (λ y. y ∷ map g xs) (h x)
-map-kept g f (x ∷ xs) (suc k) h = ap (λ ys. g x ∷ ys) (map-kept g f xs k h)
-
--- an item of a changed list was there, as it is or changed
-pub get-change : {A : Type 0} (xs : List A) (k j : ℕ) (f : A → A) (y : A) → slice_get (change xs k f) j ≡ Some y
-    → (x : A) × (slice_get xs j ≡ Some x) × (((j ≡ k) × (y ≡ f x)) ⊎ ((j ≢ k) × (y ≡ x)))
-get-change [] k j f y h = let wrong : None ≡ Some y = h in cc
-get-change (x ∷ xs) zero zero f y h = (x, refl, inl (refl, sym (some-same (f x) y h)))
-get-change (x ∷ xs) zero (suc j) f y h = (y, h, inr ((λ e. omega arith), refl))
-get-change (x ∷ xs) (suc k) zero f y h = (x, refl, inr ((λ e. omega arith), sym (some-same x y h)))
-get-change (x ∷ xs) (suc k) (suc j) f y h =
-    let r = get-change xs k j f y h in (
-      r.0,
-      r.1,
-      elim r.2 [
-        | inl p ↦ inl (ap suc p.0, p.1)
-        | inr p ↦ inr ((λ e. p.0 (omega arith)), p.1)
-      ],
-    )
 
 -- one item more
 
@@ -57,7 +34,3 @@ take-front (x ∷ xs) ys (suc k) l = ap (λ zs. x ∷ zs) (take-front xs ys k (o
 pub take-whole : {A : Type 0} (xs ys : List A) → take (length xs) (xs ++ ys) ≡ xs
 take-whole [] ys = refl
 take-whole (x ∷ xs) ys = ap (λ zs. x ∷ zs) (take-whole xs ys)
-
-pub drop-front : {A : Type 0} (xs ys : List A) → drop (length xs) (xs ++ ys) ≡ ys
-drop-front [] ys = refl
-drop-front (x ∷ xs) ys = drop-front xs ys

@@ -8,7 +8,7 @@ use Rattle.sg_machine.specs.declared.setup.BufferSetup.{BufferSetup}
 use Rattle.sg_machine.specs.declared.setup.DestSetup.{DestSetup}
 use Rattle.sg_machine.specs.declared.setup.SourceSetup.{SourceSetup}
 use Rattle.sg_machine.specs.declared.state.Dest.{Dest}
-use Rattle.sg_machine.specs.declared.state.Inlet.{Inlet}
+use Rattle.sg_machine.specs.declared.state.InletRecords.{InletRecords}
 use Rattle.sg_machine.specs.declared.state.State.{State}
 use Rattle.sg_machine.specs.declared.event.Act.TheVariants.{Look}
 use Rattle.sg_machine.specs.Effects.{after}
@@ -19,7 +19,7 @@ use Rattle.sg_machine.specs.Verdicts.{is_listed}
 use Rattle.sg_machine.proofs.RunLemmas.{after_all-append, are_legal-join}
 use Rattle.sg_stores.specs.Stores.{StoreState}
 use Rattle.sg_standing.specs.States.{CoreState}
-use Rattle.sg_standing.specs.Standing.{IsAt, IsOneOf, IsPlaced, HoldsPosition, IsStored, StandsFor, StandsOn, Adds, HavePositions, HaveLists, IsSafeStore, positions_within, failed_then}
+use Rattle.sg_standing.specs.Standing.{IsAt, IsPositionOf, IsPositionAt, HoldsPosition, IsStoredPosition, StandsFor, StandsOn, AddsEvent, HavePositions, HaveLists, IsSafeStore, positions_within, failed_then}
 use Rattle.sg_standing.proofs.Frozen.{was-there, freezes, safe-after, length-dests, kept-setup}
 use Rattle.sg_standing.proofs.Moments.{was-store, timetable-more}
 
@@ -38,10 +38,10 @@ pub after-more : (start : State) (events : List Event) (e : Event) → after_all
 after-more start events e = after_all-append start events (e ∷ [])
 
 -- the position store of an inlet, as it is kept
-pub placed : (core : CoreState) (s : State) (i u : ℕ) (inlet : Inlet) (store : StoreState) → IsAt core s → slice_get s.inlets i ≡ Some inlet → inlet.setup.store ≡ Some u → slice_get core.stores u ≡ Some store
-    → IsPlaced store inlet.stored (is_listed u s.failed)
+pub placed : (core : CoreState) (s : State) (i u : ℕ) (inlet : InletRecords) (store : StoreState) → IsAt core s → slice_get s.inlets i ≡ Some inlet → inlet.setup.store ≡ Some u → slice_get core.stores u ≡ Some store
+    → IsPositionAt store inlet.stored (is_listed u s.failed)
 placed core s i u inlet store at there has get =
-    let P : Option ℕ → Type 0 = λ o. IsStored core.stores s.failed o inlet.stored in
+    let P : Option ℕ → Type 0 = λ o. IsStoredPosition core.stores s.failed o inlet.stored in
     let Q : Option StoreState → Type 0 = λ o. HoldsPosition o inlet.stored (is_listed u s.failed) in
     subst Q get (subst P has (at.stores i inlet there))
 
@@ -55,7 +55,7 @@ backed core s d dest buffer store at there has get =
 pub broken-store : (dest : Dest) (buffer : BufferSetup) (failed : List ℕ) → dest.setup.buffer ≡ Some buffer → is_listed buffer.store failed ≡ true → has_failed failed (store_of dest) ≡ true
 broken-store dest buffer failed has l = rw (has, l) refl
 
-positions-more : (old new : CoreState) (start : State) (events : List Event) (e : Event) → StandsFor old start events → Adds old new start events e → HavePositions new.stores start (events ++ e ∷ [])
+positions-more : (old new : CoreState) (start : State) (events : List Event) (e : Event) → StandsFor old start events → AddsEvent old new start events e → HavePositions new.stores start (events ++ e ∷ [])
 positions-more old new start events e h a i y u store there has get fails =
     let s = after_all start events in
     let here : slice_get (after s e).inlets i ≡ Some y = ap (λ (t : State). slice_get t.inlets i) (sym (after-more start events e)) ∙ there in
@@ -65,9 +65,9 @@ positions-more old new start events e h a i y u store there has get fails =
     let o = was-store old.stores new.stores u store a.goes get in
     let store_was : (w.old).setup.store ≡ Some u = ap (λ (x : SourceSetup). x.store) w.setup ∙ has in
     let within = a.positions i w.old u o.0 store w.there store_was o.1 get in
-    let P : ℕ → Type 0 = λ v. EachNow store.disk (IsOneOf (v ∷ option_to_list (running_position e.act i) ++ option_to_list (failed_position start (events ++ e ∷ []) i))) in
-    let Q : Option ℕ → Type 0 = λ r. EachNow store.disk (IsOneOf (y.stored ∷ option_to_list r ++ option_to_list (failed_position start (events ++ e ∷ []) i))) in
-    subst Q w.quiet (subst P w.stored (now-within (o.0).disk store.disk (IsOneOf (positions_within start events e i w.old)) within))
+    let P : ℕ → Type 0 = λ v. EachNow store.disk (IsPositionOf (v ∷ option_to_list (running_position e.act i) ++ option_to_list (failed_position start (events ++ e ∷ []) i))) in
+    let Q : Option ℕ → Type 0 = λ r. EachNow store.disk (IsPositionOf (y.stored ∷ option_to_list r ++ option_to_list (failed_position start (events ++ e ∷ []) i))) in
+    subst Q w.quiet (subst P w.stored (now-within (o.0).disk store.disk (IsPositionOf (positions_within start events e i w.old)) within))
 
 -- its setup was the same
 was-buffer : (s : State) (e : Event) (d : ℕ) (x y : Dest) (buffer : BufferSetup) → slice_get s.dests d ≡ Some x → slice_get (after s e).dests d ≡ Some y → y.setup.buffer ≡ Some buffer → x.setup.buffer ≡ Some buffer
@@ -76,7 +76,7 @@ was-buffer s e d x y buffer h g has =
     let same : k.0 ≡ y = some-same k.0 y (sym k.1 ∙ g) in
     ap (λ (t : DestSetup). t.buffer) (sym k.2) ∙ ap (λ (t : Dest). t.setup.buffer) same ∙ has
 
-lists-more : (old new : CoreState) (start : State) (events : List Event) (e : Event) → StandsFor old start events → Adds old new start events e → HaveLists new.stores start (events ++ e ∷ [])
+lists-more : (old new : CoreState) (start : State) (events : List Event) (e : Event) → StandsFor old start events → AddsEvent old new start events e → HaveLists new.stores start (events ++ e ∷ [])
 lists-more old new start events e h a d y buffer store there has get fails =
     let s = after_all start events in
     let here : slice_get (after s e).dests d ≡ Some y = ap (λ (t : State). slice_get t.dests d) (sym (after-more start events e)) ∙ there in
@@ -101,7 +101,7 @@ lists-more old new start events e h a d y buffer store there has get fails =
       safe = subst (λ (z : Dest). IsSafeList z d Look (failed_then start events e) tried r.list) is (safe-after x.0 f.0 d e.act (failed_then start events e) tried r.list f.2 (broken-store x.0 buffer (failed_then start events e) had listed) r.safe);
     })
 
-pub more-stands : (old new : CoreState) (start : State) (events : List Event) (e : Event) (h : StandsFor old start events) → Adds old new start events e → StandsOn new start events (e ∷ []) h.moments.rows
+pub more-stands : (old new : CoreState) (start : State) (events : List Event) (e : Event) (h : StandsFor old start events) → AddsEvent old new start events e → StandsOn new start events (e ∷ []) h.moments.rows
 more-stands old new start events e h a =
     let moments = timetable-more old.stores new.stores start events e h.moments a.goes a.positions a.lists in
     record {

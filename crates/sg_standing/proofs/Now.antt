@@ -4,7 +4,7 @@ use Rattle.sg_machine.specs.declared.event.Event.{Event}
 use Rattle.sg_machine.specs.declared.setup.BufferSetup.{BufferSetup}
 use Rattle.sg_machine.specs.declared.setup.Setup.{Setup}
 use Rattle.sg_machine.specs.declared.state.State.{State}
-use Rattle.sg_machine.specs.Runs.{Kept, Opening, opened}
+use Rattle.sg_machine.specs.Runs.{BufferedEntry, Opening, opened}
 use Rattle.sg_machine.specs.Safe.{Safe, nothing}
 use Rattle.sg_machine.proofs.SafeLemmas.{safe}
 use Rattle.sg_sinks.specs.States.{SinkState}
@@ -17,10 +17,10 @@ use Rattle.sg_standing.proofs.ImageLaws.{images-at, stores-held, held-now, legal
 abbrev pub AreQueues : List SinkState → Type 0
 AreQueues sinks = (d : ℕ) (sink : SinkState) (buffer : BufferSetup) → slice_get sinks d ≡ Some sink → sink.setup.buffer ≡ Some buffer → ⊥
 
-none-listed : (sinks : List SinkState) (images : List (List ℕ)) (lists : List (List Kept)) → AreQueues sinks → length lists ≡ length sinks → AreListsIn sinks images lists
+none-listed : (sinks : List SinkState) (images : List (List ℕ)) (lists : List (List BufferedEntry)) → AreQueues sinks → length lists ≡ length sinks → AreListsIn sinks images lists
 none-listed sinks images lists none count = record { every = count; each = λ d sink buffer list bytes there has get chosen. absurd (none d sink buffer there has) }
 
-pub safe-now : (setup : Setup) (opening : Opening) (events : List Event) (core : CoreState) (images : List (List ℕ)) (lists : List (List Kept)) → StandsFor core (opened setup opening) events → AreImages core.stores images
+pub safe-now : (setup : Setup) (opening : Opening) (events : List Event) (core : CoreState) (images : List (List ℕ)) (lists : List (List BufferedEntry)) → StandsFor core (opened setup opening) events → AreImages core.stores images
     → AreQueues core.sinks → length lists ≡ length core.sinks → Safe (opened setup opening) events nothing (record { positions = positions_in core.sources images; lists = lists })
 safe-now setup opening events core images lists stands are none count =
     let start = opened setup opening in

@@ -10,18 +10,18 @@ use Rattle.sg_buffer.proofs.Stored.{news_stored}
 use Rattle.sg_machine.specs.declared.event.Event.{Event}
 use Rattle.sg_machine.specs.declared.setup.BufferSetup.{BufferSetup}
 use Rattle.sg_machine.specs.declared.state.Dest.{Dest}
-use Rattle.sg_machine.specs.declared.state.Inlet.{Inlet}
+use Rattle.sg_machine.specs.declared.state.InletRecords.{InletRecords}
 use Rattle.sg_machine.specs.declared.state.State.{State}
-use Rattle.sg_machine.specs.Effects.{after}
-use Rattle.sg_machine.specs.Runs.{Kept, after_all}
+use Rattle.sg_machine.specs.Runs.{BufferedEntry, after_all}
 use Rattle.sg_machine.specs.Safe.{first_of, failing_position, failed_position, failed_entries, running_position, spooled_of}
 use Rattle.sg_machine.specs.Verdicts.{is_listed}
 use Rattle.sg_stores.specs.Stores.{BufferState, StoreState, HoldsIn, HoldsEntries, coded}
 use Rattle.sg_standing.specs.States.{CoreState}
-use Rattle.sg_standing.specs.Standing.{IsOneOf, IsSafeStore, StandsFor, positions_now, positions_within, failed_then}
+use Rattle.sg_standing.specs.Standing.{IsPositionOf, IsSafeStore, StandsFor, positions_now, positions_within, failed_then}
 use Rattle.sg_standing.proofs.Frozen.{listed-behind, listed-front}
 use Rattle.sg_standing.proofs.More.{placed, backed, broken-store}
 use Rattle.sg_standing.proofs.Safes.{safe-same, safe-later, entries-later}
+use Rattle.sg_machine.proofs.SafeLemmas.{failed_position-push}
 
 -- The position of a write that failed.
 
@@ -33,35 +33,28 @@ none-first : (a : Option ℕ) → first_of a None ≡ a
 none-first None = refl
 none-first (Some x) = refl
 
-pub failed_position-push : (s : State) (es : List Event) (e : Event) (i : ℕ)
-    → failed_position s (es ++ e ∷ []) i ≡ first_of (failed_position s es i) (option_and_then (failing_position (after_all s es) e i) (slice_get (after_all s es).inlets i))
-failed_position-push s [] e i = none-first (option_and_then (failing_position s e i) (slice_get s.inlets i))
-failed_position-push s (x ∷ es) e i =
-    let now = option_and_then (failing_position s x i) (slice_get s.inlets i) in
-    ap (first_of now) (failed_position-push (after s x) es e i) ∙ assoc now (failed_position (after s x) es i) (option_and_then (failing_position (after_all (after s x) es) e i) (slice_get (after_all (after s x) es).inlets i))
-
 or-behind : (b c d : Bool) → (c ≡ true → d ≡ true) → (b || c) ≡ true → (b || d) ≡ true
 or-behind true c d f h = refl
 or-behind false c d f h = f h
 
-pub one-of-more : (a : ℕ) (rs ls : List ℕ) (bytes : List ℕ) → IsOneOf (a ∷ ls) bytes → IsOneOf ((a ∷ rs) ++ ls) bytes
+pub one-of-more : (a : ℕ) (rs ls : List ℕ) (bytes : List ℕ) → IsPositionOf (a ∷ ls) bytes → IsPositionOf ((a ∷ rs) ++ ls) bytes
 one-of-more a rs ls bytes h = record {
   position = h.position;
   is_position = h.is_position;
   listed = or-behind (a == h.position) (is_listed h.position ls) (is_listed h.position (rs ++ ls)) (listed-behind h.position rs ls) h.listed;
 }
 
-pub one-of-front : (a : ℕ) (ls ms : List ℕ) (bytes : List ℕ) → ((p : ℕ) → is_listed p ls ≡ true → is_listed p ms ≡ true) → IsOneOf (a ∷ ls) bytes → IsOneOf (a ∷ ms) bytes
+pub one-of-front : (a : ℕ) (ls ms : List ℕ) (bytes : List ℕ) → ((p : ℕ) → is_listed p ls ≡ true → is_listed p ms ≡ true) → IsPositionOf (a ∷ ls) bytes → IsPositionOf (a ∷ ms) bytes
 one-of-front a ls ms bytes f h = record {
   position = h.position;
   is_position = h.is_position;
   listed = or-behind (a == h.position) (is_listed h.position ls) (is_listed h.position ms) (f h.position) h.listed;
 }
 
-pub one-of-first : (a b : ℕ) (ls : List ℕ) (bytes : List ℕ) → a ≡ b → IsPosition b bytes → IsOneOf (a ∷ ls) bytes
+pub one-of-first : (a b : ℕ) (ls : List ℕ) (bytes : List ℕ) → a ≡ b → IsPosition b bytes → IsPositionOf (a ∷ ls) bytes
 one-of-first a b ls bytes e h = record { position = b; is_position = h; listed = (let q : (a == b) ≡ true = grind arith in rw q refl) }
 
-pub one-of-second : (a b : ℕ) (ls : List ℕ) (bytes : List ℕ) → IsPosition b bytes → IsOneOf (a ∷ b ∷ ls) bytes
+pub one-of-second : (a b : ℕ) (ls : List ℕ) (bytes : List ℕ) → IsPosition b bytes → IsPositionOf (a ∷ b ∷ ls) bytes
 one-of-second a b ls bytes h = record { position = b; is_position = h; listed = (let q : (b == b) ≡ true = grind arith in rw q (grind arith)) }
 
 -- what had failed is listed still
@@ -69,7 +62,7 @@ first-listed : (a b : Option ℕ) (p : ℕ) → is_listed p (option_to_list a) �
 first-listed None b p h = let wrong : false ≡ true = h in cc
 first-listed (Some x) b p h = h
 
-pub positions-later : (start : State) (events : List Event) (e : Event) (i : ℕ) (x : Inlet) (bytes : List ℕ) → IsOneOf (positions_now start events i x) bytes → IsOneOf (positions_within start events e i x) bytes
+pub positions-later : (start : State) (events : List Event) (e : Event) (i : ℕ) (x : InletRecords) (bytes : List ℕ) → IsPositionOf (positions_now start events i x) bytes → IsPositionOf (positions_within start events e i x) bytes
 positions-later start events e i x bytes h =
     let now = option_to_list (failed_position start events i) in
     let late = option_to_list (failed_position start (events ++ e ∷ []) i) in
@@ -104,8 +97,8 @@ one-in true = inl refl
 one-in false = inr refl
 
 -- each image of the position store of an inlet before an event, as one within it
-pub position-before : (core : CoreState) (start : State) (events : List Event) (e : Event) (i u : ℕ) (x : Inlet) (store : StoreState) → StandsFor core start events
-    → slice_get (after_all start events).inlets i ≡ Some x → x.setup.store ≡ Some u → slice_get core.stores u ≡ Some store → EachNow store.disk (IsOneOf (positions_within start events e i x))
+pub position-before : (core : CoreState) (start : State) (events : List Event) (e : Event) (i u : ℕ) (x : InletRecords) (store : StoreState) → StandsFor core start events
+    → slice_get (after_all start events).inlets i ≡ Some x → x.setup.store ≡ Some u → slice_get core.stores u ≡ Some store → EachNow store.disk (IsPositionOf (positions_within start events e i x))
 position-before core start events e i u x store h there has get bytes image =
     elim (one-in store.failed) [
       | inl fails ↦ positions-later start events e i x bytes (h.positions i x u store there has get fails bytes image)
@@ -115,13 +108,13 @@ position-before core start events e i u x store h there has get bytes image =
     ]
 
 -- the list that a disk-buffer holds, by the bytes of an image
-holds-list : (buffer : Option BufferState) (disk : DiskState) (list : List Kept) (bytes : List ℕ) → HoldsIn buffer disk list [] → IsImageAt disk (clock disk) bytes → IsList (spelled (map coded list)) bytes
+holds-list : (buffer : Option BufferState) (disk : DiskState) (list : List BufferedEntry) (bytes : List ℕ) → HoldsIn buffer disk list [] → IsImageAt disk (clock disk) bytes → IsList (spelled (map coded list)) bytes
 holds-list None disk list bytes h image = absurd h
 holds-list (Some buffer) disk list bytes h image = h.images bytes image
 
-pub list-of : (store : StoreState) (list : List Kept) (bytes : List ℕ) → HoldsEntries store list [] → IsImageAt store.disk (clock store.disk) bytes → IsListOf (map coded list) bytes
+pub list-of : (store : StoreState) (list : List BufferedEntry) (bytes : List ℕ) → HoldsEntries store list [] → IsImageAt store.disk (clock store.disk) bytes → IsListOf (map coded list) bytes
 list-of store list bytes h image =
-    let kept : AreKept (map coded list) = subst (λ (ks : List Kept). AreKept (map coded ks)) (append-nil list) h.kept in
+    let kept : AreKept (map coded list) = subst (λ (ks : List BufferedEntry). AreKept (map coded ks)) (append-nil list) h.kept in
     record {
       payloads = spelled (map coded list);
       list = holds-list store.buffer store.disk list bytes h.holds image;

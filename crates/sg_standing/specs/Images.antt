@@ -6,7 +6,7 @@ use Rattle.sg_stable.specs.Cell.{cell_value}
 use Rattle.sg_stable.specs.Position.{IsPosition}
 use Rattle.sg_buffer.specs.Entries.{IsListOf}
 use Rattle.sg_machine.specs.declared.setup.BufferSetup.{BufferSetup}
-use Rattle.sg_machine.specs.Runs.{Kept}
+use Rattle.sg_machine.specs.Runs.{BufferedEntry}
 use Rattle.sg_sinks.specs.States.{SinkState}
 use Rattle.sg_stores.specs.Stores.{StoreState, coded}
 use Rattle.sg_standing.specs.States.{CoreState}
@@ -22,9 +22,9 @@ positions_in sources images = map (λ (source : Source). position_in images sour
     sources
 
 -- these are the lists that the images of the disk-buffers stand for; of other destinations they may be any
-pub record AreListsIn (sinks : List SinkState) (images : List (List ℕ)) (lists : List (List Kept)) : Type 0 where
+pub record AreListsIn (sinks : List SinkState) (images : List (List ℕ)) (lists : List (List BufferedEntry)) : Type 0 where
   pub every : length lists ≡ length sinks
-  pub each : (d : ℕ) (sink : SinkState) (buffer : BufferSetup) (list : List Kept) (bytes : List ℕ)
+  pub each : (d : ℕ) (sink : SinkState) (buffer : BufferSetup) (list : List BufferedEntry) (bytes : List ℕ)
       → slice_get sinks d ≡ Some sink → sink.setup.buffer ≡ Some buffer
       → slice_get lists d ≡ Some list → slice_get images buffer.store ≡ Some bytes
       → IsListOf (map coded list) bytes
@@ -64,4 +64,4 @@ pub record AreStores (core : CoreState) (images : List (List ℕ)) : Type 0 wher
   pub lists : (d : ℕ) (sink : SinkState) (buffer : BufferSetup) (bytes : List ℕ)
       → slice_get core.sinks d ≡ Some sink → sink.setup.buffer ≡ Some buffer
       → slice_get images buffer.store ≡ Some bytes
-      → (list : List Kept) × IsListOf (map coded list) bytes
+      → (list : List BufferedEntry) × IsListOf (map coded list) bytes

@@ -3,7 +3,7 @@ use Rattle.std.specs.Prelude.{ℕ, ◌+◌, ◌-◌, ◌^◌, ◌<◌, ◌≤◌
 use Rattle.std.specs.Option.{option_map_or}
 use Rattle.sg_list.specs.Lists.{change}
 use Rattle.sg_window.specs.Window.{first_waiting, left_at, after_begin, after_ack}
-use Rattle.sg_window.specs.declared.tracker.Record.{Record}
+use Rattle.sg_window.specs.declared.tracker.BegunRecord.{BegunRecord}
 use Rattle.sg_queue.specs.declared.entry.Entry.{Entry}
 use Rattle.sg_counter.specs.declared.answers.Stored.{Stored}
 use Rattle.sg_counter.specs.declared.answers.Stored.TheVariants.{Wrote, Unchanged, Broken}
@@ -49,7 +49,7 @@ abbrev pub begun_at : ℕ → ℕ → Source → Source
 begun_at end left source = record source { tracker = after_begin source.tracker end left }
 
 -- with these records more
-abbrev pub begun_all : List Record → Source → Source
+abbrev pub begun_all : List BegunRecord → Source → Source
 begun_all [] source = source
 begun_all (r ∷ rs) source = begun_all rs (begun_at r.end r.left source)
 

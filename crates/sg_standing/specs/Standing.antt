@@ -11,35 +11,35 @@ use Rattle.sg_machine.specs.declared.event.Event.{Event}
 use Rattle.sg_machine.specs.declared.setup.BufferSetup.{BufferSetup}
 use Rattle.sg_machine.specs.declared.setup.SourceSetup.{SourceSetup}
 use Rattle.sg_machine.specs.declared.state.Dest.{Dest}
-use Rattle.sg_machine.specs.declared.state.Entry.{Entry}
-use Rattle.sg_machine.specs.declared.state.Inlet.{Inlet}
+use Rattle.sg_machine.specs.declared.state.DestEntry.{DestEntry}
+use Rattle.sg_machine.specs.declared.state.InletRecords.{InletRecords}
 use Rattle.sg_machine.specs.declared.state.State.{State}
 use Rattle.sg_machine.specs.Effects.{after_act}
 use Rattle.sg_machine.specs.Legal.{is_legal_act, store_of}
-use Rattle.sg_machine.specs.Running.{IsSound as IsReplayed, records_from}
-use Rattle.sg_machine.specs.Runs.{Kept, after_all, are_legal}
+use Rattle.sg_machine.specs.Running.{IsSoundReplay as IsReplayed, records_from}
+use Rattle.sg_machine.specs.Runs.{BufferedEntry, after_all, are_legal}
 use Rattle.sg_machine.specs.Safe.{IsSafeList, failed_position, failed_entries, running_position, spooled_of}
 use Rattle.sg_machine.specs.Verdicts.{is_listed}
-use Rattle.sg_codec.specs.Spelling.{IsKept}
+use Rattle.sg_codec.specs.Spelling.{IsSpellable}
 use Rattle.sg_counter.specs.Bringing.{store_in}
 use Rattle.sg_sinks.specs.Laws.{is_listed_in}
 use Rattle.sg_sinks.specs.Blocks.{block_of}
 use Rattle.sg_sinks.specs.Standing.{IsSplit, kept_of, lengths_of, sink_of}
 use Rattle.sg_sinks.specs.States.{SinkState}
-use Rattle.sg_stores.specs.Stores.{StoreState, AllGo, HasSize, HoldsEntries, coded}
+use Rattle.sg_stores.specs.Stores.{StoreState, AllGo, HasBufferSize, HoldsEntries, coded}
 use Rattle.sg_standing.specs.States.{CoreState, setup_of}
 use Rattle.sg_standing.specs.declared.source.Source.{Source}
 
 -- What a core keeps of a state.
 
-abbrev pub source_of : List Dest → ℕ → Inlet → Source
+abbrev pub source_of : List Dest → ℕ → InletRecords → Source
 source_of dests i inlet = record {
   setup = inlet.setup;
   opening = inlet.opening;
   tracker = window_of inlet.setup.window (length inlet.ends) 0 (records_from dests i 0 inlet.ends);
 }
 
-abbrev pub sources_from : List Dest → ℕ → List Inlet → List Source
+abbrev pub sources_from : List Dest → ℕ → List InletRecords → List Source
 sources_from dests i [] = []
 sources_from dests i (inlet ∷ inlets) = source_of dests i inlet ∷ sources_from dests (i + 1) inlets
 
@@ -51,7 +51,7 @@ abbrev pub sinks_of : State → List SinkState
 sinks_of state = map (λ dest. sink_of (is_broken state.failed dest) dest) state.dests
 
 -- a position store, which has failed or works; while it works it has this position, and so has each image
-pub record IsPlaced (store : StoreState) (place : ℕ) (broken : Bool) : Type 0 where
+pub record IsPositionAt (store : StoreState) (place : ℕ) (broken : Bool) : Type 0 where
   pub kind : store.buffer ≡ None
   pub position_is : store.position ≡ place
   pub failed_is : store.failed ≡ broken
@@ -59,30 +59,30 @@ pub record IsPlaced (store : StoreState) (place : ℕ) (broken : Bool) : Type 0 
 
 abbrev pub HoldsPosition : Option StoreState → ℕ → Bool → Type 0
 HoldsPosition None place broken = ⊥
-HoldsPosition (Some store) place broken = IsPlaced store place broken
+HoldsPosition (Some store) place broken = IsPositionAt store place broken
 
 -- the store of an inlet has its stored position, and has failed where it is listed
-abbrev pub IsStored : List StoreState → List ℕ → Option ℕ → ℕ → Type 0
-IsStored stores failed None place = place ≡ 0
-IsStored stores failed (Some s) place = HoldsPosition (slice_get stores s) place
+abbrev pub IsStoredPosition : List StoreState → List ℕ → Option ℕ → ℕ → Type 0
+IsStoredPosition stores failed None place = place ≡ 0
+IsStoredPosition stores failed (Some s) place = HoldsPosition (slice_get stores s) place
     (is_listed s failed)
 
-abbrev pub AreStored : List StoreState → List ℕ → List Inlet → Type 0
-AreStored stores failed inlets = (i : ℕ) (inlet : Inlet) → slice_get inlets i ≡ Some inlet
-    → IsStored stores failed inlet.setup.store inlet.stored
+abbrev pub ArePositionsStored : List StoreState → List ℕ → List InletRecords → Type 0
+ArePositionsStored stores failed inlets = (i : ℕ) (inlet : InletRecords) → slice_get inlets i ≡ Some inlet
+    → IsStoredPosition stores failed inlet.setup.store inlet.stored
 
 -- a disk-buffer, which has failed or works; while it works its places are those of the spooled entries that are left, and each image
 -- has these
-pub record IsBuffer (store : StoreState) (buffer : BufferSetup) (dest : Dest) (broken : Bool) : Type 0 where
+pub record IsBufferOf (store : StoreState) (buffer : BufferSetup) (dest : Dest) (broken : Bool) : Type 0 where
   pub failed_is : store.failed ≡ broken
-  pub sized : store.failed ≡ false → HasSize buffer.capacity (lengths_of dest.left) store.buffer
+  pub sized : store.failed ≡ false → HasBufferSize buffer.capacity (lengths_of dest.left) store.buffer
   pub works : store.failed ≡ false → HoldsEntries store (spooled_of dest.left) []
 
 -- the store of a destination's disk-buffer
 pub record IsBacked (stores : List StoreState) (failed : List ℕ) (buffer : BufferSetup) (dest : Dest) : Type 0 where
   pub store : StoreState
   pub there : slice_get stores buffer.store ≡ Some store
-  pub is : IsBuffer store buffer dest (is_listed buffer.store failed)
+  pub is : IsBufferOf store buffer dest (is_listed buffer.store failed)
 
 abbrev pub AreBacked : List StoreState → List ℕ → List Dest → Type 0
 AreBacked stores failed dests =
@@ -91,8 +91,8 @@ AreBacked stores failed dests =
 
 -- What holds of each state that a core comes to.
 
-abbrev pub setups_of : List Inlet → List SourceSetup
-setups_of inlets = map (λ (inlet : Inlet). inlet.setup) inlets
+abbrev pub setups_of : List InletRecords → List SourceSetup
+setups_of inlets = map (λ (inlet : InletRecords). inlet.setup) inlets
 
 -- the number of the store of a destination's disk-buffer
 abbrev pub buffer_in : List Dest → ℕ → Option ℕ
@@ -108,43 +108,43 @@ pub record AreApart (state : State) : Type 0 where
       → buffer_in state.dests d ≡ Some s → ⊥
 
 -- each of these entries that has a block can be spelled
-abbrev pub AreSpellable : Option BufferSetup → List Entry → Type 0
+abbrev pub AreSpellable : Option BufferSetup → List DestEntry → Type 0
 AreSpellable buffer [] = Unit {0}
-AreSpellable buffer (e ∷ es) = (IsSome (block_of buffer (kept_of e)) → IsKept (kept_of e))
+AreSpellable buffer (e ∷ es) = (IsSome (block_of buffer (kept_of e)) → IsSpellable (kept_of e))
     × AreSpellable buffer es
 
-pub record IsSound (state : State) : Type 0 where
+pub record IsSoundState (state : State) : Type 0 where
   pub replayed : IsReplayed state
   pub split : (d : ℕ) (dest : Dest) → slice_get state.dests d ≡ Some dest → IsSplit dest
   pub spellable : (d : ℕ) (dest : Dest) → slice_get state.dests d ≡ Some dest
       → AreSpellable dest.setup.buffer dest.left
   -- before its first record the stored position of an inlet is its opening place
-  pub unmoved : (i : ℕ) (inlet : Inlet) → slice_get state.inlets i ≡ Some inlet → inlet.ends ≡ []
+  pub unmoved : (i : ℕ) (inlet : InletRecords) → slice_get state.inlets i ≡ Some inlet → inlet.ends ≡ []
       → inlet.stored ≡ inlet.opening
   pub apart : AreApart state
 
 -- the core keeps this of the state
 pub record IsAt (core : CoreState) (state : State) : Type 0 where
-  pub sound : IsSound state
+  pub sound : IsSoundState state
   pub sources : core.sources ≡ sources_from state.dests 0 state.inlets
   pub sinks : core.sinks ≡ sinks_of state
-  pub stores : AreStored core.stores state.failed state.inlets
+  pub stores : ArePositionsStored core.stores state.failed state.inlets
   pub buffers : AreBacked core.stores state.failed state.dests
 
 -- Images.
 
 -- a store of one of these positions
-pub record IsOneOf (positions : List ℕ) (bytes : List ℕ) : Type 0 where
+pub record IsPositionOf (positions : List ℕ) (bytes : List ℕ) : Type 0 where
   pub position : ℕ
   pub is_position : IsPosition position bytes
   pub listed : is_listed position positions ≡ true
 
 -- the positions that may stand in the store of an inlet after these events: its stored one, and one whose write has failed
-abbrev pub positions_now : State → List Event → ℕ → Inlet → List ℕ
+abbrev pub positions_now : State → List Event → ℕ → InletRecords → List ℕ
 positions_now start events i inlet = inlet.stored ∷ option_to_list (failed_position start events i)
 
 -- the same within the event that follows: also the one that it writes
-abbrev pub positions_within : State → List Event → Event → ℕ → Inlet → List ℕ
+abbrev pub positions_within : State → List Event → Event → ℕ → InletRecords → List ℕ
 positions_within start events event i inlet =
     inlet.stored ∷ option_to_list (running_position event.act i)
     ++ option_to_list (failed_position start (events ++ event ∷ []) i)
@@ -152,23 +152,23 @@ positions_within start events event i inlet =
 -- each image now of an inlet's store that has failed has one of its positions
 abbrev pub HavePositions : List StoreState → State → List Event → Type 0
 HavePositions stores start events =
-    (i : ℕ) (inlet : Inlet) (s : ℕ) (store : StoreState)
+    (i : ℕ) (inlet : InletRecords) (s : ℕ) (store : StoreState)
     → slice_get (after_all start events).inlets i ≡ Some inlet → inlet.setup.store ≡ Some s
     → slice_get stores s ≡ Some store → store.failed ≡ true
-    → EachNow store.disk (IsOneOf (positions_now start events i inlet))
+    → EachNow store.disk (IsPositionOf (positions_now start events i inlet))
 
 -- each image of an inlet's store since the event began has one of its positions
 abbrev pub HavePositionsWithin : List StoreState → List StoreState → State → List Event → Event
     → Type 0
 HavePositionsWithin olds news start events event =
-    (i : ℕ) (inlet : Inlet) (s : ℕ) (old new : StoreState)
+    (i : ℕ) (inlet : InletRecords) (s : ℕ) (old new : StoreState)
     → slice_get (after_all start events).inlets i ≡ Some inlet → inlet.setup.store ≡ Some s
     → slice_get olds s ≡ Some old → slice_get news s ≡ Some new
-    → Within old.disk new.disk (IsOneOf (positions_within start events event i inlet))
+    → Within old.disk new.disk (IsPositionOf (positions_within start events event i inlet))
 
 -- the bytes stand for a list that is safe within the act
-pub record IsSafeStore (dest : Dest) (d : ℕ) (act : Act) (failed : List ℕ) (tried : List Kept) (bytes : List ℕ) : Type 0 where
-  pub list : List Kept
+pub record IsSafeStore (dest : Dest) (d : ℕ) (act : Act) (failed : List ℕ) (tried : List BufferedEntry) (bytes : List ℕ) : Type 0 where
+  pub list : List BufferedEntry
   pub entries : IsListOf (map coded list) bytes
   pub safe : IsSafeList dest d act failed tried list
 
@@ -200,11 +200,11 @@ HaveListsWithin olds news start events event =
 abbrev pub PositionsBetween : List StoreState → (ℕ → ℕ) → (ℕ → ℕ) → State → List Event → Event
     → Type 0
 PositionsBetween stores from until start events event =
-    (i : ℕ) (inlet : Inlet) (s : ℕ) (store : StoreState) (moment : ℕ) (bytes : List ℕ)
+    (i : ℕ) (inlet : InletRecords) (s : ℕ) (store : StoreState) (moment : ℕ) (bytes : List ℕ)
     → slice_get (after_all start events).inlets i ≡ Some inlet → inlet.setup.store ≡ Some s
     → slice_get stores s ≡ Some store → from s ≤ moment → moment ≤ until s
     → IsImageAt store.disk moment bytes
-    → IsOneOf (positions_within start events event i inlet) bytes
+    → IsPositionOf (positions_within start events event i inlet) bytes
 
 -- one of each disk-buffer has a safe list
 abbrev pub ListsBetween : List StoreState → (ℕ → ℕ) → (ℕ → ℕ) → State → List Event → Event → Type 0
@@ -257,7 +257,7 @@ HaveRisen olds news failed =
     → Rose old.disk.faults new.disk.faults
 
 -- what a core that stands for the events before it needs to stand for one more
-pub record Adds (old new : CoreState) (start : State) (events : List Event) (event : Event) : Type 0 where
+pub record AddsEvent (old new : CoreState) (start : State) (events : List Event) (event : Event) : Type 0 where
   pub legal : is_legal_act (after_all start events) event.act event.failed ≡ true
   pub at : IsAt new (after_act (after_all start events) event.act event.failed)
   pub goes : AllGo old.stores new.stores
@@ -265,7 +265,7 @@ pub record Adds (old new : CoreState) (start : State) (events : List Event) (eve
   pub lists : HaveListsWithin old.stores new.stores start events event
 
 -- The call is one event with this act.
-pub record Does (old new : CoreState) (act : Act) : Type 0 where
+pub record DoesAct (old new : CoreState) (act : Act) : Type 0 where
   -- the stores that failed in it
   pub failed : List ℕ
   pub risen : HaveRisen old.stores new.stores failed

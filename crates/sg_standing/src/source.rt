@@ -1,7 +1,7 @@
 // A source of the core.
 ghost use Rattle.std.specs.Prelude.{◌≡◌, ◌<◌, ◌↔◌, ◌-◌, IsTrue, true, [], ◌∷◌, length, slice_get};
 ghost use Rattle.sg_list.specs.Lists.{change};
-ghost use Rattle.sg_window.specs.declared.tracker.Record.{Record};
+ghost use Rattle.sg_window.specs.declared.tracker.BegunRecord.{BegunRecord};
 ghost use Rattle.sg_standing.specs.Sources.{credit_of, mark_at, HasCredit, CanAck, begun_at, begun_all, acked_at, acks, after_rewind};
 
 use sg_counter::Stored;

@@ -8,22 +8,22 @@ use Rattle.sg_device.proofs.Disks.{started, within_as}
 use Rattle.sg_device.proofs.DiskCalls.{reads_as_image}
 use Rattle.sg_codec.proofs.WriteLemmas.{length-spelling}
 use Rattle.sg_spool.specs.Ring.{Entries, IsList, space as spool_space}
-use Rattle.sg_spool.specs.Lists.{IsOneOf}
+use Rattle.sg_spool.specs.Lists.{IsEitherList}
 use Rattle.sg_spool.specs.Places.{live}
-use Rattle.sg_spool.specs.Calls.{Lasts, Leaves}
-use Rattle.sg_spool.specs.Answers.{Advances as SpoolAdvances}
+use Rattle.sg_spool.specs.Calls.{SpoolLasts, LeavesImages}
+use Rattle.sg_spool.specs.Answers.{AdvancesSpool as SpoolAdvances}
 use Rattle.sg_spool.specs.View.{View, HoldsAt}
 use Rattle.sg_spool.specs.declared.rows.Rows.{Rows}
 use Rattle.sg_spool.proofs.Unique.{list_unique}
 use Rattle.sg_buffer.specs.Entries.{AreKept, spelled}
-use Rattle.sg_machine.specs.Runs.{Kept}
+use Rattle.sg_machine.specs.Runs.{BufferedEntry}
 use Rattle.sg_sinks.specs.Fitting.{space}
-use Rattle.sg_stores.specs.Stores.{StoreState, HoldsEntries, HasSize, coded, length_of, buffer_state}
-use Rattle.sg_stores.specs.Advancing.{HasFirst, IsListOrRest, Advances}
+use Rattle.sg_stores.specs.Stores.{StoreState, HoldsEntries, HasBufferSize, coded, length_of, buffer_state}
+use Rattle.sg_stores.specs.Advancing.{HasFirst, IsListOrRest, AdvancesStore}
 use Rattle.sg_stores.proofs.StoreLemmas.{goes_refl, goes_open, goes_closed, list-of, each-held, space-parts}
 
 -- a store that has failed stays as it is
-pub failed-advances : (store : StoreState) (n size : ℕ) → store.failed ≡ true → Advances store store n size
+pub failed-advances : (store : StoreState) (n size : ℕ) → store.failed ≡ true → AdvancesStore store store n size
 failed-advances store n size failed = record {
   position = refl;
   goes = goes_refl store;
@@ -35,24 +35,24 @@ failed-advances store n size failed = record {
 }
 
 -- one that isn't a disk-buffer has no entries
-pub none-advances : (store : StoreState) (n size : ℕ) (failed : Bool) → store.failed ≡ failed → (store.failed ≡ false → HasFirst store n size) → store.buffer ≡ None → Advances store store n size
+pub none-advances : (store : StoreState) (n size : ℕ) (failed : Bool) → store.failed ≡ failed → (store.failed ≡ false → HasFirst store n size) → store.buffer ≡ None → AdvancesStore store store n size
 none-advances store n size true is first none = failed-advances store n size is
 none-advances store n size false is first none =
     let can = first is in
-    absurd (subst (λ b. HasSize can.capacity (map length_of can.list) b) none can.sized)
+    absurd (subst (λ b. HasBufferSize can.capacity (map length_of can.list) b) none can.sized)
 
 -- what the first entries take
-space-spelled : (n : ℕ) (list : List Kept) → spool_space (take n (spelled (map coded list))) ≡ space (take n (map length_of list))
+space-spelled : (n : ℕ) (list : List BufferedEntry) → spool_space (take n (spelled (map coded list))) ≡ space (take n (map length_of list))
 space-spelled zero list = refl
 space-spelled (suc n) [] = refl
 space-spelled (suc n) (k ∷ list) = let i = space-spelled n list in omega (arith, i, length-spelling (coded k))
 
-drop-spelled : (n : ℕ) (list : List Kept) → drop n (spelled (map coded list)) ≡ spelled (map coded (drop n list))
+drop-spelled : (n : ℕ) (list : List BufferedEntry) → drop n (spelled (map coded list)) ≡ spelled (map coded (drop n list))
 drop-spelled zero list = refl
 drop-spelled (suc n) [] = refl
 drop-spelled (suc n) (k ∷ list) = drop-spelled n list
 
-kept-drop : (n : ℕ) (list : List Kept) → AreKept (map coded list) → AreKept (map coded (drop n list))
+kept-drop : (n : ℕ) (list : List BufferedEntry) → AreKept (map coded list) → AreKept (map coded (drop n list))
 kept-drop zero list are = are
 kept-drop (suc n) [] are = are
 kept-drop (suc n) (k ∷ list) are = kept-drop n list are.1
@@ -67,15 +67,15 @@ module _ {D : Type 0} (state : D → DiskState) (old : View D) (f : Bool) (n siz
       let same : spelled (map coded first.list) ≡ list = list_unique (spelled (map coded first.list)) list bytes (first.holds.holds.images bytes (reads_as_image (state old.disk) bytes told)) is in
       first.spaced ∙ sym (space-spelled n first.list) ∙ ap (λ (e : Entries). spool_space (take n e)) same
 
-  module _ (new : View D) (lasts : Lasts state old new) (leaves : Leaves state old new (λ list staged. drop n list)) (works : f ≡ false) where
-    advance-within : (list : List Kept) → HoldsEntries (buffer_state state f old) list [] → Within (state old.disk) (state new.disk) (IsListOrRest n list)
+  module _ (new : View D) (lasts : SpoolLasts state old new) (leaves : LeavesImages state old new (λ list staged. drop n list)) (works : f ≡ false) where
+    advance-within : (list : List BufferedEntry) → HoldsEntries (buffer_state state f old) list [] → Within (state old.disk) (state new.disk) (IsListOrRest n list)
     advance-within list held =
-        let kept : AreKept (map coded list) = subst (λ (l : List Kept). AreKept (map coded l)) (append-nil list) held.kept in
-        within_as (state old.disk) (state new.disk) (IsOneOf (spelled (map coded list)) (drop n (spelled (map coded list)))) (IsListOrRest n list) (leaves.within (spelled (map coded list)) [] held.holds)
+        let kept : AreKept (map coded list) = subst (λ (l : List BufferedEntry). AreKept (map coded l)) (append-nil list) held.kept in
+        within_as (state old.disk) (state new.disk) (IsEitherList (spelled (map coded list)) (drop n (spelled (map coded list)))) (IsListOrRest n list) (leaves.within (spelled (map coded list)) [] held.holds)
         (λ c is. ⊎_elim (λ one. inl (list-of list c kept one)) (λ two. inr (list-of (drop n list) c (kept-drop n list kept) (subst (λ (e : Entries). IsList e c) (drop-spelled n list) two))) is)
 
     -- they are off the list
-    pub done-advances : (done : Unit) → SpoolAdvances state old new n (Ok done) → live new.rows.list + size ≡ live old.rows.list → Advances (buffer_state state f old) (buffer_state state f new) n size
+    pub done-advances : (done : Unit) → SpoolAdvances state old new n (Ok done) → live new.rows.list + size ≡ live old.rows.list → AdvancesStore (buffer_state state f old) (buffer_state state f new) n size
     done-advances done advances lives = record {
       position = refl;
       goes = goes_open state f old new lasts advances.1;
@@ -84,7 +84,7 @@ module _ {D : Type 0} (state : D → DiskState) (old : View D) (f : Bool) (n siz
       within = advance-within;
       holds = λ w list held. record {
         holds = subst (λ (e : Entries). HoldsAt (state new.disk) new.rows e []) (drop-spelled n list) (advances.4 (spelled (map coded list)) held.holds);
-        kept = subst (λ (l : List Kept). AreKept (map coded l)) (sym (append-nil (drop n list))) (kept-drop n list (subst (λ (l : List Kept). AreKept (map coded l)) (append-nil list) held.kept));
+        kept = subst (λ (l : List BufferedEntry). AreKept (map coded l)) (sym (append-nil (drop n list))) (kept-drop n list (subst (λ (l : List BufferedEntry). AreKept (map coded l)) (append-nil list) held.kept));
       };
       sized = λ w capacity lengths size0 spaced.
           let parts = space-parts n lengths in
@@ -101,7 +101,7 @@ module _ {D : Type 0} (state : D → DiskState) (old : View D) (f : Bool) (n siz
     }
 
     -- the disk failed
-    pub failed-advance : (e : DiskFault) → old.closed ≡ false → SpoolAdvances state old new n (Err e) → Advances (buffer_state state f old) (buffer_state state true new) n size
+    pub failed-advance : (e : DiskFault) → old.closed ≡ false → SpoolAdvances state old new n (Err e) → AdvancesStore (buffer_state state f old) (buffer_state state true new) n size
     failed-advance e open_ advances = record {
       position = refl;
       goes = goes_closed state f old new lasts open_ advances.1;

@@ -5,21 +5,21 @@ use Rattle.std.proofs.lemmas.List.{append-nil, take_all}
 use Rattle.sg_device.specs.Disk.{DiskState, Within}
 use Rattle.sg_device.specs.declared.fault.DiskFault.{DiskFault}
 use Rattle.sg_spool.specs.Ring.{Entries, IsList}
-use Rattle.sg_spool.specs.Lists.{IsOneOf}
+use Rattle.sg_spool.specs.Lists.{IsEitherList}
 use Rattle.sg_spool.specs.Places.{live}
-use Rattle.sg_spool.specs.Calls.{Lasts, Leaves}
+use Rattle.sg_spool.specs.Calls.{SpoolLasts, LeavesImages}
 use Rattle.sg_spool.specs.Answers.{Commits as SpoolCommits}
 use Rattle.sg_spool.specs.View.{View, HoldsAt}
 use Rattle.sg_spool.specs.declared.rows.Rows.{Rows}
 use Rattle.sg_buffer.specs.Entries.{AreKept, spelled}
-use Rattle.sg_machine.specs.Runs.{Kept}
-use Rattle.sg_stores.specs.Stores.{StoreState, HoldsIn, HoldsEntries, IsSized, HasAhead, coded, length_of, buffer_state}
-use Rattle.sg_stores.specs.Appending.{IsListWithSome, IsAppending, Commits}
+use Rattle.sg_machine.specs.Runs.{BufferedEntry}
+use Rattle.sg_stores.specs.Stores.{StoreState, HoldsIn, HoldsEntries, IsBufferSized, HasAhead, coded, length_of, buffer_state}
+use Rattle.sg_stores.specs.Appending.{IsListWithSome, IsAppending, CommitsStore}
 use Rattle.sg_stores.proofs.StoreLemmas.{within_then, goes_refl, goes_trans, goes_open, goes_closed, spelled-append, kept-front, space-length}
 use Rattle.sg_stores.proofs.StageLemmas.{parted, list-some}
 
 -- a store that has failed stays as it is
-pub failed-commits : (store : StoreState) → store.failed ≡ true → Commits store store
+pub failed-commits : (store : StoreState) → store.failed ≡ true → CommitsStore store store
 failed-commits store failed = record {
   goes = goes_refl store;
   before = λ f. refl;
@@ -35,7 +35,7 @@ failed-commits store failed = record {
 }
 
 -- one that isn't a disk-buffer has nothing of a call
-pub none-commits : (store : StoreState) → store.buffer ≡ None → Commits store store
+pub none-commits : (store : StoreState) → store.buffer ≡ None → CommitsStore store store
 none-commits store none = record {
   goes = goes_refl store;
   before = λ f. refl;
@@ -52,21 +52,21 @@ none-commits store none = record {
   };
 }
 
-module _ {D : Type 0} (state : D → DiskState) (old new : View D) (lasts : Lasts state old new) (leaves : Leaves state old new (λ list staged. list ++ staged)) (f : Bool) (works : f ≡ false) where
-  module _ (start : StoreState) (tried : List Kept) (app : IsAppending start (buffer_state state f old) tried) (list : List Kept) (held : HoldsEntries start list []) where
+module _ {D : Type 0} (state : D → DiskState) (old new : View D) (lasts : SpoolLasts state old new) (leaves : LeavesImages state old new (λ list staged. list ++ staged)) (f : Bool) (works : f ≡ false) where
+  module _ (start : StoreState) (tried : List BufferedEntry) (app : IsAppending start (buffer_state state f old) tried) (list : List BufferedEntry) (held : HoldsEntries start list []) where
     -- within the call
     commit-within : Within start.disk (state new.disk) (IsListWithSome list tried)
     commit-within =
         let some = app.holds works list held in
         let k = some.taken in
         let all = parted list tried k in
-        within_then start.disk (state old.disk) (state new.disk) (IsListWithSome list tried) (IsOneOf (spelled (map coded (list ++ take k tried))) (spelled (map coded (list ++ take k tried)) ++ spelled (map coded (drop k tried)))) (IsListWithSome list tried)
+        within_then start.disk (state old.disk) (state new.disk) (IsListWithSome list tried) (IsEitherList (spelled (map coded (list ++ take k tried))) (spelled (map coded (list ++ take k tried)) ++ spelled (map coded (drop k tried)))) (IsListWithSome list tried)
         (app.within list held)
         (leaves.within (spelled (map coded (list ++ take k tried))) (spelled (map coded (drop k tried))) some.entries.holds)
         (λ c one. one)
         (λ c is. ⊎_elim
         (λ one. list-some list tried (list ++ take k tried) k c refl (kept-front (list ++ take k tried) (drop k tried) some.entries.kept) one)
-        (λ two. list-some list tried (list ++ tried) (length tried) c (ap (λ r. list ++ r) (take_all (length tried) tried (omega arith))) (subst (λ (l : List Kept). AreKept (map coded l)) all some.entries.kept)
+        (λ two. list-some list tried (list ++ tried) (length tried) c (ap (λ r. list ++ r) (take_all (length tried) tried (omega arith))) (subst (λ (l : List BufferedEntry). AreKept (map coded l)) all some.entries.kept)
         (subst (λ (e : Entries). IsList e c) (sym (spelled-append (list ++ take k tried) (drop k tried)) ∙ ap (λ l. spelled (map coded l)) all) two)) is)
 
     commit-holds : (done : Unit) → SpoolCommits state old new (Ok done) → HoldsEntries (buffer_state state f new) (list ++ tried) []
@@ -77,11 +77,11 @@ module _ {D : Type 0} (state : D → DiskState) (old new : View D) (lasts : Last
         record {
           holds = subst (λ (e : Entries). HoldsAt (state new.disk) new.rows e []) (sym (spelled-append (list ++ take k tried) (drop k tried)) ∙ ap (λ l. spelled (map coded l)) all)
               (commits.3 (spelled (map coded (list ++ take k tried))) (spelled (map coded (drop k tried))) some.entries.holds);
-          kept = subst (λ (l : List Kept). AreKept (map coded l)) (all ∙ sym (append-nil (list ++ tried))) some.entries.kept;
+          kept = subst (λ (l : List BufferedEntry). AreKept (map coded l)) (all ∙ sym (append-nil (list ++ tried))) some.entries.kept;
         }
 
   -- it is in the list
-  pub done-commits : (done : Unit) → SpoolCommits state old new (Ok done) → live old.rows.ahead < 2 ^ 63 → Commits (buffer_state state f old) (buffer_state state f new)
+  pub done-commits : (done : Unit) → SpoolCommits state old new (Ok done) → live old.rows.ahead < 2 ^ 63 → CommitsStore (buffer_state state f old) (buffer_state state f new)
   done-commits done commits small = record {
     goes = goes_open state f old new lasts commits.1;
     before = λ failed. absurd (let no : false ≡ true = sym works ∙ failed in cc);
@@ -95,7 +95,7 @@ module _ {D : Type 0} (state : D → DiskState) (old new : View D) (lasts : Last
       sized = λ w capacity lengths size.
           let ahead = app.sized works capacity lengths size in
           let many = space-length (lengths ++ map length_of tried) in
-          subst (λ (r : Rows). IsSized capacity (lengths ++ map length_of tried) (record { capacity = new.capacity; rows = r })) (sym commits.2) (record {
+          subst (λ (r : Rows). IsBufferSized capacity (lengths ++ map length_of tried) (record { capacity = new.capacity; rows = r })) (sym commits.2) (record {
             limit = lasts.capacity ∙ ahead.limit;
             count = omega (arith, ahead.count, ahead.ahead, many, small);
             listed = ahead.ahead;
@@ -106,7 +106,7 @@ module _ {D : Type 0} (state : D → DiskState) (old new : View D) (lasts : Last
   }
 
   -- the disk failed
-  pub failed-commit : (e : DiskFault) → old.closed ≡ false → SpoolCommits state old new (Err e) → Commits (buffer_state state f old) (buffer_state state true new)
+  pub failed-commit : (e : DiskFault) → old.closed ≡ false → SpoolCommits state old new (Err e) → CommitsStore (buffer_state state f old) (buffer_state state true new)
   failed-commit e open_ commits = record {
     goes = goes_closed state f old new lasts open_ commits.1;
     before = λ failed. absurd (let no : false ≡ true = sym works ∙ failed in cc);

@@ -12,22 +12,22 @@ use Rattle.sg_stable.specs.declared.fault.StoreRefusal.TheVariants.{Damage, Disk
 use Rattle.sg_spool.specs.Ring.{Entries, IsList}
 use Rattle.sg_spool.specs.Places.{live}
 use Rattle.sg_spool.specs.Rows.{listed}
-use Rattle.sg_spool.specs.Calls.{Lasts, Reads}
-use Rattle.sg_spool.specs.View.{View, Holds, HoldsAt}
+use Rattle.sg_spool.specs.Calls.{SpoolLasts, OnlyReadsSpool}
+use Rattle.sg_spool.specs.View.{View, RingHolds, HoldsAt}
 use Rattle.sg_spool.specs.declared.rows.Rows.{Rows}
 use Rattle.sg_spool.proofs.AdvanceCalls.{image_told}
 use Rattle.sg_spool.proofs.Whole.{told_at}
 use Rattle.sg_buffer.specs.Entries.{AreKept, IsListOf, spelled, size_of}
-use Rattle.sg_buffer.specs.Found.{Finds}
+use Rattle.sg_buffer.specs.Found.{FindsEntries}
 use Rattle.sg_buffer.specs.Heads.{head_of}
-use Rattle.sg_buffer.specs.Renewing.{RenewReason as BufferReason}
-use Rattle.sg_buffer.specs.declared.found.Found.{Found}
-use Rattle.sg_buffer.specs.declared.found.Head.{Head}
-use Rattle.sg_machine.specs.Runs.{Kept}
+use Rattle.sg_buffer.specs.Renewing.{RenewReason}
+use Rattle.sg_buffer.specs.declared.found.BufferEntries.{BufferEntries}
+use Rattle.sg_buffer.specs.declared.found.EntryHead.{EntryHead}
+use Rattle.sg_machine.specs.Runs.{BufferedEntry}
 use Rattle.sg_sinks.specs.Fitting.{space}
 use Rattle.sg_stores.specs.Stores.{StoreState, BufferState, coded, length_of, buffer_state}
-use Rattle.sg_stores.specs.Opening.{IsOpened, IsRecovered, IsOpenedAs, RestsInList}
-use Rattle.sg_stores.specs.Looking.{IsLooked, IsLookedAs, IsUnrenewed, RenewReason}
+use Rattle.sg_stores.specs.Opening.{IsOpenedPosition, IsRecovered, IsOpenedAs, RestsInList}
+use Rattle.sg_stores.specs.Looking.{IsLookedBuffer, IsLookedAs, IsUnrenewed}
 use Rattle.sg_stores.specs.declared.kind.StoreKind.{StoreKind}
 use Rattle.sg_stores.specs.declared.kind.StoreKind.TheVariants.{Position, Buffer}
 
@@ -36,9 +36,9 @@ holds-told : (old new : DiskState) (rows : Rows) (list staged : Entries) → new
 holds-told old new rows list staged is h = subst (λ (told : Option DiskLog). HoldsAt (record { told = told; faults = new.faults }) rows list staged) (sym is)
     (let same : HoldsAt (record { told = old.told; faults = new.faults }) rows list staged = record { images = h.images; number = h.number; waits = h.waits } in same)
 
-finds-told : (old new : DiskState) (rows : Rows) (found : Found) (entries : List Coded) → new.told ≡ old.told → Finds old rows found entries → Finds new rows found entries
-finds-told old new rows found entries is h = subst (λ (told : Option DiskLog). Finds (record { told = told; faults = new.faults }) rows found entries) (sym is)
-    (let same : Finds (record { told = old.told; faults = new.faults }) rows found entries = record { heads = h.heads; kept = h.kept; count = h.count; size = h.size; list = h.list; live = h.live; newer = h.newer } in same)
+finds-told : (old new : DiskState) (rows : Rows) (found : BufferEntries) (entries : List Coded) → new.told ≡ old.told → FindsEntries old rows found entries → FindsEntries new rows found entries
+finds-told old new rows found entries is h = subst (λ (told : Option DiskLog). FindsEntries (record { told = told; faults = new.faults }) rows found entries) (sym is)
+    (let same : FindsEntries (record { told = old.told; faults = new.faults }) rows found entries = record { heads = h.heads; kept = h.kept; count = h.count; size = h.size; list = h.list; live = h.live; newer = h.newer } in same)
 
 -- a disk that tells nothing has no image
 none-held : (disk : DiskState) (rows : Rows) → rows.staged ≡ 0 → content disk ≡ None → HoldsAt disk rows [] []
@@ -58,11 +58,11 @@ some-held : (disk mid : DiskState) (rows : Rows) (told : Option (List ℕ)) → 
 some-held disk mid rows (Some b) is none tells lists = lists b is
 some-held disk mid rows None is none tells lists = ([], none-held mid rows none (untold (content mid) (tells ∙ ap is_some is)))
 
-module _ {D : Type 0} (state : D → DiskState) (disk : DiskState) (capacity : ℕ) (found : Found) (old new : View D) where
+module _ {D : Type 0} (state : D → DiskState) (disk : DiskState) (capacity : ℕ) (found : BufferEntries) (old new : View D) where
   -- it was opened and looked through
   pub looked : old.capacity ≡ capacity → old.rows ≡ listed old.rows.list old.rows.count → Durable (state old.disk) → Preserves disk (state old.disk) → (state old.disk).faults ≡ disk.faults → new.closed ≡ false
-      → WhereTold (content disk) (λ bytes. (list : Entries) × IsList list bytes × Holds state old list [] × (old.rows.count ≡ length list))
-      → Reads state old new → ((entries : List Coded) × Finds (state old.disk) old.rows found entries) → IsLooked disk capacity found (buffer_state state false new)
+      → WhereTold (content disk) (λ bytes. (list : Entries) × IsList list bytes × RingHolds state old list [] × (old.rows.count ≡ length list))
+      → OnlyReadsSpool state old new → ((entries : List Coded) × FindsEntries (state old.disk) old.rows found entries) → IsLookedBuffer disk capacity found (buffer_state state false new)
   looked limit rows durable preserves well open_ lists reads finds =
       let held = some-held disk (state old.disk) old.rows (content disk) refl (ap (λ (r : Rows). r.staged) rows) preserves.told.tells (λ b told. let l = lists b told in (l.0, l.2)) in
       record {
@@ -76,22 +76,22 @@ module _ {D : Type 0} (state : D → DiskState) (disk : DiskState) (capacity : �
         limit = reads.lasts.capacity ∙ limit;
         rows = subst (λ (r : Rows). r ≡ listed r.list r.count) (sym reads.rows) rows;
         entries = finds.0;
-        finds = subst (λ (r : Rows). Finds (state new.disk) r found finds.0) (sym reads.rows) (finds-told (state old.disk) (state new.disk) old.rows found finds.0 reads.told finds.1);
+        finds = subst (λ (r : Rows). FindsEntries (state new.disk) r found finds.0) (sym reads.rows) (finds-told (state old.disk) (state new.disk) old.rows found finds.0 reads.told finds.1);
         payloads = held.0;
         holds = subst (λ (r : Rows). HoldsAt (state new.disk) r held.0 []) (sym reads.rows) (holds-told (state old.disk) (state new.disk) old.rows held.0 [] reads.told held.1);
       }
 
 -- entries as the machine keeps them
-abbrev uncoded : Coded → Kept
+abbrev uncoded : Coded → BufferedEntry
 uncoded c = record { inlet = c.source; end = c.end; flow = c.flow; message = c.message }
 
 coded-again : (entries : List Coded) → map coded (map uncoded entries) ≡ entries
 coded-again [] = refl
 coded-again (c ∷ entries) = ap (λ l. c ∷ l) (coded-again entries)
 
-heads-again : (entries : List Coded) → map head_of entries ≡ map (λ (k : Kept). head_of (coded k)) (map uncoded entries)
+heads-again : (entries : List Coded) → map head_of entries ≡ map (λ (k : BufferedEntry). head_of (coded k)) (map uncoded entries)
 heads-again [] = refl
-heads-again (c ∷ entries) = ap (λ (l : List Head). head_of c ∷ l) (heads-again entries)
+heads-again (c ∷ entries) = ap (λ (l : List EntryHead). head_of c ∷ l) (heads-again entries)
 
 space-again : (entries : List Coded) → size_of entries ≡ space (map length_of (map uncoded entries))
 space-again [] = refl
@@ -110,7 +110,7 @@ tells-on d0 d1 None (Some b) e0 e1 moves =
     absurd (let no : None ≡ Some told.0 = sym e0 ∙ told.1 in cc)
 
 -- the bytes that were told have the entries
-pub looked-told : (disk : DiskState) (capacity : ℕ) (found : Found) (store : StoreState) (look : IsLooked disk capacity found store) → WhereTold (content disk) (IsListOf look.entries)
+pub looked-told : (disk : DiskState) (capacity : ℕ) (found : BufferEntries) (store : StoreState) (look : IsLookedBuffer disk capacity found store) → WhereTold (content disk) (IsListOf look.entries)
 looked-told disk capacity found store look b told =
     let now = told_forth (content disk) (content store.disk) b look.preserves.told told in
     let is = look.holds.images b (reads_as_image store.disk b now) in
@@ -136,26 +136,26 @@ keeps disk mid new entries preserves within told =
       };
     }
 
-module _ {D : Type 0} (state : D → DiskState) (disk : DiskState) (capacity : ℕ) (found : Found) (f : Bool) (old new : View D) (look : IsLooked disk capacity found (buffer_state state f old)) (lasts : Lasts state old new) where
+module _ {D : Type 0} (state : D → DiskState) (disk : DiskState) (capacity : ℕ) (found : BufferEntries) (f : Bool) (old new : View D) (look : IsLookedBuffer disk capacity found (buffer_state state f old)) (lasts : SpoolLasts state old new) where
   rows-same : look.buffer ≡ record { capacity = old.capacity; rows = old.rows }
   rows-same = let same : Some (record { capacity = old.capacity; rows = old.rows }) ≡ Some look.buffer = look.there in cc
 
-  pub finds-at : Finds (state old.disk) old.rows found look.entries
-  finds-at = subst (λ (b : BufferState). Finds (state old.disk) b.rows found look.entries) rows-same look.finds
+  pub finds-at : FindsEntries (state old.disk) old.rows found look.entries
+  finds-at = subst (λ (b : BufferState). FindsEntries (state old.disk) b.rows found look.entries) rows-same look.finds
 
-  pub holds-at : Holds state old look.payloads []
+  pub holds-at : RingHolds state old look.payloads []
   holds-at = subst (λ (b : BufferState). HoldsAt (state old.disk) b.rows look.payloads []) rows-same look.holds
 
   pub told-first : WhereTold (content disk) (IsListOf look.entries)
   told-first = looked-told disk capacity found (buffer_state state f old) look
 
   module _ (within : Within (state old.disk) (state new.disk) (IsListOf look.entries)) where
-    reason-first : (refusal : StoreRefusal) → BufferReason (state old.disk) (state new.disk) refusal → RenewReason disk (state new.disk) refusal
+    reason-first : (refusal : StoreRefusal) → RenewReason (state old.disk) (state new.disk) refusal → RenewReason disk (state new.disk) refusal
     reason-first (Damage at) why = λ b told. why b (told_forth (content disk) (content (state old.disk)) b look.preserves.told told)
     reason-first DiskFault why = let well = look.well in omega (arith, well, why)
     reason-first NoMemory why = tt
 
-    pub unrenewed : (refusal : StoreRefusal) → BufferReason (state old.disk) (state new.disk) refusal → IsUnrenewed (Buffer capacity) disk (state new.disk) refusal
+    pub unrenewed : (refusal : StoreRefusal) → RenewReason (state old.disk) (state new.disk) refusal → IsUnrenewed (Buffer capacity) disk (state new.disk) refusal
     unrenewed refusal why = record {
       keeps = keeps disk (state old.disk) (state new.disk) look.entries look.preserves within told-first;
       later = omega (arith, look.well, lasts.later);
@@ -163,7 +163,7 @@ module _ {D : Type 0} (state : D → DiskState) (disk : DiskState) (capacity : �
       reason = reason-first refusal why;
     }
 
-    pub recovered : new.closed ≡ false → Holds state new (spelled look.entries) [] → live new.rows.list ≡ size_of look.entries → live new.rows.ahead ≡ live new.rows.list → live new.rows.list < 2 ^ 63 → new.rows.count ≡ old.rows.count → new.rows.staged ≡ 0
+    pub recovered : new.closed ≡ false → RingHolds state new (spelled look.entries) [] → live new.rows.list ≡ size_of look.entries → live new.rows.ahead ≡ live new.rows.list → live new.rows.list < 2 ^ 63 → new.rows.count ≡ old.rows.count → new.rows.staged ≡ 0
         → IsRecovered disk capacity found (buffer_state state f new)
     recovered open_ holds size ahead small count unstaged =
         let entries = map uncoded look.entries in
@@ -177,7 +177,7 @@ module _ {D : Type 0} (state : D → DiskState) (disk : DiskState) (capacity : �
           heads = finds-at.heads ∙ heads-again look.entries;
           holds = record {
             holds = subst (λ (l : List Coded). HoldsAt (state new.disk) new.rows (spelled l) []) (sym again) holds;
-            kept = subst (λ (l : List Kept). AreKept (map coded l)) (sym (append-nil entries)) (subst AreKept (sym again) finds-at.kept);
+            kept = subst (λ (l : List BufferedEntry). AreKept (map coded l)) (sym (append-nil entries)) (subst AreKept (sym again) finds-at.kept);
           };
           sized = record {
             limit = lasts.capacity ∙ sym (ap (λ (b : BufferState). b.capacity) rows-same) ∙ look.limit;
@@ -195,14 +195,14 @@ module _ {D : Type 0} (state : D → DiskState) (disk : DiskState) (capacity : �
         }
 
 -- a disk-buffer was looked through as one
-no-position : {D : Type 0} (state : D → DiskState) (f : Bool) (view : View D) (disk : DiskState) → IsOpened disk (buffer_state state f view) → ⊥
+no-position : {D : Type 0} (state : D → DiskState) (f : Bool) (view : View D) (disk : DiskState) → IsOpenedPosition disk (buffer_state state f view) → ⊥
 no-position state f view disk is = absurd (let no : Some (record { capacity = view.capacity; rows = view.rows }) ≡ None = is.buffer in cc)
 
-pub renewed-as : {D : Type 0} (state : D → DiskState) (disk : DiskState) (found : Found) (f : Bool) (old new : View D) (lasts : Lasts state old new) (kind : StoreKind)
+pub renewed-as : {D : Type 0} (state : D → DiskState) (disk : DiskState) (found : BufferEntries) (f : Bool) (old new : View D) (lasts : SpoolLasts state old new) (kind : StoreKind)
     → IsLookedAs kind disk found (buffer_state state f old) → new.closed ≡ false
-    → ((entries : List Coded) (payloads : Entries) → Finds (state old.disk) old.rows found entries → Holds state old payloads [] → Within (state old.disk) (state new.disk) (IsListOf entries))
-    → ((entries : List Coded) (payloads : Entries) → Finds (state old.disk) old.rows found entries → Holds state old payloads [] → Holds state new (spelled entries) [])
-    → ((entries : List Coded) → Finds (state old.disk) old.rows found entries → live new.rows.list ≡ size_of entries)
+    → ((entries : List Coded) (payloads : Entries) → FindsEntries (state old.disk) old.rows found entries → RingHolds state old payloads [] → Within (state old.disk) (state new.disk) (IsListOf entries))
+    → ((entries : List Coded) (payloads : Entries) → FindsEntries (state old.disk) old.rows found entries → RingHolds state old payloads [] → RingHolds state new (spelled entries) [])
+    → ((entries : List Coded) → FindsEntries (state old.disk) old.rows found entries → live new.rows.list ≡ size_of entries)
     → live new.rows.ahead ≡ live new.rows.list → live new.rows.list < 2 ^ 63 → new.rows.count ≡ old.rows.count → new.rows.staged ≡ 0 → IsOpenedAs kind disk found (buffer_state state f new)
 renewed-as state disk found f old new lasts Position look open_ within holds size ahead small count unstaged = absurd (no-position state f old disk look.0)
 renewed-as state disk found f old new lasts (Buffer capacity) look open_ within holds size ahead small count unstaged =
@@ -210,10 +210,10 @@ renewed-as state disk found f old new lasts (Buffer capacity) look open_ within 
     let held = holds-at state disk capacity found f old new look lasts in
     recovered state disk capacity found f old new look lasts (within look.entries look.payloads finds held) open_ (holds look.entries look.payloads finds held) (size look.entries finds) ahead small count unstaged
 
-pub unrenewed-as : {D : Type 0} (state : D → DiskState) (disk : DiskState) (found : Found) (f : Bool) (old new : View D) (lasts : Lasts state old new) (refusal : StoreRefusal) (kind : StoreKind)
+pub unrenewed-as : {D : Type 0} (state : D → DiskState) (disk : DiskState) (found : BufferEntries) (f : Bool) (old new : View D) (lasts : SpoolLasts state old new) (refusal : StoreRefusal) (kind : StoreKind)
     → IsLookedAs kind disk found (buffer_state state f old)
-    → ((entries : List Coded) (payloads : Entries) → Finds (state old.disk) old.rows found entries → Holds state old payloads [] → Within (state old.disk) (state new.disk) (IsListOf entries))
-    → ((entries : List Coded) (payloads : Entries) → Finds (state old.disk) old.rows found entries → Holds state old payloads [] → BufferReason (state old.disk) (state new.disk) refusal)
+    → ((entries : List Coded) (payloads : Entries) → FindsEntries (state old.disk) old.rows found entries → RingHolds state old payloads [] → Within (state old.disk) (state new.disk) (IsListOf entries))
+    → ((entries : List Coded) (payloads : Entries) → FindsEntries (state old.disk) old.rows found entries → RingHolds state old payloads [] → RenewReason (state old.disk) (state new.disk) refusal)
     → IsUnrenewed kind disk (state new.disk) refusal
 unrenewed-as state disk found f old new lasts refusal Position look within why = absurd (no-position state f old disk look.0)
 unrenewed-as state disk found f old new lasts refusal (Buffer capacity) look within why =

@@ -9,15 +9,16 @@ use Rattle.sg_device.specs.Faults.{Rose}
 use Rattle.sg_device.proofs.DiskCalls.{tells_same, unchanged}
 use Rattle.sg_stable.specs.declared.fault.StoreRefusal.{StoreRefusal}
 use Rattle.sg_stable.specs.declared.fault.StoreRefusal.TheVariants.{Damage, DiskFault, NoMemory}
-use Rattle.sg_buffer.specs.declared.found.Found.{Found}
-use Rattle.sg_stores.specs.Stores.{StoreState, Goes, AllGo}
-use Rattle.sg_stores.specs.Opening.{IsStore, IsOpenedAs, AreOpened, Keeps, RestsInList, AreStoresBefore, HasReason, IsRefused, FailsByFaults, AllFailByFaults, refusal_of}
-use Rattle.sg_stores.specs.Looking.{IsLookedAs, IsUnlooked, OpenReason, RenewReason, IsUnrenewed, IsUnstaged, CanRenew, CanRenewAll, RenewsAt, AreOpening}
+use Rattle.sg_buffer.specs.declared.found.BufferEntries.{BufferEntries}
+use Rattle.sg_stores.specs.Stores.{StoreState, StoreGoesOn, AllGo}
+use Rattle.sg_stores.specs.Opening.{IsStore, IsOpenedAs, AreOpened, KeepsImages, RestsInList, AreStoresBefore, HasOpeningReason, AreStoresRefused, FailsByFaults, AllFailByFaults, refusal_of}
+use Rattle.sg_stores.specs.Looking.{IsLookedAs, IsUnlooked, OpenReason, IsUnrenewed, IsUnstaged, CanRenew, CanRenewAll, RenewsAt, AreOpening}
 use Rattle.sg_stores.specs.declared.kind.StoreKind.{StoreKind}
 use Rattle.sg_stores.specs.declared.kind.StoreKind.TheVariants.{Position, Buffer}
 use Rattle.sg_stores.specs.declared.answers.CoreRefusal.TheVariants.{NoMemory as CoreMemory}
 use Rattle.sg_stores.proofs.LookLemmas.{looked-told, keeps}
 use Rattle.sg_stores.proofs.GetLemmas.{get-changed, get-map, get-push, get-between, get-middle, get-drop}
+use Rattle.sg_buffer.specs.Renewing.{RenewReason}
 
 -- One store.
 
@@ -32,49 +33,49 @@ rests-list old new rests = record {
   };
 }
 
-rests-keeps : (kind : StoreKind) (old new : DiskState) → Rests old new → Keeps kind old new
+rests-keeps : (kind : StoreKind) (old new : DiskState) → Rests old new → KeepsImages kind old new
 rests-keeps Position old new rests = rests
 rests-keeps (Buffer capacity) old new rests = rests-list old new rests
 
-keeps-same : (kind : StoreKind) (disk : DiskState) → Keeps kind disk disk
+keeps-same : (kind : StoreKind) (disk : DiskState) → KeepsImages kind disk disk
 keeps-same kind disk = rests-keeps kind disk disk (tells_same disk disk (unchanged disk disk refl))
 
-looked-keeps : (kind : StoreKind) (disk : DiskState) (found : Found) (store : StoreState) → IsLookedAs kind disk found store → Keeps kind disk store.disk
+looked-keeps : (kind : StoreKind) (disk : DiskState) (found : BufferEntries) (store : StoreState) → IsLookedAs kind disk found store → KeepsImages kind disk store.disk
 looked-keeps Position disk found store look = tells_same disk store.disk (look.0).preserves
 looked-keeps (Buffer capacity) disk found store look = rests-list disk store.disk (tells_same disk store.disk look.preserves)
 
-looked-later : (kind : StoreKind) (disk : DiskState) (found : Found) (store : StoreState) → IsLookedAs kind disk found store → disk.faults ≤ store.disk.faults
+looked-later : (kind : StoreKind) (disk : DiskState) (found : BufferEntries) (store : StoreState) → IsLookedAs kind disk found store → disk.faults ≤ store.disk.faults
 looked-later Position disk found store look = let well = (look.0).well in omega (arith, well)
 looked-later (Buffer capacity) disk found store look = let well = look.well in omega (arith, well)
 
-looked-store : (kind : StoreKind) (disk : DiskState) (found : Found) (store : StoreState) → IsLookedAs kind disk found store → WhereTold (content disk) (IsStore kind)
+looked-store : (kind : StoreKind) (disk : DiskState) (found : BufferEntries) (store : StoreState) → IsLookedAs kind disk found store → WhereTold (content disk) (IsStore kind)
 looked-store Position disk found store look = λ b told. (store.position, (look.0).position b told)
 looked-store (Buffer capacity) disk found store look = λ b told. (look.entries, looked-told disk capacity found store look b told)
 
-looked-ready : (kind : StoreKind) (disk : DiskState) (found : Found) (store : StoreState) → IsLookedAs kind disk found store → CanRenew (Some store)
+looked-ready : (kind : StoreKind) (disk : DiskState) (found : BufferEntries) (store : StoreState) → IsLookedAs kind disk found store → CanRenew (Some store)
 looked-ready Position disk found store look = ((look.0).works, subst IsUnstaged (sym (look.0).buffer) tt)
 looked-ready (Buffer capacity) disk found store look = (look.works, subst IsUnstaged (sym look.there) (let rows = look.rows in rw rows refl))
 
-opened-keeps : (kind : StoreKind) (disk : DiskState) (found : Found) (store : StoreState) → IsOpenedAs kind disk found store → Keeps kind disk store.disk
+opened-keeps : (kind : StoreKind) (disk : DiskState) (found : BufferEntries) (store : StoreState) → IsOpenedAs kind disk found store → KeepsImages kind disk store.disk
 opened-keeps Position disk found store is = tells_same disk store.disk (is.0).preserves
 opened-keeps (Buffer capacity) disk found store is = keeps disk is.synced store.disk _ is.preserves is.within is.told
 
-opened-later : (kind : StoreKind) (disk : DiskState) (found : Found) (store : StoreState) → IsOpenedAs kind disk found store → disk.faults ≤ store.disk.faults
+pub opened-later : (kind : StoreKind) (disk : DiskState) (found : BufferEntries) (store : StoreState) → IsOpenedAs kind disk found store → disk.faults ≤ store.disk.faults
 opened-later Position disk found store is = let well = (is.0).well in omega (arith, well)
 opened-later (Buffer capacity) disk found store is = let well = is.well in omega (arith, well)
 
-by-faults : (disk : DiskState) (first now : StoreState) → first.failed ≡ false → first.disk.faults ≡ disk.faults → Goes first now → FailsByFaults now.failed disk now.disk
+by-faults : (disk : DiskState) (first now : StoreState) → first.failed ≡ false → first.disk.faults ≡ disk.faults → StoreGoesOn first now → FailsByFaults now.failed disk now.disk
 by-faults disk first now works well goes = record {
   works = λ works. goes.works works ∙ well;
   fails = λ fails. subst (λ (n : ℕ). Rose n now.disk.faults) well (goes.broke works fails);
 }
 
 -- from an opening on
-pub opened-by-faults : (kind : StoreKind) (disk : DiskState) (found : Found) (first now : StoreState) → IsOpenedAs kind disk found first → Goes first now → FailsByFaults now.failed disk now.disk
+pub opened-by-faults : (kind : StoreKind) (disk : DiskState) (found : BufferEntries) (first now : StoreState) → IsOpenedAs kind disk found first → StoreGoesOn first now → FailsByFaults now.failed disk now.disk
 opened-by-faults Position disk found first now is goes = by-faults disk first now (is.0).works (is.0).well goes
 opened-by-faults (Buffer capacity) disk found first now is goes = by-faults disk first now is.works is.well goes
 
-pub all-by-faults : (kinds : List StoreKind) (disks : List DiskState) (founds : List Found) (first now : List StoreState) → length kinds ≡ length disks → AreOpened kinds disks founds first → AllGo first now → AllFailByFaults disks now
+pub all-by-faults : (kinds : List StoreKind) (disks : List DiskState) (founds : List BufferEntries) (first now : List StoreState) → length kinds ≡ length disks → AreOpened kinds disks founds first → AllGo first now → AllFailByFaults disks now
 all-by-faults kinds disks founds first now many are goes s disk store at_disk at_store =
     let low = slice_get-below disks s disk at_disk in
     let kind = slice_get-some kinds s (omega (arith, low, many)) in
@@ -82,18 +83,18 @@ all-by-faults kinds disks founds first now many are goes s disk store at_disk at
     let was = slice_get-some first s (let n = are.count in omega (arith, low, n)) in
     opened-by-faults kind.0 disk found.0 was.0 store (are.each s kind.0 disk found.0 was.0 kind.1 at_disk found.1 was.1) (goes.each s was.0 store was.1 at_store)
 
-opened-store : (kind : StoreKind) (disk : DiskState) (found : Found) (store : StoreState) → IsOpenedAs kind disk found store → WhereTold (content disk) (IsStore kind)
+opened-store : (kind : StoreKind) (disk : DiskState) (found : BufferEntries) (store : StoreState) → IsOpenedAs kind disk found store → WhereTold (content disk) (IsStore kind)
 opened-store Position disk found store is = λ b told. (store.position, (is.0).position b told)
 opened-store (Buffer capacity) disk found store is = λ b told. (_, is.told b told)
 
 -- All are looked through.
 
 -- so many disks were opened and looked through, and these are left
-pub record IsLooking (kinds : List StoreKind) (all : List DiskState) (founds : List Found) (held : List StoreState) (rest : List DiskState) : Type 0 where
+pub record IsLooking (kinds : List StoreKind) (all : List DiskState) (founds : List BufferEntries) (held : List StoreState) (rest : List DiskState) : Type 0 where
   pub split : rest ≡ drop (length held) all
   pub many : length founds ≡ length held
   pub count : length held + length rest ≡ length all
-  pub looked : (s : ℕ) (kind : StoreKind) (disk : DiskState) (found : Found) (store : StoreState) → slice_get kinds s ≡ Some kind → slice_get all s ≡ Some disk
+  pub looked : (s : ℕ) (kind : StoreKind) (disk : DiskState) (found : BufferEntries) (store : StoreState) → slice_get kinds s ≡ Some kind → slice_get all s ≡ Some disk
       → slice_get founds s ≡ Some found → slice_get held s ≡ Some store → IsLookedAs kind disk found store
 
 pub looking-none : (kinds : List StoreKind) (all : List DiskState) → IsLooking kinds all [] [] all
@@ -107,7 +108,7 @@ looking-none kinds all = record {
 first-at : (all rest : List DiskState) (n : ℕ) (disk : DiskState) → disk ∷ rest ≡ drop n all → slice_get all n ≡ Some disk
 first-at all rest n disk split = let e : n ≡ n + 0 = omega arith in ap (slice_get all) e ∙ get-drop n all 0 ∙ ap (λ (l : List DiskState). slice_get l 0) (sym split)
 
-pub looking-more : (kinds : List StoreKind) (all : List DiskState) (founds : List Found) (held : List StoreState) (disk : DiskState) (rest : List DiskState) (kind : StoreKind) (found : Found) (store : StoreState)
+pub looking-more : (kinds : List StoreKind) (all : List DiskState) (founds : List BufferEntries) (held : List StoreState) (disk : DiskState) (rest : List DiskState) (kind : StoreKind) (found : BufferEntries) (store : StoreState)
     → IsLooking kinds all founds held (disk ∷ rest) → slice_get kinds (length held) ≡ Some kind → IsLookedAs kind disk found store → IsLooking kinds all (founds ++ found ∷ []) (held ++ store ∷ []) rest
 looking-more kinds all founds held disk rest kind found store l is look =
     let n = length_push held store in
@@ -126,12 +127,12 @@ looking-more kinds all founds held disk rest kind found store l is look =
               let same_kind : kind ≡ kind0 = some-same kind kind0 (sym is ∙ ap (slice_get kinds) (sym p.0) ∙ k) in
               let same_disk : disk ≡ disk0 = some-same disk disk0 (sym (first-at all rest (length held) disk l.split) ∙ ap (slice_get all) (sym p.0) ∙ d) in
               subst (λ (x : StoreKind). IsLookedAs x disk0 found0 store0) same_kind (subst (λ (x : DiskState). IsLookedAs kind x found0 store0) same_disk
-              (subst (λ (x : Found). IsLookedAs kind disk x store0) (sym q.1) (subst (λ (x : StoreState). IsLookedAs kind disk found x) (sym p.1) look)))
+              (subst (λ (x : BufferEntries). IsLookedAs kind disk x store0) (sym q.1) (subst (λ (x : StoreState). IsLookedAs kind disk found x) (sym p.1) look)))
         ]
       ];
     }
 
-pub looking-done : (kinds : List StoreKind) (all : List DiskState) (founds : List Found) (held : List StoreState) → length kinds ≡ length all → IsLooking kinds all founds held [] → AreOpening 0 kinds all founds held
+pub looking-done : (kinds : List StoreKind) (all : List DiskState) (founds : List BufferEntries) (held : List StoreState) → length kinds ≡ length all → IsLooking kinds all founds held [] → AreOpening 0 kinds all founds held
 looking-done kinds all founds held known l = record {
   many = (let c = l.count in omega (arith, c));
   looked = (let c = l.count in let m = l.many in omega (arith, c, m));
@@ -140,7 +141,7 @@ looking-done kinds all founds held known l = record {
   left = λ s kind disk found store any k d f h. l.looked s kind disk found store k d f h;
 }
 
-found-at : (kinds : List StoreKind) (all : List DiskState) (founds : List Found) (held : List StoreState) (rest : List DiskState) (s : ℕ) → IsLooking kinds all founds held rest → s < length held → (found : Found) × (slice_get founds s ≡ Some found)
+found-at : (kinds : List StoreKind) (all : List DiskState) (founds : List BufferEntries) (held : List StoreState) (rest : List DiskState) (s : ℕ) → IsLooking kinds all founds held rest → s < length held → (found : BufferEntries) × (slice_get founds s ≡ Some found)
 found-at kinds all founds held rest s l low = slice_get-some founds s (let m = l.many in omega (arith, low, m))
 
 -- the disks behind stay
@@ -153,14 +154,14 @@ kind-at : (kinds : List StoreKind) (n : ℕ) (kind : StoreKind) (s : ℕ) → sl
 kind-at kinds n kind s is low = slice_get-some kinds s (let b = slice_get-below kinds n kind is in omega (arith, b, low))
 
 look-reason : (kinds : List StoreKind) (all news : List DiskState) (s : ℕ) (kind : StoreKind) (disk new : DiskState) (refusal : StoreRefusal) → slice_get kinds s ≡ Some kind → slice_get all s ≡ Some disk → slice_get news s ≡ Some new
-    → OpenReason kind disk new refusal → AreStoresBefore s kinds all → HasReason kinds all news (refusal_of s refusal)
+    → OpenReason kind disk new refusal → AreStoresBefore s kinds all → HasOpeningReason kinds all news (refusal_of s refusal)
 look-reason kinds all news s kind disk new (Damage at) k d n why before = record { kind = kind; disk = disk; is_kind = k; is_disk = d; damaged = why; before = before }
 look-reason kinds all news s kind disk new DiskFault k d n why before = record { old = disk; new = new; was = d; now = n; rose = why; before = before }
 look-reason kinds all news s kind disk new NoMemory k d n why before = tt
 
 -- the store behind those that were looked through is refused
-pub looking-refused : (kinds : List StoreKind) (all : List DiskState) (founds : List Found) (held : List StoreState) (disk new : DiskState) (rest : List DiskState) (kind : StoreKind) (refusal : StoreRefusal)
-    → IsLooking kinds all founds held (disk ∷ rest) → slice_get kinds (length held) ≡ Some kind → IsUnlooked kind disk new refusal → IsRefused kinds all (map (λ (s : StoreState). s.disk) held ++ new ∷ rest) (refusal_of (length held) refusal)
+pub looking-refused : (kinds : List StoreKind) (all : List DiskState) (founds : List BufferEntries) (held : List StoreState) (disk new : DiskState) (rest : List DiskState) (kind : StoreKind) (refusal : StoreRefusal)
+    → IsLooking kinds all founds held (disk ∷ rest) → slice_get kinds (length held) ≡ Some kind → IsUnlooked kind disk new refusal → AreStoresRefused kinds all (map (λ (s : StoreState). s.disk) held ++ new ∷ rest) (refusal_of (length held) refusal)
 looking-refused kinds all founds held disk new rest kind refusal l is un =
     let long = length-map held (λ (s : StoreState). s.disk) in
     let at = first-at all rest (length held) disk l.split in
@@ -175,14 +176,14 @@ looking-refused kinds all founds held disk new rest kind refusal l is un =
           | inl p ↦
               let h = get-map (λ (s : StoreState). s.disk) held s new0 p.1 in
               let f = found-at kinds all founds held (disk ∷ rest) s l (let a = p.0 in omega (arith, a, long)) in
-              subst (Keeps kind0 old0) (sym h.2) (looked-keeps kind0 old0 f.0 h.0 (l.looked s kind0 old0 f.0 h.0 k o f.1 h.1))
+              subst (KeepsImages kind0 old0) (sym h.2) (looked-keeps kind0 old0 f.0 h.0 (l.looked s kind0 old0 f.0 h.0 k o f.1 h.1))
           | inr q ↦ elim q [
             | inl p ↦
                 let e : s ≡ length held = p.0 ∙ long in
                 let same_kind : kind ≡ kind0 = some-same kind kind0 (sym is ∙ ap (slice_get kinds) (sym e) ∙ k) in
                 let same_disk : disk ≡ old0 = some-same disk old0 (sym at ∙ ap (slice_get all) (sym e) ∙ o) in
-                subst (Keeps kind0 old0) (sym p.1) (subst (λ (x : DiskState). Keeps kind0 x new) same_disk (subst (λ (x : StoreKind). Keeps x disk new) same_kind (rests-keeps kind disk new un.rests)))
-            | inr p ↦ subst (Keeps kind0 old0) (rest-same all rest held disk s p.0 old0 new0 l.split (p.1 ∙ ap (λ m. m + suc p.0) long) o p.2) (keeps-same kind0 old0)
+                subst (KeepsImages kind0 old0) (sym p.1) (subst (λ (x : DiskState). KeepsImages kind0 x new) same_disk (subst (λ (x : StoreKind). KeepsImages x disk new) same_kind (rests-keeps kind disk new un.rests)))
+            | inr p ↦ subst (KeepsImages kind0 old0) (rest-same all rest held disk s p.0 old0 new0 l.split (p.1 ∙ ap (λ m. m + suc p.0) long) o p.2) (keeps-same kind0 old0)
           ]
         ];
         later = λ s old0 new0 o n. elim (get-between (map (λ (s : StoreState). s.disk) held) rest new s new0 n) [
@@ -206,11 +207,11 @@ looking-refused kinds all founds held disk new rest kind refusal l is un =
     }
 
 -- no memory was left, and the disks are as they were
-pub refused-memory : (kinds : List StoreKind) (disks : List DiskState) → IsRefused kinds disks disks CoreMemory
+pub refused-memory : (kinds : List StoreKind) (disks : List DiskState) → AreStoresRefused kinds disks disks CoreMemory
 refused-memory kinds disks = record {
   preserved = record {
     count = refl;
-    keeps = λ s kind old new k o n. subst (Keeps kind old) (some-same old new (sym o ∙ n)) (keeps-same kind old);
+    keeps = λ s kind old new k o n. subst (KeepsImages kind old) (some-same old new (sym o ∙ n)) (keeps-same kind old);
     later = λ s old new o n. subst (λ (x : DiskState). old.faults ≤ x.faults) (some-same old new (sym o ∙ n)) (omega arith);
   };
   reason = tt;
@@ -218,7 +219,7 @@ refused-memory kinds disks = record {
 
 -- Older entries are spelled anew.
 
-pub all-ready : (kinds : List StoreKind) (disks : List DiskState) (founds : List Found) (stores : List StoreState) → AreOpening 0 kinds disks founds stores → CanRenewAll stores
+pub all-ready : (kinds : List StoreKind) (disks : List DiskState) (founds : List BufferEntries) (stores : List StoreState) → AreOpening 0 kinds disks founds stores → CanRenewAll stores
 all-ready kinds disks founds stores o s store h =
     let low = slice_get-below stores s store h in
     let k = slice_get-some kinds s (let a = o.many in let b = o.known in omega (arith, low, a, b)) in
@@ -226,7 +227,7 @@ all-ready kinds disks founds stores o s store h =
     let f = slice_get-some founds s (let a = o.many in let b = o.looked in omega (arith, low, a, b)) in
     looked-ready k.0 d.0 f.0 store (o.left s k.0 d.0 f.0 store (omega arith) k.1 d.1 f.1 h)
 
-module _ (k : ℕ) (kinds : List StoreKind) (disks : List DiskState) (founds : List Found) (olds news : List StoreState) (found : Found) (o : AreOpening k kinds disks founds olds) (there : slice_get founds k ≡ Some found) where
+module _ (k : ℕ) (kinds : List StoreKind) (disks : List DiskState) (founds : List BufferEntries) (olds news : List StoreState) (found : BufferEntries) (o : AreOpening k kinds disks founds olds) (there : slice_get founds k ≡ Some found) where
   pub renewing-more : (done : Unit) → RenewsAt olds news k found (Ok done) → AreOpening (k + 1) kinds disks founds news
   renewing-more done r = record {
     many = ap length r.others ∙ length-change olds k (λ _. r.new) ∙ o.many;
@@ -236,7 +237,7 @@ module _ (k : ℕ) (kinds : List StoreKind) (disks : List DiskState) (founds : L
       | inl p ↦
           let same : found ≡ found0 = some-same found found0 (sym there ∙ ap (slice_get founds) (sym p.0) ∙ f) in
           let look = o.left s kind disk found0 r.old (let e = p.0 in omega (arith, e)) is d f (ap (slice_get olds) p.0 ∙ r.was) in
-          subst (IsOpenedAs kind disk found0) (sym p.1) (subst (λ (x : Found). IsOpenedAs kind disk x r.new) same (r.renews kind disk (subst (λ (x : Found). IsLookedAs kind disk x r.old) (sym same) look)))
+          subst (IsOpenedAs kind disk found0) (sym p.1) (subst (λ (x : BufferEntries). IsOpenedAs kind disk x r.new) same (r.renews kind disk (subst (λ (x : BufferEntries). IsLookedAs kind disk x r.old) (sym same) look)))
       | inr p ↦ o.opened s kind disk found0 store (let ne = p.0 in grind (arith, low, ne)) is d f p.1
     ];
     left = λ s kind disk found0 store high is d f h. elim (get-changed olds k s r.new store (ap (λ l. slice_get l s) (sym r.others) ∙ h)) [
@@ -248,7 +249,7 @@ module _ (k : ℕ) (kinds : List StoreKind) (disks : List DiskState) (founds : L
   -- one is refused
   module _ (refusal : StoreRefusal) (r : RenewsAt olds news k found (Err refusal)) where
     renew-store : (s : ℕ) (kind : StoreKind) (disk : DiskState) (store : StoreState) → slice_get kinds s ≡ Some kind → slice_get disks s ≡ Some disk → slice_get olds s ≡ Some store
-        → Keeps kind disk store.disk × (disk.faults ≤ store.disk.faults) × WhereTold (content disk) (IsStore kind)
+        → KeepsImages kind disk store.disk × (disk.faults ≤ store.disk.faults) × WhereTold (content disk) (IsStore kind)
     renew-store s kind disk store is d h =
         let f = slice_get-some founds s (let b = slice_get-below disks s disk d in let e = o.looked in omega (arith, b, e)) in
         elim (cases_lt s k) [
@@ -259,17 +260,17 @@ module _ (k : ℕ) (kinds : List StoreKind) (disks : List DiskState) (founds : L
     renew-at : (kind : StoreKind) (disk : DiskState) → slice_get kinds k ≡ Some kind → slice_get disks k ≡ Some disk → IsUnrenewed kind disk r.new.disk refusal
     renew-at kind disk is d = r.renews kind disk (o.left k kind disk found r.old (omega arith) is d there r.was)
 
-    renew-any : (s : ℕ) (kind : StoreKind) (disk new : DiskState) → slice_get kinds s ≡ Some kind → slice_get disks s ≡ Some disk → slice_get (map (λ (s : StoreState). s.disk) news) s ≡ Some new → Keeps kind disk new × (disk.faults ≤ new.faults)
+    renew-any : (s : ℕ) (kind : StoreKind) (disk new : DiskState) → slice_get kinds s ≡ Some kind → slice_get disks s ≡ Some disk → slice_get (map (λ (s : StoreState). s.disk) news) s ≡ Some new → KeepsImages kind disk new × (disk.faults ≤ new.faults)
     renew-any s kind disk new is d n =
         let h = get-map (λ (s : StoreState). s.disk) news s new n in
-        subst (λ (x : DiskState). Keeps kind disk x × (disk.faults ≤ x.faults)) (sym h.2) (elim (get-changed olds k s r.new h.0 (ap (λ l. slice_get l s) (sym r.others) ∙ h.1)) [
+        subst (λ (x : DiskState). KeepsImages kind disk x × (disk.faults ≤ x.faults)) (sym h.2) (elim (get-changed olds k s r.new h.0 (ap (λ l. slice_get l s) (sym r.others) ∙ h.1)) [
           | inl p ↦
               let un = renew-at kind disk (ap (slice_get kinds) (sym p.0) ∙ is) (ap (slice_get disks) (sym p.0) ∙ d) in
-              subst (λ (x : StoreState). Keeps kind disk x.disk × (disk.faults ≤ x.disk.faults)) (sym p.1) (un.keeps, un.later)
+              subst (λ (x : StoreState). KeepsImages kind disk x.disk × (disk.faults ≤ x.disk.faults)) (sym p.1) (un.keeps, un.later)
           | inr p ↦ let one = renew-store s kind disk h.0 is d p.1 in (one.0, one.1)
         ])
 
-    renew-reason : (kind : StoreKind) (disk : DiskState) (e : StoreRefusal) → slice_get kinds k ≡ Some kind → slice_get disks k ≡ Some disk → RenewReason disk r.new.disk e → AreStoresBefore k kinds disks → HasReason kinds disks (map (λ (s : StoreState). s.disk) news) (refusal_of k e)
+    renew-reason : (kind : StoreKind) (disk : DiskState) (e : StoreRefusal) → slice_get kinds k ≡ Some kind → slice_get disks k ≡ Some disk → RenewReason disk r.new.disk e → AreStoresBefore k kinds disks → HasOpeningReason kinds disks (map (λ (s : StoreState). s.disk) news) (refusal_of k e)
     renew-reason kind disk (Damage at) is d why before = record { kind = kind; disk = disk; is_kind = is; is_disk = d; damaged = λ b told. absurd (why b told); before = before }
     renew-reason kind disk DiskFault is d why before = record {
       old = disk;
@@ -281,7 +282,7 @@ module _ (k : ℕ) (kinds : List StoreKind) (disks : List DiskState) (founds : L
     }
     renew-reason kind disk NoMemory is d why before = tt
 
-    pub renewing-refused : IsRefused kinds disks (map (λ (s : StoreState). s.disk) news) (refusal_of k refusal)
+    pub renewing-refused : AreStoresRefused kinds disks (map (λ (s : StoreState). s.disk) news) (refusal_of k refusal)
     renewing-refused =
         let low = slice_get-below olds k r.old r.was in
         let kind = slice_get-some kinds k (let a = o.many in let b = o.known in omega (arith, low, a, b)) in
@@ -300,7 +301,7 @@ module _ (k : ℕ) (kinds : List StoreKind) (disks : List DiskState) (founds : L
               (renew-store s kind0 disk0 h.0 is d h.1).2);
         }
 
-pub renewing-done : (k : ℕ) (kinds : List StoreKind) (disks : List DiskState) (founds : List Found) (stores : List StoreState) → length stores ≤ k → AreOpening k kinds disks founds stores → AreOpened kinds disks founds stores
+pub renewing-done : (k : ℕ) (kinds : List StoreKind) (disks : List DiskState) (founds : List BufferEntries) (stores : List StoreState) → length stores ≤ k → AreOpening k kinds disks founds stores → AreOpened kinds disks founds stores
 renewing-done k kinds disks founds stores all o = record {
   count = o.many;
   looked = o.looked;
@@ -308,7 +309,7 @@ renewing-done k kinds disks founds stores all o = record {
 }
 
 -- the others can be spelled anew still
-pub ready-more : (k : ℕ) (found : Found) (done : Unit) (olds news : List StoreState) → RenewsAt olds news k found (Ok done) → ((s : ℕ) (store : StoreState) → k ≤ s → slice_get olds s ≡ Some store → CanRenew (Some store))
+pub ready-more : (k : ℕ) (found : BufferEntries) (done : Unit) (olds news : List StoreState) → RenewsAt olds news k found (Ok done) → ((s : ℕ) (store : StoreState) → k ≤ s → slice_get olds s ≡ Some store → CanRenew (Some store))
     → (s : ℕ) (store : StoreState) → k + 1 ≤ s → slice_get news s ≡ Some store → CanRenew (Some store)
 ready-more k found done olds news r ready s store high h = elim (get-changed olds k s r.new store (ap (λ l. slice_get l s) (sym r.others) ∙ h)) [
   | inl p ↦ absurd (let e = p.0 in omega (arith, e, high))

@@ -6,45 +6,46 @@ use Rattle.sg_device.specs.Disk.{DiskState, Within}
 use Rattle.sg_device.proofs.Disks.{started, within_as}
 use Rattle.sg_codec.proofs.WriteLemmas.{length-spelling}
 use Rattle.sg_spool.specs.Ring.{Entries, IsList}
-use Rattle.sg_spool.specs.Lists.{IsOneOf}
+use Rattle.sg_spool.specs.Lists.{IsEitherList}
 use Rattle.sg_spool.specs.Places.{live}
-use Rattle.sg_spool.specs.Calls.{Lasts, Leaves}
+use Rattle.sg_spool.specs.Calls.{SpoolLasts, LeavesImages}
 use Rattle.sg_spool.specs.Answers.{Stages as SpoolStages}
 use Rattle.sg_spool.specs.View.{View, HoldsAt}
 use Rattle.sg_spool.specs.declared.answers.Appended.TheVariants.{Done, NoRoom, DiskFailed}
 use Rattle.sg_buffer.specs.Entries.{AreKept, IsListOf, spelled}
-use Rattle.sg_machine.specs.Runs.{Kept}
+use Rattle.sg_machine.specs.Runs.{BufferedEntry}
 use Rattle.sg_sinks.specs.Fitting.{space}
-use Rattle.sg_stores.specs.Stores.{StoreState, BufferState, HoldsEntries, HasSize, IsAheadBy, HasAhead, coded, length_of, buffer_state}
-use Rattle.sg_stores.specs.Appending.{IsListWithSome, HoldsSome, IsAppending, IsNext, Stages}
-use Rattle.sg_stores.proofs.StoreLemmas.{within_then, goes_refl, goes_trans, goes_open, goes_closed, spelled-append, kept-append, kept-front, list-of, each-held, space-length, space_push, lengths-append}
+use Rattle.sg_stores.specs.Stores.{StoreState, BufferState, HoldsEntries, HasBufferSize, IsAheadBy, HasAhead, coded, length_of, buffer_state}
+use Rattle.sg_stores.specs.Appending.{IsListWithSome, HoldsSome, IsAppending, IsNextPayload, StagesStore}
+use Rattle.sg_stores.proofs.StoreLemmas.{within_then, goes_refl, goes_trans, goes_open, goes_closed, spelled-append, kept-append, kept-front, list-of, each-held, space-length, lengths-append}
+use Rattle.sg_sinks.proofs.SpaceLemmas.{space_push}
 
 -- the place in a longer list behind as many of its items
-abbrev clip : ℕ → List Kept → ℕ
+abbrev clip : ℕ → List BufferedEntry → ℕ
 clip k tried = min k (length tried)
 
-take-clip : (k : ℕ) (tried more : List Kept) → take (clip k tried) (tried ++ more) ≡ take k tried
+take-clip : (k : ℕ) (tried more : List BufferedEntry) → take (clip k tried) (tried ++ more) ≡ take k tried
 take-clip k tried more = take-append-le (clip k tried) tried more (omega arith) ∙ take_min k tried
 
-drop-clip : (k : ℕ) (tried more : List Kept) → drop (clip k tried) (tried ++ more) ≡ drop k tried ++ more
+drop-clip : (k : ℕ) (tried more : List BufferedEntry) → drop (clip k tried) (tried ++ more) ≡ drop k tried ++ more
 drop-clip k tried more = drop-append-le (clip k tried) tried more (omega arith) ∙ ap (λ r. r ++ more) (drop_min k tried)
 
 -- all that a call tried, in whatever part it is staged
-pub parted : (list tried : List Kept) (k : ℕ) → (list ++ take k tried) ++ drop k tried ≡ list ++ tried
+pub parted : (list tried : List BufferedEntry) (k : ℕ) → (list ++ take k tried) ++ drop k tried ≡ list ++ tried
 parted list tried k = append_assoc list (take k tried) (drop k tried) ∙ ap (λ r. list ++ r) (take-append-drop k tried)
 
 -- one more is tried
-pub some-more : (list tried more : List Kept) (bytes : List ℕ) → IsListWithSome list tried bytes → IsListWithSome list (tried ++ more) bytes
+pub some-more : (list tried more : List BufferedEntry) (bytes : List ℕ) → IsListWithSome list tried bytes → IsListWithSome list (tried ++ more) bytes
 some-more list tried more bytes some = record {
   taken = clip some.taken tried;
   entries = subst (λ r. IsListOf (map coded (list ++ r)) bytes) (sym (take-clip some.taken tried more)) some.entries;
 }
 
 -- the list is among those of a call
-pub list-some : (list tried all : List Kept) (k : ℕ) (bytes : List ℕ) → list ++ take k tried ≡ all → AreKept (map coded all) → IsList (spelled (map coded all)) bytes → IsListWithSome list tried bytes
+pub list-some : (list tried all : List BufferedEntry) (k : ℕ) (bytes : List ℕ) → list ++ take k tried ≡ all → AreKept (map coded all) → IsList (spelled (map coded all)) bytes → IsListWithSome list tried bytes
 list-some list tried all k bytes same kept is = record { taken = k; entries = subst (λ r. IsListOf (map coded r) bytes) (sym same) (list-of all bytes kept is) }
 
-begins-sized : (capacity : ℕ) (lengths : List ℕ) (buffer : Option BufferState) → HasSize capacity lengths buffer → HasAhead capacity lengths buffer
+begins-sized : (capacity : ℕ) (lengths : List ℕ) (buffer : Option BufferState) → HasBufferSize capacity lengths buffer → HasAhead capacity lengths buffer
 begins-sized capacity lengths None size = size
 begins-sized capacity lengths (Some buffer) size = record { limit = size.limit; count = omega (arith, size.count, size.unstaged); ahead = size.ahead }
 
@@ -55,13 +56,13 @@ begins start works = record {
   worked = works;
   cause = λ failed. absurd (let no : false ≡ true = sym works ∙ failed in cc);
   goes = goes_refl start;
-  within = λ list held. started start.disk (IsListWithSome list []) (λ c left. record { taken = 0; entries = subst (λ (l : List Kept). IsListOf (map coded l) c) (sym (append-nil list)) (each-held start list [] held c left) });
-  holds = λ f list held. record { taken = 0; entries = subst (λ (l : List Kept). HoldsEntries start l []) (sym (append-nil list)) held };
+  within = λ list held. started start.disk (IsListWithSome list []) (λ c left. record { taken = 0; entries = subst (λ (l : List BufferedEntry). IsListOf (map coded l) c) (sym (append-nil list)) (each-held start list [] held c left) });
+  holds = λ f list held. record { taken = 0; entries = subst (λ (l : List BufferedEntry). HoldsEntries start l []) (sym (append-nil list)) held };
   sized = λ f capacity lengths size. subst (λ (l : List ℕ). HasAhead capacity l start.buffer) (sym (append-nil lengths)) (begins-sized capacity lengths start.buffer size);
 }
 
 -- a store that has failed stays as it is
-pub failed-stages : (store : StoreState) (payload : List ℕ) → store.failed ≡ true → Stages store store payload
+pub failed-stages : (store : StoreState) (payload : List ℕ) → store.failed ≡ true → StagesStore store store payload
 failed-stages store payload failed = record {
   goes = goes_refl store;
   before = λ f. refl;
@@ -77,11 +78,11 @@ failed-stages store payload failed = record {
 }
 
 -- a store that isn't a disk-buffer has nothing of a call
-no-buffer : (start store : StoreState) (tried : List Kept) (payload : List ℕ) (kept : Kept) → store.buffer ≡ None → store.failed ≡ false → IsNext start tried payload kept → IsAppending start store tried → ⊥
+no-buffer : (start store : StoreState) (tried : List BufferedEntry) (payload : List ℕ) (kept : BufferedEntry) → store.buffer ≡ None → store.failed ≡ false → IsNextPayload start tried payload kept → IsAppending start store tried → ⊥
 no-buffer start store tried payload kept none works next app =
     subst (λ b. HasAhead next.capacity (next.lengths ++ map length_of tried) b) none (app.sized works next.capacity next.lengths next.size)
 
-pub none-stages : (store : StoreState) (payload : List ℕ) (failed : Bool) → store.failed ≡ failed → store.buffer ≡ None → Stages store store payload
+pub none-stages : (store : StoreState) (payload : List ℕ) (failed : Bool) → store.failed ≡ failed → store.buffer ≡ None → StagesStore store store payload
 none-stages store payload true is none = failed-stages store payload is
 none-stages store payload false is none = record {
   goes = goes_refl store;
@@ -91,7 +92,7 @@ none-stages store payload false is none = record {
 
 module _ {D : Type 0} (state : D → DiskState) (old new : View D) (payload : List ℕ) (small : old.capacity < 2 ^ 64) where
   -- the entry fits
-  fits-behind : (f : Bool) → f ≡ false → (start : StoreState) (tried : List Kept) (kept : Kept) → IsNext start tried payload kept → IsAppending start (buffer_state state f old) tried
+  fits-behind : (f : Bool) → f ≡ false → (start : StoreState) (tried : List BufferedEntry) (kept : BufferedEntry) → IsNextPayload start tried payload kept → IsAppending start (buffer_state state f old) tried
       → (live old.rows.ahead + length payload + 6 ≤ old.capacity) × (length payload ≡ length_of kept) × (old.rows.count + old.rows.staged + 2 < 2 ^ 64)
   fits-behind f works start tried kept next app =
       let ahead = app.sized works next.capacity next.lengths next.size in
@@ -101,23 +102,23 @@ module _ {D : Type 0} (state : D → DiskState) (old new : View D) (payload : Li
       (omega (arith, ahead.limit, ahead.ahead, fits, long), long, omega (arith, ahead.limit, ahead.ahead, ahead.count, fits, many, small))
 
   -- it doesn't
-  pub no-room-stages : (f : Bool) → f ≡ false → SpoolStages state old new payload NoRoom → Stages (buffer_state state f old) (buffer_state state f new) payload
-  no-room-stages f works refuses = subst (λ (v : View D). Stages (buffer_state state f old) (buffer_state state f v) payload) (sym refuses.2) (record {
+  pub no-room-stages : (f : Bool) → f ≡ false → SpoolStages state old new payload NoRoom → StagesStore (buffer_state state f old) (buffer_state state f new) payload
+  no-room-stages f works refuses = subst (λ (v : View D). StagesStore (buffer_state state f old) (buffer_state state f v) payload) (sym refuses.2) (record {
     goes = goes_refl (buffer_state state f old);
     before = λ g. refl;
     stages = λ start tried kept next app. absurd (refuses.1 (fits-behind f works start tried kept next app).0);
   })
 
-  module _ (lasts : Lasts state old new) (leaves : Leaves state old new (λ list staged. list ++ staged)) where
+  module _ (lasts : SpoolLasts state old new) (leaves : LeavesImages state old new (λ list staged. list ++ staged)) where
     -- within the call
-    staged-within : (f : Bool) → f ≡ false → (start : StoreState) (tried : List Kept) (kept : Kept) → IsAppending start (buffer_state state f old) tried
-        → (list : List Kept) → HoldsEntries start list [] → Within start.disk (state new.disk) (IsListWithSome list (tried ++ kept ∷ []))
+    staged-within : (f : Bool) → f ≡ false → (start : StoreState) (tried : List BufferedEntry) (kept : BufferedEntry) → IsAppending start (buffer_state state f old) tried
+        → (list : List BufferedEntry) → HoldsEntries start list [] → Within start.disk (state new.disk) (IsListWithSome list (tried ++ kept ∷ []))
     staged-within f works start tried kept app list held =
         let some = app.holds works list held in
         let k = some.taken in
         let all = parted list tried k in
-        let whole : AreKept (map coded (list ++ tried)) = subst (λ (l : List Kept). AreKept (map coded l)) all some.entries.kept in
-        within_then start.disk (state old.disk) (state new.disk) (IsListWithSome list tried) (IsOneOf (spelled (map coded (list ++ take k tried))) (spelled (map coded (list ++ take k tried)) ++ spelled (map coded (drop k tried)))) (IsListWithSome list (tried ++ kept ∷ []))
+        let whole : AreKept (map coded (list ++ tried)) = subst (λ (l : List BufferedEntry). AreKept (map coded l)) all some.entries.kept in
+        within_then start.disk (state old.disk) (state new.disk) (IsListWithSome list tried) (IsEitherList (spelled (map coded (list ++ take k tried))) (spelled (map coded (list ++ take k tried)) ++ spelled (map coded (drop k tried)))) (IsListWithSome list (tried ++ kept ∷ []))
         (app.within list held)
         (leaves.within (spelled (map coded (list ++ take k tried))) (spelled (map coded (drop k tried))) some.entries.holds)
         (λ c one. some-more list tried (kept ∷ []) c one)
@@ -127,7 +128,7 @@ module _ {D : Type 0} (state : D → DiskState) (old new : View D) (payload : Li
         (subst (λ (e : Entries). IsList e c) (sym (spelled-append (list ++ take k tried) (drop k tried)) ∙ ap (λ l. spelled (map coded l)) all) two)) is)
 
     -- the disk failed
-    pub failed-now : (f : Bool) → f ≡ false → old.closed ≡ false → SpoolStages state old new payload DiskFailed → Stages (buffer_state state f old) (buffer_state state true new) payload
+    pub failed-now : (f : Bool) → f ≡ false → old.closed ≡ false → SpoolStages state old new payload DiskFailed → StagesStore (buffer_state state f old) (buffer_state state true new) payload
     failed-now f works open_ drops = record {
       goes = goes_closed state f old new lasts open_ drops.1;
       before = λ failed. absurd (let no : false ≡ true = sym works ∙ failed in cc);
@@ -143,29 +144,29 @@ module _ {D : Type 0} (state : D → DiskState) (old new : View D) (payload : Li
     }
 
     -- the entry is staged
-    staged-holds : (f : Bool) → f ≡ false → SpoolStages state old new payload Done → (start : StoreState) (tried : List Kept) (kept : Kept) → IsNext start tried payload kept → IsAppending start (buffer_state state f old) tried
-        → (list : List Kept) → HoldsEntries start list [] → HoldsSome (buffer_state state f new) list (tried ++ kept ∷ [])
+    staged-holds : (f : Bool) → f ≡ false → SpoolStages state old new payload Done → (start : StoreState) (tried : List BufferedEntry) (kept : BufferedEntry) → IsNextPayload start tried payload kept → IsAppending start (buffer_state state f old) tried
+        → (list : List BufferedEntry) → HoldsEntries start list [] → HoldsSome (buffer_state state f new) list (tried ++ kept ∷ [])
     staged-holds f works done start tried kept next app list held =
         let some = app.holds works list held in
         let k = some.taken in
         let all = parted list tried k in
-        let whole : AreKept (map coded ((list ++ tried) ++ kept ∷ [])) = kept-append (list ++ tried) (kept ∷ []) (subst (λ (l : List Kept). AreKept (map coded l)) all some.entries.kept) (next.has_spelling, tt) in
+        let whole : AreKept (map coded ((list ++ tried) ++ kept ∷ [])) = kept-append (list ++ tried) (kept ∷ []) (subst (λ (l : List BufferedEntry). AreKept (map coded l)) all some.entries.kept) (next.has_spelling, tt) in
         let every : (n : ℕ) → AreKept (map coded ((list ++ take n (tried ++ kept ∷ [])) ++ drop n (tried ++ kept ∷ []))) =
-        λ n. subst (λ (l : List Kept). AreKept (map coded l)) (append_assoc list tried (kept ∷ []) ∙ sym (parted list (tried ++ kept ∷ []) n)) whole in
+        λ n. subst (λ (l : List BufferedEntry). AreKept (map coded l)) (append_assoc list tried (kept ∷ []) ∙ sym (parted list (tried ++ kept ∷ []) n)) whole in
         ⊎_elim
         (λ one. record {
           taken = clip k tried;
           entries = record {
             holds = subst (λ (e : Entries). HoldsAt (state new.disk) new.rows (spelled (map coded (list ++ take (clip k tried) (tried ++ kept ∷ [])))) e)
                 (ap (λ p. spelled (map coded (drop k tried)) ++ p ∷ []) next.spelled ∙ sym (spelled-append (drop k tried) (kept ∷ [])) ∙ ap (λ l. spelled (map coded l)) (sym (drop-clip k tried (kept ∷ []))))
-                (subst (λ (l : List Kept). HoldsAt (state new.disk) new.rows (spelled (map coded (list ++ l))) (spelled (map coded (drop k tried)) ++ payload ∷ [])) (sym (take-clip k tried (kept ∷ []))) one.0);
+                (subst (λ (l : List BufferedEntry). HoldsAt (state new.disk) new.rows (spelled (map coded (list ++ l))) (spelled (map coded (drop k tried)) ++ payload ∷ [])) (sym (take-clip k tried (kept ∷ []))) one.0);
             kept = every (clip k tried);
           };
         })
         (λ two. record {
           taken = length tried;
           entries = record {
-            holds = subst (λ (l : List Kept). HoldsAt (state new.disk) new.rows (spelled (map coded (list ++ take (length tried) (tried ++ kept ∷ [])))) (spelled (map coded l))) (sym (drop_at tried (kept ∷ []) (length tried) refl))
+            holds = subst (λ (l : List BufferedEntry). HoldsAt (state new.disk) new.rows (spelled (map coded (list ++ take (length tried) (tried ++ kept ∷ [])))) (spelled (map coded l))) (sym (drop_at tried (kept ∷ []) (length tried) refl))
                 (subst (λ (p : List ℕ). HoldsAt (state new.disk) new.rows (spelled (map coded (list ++ take (length tried) (tried ++ kept ∷ [])))) (p ∷ [])) next.spelled
                 (subst (λ (e : Entries). HoldsAt (state new.disk) new.rows e (payload ∷ []))
                 (sym (spelled-append (list ++ take k tried) (drop k tried)) ∙ ap (λ l. spelled (map coded l)) (all ∙ ap (λ r. list ++ r) (sym (take_at tried (kept ∷ []) (length tried) refl)))) two.0));
@@ -174,8 +175,8 @@ module _ {D : Type 0} (state : D → DiskState) (old new : View D) (payload : Li
         })
         (done.5 (spelled (map coded (list ++ take k tried))) (spelled (map coded (drop k tried))) some.entries.holds)
 
-    staged-sized : (f : Bool) → f ≡ false → SpoolStages state old new payload Done → (start : StoreState) (tried : List Kept) (kept : Kept) → IsNext start tried payload kept → IsAppending start (buffer_state state f old) tried
-        → (capacity : ℕ) (lengths : List ℕ) → HasSize capacity lengths start.buffer → IsAheadBy capacity (lengths ++ map length_of (tried ++ kept ∷ [])) (record { capacity = new.capacity; rows = new.rows })
+    staged-sized : (f : Bool) → f ≡ false → SpoolStages state old new payload Done → (start : StoreState) (tried : List BufferedEntry) (kept : BufferedEntry) → IsNextPayload start tried payload kept → IsAppending start (buffer_state state f old) tried
+        → (capacity : ℕ) (lengths : List ℕ) → HasBufferSize capacity lengths start.buffer → IsAheadBy capacity (lengths ++ map length_of (tried ++ kept ∷ [])) (record { capacity = new.capacity; rows = new.rows })
     staged-sized f works done start tried kept next app capacity lengths size =
         let ahead = app.sized works capacity lengths size in
         let fits = fits-behind f works start tried kept next app in
@@ -190,7 +191,7 @@ module _ {D : Type 0} (state : D → DiskState) (old new : View D) (payload : Li
           ahead = omega (arith, more, ahead.ahead, wide, fits.1);
         }
 
-    pub done-stages : (f : Bool) → f ≡ false → SpoolStages state old new payload Done → Stages (buffer_state state f old) (buffer_state state f new) payload
+    pub done-stages : (f : Bool) → f ≡ false → SpoolStages state old new payload Done → StagesStore (buffer_state state f old) (buffer_state state f new) payload
     done-stages f works done = record {
       goes = goes_open state f old new lasts done.2;
       before = λ failed. absurd (let no : false ≡ true = sym works ∙ failed in cc);

@@ -3,19 +3,19 @@ use Rattle.std.specs.Prelude.{◌≡◌, ◌⊎◌, ◌≤◌, ◌<◌, ◌^◌,
 use Rattle.sg_device.specs.Disk.{DiskState, content, WhereTold, Durable, Preserves, Rests, Elapses, Within}
 use Rattle.sg_device.specs.Faults.{Rose}
 use Rattle.sg_codec.specs.declared.kept.Kept.{Kept as Coded}
-use Rattle.sg_stable.specs.Position.{IsPosition, IsDamagedAt as IsDamagedPosition}
+use Rattle.sg_stable.specs.Position.{IsPosition, IsPositionDamagedAt as IsDamagedPosition}
 use Rattle.sg_stable.specs.declared.fault.StoreRefusal.{StoreRefusal}
 use Rattle.sg_stable.specs.declared.fault.StoreRefusal.TheVariants.{Damage as StoreDamage, DiskFault as StoreFault, NoMemory as StoreNoMemory}
-use Rattle.sg_spool.specs.Opening.{IsDamagedAt as IsDamagedSpool}
+use Rattle.sg_spool.specs.Opening.{IsRingDamagedAt as IsDamagedSpool}
 use Rattle.sg_spool.specs.Ring.{Entries, IsLaid}
 use Rattle.sg_spool.specs.declared.places.Places.{Places}
 use Rattle.sg_buffer.specs.Entries.{IsListOf}
-use Rattle.sg_buffer.specs.Found.{IsNoEntry}
+use Rattle.sg_buffer.specs.Found.{IsFirstNoEntry}
 use Rattle.sg_buffer.specs.Heads.{head_of}
-use Rattle.sg_buffer.specs.declared.found.Found.{Found}
-use Rattle.sg_machine.specs.Runs.{Kept}
+use Rattle.sg_buffer.specs.declared.found.BufferEntries.{BufferEntries}
+use Rattle.sg_machine.specs.Runs.{BufferedEntry}
 use Rattle.sg_sinks.specs.Fitting.{space}
-use Rattle.sg_stores.specs.Stores.{StoreState, HoldsEntries, HasSize, coded, length_of}
+use Rattle.sg_stores.specs.Stores.{StoreState, HoldsEntries, HasBufferSize, coded, length_of}
 use Rattle.sg_stores.specs.declared.kind.StoreKind.{StoreKind}
 use Rattle.sg_stores.specs.declared.kind.StoreKind.TheVariants.{Position, Buffer}
 use Rattle.sg_stores.specs.declared.answers.CoreRefusal.{CoreRefusal}
@@ -32,7 +32,7 @@ pub record HasNoEntry (at : ℕ) (bytes : List ℕ) : Type 0 where
   pub places : Places
   pub payloads : Entries
   pub laid : IsLaid places.jump places.head places.end payloads bytes
-  pub none : IsNoEntry places at bytes
+  pub none : IsFirstNoEntry places at bytes
 
 abbrev pub IsDamagedStore : StoreKind → ℕ → List ℕ → Type 0
 IsDamagedStore Position at bytes = IsDamagedPosition at bytes
@@ -41,7 +41,7 @@ IsDamagedStore (Buffer capacity) at bytes = IsDamagedSpool at bytes ⊎ HasNoEnt
 -- Stores that were opened.
 
 -- a position store: it has the position that stood on this disk, and is durable; no fault was counted
-pub record IsOpened (disk : DiskState) (store : StoreState) : Type 0 where
+pub record IsOpenedPosition (disk : DiskState) (store : StoreState) : Type 0 where
   pub position : WhereTold (content disk) (IsPosition store.position)
   pub buffer : store.buffer ≡ None
   pub works : store.failed ≡ false
@@ -50,14 +50,14 @@ pub record IsOpened (disk : DiskState) (store : StoreState) : Type 0 where
   pub well : store.disk.faults ≡ disk.faults
 
 -- a disk-buffer: it has the entries that stood on this disk, all of them in format 2; no fault was counted
-pub record IsRecovered (disk : DiskState) (capacity : ℕ) (found : Found) (store : StoreState) : Type 0 where
-  pub entries : List Kept
+pub record IsRecovered (disk : DiskState) (capacity : ℕ) (found : BufferEntries) (store : StoreState) : Type 0 where
+  pub entries : List BufferedEntry
   pub position : store.position ≡ 0
   pub works : store.failed ≡ false
   pub told : WhereTold (content disk) (IsListOf (map coded entries))
-  pub heads : found.heads.items ≡ map (λ (kept : Kept). head_of (coded kept)) entries
+  pub heads : found.heads.items ≡ map (λ (kept : BufferedEntry). head_of (coded kept)) entries
   pub holds : HoldsEntries store entries []
-  pub sized : HasSize capacity (map length_of entries) store.buffer
+  pub sized : HasBufferSize capacity (map length_of entries) store.buffer
   pub small : space (map length_of entries) < 2 ^ 63
   pub well : store.disk.faults ≡ disk.faults
   -- its disk once it was made durable; from then on each image has these entries
@@ -66,8 +66,8 @@ pub record IsRecovered (disk : DiskState) (capacity : ℕ) (found : Found) (stor
   pub durable : Durable synced
   pub within : Within synced store.disk (IsListOf (map coded entries))
 
-abbrev pub IsOpenedAs : StoreKind → DiskState → Found → StoreState → Type 0
-IsOpenedAs Position disk found store = IsOpened disk store × (found.heads.items ≡ [])
+abbrev pub IsOpenedAs : StoreKind → DiskState → BufferEntries → StoreState → Type 0
+IsOpenedAs Position disk found store = IsOpenedPosition disk store × (found.heads.items ≡ [])
 IsOpenedAs (Buffer capacity) disk found store = IsRecovered disk capacity found store
 
 -- A flag that is set exactly where a call on the disk has answered a fault: while it isn't, the count of faults stands as it did, and
@@ -83,10 +83,10 @@ AllFailByFaults disks stores =
     → slice_get stores s ≡ Some store → FailsByFaults store.failed disk store.disk
 
 -- the stores of these kinds were opened on these disks
-pub record AreOpened (kinds : List StoreKind) (disks : List DiskState) (founds : List Found) (stores : List StoreState) : Type 0 where
+pub record AreOpened (kinds : List StoreKind) (disks : List DiskState) (founds : List BufferEntries) (stores : List StoreState) : Type 0 where
   pub count : length stores ≡ length disks
   pub looked : length founds ≡ length disks
-  pub each : (s : ℕ) (kind : StoreKind) (disk : DiskState) (found : Found) (store : StoreState)
+  pub each : (s : ℕ) (kind : StoreKind) (disk : DiskState) (found : BufferEntries) (store : StoreState)
       → slice_get kinds s ≡ Some kind → slice_get disks s ≡ Some disk
       → slice_get founds s ≡ Some found → slice_get stores s ≡ Some store
       → IsOpenedAs kind disk found store
@@ -108,15 +108,15 @@ pub record RestsInList (old new : DiskState) : Type 0 where
   pub still : Elapses HasSameList old new
 
 -- no image is added; in a disk-buffer none of another list is
-abbrev pub Keeps : StoreKind → DiskState → DiskState → Type 0
-Keeps Position old new = Rests old new
-Keeps (Buffer capacity) old new = RestsInList old new
+abbrev pub KeepsImages : StoreKind → DiskState → DiskState → Type 0
+KeepsImages Position old new = Rests old new
+KeepsImages (Buffer capacity) old new = RestsInList old new
 
 -- the disks come back in order, and hold what they held
 pub record ArePreserved (kinds : List StoreKind) (olds news : List DiskState) : Type 0 where
   pub count : length news ≡ length olds
   pub keeps : (s : ℕ) (kind : StoreKind) (old new : DiskState) → slice_get kinds s ≡ Some kind
-      → slice_get olds s ≡ Some old → slice_get news s ≡ Some new → Keeps kind old new
+      → slice_get olds s ≡ Some old → slice_get news s ≡ Some new → KeepsImages kind old new
   pub later : (s : ℕ) (old new : DiskState) → slice_get olds s ≡ Some old
       → slice_get news s ≡ Some new → old.faults ≤ new.faults
 
@@ -127,7 +127,7 @@ AreStoresBefore count kinds disks =
     → slice_get disks s ≡ Some disk → WhereTold (content disk) (IsStore kind)
 
 -- the lowest damaged store: this one, at this place
-pub record IsDamaged (kinds : List StoreKind) (disks : List DiskState) (s at : ℕ) : Type 0 where
+pub record IsLowestDamaged (kinds : List StoreKind) (disks : List DiskState) (s at : ℕ) : Type 0 where
   pub kind : StoreKind
   pub disk : DiskState
   pub is_kind : slice_get kinds s ≡ Some kind
@@ -145,15 +145,15 @@ pub record HasFaulted (kinds : List StoreKind) (olds news : List DiskState) (s :
   pub before : AreStoresBefore s kinds olds
 
 -- lack of memory is free
-abbrev pub HasReason : List StoreKind → List DiskState → List DiskState → CoreRefusal → Type 0
-HasReason kinds olds news (Damage s at) = IsDamaged kinds olds s at
-HasReason kinds olds news (DiskFault s) = HasFaulted kinds olds news s
-HasReason kinds olds news NoMemory = Unit {0}
+abbrev pub HasOpeningReason : List StoreKind → List DiskState → List DiskState → CoreRefusal → Type 0
+HasOpeningReason kinds olds news (Damage s at) = IsLowestDamaged kinds olds s at
+HasOpeningReason kinds olds news (DiskFault s) = HasFaulted kinds olds news s
+HasOpeningReason kinds olds news NoMemory = Unit {0}
 
 -- why they weren't opened
-pub record IsRefused (kinds : List StoreKind) (olds news : List DiskState) (refusal : CoreRefusal) : Type 0 where
+pub record AreStoresRefused (kinds : List StoreKind) (olds news : List DiskState) (refusal : CoreRefusal) : Type 0 where
   pub preserved : ArePreserved kinds olds news
-  pub reason : HasReason kinds olds news refusal
+  pub reason : HasOpeningReason kinds olds news refusal
 
 -- what the refusal of the store of that number is to the core
 abbrev pub refusal_of : ℕ → StoreRefusal → CoreRefusal

@@ -4,7 +4,7 @@ use Rattle.sg_list.specs.Lists.{change}
 use Rattle.sg_device.specs.Disk.{EachNow, Within}
 use Rattle.sg_device.specs.Faults.{Rose}
 use Rattle.sg_stable.specs.Position.{IsPosition}
-use Rattle.sg_stores.specs.Stores.{StoreState, Goes}
+use Rattle.sg_stores.specs.Stores.{StoreState, StoreGoesOn}
 use Rattle.sg_counter.specs.declared.answers.Stored.{Stored}
 use Rattle.sg_counter.specs.declared.answers.Stored.TheVariants.{Wrote, Unchanged, Broken}
 
@@ -34,11 +34,11 @@ pub record FailsToWrite (old new : StoreState) (position : ℕ) : Type 0 where
   pub cause : old.failed ≡ false → Rose old.disk.faults new.disk.faults
 
 -- what the write of a position comes to, by its answer
-abbrev pub Writes : StoreState → StoreState → ℕ → Stored → Type 0
-Writes old new position (Wrote w) = (old.position ≢ position) × (w ≡ position)
+abbrev pub WritesStored : StoreState → StoreState → ℕ → Stored → Type 0
+WritesStored old new position (Wrote w) = (old.position ≢ position) × (w ≡ position)
     × WritesPosition old new position
-Writes old new position Unchanged = (old.position ≡ position) × (new ≡ old)
-Writes old new position Broken = (old.position ≢ position) × FailsToWrite old new position
+WritesStored old new position Unchanged = (old.position ≡ position) × (new ≡ old)
+WritesStored old new position Broken = (old.position ≢ position) × FailsToWrite old new position
 
 -- the write of a position of the store of that number; the others stay as they are
 pub record WritesAt (olds news : List StoreState) (s position : ℕ) (answer : Stored) : Type 0 where
@@ -47,13 +47,13 @@ pub record WritesAt (olds news : List StoreState) (s position : ℕ) (answer : S
   pub was : slice_get olds s ≡ Some old
   pub others : news ≡ change olds s (λ _. new)
   pub kind : new.buffer ≡ old.buffer
-  pub writes : Writes old new position answer
-  pub goes : Goes old new
+  pub writes : WritesStored old new position answer
+  pub goes : StoreGoesOn old new
 
 -- the store is there, where there is to be one
-abbrev pub IsThere : List StoreState → Option ℕ → Type 0
-IsThere stores None = Unit {0}
-IsThere stores (Some s) = s < length stores
+abbrev pub IsStoreThere : List StoreState → Option ℕ → Type 0
+IsStoreThere stores None = Unit {0}
+IsStoreThere stores (Some s) = s < length stores
 
 -- the position in the store of that number, 0 where there is none
 abbrev pub position_of : Option StoreState → ℕ

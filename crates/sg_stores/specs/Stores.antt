@@ -8,7 +8,7 @@ use Rattle.sg_spool.specs.Places.{live}
 use Rattle.sg_spool.specs.View.{View, HoldsAt}
 use Rattle.sg_spool.specs.declared.rows.Rows.{Rows}
 use Rattle.sg_buffer.specs.Entries.{AreKept, spelled}
-use Rattle.sg_machine.specs.Runs.{Kept}
+use Rattle.sg_machine.specs.Runs.{BufferedEntry}
 use Rattle.sg_sinks.specs.Fitting.{space}
 
 -- of a disk-buffer: its capacity, and the places and numbers of its entries
@@ -34,39 +34,39 @@ buffer_state state failed view = record {
 }
 
 -- it is a disk-buffer
-pub record IsBuffer (store : StoreState) : Type 0 where
+pub record IsBufferStore (store : StoreState) : Type 0 where
   pub position : store.position ≡ 0
   pub there : is_some store.buffer ≡ true
 
 -- the entry as it is spelled, and its length
-abbrev pub coded : Kept → Coded
+abbrev pub coded : BufferedEntry → Coded
 coded kept = record { source = kept.inlet; end = kept.end; flow = kept.flow; message = kept.message }
 
-abbrev pub length_of : Kept → ℕ
+abbrev pub length_of : BufferedEntry → ℕ
 length_of kept = encoded_len kept.message
 
 -- each image has these entries, and those are staged behind them
-abbrev pub HoldsIn : Option BufferState → DiskState → List Kept → List Kept → Type 0
+abbrev pub HoldsIn : Option BufferState → DiskState → List BufferedEntry → List BufferedEntry → Type 0
 HoldsIn None disk list staged = ⊥
 HoldsIn (Some buffer) disk list staged = HoldsAt disk buffer.rows (spelled (map coded list))
     (spelled (map coded staged))
 
-pub record HoldsEntries (store : StoreState) (list staged : List Kept) : Type 0 where
+pub record HoldsEntries (store : StoreState) (list staged : List BufferedEntry) : Type 0 where
   pub holds : HoldsIn store.buffer store.disk list staged
   -- each has a spelling
   pub kept : AreKept (map coded (list ++ staged))
 
 -- Its places are those of entries of these lengths, with nothing staged. This holds whatever the disk tells.
-pub record IsSized (capacity : ℕ) (lengths : List ℕ) (buffer : BufferState) : Type 0 where
+pub record IsBufferSized (capacity : ℕ) (lengths : List ℕ) (buffer : BufferState) : Type 0 where
   pub limit : buffer.capacity ≡ capacity
   pub count : buffer.rows.count ≡ length lengths
   pub listed : live buffer.rows.list ≡ space lengths
   pub ahead : live buffer.rows.ahead ≡ space lengths
   pub unstaged : buffer.rows.staged ≡ 0
 
-abbrev pub HasSize : ℕ → List ℕ → Option BufferState → Type 0
-HasSize capacity lengths None = ⊥
-HasSize capacity lengths (Some buffer) = IsSized capacity lengths buffer
+abbrev pub HasBufferSize : ℕ → List ℕ → Option BufferState → Type 0
+HasBufferSize capacity lengths None = ⊥
+HasBufferSize capacity lengths (Some buffer) = IsBufferSized capacity lengths buffer
 
 -- the same of the entries with those that are staged
 pub record IsAheadBy (capacity : ℕ) (lengths : List ℕ) (buffer : BufferState) : Type 0 where
@@ -80,7 +80,7 @@ HasAhead capacity lengths (Some buffer) = IsAheadBy capacity lengths buffer
 
 -- Time goes on for a disk, and its count of faults doesn't fall. A store that works has counted none, one that fails has its
 -- cause, which is that the count rose, and one that has failed stays so: from an opening on those have failed whose count rose.
-pub record Goes (old new : StoreState) : Type 0 where
+pub record StoreGoesOn (old new : StoreState) : Type 0 where
   pub moves : Moves old.disk new.disk
   pub later : old.disk.faults ≤ new.disk.faults
   pub stays : old.failed ≡ true → new.failed ≡ true
@@ -91,4 +91,4 @@ pub record Goes (old new : StoreState) : Type 0 where
 pub record AllGo (olds news : List StoreState) : Type 0 where
   pub count : length news ≡ length olds
   pub each : (s : ℕ) (old new : StoreState) → slice_get olds s ≡ Some old
-      → slice_get news s ≡ Some new → Goes old new
+      → slice_get news s ≡ Some new → StoreGoesOn old new

@@ -1,13 +1,13 @@
 // A disk-buffer.
 ghost use Rattle.std.specs.Prelude.{◌≡◌, not, false, IfOk, IfErr, Some};
-ghost use Rattle.sg_stores.specs.Advancing.{CanAdvance, Advances};
-ghost use Rattle.sg_stores.specs.Appending.{Stages, Commits};
-ghost use Rattle.sg_stores.specs.Looking.{IsLooked, IsUnlooked, IsUnstaged, Renews};
-ghost use Rattle.sg_stores.specs.Reading.{CanRead, Reads, Stays};
-ghost use Rattle.sg_stores.specs.Stores.{IsBuffer};
+ghost use Rattle.sg_stores.specs.Advancing.{CanAdvance, AdvancesStore};
+ghost use Rattle.sg_stores.specs.Appending.{StagesStore, CommitsStore};
+ghost use Rattle.sg_stores.specs.Looking.{IsLookedBuffer, IsUnlooked, IsUnstaged, Renews};
+ghost use Rattle.sg_stores.specs.Reading.{CanRead, ReadsMessages, StoreStays};
+ghost use Rattle.sg_stores.specs.Stores.{IsBufferStore};
 ghost use Rattle.sg_stores.specs.declared.kind.StoreKind.TheVariants.{Buffer};
 
-use sg_buffer::{Found, first_messages, first_messages_are_kept, look, renew};
+use sg_buffer::{BufferEntries, first_messages, first_messages_are_kept, look, renew};
 use sg_device::Disk;
 use sg_list::Seq;
 use sg_msg::Message;
@@ -40,9 +40,9 @@ impl<D: Disk> BufferStore<D> {
         alloc: Global,
         disk: D,
         capacity: u64,
-    ) -> Result<(BufferStore<D>, Found), (D, StoreRefusal)>
+    ) -> Result<(BufferStore<D>, BufferEntries), (D, StoreRefusal)>
         ensures looked { IfOk result
-            (λ opened. IsLooked (D.state disk) capacity opened.1 opened.0) }
+            (λ opened. IsLookedBuffer (D.state disk) capacity opened.1 opened.0) }
         ensures refused { IfErr result
             (λ e. IsUnlooked (Buffer capacity) (D.state disk) (D.state e.0) e.1) }
     {
@@ -62,10 +62,10 @@ impl<D: Disk> BufferStore<D> {
 
     /// Spells the entries that were found in format 2, where one of them is of format 1. The store has
     /// failed where it refuses.
-    pub fn renew(&mut self, alloc: Global, found: &Found) -> Result<(), StoreRefusal>
+    pub fn renew(&mut self, alloc: Global, found: &BufferEntries) -> Result<(), StoreRefusal>
         requires works { self.old.failed ≡ false }
         requires unstaged { IsUnstaged self.old.buffer }
-        ensures buffer { IsBuffer self.new }
+        ensures buffer { IsBufferStore self.new }
         ensures renews { Renews self.old self.new found.now result }
     {
         if let Err(refusal) = renew(alloc, &mut self.spool, found) {
@@ -84,9 +84,9 @@ impl<D: Disk> BufferStore<D> {
 
     /// Stages the payload of an entry that fits. Whether the store works.
     pub fn stage(&mut self, block: &Block) -> bool
-        ensures buffer { IsBuffer self.new }
+        ensures buffer { IsBufferStore self.new }
         ensures works { result ≡ not self.new.failed }
-        ensures stages { Stages self.old self.new block.now }
+        ensures stages { StagesStore self.old self.new block.now }
     {
         if self.failed {
             return false;
@@ -103,9 +103,9 @@ impl<D: Disk> BufferStore<D> {
 
     /// Commits what is staged. Whether the store works.
     pub fn commit(&mut self) -> bool
-        ensures buffer { IsBuffer self.new }
+        ensures buffer { IsBufferStore self.new }
         ensures works { result ≡ not self.new.failed }
-        ensures commits { Commits self.old self.new }
+        ensures commits { CommitsStore self.old self.new }
     {
         if self.failed {
             return false;
@@ -123,9 +123,9 @@ impl<D: Disk> BufferStore<D> {
     /// Takes the first entries off, which take so many bytes. Whether the store works.
     pub fn advance(&mut self, n: u64, size: u64) -> bool
         requires { CanAdvance (Some self.old) n size }
-        ensures buffer { IsBuffer self.new }
+        ensures buffer { IsBufferStore self.new }
         ensures works { result ≡ not self.new.failed }
-        ensures advances { Advances self.old self.new n size }
+        ensures advances { AdvancesStore self.old self.new n size }
     {
         if self.failed {
             return false;
@@ -142,9 +142,9 @@ impl<D: Disk> BufferStore<D> {
     /// The messages of the first entries, so many.
     pub fn messages(&mut self, alloc: Global, n: u64) -> Result<Seq<Message>, RewriteRefusal>
         requires { CanRead (Some self.old) n }
-        ensures buffer { IsBuffer self.new }
-        ensures stays { Stays self.old self.new }
-        ensures reads { Reads self.old self.new n result }
+        ensures buffer { IsBufferStore self.new }
+        ensures stays { StoreStays self.old self.new }
+        ensures reads { ReadsMessages self.old self.new n result }
     {
         first_messages_are_kept();
         match first_messages(alloc, &mut self.spool, n) {

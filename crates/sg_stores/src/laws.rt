@@ -1,10 +1,10 @@
 // What holds of stores. The functions here do nothing: their contracts are laws.
 ghost use Rattle.std.specs.Prelude.{◌≡◌, List, [], false, length};
 ghost use Rattle.sg_device.specs.Disk.{DiskState};
-ghost use Rattle.sg_buffer.specs.declared.found.Found.{Found};
+ghost use Rattle.sg_buffer.specs.declared.found.BufferEntries.{BufferEntries};
 ghost use Rattle.sg_stores.specs.Appending.{IsAppending};
 ghost use Rattle.sg_stores.specs.Opening.{IsOpenedAs, AreOpened, FailsByFaults, AllFailByFaults};
-ghost use Rattle.sg_stores.specs.Stores.{StoreState, Goes, AllGo};
+ghost use Rattle.sg_stores.specs.Stores.{StoreState, StoreGoesOn, AllGo};
 ghost use Rattle.sg_stores.specs.declared.kind.StoreKind.{StoreKind};
 
 /// At a store that works a call may begin, which has staged nothing so far.
@@ -16,10 +16,10 @@ pub fn appending_begins()
 /// moment: while it works the count of faults stands as it did before the opening, and where it has failed
 /// the count has risen.
 pub fn stores_fail_by_faults()
-    ensures one { (kind : StoreKind) (disk : DiskState) (found : Found) (first now : StoreState)
-        → IsOpenedAs kind disk found first → Goes first now
+    ensures one { (kind : StoreKind) (disk : DiskState) (found : BufferEntries) (first now : StoreState)
+        → IsOpenedAs kind disk found first → StoreGoesOn first now
         → FailsByFaults now.failed disk now.disk }
-    ensures all { (kinds : List StoreKind) (disks : List DiskState) (founds : List Found)
+    ensures all { (kinds : List StoreKind) (disks : List DiskState) (founds : List BufferEntries)
         (first now : List StoreState) → length kinds ≡ length disks
         → AreOpened kinds disks founds first → AllGo first now → AllFailByFaults disks now }
 {}

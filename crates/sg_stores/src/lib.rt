@@ -14,5 +14,5 @@ mod stores;
 pub use answers::CoreRefusal;
 pub use kind::StoreKind;
 pub use laws::{appending_begins, stores_fail_by_faults};
-pub use opening::Opened;
+pub use opening::OpenedStores;
 pub use stores::Stores;

@@ -3,12 +3,12 @@ ghost use Rattle.std.specs.Prelude.{◌≡◌, ◌≤◌, ◌<◌, ◌^◌, [], 
 ghost use Rattle.sg_device.specs.Disk.{DiskState};
 ghost use Rattle.sg_stores.specs.declared.kind.StoreKind.{StoreKind as Kind};
 ghost use Rattle.sg_stores.specs.Looking.{AreOpening, CanRenewAll};
-ghost use Rattle.sg_stores.specs.Opening.{AreOpened, IsRefused, refusal_of};
+ghost use Rattle.sg_stores.specs.Opening.{AreOpened, AreStoresRefused, refusal_of};
 
 use crate::disks::give_back;
 use crate::store::Store;
 use crate::{CoreRefusal, StoreKind, Stores};
-use sg_buffer::Found;
+use sg_buffer::BufferEntries;
 use sg_device::Disk;
 use sg_list::Seq;
 use sg_stable::StoreRefusal;
@@ -16,19 +16,19 @@ use std::alloc::{AllocError, Global};
 use std::collections::VecDeque;
 
 /// The stores of a core, and what was found in its disk-buffers: nothing in a position store.
-pub struct Opened<D: Disk> {
+pub struct OpenedStores<D: Disk> {
     pub stores: Stores<D>,
-    pub found: Seq<Found>,
+    pub found: Seq<BufferEntries>,
 }
 
 // Stores that are opened one after another, with room for so many, and for their disks.
-struct Opening<D: Disk> {
+struct StoresOpening<D: Disk> {
     held: Vec<Store<D>>,
-    found: Vec<Found>,
+    found: Vec<BufferEntries>,
     room: Vec<D>,
 }
 
-fn opening_of<D: Disk>(alloc: Global, count: usize) -> Result<Opening<D>, AllocError>
+fn opening_of<D: Disk>(alloc: Global, count: usize) -> Result<StoresOpening<D>, AllocError>
     ensures held { IfOk result (λ opening. opening.held.items ≡ []) }
     ensures found { IfOk result (λ opening. opening.found.items ≡ []) }
     ensures room { IfOk result (λ opening. opening.room.items ≡ []) }
@@ -39,7 +39,7 @@ fn opening_of<D: Disk>(alloc: Global, count: usize) -> Result<Opening<D>, AllocE
     let found = Vec::with_capacity(alloc, count)?;
     let room = Vec::with_capacity(alloc, count)?;
     match Vec::with_capacity(alloc, count) {
-        Ok(held) => Ok(Opening { held, found, room }),
+        Ok(held) => Ok(StoresOpening { held, found, room }),
         Err(refusal) => {
             room.destroy_empty();
             Err(refusal)
@@ -63,13 +63,13 @@ fn look_all<D: Disk>(
     alloc: Global,
     disks: Vec<D>,
     kinds: &[StoreKind],
-) -> Result<(Stores<D>, Vec<Found>), (Vec<D>, CoreRefusal)>
+) -> Result<(Stores<D>, Vec<BufferEntries>), (Vec<D>, CoreRefusal)>
     requires count { length kinds.now ≡ length disks.items }
     requires few { length disks.items < 2 ^ 32 }
     ensures looked { IfOk result
         (λ opened. AreOpening 0 kinds.now (map D.state disks.items) opened.1.items opened.0) }
     ensures refused { IfErr result
-        (λ e. IsRefused kinds.now (map D.state disks.items) (map D.state e.0.items) e.1) }
+        (λ e. AreStoresRefused kinds.now (map D.state disks.items) (map D.state e.0.items) e.1) }
 {
     let mut opening = match opening_of(alloc, disks.len()) {
         Ok(opening) => opening,
@@ -84,7 +84,7 @@ fn look_all<D: Disk>(
             }
             Err((disk, refusal)) => {
                 let s = opening.held.len() as u32;
-                let Opening {
+                let StoresOpening {
                     held,
                     found: _,
                     room,
@@ -94,7 +94,7 @@ fn look_all<D: Disk>(
         }
     }
     rest.destroy_empty();
-    let Opening { held, found, room } = opening;
+    let StoresOpening { held, found, room } = opening;
     Ok((Stores::new(held, room), found))
 }
 
@@ -102,7 +102,7 @@ fn look_all<D: Disk>(
 fn renew_all<D: Disk>(
     alloc: Global,
     stores: &mut Stores<D>,
-    found: &[Found],
+    found: &[BufferEntries],
 ) -> Result<(), CoreRefusal>
     requires ready { CanRenewAll stores.old }
     requires few { length stores.old < 2 ^ 32 }
@@ -112,7 +112,7 @@ fn renew_all<D: Disk>(
         → AreOpened kinds disks found.now stores.new) }
     ensures refused { IfErr result (λ e. (kinds : List Kind) (disks : List DiskState)
         → AreOpening 0 kinds disks found.now stores.old
-        → IsRefused kinds disks (map (λ store. store.disk) stores.new) e) }
+        → AreStoresRefused kinds disks (map (λ store. store.disk) stores.new) e) }
 {
     for s in 0..stores.len() {
         if let Err(refusal) = stores.renew(alloc, s, &found[s]) {
@@ -131,17 +131,17 @@ impl<D: Disk> Stores<D> {
         alloc: Global,
         disks: Vec<D>,
         kinds: &[StoreKind],
-    ) -> Result<Opened<D>, (Vec<D>, CoreRefusal)>
+    ) -> Result<OpenedStores<D>, (Vec<D>, CoreRefusal)>
         requires count { length kinds.now ≡ length disks.items }
         requires few { length disks.items < 2 ^ 32 }
         ensures opened { IfOk result
             (λ opened. AreOpened kinds.now (map D.state disks.items) opened.found opened.stores) }
         ensures refused { IfErr result
-            (λ e. IsRefused kinds.now (map D.state disks.items) (map D.state e.0.items) e.1) }
+            (λ e. AreStoresRefused kinds.now (map D.state disks.items) (map D.state e.0.items) e.1) }
     {
         let (mut stores, found) = look_all(alloc, disks, kinds)?;
         match renew_all(alloc, &mut stores, &found) {
-            Ok(()) => Ok(Opened {
+            Ok(()) => Ok(OpenedStores {
                 stores,
                 found: Seq::new(found),
             }),

@@ -1,10 +1,10 @@
 // A position store.
 ghost use Rattle.std.specs.Prelude.{◌≡◌, None, IfOk, IfErr};
 ghost use Rattle.sg_stable.specs.Opening.{IsUnwritten};
-ghost use Rattle.sg_stable.specs.Refusal.{HasReason};
-ghost use Rattle.sg_stores.specs.Opening.{IsOpened};
-ghost use Rattle.sg_stores.specs.Positions.{Writes};
-ghost use Rattle.sg_stores.specs.Stores.{Goes};
+ghost use Rattle.sg_stable.specs.Refusal.{HasPositionReason};
+ghost use Rattle.sg_stores.specs.Opening.{IsOpenedPosition};
+ghost use Rattle.sg_stores.specs.Positions.{WritesStored};
+ghost use Rattle.sg_stores.specs.Stores.{StoreGoesOn};
 
 use sg_counter::Stored;
 use sg_device::Disk;
@@ -33,9 +33,9 @@ impl<D: Disk> Model for PositionStore<D> {
 impl<D: Disk> PositionStore<D> {
     /// Opens a store. A refusal gives the disk back.
     pub fn open(disk: D) -> Result<PositionStore<D>, (D, StoreRefusal)>
-        ensures opened { IfOk result (IsOpened (D.state disk)) }
+        ensures opened { IfOk result (IsOpenedPosition (D.state disk)) }
         ensures unwritten { IfErr result (λ e. IsUnwritten (D.state disk) (D.state e.0)) }
-        ensures reason { IfErr result (λ e. HasReason (D.state disk) (D.state e.0) e.1) }
+        ensures reason { IfErr result (λ e. HasPositionReason (D.state disk) (D.state e.0) e.1) }
     {
         let stable = Stable::open(disk)?;
         Ok(PositionStore { stable })
@@ -56,8 +56,8 @@ impl<D: Disk> PositionStore<D> {
     /// Writes a position that isn't the stored one.
     pub fn write(&mut self, position: u64) -> Stored
         ensures buffer { self.new.buffer ≡ None }
-        ensures writes { Writes self.old self.new position result }
-        ensures goes { Goes self.old self.new }
+        ensures writes { WritesStored self.old self.new position result }
+        ensures goes { StoreGoesOn self.old self.new }
     {
         if self.stable.value() == position {
             return Stored::Unchanged;

@@ -1,16 +1,16 @@
 // A store of either kind.
 ghost use Rattle.std.specs.Prelude.{◌≡◌, [], not, false, IfOk, IfErr, Some};
-ghost use Rattle.sg_stores.specs.Advancing.{CanAdvance, Advances};
-ghost use Rattle.sg_stores.specs.Appending.{Stages, Commits};
+ghost use Rattle.sg_stores.specs.Advancing.{CanAdvance, AdvancesStore};
+ghost use Rattle.sg_stores.specs.Appending.{StagesStore, CommitsStore};
 ghost use Rattle.sg_stores.specs.Looking.{IsLookedAs, IsUnlooked, IsUnstaged, Renews};
-ghost use Rattle.sg_stores.specs.Positions.{IsPositionStore, Writes};
-ghost use Rattle.sg_stores.specs.Reading.{CanRead, Reads, Stays};
-ghost use Rattle.sg_stores.specs.Stores.{Goes};
+ghost use Rattle.sg_stores.specs.Positions.{IsPositionStore, WritesStored};
+ghost use Rattle.sg_stores.specs.Reading.{CanRead, ReadsMessages, StoreStays};
+ghost use Rattle.sg_stores.specs.Stores.{StoreGoesOn};
 
 use crate::StoreKind;
 use crate::buffer::BufferStore;
 use crate::position::PositionStore;
-use sg_buffer::Found;
+use sg_buffer::BufferEntries;
 use sg_counter::Stored;
 use sg_device::Disk;
 use sg_list::Seq;
@@ -20,20 +20,20 @@ use sg_stable::StoreRefusal;
 use std::alloc::Global;
 use std::marker::Model;
 
-enum Held<D: Disk> {
+enum StoreForm<D: Disk> {
     Position(PositionStore<D>),
     Buffer(BufferStore<D>),
 }
 
 /// An open store.
 pub struct Store<D: Disk> {
-    held: Held<D>,
+    held: StoreForm<D>,
 }
 
 impl<D: Disk> Model for Store<D> {
     ghost use Rattle.std.specs.Prelude.{◌≡◌, None};
-    ghost use Rattle.sg_stores.specs.Stores.{StoreState, IsBuffer};
-    ghost use Rattle.sg_stores.specs.declared.store.Held.TheVariants.{Position, Buffer};
+    ghost use Rattle.sg_stores.specs.Stores.{StoreState, IsBufferStore};
+    ghost use Rattle.sg_stores.specs.declared.store.StoreForm.TheVariants.{Position, Buffer};
 
     ghost Value = { StoreState };
 
@@ -41,15 +41,15 @@ impl<D: Disk> Model for Store<D> {
 
     ghost invariant = { λ s. elim s.held [
       | Position store ↦ store.buffer ≡ None
-      | Buffer store ↦ IsBuffer store
+      | Buffer store ↦ IsBufferStore store
     ] };
 }
 
 // What is found in a position store.
-fn none_found(alloc: Global) -> Found
+fn none_found(alloc: Global) -> BufferEntries
     ensures { result.heads.items ≡ [] }
 {
-    Found {
+    BufferEntries {
         heads: Vec::new(alloc),
         older: false,
         size: 0,
@@ -63,7 +63,7 @@ impl<D: Disk> Store<D> {
         alloc: Global,
         disk: D,
         kind: StoreKind,
-    ) -> Result<(Store<D>, Found), (D, StoreRefusal)>
+    ) -> Result<(Store<D>, BufferEntries), (D, StoreRefusal)>
         ensures looked { IfOk result (λ opened. IsLookedAs kind (D.state disk) opened.1 opened.0) }
         ensures refused { IfErr result (λ e. IsUnlooked kind (D.state disk) (D.state e.0) e.1) }
     {
@@ -72,7 +72,7 @@ impl<D: Disk> Store<D> {
                 let store = PositionStore::open(disk)?;
                 Ok((
                     Store {
-                        held: Held::Position(store),
+                        held: StoreForm::Position(store),
                     },
                     none_found(alloc),
                 ))
@@ -81,7 +81,7 @@ impl<D: Disk> Store<D> {
                 let (store, found) = BufferStore::open(alloc, disk, capacity)?;
                 Ok((
                     Store {
-                        held: Held::Buffer(store),
+                        held: StoreForm::Buffer(store),
                     },
                     found,
                 ))
@@ -90,14 +90,14 @@ impl<D: Disk> Store<D> {
     }
 
     /// Spells the older entries of a disk-buffer anew.
-    pub fn renew(&mut self, alloc: Global, found: &Found) -> Result<(), StoreRefusal>
+    pub fn renew(&mut self, alloc: Global, found: &BufferEntries) -> Result<(), StoreRefusal>
         requires works { self.old.failed ≡ false }
         requires unstaged { IsUnstaged self.old.buffer }
         ensures { Renews self.old self.new found.now result }
     {
         match &mut self.held {
-            Held::Position(_) => Ok(()),
-            Held::Buffer(store) => store.renew(alloc, found),
+            StoreForm::Position(_) => Ok(()),
+            StoreForm::Buffer(store) => store.renew(alloc, found),
         }
     }
 
@@ -106,8 +106,8 @@ impl<D: Disk> Store<D> {
         ensures { result ≡ self.now.position }
     {
         match &self.held {
-            Held::Position(store) => store.position(),
-            Held::Buffer(_) => 0,
+            StoreForm::Position(store) => store.position(),
+            StoreForm::Buffer(_) => 0,
         }
     }
 
@@ -115,62 +115,62 @@ impl<D: Disk> Store<D> {
         ensures { result ≡ self.now.failed }
     {
         match &self.held {
-            Held::Position(store) => store.failed(),
-            Held::Buffer(store) => store.failed(),
+            StoreForm::Position(store) => store.failed(),
+            StoreForm::Buffer(store) => store.failed(),
         }
     }
 
     pub fn write(&mut self, position: u64) -> Stored
         requires { IsPositionStore (Some self.old) }
         ensures kind { self.new.buffer ≡ self.old.buffer }
-        ensures writes { Writes self.old self.new position result }
-        ensures goes { Goes self.old self.new }
+        ensures writes { WritesStored self.old self.new position result }
+        ensures goes { StoreGoesOn self.old self.new }
     {
         match &mut self.held {
-            Held::Position(store) => store.write(position),
-            Held::Buffer(_) => Stored::Unchanged,
+            StoreForm::Position(store) => store.write(position),
+            StoreForm::Buffer(_) => Stored::Unchanged,
         }
     }
 
     pub fn stage(&mut self, block: &Block) -> bool
         ensures works { result ≡ not self.new.failed }
-        ensures stages { Stages self.old self.new block.now }
+        ensures stages { StagesStore self.old self.new block.now }
     {
         match &mut self.held {
-            Held::Position(store) => !store.failed(),
-            Held::Buffer(store) => store.stage(block),
+            StoreForm::Position(store) => !store.failed(),
+            StoreForm::Buffer(store) => store.stage(block),
         }
     }
 
     pub fn commit(&mut self) -> bool
         ensures works { result ≡ not self.new.failed }
-        ensures commits { Commits self.old self.new }
+        ensures commits { CommitsStore self.old self.new }
     {
         match &mut self.held {
-            Held::Position(store) => !store.failed(),
-            Held::Buffer(store) => store.commit(),
+            StoreForm::Position(store) => !store.failed(),
+            StoreForm::Buffer(store) => store.commit(),
         }
     }
 
     pub fn advance(&mut self, n: u64, size: u64) -> bool
         requires { CanAdvance (Some self.old) n size }
         ensures works { result ≡ not self.new.failed }
-        ensures advances { Advances self.old self.new n size }
+        ensures advances { AdvancesStore self.old self.new n size }
     {
         match &mut self.held {
-            Held::Position(store) => !store.failed(),
-            Held::Buffer(store) => store.advance(n, size),
+            StoreForm::Position(store) => !store.failed(),
+            StoreForm::Buffer(store) => store.advance(n, size),
         }
     }
 
     pub fn messages(&mut self, alloc: Global, n: u64) -> Result<Seq<Message>, RewriteRefusal>
         requires { CanRead (Some self.old) n }
-        ensures stays { Stays self.old self.new }
-        ensures reads { Reads self.old self.new n result }
+        ensures stays { StoreStays self.old self.new }
+        ensures reads { ReadsMessages self.old self.new n result }
     {
         match &mut self.held {
-            Held::Position(_) => Err(RewriteRefusal::NoMemory),
-            Held::Buffer(store) => store.messages(alloc, n),
+            StoreForm::Position(_) => Err(RewriteRefusal::NoMemory),
+            StoreForm::Buffer(store) => store.messages(alloc, n),
         }
     }
 
@@ -179,8 +179,8 @@ impl<D: Disk> Store<D> {
     {
         let Store { held } = self;
         match held {
-            Held::Position(store) => store.into_disk(),
-            Held::Buffer(store) => store.into_disk(),
+            StoreForm::Position(store) => store.into_disk(),
+            StoreForm::Buffer(store) => store.into_disk(),
         }
     }
 }

@@ -3,12 +3,12 @@ ghost use Rattle.std.specs.Prelude.{◌≡◌, ◌≤◌, ◌<◌, [], map, leng
 ghost use Rattle.sg_stores.specs.Advancing.{CanAdvance, AdvancesAt};
 ghost use Rattle.sg_stores.specs.Appending.{StagesAt, CommitsAt};
 ghost use Rattle.sg_stores.specs.Looking.{CanRenew, RenewsAt};
-ghost use Rattle.sg_stores.specs.Positions.{IsPositionStore, IsThere, WritesAt, stored_in};
+ghost use Rattle.sg_stores.specs.Positions.{IsPositionStore, IsStoreThere, WritesAt, stored_in};
 ghost use Rattle.sg_stores.specs.Reading.{CanRead, ReadsAt};
 
 use crate::disks::put_stores;
 use crate::store::Store;
-use sg_buffer::Found;
+use sg_buffer::BufferEntries;
 use sg_counter::Stored;
 use sg_device::Disk;
 use sg_list::Seq;
@@ -53,7 +53,7 @@ impl<D: Disk> Stores<D> {
         &mut self,
         alloc: Global,
         s: usize,
-        found: &Found,
+        found: &BufferEntries,
     ) -> Result<(), StoreRefusal>
         requires { CanRenew (slice_get self.old s) }
         ensures { RenewsAt self.old self.new s found.now result }
@@ -70,7 +70,7 @@ impl<D: Disk> Stores<D> {
 
     /// The position in the store of that number, 0 where there is none, and in a disk-buffer.
     pub fn stored(&self, store: Option<u32>) -> u64
-        requires { IsThere self.now store }
+        requires { IsStoreThere self.now store }
         ensures { result ≡ stored_in self.now store }
     {
         match store {

@@ -5,32 +5,32 @@ use Rattle.std.proofs.lemmas.Bool.{ltb-true, ltb-false, or_cases}
 use Rattle.std.proofs.lemmas.List.{take_all, take_more, drop_more, take-append-drop}
 use Rattle.sg_lex.specs.declared.place.Line.{Line}
 use Rattle.sg_filter.specs.declared.expr.Expr.{Expr}
-use Rattle.sg_tree.specs.Bounds.{reach, all_offers, AreFew}
-use Rattle.sg_tree.specs.Offers.{Top as Statement, top_view}
+use Rattle.sg_tree.specs.Bounds.{reach, all_offers, AreMessagesFew}
+use Rattle.sg_tree.specs.Offers.{TopStatement as Statement, top_view}
 use Rattle.sg_tree.specs.Walk.{Steps}
 use Rattle.sg_tree.specs.declared.tree.Path.{Path, out-Path}
 use Rattle.sg_table.specs.declared.fan.Fan.{Fan}
 use Rattle.sg_table.specs.declared.pipe.Top.{Top}
 use Rattle.sg_table.specs.Fans.{cut, fan}
 use Rattle.sg_table.specs.Forest.{statement_at}
-use Rattle.sg_table.specs.Refused.{IsBounded, IsFirstBeyond}
+use Rattle.sg_table.specs.Refused.{AreOffersBounded, IsFirstBeyond}
 use Rattle.sg_table.specs.Table.{place}
 use Rattle.sg_table.proofs.Parts.{map-last-at}
 
 -- the statements so far have these offers, and are within the bounds
-abbrev pub Sofar : List Expr → List Path → ℕ → ℕ → Type 0
-Sofar named paths i offers = (offers ≡ all_offers (map (top_view named) (take i paths))) × IsBounded (map (top_view named) (take i paths))
+abbrev pub SofarBounded : List Expr → List Path → ℕ → ℕ → Type 0
+SofarBounded named paths i offers = (offers ≡ all_offers (map (top_view named) (take i paths))) × AreOffersBounded (map (top_view named) (take i paths))
 
 abbrev pub IsSofar : List Fan → List Path → List Top → ℕ → ℕ → Type 0
 IsSofar fans paths tops i offers = (named : List Expr) (steps : List Steps) → fans ≡ map fan steps
-    → map (statement_at (place steps)) tops ≡ map (top_view named) paths → Sofar named paths i offers
+    → map (statement_at (place steps)) tops ≡ map (top_view named) paths → SofarBounded named paths i offers
 
 -- one more statement
 offers-last : (tops : List Statement) (top : Statement) → all_offers (tops ++ top ∷ []) ≡ all_offers tops + (reach top.steps 1).offers
 offers-last [] top = omega arith
 offers-last (t ∷ tops) top = omega (arith, offers-last tops top)
 
-few-last : (most : ℕ) (tops : List Statement) (top : Statement) → AreFew most tops → (reach top.steps 1).most ≤ most → AreFew most (tops ++ top ∷ [])
+few-last : (most : ℕ) (tops : List Statement) (top : Statement) → AreMessagesFew most tops → (reach top.steps 1).most ≤ most → AreMessagesFew most (tops ++ top ∷ [])
 few-last most [] top h l = (l, tt)
 few-last most (t ∷ tops) top h l = (h.0, few-last most tops top h.1 l)
 
@@ -77,15 +77,15 @@ sum-out a b h = omega arith
 cut-out : (a : ℕ) → 1024 < cut a → 1024 < a
 cut-out a h = omega arith
 
-pub whole : (named : List Expr) (paths : List Path) (i offers : ℕ) → length paths ≤ i → Sofar named paths i offers → IsBounded (map (top_view named) paths)
-whole named paths i offers h s = subst (λ (ps : List Path). IsBounded (map (top_view named) ps)) (take_all i paths h) s.1
+pub whole : (named : List Expr) (paths : List Path) (i offers : ℕ) → length paths ≤ i → SofarBounded named paths i offers → AreOffersBounded (map (top_view named) paths)
+whole named paths i offers h s = subst (λ (ps : List Path). AreOffersBounded (map (top_view named) ps)) (take_all i paths h) s.1
 
 module _ (named : List Expr) (paths : List Path) (i offers : ℕ) (path : Path) (f : Fan) where
   abbrev here : Statement
   here = top_view named path
 
-  pub sofar-more : Sofar named paths i offers → i < length paths → path ≡ get_or paths i path → f ≡ fan here.steps
-      → cut (offers + f.offers) ≤ 1024 → f.most ≤ 1024 → Sofar named paths (i + 1) (cut (offers + f.offers))
+  pub sofar-more : SofarBounded named paths i offers → i < length paths → path ≡ get_or paths i path → f ≡ fan here.steps
+      → cut (offers + f.offers) ≤ 1024 → f.most ≤ 1024 → SofarBounded named paths (i + 1) (cut (offers + f.offers))
   sofar-more s h e ef few within =
       let r = reach here.steps 1 in
       let next : take (i + 1) paths ≡ take i paths ++ path ∷ [] = take_more paths i path h ∙ ap (λ y. take i paths ++ y ∷ []) (sym e) in
@@ -97,9 +97,9 @@ module _ (named : List Expr) (paths : List Path) (i offers : ℕ) (path : Path) 
       ap (λ x. cut (offers + x)) eo ∙ sum-in offers r.offers less ∙ ap (λ x. x + r.offers) s.0
       ∙ sym (offers-last (map (top_view named) (take i paths)) here) ∙ sym (ap all_offers all) in
       let most : r.most ≤ 1024 = let low : cut r.most ≤ 1024 = subst (λ x. x ≤ 1024) em within in omega (arith, cut-in r.most low, low) in
-      (sum, (omega (arith, sum, few), subst (AreFew 1024) (sym all) (few-last 1024 (map (top_view named) (take i paths)) here s.1.1 most)))
+      (sum, (omega (arith, sum, few), subst (AreMessagesFew 1024) (sym all) (few-last 1024 (map (top_view named) (take i paths)) here s.1.1 most)))
 
-  pub first-beyond : (line : Line) → Sofar named paths i offers → i < length paths → path ≡ get_or paths i path → f ≡ fan here.steps → (out-Path path).line ≡ line
+  pub first-beyond : (line : Line) → SofarBounded named paths i offers → i < length paths → path ≡ get_or paths i path → f ≡ fan here.steps → (out-Path path).line ≡ line
       → (1024 < cut (offers + f.offers)) ⊎ (1024 < f.most) → IsFirstBeyond named paths line
   first-beyond line s h e ef at beyond =
       let r = reach here.steps 1 in

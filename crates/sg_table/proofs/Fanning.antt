@@ -4,7 +4,7 @@ use Rattle.std.specs.Prelude.{◌⊎◌, max, slice_get}
 use Rattle.std.proofs.Math.Nat.{mul-le-mul_left, mul-le-mul_right}
 use Rattle.std.proofs.lemmas.Bool.{cases_order}
 use Rattle.sg_tree.specs.Bounds.{Reach, reach, reach_all, reach_each, beside, greatest, onward}
-use Rattle.sg_tree.specs.Walk.{Steps, Siblings, Choice, none_left, filter, rewrite, deliver, junction, choose, embedded, no_siblings, sibling, otherwise, test}
+use Rattle.sg_tree.specs.Walk.{Steps, Siblings, Choice, none_left, filter, rewrite, parse, deliver, junction, choose, embedded, no_siblings, sibling, otherwise, test}
 use Rattle.sg_table.specs.declared.fan.Fan.{Fan}
 use Rattle.sg_table.specs.Fans.{cut, cut_reach, fan}
 use Rattle.sg_table.specs.Table.{place}
@@ -105,6 +105,7 @@ mutual
   linear none_left n = reach-is (reach none_left n) (scaled n (reach none_left 1)) (omega arith) (omega arith) (omega arith)
   linear (filter decision rest) n = linear rest n
   linear (rewrite rule rest) n = linear rest n
+  linear (parse rule rest) n = linear rest n
   linear (deliver drivers rest) n =
       let e = linear rest n in
       reach-is (reach (deliver drivers rest) n) (scaled n (reach (deliver drivers rest) 1))

@@ -2,16 +2,16 @@
 use Rattle.std.proofs.Common.{◌≡◌, None, Result, Ok, Err, sym, subst}
 use Rattle.sg_filter.proofs.Turning.{only-none}
 use Rattle.sg_outside.specs.World.{WorldState}
-use Rattle.sg_pattern.specs.Builds.{Calls, RefusesNone, calls_by}
+use Rattle.sg_pattern.specs.Builds.{BuilderCalls, RefusesNone, calls_by}
 use Rattle.sg_tree.specs.declared.refusal.PathRefusal.{PathRefusal}
 use Rattle.sg_tree.specs.declared.refusal.PathRefusal.TheVariants.{BadPattern, PatternTooLarge, TooManyOffers, NoMemory}
-use Rattle.sg_table.specs.Patterns.{Patterns}
+use Rattle.sg_table.specs.Patterns.{PatternTexts}
 use Rattle.sg_table.specs.Refused.{TriesForest}
 use Rattle.sg_table.specs.Tried.{AreTried, HasTried, IsTextOrder, TriesList}
 use Rattle.sg_table.proofs.Tries.{bad-first, each-stays, valid-order}
 
-module _ {S : Type 0} (state : S → WorldState) (step : Calls S) (old new : S) (patterns order given : Patterns) where
-  abbrev calls : Calls S
+module _ {S : Type 0} (state : S → WorldState) (step : BuilderCalls S) (old new : S) (patterns order given : PatternTexts) where
+  abbrev calls : BuilderCalls S
   calls = calls_by state step
 
   forest-tried : IsTextOrder patterns order → given ≡ order → HasTried state calls old new given None → AreTried state calls old new patterns × RefusesNone (state old) (state new)

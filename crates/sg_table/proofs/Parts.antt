@@ -8,7 +8,7 @@ use Rattle.sg_filter.specs.Decisions.{Decision, decision_of}
 use Rattle.sg_filter.specs.declared.expr.Expr.{Expr}
 use Rattle.sg_tree.specs.declared.tree.Element.{Element}
 use Rattle.sg_tree.specs.declared.tree.Path.{Path}
-use Rattle.sg_tree.specs.Offers.{Top as Statement, top_view}
+use Rattle.sg_tree.specs.Offers.{TopStatement as Statement, top_view}
 use Rattle.sg_tree.specs.Walk.{Marks, Steps, none_left, sibling, embedded, test}
 use Rattle.sg_tree.specs.Plain.{in_front, element_view, steps_view, siblings_view, choice_view, own_steps}
 use Rattle.sg_tree.specs.Plain as plain
@@ -20,8 +20,9 @@ use Rattle.sg_table.specs.declared.pipe.Pipe.{Pipe}
 use Rattle.sg_table.specs.declared.pipe.Pipe.TheVariants.{End}
 use Rattle.sg_table.specs.Compiled.{Compiled, CompiledBranches, CompiledTests, CompiledTops, IsTopOf, own, choices, other_steps}
 use Rattle.sg_table.specs.Forest.{statement_at}
-use Rattle.sg_table.specs.Table.{Places, marks, siblings_of, branches_at, choice_of, tests_at, steps_at}
+use Rattle.sg_table.specs.Table.{StepsByPlace, marks, siblings_of, branches_at, choice_of, tests_at, steps_at}
 use Rattle.sg_table.proofs.Tables.{branches-same, tests-same, grows-none, grows-more, grows-kept, grows-length, pushed}
+use Rattle.sg_filter.proofs.Turning.{map-last}
 
 pub siblings-own : (named : List Expr) (ps : List Path) → siblings_of (map (own named) ps) ≡ siblings_view named ps
 siblings-own named [] = refl
@@ -45,10 +46,6 @@ behind-none named (p ∷ ps) h = absurd (omega arith)
 pub behind-some : (named : List Expr) (ps : List Path) → (length ps ≡ 0 → ⊥) → embedded (siblings_view named ps) ≡ steps_view named [] ps
 behind-some named [] h = absurd (h refl)
 behind-some named (p ∷ ps) h = refl
-
-map-last : {A B : Type 0} (f : A → B) (xs : List A) (x : A) → map f (xs ++ x ∷ []) ≡ map f xs ++ f x ∷ []
-map-last f [] x = refl
-map-last f (y ∷ xs) x = ap (λ ys. f y ∷ ys) (map-last f xs x)
 
 pub map-last-at : {A B : Type 0} (f : A → B) (xs ys : List A) (x : A) → ys ≡ xs ++ x ∷ [] → map f ys ≡ map f xs ++ f x ∷ []
 map-last-at f xs ys x e = ap (map f) e ∙ map-last f xs x
@@ -120,7 +117,7 @@ ended named old mid new next at els en em c =
 abbrev statement : List ℕ → Bool → Marks → Steps → Statement
 statement sources catchall mark steps = record { sources = sources; catchall = catchall; marks = mark; steps = steps }
 
-tops-same : (f g : Places) (n : ℕ) (same : (k : ℕ) → k < n → f k ≡ g k) (tops : List Top)
+tops-same : (f g : StepsByPlace) (n : ℕ) (same : (k : ℕ) → k < n → f k ≡ g k) (tops : List Top)
     → AllByRecursion (λ top. top.branch.start < n) tops → map (statement_at f) tops ≡ map (statement_at g) tops
 tops-same f g n same [] below = refl
 tops-same f g n same (b ∷ bs) below = ap₂ (λ (s : Steps) (rest : List Statement). statement b.sources.items b.catchall (marks b.branch) s ∷ rest) (same b.branch.start below.0) (tops-same f g n same bs below.1)

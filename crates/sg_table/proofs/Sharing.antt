@@ -3,14 +3,14 @@ use Rattle.std.proofs.Common.{◌≡◌, ℕ, suc, ◌+◌, List, [], ◌∷◌,
 use Rattle.sg_tree.specs.Walk.{Steps}
 use Rattle.sg_table.specs.declared.pipe.Pipe.{Pipe}
 use Rattle.sg_table.specs.Shared.{IsSame, AreSame}
-use Rattle.sg_table.specs.Table.{AreBelow, IsBelow, IsTable, place, read, steps_at, steps_of}
+use Rattle.sg_table.specs.Table.{ArePipesBelow, IsPipeBelow, IsPipeTable, place, read, steps_at, steps_of}
 use Rattle.sg_table.proofs.Tables.{read-append, below-append}
 
 pub same-none : (copies : List Pipe) → copies ≡ [] → AreSame [] copies
-same-none copies e = record { long = ap length e; reads = λ seen. ap (read seen) e; below = λ n h. subst (AreBelow n) (sym e) tt }
+same-none copies e = record { long = ap length e; reads = λ seen. ap (read seen) e; below = λ n h. subst (ArePipesBelow n) (sym e) tt }
 
-split : (n m : ℕ) (xs : List Pipe) (one : Pipe) → m ≡ n + length xs → AreBelow n (xs ++ one ∷ []) → AreBelow n xs × IsBelow m one
-split n m [] one e h = let same : m ≡ n = omega arith in (tt, subst (λ (k : ℕ). IsBelow k one) (sym same) h.0)
+split : (n m : ℕ) (xs : List Pipe) (one : Pipe) → m ≡ n + length xs → ArePipesBelow n (xs ++ one ∷ []) → ArePipesBelow n xs × IsPipeBelow m one
+split n m [] one e h = let same : m ≡ n = omega arith in (tt, subst (λ (k : ℕ). IsPipeBelow k one) (sym same) h.0)
 split n m (x ∷ xs) one e h = let rest = split (suc n) m xs one (omega arith) h.1 in ((h.0, rest.0), rest.1)
 
 pub same-last : (ps qs copies more : List Pipe) (one copy : Pipe) → AreSame ps copies → IsSame one copy → qs ≡ ps ++ one ∷ [] → more ≡ copies ++ copy ∷ [] → AreSame qs more
@@ -21,15 +21,15 @@ same-last ps qs copies more one copy s h ep ec = record {
       ∙ ap (λ (x : Steps). read seen ps ++ x ∷ []) (h.means (place (read seen ps)))
       ∙ sym (read-append seen ps (one ∷ [])) ∙ sym (ap (read seen) ep);
   below = λ n b.
-      let parts = split n (n + length ps) ps one refl (subst (AreBelow n) ep b) in
-      subst (AreBelow n) (sym ec) (below-append n copies copy (n + length ps) (ap (λ k. n + k) (sym s.long)) (s.below n parts.0) (h.below (n + length ps) parts.1));
+      let parts = split n (n + length ps) ps one refl (subst (ArePipesBelow n) ep b) in
+      subst (ArePipesBelow n) (sym ec) (below-append n copies copy (n + length ps) (ap (λ k. n + k) (sym s.long)) (s.below n parts.0) (h.below (n + length ps) parts.1));
 }
   where
     long : length (copies ++ copy ∷ []) ≡ length (ps ++ one ∷ [])
     long = omega (arith, s.long, length-append copies (copy ∷ []), length-append ps (one ∷ []))
 
-pub same-table : (ps copies : List Pipe) → AreSame ps copies → IsTable ps → IsTable copies
-unfolding IsTable
+pub same-table : (ps copies : List Pipe) → AreSame ps copies → IsPipeTable ps → IsPipeTable copies
+unfolding IsPipeTable
 same-table ps copies s t = s.below 0 t
 
 pub same-places : (ps copies : List Pipe) (i : ℕ) → AreSame ps copies → steps_at copies i ≡ steps_at ps i

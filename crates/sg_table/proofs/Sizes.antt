@@ -5,7 +5,7 @@ use Rattle.sg_tree.specs.declared.tree.Element.{Element, fold_out-Element}
 use Rattle.sg_tree.specs.declared.tree.Element.TheOpen.{Element-F}
 use Rattle.sg_tree.specs.declared.tree.Path.{Path}
 use Rattle.sg_filter.specs.declared.expr.Expr.{Expr}
-use Rattle.sg_tree.specs.Walk.{Steps, Siblings, none_left, filter, rewrite, deliver, junction, choose, embedded, size, siblings_size, choice_size}
+use Rattle.sg_tree.specs.Walk.{Steps, Siblings, none_left, filter, rewrite, parse, deliver, junction, choose, embedded, size, siblings_size, choice_size}
 use Rattle.sg_tree.specs.Plain.{in_front, element_step, path_step, element_view, steps_view, siblings_view, choice_view, own_steps}
 use Rattle.sg_tree.proofs.Views.{view-Path}
 use Rattle.sg_table.specs.Compiled.{other_steps}
@@ -18,6 +18,7 @@ pub at-least : (s : Steps) → 2 ≤ size s
 at-least none_left = omega arith
 at-least (filter expr rest) = omega (arith, at-least rest)
 at-least (rewrite rule rest) = omega (arith, at-least rest)
+at-least (parse rule rest) = omega (arith, at-least rest)
 at-least (deliver drivers rest) = omega (arith, at-least rest)
 at-least (junction channels rest) = omega (arith, at-least rest)
 at-least (choose choice rest) = omega (arith, at-least rest)
@@ -26,6 +27,7 @@ at-least (embedded logs) = omega (arith, some-siblings logs)
 step-size : (named : List Expr) (x : Element-F (Steps → Steps) (Siblings → Siblings)) (rest : Steps) → size (element_step named x rest) + 2 ≡ size (element_step named x none_left) + size rest
 step-size named (Element-F.Filter expr) rest = omega arith
 step-size named (Element-F.Rewrite rule) rest = omega arith
+step-size named (Element-F.Parse rule) rest = omega arith
 step-size named (Element-F.Deliver drivers) rest = omega arith
 step-size named (Element-F.Junction channels) rest = omega arith
 step-size named (Element-F.If branches other) rest = omega arith

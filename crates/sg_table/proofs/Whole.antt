@@ -2,7 +2,7 @@
 use Rattle.std.proofs.Common.{◌≡◌, ◌≤◌, ◌++◌, [], ◌∷◌, Err, ◌∙◌, ap, subst, arith, inl, inr}
 use Rattle.sg_device.specs.Faults.{Rose}
 use Rattle.sg_lex.specs.declared.place.Line.{Line}
-use Rattle.sg_pattern.specs.Builds.{Calls, RefusesNone, calls_by, machine_calls}
+use Rattle.sg_pattern.specs.Builds.{BuilderCalls, RefusesNone, calls_by, machine_calls}
 use Rattle.sg_filter.proofs.Turning.{only-more, only-none}
 use Rattle.sg_outside.specs.World.{WorldState, OnlyBuilds}
 use Rattle.sg_filter.specs.Patterns.{AreValid, IsLargeAt}
@@ -10,20 +10,20 @@ use Rattle.sg_tree.specs.declared.forest.Forest.{Forest}
 use Rattle.sg_tree.specs.declared.refusal.PathRefusal.{PathRefusal}
 use Rattle.sg_tree.specs.declared.refusal.PathRefusal.TheVariants.{BadPattern, PatternTooLarge, TooManyOffers, NoMemory}
 use Rattle.sg_table.specs.Fans.{ChecksBounds}
-use Rattle.sg_table.specs.Patterns.{Patterns, Refuses, filters_patterns, rules_patterns, siblings_patterns, patterns_in}
+use Rattle.sg_table.specs.Patterns.{PatternTexts, RefusesPatterns, filters_patterns, rules_patterns, siblings_patterns, patterns_in}
 use Rattle.sg_table.specs.Refused.{IsFirstLarge, RefusesForest, RefusesSome, TriesForest}
 use Rattle.sg_table.specs.Tried.{AreTried, IsRefusedIn, MakesEach, TriesPatterns}
 use Rattle.sg_table.proofs.Patterned.{behind, refused-within}
 use Rattle.sg_table.proofs.Tries.{among-order, each-machine, each-only, each-split, each-valid, machine-stays, not-valid, valid-among, valid-order}
 
-refused-forest : (old new : WorldState) (forest : Forest) (why : PathRefusal) → Refuses old new (patterns_in forest) why → RefusesSome old new forest why
+refused-forest : (old new : WorldState) (forest : Forest) (why : PathRefusal) → RefusesPatterns old new (patterns_in forest) why → RefusesSome old new forest why
 refused-forest old new forest (BadPattern line) r = r
 refused-forest old new forest (PatternTooLarge line) r = r
 refused-forest old new forest (TooManyOffers line) r = absurd r
 refused-forest old new forest NoMemory r = tt
 
 module _ (forest : Forest) where
-  pub refused-path : (old new : WorldState) (why : PathRefusal) → Refuses old new (siblings_patterns forest.filters.items forest.paths.items) why → RefusesSome old new forest why
+  pub refused-path : (old new : WorldState) (why : PathRefusal) → RefusesPatterns old new (siblings_patterns forest.filters.items forest.paths.items) why → RefusesSome old new forest why
   refused-path old new why r =
       let named = forest.filters.items in
       let front = filters_patterns named named ++ rules_patterns named forest.rewrites.items in
@@ -36,13 +36,13 @@ module _ (forest : Forest) where
   refused-bound old new (TooManyOffers line) n h = (n, h)
   refused-bound old new NoMemory n h = tt
 
-module _ {S : Type 0} (state : S → WorldState) (step : Calls S) where
-  abbrev calls : Calls S
+module _ {S : Type 0} (state : S → WorldState) (step : BuilderCalls S) where
+  abbrev calls : BuilderCalls S
   calls = calls_by state step
 
   -- ---- refused when all were tried
 
-  machine-refused : (order : Patterns) (line : Line) (old new : S) → IsRefusedIn state calls order line old new → IsRefusedIn (λ (w : WorldState). w) machine_calls order line (state old) (state new)
+  machine-refused : (order : PatternTexts) (line : Line) (old new : S) → IsRefusedIn state calls order line old new → IsRefusedIn (λ (w : WorldState). w) machine_calls order line (state old) (state new)
   machine-refused order line old new r = record {
     front = r.front;
     one = r.one;
@@ -62,7 +62,7 @@ module _ {S : Type 0} (state : S → WorldState) (step : Calls S) where
   first-refused old new forest (TooManyOffers line) h = absurd h
   first-refused old new forest NoMemory h = tt
 
-  pub first-tries : (A : Type 0) (old new : S) (patterns : Patterns) (why : PathRefusal) → TriesForest state calls old new patterns (Err why) → TriesPatterns state calls {A = A} old new patterns (Err why)
+  pub first-tries : (A : Type 0) (old new : S) (patterns : PatternTexts) (why : PathRefusal) → TriesForest state calls old new patterns (Err why) → TriesPatterns state calls {A = A} old new patterns (Err why)
   first-tries A old new patterns (BadPattern line) h = tt
   first-tries A old new patterns (PatternTooLarge line) h = inl h.1
   first-tries A old new patterns (TooManyOffers line) h = absurd h
@@ -71,14 +71,14 @@ module _ {S : Type 0} (state : S → WorldState) (step : Calls S) where
   -- ---- refused when all had been made once
 
   module _ (old mid new : S) (forest : Forest) where
-    abbrev all : Patterns
+    abbrev all : PatternTexts
     all = patterns_in forest
 
     again : (line : Line) → AreTried state calls old mid all → OnlyBuilds (state mid) (state new) → IsLargeAt all line (state mid) (state new)
         → IsFirstLarge all line (state old) (state new)
     again line t o l =
         let there = among-order all t.order l.one t.sorted.same l.among in
-        let parts = each-split state step old there.before (l.one ∷ there.after) t.reached (subst (λ (xs : Patterns). MakesEach calls old xs t.reached) there.is t.made) in
+        let parts = each-split state step old there.before (l.one ∷ there.after) t.reached (subst (λ (xs : PatternTexts). MakesEach calls old xs t.reached) there.is t.made) in
         let rest = each-only state step parts.mid (l.one ∷ there.after) t.reached parts.behind in
         let on : OnlyBuilds (state parts.mid) (state mid) = only-more _ _ _ rest t.rest in
         let whole : AreValid all = valid-order all t.order t.sorted (each-valid state step old t.order t.reached t.made) in
@@ -132,7 +132,7 @@ module _ {S : Type 0} (state : S → WorldState) (step : Calls S) where
     later-made t o n = (tried-on t.0 o, n ∙ t.1)
 
 -- what refused a pattern let the count rise
-pub large-rose : (patterns : Patterns) (line : Line) (old new : WorldState) → IsFirstLarge patterns line old new → Rose old.build_faults new.build_faults
+pub large-rose : (patterns : PatternTexts) (line : Line) (old new : WorldState) → IsFirstLarge patterns line old new → Rose old.build_faults new.build_faults
 large-rose patterns line old new l =
     let r = l.refused in
     let stayed : r.between.build_faults ≡ old.build_faults = machine-stays old r.front r.between r.made in

@@ -8,7 +8,7 @@ use Rattle.sg_tree.specs.declared.refusal.PathRefusal.{PathRefusal}
 use Rattle.sg_tree.specs.declared.refusal.PathRefusal.TheVariants.{BadPattern, PatternTooLarge, TooManyOffers, NoMemory}
 use Rattle.sg_tree.specs.declared.tree.Path.{Path}
 use Rattle.sg_table.specs.declared.fan.Fan.{Fan}
-use Rattle.sg_table.specs.Refused.{IsBounded, IsFirstBeyond}
+use Rattle.sg_table.specs.Refused.{AreOffersBounded, IsFirstBeyond}
 
 -- 1,025 stands for all greater numbers too
 abbrev pub cut : ℕ → ℕ
@@ -22,7 +22,7 @@ fan steps = cut_reach (reach steps 1)
 
 -- the statements are within the bounds, or the one of that line is the first beyond them
 abbrev pub ChecksBounds : List Expr → List Path → Result Unit PathRefusal → Type 0
-ChecksBounds named paths (Ok done) = IsBounded (map (top_view named) paths)
+ChecksBounds named paths (Ok done) = AreOffersBounded (map (top_view named) paths)
 ChecksBounds named paths (Err (TooManyOffers line)) = IsFirstBeyond named paths line
 ChecksBounds named paths (Err NoMemory) = Unit {0}
 ChecksBounds named paths (Err (BadPattern line)) = ⊥

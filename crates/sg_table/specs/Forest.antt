@@ -1,12 +1,12 @@
 -- The log paths that a table is read back as.
 use Rattle.std.specs.Prelude.{map, length}
-use Rattle.sg_tree.specs.Offers.{Top as Statement, Woods}
+use Rattle.sg_tree.specs.Offers.{TopStatement as Statement, Woods}
 use Rattle.sg_tree.specs.Readings.{inlet_of}
 use Rattle.sg_table.specs.declared.pipe.Top.{Top}
 use Rattle.sg_table.specs.declared.table.Table.{Table}
-use Rattle.sg_table.specs.Table.{Places, marks, steps_at}
+use Rattle.sg_table.specs.Table.{StepsByPlace, marks, steps_at}
 
-abbrev pub statement_at : Places → Top → Statement
+abbrev pub statement_at : StepsByPlace → Top → Statement
 statement_at at top = record { sources = top.sources.items; catchall = top.catchall; marks = marks top.branch; steps = at top.branch.start }
 
 abbrev pub forest_of : Table → Woods

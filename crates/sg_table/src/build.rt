@@ -7,7 +7,7 @@ ghost use Rattle.sg_tree.specs.Offers.{top_view};
 ghost use Rattle.sg_tree.specs.Plain.{choice_view, element_view, in_front, marks as path_marks, own_steps, steps_view};
 ghost use Rattle.sg_tree.specs.Walk.{choose};
 ghost use Rattle.sg_table.specs.Compiled.{Compiled, CompiledBranches, CompiledOther, CompiledTests, CompiledTops, IsTopOf, MadePipe, choices, own};
-ghost use Rattle.sg_table.specs.Patterns.{Makes, choices_patterns, element_patterns, list_patterns, other_patterns, path_patterns, siblings_patterns};
+ghost use Rattle.sg_table.specs.Patterns.{MakesPatterns, choices_patterns, element_patterns, list_patterns, other_patterns, path_patterns, siblings_patterns};
 ghost use Rattle.sg_table.specs.Table.{marks, steps_at};
 
 use crate::copying::copied_numbers;
@@ -62,7 +62,7 @@ fn path<B: Builder>(
 ) -> Result<u32, PathRefusal>
     ensures compiled { IfOk result
         (λ at. Compiled pipes.old.items pipes.new.items at (own_steps named.now path.now)) }
-    ensures makes { Makes (B.state builder.old) (B.state builder.new)
+    ensures makes { MakesPatterns (B.state builder.old) (B.state builder.new)
         (path_patterns named.now path.now) result }
     ensures only { OnlyBuilds (B.state builder.old) (B.state builder.new) }
 {
@@ -84,7 +84,7 @@ fn end<B: Builder>(
 ) -> Result<u32, PathRefusal>
     ensures compiled { IfOk result
         (λ at. Compiled pipes.old.items pipes.new.items at (steps_view named.now [] embedded.now)) }
-    ensures makes { Makes (B.state builder.old) (B.state builder.new)
+    ensures makes { MakesPatterns (B.state builder.old) (B.state builder.new)
         (siblings_patterns named.now embedded.now) result }
     ensures only { OnlyBuilds (B.state builder.old) (B.state builder.new) }
 {
@@ -110,7 +110,7 @@ fn list<B: Builder>(
     requires { next < length pipes.old.items }
     ensures compiled { IfOk result (λ at. Compiled pipes.old.items pipes.new.items at
         (in_front (map (element_view named.now) elements.now) (steps_at pipes.old.items next))) }
-    ensures makes { Makes (B.state builder.old) (B.state builder.new)
+    ensures makes { MakesPatterns (B.state builder.old) (B.state builder.new)
         (list_patterns named.now elements.now) result }
     ensures only { OnlyBuilds (B.state builder.old) (B.state builder.new) }
 {
@@ -137,7 +137,7 @@ fn element<B: Builder>(
     requires { next < length pipes.old.items }
     ensures compiled { IfOk result (λ pipe. MadePipe pipes.old.items pipes.new.items pipe
         (element_view named.now element.now (steps_at pipes.old.items next))) }
-    ensures makes { Makes (B.state builder.old) (B.state builder.new)
+    ensures makes { MakesPatterns (B.state builder.old) (B.state builder.new)
         (element_patterns named.now element.now) result }
     ensures only { OnlyBuilds (B.state builder.old) (B.state builder.new) }
 {
@@ -154,6 +154,10 @@ fn element<B: Builder>(
             }),
             Err(refusal) => Err(refusal),
         },
+        Element::Parse(rule) => {
+            let rule = rule.share(alloc)?;
+            Ok(Pipe::Parse { rule, next })
+        }
         Element::Deliver(drivers) => {
             let drivers = copied_numbers(alloc, drivers)?;
             Ok(Pipe::Deliver { drivers, next })
@@ -182,7 +186,7 @@ fn choice<B: Builder>(
     requires { next < length pipes.old.items }
     ensures compiled { IfOk result (λ pipe. MadePipe pipes.old.items pipes.new.items pipe
         (choose (choice_view named.now branches.now other.now) (steps_at pipes.old.items next))) }
-    ensures makes { Makes (B.state builder.old) (B.state builder.new)
+    ensures makes { MakesPatterns (B.state builder.old) (B.state builder.new)
         (choices_patterns named.now branches.now ++ other_patterns named.now other.now) result }
     ensures only { OnlyBuilds (B.state builder.old) (B.state builder.new) }
 {
@@ -206,7 +210,7 @@ fn siblings<B: Builder>(
 ) -> Result<Vec<Branch>, PathRefusal>
     ensures compiled { IfOk result (λ branches. CompiledBranches pipes.old.items pipes.new.items
         branches.items (map (own named.now) paths.now)) }
-    ensures makes { Makes (B.state builder.old) (B.state builder.new)
+    ensures makes { MakesPatterns (B.state builder.old) (B.state builder.new)
         (siblings_patterns named.now paths.now) result }
     ensures only { OnlyBuilds (B.state builder.old) (B.state builder.new) }
 {
@@ -230,7 +234,7 @@ fn tests<B: Builder>(
 ) -> Result<Vec<Test>, PathRefusal>
     ensures compiled { IfOk result (λ tests. CompiledTests pipes.old.items pipes.new.items
         tests.items (choices named.now branches.now)) }
-    ensures makes { Makes (B.state builder.old) (B.state builder.new)
+    ensures makes { MakesPatterns (B.state builder.old) (B.state builder.new)
         (choices_patterns named.now branches.now) result }
     ensures only { OnlyBuilds (B.state builder.old) (B.state builder.new) }
 {
@@ -257,7 +261,7 @@ fn test<B: Builder>(
     ensures filter { IfOk result (λ test. test.filter ≡ decision_of named.now expr.now) }
     ensures compiled { IfOk result (λ test. Compiled pipes.old.items pipes.new.items test.start
         (steps_view named.now elements.now [])) }
-    ensures makes { Makes (B.state builder.old) (B.state builder.new)
+    ensures makes { MakesPatterns (B.state builder.old) (B.state builder.new)
         (patterns_of named.now expr.now ++ list_patterns named.now elements.now) result }
     ensures only { OnlyBuilds (B.state builder.old) (B.state builder.new) }
 {
@@ -282,7 +286,7 @@ fn branch<B: Builder>(
 ) -> Result<u32, PathRefusal>
     ensures compiled { IfOk result
         (λ at. Compiled pipes.old.items pipes.new.items at (steps_view named.now elements.now [])) }
-    ensures makes { Makes (B.state builder.old) (B.state builder.new)
+    ensures makes { MakesPatterns (B.state builder.old) (B.state builder.new)
         (list_patterns named.now elements.now) result }
     ensures only { OnlyBuilds (B.state builder.old) (B.state builder.new) }
 {
@@ -301,7 +305,7 @@ fn other_start<B: Builder>(
 ) -> Result<Option<u32>, PathRefusal>
     ensures compiled { IfOk result
         (λ start. CompiledOther named.now pipes.old.items pipes.new.items start other.now) }
-    ensures makes { Makes (B.state builder.old) (B.state builder.new)
+    ensures makes { MakesPatterns (B.state builder.old) (B.state builder.new)
         (other_patterns named.now other.now) result }
     ensures only { OnlyBuilds (B.state builder.old) (B.state builder.new) }
 {
@@ -325,7 +329,7 @@ fn top<B: Builder>(
     ensures top { IfOk result (IsTopOf one.now) }
     ensures compiled { IfOk result (λ top. Compiled pipes.old.items pipes.new.items top.branch.start
         (own_steps named.now one.now)) }
-    ensures makes { Makes (B.state builder.old) (B.state builder.new)
+    ensures makes { MakesPatterns (B.state builder.old) (B.state builder.new)
         (path_patterns named.now one.now) result }
     ensures only { OnlyBuilds (B.state builder.old) (B.state builder.new) }
 {
@@ -349,7 +353,7 @@ pub(crate) fn tops<B: Builder>(
 ) -> Result<Vec<Top>, PathRefusal>
     ensures compiled { IfOk result (λ tops. CompiledTops pipes.old.items pipes.new.items tops.items
         (map (top_view named.now) paths.now)) }
-    ensures makes { Makes (B.state builder.old) (B.state builder.new)
+    ensures makes { MakesPatterns (B.state builder.old) (B.state builder.new)
         (siblings_patterns named.now paths.now) result }
     ensures only { OnlyBuilds (B.state builder.old) (B.state builder.new) }
 {

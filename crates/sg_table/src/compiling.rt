@@ -6,7 +6,7 @@ ghost use Rattle.sg_filter.specs.Patterns.{AreValid};
 ghost use Rattle.sg_tree.specs.Offers.{woods_of};
 ghost use Rattle.sg_table.specs.Forest.{forest_of};
 ghost use Rattle.sg_table.specs.Patterns.{patterns_in};
-ghost use Rattle.sg_table.specs.Refused.{IsBounded, RefusesForest, RefusesSome};
+ghost use Rattle.sg_table.specs.Refused.{AreOffersBounded, RefusesForest, RefusesSome};
 ghost use Rattle.sg_table.specs.Tried.{TriesPatterns};
 
 use crate::Table;
@@ -21,7 +21,7 @@ use std::alloc::Global;
 // The table of a tree whose patterns were all made before, or what was refused where its making stopped.
 fn made<B: Builder>(alloc: Global, forest: &Forest, builder: &mut B) -> Result<Table, PathRefusal>
     ensures meaning { IfOk result (λ table. forest_of table ≡ woods_of forest.now) }
-    ensures bound { IfOk result (λ _. IsBounded (woods_of forest.now).tops) }
+    ensures bound { IfOk result (λ _. AreOffersBounded (woods_of forest.now).tops) }
     ensures refused { IfErr result
         (RefusesSome (B.state builder.old) (B.state builder.new) forest.now) }
     ensures stays { OnOk result (RefusesNone (B.state builder.old) (B.state builder.new)) }
@@ -58,7 +58,7 @@ pub fn compile<B: Builder>(
 ) -> Result<Table, PathRefusal>
     ensures meaning { IfOk result (λ table. forest_of table ≡ woods_of forest.now) }
     ensures valid { IfOk result (λ _. AreValid (patterns_in forest.now)) }
-    ensures bound { IfOk result (λ _. IsBounded (woods_of forest.now).tops) }
+    ensures bound { IfOk result (λ _. AreOffersBounded (woods_of forest.now).tops) }
     ensures refused { IfErr result
         (RefusesForest (B.state builder.old) (B.state builder.new) forest.now) }
     ensures tries { TriesPatterns B.state (calls_by B.state B.build_step) builder.old builder.new

@@ -144,6 +144,7 @@ pub(crate) fn fan_of(fans: &[Fan], pipe: &Pipe) -> Fan
         Pipe::End => leaving(),
         Pipe::Filter { next, .. } => fan_at(fans, *next),
         Pipe::Rewrite { next, .. } => fan_at(fans, *next),
+        Pipe::Parse { next, .. } => fan_at(fans, *next),
         Pipe::Deliver { drivers, next } => {
             let rest = fan_at(fans, *next);
             Fan {

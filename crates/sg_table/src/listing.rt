@@ -3,7 +3,7 @@ ghost use Rattle.std.specs.Prelude.{◌≡◌, [], ◌∷◌, ◌++◌, List, ma
 ghost use Rattle.sg_filter.specs.Patterns.{joined, patterns_within};
 ghost use Rattle.sg_filter.specs.declared.expr.Expr.{Expr as AnExpr};
 ghost use Rattle.sg_filter.specs.declared.expr.Expr.TheVariants as expr;
-ghost use Rattle.sg_table.specs.Listing.{Lists, Pushes, all_patterns, waiting_patterns};
+ghost use Rattle.sg_table.specs.Listing.{ListsPatterns, PushesPatterns, all_patterns, waiting_patterns};
 ghost use Rattle.sg_table.specs.Patterns.{branch_patterns, choices_patterns, condition_patterns, element_patterns, list_patterns, op_patterns, other_patterns, path_patterns, patterns_in, rule_patterns, rules_patterns, siblings_patterns};
 
 use sg_filter::Expr;
@@ -15,7 +15,7 @@ use std::alloc::{AllocError, Global};
 
 /// What is still to be listed. In an expression names are followed so many deep.
 #[derive(Drop)]
-pub(crate) enum Waiting<'f> {
+pub(crate) enum ListingTask<'f> {
     Pattern(&'f PatternText),
     One { expr: &'f Expr, depth: usize },
     Several { exprs: &'f [Expr], depth: usize },
@@ -29,7 +29,7 @@ pub(crate) enum Waiting<'f> {
 pub(crate) struct Listing<'f> {
     pub(crate) found: Vec<&'f PatternText>,
     /// What is still to be listed, the first last.
-    pub(crate) waiting: Vec<Waiting<'f>>,
+    pub(crate) waiting: Vec<ListingTask<'f>>,
 }
 
 // The first, and those behind it.
@@ -44,7 +44,7 @@ fn first_of<T>(items: &[T]) -> Option<(&T, &[T])>
 }
 
 impl<'f> Listing<'f> {
-    fn push(&mut self, one: Waiting<'f>) -> Result<(), AllocError>
+    fn push(&mut self, one: ListingTask<'f>) -> Result<(), AllocError>
         ensures { OnOk result ((self.new.waiting.items ≡ self.old.waiting.items ++ one.entry ∷ [])
             × (self.new.found ≡ self.old.found)) }
     {
@@ -57,13 +57,13 @@ impl<'f> Listing<'f> {
         named: &'f [Expr],
         condition: &'f Option<Expr>,
     ) -> Result<(), AllocError>
-        ensures { OnOk result (
-            Pushes named.now (condition_patterns named.now condition.now) self.old self.new) }
+        ensures { OnOk result (PushesPatterns named.now
+            (condition_patterns named.now condition.now) self.old self.new) }
     {
         match condition {
             Some(expr) => {
                 let depth = named.len();
-                self.push(Waiting::One { expr, depth })?;
+                self.push(ListingTask::One { expr, depth })?;
                 Ok(())
             }
             None => Ok(()),
@@ -72,11 +72,11 @@ impl<'f> Listing<'f> {
 
     fn push_op(&mut self, op: &'f Op) -> Result<(), AllocError>
         ensures { OnOk result ((named : List AnExpr)
-            → Pushes named (op_patterns op.now) self.old self.new) }
+            → PushesPatterns named (op_patterns op.now) self.old self.new) }
     {
         match op {
             Op::Subst { pattern, .. } => {
-                self.push(Waiting::Pattern(pattern))?;
+                self.push(ListingTask::Pattern(pattern))?;
                 Ok(())
             }
             Op::Set { .. } => Ok(()),
@@ -90,7 +90,7 @@ impl<'f> Listing<'f> {
 
     fn push_rule(&mut self, named: &'f [Expr], rule: &'f RewriteRule) -> Result<(), AllocError>
         ensures { OnOk result (
-            Pushes named.now (rule_patterns named.now rule.now) self.old self.new) }
+            PushesPatterns named.now (rule_patterns named.now rule.now) self.old self.new) }
     {
         self.push_op(&rule.op)?;
         self.push_condition(named, &rule.condition)?;
@@ -99,11 +99,11 @@ impl<'f> Listing<'f> {
 
     fn push_other(&mut self, other: &'f Option<Vec<Element>>) -> Result<(), AllocError>
         ensures { OnOk result ((named : List AnExpr)
-            → Pushes named (other_patterns named other.now) self.old self.new) }
+            → PushesPatterns named (other_patterns named other.now) self.old self.new) }
     {
         match other {
             Some(elements) => {
-                self.push(Waiting::Elements(elements.as_slice()))?;
+                self.push(ListingTask::Elements(elements.as_slice()))?;
                 Ok(())
             }
             None => Ok(()),
@@ -115,32 +115,33 @@ impl<'f> Listing<'f> {
         branches: &'f [(Expr, Vec<Element>)],
         other: &'f Option<Vec<Element>>,
     ) -> Result<(), AllocError>
-        ensures { OnOk result ((named : List AnExpr) → Pushes named
+        ensures { OnOk result ((named : List AnExpr) → PushesPatterns named
             (choices_patterns named branches.now ++ other_patterns named other.now)
             self.old self.new) }
     {
         self.push_other(other)?;
-        self.push(Waiting::Branches(branches))?;
+        self.push(ListingTask::Branches(branches))?;
         Ok(())
     }
 
     fn push_element(&mut self, named: &'f [Expr], element: &'f Element) -> Result<(), AllocError>
         ensures { OnOk result (
-            Pushes named.now (element_patterns named.now element.now) self.old self.new) }
+            PushesPatterns named.now (element_patterns named.now element.now) self.old self.new) }
     {
         match element {
             Element::Filter(expr) => {
                 let depth = named.len();
-                self.push(Waiting::One { expr, depth })?;
+                self.push(ListingTask::One { expr, depth })?;
                 Ok(())
             }
             Element::Rewrite(rule) => {
                 self.push_rule(named, rule)?;
                 Ok(())
             }
+            Element::Parse(_) => Ok(()),
             Element::Deliver(_) => Ok(()),
             Element::Junction(channels) => {
-                self.push(Waiting::Paths(channels.as_slice()))?;
+                self.push(ListingTask::Paths(channels.as_slice()))?;
                 Ok(())
             }
             Element::If { branches, other } => {
@@ -152,7 +153,7 @@ impl<'f> Listing<'f> {
 
     // The expression of a name.
     fn push_named(&mut self, named: &'f [Expr], place: u32, depth: usize) -> Result<(), AllocError>
-        ensures { OnOk result (Pushes named.now
+        ensures { OnOk result (PushesPatterns named.now
             (patterns_within depth named.now (expr.Named place)) self.old self.new) }
     {
         if depth == 0 {
@@ -161,7 +162,7 @@ impl<'f> Listing<'f> {
         match at(named, place as usize) {
             None => Ok(()),
             Some(one) => {
-                self.push(Waiting::One {
+                self.push(ListingTask::One {
                     expr: one,
                     depth: depth - 1,
                 })?;
@@ -177,11 +178,11 @@ impl<'f> Listing<'f> {
         depth: usize,
     ) -> Result<(), AllocError>
         ensures { OnOk result (
-            Pushes named.now (patterns_within depth named.now expr.now) self.old self.new) }
+            PushesPatterns named.now (patterns_within depth named.now expr.now) self.old self.new) }
     {
         match expr {
             Expr::Field { pattern, .. } => {
-                self.push(Waiting::Pattern(pattern))?;
+                self.push(ListingTask::Pattern(pattern))?;
                 Ok(())
             }
             Expr::Named(place) => {
@@ -190,17 +191,17 @@ impl<'f> Listing<'f> {
             }
             Expr::And(terms) => {
                 let exprs = terms.as_slice();
-                self.push(Waiting::Several { exprs, depth })?;
+                self.push(ListingTask::Several { exprs, depth })?;
                 Ok(())
             }
             Expr::Or(terms) => {
                 let exprs = terms.as_slice();
-                self.push(Waiting::Several { exprs, depth })?;
+                self.push(ListingTask::Several { exprs, depth })?;
                 Ok(())
             }
             Expr::Not(term) => {
                 let expr = term.get();
-                self.push(Waiting::One { expr, depth })?;
+                self.push(ListingTask::One { expr, depth })?;
                 Ok(())
             }
             Expr::Facility(_) => Ok(()),
@@ -212,14 +213,14 @@ impl<'f> Listing<'f> {
 
     fn open_exprs(&mut self, exprs: &'f [Expr], depth: usize) -> Result<(), AllocError>
         ensures { OnOk result ((named : List AnExpr)
-            → Pushes named (joined (map (patterns_within depth named) exprs.now))
+            → PushesPatterns named (joined (map (patterns_within depth named) exprs.now))
             self.old self.new) }
     {
         match first_of(exprs) {
             None => Ok(()),
             Some((expr, exprs)) => {
-                self.push(Waiting::Several { exprs, depth })?;
-                self.push(Waiting::One { expr, depth })?;
+                self.push(ListingTask::Several { exprs, depth })?;
+                self.push(ListingTask::One { expr, depth })?;
                 Ok(())
             }
         }
@@ -227,12 +228,12 @@ impl<'f> Listing<'f> {
 
     fn open_rules(&mut self, named: &'f [Expr], rules: &'f [RewriteRule]) -> Result<(), AllocError>
         ensures { OnOk result (
-            Pushes named.now (rules_patterns named.now rules.now) self.old self.new) }
+            PushesPatterns named.now (rules_patterns named.now rules.now) self.old self.new) }
     {
         match first_of(rules) {
             None => Ok(()),
             Some((rule, rules)) => {
-                self.push(Waiting::Rules(rules))?;
+                self.push(ListingTask::Rules(rules))?;
                 self.push_rule(named, rule)?;
                 Ok(())
             }
@@ -245,12 +246,12 @@ impl<'f> Listing<'f> {
         elements: &'f [Element],
     ) -> Result<(), AllocError>
         ensures { OnOk result (
-            Pushes named.now (list_patterns named.now elements.now) self.old self.new) }
+            PushesPatterns named.now (list_patterns named.now elements.now) self.old self.new) }
     {
         match first_of(elements) {
             None => Ok(()),
             Some((element, elements)) => {
-                self.push(Waiting::Elements(elements))?;
+                self.push(ListingTask::Elements(elements))?;
                 self.push_element(named, element)?;
                 Ok(())
             }
@@ -263,11 +264,11 @@ impl<'f> Listing<'f> {
         branch: &'f (Expr, Vec<Element>),
     ) -> Result<(), AllocError>
         ensures { OnOk result (
-            Pushes named.now (branch_patterns named.now branch.now) self.old self.new) }
+            PushesPatterns named.now (branch_patterns named.now branch.now) self.old self.new) }
     {
         let depth = named.len();
-        self.push(Waiting::Elements(branch.1.as_slice()))?;
-        self.push(Waiting::One {
+        self.push(ListingTask::Elements(branch.1.as_slice()))?;
+        self.push(ListingTask::One {
             expr: &branch.0,
             depth,
         })?;
@@ -280,12 +281,12 @@ impl<'f> Listing<'f> {
         branches: &'f [(Expr, Vec<Element>)],
     ) -> Result<(), AllocError>
         ensures { OnOk result (
-            Pushes named.now (choices_patterns named.now branches.now) self.old self.new) }
+            PushesPatterns named.now (choices_patterns named.now branches.now) self.old self.new) }
     {
         match first_of(branches) {
             None => Ok(()),
             Some((branch, branches)) => {
-                self.push(Waiting::Branches(branches))?;
+                self.push(ListingTask::Branches(branches))?;
                 self.push_branch(named, branch)?;
                 Ok(())
             }
@@ -294,21 +295,21 @@ impl<'f> Listing<'f> {
 
     fn push_path(&mut self, path: &'f Path) -> Result<(), AllocError>
         ensures { OnOk result ((named : List AnExpr)
-            → Pushes named (path_patterns named path.now) self.old self.new) }
+            → PushesPatterns named (path_patterns named path.now) self.old self.new) }
     {
-        self.push(Waiting::Paths(path.embedded.as_slice()))?;
-        self.push(Waiting::Elements(path.elements.as_slice()))?;
+        self.push(ListingTask::Paths(path.embedded.as_slice()))?;
+        self.push(ListingTask::Elements(path.elements.as_slice()))?;
         Ok(())
     }
 
     fn open_paths(&mut self, paths: &'f [Path]) -> Result<(), AllocError>
         ensures { OnOk result ((named : List AnExpr)
-            → Pushes named (siblings_patterns named paths.now) self.old self.new) }
+            → PushesPatterns named (siblings_patterns named paths.now) self.old self.new) }
     {
         match first_of(paths) {
             None => Ok(()),
             Some((path, paths)) => {
-                self.push(Waiting::Paths(paths))?;
+                self.push(ListingTask::Paths(paths))?;
                 self.push_path(path)?;
                 Ok(())
             }
@@ -317,42 +318,42 @@ impl<'f> Listing<'f> {
 
     fn list(&mut self, pattern: &'f PatternText) -> Result<(), AllocError>
         ensures { OnOk result ((named : List AnExpr)
-            → Lists named (pattern.now ∷ []) self.old self.new) }
+            → ListsPatterns named (pattern.now ∷ []) self.old self.new) }
     {
         self.found.push(pattern)?;
         Ok(())
     }
 
-    fn turn(&mut self, named: &'f [Expr], one: Waiting<'f>) -> Result<(), AllocError>
+    fn turn(&mut self, named: &'f [Expr], one: ListingTask<'f>) -> Result<(), AllocError>
         ensures { OnOk result (
-            Lists named.now (waiting_patterns named.now one.entry) self.old self.new) }
+            ListsPatterns named.now (waiting_patterns named.now one.entry) self.old self.new) }
     {
         match one {
-            Waiting::Pattern(pattern) => {
+            ListingTask::Pattern(pattern) => {
                 self.list(pattern)?;
                 Ok(())
             }
-            Waiting::One { expr, depth } => {
+            ListingTask::One { expr, depth } => {
                 self.open_expr(named, expr, depth)?;
                 Ok(())
             }
-            Waiting::Several { exprs, depth } => {
+            ListingTask::Several { exprs, depth } => {
                 self.open_exprs(exprs, depth)?;
                 Ok(())
             }
-            Waiting::Rules(rules) => {
+            ListingTask::Rules(rules) => {
                 self.open_rules(named, rules)?;
                 Ok(())
             }
-            Waiting::Elements(elements) => {
+            ListingTask::Elements(elements) => {
                 self.open_elements(named, elements)?;
                 Ok(())
             }
-            Waiting::Branches(branches) => {
+            ListingTask::Branches(branches) => {
                 self.open_branches(named, branches)?;
                 Ok(())
             }
-            Waiting::Paths(paths) => {
+            ListingTask::Paths(paths) => {
                 self.open_paths(paths)?;
                 Ok(())
             }
@@ -370,9 +371,9 @@ fn begun<'f>(alloc: Global, forest: &'f Forest) -> Result<Listing<'f>, AllocErro
     };
     let exprs = forest.filters.as_slice();
     let depth = exprs.len();
-    listing.push(Waiting::Paths(forest.paths.as_slice()))?;
-    listing.push(Waiting::Rules(forest.rewrites.as_slice()))?;
-    listing.push(Waiting::Several { exprs, depth })?;
+    listing.push(ListingTask::Paths(forest.paths.as_slice()))?;
+    listing.push(ListingTask::Rules(forest.rewrites.as_slice()))?;
+    listing.push(ListingTask::Several { exprs, depth })?;
     Ok(listing)
 }
 

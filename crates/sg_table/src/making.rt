@@ -6,7 +6,7 @@ ghost use Rattle.sg_filter.specs.Patterns.{patterns_of};
 ghost use Rattle.sg_rewrite.specs.Ops.{change_of};
 ghost use Rattle.sg_tree.specs.Rules.{condition_of, rule_of};
 ghost use Rattle.sg_tree.specs.Sound.{op_sound};
-ghost use Rattle.sg_table.specs.Patterns.{Makes, condition_patterns, op_patterns, rule_patterns};
+ghost use Rattle.sg_table.specs.Patterns.{MakesPatterns, condition_patterns, op_patterns, rule_patterns};
 
 use sg_filter::{Expr, Filter};
 use sg_pattern::Builder;
@@ -21,7 +21,7 @@ pub(crate) fn make_filter<B: Builder>(
     expr: &Expr,
 ) -> Result<Filter, PathRefusal>
     ensures made { IfOk result (λ filter. filter ≡ decision_of named.now expr.now) }
-    ensures makes { Makes (B.state builder.old) (B.state builder.new)
+    ensures makes { MakesPatterns (B.state builder.old) (B.state builder.new)
         (patterns_of named.now expr.now) result }
     ensures only { OnlyBuilds (B.state builder.old) (B.state builder.new) }
 {
@@ -38,7 +38,7 @@ fn make_condition<B: Builder>(
     condition: &Option<Expr>,
 ) -> Result<Option<Filter>, PathRefusal>
     ensures made { IfOk result (λ filter. filter ≡ condition_of named.now condition.now) }
-    ensures makes { Makes (B.state builder.old) (B.state builder.new)
+    ensures makes { MakesPatterns (B.state builder.old) (B.state builder.new)
         (condition_patterns named.now condition.now) result }
     ensures only { OnlyBuilds (B.state builder.old) (B.state builder.new) }
 {
@@ -54,7 +54,8 @@ fn make_condition<B: Builder>(
 fn make_rewrite<B: Builder>(alloc: Global, builder: &mut B, op: &Op) -> Result<Rewrite, PathRefusal>
     requires { op_sound op.now ≡ true }
     ensures made { IfOk result (λ rewrite. rewrite ≡ change_of op.now) }
-    ensures makes { Makes (B.state builder.old) (B.state builder.new) (op_patterns op.now) result }
+    ensures makes { MakesPatterns (B.state builder.old) (B.state builder.new)
+        (op_patterns op.now) result }
     ensures only { OnlyBuilds (B.state builder.old) (B.state builder.new) }
 {
     match Rewrite::new(alloc, builder, op) {
@@ -72,7 +73,7 @@ pub(crate) fn make_rule<B: Builder>(
 ) -> Result<(Option<Filter>, Rewrite), PathRefusal>
     ensures made { IfOk result
         (λ made. record { condition = made.0; change = made.1 } ≡ rule_of named.now rule.now) }
-    ensures makes { Makes (B.state builder.old) (B.state builder.new)
+    ensures makes { MakesPatterns (B.state builder.old) (B.state builder.new)
         (rule_patterns named.now rule.now) result }
     ensures only { OnlyBuilds (B.state builder.old) (B.state builder.new) }
 {

@@ -1,6 +1,7 @@
 // Pipes, each of which refers to others by their places.
 
 use sg_filter::Filter;
+use sg_parsers::ParserRule;
 use sg_rewrite::Rewrite;
 
 /// A statement or channel: where its elements begin, and its flags.
@@ -33,6 +34,11 @@ pub enum Pipe {
     Rewrite {
         condition: Option<Filter>,
         rewrite: Rewrite,
+        next: u32,
+    },
+    /// Sets what it reads in the message. It stops a message whose text it refuses.
+    Parse {
+        rule: ParserRule,
         next: u32,
     },
     /// Gives the message to each of these destinations, by their numbers.
@@ -68,6 +74,10 @@ impl Drop for Pipe {
             Pipe::Rewrite {
                 condition: _condition,
                 rewrite: _rewrite,
+                next: _next,
+            } => {}
+            Pipe::Parse {
+                rule: _rule,
                 next: _next,
             } => {}
             Pipe::Deliver {

@@ -2,7 +2,7 @@
 ghost use Rattle.std.specs.Prelude.{◌≡◌, map, IfOk};
 ghost use Rattle.sg_table.specs.Forest.{forest_of, statement_at};
 ghost use Rattle.sg_table.specs.Shared.{AreSame, IsSame};
-ghost use Rattle.sg_table.specs.Table.{Places};
+ghost use Rattle.sg_table.specs.Table.{StepsByPlace};
 
 use crate::copying::{copied_dests, copied_inlets, copied_numbers};
 use crate::{Branch, Pipe, Table, Test, Top};
@@ -61,6 +61,10 @@ fn shared_pipe(alloc: Global, pipe: &Pipe) -> Result<Pipe, AllocError>
             rewrite: rewrite.share(alloc)?,
             next: *next,
         }),
+        Pipe::Parse { rule, next } => Ok(Pipe::Parse {
+            rule: rule.share(alloc)?,
+            next: *next,
+        }),
         Pipe::Deliver { drivers, next } => Ok(Pipe::Deliver {
             drivers: copied_numbers(alloc, drivers)?,
             next: *next,
@@ -91,7 +95,8 @@ fn shared_pipes(alloc: Global, pipes: &[Pipe]) -> Result<Vec<Pipe>, AllocError>
 }
 
 fn shared_top(alloc: Global, top: &Top) -> Result<Top, AllocError>
-    ensures { IfOk result (λ copy. (at : Places) → statement_at at copy ≡ statement_at at top.now) }
+    ensures { IfOk result (λ copy. (at : StepsByPlace)
+        → statement_at at copy ≡ statement_at at top.now) }
 {
     Ok(Top {
         sources: copied_numbers(alloc, &top.sources)?,
@@ -101,7 +106,7 @@ fn shared_top(alloc: Global, top: &Top) -> Result<Top, AllocError>
 }
 
 fn shared_tops(alloc: Global, tops: &[Top]) -> Result<Vec<Top>, AllocError>
-    ensures { IfOk result (λ copies. (at : Places)
+    ensures { IfOk result (λ copies. (at : StepsByPlace)
         → map (statement_at at) copies.items ≡ map (statement_at at) tops.now) }
 {
     let mut copies = Vec::new(alloc);

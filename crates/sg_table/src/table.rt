@@ -1,5 +1,5 @@
 // The table.
-ghost use Rattle.sg_table.specs.Table.{IsTable, IsTable-prop};
+ghost use Rattle.sg_table.specs.Table.{IsPipeTable, IsPipeTable-prop};
 
 use crate::{Pipe, Top};
 use sg_tree::{DestRule, InletRule};
@@ -12,7 +12,7 @@ pub struct Table {
     pub tops: Vec<Top>,
     /// Each refers to those in front of it alone.
     pub pipes: Vec<Pipe>,
-    pub ghost in_order: { IsTable pipes.items } by { IsTable-prop pipes.items },
+    pub ghost in_order: { IsPipeTable pipes.items } by { IsPipeTable-prop pipes.items },
 }
 
 impl Drop for Table {

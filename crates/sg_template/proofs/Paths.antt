@@ -3,7 +3,7 @@ use Rattle.std.proofs.Common.{◌≡◌, ℕ, ◌+◌, ◌<◌, ◌≤◌, List,
 use Rattle.std.proofs.Math.Seq.{take-append-add}
 use Rattle.std.specs.List.{flat_map}
 use Rattle.sg_msg.specs.Message.{Content}
-use Rattle.sg_macro.specs.declared.part.Part.{Part}
+use Rattle.sg_macro.specs.declared.part.TemplatePart.{TemplatePart}
 use Rattle.sg_template.specs.declared.env.Env.{Env}
 use Rattle.sg_template.specs.Path.{fitted, path_part, path_of}
 
@@ -16,12 +16,12 @@ fitted-most [] = omega arith
 fitted-most (b ∷ bytes) = omega (arith, length-take 4095 (b ∷ bytes))
 
 -- a path has some bytes
-pub path_some : (parts : List Part) (content : Content) (env : Env) → 0 < length (path_of parts content env)
+pub path_some : (parts : List TemplatePart) (content : Content) (env : Env) → 0 < length (path_of parts content env)
 unfolding path_of
 path_some parts content env = fitted-some (flat_map (path_part content env) parts)
 
 -- and at most 4,095
-pub path_most : (parts : List Part) (content : Content) (env : Env) → length (path_of parts content env) ≤ 4095
+pub path_most : (parts : List TemplatePart) (content : Content) (env : Env) → length (path_of parts content env) ≤ 4095
 unfolding path_of
 path_most parts content env = fitted-most (flat_map (path_part content env) parts)
 

@@ -11,7 +11,7 @@ plain_length value = prefix_len (λ (b : ℕ). not (is_escaped b)) value
 abbrev pub IsRun : List ℕ → Type 0
 IsRun value = escaped value ≡ take (plain_length value) value ++ escaped (drop (plain_length value) value)
 
-one_more : (n : ℕ) → 1 + n ≡ suc n
+pub one_more : (n : ℕ) → 1 + n ≡ suc n
 one_more n = omega arith
 
 run_by : (e : Bool) (b : ℕ) (bytes : List ℕ) → is_escaped b ≡ e → IsRun bytes → IsRun (b ∷ bytes)
@@ -23,10 +23,10 @@ pub is_run : (value : List ℕ) → IsRun value
 is_run [] = refl
 is_run (b ∷ bytes) = run_by (is_escaped b) b bytes refl (is_run bytes)
 
-abbrev pub Stops : List ℕ → Type 0
-Stops value = (b : ℕ) (bytes : List ℕ) → drop (plain_length value) value ≡ b ∷ bytes → is_escaped b ≡ true
+abbrev pub StopsPlain : List ℕ → Type 0
+StopsPlain value = (b : ℕ) (bytes : List ℕ) → drop (plain_length value) value ≡ b ∷ bytes → is_escaped b ≡ true
 
-stops_by : (e : Bool) (x : ℕ) (xs : List ℕ) → is_escaped x ≡ e → Stops xs → Stops (x ∷ xs)
+stops_by : (e : Bool) (x : ℕ) (xs : List ℕ) → is_escaped x ≡ e → StopsPlain xs → StopsPlain (x ∷ xs)
 stops_by true x xs h later b bytes e =
     let whole = rw h at e in
     let same : x ≡ b = cc in
@@ -35,7 +35,7 @@ stops_by false x xs h later b bytes e =
     later b bytes (rw (h, one_more (plain_length xs)) at e)
 
 -- the byte behind such a run isn't of it
-pub stops : (value : List ℕ) → Stops value
+pub stops : (value : List ℕ) → StopsPlain value
 stops [] b bytes e = absurd (let wrong : [] ≡ b ∷ bytes = e in cc)
 stops (x ∷ xs) b bytes e = stops_by (is_escaped x) x xs refl (stops xs) b bytes e
 

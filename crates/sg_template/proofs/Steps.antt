@@ -3,9 +3,9 @@ use Rattle.std.proofs.Common.{◌≡◌, ℕ, ◌+◌, ◌<◌, List, [], ◌∷
 use Rattle.std.specs.List.{flat_map, filter_map, cons_option}
 use Rattle.std.proofs.lemmas.List.{append_assoc, flat_map_more, take_more}
 use Rattle.sg_list.proofs.ListLemmas.{drop-get, slice_get-all}
-use Rattle.sg_msg.specs.Message.{Pair}
+use Rattle.sg_msg.specs.Message.{NameValue}
 use Rattle.sg_template.specs.Texts.{later_tag, tags_text}
-use Rattle.sg_template.specs.Elements.{SdName, Item, sd_name, item_of, item_text, opening_text, param_text, elements_text}
+use Rattle.sg_template.specs.Elements.{SdName, SdItem, sd_name, item_of, item_text, opening_text, param_text, elements_text}
 
 -- a text for each item so far
 pub flat_map-step : {X : Type 0} (f : X → List ℕ) (xs : List X) (k : ℕ) (x : X) (first out new : List ℕ) → k < length xs → x ≡ get_or xs k x → out ≡ first ++ flat_map f (take k xs) → new ≡ out ++ f x → new ≡ first ++ flat_map f (take (k + 1) xs)
@@ -37,32 +37,32 @@ pub tags_text-none : (tags : List (List ℕ)) → None ≡ slice_get tags 0 → 
 tags_text-none [] e = refl
 tags_text-none (tag ∷ tags) e = cc
 
-abbrev pub items : List Pair → List Item
+abbrev pub items : List NameValue → List SdItem
 items pairs = filter_map item_of pairs
 
-pub items-step : (pairs : List Pair) (k : ℕ) (name value : List ℕ) → Some (record { name = name; value = value }) ≡ slice_get pairs k → items (drop k pairs) ≡ cons_option (item_of (record { name = name; value = value })) (items (drop (k + 1) pairs))
+pub items-step : (pairs : List NameValue) (k : ℕ) (name value : List ℕ) → Some (record { name = name; value = value }) ≡ slice_get pairs k → items (drop k pairs) ≡ cons_option (item_of (record { name = name; value = value })) (items (drop (k + 1) pairs))
 items-step pairs k name value e =
-    let pair : Pair = record { name = name; value = value } in
+    let pair : NameValue = record { name = name; value = value } in
     rw (drop-get pairs k pair (sym e)) refl
 
-pub items-end : (pairs : List Pair) (k : ℕ) → None ≡ slice_get pairs k → items (drop k pairs) ≡ []
+pub items-end : (pairs : List NameValue) (k : ℕ) → None ≡ slice_get pairs k → items (drop k pairs) ≡ []
 items-end pairs k e = rw (slice_get-all pairs k (sym e)) refl
 
-pub elements-more : (current : Option (List ℕ)) (item : Item) (rest : List Item) → elements_text current (item ∷ rest) ≡ item_text current item ++ elements_text (Some item.id) rest
+pub elements-more : (current : Option (List ℕ)) (item : SdItem) (rest : List SdItem) → elements_text current (item ∷ rest) ≡ item_text current item ++ elements_text (Some item.id) rest
 elements-more None item rest = refl
 elements-more (Some id) item rest = refl
 
 -- a pair that is an item
-pub item-more : (current : Option (List ℕ)) (name value : List ℕ) (found : SdName) (out mid new : List ℕ) → Some found ≡ sd_name name → mid ≡ out ++ opening_text current found.id → new ≡ mid ++ param_text found.param value → (rest : List Item) → new ++ elements_text (Some found.id) rest ≡ out ++ elements_text current (cons_option (item_of (record { name = name; value = value })) rest)
+pub item-more : (current : Option (List ℕ)) (name value : List ℕ) (found : SdName) (out mid new : List ℕ) → Some found ≡ sd_name name → mid ≡ out ++ opening_text current found.id → new ≡ mid ++ param_text found.param value → (rest : List SdItem) → new ++ elements_text (Some found.id) rest ≡ out ++ elements_text current (cons_option (item_of (record { name = name; value = value })) rest)
 item-more current name value found out mid new is first second rest =
-    let item : Item = record { id = found.id; param = found.param; value = value } in
-    let whole : List Item = cons_option (item_of (record { name = name; value = value })) rest in
+    let item : SdItem = record { id = found.id; param = found.param; value = value } in
+    let whole : List SdItem = cons_option (item_of (record { name = name; value = value })) rest in
     let more : cons_option (item_of (record { name = name; value = value })) rest ≡ item ∷ rest =
     ap (λ (o : Option SdName). cons_option (option_map (λ (f : SdName). record { id = f.id; param = f.param; value = value }) o) rest) (sym is) in
     two_more out mid new (opening_text current found.id) (param_text found.param value) (elements_text (Some found.id) rest) (out ++ elements_text current whole) first second
     (ap (λ (t : List ℕ). out ++ t) (sym (ap (elements_text current) more ∙ elements-more current item rest)))
 
 -- and one that isn't
-pub item-passed : (current : Option (List ℕ)) (name value out : List ℕ) → None ≡ sd_name name → (rest : List Item) → out ++ elements_text current rest ≡ out ++ elements_text current (cons_option (item_of (record { name = name; value = value })) rest)
+pub item-passed : (current : Option (List ℕ)) (name value out : List ℕ) → None ≡ sd_name name → (rest : List SdItem) → out ++ elements_text current rest ≡ out ++ elements_text current (cons_option (item_of (record { name = name; value = value })) rest)
 item-passed current name value out is rest =
     ap (λ (o : Option SdName). out ++ elements_text current (cons_option (option_map (λ (f : SdName). record { id = f.id; param = f.param; value = value }) o) rest)) is

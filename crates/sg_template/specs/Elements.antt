@@ -3,7 +3,7 @@
 use Rattle.std.specs.Prelude.{ℕ, ◌+◌, ◌==◌, ◌&&◌, not, nat_lt, Bool, true, false, if◌then◌else◌, List, [], ◌∷◌, ◌++◌, length, take, drop, Option, Some, None, codes, bytes_eq}
 use Rattle.std.specs.List.{prefix_len, list_all, filter_map, flat_map}
 use Rattle.std.specs.Option.{option_map}
-use Rattle.sg_msg.specs.Message.{Pair}
+use Rattle.sg_msg.specs.Message.{NameValue}
 use Rattle.sg_msg.specs.Priority.{is_digit}
 use Rattle.sg_msg.specs.Sets.{is_sd_byte, is_escaped}
 
@@ -12,7 +12,7 @@ pub record SdName : Type 0 where
   pub id : List ℕ
   pub param : Option (List ℕ)
 
-pub record Item : Type 0 where
+pub record SdItem : Type 0 where
   pub id : List ℕ
   pub param : Option (List ℕ)
   pub value : List ℕ
@@ -61,7 +61,7 @@ checked found = if is_sd_name found.id && is_param_name found.param then Some fo
 unfoldable pub sd_name : List ℕ → Option SdName
 sd_name name = if bytes_eq (take 7 name) (codes ".SDATA.") then checked (split_name (drop 7 name)) else None
 
-abbrev pub item_of : Pair → Option Item
+abbrev pub item_of : NameValue → Option SdItem
 item_of pair =
     option_map (λ found. record { id = found.id; param = found.param; value = pair.value })
     (sd_name pair.name)
@@ -83,14 +83,14 @@ abbrev pub opening_text : Option (List ℕ) → List ℕ → List ℕ
 opening_text None id = codes "[" ++ id
 opening_text (Some current) id = if bytes_eq current id then [] else codes "][" ++ id
 
-abbrev pub item_text : Option (List ℕ) → Item → List ℕ
+abbrev pub item_text : Option (List ℕ) → SdItem → List ℕ
 item_text current item = opening_text current item.id ++ param_text item.param item.value
 
 -- the elements, behind the beginning of the one that is open; `-` where there is none
-abbrev pub elements_text : Option (List ℕ) → List Item → List ℕ
+abbrev pub elements_text : Option (List ℕ) → List SdItem → List ℕ
 elements_text None [] = codes "-"
 elements_text (Some current) [] = codes "]"
 elements_text current (item ∷ items) = item_text current item ++ elements_text (Some item.id) items
 
-unfoldable pub sdata_text : List Pair → List ℕ
+unfoldable pub sdata_text : List NameValue → List ℕ
 sdata_text pairs = elements_text None (filter_map item_of pairs)

@@ -3,8 +3,8 @@
 use Rattle.std.specs.Prelude.{ℕ, ◌==◌, ◌||◌, not, Bool, if◌then◌else◌, List, [], ◌∷◌, take, map, codes}
 use Rattle.std.specs.List.{flat_map}
 use Rattle.sg_msg.specs.Message.{Content}
-use Rattle.sg_macro.specs.declared.part.Part.{Part}
-use Rattle.sg_macro.specs.declared.part.Part.TheVariants.{Literal, Macro, Pair}
+use Rattle.sg_macro.specs.declared.part.TemplatePart.{TemplatePart}
+use Rattle.sg_macro.specs.declared.part.TemplatePart.TheVariants.{Literal, Macro, Pair}
 use Rattle.sg_template.specs.declared.env.Env.{Env}
 use Rattle.sg_template.specs.Render.{part_text}
 
@@ -25,7 +25,7 @@ abbrev pub name_text : List ℕ → List ℕ
 name_text [] = []
 name_text (b ∷ bytes) = first_byte b ∷ map name_byte bytes
 
-abbrev pub path_part : Content → Env → Part → List ℕ
+abbrev pub path_part : Content → Env → TemplatePart → List ℕ
 path_part content env (Literal text) = text
 path_part content env (Macro kind default) = name_text (part_text content env (Macro kind default))
 path_part content env (Pair name default) = name_text (part_text content env (Pair name default))
@@ -36,5 +36,5 @@ fitted [] = codes "_"
 fitted (b ∷ bytes) = take 4095 (b ∷ bytes)
 
 -- the path that the parts come to
-unfoldable pub path_of : List Part → Content → Env → List ℕ
+unfoldable pub path_of : List TemplatePart → Content → Env → List ℕ
 path_of parts content env = fitted (flat_map (path_part content env) parts)

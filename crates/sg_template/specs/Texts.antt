@@ -6,7 +6,7 @@ use Rattle.std.specs.List.{flat_map, slice_index_or}
 use Rattle.sg_time.specs.declared.stamp.Stamp.{Stamp}
 use Rattle.sg_time.specs.Local.{local_time}
 use Rattle.sg_time.specs.Text.{digits, fraction_text, offset_text, month_name, iso_stamp_text, bsd_stamp_text}
-use Rattle.sg_msg.specs.Message.{Content, Pair, value_of}
+use Rattle.sg_msg.specs.Message.{Content, NameValue, value_of}
 use Rattle.sg_macro.specs.declared.macros.StampKind.{StampKind}
 use Rattle.sg_macro.specs.declared.macros.StampKind.TheVariants.{Sent, Received}
 use Rattle.sg_macro.specs.declared.macros.DatePart.{DatePart}
@@ -55,7 +55,7 @@ tags_text [] = []
 tags_text (tag ∷ tags) = tag ++ flat_map later_tag tags
 
 -- the value of that name, empty where it has none
-abbrev pub text_of : List ℕ → List Pair → List ℕ
+abbrev pub text_of : List ℕ → List NameValue → List ℕ
 text_of name pairs = unwrap_or (value_of name pairs) []
 
 -- the text, or that one where it is empty

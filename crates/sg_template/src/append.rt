@@ -1,6 +1,6 @@
 // Appending texts, and the texts of macros that aren't of a stamp.
 ghost use Rattle.std.specs.Prelude.{◌≡◌, ◌≤◌, ◌<◌, ◌++◌, OnOk, OnErr, decimal, unwrap_or, []};
-ghost use Rattle.sg_time.specs.Stamp.{IsValid};
+ghost use Rattle.sg_time.specs.Stamp.{IsValidStamp};
 ghost use Rattle.sg_msg.specs.Message.{IsMessage};
 ghost use Rattle.sg_template.specs.Begins.{BeginsWith};
 ghost use Rattle.sg_template.specs.Texts.{hex_digit, hex_text, tags_text, text_of, or_default, macro_text, stamp_of};
@@ -11,7 +11,7 @@ use crate::elements::append_sdata;
 use crate::header::append_header;
 use crate::{Env, facility_name, severity_name};
 use itoa::Buffer;
-use sg_macro::{Macro, Part, StampKind};
+use sg_macro::{Macro, StampKind, TemplatePart};
 use sg_msg::Message;
 use sg_time::Stamp;
 use std::alloc::AllocError;
@@ -95,7 +95,7 @@ fn old_value(env: &Env) -> &[u8]
 fn stamp_of(kind: StampKind, message: &Message) -> Stamp
     requires { IsMessage message.now }
     ensures value { result ≡ stamp_of kind message.now }
-    ensures valid { IsValid result }
+    ensures valid { IsValidStamp result }
 {
     match kind {
         StampKind::Sent => message.sent(),
@@ -137,7 +137,7 @@ fn append_macro(
 
 #[tactic(auto, using(crate::proofs::Appending::appending))]
 pub(crate) fn append_part(
-    part: &Part,
+    part: &TemplatePart,
     message: &Message,
     env: &Env,
     out: &mut Vec<u8>,
@@ -147,8 +147,8 @@ pub(crate) fn append_part(
     ensures err { OnErr result (BeginsWith out.old.items out.new.items) }
 {
     match part {
-        Part::Literal(text) => append(text.bytes(), out),
-        Part::Macro { kind, default } => {
+        TemplatePart::Literal(text) => append(text.bytes(), out),
+        TemplatePart::Macro { kind, default } => {
             let before = out.len();
             append_macro(*kind, message, env, out)?;
             if out.len() == before {
@@ -156,7 +156,7 @@ pub(crate) fn append_part(
             }
             Ok(())
         }
-        Part::Pair { name, default } => {
+        TemplatePart::Pair { name, default } => {
             append(
                 or_default(text_of(message, name.bytes()), default.bytes()),
                 out,
@@ -167,7 +167,7 @@ pub(crate) fn append_part(
 
 #[tactic(auto, using(crate::proofs::Appending::appending), unfolding(crate::specs::Render::render_of))]
 pub(crate) fn append_parts(
-    parts: &[Part],
+    parts: &[TemplatePart],
     message: &Message,
     env: &Env,
     out: &mut Vec<u8>,

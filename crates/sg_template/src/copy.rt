@@ -2,26 +2,29 @@
 ghost use Rattle.std.specs.Prelude.{◌≡◌, IfOk};
 
 use sg_list::Seq;
-use sg_macro::Part;
+use sg_macro::TemplatePart;
 use std::alloc::{AllocError, Global};
 
-fn copied(part: &Part) -> Result<Part, AllocError>
+fn copied(part: &TemplatePart) -> Result<TemplatePart, AllocError>
     ensures { IfOk result (λ copy. copy ≡ part.now) }
 {
     match part {
-        Part::Literal(text) => Ok(Part::Literal(text.copy()?)),
-        Part::Macro { kind, default } => Ok(Part::Macro {
+        TemplatePart::Literal(text) => Ok(TemplatePart::Literal(text.copy()?)),
+        TemplatePart::Macro { kind, default } => Ok(TemplatePart::Macro {
             kind: *kind,
             default: default.copy()?,
         }),
-        Part::Pair { name, default } => Ok(Part::Pair {
+        TemplatePart::Pair { name, default } => Ok(TemplatePart::Pair {
             name: name.copy()?,
             default: default.copy()?,
         }),
     }
 }
 
-pub(crate) fn copied_parts(alloc: Global, parts: &[Part]) -> Result<Seq<Part>, AllocError>
+pub(crate) fn copied_parts(
+    alloc: Global,
+    parts: &[TemplatePart],
+) -> Result<Seq<TemplatePart>, AllocError>
     ensures { IfOk result (λ copy. copy ≡ parts.now) }
 {
     let mut copies = Seq::empty(alloc);

@@ -1,6 +1,6 @@
 // The texts of a stamp.
 ghost use Rattle.std.specs.Prelude.{◌≡◌, ◌≤◌, ◌<◌, ◌++◌, OnOk, OnErr, codes};
-ghost use Rattle.sg_time.specs.Stamp.{IsValid};
+ghost use Rattle.sg_time.specs.Stamp.{IsValidStamp};
 ghost use Rattle.sg_time.specs.Local.{local_time};
 ghost use Rattle.sg_time.specs.Text.{digits as digits_of, fraction_text, iso_stamp_text, bsd_stamp_text};
 ghost use Rattle.sg_template.specs.Begins.{BeginsWith};
@@ -16,7 +16,7 @@ use sg_time::{
 use std::alloc::AllocError;
 
 fn append_bsd(stamp: Stamp, digits: u8, out: &mut Vec<u8>) -> Result<(), AllocError>
-    requires valid { IsValid stamp }
+    requires valid { IsValidStamp stamp }
     requires at_most_six { digits ≤ 6 }
     ensures ok { OnOk result (out.new.items ≡ out.old.items ++ bsd_stamp_text stamp digits) }
     ensures err { OnErr result (BeginsWith out.old.items out.new.items) }
@@ -25,7 +25,7 @@ fn append_bsd(stamp: Stamp, digits: u8, out: &mut Vec<u8>) -> Result<(), AllocEr
 }
 
 fn append_iso(stamp: Stamp, digits: u8, out: &mut Vec<u8>) -> Result<(), AllocError>
-    requires valid { IsValid stamp }
+    requires valid { IsValidStamp stamp }
     requires at_most_six { digits ≤ 6 }
     ensures ok { OnOk result (out.new.items ≡ out.old.items ++ iso_stamp_text stamp digits) }
     ensures err { OnErr result (BeginsWith out.old.items out.new.items) }
@@ -35,7 +35,7 @@ fn append_iso(stamp: Stamp, digits: u8, out: &mut Vec<u8>) -> Result<(), AllocEr
 
 #[tactic(auto, using(crate::proofs::Appending::appending))]
 fn append_full_date(stamp: Stamp, digits: u8, out: &mut Vec<u8>) -> Result<(), AllocError>
-    requires valid { IsValid stamp }
+    requires valid { IsValidStamp stamp }
     requires at_most_six { digits ≤ 6 }
     ensures ok { OnOk result (out.new.items ≡ out.old.items
         ++ (digits_of 4 (local_time stamp).year ++ codes " " ++ bsd_stamp_text stamp digits)) }
@@ -82,7 +82,7 @@ pub(crate) fn append_date(
     env: &Env,
     out: &mut Vec<u8>,
 ) -> Result<(), AllocError>
-    requires { IsValid stamp }
+    requires { IsValidStamp stamp }
     ensures ok { OnOk result
         (out.new.items ≡ out.old.items ++ date_text part stamp env.now.digits env.now.iso) }
     ensures err { OnErr result (BeginsWith out.old.items out.new.items) }

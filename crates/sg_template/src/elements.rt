@@ -4,7 +4,7 @@ ghost use Rattle.std.specs.Option.{option_map};
 ghost use Rattle.std.specs.List.{prefix_len, list_all, cons_option};
 ghost use Rattle.sg_msg.specs.Sets.{is_sd_byte, is_escaped};
 ghost use Rattle.sg_template.specs.Begins.{BeginsWith};
-ghost use Rattle.sg_template.specs.Elements.{is_sd_name, is_param_name, is_no_dot, is_no_at, begins_with_digit, before_dot, id_length, split_name, checked, sd_name, Item, item_of, escaped, param_text, opening_text, elements_text, sdata_text};
+ghost use Rattle.sg_template.specs.Elements.{is_sd_name, is_param_name, is_no_dot, is_no_at, begins_with_digit, before_dot, id_length, split_name, checked, sd_name, SdItem, item_of, escaped, param_text, opening_text, elements_text, sdata_text};
 
 use crate::append::append;
 use sg_msg::{Message, is_digit, is_escaped, is_sd_byte};
@@ -225,7 +225,7 @@ fn append_item<'n>(
     value: &[u8],
     out: &mut Vec<u8>,
 ) -> Result<Option<&'n [u8]>, AllocError>
-    ensures ok { IfOk result (λ last. (rest : List Item)
+    ensures ok { IfOk result (λ last. (rest : List SdItem)
         → out.new.items ++ elements_text (option_copied last) rest
         ≡ out.old.items ++ elements_text (option_copied current.entry)
         (cons_option (item_of (record { name = name.entry.now; value = value.now })) rest)) }

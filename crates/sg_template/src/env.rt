@@ -1,7 +1,7 @@
 // How a template's macros are shown.
 ghost use Rattle.std.specs.Prelude.{◌≡◌, ◌≤◌, ◌≤ℤ◌, pos, negsuc};
 ghost use Rattle.std.specs.Option.{ForSome};
-ghost use Rattle.sg_time.specs.Stamp.{IsValid};
+ghost use Rattle.sg_time.specs.Stamp.{IsValidStamp};
 ghost use Rattle.sg_template.specs.Zone.{shown_stamp, moved_stamp};
 
 use sg_device::Name;
@@ -28,9 +28,9 @@ impl Env {
     /// The stamp as it is shown: in the zone, or at its own offset where it isn't valid there.
     #[tactic(auto, unfolding(crate::specs::Zone::shown_stamp))]
     pub fn shown(&self, stamp: Stamp) -> Stamp
-        requires { IsValid stamp }
+        requires { IsValidStamp stamp }
         ensures value { result ≡ shown_stamp self.now.zone stamp }
-        ensures valid { IsValid result }
+        ensures valid { IsValidStamp result }
     {
         match self.zone {
             None => stamp,
@@ -41,11 +41,11 @@ impl Env {
 
 // The stamp at that offset, or at its own where it isn't valid there.
 fn moved(stamp: Stamp, offset: i16) -> Stamp
-    requires stamp { IsValid stamp }
+    requires stamp { IsValidStamp stamp }
     requires east { negsuc 1438 ≤ℤ offset }
     requires west { offset ≤ℤ pos 1439 }
     ensures value { result ≡ moved_stamp stamp offset }
-    ensures valid { IsValid result }
+    ensures valid { IsValidStamp result }
 {
     let shifted = Stamp {
         at: stamp.at,

@@ -2,7 +2,7 @@
 ghost use Rattle.std.specs.Prelude.{◌≡◌, ◌≢◌, ◌<◌, ◌≤◌, ℕ, List, ◌∷◌, length, true, is_some};
 ghost use Rattle.sg_msg.specs.Macros.{is_hard};
 ghost use Rattle.sg_msg.specs.Message.{Content};
-ghost use Rattle.sg_macro.specs.declared.part.Part.{Part};
+ghost use Rattle.sg_macro.specs.declared.part.TemplatePart.{TemplatePart};
 ghost use Rattle.sg_macro.specs.Macros.{macro_of};
 ghost use Rattle.sg_template.specs.declared.env.Env.{Env};
 ghost use Rattle.std.specs.List.{list_all};
@@ -15,9 +15,9 @@ pub fn macros_are_hard()
 
 /// A path has 1 to 4,095 bytes.
 pub fn paths_fit()
-    ensures some { (parts : List Part) (content : Content) (env : Env)
+    ensures some { (parts : List TemplatePart) (content : Content) (env : Env)
         → 0 < length (path_of parts content env) }
-    ensures most { (parts : List Part) (content : Content) (env : Env)
+    ensures most { (parts : List TemplatePart) (content : Content) (env : Env)
         → length (path_of parts content env) ≤ 4095 }
 {}
 

@@ -6,7 +6,7 @@ ghost use Rattle.sg_template.specs.Path.{name_byte, name_text, path_part, fitted
 
 use crate::Env;
 use crate::append::{append, append_part};
-use sg_macro::Part;
+use sg_macro::TemplatePart;
 use sg_msg::Message;
 use std::alloc::AllocError;
 
@@ -43,7 +43,7 @@ fn make_name(text: &mut [u8])
 
 #[tactic(auto, using(crate::proofs::Appending::appending))]
 fn append_path_part(
-    part: &Part,
+    part: &TemplatePart,
     message: &Message,
     env: &Env,
     out: &mut Vec<u8>,
@@ -55,16 +55,16 @@ fn append_path_part(
     let before = out.len();
     append_part(part, message, env, out)?;
     match part {
-        Part::Literal(_) => {}
-        Part::Macro { .. } => make_name(&mut out[before..]),
-        Part::Pair { .. } => make_name(&mut out[before..]),
+        TemplatePart::Literal(_) => {}
+        TemplatePart::Macro { .. } => make_name(&mut out[before..]),
+        TemplatePart::Pair { .. } => make_name(&mut out[before..]),
     }
     Ok(())
 }
 
 #[tactic(auto, using(crate::proofs::Appending::appending))]
 fn append_path_parts(
-    parts: &[Part],
+    parts: &[TemplatePart],
     message: &Message,
     env: &Env,
     out: &mut Vec<u8>,
@@ -81,7 +81,7 @@ fn append_path_parts(
 
 #[tactic(auto, using(crate::proofs::Appending::appending), unfolding(crate::specs::Path::path_of))]
 pub(crate) fn append_path(
-    parts: &[Part],
+    parts: &[TemplatePart],
     message: &Message,
     env: &Env,
     out: &mut Vec<u8>,

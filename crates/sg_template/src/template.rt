@@ -1,6 +1,6 @@
 // Templates as a whole.
 ghost use Rattle.std.specs.Prelude.{◌≡◌, [], ◌∷◌, ◌++◌, IfSome, IfOk, IfErr, OnOk, OnErr, Ok, option_copied};
-ghost use Rattle.sg_macro.specs.Reading.{parts_of, Refuses};
+ghost use Rattle.sg_macro.specs.Reading.{parts_of, RefusesTemplate};
 ghost use Rattle.sg_msg.specs.Message.{Content};
 ghost use Rattle.sg_template.specs.declared.env.Env.{Env as AnEnv};
 ghost use Rattle.sg_template.specs.Render.{constant_of, render_of};
@@ -11,7 +11,7 @@ use crate::append::append_parts;
 use crate::copy::copied_parts;
 use crate::path::append_path;
 use sg_list::Seq;
-use sg_macro::{Part, TemplateFault, read_parts};
+use sg_macro::{TemplateFault, TemplatePart, read_parts};
 use sg_msg::Message;
 use std::alloc::{AllocError, Global};
 use std::marker::Model;
@@ -19,12 +19,12 @@ use std::marker::Model;
 /// A text with macros and fields of a message in it, seen as its parts.
 #[derive(Debug, Drop)]
 pub struct Template {
-    parts: Seq<Part>,
+    parts: Seq<TemplatePart>,
 }
 
 impl Model for Template {
     ghost use Rattle.std.specs.Prelude.{List};
-    ghost use Rattle.sg_macro.specs.declared.part.Part.{Part as APart};
+    ghost use Rattle.sg_macro.specs.declared.part.TemplatePart.{TemplatePart as APart};
 
     ghost Value = { List APart };
 
@@ -32,11 +32,11 @@ impl Model for Template {
 }
 
 // The text of a part that stands for itself.
-fn literal(part: &Part) -> Option<&[u8]>
+fn literal(part: &TemplatePart) -> Option<&[u8]>
     ensures { option_copied result ≡ constant_of (part.now ∷ []) }
 {
     match part {
-        Part::Literal(text) => Some(text.bytes()),
+        TemplatePart::Literal(text) => Some(text.bytes()),
         _ => None,
     }
 }
@@ -50,7 +50,7 @@ impl Template {
     /// text is answered.
     pub fn read(alloc: Global, text: &[u8]) -> Result<Template, TemplateFault>
         ensures ok { IfOk result (λ template. parts_of text.now ≡ Ok template) }
-        ensures err { IfErr result (Refuses (parts_of text.now)) }
+        ensures err { IfErr result (RefusesTemplate (parts_of text.now)) }
     {
         Ok(Template {
             parts: read_parts(alloc, text)?,

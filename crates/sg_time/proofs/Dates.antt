@@ -12,7 +12,7 @@ use Rattle.jiff_core.proofs.CalendarLemmas.{days_from_civil-day_count, days_in_m
 use Rattle.jiff_core.proofs.DateLemmas.{days_from_civil-day, days_from_civil-next_month, days_from_civil-next_year, days_from_civil-max}
 use Rattle.sg_time.specs.declared.stamp.Stamp.{Stamp}
 use Rattle.sg_time.specs.declared.local.LocalTime.{LocalTime}
-use Rattle.sg_time.specs.Stamp.{IsValid, local_of}
+use Rattle.sg_time.specs.Stamp.{IsValidStamp, local_of}
 use Rattle.sg_time.specs.Local.{local_time, day_of, micros_of_day, year_of, month_of, day_of_month}
 use Rattle.sg_time.proofs.Numbers.{abs-pos}
 use Rattle.sg_time.proofs.Days.{day_count-zero, year_from, year_of-is, month_of-is, day_of_month-is}
@@ -116,7 +116,7 @@ pub record IsShownBy (local : LocalTime) : Type 0 where
   pub minute : time.minute ≡ local.minute
   pub second : time.second ≡ local.second
 
-pub shows : (stamp : Stamp) → IsValid stamp → IsShownBy (local_time stamp)
+pub shows : (stamp : Stamp) → IsValidStamp stamp → IsShownBy (local_time stamp)
 unfolding local_time
 shows stamp valid =
     let on = date_on (day_of stamp) (day_from (local_of stamp) valid.begins) (day_to (local_of stamp) valid.ends) in

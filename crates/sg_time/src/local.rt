@@ -2,7 +2,7 @@
 ghost use Rattle.std.specs.Prelude.{◌≡◌, ◌≤ℤ◌, pos, negsuc};
 ghost use Rattle.jiff_core.specs.Calendar.{days_from_civil};
 ghost use Rattle.jiff_core.specs.Date.{epoch_day};
-ghost use Rattle.sg_time.specs.Stamp.{IsValid};
+ghost use Rattle.sg_time.specs.Stamp.{IsValidStamp};
 ghost use Rattle.sg_time.specs.Local.{local_time, day_of, year_of, month_of, day_of_month, IsShown};
 
 use crate::Stamp;
@@ -36,7 +36,7 @@ const BEFORE_EPOCH: i64 = 4_371_587;
 impl Stamp {
     /// The local date and time.
     pub fn local(self) -> LocalTime
-        requires { IsValid self }
+        requires { IsValidStamp self }
         ensures value { result ≡ local_time self }
         ensures date { days_from_civil (pos result.year) result.month result.day ≡ day_of self }
         ensures shown { IsShown result }

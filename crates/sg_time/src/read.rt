@@ -2,7 +2,7 @@
 ghost use Rattle.std.specs.Prelude.{◌≡◌, ℕ, ℤ, ◌<◌, ◌≤◌, ◌≤ℤ◌, ◌++◌, List, pos, negsuc, length, MatchOption, IfSome};
 ghost use Rattle.std.specs.Int.{IsInRange};
 ghost use Rattle.jiff_core.specs.declared.civil.date.Date.{Date as ADate};
-ghost use Rattle.sg_time.specs.Stamp.{IsValid};
+ghost use Rattle.sg_time.specs.Stamp.{IsValidStamp};
 ghost use Rattle.sg_time.specs.Local.{local_time, IsShown};
 ghost use Rattle.sg_time.specs.Text.{month_name};
 ghost use Rattle.sg_time.specs.Reading.{IsIso, IsBsd, IsMoment, IsDay, year_by_receipt as receipt_year};
@@ -21,7 +21,7 @@ pub fn read_iso(text: &[u8]) -> Option<(Stamp, usize)>
     ensures reading { MatchOption result
         ((stamp : AStamp) (len : ℕ) → ¬ IsIso text.now stamp len)
         (λ read. IsIso text.now read.0 read.1) }
-    ensures valid { IfSome result (λ read. IsValid read.0) }
+    ensures valid { IfSome result (λ read. IsValidStamp read.0) }
     ensures within { IfSome result (λ read. read.1 ≤ length text.now) }
 {
     let Some((date, rest)) = date(text) else {
@@ -50,12 +50,12 @@ pub fn read_iso(text: &[u8]) -> Option<(Stamp, usize)>
 /// the text says December and it was received in January, plus one where the text says January and
 /// it was received in December. There is no reading where that year, 0000 to 9999, lacks the date.
 pub fn read_bsd(text: &[u8], received: Stamp) -> Option<(Stamp, usize)>
-    requires { IsValid received }
+    requires { IsValidStamp received }
     ensures reading { MatchOption result
         ((stamp : AStamp) (len : ℕ)
         → ¬ IsBsd text.now (local_time received) received.offset stamp len)
         (λ read. IsBsd text.now (local_time received) received.offset read.0 read.1) }
-    ensures valid { IfSome result (λ read. IsValid read.0) }
+    ensures valid { IfSome result (λ read. IsValidStamp read.0) }
     ensures within { IfSome result (λ read. read.1 ≤ length text.now) }
 {
     let Some((month, rest)) = month(text) else {
@@ -161,7 +161,7 @@ fn stamp_at(date: Date, time: Time, micros: u32, offset: i16) -> Stamp
     requires west { offset ≤ℤ pos 1439 }
     ensures moment { IsMoment result date time micros }
     ensures offset { result.offset ≡ offset }
-    ensures valid { IsValid result }
+    ensures valid { IsValidStamp result }
 {
     let seconds = date.to_unix_epoch_day() as i64 * 86_400 + time.to_second() as i64;
     let local = seconds * 1_000_000 + micros as i64;

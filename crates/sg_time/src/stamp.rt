@@ -18,11 +18,11 @@ const FIRST: i64 = -62_167_219_200_000_000;
 const LAST: i64 = 253_402_300_799_999_999;
 
 impl Stamp {
-    ghost use Rattle.sg_time.specs.Stamp.{IsValid};
+    ghost use Rattle.sg_time.specs.Stamp.{IsValidStamp};
 
     /// Whether the offset and the local year are in their ranges.
     pub fn is_valid(&self) -> bool
-        ensures { IsTrue result ↔ IsValid self.now }
+        ensures { IsTrue result ↔ IsValidStamp self.now }
     {
         if self.offset < -1439 || self.offset > 1439 {
             return false;

@@ -2,7 +2,7 @@
 ghost use Rattle.std.specs.Prelude.{◌≡◌, ◌+◌, ◌≤◌, ◌<◌, ◌++◌, ◌^◌, ◌==◌, if◌then◌else◌, ◌≤ℤ◌, pos, negsuc, OnOk, OnErr, length, take, codes};
 ghost use Rattle.std.specs.Int.{IsInRange};
 ghost use Rattle.sg_time.specs.Local.{IsShown};
-ghost use Rattle.sg_time.specs.Stamp.{IsValid};
+ghost use Rattle.sg_time.specs.Stamp.{IsValidStamp};
 ghost use Rattle.sg_time.specs.Text.{digits as digits_of, date_text, clock_text, fraction_text, offset_text, month_name, day_text, iso_stamp_text, bsd_stamp_text};
 
 use crate::{LocalTime, Stamp};
@@ -11,7 +11,7 @@ use std::alloc::AllocError;
 /// Appends the stamp as `YYYY-MM-DDThh:mm:ss`, a dot and so many digits of the second's fraction
 /// (neither for 0 digits, the rest cut off), and the offset as `+hh:mm` or `-hh:mm`.
 pub fn iso_text(stamp: Stamp, digits: u8, out: &mut Vec<u8>) -> Result<(), AllocError>
-    requires valid { IsValid stamp }
+    requires valid { IsValidStamp stamp }
     requires at_most_six { digits ≤ 6 }
     ensures ok { OnOk result (out.new.items ≡ out.old.items ++ iso_stamp_text stamp digits) }
     ensures err { OnErr result (out.new.items ≡ out.old.items) }
@@ -24,7 +24,7 @@ pub fn iso_text(stamp: Stamp, digits: u8, out: &mut Vec<u8>) -> Result<(), Alloc
 /// Appends the stamp's local time as `Mmm dd hh:mm:ss`, with a space before a day of one digit, a
 /// dot and so many digits of the second's fraction (neither for 0 digits, the rest cut off).
 pub fn bsd_text(stamp: Stamp, digits: u8, out: &mut Vec<u8>) -> Result<(), AllocError>
-    requires valid { IsValid stamp }
+    requires valid { IsValidStamp stamp }
     requires at_most_six { digits ≤ 6 }
     ensures ok { OnOk result (out.new.items ≡ out.old.items ++ bsd_stamp_text stamp digits) }
     ensures err { OnErr result (out.new.items ≡ out.old.items) }

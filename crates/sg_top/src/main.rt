@@ -45,7 +45,7 @@ fn read_bytes(alloc: Global, rt: &HostRuntime) -> Result<Vec<Name>, AllocError> 
 
 /// Does what the words of the command line ask for, on the machine's files and sockets. `waits` is the
 /// runtime again, as what may wait.
-fn run_words<T: Threads + Wait + Copy + Send + Sync>(
+fn run_words<T: Threads + Wait + Eprint + Copy + Send + Sync>(
     waits: &T,
     alloc: Global,
     rt: HostRuntime,

@@ -4,7 +4,7 @@ use Rattle.std.proofs.lemmas.Option.{slice_get_read}
 use Rattle.sg_list.proofs.ListLemmas.{drop-get}
 use Rattle.sg_run_plan.specs.declared.inlet.InletPlan.{InletPlan}
 use Rattle.sg_outside.specs.World.{WorldState}
-use Rattle.sg_config.specs.Alike.{IsWithin}
+use Rattle.sg_config.specs.Alike.{IsConfigWithin}
 use Rattle.sg_config.specs.declared.config.Config.{Config}
 use Rattle.sg_trace.specs.declared.unshown.Unshown.{Unshown}
 use Rattle.sg_trace.specs.Tracing.{is_named, first_of, IsUnknown, TracesInlet, TracesSource}
@@ -39,7 +39,7 @@ pub first-there : (source : List ℕ) (inlets all : List InletPlan) (i : ℕ) �
 first-there source inlets all i same found = (let inside : i < 0 + length all = first-within 0 source all i (sym (found ∙ ap (first_of 0 source) same)) in omega (arith, inside))
 
 -- a configuration has few inlets
-pub few-inlets : (config : Config) (inlets : List InletPlan) → IsWithin config → inlets ≡ config.inlets.items → length inlets < 2 ^ 32
+pub few-inlets : (config : Config) (inlets : List InletPlan) → IsConfigWithin config → inlets ≡ config.inlets.items → length inlets < 2 ^ 32
 few-inlets config inlets within same =
     let few : length config.inlets.items ≤ 128 = within.inlets in
     let count : length inlets ≡ length config.inlets.items = ap length same in

@@ -7,11 +7,12 @@ use Rattle.sg_device.specs.Inlet.{Stamped, Part, InletState, IsFresh, stamped, w
 use Rattle.sg_device.specs.declared.inlet.Pull.TheVariants.{Bytes}
 use Rattle.sg_frame.specs.declared.kind.FrameKind.{FrameKind}
 use Rattle.sg_frame.specs.Items.{Item, items_of, open_of}
-use Rattle.sg_frame.specs.Framing.{Framing, HasFramed, Goes, fresh, items_left, open_left}
+use Rattle.sg_frame.specs.Framing.{Framing, HasFramed, GoesOnFraming, fresh, items_left, open_left}
 use Rattle.sg_frame.specs.Framing.{with_bytes as with_fed}
 use Rattle.sg_trace.specs.Pulling.{PullsTo}
-use Rattle.sg_trace.specs.Reading.{IsTimely, AreTimely, ReadsSo, Reads}
-use Rattle.sg_trace.proofs.Times.{timely-append, timely-stamped}
+use Rattle.sg_trace.specs.Reading.{ReadsSo, ReadsTraced}
+use Rattle.sg_frame.specs.Timely.{IsTimely, AreTimely}
+use Rattle.sg_frame.proofs.TimelyLemmas.{timely-append, timely-stamped}
 
 given-more : (told told' : Option (List Part)) (peer peer' : List ℕ) (bytes xs : List Stamped) → IfSome told (λ parts. parts ≡ (record { peer = peer; given = bytes }) ∷ [])
     → told' ≡ option_map (λ parts. with_bytes parts peer' xs) told → IfSome told' (λ parts. parts ≡ (record { peer = peer; given = bytes ++ xs }) ∷ [])
@@ -25,9 +26,9 @@ stamped-len [] (suc len) moment h = absurd (omega arith)
 stamped-len (b ∷ into) (suc len) moment h = ap suc (stamped-len into len moment (omega arith))
 
 pub reads-pulled : (kind : FrameKind) (limit : ℕ) (first feed feed' : InletState) (f f' : Framing) (items : List Item) (into : List ℕ) (room len : ℕ) (at moment : ℤ)
-    → Reads kind limit first feed f items → PullIsWhole room (Ok (Bytes len at)) → len ≤ length into → moment ≡ at
+    → ReadsTraced kind limit first feed f items → PullIsWhole room (Ok (Bytes len at)) → len ≤ length into → moment ≡ at
     → PullTells feed feed' into (Ok (Bytes len at)) → PullMoves feed feed' (Ok (Bytes len at)) → PullCounts feed feed' (Ok (Bytes len at)) → feed.faults ≤ feed'.faults
-    → f' ≡ with_fed f (stamped (take len into) moment) → Goes f f' (stamped (take len into) moment) [] → PullsTo kind limit first feed feed' f f' items (Ok false)
+    → f' ≡ with_fed f (stamped (take len into) moment) → GoesOnFraming f f' (stamped (take len into) moment) [] → PullsTo kind limit first feed feed' f f' items (Ok false)
 reads-pulled kind limit first feed feed' f f' items into room len at moment (bytes, h) whole fits is tells moves counts later f-is goes =
     let xs = stamped (take len into) moment in
     let told : feed'.told ≡ option_map (λ parts. with_bytes parts feed'.peer xs) feed.told = rw is tells.0 in
@@ -54,7 +55,7 @@ reads-pulled kind limit first feed feed' f f' items into room len at moment (byt
     ((bytes ++ xs, so), counts.5, (counts.0, more))
 
 -- a file of which nothing was read
-pub reads-begun : (kind : FrameKind) (limit : ℕ) (feed : InletState) (f : Framing) → IsFresh feed → feed.from ≡ 0 → feed.parts ≡ 1 → feed.single ≡ true → f ≡ fresh kind limit → Reads kind limit feed feed f []
+pub reads-begun : (kind : FrameKind) (limit : ℕ) (feed : InletState) (f : Framing) → IsFresh feed → feed.from ≡ 0 → feed.parts ≡ 1 → feed.single ≡ true → f ≡ fresh kind limit → ReadsTraced kind limit feed feed f []
 reads-begun kind limit feed f new from one single f-is =
     let place : feed.place ≡ 0 = new.at_from ∙ from in
     let none : f.held ≡ [] = ap (λ (x : Framing). x.held) f-is in

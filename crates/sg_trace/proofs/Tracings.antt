@@ -6,18 +6,18 @@ use Rattle.sg_frame.specs.declared.kind.FrameKind.{FrameKind}
 use Rattle.sg_frame.specs.Framing.{Framing, HasFramed, items_left, open_left}
 use Rattle.sg_frame.specs.Items.{Item}
 use Rattle.sg_outside.specs.World.{WorldState}
-use Rattle.sg_trace.specs.declared.target.Target.{Target}
+use Rattle.sg_trace.specs.declared.target.SentForm.{SentForm}
 use Rattle.sg_trace.specs.declared.tracer.Tracer.{Tracer}
 use Rattle.sg_trace.specs.declared.untraced.Untraced.{Untraced}
 use Rattle.sg_trace.specs.declared.untraced.Untraced.TheVariants.{NotOpened, InletFault, RoundsSpent, SayFault, NoMemory}
-use Rattle.sg_trace.specs.Pulling.{Pulls}
-use Rattle.sg_trace.specs.Reading.{ReadsSo, Reads}
+use Rattle.sg_trace.specs.Pulling.{PullsTraced}
+use Rattle.sg_trace.specs.Reading.{ReadsSo, ReadsTraced}
 use Rattle.sg_trace.specs.Rows.{Offering, AreOffered, items_in, rows_text}
 use Rattle.sg_output.specs.Saying.{OnlySays, SaidSome}
 use Rattle.sg_trace.specs.Saying.{SaysSome}
-use Rattle.sg_trace.specs.Taking.{IsBad, TakesAll}
+use Rattle.sg_trace.specs.Taking.{IsBadForm, TakesAllItems}
 use Rattle.sg_trace.specs.Traces.{AreAll, AreWhole, TracesOpen, TracesTo}
-use Rattle.sg_trace.specs.Opened.{IsBegun, TracedSo, IsTracing}
+use Rattle.sg_trace.specs.Opened.{IsTraceBegun, TracedSo, IsTracing}
 use Rattle.sg_trace.proofs.Readings.{reads-begun, whole-items, open-form}
 use Rattle.sg_output.proofs.Sayings.{rose-later, says-none, only-says-none, only-says-then, some-then, some-more}
 use Rattle.sg_trace.proofs.Takings.{items-append, offered-append, rows-append}
@@ -26,8 +26,8 @@ pub err-is : {T E : Type 0} → (r : Result T E) (e : E) → IsErrAnd r (λ s. s
 err-is (Ok x) e h = absurd h
 err-is (Err x) e h = ap Err h
 
-module _ (offering : Offering) (targets : List Target) (kind : FrameKind) (limit : ℕ) (first : InletState) (world : WorldState) where
-  pub tracing-begun : (tracer : Tracer) → IsBegun kind limit first tracer → IsTracing offering targets kind limit first first world world tracer 0
+module _ (offering : Offering) (targets : List SentForm) (kind : FrameKind) (limit : ℕ) (first : InletState) (world : WorldState) where
+  pub tracing-begun : (tracer : Tracer) → IsTraceBegun kind limit first tracer → IsTracing offering targets kind limit first first world world tracer 0
   tracing-begun tracer b =
       let so : TracedSo offering targets kind limit first first world world tracer 0 [] = record {
         reads = reads-begun kind limit first tracer.framer b.fresh_feed b.from b.parts b.single b.framer;
@@ -57,7 +57,7 @@ module _ (offering : Offering) (targets : List Target) (kind : FrameKind) (limit
         ([], opened)
 
     -- the file has ended
-    pub traces-ended : (feed' : InletState) (f' : Framing) → IsTracing offering targets kind limit first feed world now tracer pulls → feed.faults ≤ feed'.faults → Pulls feed feed' tracer.framer f' (Ok true)
+    pub traces-ended : (feed' : InletState) (f' : Framing) → IsTracing offering targets kind limit first feed world now tracer pulls → feed.faults ≤ feed'.faults → PullsTraced feed feed' tracer.framer f' (Ok true)
         → TracesTo offering targets kind limit first feed' world now tracer.text.items (Ok tt)
     traces-ended feed' f' (rows, so) faults pull =
         let done = pull kind limit first (items_in rows) so.reads in
@@ -74,7 +74,7 @@ module _ (offering : Offering) (targets : List Target) (kind : FrameKind) (limit
         (rows, opened)
 
     -- a pull failed, or there was no memory to feed what it brought
-    pub traces-failed : (feed' : InletState) (f' : Framing) (why : Untraced) → IsTracing offering targets kind limit first feed world now tracer pulls → feed.faults ≤ feed'.faults → Pulls feed feed' tracer.framer f' (Err why)
+    pub traces-failed : (feed' : InletState) (f' : Framing) (why : Untraced) → IsTracing offering targets kind limit first feed world now tracer pulls → feed.faults ≤ feed'.faults → PullsTraced feed feed' tracer.framer f' (Err why)
         → TracesTo offering targets kind limit first feed' world now tracer.text.items (Err why)
     traces-failed feed' f' NotOpened (rows, so) faults pull = absurd (pull kind limit first (items_in rows) so.reads)
     traces-failed feed' f' RoundsSpent (rows, so) faults pull = absurd (pull kind limit first (items_in rows) so.reads)
@@ -95,8 +95,8 @@ module _ (offering : Offering) (targets : List Target) (kind : FrameKind) (limit
         (rows, opened)
 
     -- bytes came, and their items were taken
-    pub tracing-taken : (feed' : InletState) (f' : Framing) (new : Tracer) (bad : Bool) (peer : List ℕ) → IsTracing offering targets kind limit first feed world now tracer pulls → Pulls feed feed' tracer.framer f' (Ok false)
-        → peer ≡ feed'.peer → TakesAll offering targets peer (record tracer { framer = f' }) new bad → IsTracing offering targets kind limit first feed' world now new (pulls + 1)
+    pub tracing-taken : (feed' : InletState) (f' : Framing) (new : Tracer) (bad : Bool) (peer : List ℕ) → IsTracing offering targets kind limit first feed world now tracer pulls → PullsTraced feed feed' tracer.framer f' (Ok false)
+        → peer ≡ feed'.peer → TakesAllItems offering targets peer (record tracer { framer = f' }) new bad → IsTracing offering targets kind limit first feed' world now new (pulls + 1)
     tracing-taken feed' f' new bad peer (rows, so) pull same takes =
         let done = pull kind limit first (items_in rows) so.reads in
         let (bytes, h) = done.0 in
@@ -138,7 +138,7 @@ module _ (offering : Offering) (targets : List Target) (kind : FrameKind) (limit
         → new.framer ≡ tracer.framer → new.number ≡ tracer.number → IsTracing offering targets kind limit first feed world later new pulls
     tracing-said later new (rows, so) says said framer number =
         let traced : TracedSo offering targets kind limit first feed world later new pulls rows = record {
-          reads = subst (λ (f : Framing). Reads kind limit first feed f (items_in rows)) (sym framer) so.reads;
+          reads = subst (λ (f : Framing). ReadsTraced kind limit first feed f (items_in rows)) (sym framer) so.reads;
           none = ap items_left framer ∙ so.none;
           going = so.going;
           pulled = so.pulled;
@@ -168,14 +168,14 @@ module _ (offering : Offering) (targets : List Target) (kind : FrameKind) (limit
         (rows, opened)
 
     -- a bad count follows
-    pub traces-bad : IsTracing offering targets kind limit first feed world now tracer pulls → IsBad (open_left tracer.framer) → TracesTo offering targets kind limit first feed world now tracer.text.items (Ok tt)
+    pub traces-bad : IsTracing offering targets kind limit first feed world now tracer pulls → IsBadForm (open_left tracer.framer) → TracesTo offering targets kind limit first feed world now tracer.text.items (Ok tt)
     traces-bad (rows, so) bad =
         let (bytes, h) = so.reads in
         let all : AreAll kind limit first feed rows = record {
           bytes = bytes;
           given = h.given;
           items = whole-items kind limit first feed tracer.framer (items_in rows) bytes h so.none;
-          over = inr (subst IsBad (sym (open-form kind limit first feed tracer.framer (items_in rows) bytes h)) bad);
+          over = inr (subst IsBadForm (sym (open-form kind limit first feed tracer.framer (items_in rows) bytes h)) bad);
         } in
         let opened : TracesOpen offering targets kind limit first feed world now tracer.text.items (Ok tt) rows = record {
           later = h.later;

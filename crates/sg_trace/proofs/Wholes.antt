@@ -8,14 +8,14 @@ use Rattle.sg_frame.specs.declared.kind.FrameKind.{FrameKind}
 use Rattle.sg_frame.specs.Framing.{fresh}
 use Rattle.sg_outside.specs.World.{WorldState, Files, LeavesFile, StandsIn, InletOpens, ClosesInlet, with_opened, with_closed}
 use Rattle.sg_outside.specs.declared.request.InletSpec.{InletSpec}
-use Rattle.sg_trace.specs.declared.target.Target.{Target}
+use Rattle.sg_trace.specs.declared.target.SentForm.{SentForm}
 use Rattle.sg_trace.specs.declared.tracer.Tracer.{Tracer}
 use Rattle.sg_trace.specs.declared.untraced.Untraced.{Untraced}
 use Rattle.sg_trace.specs.declared.untraced.Untraced.TheVariants.{NotOpened, InletFault, RoundsSpent, SayFault, NoMemory}
-use Rattle.sg_trace.specs.Rows.{Row, Offering, AreOffered, rows_text}
+use Rattle.sg_trace.specs.Rows.{TracedRow, Offering, AreOffered, rows_text}
 use Rattle.sg_output.specs.Saying.{OnlySays, SaidText, SaidSome}
-use Rattle.sg_trace.specs.Traces.{TraceEnds, UnlessUnsaid, TracesOpen, TracesTo, Ends, Feed, spec_of, end_text, HasCause, IsUntroubled, IsComplete, TracesBy, Traces}
-use Rattle.sg_trace.specs.Opened.{IsBegun}
+use Rattle.sg_trace.specs.Traces.{TraceEnds, UnlessUnsaid, TracesOpen, TracesTo, EndsTracing, Feed, spec_of, end_text, HasTracingCause, TracesUntroubled, WasTraced, TracesBy, Traces}
+use Rattle.sg_trace.specs.Opened.{IsTraceBegun}
 use Rattle.sg_output.proofs.Sayings.{rose-later, rose-on, only-says-then, all-said}
 
 -- a file is read from its beginning
@@ -28,7 +28,7 @@ leaves-zero None path limit feed h = elim h [ inl e ↦ e | inr e ↦ e ]
 leaves-zero (Some files) path limit feed h = h.1.1.0 ∙ either-same _ 0
 
 pub begins : (kind : FrameKind) (files : Option Files) (input : List ℕ) (limit : ℕ) (feed : InletState) (tracer : Tracer) → IsFresh feed → StandsIn files (spec_of input limit) 0 feed
-    → tracer.framer ≡ fresh kind limit → tracer.number ≡ 0 → tracer.text.items ≡ [] → IsBegun kind limit feed tracer
+    → tracer.framer ≡ fresh kind limit → tracer.number ≡ 0 → tracer.text.items ≡ [] → IsTraceBegun kind limit feed tracer
 begins kind files input limit feed tracer new stands framer number text = record {
   fresh_feed = new;
   from = sym new.at_from ∙ leaves-zero files input limit feed stands.0;
@@ -49,7 +49,7 @@ unless-said a b c lines text (Err SayFault) h k = tt
 unless-said a b c lines text (Err NoMemory) h k = tt
 
 -- the answer's cause, which is told of the machine before the file was opened and behind its end
-caused : (kind : FrameKind) (limit : ℕ) (first feed : InletState) (a b old new : WorldState) (rows : List Row) (traced : Result Unit Untraced) → a.say_faults ≡ old.say_faults → b.say_faults ≤ new.say_faults
+caused : (kind : FrameKind) (limit : ℕ) (first feed : InletState) (a b old new : WorldState) (rows : List TracedRow) (traced : Result Unit Untraced) → a.say_faults ≡ old.say_faults → b.say_faults ≤ new.say_faults
     → TraceEnds kind limit first feed a b rows traced → TraceEnds kind limit first feed old new rows traced
 caused kind limit first feed a b old new rows (Ok done) from to h = h
 caused kind limit first feed a b old new rows (Err NotOpened) from to h = h
@@ -59,41 +59,41 @@ caused kind limit first feed a b old new rows (Err SayFault) from to h = rose-on
 caused kind limit first feed a b old new rows (Err NoMemory) from to h = tt
 
 -- the open file's part, and what is said at its end
-pub record Closes (offering : Offering) (targets : List Target) (kind : FrameKind) (limit : ℕ) (first feed : InletState) (a c : WorldState) (result : Result Unit Untraced) (rows : List Row) : Type 0 where
+pub record ClosesWhole (offering : Offering) (targets : List SentForm) (kind : FrameKind) (limit : ℕ) (first feed : InletState) (a c : WorldState) (result : Result Unit Untraced) (rows : List TracedRow) : Type 0 where
   pub says : OnlySays a c
   pub offered : AreOffered offering first.peer rows
   pub said : UnlessUnsaid result (SaidText a c (rows_text targets 0 rows ++ end_text result))
   pub ends : TraceEnds kind limit first feed a c rows result
 
-pub closes : (offering : Offering) (targets : List Target) (kind : FrameKind) (limit : ℕ) (first feed : InletState) (a b c : WorldState) (text : List ℕ) (traced result : Result Unit Untraced) (rows : List Row)
-    → TracesOpen offering targets kind limit first feed a b text traced rows → Ends b c text traced result → Closes offering targets kind limit first feed a c result rows
+pub closes : (offering : Offering) (targets : List SentForm) (kind : FrameKind) (limit : ℕ) (first feed : InletState) (a b c : WorldState) (text : List ℕ) (traced result : Result Unit Untraced) (rows : List TracedRow)
+    → TracesOpen offering targets kind limit first feed a b text traced rows → EndsTracing b c text traced result → ClosesWhole offering targets kind limit first feed a c result rows
 closes offering targets kind limit first feed a b c text traced result rows o e =
     let says = only-says-then a b c o.says e.says in
     elim e.ends [
       | inl h ↦
-          let mine : Closes offering targets kind limit first feed a c traced rows = record {
+          let mine : ClosesWhole offering targets kind limit first feed a c traced rows = record {
             says = says;
             offered = o.offered;
             said = unless-said a b c (rows_text targets 0 rows) text traced o.said h.1;
             ends = caused kind limit first feed a b a c rows traced refl e.says.later o.ends;
           } in
-          subst (λ (r : Result Unit Untraced). Closes offering targets kind limit first feed a c r rows) (sym h.0) mine
+          subst (λ (r : Result Unit Untraced). ClosesWhole offering targets kind limit first feed a c r rows) (sym h.0) mine
       | inr (inl h) ↦
-          let mine : Closes offering targets kind limit first feed a c (Err SayFault) rows = record {
+          let mine : ClosesWhole offering targets kind limit first feed a c (Err SayFault) rows = record {
             says = says;
             offered = o.offered;
             said = tt;
             ends = rose-later a.say_faults b.say_faults c.say_faults o.says.later h.1;
           } in
-          subst (λ (r : Result Unit Untraced). Closes offering targets kind limit first feed a c r rows) (sym h.0) mine
+          subst (λ (r : Result Unit Untraced). ClosesWhole offering targets kind limit first feed a c r rows) (sym h.0) mine
       | inr (inr h) ↦
-          let mine : Closes offering targets kind limit first feed a c (Err NoMemory) rows = record {
+          let mine : ClosesWhole offering targets kind limit first feed a c (Err NoMemory) rows = record {
             says = says;
             offered = o.offered;
             said = tt;
             ends = tt;
           } in
-          subst (λ (r : Result Unit Untraced). Closes offering targets kind limit first feed a c r rows) (sym h) mine
+          subst (λ (r : Result Unit Untraced). ClosesWhole offering targets kind limit first feed a c r rows) (sym h) mine
     ]
 
 -- from the opening to the closing
@@ -118,8 +118,8 @@ all-same old a c new spec first feed ea ec en =
     ∙ ap (λ (w : WorldState). record w { say_faults = c.say_faults; said = c.said; inlets = with_closed w.inlets feed }) ea
     ∙ (λ i. record old { inlets = with_closed (with_opened old.inlets spec first) feed; inlet_faults = (sym here ∙ faults) i; say_faults = says i; said = told i })
 
-completes : (kind : FrameKind) (limit : ℕ) (first feed : InletState) (old new : WorldState) (rows : List Row) (result : Result Unit Untraced) → TraceEnds kind limit first feed old new rows result
-    → IsUntroubled old new (Some (record { opened = first; closed = feed })) → IsComplete result
+completes : (kind : FrameKind) (limit : ℕ) (first feed : InletState) (old new : WorldState) (rows : List TracedRow) (result : Result Unit Untraced) → TraceEnds kind limit first feed old new rows result
+    → TracesUntroubled old new (Some (record { opened = first; closed = feed })) → WasTraced result
 completes kind limit first feed old new rows (Ok done) h u = tt
 completes kind limit first feed old new rows (Err NotOpened) h u = h
 completes kind limit first feed old new rows (Err InletFault) h u = u.inlet.0 h.1
@@ -127,7 +127,7 @@ completes kind limit first feed old new rows (Err RoundsSpent) h u = (let few = 
 completes kind limit first feed old new rows (Err SayFault) h u = u.say h
 completes kind limit first feed old new rows (Err NoMemory) h u = tt
 
-unopened-complete : (kind : FrameKind) (limit : ℕ) (old new : WorldState) (rows : List Row) (result : Result Unit Untraced) → HasCause kind limit old new None rows result → IsUntroubled old new None → IsComplete result
+unopened-complete : (kind : FrameKind) (limit : ℕ) (old new : WorldState) (rows : List TracedRow) (result : Result Unit Untraced) → HasTracingCause kind limit old new None rows result → TracesUntroubled old new None → WasTraced result
 unopened-complete kind limit old new rows (Ok done) h u = tt
 unopened-complete kind limit old new rows (Err NotOpened) h u = u.opening h.1
 unopened-complete kind limit old new rows (Err InletFault) h u = h
@@ -135,8 +135,8 @@ unopened-complete kind limit old new rows (Err RoundsSpent) h u = h
 unopened-complete kind limit old new rows (Err SayFault) h u = u.say h
 unopened-complete kind limit old new rows (Err NoMemory) h u = tt
 
-pub traces-file : (offering : Offering) (targets : List Target) (kind : FrameKind) (limit : ℕ) (old a b c new : WorldState) (input : List ℕ) (first feed : InletState) (place : ℕ) (text : List ℕ) (traced result : Result Unit Untraced)
-    → InletOpens old a (spec_of input limit) 0 first place → TracesTo offering targets kind limit first feed a b text traced → Ends b c text traced result → ClosesInlet c new feed
+pub traces-file : (offering : Offering) (targets : List SentForm) (kind : FrameKind) (limit : ℕ) (old a b c new : WorldState) (input : List ℕ) (first feed : InletState) (place : ℕ) (text : List ℕ) (traced result : Result Unit Untraced)
+    → InletOpens old a (spec_of input limit) 0 first place → TracesTo offering targets kind limit first feed a b text traced → EndsTracing b c text traced result → ClosesInlet c new feed
     → Traces offering targets kind limit old new input result
 traces-file offering targets kind limit old a b c new input first feed place text traced result opens (rows, o) e shut =
     let done = closes offering targets kind limit first feed a b c text traced result rows o e in
@@ -162,8 +162,8 @@ traces-file offering targets kind limit old a b c new input first feed place tex
     (Some f, (rows, by))
 
 -- it couldn't be opened
-pub traces-unopened : (offering : Offering) (targets : List Target) (kind : FrameKind) (limit : ℕ) (old a new : WorldState) (input text : List ℕ) (result : Result Unit Untraced) → text ≡ []
-    → (a ≡ record old { inlet_faults = a.inlet_faults }) × (old.inlet_faults ≤ a.inlet_faults) × Rose old.inlet_faults a.inlet_faults → Ends a new text (Err NotOpened) result
+pub traces-unopened : (offering : Offering) (targets : List SentForm) (kind : FrameKind) (limit : ℕ) (old a new : WorldState) (input text : List ℕ) (result : Result Unit Untraced) → text ≡ []
+    → (a ≡ record old { inlet_faults = a.inlet_faults }) × (old.inlet_faults ≤ a.inlet_faults) × Rose old.inlet_faults a.inlet_faults → EndsTracing a new text (Err NotOpened) result
     → Traces offering targets kind limit old new input result
 traces-unopened offering targets kind limit old a new input text result none refused e =
     let from : a.say_faults ≡ old.say_faults = ap (λ (w : WorldState). w.say_faults) refused.0 in
@@ -172,7 +172,7 @@ traces-unopened offering targets kind limit old a new input text result none ref
     let same : new ≡ record old { inlets = old.inlets; inlet_faults = new.inlet_faults; say_faults = new.say_faults; said = new.said } =
     e.says.same ∙ ap (λ (w : WorldState). record w { say_faults = new.say_faults; said = new.said }) refused.0
     ∙ (λ i. record old { inlet_faults = (sym counts) i; say_faults = new.say_faults; said = new.said }) in
-    let by : (r : Result Unit Untraced) → HasCause kind limit old new None [] r → UnlessUnsaid r (SaidText old new (end_text r)) → TracesBy offering targets kind limit old new input r None [] =
+    let by : (r : Result Unit Untraced) → HasTracingCause kind limit old new None [] r → UnlessUnsaid r (SaidText old new (end_text r)) → TracesBy offering targets kind limit old new input r None [] =
     λ r cause said. record {
       state = same;
       inlet_later = omega (arith, refused.1, counts);
@@ -197,7 +197,7 @@ traces-unopened offering targets kind limit old a new input text result none ref
     ]
 
 -- there was no memory to begin
-pub traces-none : (offering : Offering) (targets : List Target) (kind : FrameKind) (limit : ℕ) (old : WorldState) (input : List ℕ) → Traces offering targets kind limit old old input (Err NoMemory)
+pub traces-none : (offering : Offering) (targets : List SentForm) (kind : FrameKind) (limit : ℕ) (old : WorldState) (input : List ℕ) → Traces offering targets kind limit old old input (Err NoMemory)
 traces-none offering targets kind limit old input =
     let by : TracesBy offering targets kind limit old old input (Err NoMemory) None [] = record {
       state = refl;

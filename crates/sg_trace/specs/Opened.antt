@@ -4,14 +4,14 @@ use Rattle.sg_device.specs.Inlet.{InletState, IsFresh}
 use Rattle.sg_frame.specs.declared.kind.FrameKind.{FrameKind}
 use Rattle.sg_frame.specs.Framing.{fresh, items_left}
 use Rattle.sg_outside.specs.World.{WorldState}
-use Rattle.sg_trace.specs.declared.target.Target.{Target}
+use Rattle.sg_trace.specs.declared.target.SentForm.{SentForm}
 use Rattle.sg_trace.specs.declared.tracer.Tracer.{Tracer}
-use Rattle.sg_trace.specs.Reading.{Reads}
-use Rattle.sg_trace.specs.Rows.{Row, Offering, AreOffered, items_in, rows_text}
+use Rattle.sg_trace.specs.Reading.{ReadsTraced}
+use Rattle.sg_trace.specs.Rows.{TracedRow, Offering, AreOffered, items_in, rows_text}
 use Rattle.sg_output.specs.Saying.{OnlySays, SaidSome}
 
 -- a file from its beginning, of which nothing was read
-pub record IsBegun (kind : FrameKind) (limit : ℕ) (feed : InletState) (tracer : Tracer) : Type 0 where
+pub record IsTraceBegun (kind : FrameKind) (limit : ℕ) (feed : InletState) (tracer : Tracer) : Type 0 where
   pub fresh_feed : IsFresh feed
   pub from : feed.from ≡ 0
   pub parts : feed.parts ≡ 1
@@ -21,8 +21,8 @@ pub record IsBegun (kind : FrameKind) (limit : ℕ) (feed : InletState) (tracer 
   pub text : tracer.text.items ≡ []
 
 -- these rows were traced, and no whole item is left
-pub record TracedSo (offering : Offering) (targets : List Target) (kind : FrameKind) (limit : ℕ) (first feed : InletState) (world world' : WorldState) (tracer : Tracer) (pulls : ℕ) (rows : List Row) : Type 0 where
-  pub reads : Reads kind limit first feed tracer.framer (items_in rows)
+pub record TracedSo (offering : Offering) (targets : List SentForm) (kind : FrameKind) (limit : ℕ) (first feed : InletState) (world world' : WorldState) (tracer : Tracer) (pulls : ℕ) (rows : List TracedRow) : Type 0 where
+  pub reads : ReadsTraced kind limit first feed tracer.framer (items_in rows)
   pub none : items_left tracer.framer ≡ []
   pub going : feed.ended ≡ false
   pub pulled : feed.pulls ≡ pulls
@@ -32,8 +32,8 @@ pub record TracedSo (offering : Offering) (targets : List Target) (kind : FrameK
   pub says : OnlySays world world'
   pub said : SaidSome world world' (rows_text targets 0 rows) tracer.text.items
 
-abbrev pub IsTracing : Offering → List Target → FrameKind → ℕ → InletState → InletState → WorldState
+abbrev pub IsTracing : Offering → List SentForm → FrameKind → ℕ → InletState → InletState → WorldState
     → WorldState → Tracer → ℕ → Type 0
 IsTracing offering targets kind limit first feed world world' tracer pulls =
-    (rows : List Row)
+    (rows : List TracedRow)
     × TracedSo offering targets kind limit first feed world world' tracer pulls rows

@@ -1,17 +1,10 @@
 -- What was read of a file.
-use Rattle.std.specs.Prelude.{◌≡◌, ◌≤◌, ◌<◌, ℕ, ℤ, pos, ◌≤ℤ◌, ◌^◌, List, [], ◌∷◌, length, true, IfSome}
+use Rattle.std.specs.Prelude.{◌≡◌, ◌≤◌, ◌<◌, ℕ, ◌^◌, List, [], ◌∷◌, length, true, IfSome}
 use Rattle.sg_device.specs.Inlet.{Stamped, InletState}
 use Rattle.sg_frame.specs.declared.kind.FrameKind.{FrameKind}
 use Rattle.sg_frame.specs.Items.{Item}
 use Rattle.sg_frame.specs.Framing.{Framing, HasFramed, fed}
-
--- a moment of a pull
-abbrev pub IsTimely : ℤ → Type 0
-IsTimely at = (pos 0 ≤ℤ at) × (at ≤ℤ pos 250000000000000000)
-
-abbrev pub AreTimely : List Stamped → Type 0
-AreTimely [] = Unit {0}
-AreTimely (b ∷ bytes) = IsTimely b.1 × AreTimely bytes
+use Rattle.sg_frame.specs.Timely.{AreTimely}
 
 -- the only part of an inlet gave these bytes
 abbrev pub HasGiven : InletState → List ℕ → List Stamped → Type 0
@@ -33,6 +26,6 @@ pub record ReadsSo (kind : FrameKind) (limit : ℕ) (first feed : InletState) (f
   -- each item took a byte with it at least
   pub fewer : length items ≤ f.place
 
-abbrev pub Reads : FrameKind → ℕ → InletState → InletState → Framing → List Item → Type 0
-Reads kind limit first feed f items = (bytes : List Stamped)
+abbrev pub ReadsTraced : FrameKind → ℕ → InletState → InletState → Framing → List Item → Type 0
+ReadsTraced kind limit first feed f items = (bytes : List Stamped)
     × ReadsSo kind limit first feed f items bytes

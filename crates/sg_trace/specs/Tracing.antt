@@ -12,8 +12,8 @@ use Rattle.sg_loaded.specs.Loading.{OnlyLoads, LoadsFile, IsConfigured}
 use Rattle.sg_loaded.specs.declared.loaded.Loaded.{Loaded}
 use Rattle.sg_loaded.specs.declared.loaded.Unloaded.TheVariants.{Bad, Unread, NoMemory}
 use Rattle.sg_trace.specs.Traces.{Traces}
-use Rattle.sg_trace.specs.declared.target.Reader.{Reader}
-use Rattle.sg_trace.specs.declared.target.Target.{Target}
+use Rattle.sg_trace.specs.declared.target.FileReading.{FileReading}
+use Rattle.sg_trace.specs.declared.target.SentForm.{SentForm}
 use Rattle.sg_trace.specs.declared.untraced.Untraced.{Untraced}
 use Rattle.sg_trace.specs.declared.untraced.Untraced.TheVariants as untraced
 use Rattle.sg_trace.specs.declared.unshown.Unshown.{Unshown}
@@ -30,11 +30,11 @@ first_of number source [] = None
 first_of number source (inlet ∷ inlets) = if is_named source inlet.source then Some number else first_of (number + 1) source inlets
 
 -- what a destination sends
-abbrev pub target_of : OutletPlan → Target
+abbrev pub target_of : OutletPlan → SentForm
 target_of outlet = record { shape = outlet.shape; env = outlet.env }
 
 -- how the inlet of a number reads
-abbrev pub IsReader : List InletPlan → ℕ → Reader → Type 0
+abbrev pub IsReader : List InletPlan → ℕ → FileReading → Type 0
 IsReader inlets i reader =
     (inlet : InletPlan) × ((slice_get inlets i ≡ Some inlet)
     × (reader ≡ record { inlet = i; kind = inlet.kind; limit = inlet.limit }))
@@ -80,19 +80,19 @@ pub record TracesBy (old loaded new : WorldState) (file source input : List ℕ)
       loaded new input result
 
 -- why FILE wasn't loaded, unless memory ran out
-abbrev pub IsLeft : WorldState → WorldState → List ℕ → Result Unit Unshown → Type 0
-IsLeft old loaded file (Ok done) = ⊥
-IsLeft old loaded file (Err (unshown.Unloaded unloaded)) = LoadsFile old loaded file (Err unloaded)
-IsLeft old loaded file (Err (unshown.Untraced untraced.NoMemory)) = Unit {0}
-IsLeft old loaded file (Err (unshown.Untraced untraced.NotOpened)) = ⊥
-IsLeft old loaded file (Err (unshown.Untraced untraced.InletFault)) = ⊥
-IsLeft old loaded file (Err (unshown.Untraced untraced.RoundsSpent)) = ⊥
-IsLeft old loaded file (Err (unshown.Untraced untraced.SayFault)) = ⊥
+abbrev pub IsNotTraced : WorldState → WorldState → List ℕ → Result Unit Unshown → Type 0
+IsNotTraced old loaded file (Ok done) = ⊥
+IsNotTraced old loaded file (Err (unshown.Unloaded unloaded)) = LoadsFile old loaded file (Err unloaded)
+IsNotTraced old loaded file (Err (unshown.Untraced untraced.NoMemory)) = Unit {0}
+IsNotTraced old loaded file (Err (unshown.Untraced untraced.NotOpened)) = ⊥
+IsNotTraced old loaded file (Err (unshown.Untraced untraced.InletFault)) = ⊥
+IsNotTraced old loaded file (Err (unshown.Untraced untraced.RoundsSpent)) = ⊥
+IsNotTraced old loaded file (Err (unshown.Untraced untraced.SayFault)) = ⊥
 
 -- FILE was loaded and INPUT traced; or it wasn't loaded, and nothing else was done
 abbrev pub TracesFile : WorldState → WorldState → List ℕ → List ℕ → List ℕ → Result Unit Unshown
     → Type 0
 TracesFile old new file source input result =
     (loaded : WorldState) × (OnlyLoads old loaded × (
-    ((new ≡ loaded) × IsLeft old loaded file result)
+    ((new ≡ loaded) × IsNotTraced old loaded file result)
     ⊎ TracesBy old loaded new file source input result))

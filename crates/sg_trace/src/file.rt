@@ -1,11 +1,11 @@
 // A file traced through what a router offers for its records.
 ghost use Rattle.std.specs.Prelude.{◌≡◌, ◌<◌, ◌++◌, length, OnOk};
 ghost use Rattle.sg_route.specs.Offers.{SameRouter};
-ghost use Rattle.sg_trace.specs.Traces.{Ends, Traces, end_text};
+ghost use Rattle.sg_trace.specs.Traces.{EndsTracing, Traces, end_text};
 
 use crate::opened::{make_buffer, make_tracer, trace_opened};
 use crate::saying::say;
-use crate::{Reader, Target, Untraced};
+use crate::{FileReading, SentForm, Untraced};
 use sg_device::{Name, NoMemory, OpenRefusal};
 use sg_outside::InletSpec;
 use sg_report::unopened_text;
@@ -38,7 +38,7 @@ fn end<W: World>(
     text: &mut Vec<u8>,
     world: &mut W,
 ) -> Result<(), Untraced>
-    ensures { Ends (W.state world.old) (W.state world.new) text.old.items traced result }
+    ensures { EndsTracing (W.state world.old) (W.state world.new) text.old.items traced result }
 {
     if let Err(Untraced::SayFault) = traced {
         return Err(Untraced::SayFault);
@@ -63,8 +63,8 @@ pub fn trace_file<W: World, R: Router>(
     alloc: Global,
     input: &[u8],
     router: &mut R,
-    reader: Reader,
-    targets: &[Target],
+    reader: FileReading,
+    targets: &[SentForm],
     world: &mut W,
 ) -> Result<(), Untraced>
     requires inlet { reader.inlet < R.inlets router.old }

@@ -2,7 +2,7 @@
 ghost use Rattle.std.specs.Prelude.{◌≡◌, ◌<◌, ◌^◌, length};
 ghost use Rattle.sg_trace.specs.Tracing.{is_named, first_of, IsReader};
 
-use crate::Reader;
+use crate::FileReading;
 use sg_device::Name;
 use sg_run_plan::InletPlan;
 
@@ -30,13 +30,23 @@ pub(crate) fn first_inlet(source: &[u8], inlets: &[InletPlan]) -> Option<u32>
     None
 }
 
+/// Whether a source statement of that name has a driver.
+pub(crate) fn has_inlet(source: &[u8], inlets: &[InletPlan]) -> bool {
+    for inlet in inlets {
+        if is_named(source, &inlet.source) {
+            return true;
+        }
+    }
+    false
+}
+
 /// How the inlet of this number reads.
-pub(crate) fn reader_of(inlets: &[InletPlan], inlet: u32) -> Reader
+pub(crate) fn reader_of(inlets: &[InletPlan], inlet: u32) -> FileReading
     requires { inlet < length inlets.now }
     ensures { IsReader inlets.now inlet result }
 {
     let plan = &inlets[inlet as usize];
-    Reader {
+    FileReading {
         inlet,
         kind: plan.kind,
         limit: plan.limit,

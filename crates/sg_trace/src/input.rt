@@ -1,14 +1,14 @@
 // A file traced through the log paths of a configuration.
 ghost use Rattle.std.specs.Prelude.{◌≡◌, ◌<◌, ℕ, ◌∷◌, [], length, Some, Err, IfOk};
-ghost use Rattle.sg_outside.specs.World.{Files};
-ghost use Rattle.sg_config.specs.Alike.{IsWithin};
+ghost use Rattle.sg_outside.specs.World.{Files, OnlyReads};
+ghost use Rattle.sg_config.specs.Alike.{IsConfigWithin};
 ghost use Rattle.sg_config.specs.declared.config.Config.{Config as Meant};
 ghost use Rattle.sg_loaded.specs.Compiling.{Compiles, CanBeCompiled};
 ghost use Rattle.sg_loaded.specs.Loading.{Configures};
 ghost use Rattle.sg_trace.specs.Tracing.{first_of, shown, IsUnknown, TracesInlet, TracesSource, TracesFile};
-ghost use Rattle.sg_trace.specs.Completeness.{IsUntroubled, IsComplete};
+ghost use Rattle.sg_trace.specs.Completeness.{ShowsUntroubled, WasShown};
 
-use crate::inlets::{first_inlet, reader_of};
+use crate::inlets::{first_inlet, has_inlet, reader_of};
 use crate::targets::targets_of;
 use crate::{Unshown, Untraced, trace_file};
 use sg_config::{Config, texts_mean_one};
@@ -17,7 +17,9 @@ use sg_expand::expansions_are_one;
 use sg_lex::{ConfigFault, ConfigKind};
 use sg_list::Seq;
 use sg_loaded::{Loaded, Unloaded, load_file};
+use sg_notes::tell_destinations;
 use sg_pipes::Pipes;
+use sg_run_plan::InletPlan;
 use sg_table::Table;
 use sg_world::World;
 use std::alloc::Global;
@@ -65,7 +67,7 @@ fn trace_inlet<W: World>(
     input: &[u8],
     world: &mut W,
 ) -> Result<(), Unshown>
-    requires within { IsWithin config }
+    requires within { IsConfigWithin config }
     requires compiles { Compiles config table }
     requires inlet { inlet < length config.inlets.items }
     ensures { TracesInlet config inlet (W.state world.old) (W.state world.new) input.now result }
@@ -87,7 +89,7 @@ fn trace_source<W: World>(
     input: &[u8],
     world: &mut W,
 ) -> Result<(), Unshown>
-    requires within { IsWithin loaded.config }
+    requires within { IsConfigWithin loaded.config }
     requires compiles { Compiles loaded.config loaded.table }
     ensures { TracesSource loaded.config file.now (first_of 0 source.now loaded.config.inlets.items)
         (W.state world.old) (W.state world.new) input.now result }
@@ -99,9 +101,24 @@ fn trace_source<W: World>(
     }
 }
 
+// Tells which driver each destination's number is of, where the source has a driver.
+fn tell_drivers<W: World>(
+    alloc: Global,
+    file: &[u8],
+    source: &[u8],
+    inlets: &[InletPlan],
+    world: &mut W,
+)
+    ensures { OnlyReads (W.state world.old) (W.state world.new) }
+{
+    if has_inlet(source, inlets) {
+        tell_destinations(alloc, world, file);
+    }
+}
+
 /// Says the offers of the records of the file INPUT, as `trace_file` does, read as the first driver of
 /// the source statement SOURCE would read them, and with the log paths and destinations of the configuration FILE.
-/// A refusal of FILE isn't said; one that comes of INPUT is said as `trace_file` says it.
+/// Which driver each destination's number is of is told. A refusal of FILE isn't said; one that comes of INPUT is said as `trace_file` says it.
 pub fn trace_input<W: World>(
     alloc: Global,
     file: &[u8],
@@ -117,12 +134,15 @@ pub fn trace_input<W: World>(
         → (W.state world.old).files ≡ Some files → Configures (W.state world.old) file.now config
         → CanBeCompiled config
         → first_of 0 source.now config.inlets.items ≡ Some i
-        → IsUntroubled (W.state world.old) (W.state world.new) input.now → IsComplete result }
+        → ShowsUntroubled (W.state world.old) (W.state world.new) input.now → WasShown result }
 {
     expansions_are_one();
     texts_mean_one();
     match load_file(alloc, file, world) {
-        Ok(loaded) => trace_source(alloc, file, loaded, source, input, world),
+        Ok(loaded) => {
+            tell_drivers(alloc, file, source, loaded.config.inlets.as_slice(), world);
+            trace_source(alloc, file, loaded, source, input, world)
+        }
         Err(unloaded) => Err(Unshown::Unloaded(unloaded)),
     }
 }

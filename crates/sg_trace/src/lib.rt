@@ -16,6 +16,6 @@ mod untraced;
 
 pub use file::trace_file;
 pub use input::trace_input;
-pub use target::{Reader, Target};
+pub use target::{FileReading, SentForm};
 pub use unshown::Unshown;
 pub use untraced::Untraced;

@@ -2,14 +2,14 @@
 ghost use Rattle.std.specs.Prelude.{◌≡◌, ◌≤◌, ◌<◌, ◌^◌, [], length, true, IfOk};
 ghost use Rattle.sg_frame.specs.Framing.{fed, fresh};
 ghost use Rattle.sg_route.specs.Offers.{SameRouter};
-ghost use Rattle.sg_trace.specs.Pulling.{Pulls};
+ghost use Rattle.sg_trace.specs.Pulling.{PullsTraced};
 ghost use Rattle.sg_trace.specs.Traces.{TracesTo};
-ghost use Rattle.sg_trace.specs.Opened.{IsBegun};
+ghost use Rattle.sg_trace.specs.Opened.{IsTraceBegun};
 
 use crate::saying::say_piece;
 use crate::taking::take_items;
 use crate::tracer::Tracer;
-use crate::{Reader, Target, Untraced};
+use crate::{FileReading, SentForm, Untraced};
 use sg_device::{Inlet, NoMemory, Pull};
 use sg_frame::Framer;
 use sg_route::Router;
@@ -30,7 +30,7 @@ pub(crate) fn make_buffer(alloc: Global) -> Result<Vec<u8>, NoMemory>
     vec![in alloc; 0u8; PIECE]
 }
 
-pub(crate) fn make_tracer(alloc: Global, reader: Reader) -> Result<Tracer, NoMemory>
+pub(crate) fn make_tracer(alloc: Global, reader: FileReading) -> Result<Tracer, NoMemory>
     requires { 0 < reader.limit }
     ensures { IfOk result (λ tracer. (tracer.framer ≡ fresh reader.kind reader.limit)
         × (tracer.number ≡ 0) × (tracer.text.items ≡ [])) }
@@ -52,7 +52,7 @@ fn pull_once<I: Inlet>(
     requires room { 0 < length buffer.old }
     requires single { (I.state feed.old).single ≡ true }
     requires place { (I.state feed.old).place ≡ fed framer.old }
-    ensures pulls { Pulls (I.state feed.old) (I.state feed.new) framer.old framer.new result }
+    ensures pulls { PullsTraced (I.state feed.old) (I.state feed.new) framer.old framer.new result }
     ensures later { (I.state feed.old).faults ≤ (I.state feed.new).faults }
     ensures size { length buffer.new ≡ length buffer.old }
 {
@@ -74,8 +74,8 @@ pub(crate) fn trace_opened<W: World, R: Router>(
     alloc: Global,
     feed: &mut W::Feed,
     router: &mut R,
-    reader: Reader,
-    targets: &[Target],
+    reader: FileReading,
+    targets: &[SentForm],
     tracer: &mut Tracer,
     buffer: &mut [u8],
     world: &mut W,
@@ -83,7 +83,7 @@ pub(crate) fn trace_opened<W: World, R: Router>(
     requires room { 0 < length buffer.old }
     requires inlet { reader.inlet < R.inlets router.old }
     requires dests { R.dests router.old ≡ length targets.now }
-    requires begun { IsBegun reader.kind reader.limit (W.Feed.state feed.old) tracer.old }
+    requires begun { IsTraceBegun reader.kind reader.limit (W.Feed.state feed.old) tracer.old }
     ensures traces { TracesTo (R.offers router.old reader.inlet) targets.now reader.kind
         reader.limit (W.Feed.state feed.old) (W.Feed.state feed.new) (W.state world.old)
         (W.state world.new) tracer.new.text.items result }

@@ -3,13 +3,13 @@ ghost use Rattle.std.specs.Prelude.{◌≡◌, ◌≤◌, ◌<◌, ◌≤ℤ◌,
 ghost use Rattle.sg_msg.specs.declared.offer.Offer.{Offer as AnOffer};
 ghost use Rattle.sg_frame.specs.Framing.{fed};
 ghost use Rattle.sg_route.specs.Offers.{record_at, SameRouter};
-ghost use Rattle.sg_trace.specs.Reading.{AreTimely};
 ghost use Rattle.sg_trace.specs.Rows.{offers_text};
-ghost use Rattle.sg_trace.specs.Taking.{TakesAll};
+ghost use Rattle.sg_trace.specs.Taking.{TakesAllItems};
+ghost use Rattle.sg_frame.specs.Timely.{AreTimely};
 
 use crate::lines::append_offers;
 use crate::tracer::Tracer;
-use crate::{Reader, Target};
+use crate::{FileReading, SentForm};
 use bytes::Bytes;
 use sg_device::NoMemory;
 use sg_frame::Framed;
@@ -21,7 +21,7 @@ fn trace_record<R: Router>(
     alloc: Global,
     router: &mut R,
     inlet: u32,
-    targets: &[Target],
+    targets: &[SentForm],
     peer: &[u8],
     item: Bytes,
     at: i64,
@@ -57,8 +57,8 @@ fn trace_record<R: Router>(
 pub(crate) fn take_items<R: Router>(
     alloc: Global,
     router: &mut R,
-    reader: Reader,
-    targets: &[Target],
+    reader: FileReading,
+    targets: &[SentForm],
     peer: &[u8],
     tracer: &mut Tracer,
 ) -> Result<bool, NoMemory>
@@ -68,7 +68,7 @@ pub(crate) fn take_items<R: Router>(
     requires room { tracer.old.number ≤ tracer.old.framer.place }
     requires range { fed tracer.old.framer < 2 ^ 63 }
     ensures takes { IfOk result
-        (TakesAll (R.offers router.old reader.inlet) targets.now peer.now tracer.old tracer.new) }
+        (TakesAllItems (R.offers router.old reader.inlet) targets.now peer.now tracer.old tracer.new) }
     ensures router { SameRouter (R.offers router.old) (R.offers router.new) (R.inlets router.old)
         (R.inlets router.new) (R.dests router.old) (R.dests router.new) }
 {

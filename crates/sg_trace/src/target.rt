@@ -6,7 +6,7 @@ use sg_template::Env;
 
 /// How a file is read: as an inlet of that number would.
 #[derive(Clone, Copy, Debug, PartialEq, Eq, Drop)]
-pub struct Reader {
+pub struct FileReading {
     pub inlet: u32,
     pub kind: FrameKind,
     /// The bytes of the longest text of a record, above 0.
@@ -15,14 +15,14 @@ pub struct Reader {
 
 /// What a destination sends.
 #[derive(Debug)]
-pub struct Target {
+pub struct SentForm {
     pub shape: Shape,
     pub env: Env,
 }
 
-impl Drop for Target {
+impl Drop for SentForm {
     fn drop(self) {
-        let Target {
+        let SentForm {
             shape: _shape,
             env: _env,
         } = self;

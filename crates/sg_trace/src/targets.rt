@@ -2,13 +2,13 @@
 ghost use Rattle.std.specs.Prelude.{◌≡◌, ◌++◌, ◌∷◌, [], map, IfOk, OnOk};
 ghost use Rattle.sg_trace.specs.Tracing.{target_of};
 
-use crate::Target;
+use crate::SentForm;
 use sg_device::NoMemory;
 use sg_run_plan::OutletPlan;
 use std::alloc::Global;
 use std::collections::VecDeque;
 
-fn push_target(targets: &mut Vec<Target>, outlet: OutletPlan) -> Result<(), NoMemory>
+fn push_target(targets: &mut Vec<SentForm>, outlet: OutletPlan) -> Result<(), NoMemory>
     ensures { OnOk result (targets.new.items ≡ targets.old.items ++ target_of outlet ∷ []) }
 {
     let OutletPlan {
@@ -16,11 +16,11 @@ fn push_target(targets: &mut Vec<Target>, outlet: OutletPlan) -> Result<(), NoMe
         shape,
         env,
     } = outlet;
-    targets.push(Target { shape, env })?;
+    targets.push(SentForm { shape, env })?;
     Ok(())
 }
 
-pub(crate) fn targets_of(alloc: Global, outlets: Vec<OutletPlan>) -> Result<Vec<Target>, NoMemory>
+pub(crate) fn targets_of(alloc: Global, outlets: Vec<OutletPlan>) -> Result<Vec<SentForm>, NoMemory>
     ensures { IfOk result (λ targets. targets.items ≡ map target_of outlets.items) }
 {
     let mut targets = Vec::new(alloc);

@@ -8,9 +8,10 @@ use Rattle.sg_msg.specs.declared.offer.Offer.{Offer}
 use Rattle.sg_frame.specs.Records.{Record}
 use Rattle.sg_filter.specs.Decisions.{decides}
 use Rattle.sg_tree.specs.Rules.{rewritten_by}
-use Rattle.sg_tree.specs.Walk.{Walked, Steps, Siblings, Choice, none_left, filter, rewrite, deliver, junction, choose, embedded, no_siblings, sibling, otherwise, test, stopped, both, each, deliveries_to, counted, up_to_final, two_rounds, walk, round, chosen, branches}
-use Rattle.sg_tree.specs.Readings.{Inlet}
-use Rattle.sg_tree.specs.Offers.{Top, Woods, is_offered, offered, is_skipped, AreOffersUnless}
+use Rattle.sg_parsers.specs.Parsed.{rule_takes, rule_parsed}
+use Rattle.sg_tree.specs.Walk.{WalkResult, Steps, Siblings, Choice, none_left, filter, rewrite, parse, deliver, junction, choose, embedded, no_siblings, sibling, otherwise, test, stopped, both, each, deliveries_to, counted, up_to_final, two_rounds, walk, round, chosen, branches}
+use Rattle.sg_tree.specs.Readings.{InletReading}
+use Rattle.sg_tree.specs.Offers.{TopStatement, Woods, is_offered, offered, is_skipped, AreOffersUnless}
 use Rattle.sg_tree.specs.Bounds.{reach, reach_all, reach_each, all_offers, OffersAreBounded}
 
 -- the greatest of two, so many times
@@ -42,6 +43,7 @@ mutual
   offers-times none_left n k = omega arith
   offers-times (filter e rest) n k = offers-times rest n k
   offers-times (rewrite r rest) n k = offers-times rest n k
+  offers-times (parse r rest) n k = offers-times rest n k
   offers-times (deliver ds rest) n k = omega (arith, offers-times rest n k)
   offers-times (junction cs rest) n k =
       let first = offers-times-all cs n k in
@@ -65,6 +67,7 @@ mutual
   out-times none_left n k = refl
   out-times (filter e rest) n k = out-times rest n k
   out-times (rewrite r rest) n k = out-times rest n k
+  out-times (parse r rest) n k = out-times rest n k
   out-times (deliver ds rest) n k = out-times rest n k
   out-times (junction cs rest) n k = ap (λ (x : ℕ). (reach rest x).out) (out-times-all cs n k) ∙ out-times rest n (reach_all cs k).out
   out-times (choose c rest) n k = ap (λ (x : ℕ). (reach rest x).out) (out-times-each c n k) ∙ out-times rest n (reach_each c k).out
@@ -85,40 +88,40 @@ out-of : (s : Steps) (n : ℕ) → (reach s n).out ≡ n * (reach s 1).out
 out-of s n = let one : n ≡ n * 1 = omega arith in ap (λ (x : ℕ). (reach s x).out) one ∙ out-times s n 1
 
 -- a size that adds up
-module _ (size : Walked → ℕ) (none : size stopped ≡ 0) (sum : (a b : Walked) → size (both a b) ≡ size a + size b) where
-  pub each-few : (rest : Content → Walked) (d : ℕ) → ((n : Content) → size (rest n) ≤ d) → (ms : List Content) → size (each rest ms) ≤ length ms * d
+module _ (size : WalkResult → ℕ) (none : size stopped ≡ 0) (sum : (a b : WalkResult) → size (both a b) ≡ size a + size b) where
+  pub each-few : (rest : Content → WalkResult) (d : ℕ) → ((n : Content) → size (rest n) ≤ d) → (ms : List Content) → size (each rest ms) ≤ length ms * d
   each-few rest d h [] = omega (arith, none)
   each-few rest d h (m ∷ ms) = omega (arith, sum (rest m) (each rest ms), h m, each-few rest d h ms)
 
-  pick-few : (b : Bool) (x y : Walked) → size (cond b x (both x y)) ≤ size x + size y
+  pick-few : (b : Bool) (x y : WalkResult) → size (cond b x (both x y)) ≤ size x + size y
   pick-few true x y = omega arith
   pick-few false x y = omega (arith, sum x y)
 
-  pub two-few : (a b : Walked) → size (two_rounds a b) ≤ size a + size b
+  pub two-few : (a b : WalkResult) → size (two_rounds a b) ≤ size a + size b
   two-few a b = pick-few a.processed a b
 
-  pub final-few : (is_final : Bool) (mine more : Walked) → size (up_to_final is_final mine more) ≤ size mine + size more
+  pub final-few : (is_final : Bool) (mine more : WalkResult) → size (up_to_final is_final mine more) ≤ size mine + size more
   final-few is_final mine more = pick-few (mine.processed && is_final) mine more
 
   -- a sibling walks in one of the rounds alone
-  pub sides-few : (b : Bool) (mine rest : ℕ) (x y early late : Walked) → size x ≤ mine + size early → size y ≤ mine + size late → size early + size late ≤ rest
+  pub sides-few : (b : Bool) (mine rest : ℕ) (x y early late : WalkResult) → size x ≤ mine + size early → size y ≤ mine + size late → size early + size late ≤ rest
       → size (cond (cond b false true) x early) + size (cond b y late) ≤ mine + rest
   sides-few true mine rest x y early late hx hy h = omega (arith, hy, h)
   sides-few false mine rest x y early late hx hy h = omega (arith, hx, h)
 
-abbrev made : Walked → ℕ
+abbrev made : WalkResult → ℕ
 made w = length w.deliveries
 
-made-sum : (a b : Walked) → made (both a b) ≡ made a + made b
+made-sum : (a b : WalkResult) → made (both a b) ≡ made a + made b
 made-sum a b = length-append a.deliveries b.deliveries
 
-abbrev left : Walked → ℕ
+abbrev left : WalkResult → ℕ
 left w = length w.out
 
-left-sum : (a b : Walked) → left (both a b) ≡ left a + left b
+left-sum : (a b : WalkResult) → left (both a b) ≡ left a + left b
 left-sum a b = length-append a.out b.out
 
-cond-few : (size : Walked → ℕ) (b : Bool) (x y : Walked) (n : ℕ) → size x ≤ n → size y ≤ n → size (cond b x y) ≤ n
+cond-few : (size : WalkResult → ℕ) (b : Bool) (x y : WalkResult) (n : ℕ) → size x ≤ n → size y ≤ n → size (cond b x y) ≤ n
 cond-few size true x y n hx hy = hx
 cond-few size false x y n hx hy = hy
 
@@ -132,6 +135,7 @@ mutual
   left-walk none_left m f = omega arith
   left-walk (filter e rest) m f = cond-few left (decides e m) (walk rest m f) stopped (reach rest 1).out (left-walk rest m f) (omega arith)
   left-walk (rewrite r rest) m f = left-walk rest (rewritten_by r m) f
+  left-walk (parse r rest) m f = cond-few left (rule_takes r m) (walk rest (rule_parsed r m) f) stopped (reach rest 1).out (left-walk rest (rule_parsed r m) f) (omega arith)
   left-walk (deliver ds rest) m f = left-walk rest m f
   left-walk (junction cs rest) m f =
       let n = (reach_all cs 1).out in
@@ -167,6 +171,7 @@ mutual
   made-walk none_left m f = omega arith
   made-walk (filter e rest) m f = cond-few made (decides e m) (walk rest m f) stopped (reach rest 1).offers (made-walk rest m f) (omega arith)
   made-walk (rewrite r rest) m f = made-walk rest (rewritten_by r m) f
+  made-walk (parse r rest) m f = cond-few made (rule_takes r m) (walk rest (rule_parsed r m) f) stopped (reach rest 1).offers (made-walk rest (rule_parsed r m) f) (omega arith)
   made-walk (deliver ds rest) m f =
       omega (arith, length-append (deliveries_to ds m f) (walk rest m f).deliveries, made-drivers ds m f, made-walk rest m f)
   made-walk (junction cs rest) m f =
@@ -216,13 +221,13 @@ either-few : (b : Bool) (x y : Siblings) (own n : ℕ) → (reach_all x 1).offer
 either-few true x y own n hx hy = hx
 either-few false x y own n hx hy = omega (arith, hy)
 
-offered-few : (i : ℕ) (tops : List Top) → (reach_all (offered i tops) 1).offers ≤ all_offers tops
+offered-few : (i : ℕ) (tops : List TopStatement) → (reach_all (offered i tops) 1).offers ≤ all_offers tops
 offered-few i [] = omega arith
 offered-few i (top ∷ tops) =
     either-few (is_offered i top) (sibling top.marks top.steps (offered i tops)) (offered i tops) (reach top.steps 1).offers (all_offers tops)
     (omega (arith, offered-few i tops)) (offered-few i tops)
 
-few-unless : (b : Bool) (woods : Woods) (inlet : Inlet) (i : ℕ) (of_record : Record) (offers : List Offer)
+few-unless : (b : Bool) (woods : Woods) (inlet : InletReading) (i : ℕ) (of_record : Record) (offers : List Offer)
     → AreOffersUnless b woods inlet i of_record offers → length offers ≤ all_offers woods.tops
 few-unless true woods inlet i of_record offers e = subst (λ (os : List Offer). length os ≤ all_offers woods.tops) (sym e) (omega arith)
 few-unless false woods inlet i of_record offers u =

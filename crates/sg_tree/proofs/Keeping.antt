@@ -5,33 +5,34 @@ use Rattle.sg_msg.specs.Message.{Content}
 use Rattle.sg_msg.specs.declared.offer.Offer.{Offer}
 use Rattle.sg_frame.specs.Records.{Record}
 use Rattle.sg_filter.specs.Decisions.{decides}
-use Rattle.sg_route.specs.Offers.{AllWithin}
 use Rattle.sg_tree.specs.Rules.{rewritten_by}
-use Rattle.sg_tree.specs.Walk.{Walked, Steps, Siblings, Choice, none_left, filter, rewrite, deliver, junction, choose, embedded, no_siblings, sibling, otherwise, test, stopped, both, each, deliveries_to, counted, up_to_final, two_rounds, is_in_round, walk, round, chosen, branches}
-use Rattle.sg_tree.specs.Readings.{Inlet}
-use Rattle.sg_tree.specs.Offers.{Top, Woods, is_offered, offered, is_skipped, AreOffersUnless}
-use Rattle.sg_tree.specs.Laws.{AreDests, StaysWithin, AllStayWithin, EachStaysWithin, TopsStayWithin, AllFlow, OffersAreWithin, FlowIsInherited}
+use Rattle.sg_parsers.specs.Parsed.{rule_takes, rule_parsed}
+use Rattle.sg_tree.specs.Walk.{WalkResult, Steps, Siblings, Choice, none_left, filter, rewrite, parse, deliver, junction, choose, embedded, no_siblings, sibling, otherwise, test, stopped, both, each, deliveries_to, counted, up_to_final, two_rounds, is_in_round, walk, round, chosen, branches}
+use Rattle.sg_tree.specs.Readings.{InletReading}
+use Rattle.sg_tree.specs.Offers.{TopStatement, Woods, is_offered, offered, is_skipped, AreOffersUnless}
+use Rattle.sg_tree.specs.Laws.{AreDestNumbers, StaysWithin, AllStayWithin, EachStaysWithin, TopsStayWithin, AllFlow, OffersAreWithin, FlowIsInherited}
+use Rattle.sg_msg.specs.Offers.{AllWithin}
 
 module _ (Q : List Offer → Type 0) (none : Q []) (join : (a b : List Offer) → Q a → Q b → Q (a ++ b)) where
-  pub each-keeps : (rest : Content → Walked) → ((n : Content) → Q (rest n).deliveries) → (ms : List Content) → Q (each rest ms).deliveries
+  pub each-keeps : (rest : Content → WalkResult) → ((n : Content) → Q (rest n).deliveries) → (ms : List Content) → Q (each rest ms).deliveries
   each-keeps rest h [] = none
   each-keeps rest h (m ∷ ms) = join (rest m).deliveries (each rest ms).deliveries (h m) (each-keeps rest h ms)
 
-  pub pick-keeps : (b : Bool) (x y : Walked) → Q x.deliveries → Q y.deliveries → Q (cond b x y).deliveries
+  pub pick-keeps : (b : Bool) (x y : WalkResult) → Q x.deliveries → Q y.deliveries → Q (cond b x y).deliveries
   pick-keeps true x y hx hy = hx
   pick-keeps false x y hx hy = hy
 
-  pub two-keeps : (a b : Walked) → Q a.deliveries → Q b.deliveries → Q (two_rounds a b).deliveries
+  pub two-keeps : (a b : WalkResult) → Q a.deliveries → Q b.deliveries → Q (two_rounds a b).deliveries
   two-keeps a b ha hb = pick-keeps a.processed a (both a b) ha (join a.deliveries b.deliveries ha hb)
 
-  pub final-keeps : (is_final : Bool) (mine more : Walked) → Q mine.deliveries → Q more.deliveries → Q (up_to_final is_final mine more).deliveries
+  pub final-keeps : (is_final : Bool) (mine more : WalkResult) → Q mine.deliveries → Q more.deliveries → Q (up_to_final is_final mine more).deliveries
   final-keeps is_final mine more h hs = pick-keeps (mine.processed && is_final) mine (both mine more) h (join mine.deliveries more.deliveries h hs)
 
 within-join : (d : ℕ) (a b : List Offer) → AllWithin d a → AllWithin d b → AllWithin d (a ++ b)
 within-join d [] b ha hb = hb
 within-join d (o ∷ os) b ha hb = (ha.0, within-join d os b ha.1 hb)
 
-within-made : (d : ℕ) (ds : List ℕ) (m : Content) (f : Bool) → AreDests d ds → AllWithin d (deliveries_to ds m f)
+within-made : (d : ℕ) (ds : List ℕ) (m : Content) (f : Bool) → AreDestNumbers d ds → AllWithin d (deliveries_to ds m f)
 within-made d [] m f h = tt
 within-made d (x ∷ xs) m f h = (h.0, within-made d xs m f h.1)
 
@@ -40,6 +41,7 @@ mutual
   within-walk d none_left m f h = tt
   within-walk d (filter e rest) m f h = pick-keeps (AllWithin d) tt (within-join d) (decides e m) (walk rest m f) stopped (within-walk d rest m f h) tt
   within-walk d (rewrite r rest) m f h = within-walk d rest (rewritten_by r m) f h
+  within-walk d (parse r rest) m f h = pick-keeps (AllWithin d) tt (within-join d) (rule_takes r m) (walk rest (rule_parsed r m) f) stopped (within-walk d rest (rule_parsed r m) f h) tt
   within-walk d (deliver ds rest) m f h = within-join d (deliveries_to ds m f) (walk rest m f).deliveries (within-made d ds m f h.0) (within-walk d rest m f h.1)
   within-walk d (junction cs rest) m f h =
       within-join d (branches cs m f).deliveries (each (λ n. walk rest n f) (branches cs m f).out).deliveries
@@ -70,12 +72,12 @@ either-stays : (d : ℕ) (b : Bool) (x y : Siblings) → AllStayWithin d x → A
 either-stays d true x y hx hy = hx
 either-stays d false x y hx hy = hy
 
-offered-stay : (d i : ℕ) (tops : List Top) → TopsStayWithin d tops → AllStayWithin d (offered i tops)
+offered-stay : (d i : ℕ) (tops : List TopStatement) → TopsStayWithin d tops → AllStayWithin d (offered i tops)
 offered-stay d i [] h = tt
 offered-stay d i (top ∷ tops) h =
     either-stays d (is_offered i top) (sibling top.marks top.steps (offered i tops)) (offered i tops) (h.0, offered-stay d i tops h.1) (offered-stay d i tops h.1)
 
-within-unless : (b : Bool) (woods : Woods) (inlet : Inlet) (i : ℕ) (of_record : Record) (offers : List Offer)
+within-unless : (b : Bool) (woods : Woods) (inlet : InletReading) (i : ℕ) (of_record : Record) (offers : List Offer)
     → TopsStayWithin woods.dests woods.tops → AreOffersUnless b woods inlet i of_record offers → AllWithin woods.dests offers
 within-unless true woods inlet i of_record offers h e = subst (AllWithin woods.dests) (sym e) tt
 within-unless false woods inlet i of_record offers h u =
@@ -102,6 +104,7 @@ mutual
   flow-walk none_left m = tt
   flow-walk (filter e rest) m = pick-keeps AllFlow tt flow-join (decides e m) (walk rest m true) stopped (flow-walk rest m) tt
   flow-walk (rewrite r rest) m = flow-walk rest (rewritten_by r m)
+  flow-walk (parse r rest) m = pick-keeps AllFlow tt flow-join (rule_takes r m) (walk rest (rule_parsed r m) true) stopped (flow-walk rest (rule_parsed r m)) tt
   flow-walk (deliver ds rest) m = flow-join (deliveries_to ds m true) (walk rest m true).deliveries (flow-made ds m) (flow-walk rest m)
   flow-walk (junction cs rest) m =
       flow-join (branches cs m true).deliveries (each (λ n. walk rest n true) (branches cs m true).out).deliveries

@@ -3,7 +3,7 @@ use Rattle.std.proofs.Common.{◌≡◌, ℕ, Bool, true, false, List, [], ◌�
 use Rattle.std.specs.Prelude.{◌||◌, if◌then◌else◌, codes}
 use Rattle.std.specs.List.{list_any}
 use Rattle.sg_msg.specs.Macros.{is_hard, date_macros, other_macros}
-use Rattle.sg_msg.specs.Message.{Pair, Content, value_of}
+use Rattle.sg_msg.specs.Message.{NameValue, Content, value_of}
 use Rattle.sg_tree.specs.Readings.{ends_line, without_lines, with_tags, IsLine}
 
 -- MESSAGE is no macro
@@ -27,4 +27,4 @@ pub line-stays : (flag : Bool) (tags : List (List ℕ)) (old new : Content) → 
     → IsLine flag (value_of (codes "MESSAGE") old.pairs) → IsLine flag (value_of (codes "MESSAGE") new.pairs)
 line-stays flag tags old new is line =
     let same : new.pairs ≡ old.pairs = ap (λ (m : Content). m.pairs) is ∙ tags-keep tags old in
-    subst (λ (pairs : List Pair). IsLine flag (value_of (codes "MESSAGE") pairs)) (sym same) line
+    subst (λ (pairs : List NameValue). IsLine flag (value_of (codes "MESSAGE") pairs)) (sym same) line

@@ -2,18 +2,19 @@
 use Rattle.std.proofs.Common.{◌≡◌, ℕ, List, [], ◌∷◌, map, Option, Some, None, Vec, refl, sym, ap, ◌∙◌, rules}
 use Rattle.std.specs.declared.alloc.Global.{Global}
 use Rattle.sg_filter.specs.declared.expr.Expr.{Expr}
+use Rattle.sg_parsers.specs.declared.rule.ParserRule.{ParserRule}
 use Rattle.sg_tree.specs.declared.sound.RewriteRule.{RewriteRule}
-use Rattle.sg_tree.specs.declared.tree.Element.{Element, Filter, Rewrite, Deliver, Junction, If, fold-roll-Element}
+use Rattle.sg_tree.specs.declared.tree.Element.{Element, Filter, Rewrite, Parse, Deliver, Junction, If, fold-roll-Element}
 use Rattle.sg_tree.specs.declared.tree.Element.TheVariants.{rolls-If}
 use Rattle.sg_tree.specs.declared.tree.Element.{the_lemmas}
 use Rattle.sg_tree.specs.declared.tree.Element.TheOpen.{Element-F}
 use Rattle.sg_tree.specs.declared.tree.Path.{Path, fold_out-Path}
 use Rattle.sg_filter.specs.Decisions.{Decision, decision_of}
 use Rattle.sg_tree.specs.Rules.{rule_of}
-use Rattle.sg_tree.specs.Walk.{Steps, Siblings, filter, rewrite, deliver, junction, choose, sibling}
+use Rattle.sg_tree.specs.Walk.{Steps, Siblings, filter, rewrite, parse, deliver, junction, choose, sibling}
 use Rattle.sg_tree.specs.Plain.{choice_of, marks, own_steps, element_step, path_step, element_view, path_view, siblings_view, choice_view}
 
-map-twice : {A B C : Type 0} (f : A → B) (g : B → C) (xs : List A) → map g (map f xs) ≡ map (λ x. g (f x)) xs
+pub map-twice : {A B C : Type 0} (f : A → B) (g : B → C) (xs : List A) → map g (map f xs) ≡ map (λ x. g (f x)) xs
 map-twice f g [] = refl
 map-twice f g (x ∷ xs) = ap (λ ys. g (f x) ∷ ys) (map-twice f g xs)
 
@@ -22,6 +23,9 @@ view-Filter named expr rest = search (rules, the_lemmas)
 
 pub view-Rewrite : (named : List Expr) (rule : RewriteRule) (rest : Steps) → element_view named (Rewrite rule) rest ≡ rewrite (rule_of named rule) rest
 view-Rewrite named rule rest = search (rules, the_lemmas)
+
+pub view-Parse : (named : List Expr) (rule : ParserRule) (rest : Steps) → element_view named (Parse rule) rest ≡ parse rule rest
+view-Parse named rule rest = search (rules, the_lemmas)
 
 pub view-Deliver : (named : List Expr) (drivers : Vec ℕ Global) (rest : Steps) → element_view named (Deliver drivers) rest ≡ deliver drivers.items rest
 view-Deliver named drivers rest = search (rules, the_lemmas)

@@ -2,8 +2,8 @@
 use Rattle.std.specs.Prelude.{◌≤◌, ℕ, ◌+◌, ◌*◌, max, List, [], ◌∷◌, length}
 use Rattle.sg_msg.specs.declared.offer.Offer.{Offer}
 use Rattle.sg_frame.specs.Records.{Record}
-use Rattle.sg_tree.specs.Walk.{Steps, Siblings, Choice, none_left, filter, rewrite, deliver, junction, choose, embedded, no_siblings, sibling, otherwise, test}
-use Rattle.sg_tree.specs.Offers.{Top, Woods, AreOffers}
+use Rattle.sg_tree.specs.Walk.{Steps, Siblings, Choice, none_left, filter, rewrite, parse, deliver, junction, choose, embedded, no_siblings, sibling, otherwise, test}
+use Rattle.sg_tree.specs.Offers.{TopStatement, Woods, AreOffers}
 
 -- what becomes of the messages that reach a list of elements: so many offers are made and so many messages come out; a place is each
 -- point before an element and each end of a list
@@ -30,6 +30,7 @@ abbrev mutual
   reach none_left n = record { offers = 0; out = n; most = n }
   reach (filter decision rest) n = reach rest n
   reach (rewrite rule rest) n = reach rest n
+  reach (parse rule rest) n = reach rest n
   reach (deliver drivers rest) n = record (reach rest n) { offers = n * length drivers + (reach rest n).offers }
   reach (junction channels rest) n = onward n (reach_all channels n) (reach rest (reach_all channels n).out)
   reach (choose choice rest) n = onward n (reach_each choice n) (reach rest (reach_each choice n).out)
@@ -46,14 +47,14 @@ abbrev mutual
   reach_each (test decision steps more) n = greatest (reach steps n) (reach_each more n)
 
 -- the offers of a record that each of these statements is offered
-abbrev pub all_offers : List Top → ℕ
+abbrev pub all_offers : List TopStatement → ℕ
 all_offers [] = 0
 all_offers (top ∷ tops) = (reach top.steps 1).offers + all_offers tops
 
 -- at most so many messages reach a place
-abbrev pub AreFew : ℕ → List Top → Type 0
-AreFew most [] = Unit {0}
-AreFew most (top ∷ tops) = ((reach top.steps 1).most ≤ most) × AreFew most tops
+abbrev pub AreMessagesFew : ℕ → List TopStatement → Type 0
+AreMessagesFew most [] = Unit {0}
+AreMessagesFew most (top ∷ tops) = ((reach top.steps 1).most ≤ most) × AreMessagesFew most tops
 
 -- no record has more
 abbrev pub OffersAreBounded : Type 0

@@ -3,14 +3,14 @@ use Rattle.std.specs.Prelude.{◌≡◌, ◌<◌, ℕ, true, List, [], ◌∷◌
 use Rattle.sg_msg.specs.Message.{Content}
 use Rattle.sg_msg.specs.declared.offer.Offer.{Offer}
 use Rattle.sg_frame.specs.Records.{Record}
-use Rattle.sg_route.specs.Offers.{AllWithin}
-use Rattle.sg_tree.specs.Walk.{Steps, Siblings, Choice, none_left, filter, rewrite, deliver, junction, choose, embedded, no_siblings, sibling, otherwise, test, branches}
-use Rattle.sg_tree.specs.Offers.{Top, Woods, AreOffers}
+use Rattle.sg_tree.specs.Walk.{Steps, Siblings, Choice, none_left, filter, rewrite, parse, deliver, junction, choose, embedded, no_siblings, sibling, otherwise, test, branches}
+use Rattle.sg_tree.specs.Offers.{TopStatement, Woods, AreOffers}
+use Rattle.sg_msg.specs.Offers.{AllWithin}
 
 -- each destination is one of so many
-abbrev pub AreDests : ℕ → List ℕ → Type 0
-AreDests dests [] = Unit {0}
-AreDests dests (d ∷ ds) = (d < dests) × AreDests dests ds
+abbrev pub AreDestNumbers : ℕ → List ℕ → Type 0
+AreDestNumbers dests [] = Unit {0}
+AreDestNumbers dests (d ∷ ds) = (d < dests) × AreDestNumbers dests ds
 
 abbrev mutual
   -- each destination that they name
@@ -18,7 +18,8 @@ abbrev mutual
   StaysWithin dests none_left = Unit {0}
   StaysWithin dests (filter decision rest) = StaysWithin dests rest
   StaysWithin dests (rewrite rule rest) = StaysWithin dests rest
-  StaysWithin dests (deliver drivers rest) = AreDests dests drivers × StaysWithin dests rest
+  StaysWithin dests (parse rule rest) = StaysWithin dests rest
+  StaysWithin dests (deliver drivers rest) = AreDestNumbers dests drivers × StaysWithin dests rest
   StaysWithin dests (junction channels rest) = AllStayWithin dests channels × StaysWithin dests rest
   StaysWithin dests (choose choice rest) = EachStaysWithin dests choice × StaysWithin dests rest
   StaysWithin dests (embedded logs) = AllStayWithin dests logs
@@ -31,7 +32,7 @@ abbrev mutual
   EachStaysWithin dests (otherwise steps) = StaysWithin dests steps
   EachStaysWithin dests (test decision steps more) = StaysWithin dests steps × EachStaysWithin dests more
 
-abbrev pub TopsStayWithin : ℕ → List Top → Type 0
+abbrev pub TopsStayWithin : ℕ → List TopStatement → Type 0
 TopsStayWithin dests [] = Unit {0}
 TopsStayWithin dests (top ∷ tops) = StaysWithin dests top.steps × TopsStayWithin dests tops
 

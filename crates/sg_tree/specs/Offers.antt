@@ -9,10 +9,10 @@ use Rattle.sg_tree.specs.declared.tree.Path.{Path, out-Path}
 use Rattle.sg_tree.specs.declared.forest.Forest.{Forest}
 use Rattle.sg_tree.specs.Walk.{Marks, Steps, Siblings, no_siblings, sibling, branches}
 use Rattle.sg_tree.specs.Plain.{marks, own_steps}
-use Rattle.sg_tree.specs.Readings.{Inlet, inlet_of, IsReading}
+use Rattle.sg_tree.specs.Readings.{InletReading, inlet_of, IsRecordReading}
 
 -- a top-level statement
-pub record Top : Type 0 where
+pub record TopStatement : Type 0 where
   pub sources : List ℕ
   pub catchall : Bool
   pub marks : Marks
@@ -20,11 +20,11 @@ pub record Top : Type 0 where
 
 -- what a forest means
 pub record Woods : Type 0 where
-  pub inlets : List Inlet
+  pub inlets : List InletReading
   pub dests : ℕ
-  pub tops : List Top
+  pub tops : List TopStatement
 
-abbrev pub top_view : List Expr → Path → Top
+abbrev pub top_view : List Expr → Path → TopStatement
 top_view named path =
     record { sources = (out-Path path).sources.items; catchall = (out-Path path).catchall; marks = marks path; steps = own_steps named path }
 
@@ -36,10 +36,10 @@ woods_of forest = record {
 }
 
 -- a statement is offered the messages of the inlets that it names, or of all
-abbrev pub is_offered : ℕ → Top → Bool
+abbrev pub is_offered : ℕ → TopStatement → Bool
 is_offered inlet top = top.catchall || list_any (λ source. source == inlet) top.sources
 
-abbrev pub offered : ℕ → List Top → Siblings
+abbrev pub offered : ℕ → List TopStatement → Siblings
 offered inlet [] = no_siblings
 offered inlet (top ∷ tops) = if is_offered inlet top then sibling top.marks top.steps (offered inlet tops) else offered inlet tops
 
@@ -52,18 +52,18 @@ is_empty [] = true
 is_empty (b ∷ bs) = false
 
 -- an empty record becomes a message only where its inlet takes empty lines
-abbrev pub is_skipped : Inlet → List ℕ → Bool
+abbrev pub is_skipped : InletReading → List ℕ → Bool
 is_skipped inlet text = is_empty text && not inlet.empty_lines
 
-abbrev pub AreOffersUnless : Bool → Woods → Inlet → ℕ → Record → List Offer → Type 0
+abbrev pub AreOffersUnless : Bool → Woods → InletReading → ℕ → Record → List Offer → Type 0
 AreOffersUnless true woods inlet i of_record offers = offers ≡ []
 AreOffersUnless false woods inlet i of_record offers =
     (message : Content) × (
-    IsReading inlet of_record.item.text of_record.item.at of_record.peer message
+    IsRecordReading inlet of_record.item.text of_record.item.at of_record.peer message
     × (offers ≡ deliveries_of woods i message))
 
 -- the offers for a record of the inlet of this number
 abbrev pub AreOffers : Woods → ℕ → Record → List Offer → Type 0
 AreOffers woods i of_record offers =
-    (inlet : Inlet) × ((slice_get woods.inlets i ≡ Some inlet)
+    (inlet : InletReading) × ((slice_get woods.inlets i ≡ Some inlet)
     × AreOffersUnless (is_skipped inlet of_record.item.text) woods inlet i of_record offers)

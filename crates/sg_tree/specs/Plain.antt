@@ -8,7 +8,7 @@ use Rattle.sg_tree.specs.declared.tree.Element.{Element, fold-Element}
 use Rattle.sg_tree.specs.declared.tree.Element.TheOpen.{Element-F, Path-F}
 use Rattle.sg_tree.specs.declared.tree.Path.{Path, out-Path, fold-Path}
 use Rattle.sg_tree.specs.Rules.{rule_of}
-use Rattle.sg_tree.specs.Walk.{Marks, Steps, Siblings, Choice, none_left, filter, rewrite, deliver, junction, choose, embedded, no_siblings, sibling, otherwise, test}
+use Rattle.sg_tree.specs.Walk.{Marks, Steps, Siblings, Choice, none_left, filter, rewrite, parse, deliver, junction, choose, embedded, no_siblings, sibling, otherwise, test}
 
 -- what stands in front, each before those behind it
 abbrev pub in_front : {A : Type 0} → List (A → A) → A → A
@@ -35,6 +35,7 @@ abbrev pub element_step : List Expr → Element-F (Steps → Steps) (Siblings �
     → Steps
 element_step named (Element-F.Filter expr) rest = filter (decision_of named expr) rest
 element_step named (Element-F.Rewrite rule) rest = rewrite (rule_of named rule) rest
+element_step named (Element-F.Parse rule) rest = parse rule rest
 element_step named (Element-F.Deliver drivers) rest = deliver drivers.items rest
 element_step named (Element-F.Junction channels) rest =
     junction (in_front channels.items no_siblings) rest

@@ -8,14 +8,14 @@ use Rattle.sg_r5424.specs.Is5424.{Is5424, refusal}
 use Rattle.sg_tree.specs.declared.forest.InletRule.{InletRule}
 
 -- how the records of an inlet are read
-pub record Inlet : Type 0 where
+pub record InletReading : Type 0 where
   pub opts : ReadOpts
   pub rfc5424 : Bool
   pub empty_lines : Bool
   pub one_line : Bool
   pub tags : List (List ℕ)
 
-abbrev pub inlet_of : InletRule → Inlet
+abbrev pub inlet_of : InletRule → InletReading
 inlet_of rule = record {
   opts = rule.opts;
   rfc5424 = rule.rfc5424;
@@ -63,13 +63,13 @@ Reads5424 item at peer opts content =
     Is5424 item at peer opts content ⊎
     (((other : Content) → ¬ Is5424 item at peer opts other) × (content ≡ refusal item at peer opts))
 
-abbrev pub ReadsBy : Bool → List ℕ → ℤ → List ℕ → ReadOpts → Content → Type 0
-ReadsBy true item at peer opts content = Reads5424 item at peer opts content
-ReadsBy false item at peer opts content = Read3164 item at peer opts content
+abbrev pub ReadsByFormat : Bool → List ℕ → ℤ → List ℕ → ReadOpts → Content → Type 0
+ReadsByFormat true item at peer opts content = Reads5424 item at peer opts content
+ReadsByFormat false item at peer opts content = Read3164 item at peer opts content
 
 -- what is read has its MESSAGE as the inlet's flag says, and the inlet's tags
-abbrev pub IsReading : Inlet → List ℕ → ℤ → List ℕ → Content → Type 0
-IsReading inlet item at peer content =
+abbrev pub IsRecordReading : InletReading → List ℕ → ℤ → List ℕ → Content → Type 0
+IsRecordReading inlet item at peer content =
     (plain : Content)
-    × (ReadsBy inlet.rfc5424 item at peer inlet.opts plain
+    × (ReadsByFormat inlet.rfc5424 item at peer inlet.opts plain
     × (content ≡ with_tags inlet.tags (in_lines inlet.one_line plain)))

@@ -4,6 +4,8 @@ use Rattle.std.specs.Prelude.{ℕ, suc, ◌+◌, Bool, true, false, ◌&&◌, �
 use Rattle.sg_msg.specs.Message.{Content}
 use Rattle.sg_msg.specs.declared.offer.Offer.{Offer}
 use Rattle.sg_filter.specs.Decisions.{Decision, decides}
+use Rattle.sg_parsers.specs.declared.rule.ParserRule.{ParserRule}
+use Rattle.sg_parsers.specs.Parsed.{rule_takes, rule_parsed}
 use Rattle.sg_tree.specs.Rules.{Rule, rewritten_by}
 
 -- the flags of a statement or channel
@@ -19,6 +21,7 @@ mutual
     none_left : Steps
     filter : Decision → Steps → Steps
     rewrite : Rule → Steps → Steps
+    parse : ParserRule → Steps → Steps
     deliver : List ℕ → Steps → Steps
     junction : Siblings → Steps → Steps
     choose : Choice → Steps → Steps
@@ -35,26 +38,26 @@ mutual
     test : Decision → Steps → Choice → Choice
 
 -- the deliveries, the messages that come out, and whether the message was processed
-pub record Walked : Type 0 where
+pub record WalkResult : Type 0 where
   pub deliveries : List Offer
   pub out : List Content
   pub processed : Bool
 
 -- no delivery, nothing out, not processed
-abbrev pub stopped : Walked
+abbrev pub stopped : WalkResult
 stopped = record { deliveries = []; out = []; processed = false }
 
 -- one and then the other
-abbrev pub both : Walked → Walked → Walked
+abbrev pub both : WalkResult → WalkResult → WalkResult
 both a b = record { deliveries = a.deliveries ++ b.deliveries; out = a.out ++ b.out; processed = a.processed || b.processed }
 
 -- the rest over each message, in order
-abbrev pub each : (Content → Walked) → List Content → Walked
+abbrev pub each : (Content → WalkResult) → List Content → WalkResult
 each rest [] = stopped
 each rest (m ∷ ms) = both (rest m) (each rest ms)
 
 -- the rest over each message that came out, processed where both were
-abbrev pub then_each : Walked → (Content → Walked) → Walked
+abbrev pub then_each : WalkResult → (Content → WalkResult) → WalkResult
 then_each first rest =
     let later = each rest first.out in
     record { deliveries = first.deliveries ++ later.deliveries; out = later.out; processed = first.processed && later.processed }
@@ -63,19 +66,19 @@ then_each first rest =
 abbrev pub deliveries_to : List ℕ → Content → Bool → List Offer
 deliveries_to drivers m f = map (λ d. record { dest = d; message = m; flow = f }) drivers
 
-abbrev pub after_deliveries : List Offer → Walked → Walked
+abbrev pub after_deliveries : List Offer → WalkResult → WalkResult
 after_deliveries offers rest = record rest { deliveries = offers ++ rest.deliveries }
 
 -- a sibling counts as having processed the message also where it carries `drop-unmatched`
-abbrev pub counted : Marks → Walked → Walked
+abbrev pub counted : Marks → WalkResult → WalkResult
 counted marks walked = record walked { processed = walked.processed || marks.drop_unmatched }
 
 -- a final one that counts is the last
-abbrev pub up_to_final : Bool → Walked → Walked → Walked
+abbrev pub up_to_final : Bool → WalkResult → WalkResult → WalkResult
 up_to_final is_final mine more = if mine.processed && is_final then mine else both mine more
 
 -- where none of the first round counts, the second round
-abbrev pub two_rounds : Walked → Walked → Walked
+abbrev pub two_rounds : WalkResult → WalkResult → WalkResult
 two_rounds first second = if first.processed then first else both first second
 
 abbrev pub is_in_round : Bool → Marks → Bool
@@ -84,17 +87,19 @@ is_in_round false marks = if marks.fallback then false else true
 
 abbrev mutual
   -- by the first element
-  pub walk : Steps → Content → Bool → Walked
+  pub walk : Steps → Content → Bool → WalkResult
   walk none_left m f = record { deliveries = []; out = m ∷ []; processed = true }
   walk (filter decision rest) m f = if decides decision m then walk rest m f else stopped
   walk (rewrite rule rest) m f = walk rest (rewritten_by rule m) f
+  walk (parse rule rest) m f =
+      if rule_takes rule m then walk rest (rule_parsed rule m) f else stopped
   walk (deliver drivers rest) m f = after_deliveries (deliveries_to drivers m f) (walk rest m f)
   walk (junction channels rest) m f = then_each (two_rounds (round channels false m f) (round channels true m f)) (λ n. walk rest n f)
   walk (choose choice rest) m f = then_each (chosen choice m f) (λ n. walk rest n f)
   walk (embedded logs) m f = record { deliveries = (two_rounds (round logs false m f) (round logs true m f)).deliveries; out = m ∷ []; processed = true }
 
   -- the siblings of one round in order, those with `fallback` in the second
-  pub round : Siblings → Bool → Content → Bool → Walked
+  pub round : Siblings → Bool → Content → Bool → WalkResult
   round no_siblings late m f = stopped
   round (sibling marks steps more) late m f =
       if is_in_round late marks
@@ -103,11 +108,11 @@ abbrev mutual
       else round more late m f
 
   -- the first branch whose condition holds
-  pub chosen : Choice → Content → Bool → Walked
+  pub chosen : Choice → Content → Bool → WalkResult
   chosen (otherwise steps) m f = walk steps m f
   chosen (test decision steps more) m f = if decides decision m then walk steps m f else chosen more m f
 
-abbrev pub branches : Siblings → Content → Bool → Walked
+abbrev pub branches : Siblings → Content → Bool → WalkResult
 branches siblings m f = two_rounds (round siblings false m f) (round siblings true m f)
 
 -- how many parts a list of elements has
@@ -116,6 +121,7 @@ abbrev mutual
   size none_left = 2
   size (filter decision rest) = suc (size rest)
   size (rewrite rule rest) = suc (size rest)
+  size (parse rule rest) = suc (size rest)
   size (deliver drivers rest) = suc (size rest)
   size (junction channels rest) = suc (siblings_size channels + size rest)
   size (choose choice rest) = suc (choice_size choice + size rest)

@@ -3,7 +3,7 @@ ghost use Rattle.std.specs.Prelude.{◌≡◌, ◌≤ℤ◌, pos, codes, IfOk, O
 ghost use Rattle.sg_msg.specs.Message.{value_of};
 ghost use Rattle.sg_r3164.specs.declared.opts.ReadOpts.{ReadOpts as AReadOpts};
 ghost use Rattle.sg_tree.specs.Offers.{is_skipped};
-ghost use Rattle.sg_tree.specs.Readings.{inlet_of, in_lines, IsLine, IsReading, Reads5424, ReadsBy, with_tags};
+ghost use Rattle.sg_tree.specs.Readings.{inlet_of, in_lines, IsLine, IsRecordReading, Reads5424, ReadsByFormat, with_tags};
 
 use crate::InletRule;
 use crate::one_line::put_in_line;
@@ -40,7 +40,7 @@ fn read_plain(
     peer: &Bytes,
 ) -> Result<Message, AllocError>
     requires { (pos 0 ≤ℤ at) × (at ≤ℤ pos 250_000_000_000_000_000) }
-    ensures { IfOk result (ReadsBy rule.now.rfc5424 item at peer.now rule.now.opts) }
+    ensures { IfOk result (ReadsByFormat rule.now.rfc5424 item at peer.now rule.now.opts) }
 {
     if rule.rfc5424 {
         read_5424(alloc, item, at, peer, &rule.opts)
@@ -90,7 +90,7 @@ pub fn read_item(
     peer: &Bytes,
 ) -> Result<Message, AllocError>
     requires { (pos 0 ≤ℤ at) × (at ≤ℤ pos 250_000_000_000_000_000) }
-    ensures reading { IfOk result (IsReading (inlet_of rule.now) item at peer.now) }
+    ensures reading { IfOk result (IsRecordReading (inlet_of rule.now) item at peer.now) }
     ensures line { IfOk result
         (λ message. IsLine rule.now.one_line (value_of (codes "MESSAGE") message.pairs)) }
 {

@@ -3,6 +3,7 @@
 use crate::RewriteRule;
 use sg_filter::Expr;
 use sg_lex::Line;
+use sg_parsers::ParserRule;
 
 /// A `log` statement, a channel of a junction, or an embedded statement (syslog-ng's administration
 /// guide, "Log paths").
@@ -29,6 +30,8 @@ pub enum Element {
     /// Stops a message for which it doesn't hold.
     Filter(Expr),
     Rewrite(RewriteRule),
+    /// Sets what it reads in the message. It stops a message whose text it refuses.
+    Parse(ParserRule),
     /// Gives the message to each of these destinations, by their numbers.
     Deliver(Vec<u32>),
     /// Offers the message to its channels. What comes out of them goes on.

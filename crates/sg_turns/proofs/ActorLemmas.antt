@@ -5,17 +5,16 @@ use Rattle.std.specs.Prelude.{Result, slice_set, get_or}
 use Rattle.sg_device.specs.Inlet.{InletState}
 use Rattle.sg_device.specs.Outlet.{OutletState}
 use Rattle.sg_msg.specs.declared.offer.Offer.{Offer}
-use Rattle.sg_machine.specs.declared.event.Admission.{Admission}
 use Rattle.sg_machine.specs.declared.setup.Setup.{Setup}
 use Rattle.sg_frame.specs.Records.{Record}
 use Rattle.sg_list.proofs.ListLemmas.{change-set, slice_get-some, slice_get-below}
-use Rattle.sg_route.specs.Offers.{record_at, SameOffers, SameRouter}
+use Rattle.sg_route.specs.Offers.{SameOffers, SameRouter}
 use Rattle.sg_route.proofs.Routers.{router-same, router-then}
 use Rattle.sg_counter.specs.Exchanges.{Exchange, OfSource, OfDest}
 use Rattle.sg_counter.specs.declared.calls.CoreCall.{CoreCall}
 use Rattle.sg_counter.specs.declared.calls.CoreReply.{CoreReply}
 use Rattle.sg_actor.specs.Bringing.{AllBy, admitted_in}
-use Rattle.sg_actor.specs.Sources.{AreOf, IsReady}
+use Rattle.sg_actor.specs.Sources.{IsReady}
 use Rattle.sg_actor.specs.Outages.{HasFailures}
 use Rattle.sg_actor.specs.SourceTurns.{ActorState, FitsSource, TurnsWith, TakesTurn}
 use Rattle.sg_actor.specs.DestTurns.{SendsTurn}
@@ -25,7 +24,7 @@ use Rattle.sg_actor.specs.declared.rendering.DestSpec.{DestSpec}
 use Rattle.sg_actor.specs.declared.settings.SourceSpec.{SourceSpec}
 use Rattle.sg_actor.specs.declared.turned.GivenUp.{GivenUp}
 use Rattle.sg_actor.specs.declared.turned.Turned.{Turned}
-use Rattle.sg_actor.proofs.KeepLemmas.{read-as}
+use Rattle.sg_actor.proofs.KeepLemmas.{read-as, are-as}
 use Rattle.sg_turns.specs.Turns.{Turn, answer_of, result_of, any_step, SourceTurns, TookTurns, DestState, SendsBy, DestTurns, SentTurns}
 use Rattle.sg_turns.specs.Actors.{source_seen, dest_seen, IsSource, AreSources, IsDest, AreDests, SourceTakes, SourceTook, DestTakes, DestTook}
 use Rattle.sg_turns.specs.Rounds.{noted, TookFirst, TookSome}
@@ -35,16 +34,6 @@ use Rattle.sg_turns.proofs.RoundLemmas.{source-same, dest-same}
 use Rattle.sg_turns.proofs.TurnLemmas.{source-turn, dest-turn}
 
 -- Turns with a router that says the same.
-
-are-as : (old new : ℕ → Record → List Offer → Type 0) (spec : SourceSpec) → ((i : ℕ) (r : Record) (offers : List Offer) → old i r offers → new i r offers)
-    → (rs : List Record) (held : List Admission) → AreOf old spec rs held → AreOf new spec rs held
-are-as old new spec forth [] [] h = tt
-are-as old new spec forth [] (a ∷ held) h = absurd h
-are-as old new spec forth (r ∷ rs) [] h = absurd h
-are-as old new spec forth (r ∷ rs) (a ∷ held) h = (
-  record { ends = h.0.ends; offered = forth spec.inlet (record_at r.peer r.item.text r.item.at) a.offers h.0.offered },
-  are-as old new spec forth rs held h.1,
-)
 
 turns-as : (old new : ℕ → Record → List Offer → Type 0) (dests : ℕ) (spec : SourceSpec) (x y : ActorState) (result : Result Turned (Unit {0})) (made : List Exchange) (ups credit : ℕ)
     → SameOffers old new → TurnsWith new dests spec any_step (tt {0}) (tt {0}) x y result made ups credit → TurnsWith old dests spec any_step (tt {0}) (tt {0}) x y result made ups credit

@@ -14,7 +14,7 @@ use Rattle.sg_turns.specs.Turns.{Turn, any_step, result_of, DestState, SendsBy, 
 use Rattle.sg_turns.specs.Serving.{is_busy, is_busy_answer, busy_of}
 use Rattle.sg_turns.specs.Failing.{DestIsBounded}
 
-one-most : (b : Bool) → one_if b ≤ 1
+pub one-most : (b : Bool) → one_if b ≤ 1
 one-most true = omega arith
 one-most false = omega arith
 
@@ -125,3 +125,7 @@ turns-paid spec old new (turn ∷ turns) below (mid, (sent, rest)) =
 pub dest-bounded : (spec : DestSpec) (old new : DestState) (turns : List Turn) → DestIsBounded spec old new turns
 dest-bounded spec old new turns sent below =
     let h = turns-paid spec old new turns below sent in omega (arith, h.paid, h.count, h.faults, h.laters)
+
+pub busy-most : (turns : List Turn) → busy_of turns ≤ length turns
+busy-most [] = omega arith
+busy-most (t ∷ turns) = let rest = busy-most turns in let one = one-most (is_busy t) in omega (arith, rest, one)

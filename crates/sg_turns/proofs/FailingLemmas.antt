@@ -3,16 +3,16 @@ use Rattle.std.proofs.Common.{arith, ◌≡◌, ◌≤◌, ℕ, Bool, true, fals
 use Rattle.sg_device.specs.Faults.{Rose}
 use Rattle.sg_msg.specs.declared.offer.Offer.{Offer}
 use Rattle.sg_frame.specs.Records.{Record}
-use Rattle.sg_actor.specs.Steps.{Fails}
+use Rattle.sg_actor.specs.Steps.{PullFails}
 use Rattle.sg_actor.specs.SourceTurns.{ActorState}
-use Rattle.sg_actor.specs.DestTurns.{HasCause}
+use Rattle.sg_actor.specs.DestTurns.{HasGivenUpCause}
 use Rattle.sg_actor.specs.declared.rendering.DestSpec.{DestSpec}
 use Rattle.sg_actor.specs.declared.settings.SourceSpec.{SourceSpec}
 use Rattle.sg_actor.specs.declared.turned.GivenUp.{GivenUp}
 use Rattle.sg_turns.specs.Turns.{Turn, TookTurns, DestState, SendsBy}
-use Rattle.sg_turns.specs.Failing.{SourceFails, HasFailed, DestFails}
+use Rattle.sg_turns.specs.Failing.{SourceFails, HasOutletFailed, DestFails}
 
-fails-then : (a b c : Bool) (x y z : ℕ) → Fails a b x y → Fails b c y z → x ≤ y → y ≤ z → Fails a c x z
+fails-then : (a b c : Bool) (x y z : ℕ) → PullFails a b x y → PullFails b c y z → x ≤ y → y ≤ z → PullFails a c x z
 fails-then a true c x y z h k first second = (
   (λ e. k.0 (h.0 e)),
   (λ was e. (let rose : Rose x y = h.1 was refl in omega arith)),
@@ -24,7 +24,7 @@ fails-then a false c x y z h k first second = (
 
 -- the count of faults doesn't fall
 abbrev CountsOn : ActorState → ActorState → Type 0
-CountsOn old new = Fails old.source.reader.failed new.source.reader.failed old.source.feed.faults new.source.feed.faults × (old.source.feed.faults ≤ new.source.feed.faults)
+CountsOn old new = PullFails old.source.reader.failed new.source.reader.failed old.source.feed.faults new.source.feed.faults × (old.source.feed.faults ≤ new.source.feed.faults)
 
 counts-on : (offers : ℕ → Record → List Offer → Type 0) (dests : ℕ) (spec : SourceSpec) (old new : ActorState) (turns : List Turn) → TookTurns offers dests spec old new turns → CountsOn old new
 counts-on offers dests spec old new [] same =
@@ -41,15 +41,15 @@ pub source-fails : (offers : ℕ → Record → List Offer → Type 0) (dests : 
 source-fails offers dests spec old new turns took = (counts-on offers dests spec old new turns took).0
 
 -- a turn of a destination
-sent-failed : (cause : Option GivenUp) (spec : DestSpec) (old new : DestState) (turn : Turn) → SendsBy cause spec old new turn → HasFailed spec old → HasFailed spec new
+sent-failed : (cause : Option GivenUp) (spec : DestSpec) (old new : DestState) (turn : Turn) → SendsBy cause spec old new turn → HasOutletFailed spec old → HasOutletFailed spec new
 sent-failed None spec old new turn (taken, (refused, h)) before e =
-    let why = subst (λ c. HasCause spec.gives_up refused new.drain turn.made c) e h.cause in
+    let why = subst (λ c. HasGivenUpCause spec.gives_up refused new.drain turn.made c) e h.cause in
     (why.0, why.2)
 sent-failed (Some c) spec old new turn h before e =
     let was = before (ap (λ o. o.given_up) (sym h.1.outage_stays) ∙ e) in
     (was.0, subst (λ d. 3 ≤ d.failing) (sym h.1.drain_stays) was.1)
 
 pub dest-fails : (spec : DestSpec) (old new : DestState) (turns : List Turn) → DestFails spec old new turns
-dest-fails spec old new [] same before = subst (λ s. HasFailed spec s) (sym same) before
+dest-fails spec old new [] same before = subst (λ s. HasOutletFailed spec s) (sym same) before
 dest-fails spec old new (turn ∷ turns) (mid, (sent, rest)) before =
     dest-fails spec mid new turns rest (sent-failed old.outage.given_up spec old mid turn sent before)

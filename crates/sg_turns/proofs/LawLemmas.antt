@@ -11,12 +11,12 @@ use Rattle.sg_counter.specs.Exchanges.{Exchange}
 use Rattle.sg_counter.specs.declared.calls.CoreReply.{CoreReply}
 use Rattle.sg_counter.specs.declared.calls.CoreReply.TheVariants.{Credit, Admitted, Front as FrontReply, Settled as SettledReply, Refilled as RefilledReply, Stored}
 use Rattle.sg_counter.specs.declared.answers.CoreFront.TheVariants.{Entries, Empty, Broken as FrontBroken}
-use Rattle.sg_actor.specs.Bringing.{admitted_by, admitted_in}
+use Rattle.sg_actor.specs.Bringing.{admitted_in}
 use Rattle.sg_actor.specs.Sources.{AreOf, HasRead}
 use Rattle.sg_actor.specs.Outages.{HasFailures}
 use Rattle.sg_actor.specs.Rendering.{frame_by, frames_by, until, sent_of}
-use Rattle.sg_actor.specs.SourceTurns.{ActorState, bad_after, IsEmptyTurn, Tells}
-use Rattle.sg_actor.specs.DestTurns.{SettlesFirst, Refills, Follows, Delivers, shown_in, IsShownEmpty, Tells as DestTells}
+use Rattle.sg_actor.specs.SourceTurns.{ActorState, bad_after, IsEmptyTurn, TellsSource}
+use Rattle.sg_actor.specs.DestTurns.{SettlesFirst, Refills, FollowsFront, DeliversFront, shown_in, IsShownEmpty, TellsDest as DestTells}
 use Rattle.sg_actor.specs.declared.rendering.DestSpec.{DestSpec}
 use Rattle.sg_actor.specs.declared.settings.SourceSpec.{SourceSpec}
 use Rattle.sg_actor.specs.declared.turned.GivenUp.{GivenUp}
@@ -24,13 +24,9 @@ use Rattle.sg_actor.specs.declared.turned.Turned.{Turned}
 use Rattle.sg_actor.proofs.KeepLemmas.{are-append}
 use Rattle.sg_turns.specs.Turns.{Turn, result_of, calls_of, SourceTurns, TookTurns, DestState, SendsBy, DestTurns, SentTurns}
 use Rattle.sg_turns.specs.Laws.{ReadsOn, TurnsReadOn, settled_by, settled_in, frames_of, SendsOn, TurnsSendOn, SourceRests, DestRests}
+use Rattle.sg_actor.proofs.TurnLemmas.{admitted-append}
 
 -- What a source's turns admit.
-
-admitted-append : (xs ys : List Exchange) → admitted_in (xs ++ ys) ≡ admitted_in xs ++ admitted_in ys
-admitted-append [] ys = refl
-admitted-append (x ∷ xs) ys =
-    ap (λ l. admitted_by x.call x.reply ++ l) (admitted-append xs ys) ∙ sym (append_assoc (admitted_by x.call x.reply) (admitted_in xs) (admitted_in ys))
 
 bad-more : (count a b : ℕ) → bad_after (bad_after count a) b ≡ bad_after count (a + b)
 bad-more count zero b = let e : b ≡ 0 + b = omega arith in ap (λ n. bad_after count n) e
@@ -90,7 +86,7 @@ settled-first d place (suc n) count well (s ∷ made) h =
 none-settled : (made : List Exchange) (taken : ℕ) → (made ≡ []) × (taken ≡ 0) → settled_in made ≡ taken
 none-settled made taken h = ap settled_in h.0 ∙ sym h.1
 
-settled-after : (d taken count : ℕ) (well : Bool) (reply : CoreReply) (made : List Exchange) → Follows d taken count well reply made → settled_in made ≡ taken
+settled-after : (d taken count : ℕ) (well : Bool) (reply : CoreReply) (made : List Exchange) → FollowsFront d taken count well reply made → settled_in made ≡ taken
 settled-after d taken count well (FrontReply (Ok (Entries place []))) made h = none-settled made taken h
 settled-after d taken count well (FrontReply (Ok (Entries place (m ∷ ms)))) made h = settled-first d place taken count well made h
 settled-after d taken count well (FrontReply (Ok Empty)) made h = none-settled made taken h
@@ -102,7 +98,7 @@ settled-after d taken count well (SettledReply result) made h = none-settled mad
 settled-after d taken count well (RefilledReply result) made h = none-settled made taken h
 settled-after d taken count well (Stored result) made h = none-settled made taken h
 
-settled-is : (d taken count : ℕ) (well : Bool) (made : List Exchange) → Delivers d taken count well made → settled_in made ≡ taken
+settled-is : (d taken count : ℕ) (well : Bool) (made : List Exchange) → DeliversFront d taken count well made → settled_in made ≡ taken
 settled-is d taken count well [] h = sym h
 settled-is d taken count well (f ∷ made) h =
     let none : settled_by f.call ≡ 0 = ap settled_by h.0 in
@@ -185,12 +181,12 @@ send-on spec old new (turn ∷ turns) (mid, (k, more)) h =
 
 -- The last turn.
 
-took-last : (offers : ℕ → Record → List Offer → Type 0) (dests : ℕ) (spec : SourceSpec) (x z : ActorState) (earlier : List Turn) (turn : Turn)
+pub took-last : (offers : ℕ → Record → List Offer → Type 0) (dests : ℕ) (spec : SourceSpec) (x z : ActorState) (earlier : List Turn) (turn : Turn)
     → TookTurns offers dests spec x z (earlier ++ turn ∷ []) → (y : ActorState) × SourceTurns offers dests spec y z turn
 took-last offers dests spec x z [] turn (y, (h, is)) = (x, subst (λ s. SourceTurns offers dests spec x s turn) (sym is) h)
 took-last offers dests spec x z (t ∷ earlier) turn (y, (h, more)) = took-last offers dests spec y z earlier turn more
 
-sent-last : (spec : DestSpec) (x z : DestState) (earlier : List Turn) (turn : Turn) → SentTurns spec x z (earlier ++ turn ∷ []) → (y : DestState) × DestTurns spec y z turn
+pub sent-last : (spec : DestSpec) (x z : DestState) (earlier : List Turn) (turn : Turn) → SentTurns spec x z (earlier ++ turn ∷ []) → (y : DestState) × DestTurns spec y z turn
 sent-last spec x z [] turn (y, (h, is)) = (x, subst (λ s. DestTurns spec x s turn) (sym is) h)
 sent-last spec x z (t ∷ earlier) turn (y, (h, more)) = sent-last spec y z earlier turn more
 
@@ -198,7 +194,7 @@ pub source-rests : (offers : ℕ → Record → List Offer → Type 0) (dests : 
     → SourceRests offers dests spec old new turns before last
 source-rests offers dests spec old new turns before last took rests =
     let found = took-last offers dests spec old new rests.earlier rests.turn (subst (λ ts. TookTurns offers dests spec old new ts) rests.are took) in
-    let tells = subst (λ (a : Option Turned). Tells spec found.0 new rests.turn.made found.1.ups found.1.credit (result_of a)) rests.nothing found.1.takes.tells in
+    let tells = subst (λ (a : Option Turned). TellsSource spec found.0 new rests.turn.made found.1.ups found.1.credit (result_of a)) rests.nothing found.1.takes.tells in
     subst (λ m. IsEmptyTurn spec new m) (sym rests.last_are) (tells.empty refl refl)
 
 dest-empty : (cause : Option GivenUp) (spec : DestSpec) (x y : DestState) (turn : Turn) → x.outage.given_up ≡ cause → turn.answer ≡ Some (record { did = false; idle = false })

@@ -15,7 +15,8 @@ use Rattle.sg_turns.specs.Turns.{Turn}
 use Rattle.sg_turns.specs.Serving.{is_busy, is_busy_answer}
 use Rattle.sg_turns.specs.Rounds.{noted, TellsRound, TookFirst}
 use Rattle.sg_turns.specs.declared.round.Round.{Round}
-use Rattle.sg_turns.proofs.TurnLemmas.{makes-append, calls-append, own-calls, other-calls}
+use Rattle.sg_turns.proofs.TurnLemmas.{calls-append, own-calls, other-calls}
+use Rattle.sg_actor.proofs.TurnLemmas.{makes-append}
 
 abbrev pub no-turn : Turn
 no-turn = record { made = []; answer = None }
@@ -30,7 +31,7 @@ put-other : (turn : ℕ → Turn) (n j : ℕ) (t : Turn) → (j ≡ n → ⊥) �
 put-other turn n j t h = cond-false (j == n) t (turn j) (ne_eqb j n h)
 
 -- A number below the next one is that one, or below it.
-last-or : (j n : ℕ) → j < n + 1 → (j ≡ n) ⊎ ((j < n) × (j ≡ n → ⊥))
+pub last-or : (j n : ℕ) → j < n + 1 → (j ≡ n) ⊎ ((j < n) × (j ≡ n → ⊥))
 last-or j n h = elim (cases_eq j n) [ inl e ↦ inl e | inr d ↦ inr (omega (arith, d), d) ]
 
 tells-some : (n : ℕ) (turn : ℕ → Turn) (round : Round) (t : Turn) (turned : Turned) → t.answer ≡ Some turned → TellsRound (λ j. j < n) turn round

@@ -14,7 +14,8 @@ use Rattle.sg_turns.specs.Serving.{IsActor, is_busy, is_busy_answer, busy_of, su
 use Rattle.sg_turns.specs.Rounds.{both, TellsRound, TookFirst, TookRoundWith, RunsOn}
 use Rattle.sg_turns.specs.declared.ended.Ended.TheVariants.{Quiet, RoundsSpent, NoMemory}
 use Rattle.sg_turns.specs.declared.round.Round.{Round}
-use Rattle.sg_turns.proofs.TurnLemmas.{makes-append, calls-append}
+use Rattle.sg_turns.proofs.TurnLemmas.{calls-append}
+use Rattle.sg_actor.proofs.TurnLemmas.{makes-append}
 
 -- Callers.
 
@@ -113,7 +114,7 @@ round-of source dest step c b c' sources sources' dests dests' read sent xs ys f
 abbrev pub more : (Caller → List Turn) → (Caller → Turn) → Caller → List Turn
 more account turn who = account who ++ turn who ∷ []
 
-calls-push : (turns : List Turn) (t : Turn) → calls_of (turns ++ t ∷ []) ≡ calls_of turns ++ t.made
+pub calls-push : (turns : List Turn) (t : Turn) → calls_of (turns ++ t ∷ []) ≡ calls_of turns ++ t.made
 calls-push [] t = append-nil t.made
 calls-push (u ∷ us) t = ap (λ l. u.made ++ l) (calls-push us t) ∙ sym (append_assoc u.made (calls_of us) t.made)
 
@@ -245,7 +246,7 @@ pub calm-is : (b : Bool) → not b ≡ true → b ≡ false
 calm-is true h = absurd (let differ : false ≡ true = h in cc)
 calm-is false h = refl
 
-nothing-done : (t : Turn) (turned : Turned) → t.answer ≡ Some turned → is_busy t ≡ false → t.answer ≡ Some (record { did = false; idle = false })
+pub nothing-done : (t : Turn) (turned : Turned) → t.answer ≡ Some turned → is_busy t ≡ false → t.answer ≡ Some (record { did = false; idle = false })
 nothing-done t turned is calm =
     let parts = or_parts turned.did turned.idle (ap is_busy_answer (sym is) ∙ calm) in
     is ∙ ap (λ (b : Bool). Some (record { did = b; idle = turned.idle })) parts.0 ∙ ap (λ (b : Bool). Some (record { did = false; idle = b })) parts.1

@@ -1,5 +1,5 @@
 -- A turn over any counter, told without the counter.
-use Rattle.std.proofs.Common.{◌≡◌, ℕ, Bool, true, false, List, [], ◌∷◌, ◌++◌, refl, ap, ◌∙◌, subst, Option, Some, None}
+use Rattle.std.proofs.Common.{◌≡◌, ℕ, Bool, true, false, List, [], ◌∷◌, ◌++◌, refl, ap, ◌∙◌, Option, Some, None}
 use Rattle.std.proofs.lemmas.Bool.{eq-eqb, ne_eqb, cond-true, cond-false}
 use Rattle.std.proofs.lemmas.List.Elements.{filter-append}
 use Rattle.std.specs.Prelude.{Ok, Err, Result}
@@ -11,7 +11,7 @@ use Rattle.sg_counter.specs.declared.calls.CoreCall.{CoreCall}
 use Rattle.sg_counter.specs.declared.calls.CoreReply.{CoreReply}
 use Rattle.sg_actor.specs.Bringing.{AllBy}
 use Rattle.sg_actor.specs.SourceTurns.{ActorState, TurnsWith, TakesTurn}
-use Rattle.sg_actor.specs.DestTurns.{SendsWith, SendsBy as ActorSendsBy, SendsTurn, Stays}
+use Rattle.sg_actor.specs.DestTurns.{SendsWith, SendsByCause as ActorSendsBy, SendsTurn, StaysGivenUp}
 use Rattle.sg_actor.specs.declared.outage.Outage.{Outage}
 use Rattle.sg_actor.specs.declared.rendering.DestSpec.{DestSpec}
 use Rattle.sg_actor.specs.declared.settings.SourceSpec.{SourceSpec}
@@ -21,11 +21,7 @@ use Rattle.sg_turns.specs.Turns.{Turn, answer_of, result_of, any_step, SourceTur
 
 -- Calls one after another.
 
-pub makes-append : {S : Type 0} (step : S → CoreCall → CoreReply → S → Type 0) (a b c : S) (xs ys : List Exchange) → Makes step a xs b → Makes step b ys c → Makes step a (xs ++ ys) c
-makes-append step a b c [] ys h k = subst (λ s. Makes step s ys c) h k
-makes-append step a b c (x ∷ xs) ys h k = (h.0, h.1, makes-append step h.0 b c xs ys h.2 k)
-
-any-makes : (made : List Exchange) → Makes any_step (tt {0}) made (tt {0})
+pub any-makes : (made : List Exchange) → Makes any_step (tt {0}) made (tt {0})
 any-makes [] = refl
 any-makes (e ∷ es) = (tt, tt, any-makes es)
 
@@ -162,7 +158,7 @@ dest-any spec step counter counter' old new drain drain' (Err e) made taken refu
 }
 
 stays-any : {S E : Type 0} (counter counter' : S) (old new : Outage) (drain drain' : OutletState) (result : Result Turned E)
-    → Stays counter counter' old new drain drain' result → Stays (tt {0}) (tt {0}) old new drain drain' (result_of (answer_of result))
+    → StaysGivenUp counter counter' old new drain drain' result → StaysGivenUp (tt {0}) (tt {0}) old new drain drain' (result_of (answer_of result))
 stays-any counter counter' old new drain drain' result h = record {
   counter_stays = refl;
   outage_stays = h.outage_stays;

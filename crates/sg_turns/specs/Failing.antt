@@ -3,7 +3,7 @@ use Rattle.std.specs.Prelude.{◌≡◌, ◌≤◌, ◌<◌, ℕ, ◌+◌, ◌-�
 use Rattle.sg_msg.specs.declared.offer.Offer.{Offer}
 use Rattle.sg_frame.specs.Records.{Record}
 use Rattle.sg_actor.specs.Reading.{one_if}
-use Rattle.sg_actor.specs.Steps.{Fails}
+use Rattle.sg_actor.specs.Steps.{PullFails}
 use Rattle.sg_actor.specs.SourceTurns.{ActorState}
 use Rattle.sg_actor.specs.declared.rendering.DestSpec.{DestSpec}
 use Rattle.sg_actor.specs.declared.settings.SourceSpec.{SourceSpec}
@@ -15,16 +15,16 @@ use Rattle.sg_turns.specs.Serving.{busy_of}
 abbrev pub SourceFails : (ℕ → Record → List Offer → Type 0) → ℕ → SourceSpec → ActorState
     → ActorState → List Turn → Type 0
 SourceFails offers dests spec old new turns =
-    TookTurns offers dests spec old new turns → Fails old.source.reader.failed
+    TookTurns offers dests spec old new turns → PullFails old.source.reader.failed
     new.source.reader.failed old.source.feed.faults new.source.feed.faults
 
 -- where a destination is given up for its outlet, three sends or reopenings failed since it took a frame last
-abbrev pub HasFailed : DestSpec → DestState → Type 0
-HasFailed spec s = s.outage.given_up ≡ Some Outlet → (spec.gives_up ≡ true) × (3 ≤ s.drain.failing)
+abbrev pub HasOutletFailed : DestSpec → DestState → Type 0
+HasOutletFailed spec s = s.outage.given_up ≡ Some Outlet → (spec.gives_up ≡ true) × (3 ≤ s.drain.failing)
 
 abbrev pub DestFails : DestSpec → DestState → DestState → List Turn → Type 0
-DestFails spec old new turns = SentTurns spec old new turns → HasFailed spec old
-    → HasFailed spec new
+DestFails spec old new turns = SentTurns spec old new turns → HasOutletFailed spec old
+    → HasOutletFailed spec new
 
 -- Each turn of a destination that did something or was idle took a frame, or its outlet failed, or was open again after a failure, or it
 -- was too early to reopen it or to send. So a frame pays for one turn, a failure for two, and an answer that it is too early for one.

@@ -73,15 +73,15 @@ frames_of spec (turn ∷ turns) = take (settled_in turn.made) (frames_by spec (s
     ++ frames_of spec turns
 
 -- each settled no more than it was shown
-abbrev pub AreWithin : List Turn → Type 0
-AreWithin [] = Unit {0}
-AreWithin (turn ∷ turns) = (settled_in turn.made ≤ length (shown_in turn.made)) × AreWithin turns
+abbrev pub AreTurnsWithin : List Turn → Type 0
+AreTurnsWithin [] = Unit {0}
+AreTurnsWithin (turn ∷ turns) = (settled_in turn.made ≤ length (shown_in turn.made)) × AreTurnsWithin turns
 
 -- The frames that the outlet took are those of the entries that were settled, in order.
 pub record SendsOn (spec : DestSpec) (old new : DestState) (turns : List Turn) : Type 0 where
   pub told : new.drain.taken ≡ option_map (λ before. before ++ frames_of spec turns) old.drain.taken
   pub count : new.drain.count ≡ old.drain.count + settled_in (calls_of turns)
-  pub within : AreWithin turns
+  pub within : AreTurnsWithin turns
   pub failures : HasFailures new.outage new.drain
   pub faults : old.drain.faults ≤ new.drain.faults
 

@@ -81,9 +81,9 @@ pub record RunsOn {A B S : Type 0} (source : A → A → List Turn → Type 0) (
   pub last : 0 < number → (who : Caller) × (IsActor (length sources) (length dests) who
       × ((turn : Turn) × (IsLast (account who) turn × (is_busy turn ≡ true))))
 
-abbrev pub Runs : {A B S : Type 0} → (A → A → List Turn → Type 0) → (B → B → List Turn → Type 0)
+abbrev pub TakesRounds : {A B S : Type 0} → (A → A → List Turn → Type 0) → (B → B → List Turn → Type 0)
     → (S → CoreCall → CoreReply → S → Type 0) → S → S → List A → List A → List B → List B → ℕ
     → Type 0
-Runs source dest step counter counter' sources sources' dests dests' number =
+TakesRounds source dest step counter counter' sources sources' dests dests' number =
     (made : List Exchange) × ((account : Caller → List Turn)
     × RunsOn source dest step counter counter' sources sources' dests dests' made account number)

@@ -78,12 +78,12 @@ pub record RunsOut (sources dests : ℕ) (account : Caller → List Turn) : Type
   pub last : (who : Caller) × (IsActor sources dests who
       × ((turn : Turn) × (IsLast (account who) turn × (turn.answer ≡ None))))
 
-abbrev pub Concludes : ℕ → ℕ → List Exchange → (Caller → List Turn) → (rounds number : ℕ) → Ended
+abbrev pub ConcludesRounds : ℕ → ℕ → List Exchange → (Caller → List Turn) → (rounds number : ℕ) → Ended
     → Type 0
-Concludes sources dests made account rounds number Quiet = EndsQuietly sources dests made account
-Concludes sources dests made account rounds number RoundsSpent = SpendsRounds sources dests account
+ConcludesRounds sources dests made account rounds number Quiet = EndsQuietly sources dests made account
+ConcludesRounds sources dests made account rounds number RoundsSpent = SpendsRounds sources dests account
     rounds number
-Concludes sources dests made account rounds number NoMemory = RunsOut sources dests account
+ConcludesRounds sources dests made account rounds number NoMemory = RunsOut sources dests account
 
 -- These calls were made, in this order. Each actor took so many turns, and of the calls it made those of its turns, in their order.
 pub record Took {A B S : Type 0} (source : A → A → List Turn → Type 0) (dest : B → B → List Turn → Type 0) (step : S → CoreCall → CoreReply → S → Type 0) (counter counter' : S)
@@ -110,11 +110,11 @@ pub record ServesWith {A B S : Type 0} (source : A → A → List Turn → Type 
   pub few : number ≤ rounds
   -- in each round but the last an actor did something, or was idle
   pub lively : number ≤ busy_turns (length sources) (length dests) account + 1
-  pub ends : Concludes (length sources) (length dests) made account rounds number ended
+  pub ends : ConcludesRounds (length sources) (length dests) made account rounds number ended
 
-abbrev pub Serves : {A B S : Type 0} → (A → A → List Turn → Type 0) → (B → B → List Turn → Type 0)
+abbrev pub ServesRounds : {A B S : Type 0} → (A → A → List Turn → Type 0) → (B → B → List Turn → Type 0)
     → (S → CoreCall → CoreReply → S → Type 0) → S → S → List A → List A → List B → List B → ℕ
     → Ended → Type 0
-Serves source dest step counter counter' sources sources' dests dests' rounds ended =
+ServesRounds source dest step counter counter' sources sources' dests dests' rounds ended =
     (made : List Exchange) × ((account : Caller → List Turn) × ((number : ℕ)
     × ServesWith source dest step counter counter' sources sources' dests dests' rounds ended made account number))

@@ -7,7 +7,7 @@ use Rattle.sg_counter.specs.Exchanges.{Exchange}
 use Rattle.sg_counter.specs.declared.calls.CoreCall.{CoreCall}
 use Rattle.sg_counter.specs.declared.calls.CoreReply.{CoreReply}
 use Rattle.sg_actor.specs.SourceTurns.{ActorState, TurnsWith}
-use Rattle.sg_actor.specs.DestTurns.{SendsWith, Stays}
+use Rattle.sg_actor.specs.DestTurns.{SendsWith, StaysGivenUp}
 use Rattle.sg_actor.specs.declared.outage.Outage.{Outage}
 use Rattle.sg_actor.specs.declared.rendering.DestSpec.{DestSpec}
 use Rattle.sg_actor.specs.declared.settings.SourceSpec.{SourceSpec}
@@ -65,7 +65,7 @@ SendsBy None spec old new turn =
     (taken : ℕ) × ((refused : Bool) × SendsWith spec any_step (tt {0}) (tt {0}) old.outage
     new.outage old.drain new.drain (result_of turn.answer) turn.made taken refused)
 SendsBy (Some cause) spec old new turn = (turn.made ≡ [])
-    × Stays (tt {0}) (tt {0}) old.outage new.outage old.drain new.drain (result_of turn.answer)
+    × StaysGivenUp (tt {0}) (tt {0}) old.outage new.outage old.drain new.drain (result_of turn.answer)
 
 abbrev pub DestTurns : DestSpec → DestState → DestState → Turn → Type 0
 DestTurns spec old new turn = SendsBy old.outage.given_up spec old new turn

@@ -1,7 +1,7 @@
 // The rounds of a run, over any counter.
 ghost use Rattle.std.specs.Prelude.{◌≡◌, ◌≤◌, ◌<◌, ◌+◌, ◌*◌, length};
 ghost use Rattle.sg_turns.specs.Actors.{AreFewActors, AreSources, AreDests, SourceTook, DestTook};
-ghost use Rattle.sg_turns.specs.Serving.{Serves};
+ghost use Rattle.sg_turns.specs.Serving.{ServesRounds};
 
 use crate::ended::Ended;
 use crate::round::take_round;
@@ -27,7 +27,7 @@ pub fn run_rounds<T: Wait, R: Router, I: Inlet, O: Outlet, C: Settler<O>>(
     requires dests { AreDests O.state (C.setup counter.old) dests.old.items }
     requires few { AreFewActors (length sources.old.items) (length dests.old.items) }
     requires left { 768 * rounds ≤ C.left counter.old }
-    ensures serves { Serves (SourceTook I.state R.offers R.inlets R.dests) (DestTook O.state) C.step
+    ensures serves { ServesRounds (SourceTook I.state R.offers R.inlets R.dests) (DestTook O.state) C.step
         counter.old counter.new sources.old.items sources.new.items dests.old.items dests.new.items
         rounds result }
     ensures sources { AreSources I.state R.inlets R.dests (C.setup counter.new) sources.new.items }

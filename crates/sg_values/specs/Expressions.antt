@@ -10,10 +10,10 @@ use Rattle.sg_fault.specs.declared.placed.Placed.{Placed}
 use Rattle.sg_values.specs.Calls.{filter_faults}
 
 -- one layer, with each part beside its faults
-abbrev pub Layer : Type 0
-Layer = RawExpr-F (Arg × Unit {0}) (RawExpr × List Placed) (Call × Unit {0})
+abbrev pub FaultLayer : Type 0
+FaultLayer = RawExpr-F (Arg × Unit {0}) (RawExpr × List Placed) (Call × Unit {0})
 
-abbrev pub faults_step : Layer → List Placed
+abbrev pub faults_step : FaultLayer → List Placed
 faults_step (RawExpr-F.Call call) = filter_faults call.0
 faults_step (RawExpr-F.Compare left cmp right) = []
 faults_step (RawExpr-F.And terms) = flat_map (λ t. t.1) terms

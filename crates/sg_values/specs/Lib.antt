@@ -4,4 +4,5 @@ pub mod Patterns
 pub mod Calls
 pub mod Expressions
 pub mod Conditions
+pub mod Parsers
 pub mod Texts

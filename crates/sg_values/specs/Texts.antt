@@ -1,4 +1,4 @@
--- The values of all filters and rewrites, in the order of the text.
+-- The values of all filters, rewrites and parsers, in the order of the text.
 use Rattle.std.specs.Prelude.{List, []}
 use Rattle.std.specs.List.{flat_map}
 use Rattle.sg_parse_obj.specs.declared.object.Object.{Object}
@@ -10,10 +10,12 @@ use Rattle.sg_visit.specs.Leaves.{Leaf, leaves_of}
 use Rattle.sg_fault.specs.declared.placed.Placed.{Placed}
 use Rattle.sg_values.specs.Expressions.{expression_faults}
 use Rattle.sg_values.specs.Conditions.{rewrite_faults}
+use Rattle.sg_values.specs.Parsers.{parser_faults}
 
 abbrev pub object_faults : Object → List Placed
 object_faults (object.Filter name expr) = expression_faults expr
 object_faults (object.Rewrite name calls) = flat_map rewrite_faults calls
+object_faults (object.Parser name calls) = flat_map parser_faults calls
 object_faults _ = []
 
 -- of what stands in the place of a name

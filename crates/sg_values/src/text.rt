@@ -3,15 +3,17 @@ ghost use Rattle.std.specs.Prelude.{◌≡◌};
 ghost use Rattle.std.specs.List.{flat_map};
 ghost use Rattle.sg_fault.specs.Faults.{earlier, least};
 ghost use Rattle.sg_values.specs.Conditions.{rewrite_faults};
+ghost use Rattle.sg_values.specs.Parsers.{parser_faults};
 ghost use Rattle.sg_values.specs.Texts.{object_faults, reference_faults, leaf_faults, values_faults};
 
 use crate::expression::expression_fault;
+use crate::parser::parser_fault;
 use crate::rewrite::rewrite_fault;
 use sg_fault::{Placed, earlier};
 use sg_parse_base::Spot;
 use sg_parse_expr::{Call, RawExpr};
 use sg_parse_obj::Object;
-use sg_parse_path::{Kind, RawRef};
+use sg_parse_path::{RawRef, ReferenceKind};
 use sg_parse_text::Statement;
 use sg_visit::{Visit, visit_statements};
 use std::convert::Infallible;
@@ -26,12 +28,23 @@ fn rewrites_fault(calls: &[Call]) -> Option<Placed>
     first
 }
 
+fn parsers_fault(calls: &[Call]) -> Option<Placed>
+    ensures { result ≡ least (flat_map parser_faults calls.now) }
+{
+    let mut first = None;
+    for call in calls {
+        first = earlier(first, parser_fault(call));
+    }
+    first
+}
+
 fn object_fault(object: &Object) -> Option<Placed>
     ensures { result ≡ least (object_faults object.now) }
 {
     match object {
         Object::Filter { expr, .. } => expression_fault(expr),
         Object::Rewrite { calls, .. } => rewrites_fault(calls.as_slice()),
+        Object::Parser { calls, .. } => parsers_fault(calls.as_slice()),
         _ => None,
     }
 }
@@ -69,7 +82,7 @@ impl Visit for ValueVisitor {
     fn reference(
         &self,
         first: &mut Option<Placed>,
-        _kind: Kind,
+        _kind: ReferenceKind,
         reference: &RawRef,
     ) -> Result<(), Infallible> {
         *first = earlier(*first, reference_fault(reference));
@@ -86,7 +99,7 @@ impl Visit for ValueVisitor {
     }
 }
 
-/// The first fault of the values of all filters and rewrites, also of those in log statements.
+/// The first fault of the values of all filters, rewrites and parsers, also of those in log statements.
 pub fn values_fault(statements: &[Statement]) -> Option<Placed>
     ensures { result ≡ least (values_faults statements.now) }
 {

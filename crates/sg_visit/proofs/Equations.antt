@@ -3,12 +3,12 @@ use Rattle.std.proofs.Common.{◌≡◌, List, [], ◌∷◌, ◌++◌, Option, 
 use Rattle.std.specs.List.{flat_map}
 use Rattle.std.proofs.lemmas.List.Folds.{flat_map-map}
 use Rattle.sg_parse_base.specs.declared.spot.Spot.{Spot}
-use Rattle.sg_parse_path.specs.declared.reference.Kind.TheVariants as kind
+use Rattle.sg_parse_path.specs.declared.reference.ReferenceKind.TheVariants as kind
 use Rattle.sg_parse_path.specs.declared.tree.RawRef.{RawRef}
 use Rattle.sg_parse_path.specs.declared.tree.RawElement.{RawElement, fold-roll-RawElement}
 use Rattle.sg_parse_path.specs.declared.tree.RawElement.TheOpen.{RawElement-F}
 use Rattle.sg_parse_path.specs.declared.tree.RawElement.TheVariants as e
-use Rattle.sg_parse_path.specs.declared.tree.RawElement.TheVariants.{rolls-Source, rolls-Destination, rolls-Filter, rolls-Rewrite, rolls-Junction, rolls-If}
+use Rattle.sg_parse_path.specs.declared.tree.RawElement.TheVariants.{rolls-Source, rolls-Destination, rolls-Filter, rolls-Rewrite, rolls-Parser, rolls-Junction, rolls-If}
 use Rattle.sg_parse_path.specs.declared.tree.RawLog.{RawLog, out-RawLog, fold_out-RawLog}
 use Rattle.sg_parse_path.specs.declared.tree.RawBranch.{RawBranch, out-RawBranch, fold_out-RawBranch}
 use Rattle.sg_visit.specs.Leaves.{Leaf, Leaves, element_step, log_step, branch_step, element_leaves, log_leaves, branch_leaves, other_leaves}
@@ -28,6 +28,10 @@ leaves_filter ref = ap element_leaves (sym (rolls-Filter ref)) ∙ fold-roll-Raw
 pub leaves_rewrite : (ref : RawRef) → element_leaves (e.Rewrite ref) ≡ Leaf.reference kind.Rewrite ref ∷ []
 unfolding element_leaves
 leaves_rewrite ref = ap element_leaves (sym (rolls-Rewrite ref)) ∙ fold-roll-RawElement Leaves Leaves Leaves element_step branch_step log_step (RawElement-F.Rewrite ref)
+
+pub leaves_parser : (ref : RawRef) → element_leaves (e.Parser ref) ≡ Leaf.reference kind.Parser ref ∷ []
+unfolding element_leaves
+leaves_parser ref = ap element_leaves (sym (rolls-Parser ref)) ∙ fold-roll-RawElement Leaves Leaves Leaves element_step branch_step log_step (RawElement-F.Parser ref)
 
 pub leaves_junction : (channels : List RawLog) → element_leaves (e.Junction channels) ≡ flat_map log_leaves channels
 unfolding element_leaves log_leaves

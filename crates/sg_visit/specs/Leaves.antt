@@ -4,8 +4,8 @@ use Rattle.std.specs.List.{flat_map}
 use Rattle.sg_parse_base.specs.declared.spot.Spot.{Spot}
 use Rattle.sg_parse_expr.specs.declared.tree.RawExpr.{RawExpr}
 use Rattle.sg_parse_obj.specs.declared.object.Object.{Object}
-use Rattle.sg_parse_path.specs.declared.reference.Kind.{Kind}
-use Rattle.sg_parse_path.specs.declared.reference.Kind.TheVariants as kind
+use Rattle.sg_parse_path.specs.declared.reference.ReferenceKind.{ReferenceKind}
+use Rattle.sg_parse_path.specs.declared.reference.ReferenceKind.TheVariants as kind
 use Rattle.sg_parse_path.specs.declared.tree.RawRef.{RawRef}
 use Rattle.sg_parse_path.specs.declared.tree.RawElement.{RawElement, fold-RawElement}
 use Rattle.sg_parse_path.specs.declared.tree.RawElement.TheOpen.{RawElement-F, RawLog-F, RawBranch-F}
@@ -20,7 +20,7 @@ pub data Leaf : Type 0 where
   -- the word of an element that refers to a source
   source : Spot → Leaf
   -- what an element refers to
-  reference : Kind → RawRef → Leaf
+  reference : ReferenceKind → RawRef → Leaf
   -- the condition of a branch
   test : RawExpr → Leaf
   -- the flags of a log statement, an embedded one or a channel
@@ -43,6 +43,7 @@ element_step (RawElement-F.Source word ref) =
 element_step (RawElement-F.Destination ref) = Leaf.reference kind.Destination ref ∷ []
 element_step (RawElement-F.Filter ref) = Leaf.reference kind.Filter ref ∷ []
 element_step (RawElement-F.Rewrite ref) = Leaf.reference kind.Rewrite ref ∷ []
+element_step (RawElement-F.Parser ref) = Leaf.reference kind.Parser ref ∷ []
 element_step (RawElement-F.Junction channels) = all_leaves channels
 element_step (RawElement-F.If branches other) = all_leaves branches ++ leaves_if other
 

@@ -5,7 +5,7 @@ ghost use Rattle.sg_visit.specs.Leaves.{Leaf};
 use sg_parse_base::Spot;
 use sg_parse_expr::RawExpr;
 use sg_parse_obj::Object;
-use sg_parse_path::{Kind, RawRef};
+use sg_parse_path::{RawRef, ReferenceKind};
 
 /// A visitor: a walk over statements tells it each leaf, in the order of the text, and what it found so far.
 pub trait Visit {
@@ -29,7 +29,7 @@ pub trait Visit {
     fn reference(
         &self,
         state: &mut Self::State,
-        kind: Kind,
+        kind: ReferenceKind,
         reference: &RawRef,
     ) -> Result<(), Self::Error>
         ensures { OnOk result

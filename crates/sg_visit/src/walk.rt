@@ -5,7 +5,7 @@ ghost use Rattle.sg_visit.specs.Leaves.{element_leaves, branch_leaves, log_leave
 ghost use Rattle.sg_visit.specs.Visits.{Visits};
 
 use crate::visit::Visit;
-use sg_parse_path::{Kind, RawBranch, RawElement, RawLog};
+use sg_parse_path::{RawBranch, RawElement, RawLog, ReferenceKind};
 use sg_parse_text::Statement;
 
 /// An element, with all that stands in it.
@@ -21,19 +21,23 @@ pub fn visit_element<V: Visit>(
     match element {
         RawElement::Source(word, source) => {
             visitor.source(state, word)?;
-            visitor.reference(state, Kind::Source, source)?;
+            visitor.reference(state, ReferenceKind::Source, source)?;
             Ok(())
         }
         RawElement::Destination(destination) => {
-            visitor.reference(state, Kind::Destination, destination)?;
+            visitor.reference(state, ReferenceKind::Destination, destination)?;
             Ok(())
         }
         RawElement::Filter(filter) => {
-            visitor.reference(state, Kind::Filter, filter)?;
+            visitor.reference(state, ReferenceKind::Filter, filter)?;
             Ok(())
         }
         RawElement::Rewrite(rewrite) => {
-            visitor.reference(state, Kind::Rewrite, rewrite)?;
+            visitor.reference(state, ReferenceKind::Rewrite, rewrite)?;
+            Ok(())
+        }
+        RawElement::Parser(parser) => {
+            visitor.reference(state, ReferenceKind::Parser, parser)?;
             Ok(())
         }
         RawElement::Junction(channels) => {

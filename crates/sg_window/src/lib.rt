@@ -3,4 +3,4 @@
 
 mod tracker;
 
-pub use tracker::{Record, Tracker};
+pub use tracker::{BegunRecord, Tracker};

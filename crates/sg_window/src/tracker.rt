@@ -2,8 +2,8 @@
 ghost use Rattle.std.specs.Prelude.{◌≡◌, ◌≤◌, ◌<◌, ◌+◌, ◌-◌, ◌^◌, [], ◌∷◌, ◌++◌, ℕ, List, IfOk, length};
 ghost use Rattle.std.specs.VecDeque.{deque_len, deque_capacity};
 ghost use Rattle.sg_list.specs.Lists.{change};
-ghost use Rattle.sg_window.specs.Window.{window_of, first_waiting, left_at, after_begin, after_ack, outstanding, mark_from, StandsFor, one_less};
-ghost use Rattle.sg_window.specs.declared.tracker.Record.{Record};
+ghost use Rattle.sg_window.specs.Window.{window_of, first_waiting, left_at, after_begin, after_ack, outstanding, mark_from, WindowStandsFor, one_less};
+ghost use Rattle.sg_window.specs.declared.tracker.BegunRecord.{BegunRecord};
 
 use std::alloc::{AllocError, Global};
 use std::collections::VecDeque;
@@ -11,7 +11,7 @@ use std::marker::Model;
 
 /// A record that was begun.
 #[derive(Clone, Copy, Debug, PartialEq, Eq, Drop)]
-pub struct Record {
+pub struct BegunRecord {
     /// The place in its input behind it.
     pub end: u64,
     /// The acknowledgements that it still needs.
@@ -25,7 +25,7 @@ pub struct Tracker {
     window: u32,
     begun: u64,
     mark: u64,
-    ring: VecDeque<Record>,
+    ring: VecDeque<BegunRecord>,
 }
 
 impl Model for Tracker {
@@ -92,11 +92,11 @@ impl Tracker {
         requires few { self.old.begun < 2 ^ 63 }
         ensures number { result ≡ self.old.begun }
         ensures after { self.new ≡ after_begin self.old end left }
-        ensures stands { (from : ℕ) (records : List Record) → StandsFor self.old from records
-            → StandsFor self.new from (records ++ record { end = end; left = left } ∷ []) }
+        ensures stands { (from : ℕ) (records : List BegunRecord) → WindowStandsFor self.old from records
+            → WindowStandsFor self.new from (records ++ record { end = end; left = left } ∷ []) }
     {
         let number = self.begun;
-        self.ring.push_back_reserved(Record { end, left });
+        self.ring.push_back_reserved(BegunRecord { end, left });
         trim(&mut self.mark, &mut self.ring);
         self.begun += 1;
         number
@@ -108,8 +108,8 @@ impl Tracker {
         requires outstanding { first_waiting self.old ≤ number }
         requires owed { 0 < left_at self.old.waiting (number - first_waiting self.old) }
         ensures after { self.new ≡ after_ack self.old number }
-        ensures stands { (from : ℕ) (records : List Record) → StandsFor self.old from records
-            → StandsFor self.new from (change records number one_less) }
+        ensures stands { (from : ℕ) (records : List BegunRecord) → WindowStandsFor self.old from records
+            → WindowStandsFor self.new from (change records number one_less) }
     {
         let place = (number - (self.begun - self.ring.len() as u64)) as usize;
         self.ring[place].left -= 1;
@@ -118,7 +118,7 @@ impl Tracker {
 }
 
 // Takes the acknowledged records off the front.
-fn trim(mark: &mut u64, ring: &mut VecDeque<Record>)
+fn trim(mark: &mut u64, ring: &mut VecDeque<BegunRecord>)
     ensures mark { mark.new ≡ mark_from mark.old ring.old.items }
     ensures ring { ring.new.items ≡ outstanding ring.old.items }
     ensures len { deque_len ring.new ≤ deque_len ring.old }

@@ -78,11 +78,11 @@ asked [] = None
 asked (word ∷ words) = asked_behind word words
 
 -- the numbers are within their bounds
-abbrev pub IsWithin : Command → Type 0
-IsWithin (command.Run file once rounds) = (0 < rounds) × (rounds ≤ most_rounds)
-IsWithin (command.Drill records) = (0 < records) × (records ≤ most_records)
-IsWithin (command.Check file) = Unit {0}
-IsWithin (command.Trace file source input) = Unit {0}
-IsWithin (command.Spool file) = Unit {0}
-IsWithin command.Help = Unit {0}
-IsWithin command.Version = Unit {0}
+abbrev pub IsCommandWithin : Command → Type 0
+IsCommandWithin (command.Run file once rounds) = (0 < rounds) × (rounds ≤ most_rounds)
+IsCommandWithin (command.Drill records) = (0 < records) × (records ≤ most_records)
+IsCommandWithin (command.Check file) = Unit {0}
+IsCommandWithin (command.Trace file source input) = Unit {0}
+IsCommandWithin (command.Spool file) = Unit {0}
+IsCommandWithin command.Help = Unit {0}
+IsCommandWithin command.Version = Unit {0}

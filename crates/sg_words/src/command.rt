@@ -41,7 +41,7 @@ fn is_word(word: &Name, text: &[u8]) -> bool
 }
 
 fn check_of(words: &[Name]) -> Option<Command<'_>>
-    ensures within { IfSome result spec.IsWithin }
+    ensures within { IfSome result spec.IsCommandWithin }
     ensures asked { option_map spec.asked_by result ≡ spec.one_file spec.check words.now }
 {
     match words {
@@ -51,7 +51,7 @@ fn check_of(words: &[Name]) -> Option<Command<'_>>
 }
 
 fn spool_of(words: &[Name]) -> Option<Command<'_>>
-    ensures within { IfSome result spec.IsWithin }
+    ensures within { IfSome result spec.IsCommandWithin }
     ensures asked { option_map spec.asked_by result ≡ spec.one_file spec.spool words.now }
 {
     match words {
@@ -61,7 +61,7 @@ fn spool_of(words: &[Name]) -> Option<Command<'_>>
 }
 
 fn trace_of(words: &[Name]) -> Option<Command<'_>>
-    ensures within { IfSome result spec.IsWithin }
+    ensures within { IfSome result spec.IsCommandWithin }
     ensures asked { option_map spec.asked_by result ≡ spec.trace_of words.now }
 {
     match words {
@@ -92,7 +92,7 @@ fn rounds_in(words: &[Name]) -> Option<u64>
 }
 
 fn run_rounds<'a>(file: &'a [u8], once: bool, words: &[Name]) -> Option<Command<'a>>
-    ensures within { IfSome result spec.IsWithin }
+    ensures within { IfSome result spec.IsCommandWithin }
     ensures asked { option_map spec.asked_by result
         ≡ option_map (spec.run file.now once) (spec.rounds_in words.now) }
 {
@@ -103,7 +103,7 @@ fn run_rounds<'a>(file: &'a [u8], once: bool, words: &[Name]) -> Option<Command<
 }
 
 fn run_with<'a>(file: &'a [u8], words: &[Name]) -> Option<Command<'a>>
-    ensures within { IfSome result spec.IsWithin }
+    ensures within { IfSome result spec.IsCommandWithin }
     ensures asked { option_map spec.asked_by result ≡ spec.run_with file.now words.now }
 {
     match words {
@@ -119,7 +119,7 @@ fn run_with<'a>(file: &'a [u8], words: &[Name]) -> Option<Command<'a>>
 }
 
 fn run_of(words: &[Name]) -> Option<Command<'_>>
-    ensures within { IfSome result spec.IsWithin }
+    ensures within { IfSome result spec.IsCommandWithin }
     ensures asked { option_map spec.asked_by result ≡ spec.run_of words.now }
 {
     match words {
@@ -129,7 +129,7 @@ fn run_of(words: &[Name]) -> Option<Command<'_>>
 }
 
 fn drill_of(words: &[Name]) -> Option<Command<'_>>
-    ensures within { IfSome result spec.IsWithin }
+    ensures within { IfSome result spec.IsCommandWithin }
     ensures asked { option_map spec.asked_by result ≡ spec.drill_of words.now }
 {
     match words {
@@ -142,7 +142,7 @@ fn drill_of(words: &[Name]) -> Option<Command<'_>>
 }
 
 fn help_of(words: &[Name]) -> Option<Command<'_>>
-    ensures within { IfSome result spec.IsWithin }
+    ensures within { IfSome result spec.IsCommandWithin }
     ensures asked { option_map spec.asked_by result ≡ spec.alone spec.help words.now }
 {
     match words {
@@ -152,7 +152,7 @@ fn help_of(words: &[Name]) -> Option<Command<'_>>
 }
 
 fn version_of(words: &[Name]) -> Option<Command<'_>>
-    ensures within { IfSome result spec.IsWithin }
+    ensures within { IfSome result spec.IsCommandWithin }
     ensures asked { option_map spec.asked_by result ≡ spec.alone spec.version words.now }
 {
     match words {
@@ -162,7 +162,7 @@ fn version_of(words: &[Name]) -> Option<Command<'_>>
 }
 
 fn told_of<'a>(word: &Name, words: &'a [Name]) -> Option<Command<'a>>
-    ensures within { IfSome result spec.IsWithin }
+    ensures within { IfSome result spec.IsCommandWithin }
     ensures asked { option_map spec.asked_by result ≡ spec.told_behind word.now words.now }
 {
     if is_word(word, b"--help") {
@@ -175,7 +175,7 @@ fn told_of<'a>(word: &Name, words: &'a [Name]) -> Option<Command<'a>>
 }
 
 fn command_behind<'a>(word: &Name, words: &'a [Name]) -> Option<Command<'a>>
-    ensures within { IfSome result spec.IsWithin }
+    ensures within { IfSome result spec.IsCommandWithin }
     ensures asked { option_map spec.asked_by result ≡ spec.asked_behind word.now words.now }
 {
     if is_word(word, b"check") {
@@ -199,7 +199,7 @@ fn command_behind<'a>(word: &Name, words: &'a [Name]) -> Option<Command<'a>>
 /// What the words of the command line ask for, without the program's name; none where they are of no
 /// command.
 pub fn command_of(words: &[Name]) -> Option<Command<'_>>
-    ensures within { IfSome result spec.IsWithin }
+    ensures within { IfSome result spec.IsCommandWithin }
     ensures asked { option_map spec.asked_by result ≡ spec.asked words.now }
 {
     match words {

@@ -9,7 +9,7 @@ use regex::bytes::Regex;
 use sg_device::{FileRefusal, Name, NoMemory, OpenRefusal, SayRefusal};
 use sg_host::{
     HostDrain, HostFeed, HostInlets, HostOpener, HostOutlets, HostPaths, HostStore, HostStores,
-    Rest, Timer, read_file, say, tell,
+    IdleWait, Timer, read_file, say, tell,
 };
 use sg_outside::{Files, InletSpec, Machine, OutletSpec, StoreSpec};
 use sg_pattern::{BuildFault, Builder, Patterns};
@@ -62,7 +62,7 @@ impl<T: Threads + Copy> HostMachine<T> {
         ensures { IfOk result (λ machine. host_state machine ≡ unused) }
     {
         let alloc = rt.alloc();
-        let rest = Rest::new(alloc, rt)?;
+        let rest = IdleWait::new(alloc, rt)?;
         Ok(HostMachine {
             threads,
             rt,

@@ -9,7 +9,7 @@ use sg_device::{NoMemory, Outlet};
 use sg_list::Seq;
 use sg_machine::{DestSetup, Setup};
 use sg_memory::{MemoryOutlet, OutletScript};
-use sg_memory_disk::Plan;
+use sg_memory_disk::FaultPlan;
 use sg_msg::Message;
 use sg_outfmt::Shape;
 use sg_template::{Env, Template};
@@ -87,10 +87,10 @@ fn outlet_script(alloc: Global, row: &Row<'_>) -> Result<OutletScript, Fail> {
     let laters = numbers(alloc, row.laters)?;
     let waits = numbers(alloc, row.waits)?;
     Ok(OutletScript {
-        fails: Plan::new(fails),
+        fails: FaultPlan::new(fails),
         first: row.first.parse()?,
-        laters: Plan::new(laters),
-        waits: Plan::new(waits),
+        laters: FaultPlan::new(laters),
+        waits: FaultPlan::new(waits),
     })
 }
 

@@ -13,7 +13,7 @@ use sg_frame::FrameKind;
 use sg_list::Seq;
 use sg_machine::{DestSetup, Setup, SourceSetup};
 use sg_memory::{MemoryInlet, MemoryPart, Pace};
-use sg_memory_disk::Plan;
+use sg_memory_disk::FaultPlan;
 use sg_route::Router;
 use std::alloc::{AllocError, Global};
 use std::collections::VecDeque;
@@ -115,12 +115,12 @@ fn parts(alloc: Global, text: &str) -> Result<VecDeque<MemoryPart>, NoMemory> {
 }
 
 // The pulls that fail.
-fn pulls(alloc: Global, fails: bool) -> Result<Plan, NoMemory> {
+fn pulls(alloc: Global, fails: bool) -> Result<FaultPlan, NoMemory> {
     let mut pulls = Vec::new(alloc);
     if fails {
         pulls.push(0)?;
     }
-    Ok(Plan::new(pulls))
+    Ok(FaultPlan::new(pulls))
 }
 
 fn inlet(alloc: Global, how: &str, text: &str) -> Result<MemoryInlet, NoMemory>

@@ -15,14 +15,14 @@ use std::test::Fail;
 
 /// Files in memory.
 #[derive(Drop)]
-struct Texts {
+struct TextFiles {
     /// How many readings failed.
     faults: u64,
     /// The file that wasn't read the last time.
     unread: Option<Name>,
 }
 
-impl Machine for Texts {
+impl Machine for TextFiles {
     ghost use Rattle.std.specs.Prelude.{None, []};
 
     ghost state = { λ texts. record {
@@ -44,7 +44,7 @@ impl Machine for Texts {
     } };
 }
 
-impl Files for Texts {
+impl Files for TextFiles {
     fn read(&mut self, alloc: Global, name: &[u8]) -> Result<Vec<u8>, FileRefusal> {
         if name == b"long".as_slice() {
             return Err(FileRefusal::TooLong);
@@ -564,7 +564,7 @@ fn outcome(
 
 fn answer(alloc: Global, text: &[u8], with_places: bool) -> Result<Vec<u8>, NoMemory> {
     let name = Name::new(alloc, b"c")?;
-    let mut files = Texts {
+    let mut files = TextFiles {
         faults: 0,
         unread: None,
     };

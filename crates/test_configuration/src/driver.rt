@@ -6,7 +6,7 @@ mod names;
 mod objects;
 
 use crate::text::{put_fault, put_flag, put_name, put_named, put_number};
-use names::Named;
+use names::TemplateNames;
 use objects::{Statements, defaults_of, read_statements, templates_of};
 use sg_destination::{DestinationDriver, destination_fault, read_destination};
 use sg_device::{Name, NoMemory};
@@ -15,7 +15,7 @@ use sg_fault::fault_at;
 use sg_frame::FrameKind;
 use sg_lex::Token;
 use sg_msg::Message;
-use sg_outfmt::frame;
+use sg_outfmt::{Shape, frame, unpacked};
 use sg_outside::{InletSpec, OutletSpec};
 use sg_parse_expr::Call;
 use sg_parse_obj::Object;
@@ -127,6 +127,20 @@ fn source_text(
     put_source(alloc, out, &source, inlet_count(call))
 }
 
+fn put_modes(
+    alloc: Global,
+    out: &mut Vec<u8>,
+    folders: Option<u16>,
+    mode: u16,
+    reopen: u32,
+) -> Result<(), NoMemory> {
+    if let Some(folders) = folders {
+        put_number(alloc, out, b" folders ", u64::from(folders))?;
+    }
+    put_number(alloc, out, b" mode ", u64::from(mode))?;
+    put_number(alloc, out, b" reopen ", u64::from(reopen))
+}
+
 fn put_outlet(alloc: Global, out: &mut Vec<u8>, spec: &OutletSpec) -> Result<(), NoMemory> {
     match spec {
         OutletSpec::File {
@@ -139,9 +153,7 @@ fn put_outlet(alloc: Global, out: &mut Vec<u8>, spec: &OutletSpec) -> Result<(),
             out.extend_from_slice(b"file ")?;
             out.extend_from_slice(path.bytes())?;
             put_flag(out, *fsync, b" fsync")?;
-            put_flag(out, folders.is_some(), b" folders")?;
-            put_number(alloc, out, b" mode ", u64::from(*mode))?;
-            put_number(alloc, out, b" reopen ", u64::from(*reopen))
+            put_modes(alloc, out, *folders, *mode, *reopen)
         }
         OutletSpec::Tcp { host, port, reopen } => {
             out.extend_from_slice(b"host ")?;
@@ -149,13 +161,32 @@ fn put_outlet(alloc: Global, out: &mut Vec<u8>, spec: &OutletSpec) -> Result<(),
             put_number(alloc, out, b":", u64::from(*port))?;
             put_number(alloc, out, b" reopen ", u64::from(*reopen))
         }
-        OutletSpec::ByPath { .. } => out.extend_from_slice(b"by path"),
+        OutletSpec::ByPath {
+            fsync,
+            mode,
+            folders,
+            reopen,
+            reap,
+        } => {
+            out.extend_from_slice(b"by path")?;
+            put_flag(out, *fsync, b" fsync")?;
+            put_modes(alloc, out, *folders, *mode, *reopen)?;
+            put_number(alloc, out, b" reap ", u64::from(*reap))
+        }
     }
 }
 
 fn put_frame(alloc: Global, out: &mut Vec<u8>, plan: &OutletPlan) -> Result<(), NoMemory> {
     let message = Message::new(alloc, 13, SENT, SENT)?;
-    frame(&plan.shape, &message, &plan.env, out)
+    let Shape::ByPath { .. } = &plan.shape else {
+        return frame(&plan.shape, &message, &plan.env, out);
+    };
+    let mut bytes = Vec::new(alloc);
+    frame(&plan.shape, &message, &plan.env, &mut bytes)?;
+    let (path, text) = unpacked(&bytes);
+    out.extend_from_slice(path)?;
+    out.push(b' ')?;
+    out.extend_from_slice(text)
 }
 
 fn put_destination(
@@ -178,7 +209,7 @@ fn destination_text(
     out: &mut Vec<u8>,
     call: &Call,
     defaults: &Defaults,
-    named: &Named,
+    named: &TemplateNames,
 ) -> Result<(), NoMemory>
     requires { AreDefaults defaults.now }
 {
@@ -209,7 +240,7 @@ fn put_destinations(
     out: &mut Vec<u8>,
     calls: &[Call],
     defaults: &Defaults,
-    named: &Named,
+    named: &TemplateNames,
 ) -> Result<(), NoMemory>
     requires { AreDefaults defaults.now }
 {
@@ -233,7 +264,7 @@ fn put_object(
     out: &mut Vec<u8>,
     object: &Object,
     defaults: &Defaults,
-    named: &Named,
+    named: &TemplateNames,
 ) -> Result<(), NoMemory>
     requires { AreDefaults defaults.now }
 {

@@ -3,7 +3,7 @@ use Rattle.std.proofs.Common.{◌≡◌, ◌⊎◌, ℕ, ◌+◌, ◌<◌, ◌�
 use Rattle.sg_msg.specs.declared.offer.Offer.{Offer}
 use Rattle.sg_machine.specs.declared.event.Act.{Act}
 use Rattle.sg_machine.specs.declared.state.Dest.{Dest}
-use Rattle.sg_machine.specs.declared.state.Inlet.{Inlet}
+use Rattle.sg_machine.specs.declared.state.InletRecords.{InletRecords}
 use Rattle.sg_machine.specs.declared.state.State.{State}
 use Rattle.sg_machine.specs.declared.tally.SourceTally.{SourceTally}
 use Rattle.sg_machine.specs.declared.tally.Tally.{Tally}
@@ -14,7 +14,7 @@ use Rattle.sg_machine.specs.declared.event.Admission.{Admission}
 use Rattle.sg_machine.specs.declared.setup.BufferSetup.{BufferSetup}
 use Rattle.sg_machine.specs.declared.setup.DestSetup.{DestSetup}
 use Rattle.sg_machine.specs.declared.setup.Setup.{Setup}
-use Rattle.sg_counter.specs.Bringing.{AllWithin, MayEnter, AllMayEnter, IsBatch, store_in}
+use Rattle.sg_counter.specs.Bringing.{MayEnter, AllMayEnter, IsBatch, store_in}
 use Rattle.sg_core.specs.Answers.{Tallies}
 use Rattle.sg_core.specs.Opening.{NumberStores, HaveWindows, HaveCapacities, buffer_store_in, IsOpen}
 use Rattle.std.proofs.lemmas.List.{length-map}
@@ -22,10 +22,11 @@ use Rattle.sg_sinks.specs.States.{SinkState}
 use Rattle.sg_standing.specs.States.{CoreState}
 use Rattle.sg_device.specs.Disk.{DiskState}
 use Rattle.sg_standing.specs.Sources.{store_at, begun_in}
-use Rattle.sg_standing.specs.Standing.{Does, IsAt, source_of, sources_from}
+use Rattle.sg_standing.specs.Standing.{DoesAct, IsAt, source_of, sources_from}
 use Rattle.sg_standing.specs.declared.source.Source.{Source}
 use Rattle.sg_machine.specs.declared.setup.SourceSetup.{SourceSetup}
 use Rattle.test_core_runs.specs.Cores.{three_sources, three_dests, tried, IsTried, IsSomewhere}
+use Rattle.sg_msg.specs.Offers.{AllWithin}
 
 source-store : (w i s : ℕ) → store_in (three_sources w) i ≡ Some s → (s ≡ i) × (i < 3)
 source-store w zero s p = let e : Some 0 ≡ Some s = p in let f : 0 ≡ s = cc in (sym f, omega arith)
@@ -132,12 +133,12 @@ batch_of setup records count some few each = record { some = some; few = few; ea
 pub opened_somewhere : (setup : Setup) (disks : List DiskState) (core : CoreState) → IsOpen setup disks core → IsSomewhere core
 opened_somewhere setup disks core h = (opened setup h.opening, h.stands.at)
 
-pub goes_somewhere : (old new : CoreState) (act : Act) → Does old new act → IsSomewhere old → IsSomewhere new
+pub goes_somewhere : (old new : CoreState) (act : Act) → DoesAct old new act → IsSomewhere old → IsSomewhere new
 goes_somewhere old new act does h = (after_act h.0 act does.failed, (does.step h.0 h.1).1)
 
 -- a source whose tally has no record has none
 
-unbegun-from : (dests : List Dest) (k i : ℕ) (inlets : List Inlet) (t : SourceTally) → slice_get (source_tallies dests k inlets) i ≡ Some t → t.records ≡ 0 → begun_in (sources_from dests k inlets) i ≡ 0
+unbegun-from : (dests : List Dest) (k i : ℕ) (inlets : List InletRecords) (t : SourceTally) → slice_get (source_tallies dests k inlets) i ≡ Some t → t.records ≡ 0 → begun_in (sources_from dests k inlets) i ≡ 0
 unbegun-from dests k zero [] t get none = refl
 unbegun-from dests k (suc i) [] t get none = refl
 unbegun-from dests k zero (inlet ∷ inlets) t get none =

@@ -1,6 +1,7 @@
 // Calls of a core, and what they answer.
 ghost use Rattle.std.specs.Prelude.{◌≡◌, ◌≤◌, ◌<◌, ◌+◌, ◌^◌, ℕ, IfOk, OnOk, IsSome, length};
-ghost use Rattle.sg_counter.specs.Bringing.{AllWithin, AllMayEnter, store_in};
+ghost use Rattle.sg_counter.specs.Bringing.{AllMayEnter, store_in};
+ghost use Rattle.sg_msg.specs.Offers.{AllWithin};
 
 use crate::cores::{SECOND, add_offer, add_record, disks, open};
 use crate::told::{Teller, told};
@@ -11,7 +12,7 @@ use sg_msg::Offer;
 use std::alloc::{AllocError, Global};
 use std::sync::Wait;
 use test_replies::{
-    Text, put_admitted, put_front, put_number, put_refilled, put_settled, put_stored,
+    ReplyText, put_admitted, put_front, put_number, put_refilled, put_settled, put_stored,
 };
 
 // A row has what is shown; the windows; how many entries without flow-control the queue takes; the capacity of
@@ -92,7 +93,7 @@ fn admit<C: Counter, T: Wait>(
     counter: &mut C,
     i: u32,
     text: &str,
-    out: &mut Text,
+    out: &mut ReplyText,
 )
     requires left { 0 < C.left counter.old }
     requires inlet { i < 3 }
@@ -120,7 +121,7 @@ fn call<C: Settler<Teller>, T: Wait>(
     alloc: Global,
     counter: &mut C,
     text: &str,
-    out: &mut Text,
+    out: &mut ReplyText,
 )
     requires left { 0 < C.left counter.old }
     requires sources { length (C.setup counter.old).sources ≡ 3 }
@@ -157,7 +158,7 @@ fn call_all<C: Settler<Teller>, T: Wait>(
     alloc: Global,
     counter: &mut C,
     text: &str,
-    out: &mut Text,
+    out: &mut ReplyText,
 )
     requires left { 1000 < C.left counter.old }
     requires sources { length (C.setup counter.old).sources ≡ 3 }
@@ -181,7 +182,7 @@ fn syncs_of(disk: &MemoryDisk) -> u64 {
 }
 
 // How many syncs each store has made.
-fn put_syncs(out: &mut Text, disks: &[MemoryDisk]) {
+fn put_syncs(out: &mut ReplyText, disks: &[MemoryDisk]) {
     out.put_word(b"syncs");
     for disk in disks {
         put_number(out, syncs_of(disk));
@@ -255,16 +256,16 @@ fn are_calls(text: &str) -> bool {
 
 // A row's setup, and its calls.
 #[derive(Clone, Copy, Drop)]
-struct Asked<'a> {
+struct AskedCore<'a> {
     window: u32,
     fifo: u32,
     capacity: u32,
     text: &'a str,
 }
 
-fn words_of(row: &str) -> Asked<'_> {
+fn words_of(row: &str) -> AskedCore<'_> {
     let mut parts = row.split('|').skip(1);
-    Asked {
+    AskedCore {
         window: number(Some(parts.next().unwrap_or("").trim())),
         fifo: number(Some(parts.next().unwrap_or("").trim())),
         capacity: number(Some(parts.next().unwrap_or("").trim())),
@@ -272,7 +273,7 @@ fn words_of(row: &str) -> Asked<'_> {
     }
 }
 
-fn answers<T: Wait>(rt: &T, alloc: Global, asked: Asked<'_>) -> Result<Vec<u8>, AllocError> {
+fn answers<T: Wait>(rt: &T, alloc: Global, asked: AskedCore<'_>) -> Result<Vec<u8>, AllocError> {
     if asked.window == 0 || asked.capacity > 1 << 30 {
         return Vec::from_slice(alloc, b"no such setup");
     }
@@ -281,7 +282,7 @@ fn answers<T: Wait>(rt: &T, alloc: Global, asked: Asked<'_>) -> Result<Vec<u8>, 
     let Ok(mut core) = open(alloc, asked.window, asked.fifo, capacity, SECOND, disks) else {
         return Vec::from_slice(alloc, b"not opened");
     };
-    let mut out = Text::new(alloc);
+    let mut out = ReplyText::new(alloc);
     call_all(rt, alloc, &mut core, asked.text, &mut out);
     put_syncs(&mut out, &core.into_stores());
     out.done()

@@ -1,8 +1,9 @@
 // A core of three sources and three destinations, over disks in memory.
 ghost use Rattle.std.specs.Prelude.{◌≡◌, ◌<◌, ◌≤◌, ◌+◌, ◌^◌, Some, IfOk, OnOk, length};
-ghost use Rattle.sg_counter.specs.Bringing.{AllWithin, AllMayEnter};
+ghost use Rattle.sg_counter.specs.Bringing.{AllMayEnter};
 ghost use Rattle.sg_standing.specs.States.{setup_of};
 ghost use Rattle.test_core_runs.specs.Cores.{tried, IsSomewhere};
+ghost use Rattle.sg_msg.specs.Offers.{AllWithin};
 
 use sg_core::{Core, CoreRefusal};
 use sg_list::Seq;

@@ -1,6 +1,7 @@
 // The offers of a run, which go by their numbers.
 ghost use Rattle.std.specs.Prelude.{◌≡◌, ◌≤◌, ◌<◌, ◌+◌, ◌^◌, IfOk, OnOk, length};
-ghost use Rattle.sg_counter.specs.Bringing.{AllWithin, AllMayEnter};
+ghost use Rattle.sg_counter.specs.Bringing.{AllMayEnter};
+ghost use Rattle.sg_msg.specs.Offers.{AllWithin};
 
 use crate::cores::{add_offer, add_record};
 use crate::draws::Draws;

@@ -4,9 +4,9 @@ ghost use Rattle.test_core_runs.specs.Cores.{IsTried};
 
 use crate::cores::{FIFO, FIRST, SECOND, WINDOW, open};
 use crate::entries::{Made, numbers_of, short};
-use crate::lines::Line;
-use crate::openings::Found;
-use crate::runs::{Ended, Positions};
+use crate::lines::DestLine;
+use crate::openings::OpenedCore;
+use crate::runs::{EndedRun, Positions};
 use sg_core::{Core, CoreRefusal};
 use sg_counter::CoreFront;
 use sg_memory_disk::{MemoryDisk, Pick};
@@ -120,29 +120,33 @@ fn find(
     alloc: Global,
     core: &mut Core<MemoryDisk>,
     made: &[Made],
-) -> Result<Option<Found>, AllocError>
+) -> Result<Option<OpenedCore>, AllocError>
     requires tried { IsTried core.old }
     requires calls { core.old.calls ≡ 0 }
 {
     let mut whole = true;
     let mut positions = [0u64; 3];
-    let mut lines = [Line::new(alloc), Line::new(alloc), Line::new(alloc)];
+    let mut lines = [
+        DestLine::new(alloc),
+        DestLine::new(alloc),
+        DestLine::new(alloc),
+    ];
     for i in 0..3u32 {
         positions[i as usize] = core.position(i);
     }
     for d in 0..3u32 {
         match found(alloc, core, d, made)? {
-            Some(list) => lines[d as usize] = Line::over(alloc, list),
+            Some(list) => lines[d as usize] = DestLine::over(alloc, list),
             None => whole = false,
         }
     }
     if !whole {
         return Ok(None);
     }
-    Ok(Some(Found { positions, lines }))
+    Ok(Some(OpenedCore { positions, lines }))
 }
 
-fn is_line(found: &Found, ended: &Ended, d: u32) -> bool
+fn is_line(found: &OpenedCore, ended: &EndedRun, d: u32) -> bool
     requires { d < 3 }
 {
     let list = found.lines[d as usize].on_disk();
@@ -150,7 +154,7 @@ fn is_line(found: &Found, ended: &Ended, d: u32) -> bool
 }
 
 // Whether this is what a core may find behind the end of that run.
-fn is_found(found: &Found, ended: &Ended, told: &mut Told) -> bool {
+fn is_found(found: &OpenedCore, ended: &EndedRun, told: &mut Told) -> bool {
     let mut right = true;
     for i in 0..3usize {
         right = right & may_be(ended.positions[i], found.positions[i]);
@@ -201,9 +205,9 @@ pub(crate) fn open_again(
     alloc: Global,
     disks: &[MemoryDisk],
     letters: &str,
-    ended: &Ended,
+    ended: &EndedRun,
     told: &mut Told,
-) -> Result<Option<(Found, Vec<MemoryDisk>)>, AllocError>
+) -> Result<Option<(OpenedCore, Vec<MemoryDisk>)>, AllocError>
     requires { length disks.now ≡ 5 }
 {
     let Some(mut core) = opened(alloc, disks, letters, told)? else {
@@ -228,7 +232,7 @@ pub(crate) fn open_again(
 pub(crate) fn look_into(
     alloc: Global,
     disks: &[MemoryDisk],
-    ended: &Ended,
+    ended: &EndedRun,
     told: &mut Told,
 ) -> Result<(), AllocError> {
     if disks.len() != 5 {

@@ -6,7 +6,7 @@ use std::collections::VecDeque;
 
 /// The entries of a destination.
 #[derive(Drop)]
-pub(crate) struct Line {
+pub(crate) struct DestLine {
     /// Those that went to its disk, in order.
     spooled: Vec<u32>,
     /// So many of them are settled.
@@ -17,9 +17,9 @@ pub(crate) struct Line {
     tried: Option<Vec<u32>>,
 }
 
-impl Line {
-    pub(crate) fn new(alloc: Global) -> Line {
-        Line {
+impl DestLine {
+    pub(crate) fn new(alloc: Global) -> DestLine {
+        DestLine {
             spooled: Vec::new(alloc),
             settled: 0,
             waiting: VecDeque::new(alloc),
@@ -28,8 +28,8 @@ impl Line {
     }
 
     /// A destination that begins with these on its disk.
-    pub(crate) fn over(alloc: Global, spooled: Vec<u32>) -> Line {
-        Line {
+    pub(crate) fn over(alloc: Global, spooled: Vec<u32>) -> DestLine {
+        DestLine {
             spooled,
             settled: 0,
             waiting: VecDeque::new(alloc),

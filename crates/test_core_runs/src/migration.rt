@@ -5,16 +5,16 @@ ghost use Rattle.test_core_runs.specs.Cores.{IsTried};
 use crate::cores::{FIFO, FIRST, SECOND, WINDOW, disks, open};
 use crate::entries::Made;
 use crate::images::{images, picks};
-use crate::lines::Line;
-use crate::openings::Found;
-use crate::runs::{Ended, unbegun};
-use crate::steps::Run;
+use crate::lines::DestLine;
+use crate::openings::OpenedCore;
+use crate::runs::{EndedRun, unbegun};
+use crate::steps::RunSoFar;
 use sg_core::{Core, CoreRefusal};
 use sg_counter::CoreFront;
 use sg_memory_disk::{DiskChange, MemoryDisk};
 use sg_msg::Message;
 use std::alloc::{AllocError, Global};
-use test_replies::Text;
+use test_replies::ReplyText;
 
 // The store of destination 0.
 const STORE: usize = 3;
@@ -98,7 +98,7 @@ pub(crate) fn disks_with(
 }
 
 /// A run that begins over so many entries at destination 0, which have three bytes of text each.
-pub(crate) fn over_older(alloc: Global, count: u32) -> Result<Ended, AllocError> {
+pub(crate) fn over_older(alloc: Global, count: u32) -> Result<EndedRun, AllocError> {
     let mut made = Vec::new(alloc);
     let mut numbers = Vec::new(alloc);
     for number in 0..count {
@@ -112,18 +112,18 @@ pub(crate) fn over_older(alloc: Global, count: u32) -> Result<Ended, AllocError>
         })?;
         numbers.push(number)?;
     }
-    let found = Found {
+    let found = OpenedCore {
         positions: [0; 3],
         lines: [
-            Line::over(alloc, numbers),
-            Line::new(alloc),
-            Line::new(alloc),
+            DestLine::over(alloc, numbers),
+            DestLine::new(alloc),
+            DestLine::new(alloc),
         ],
     };
-    Ok(unbegun(Run::over(alloc, &made, found)?, [0; 3]))
+    Ok(unbegun(RunSoFar::over(alloc, &made, found)?, [0; 3]))
 }
 
-fn put_texts(out: &mut Text, messages: &[Message]) {
+fn put_texts(out: &mut ReplyText, messages: &[Message]) {
     for message in messages {
         out.put(message.get(b"MESSAGE").unwrap_or(b"?"));
         out.push(b',');
@@ -134,7 +134,7 @@ fn put_texts(out: &mut Text, messages: &[Message]) {
 fn put_front(
     alloc: Global,
     core: &mut Core<MemoryDisk>,
-    out: &mut Text,
+    out: &mut ReplyText,
 ) -> Result<(u64, u32), AllocError>
     requires tried { IsTried core.old }
     requires calls { core.old.calls + 1 < 2 ^ 54 }
@@ -162,7 +162,7 @@ fn found(
 ) -> Result<(Vec<u8>, Vec<MemoryDisk>), AllocError>
     requires { length disks.items ≡ 5 }
 {
-    let mut out = Text::new(alloc);
+    let mut out = ReplyText::new(alloc);
     let mut core = match open(alloc, WINDOW, FIFO, FIRST, SECOND, disks) {
         Ok(core) => core,
         Err((disks, _)) => return Ok((Vec::from_slice(alloc, b"refused")?, disks)),
@@ -178,7 +178,7 @@ fn found(
     Ok((out.done()?, disks))
 }
 
-fn put_change(out: &mut Text, change: &DiskChange) {
+fn put_change(out: &mut ReplyText, change: &DiskChange) {
     match change {
         DiskChange::Wrote(written) => {
             out.put_count(b" ", written.bytes.len() as u64);
@@ -191,7 +191,7 @@ fn put_change(out: &mut Text, change: &DiskChange) {
 
 // What the disk-buffer's store was changed by.
 fn changes(alloc: Global, disks: &[MemoryDisk]) -> Result<Vec<u8>, AllocError> {
-    let mut out = Text::new(alloc);
+    let mut out = ReplyText::new(alloc);
     if let Some(disk) = disks.get(STORE) {
         for change in disk.changes() {
             put_change(&mut out, change);
@@ -202,13 +202,13 @@ fn changes(alloc: Global, disks: &[MemoryDisk]) -> Result<Vec<u8>, AllocError> {
 
 // How often a stopped opening is refused, and how many images have these texts and how many haven't.
 #[derive(Clone, Copy, Drop)]
-struct Stopped {
+struct StoppedCounts {
     refused: u64,
     same: u64,
     other: u64,
 }
 
-impl Stopped {
+impl StoppedCounts {
     fn refuse(&mut self, refusal: CoreRefusal) {
         if refusal == CoreRefusal::DiskFault(STORE as u32) {
             self.refused = self.refused.saturating_add(1);
@@ -223,7 +223,7 @@ impl Stopped {
         }
     }
 
-    fn put(&self, out: &mut Text) {
+    fn put(&self, out: &mut ReplyText) {
         out.put_count(b"; ", self.refused);
         out.put_count(b" refused, ", self.same);
         out.put(b" images the same");
@@ -235,7 +235,7 @@ fn stop_opening(
     alloc: Global,
     parts: &str,
     calls: u64,
-    sums: &mut Stopped,
+    sums: &mut StoppedCounts,
 ) -> Result<Vec<MemoryDisk>, AllocError> {
     let disks = disks_with(alloc, parts, Some(calls))?;
     match open(alloc, WINDOW, FIFO, FIRST, SECOND, disks) {
@@ -253,7 +253,7 @@ fn look_into(
     disks: &[MemoryDisk],
     letters: &str,
     wanted: &[u8],
-    sums: &mut Stopped,
+    sums: &mut StoppedCounts,
 ) -> Result<(), AllocError> {
     let picks = picks(alloc, letters)?;
     let images = images(alloc, disks, &picks)?;
@@ -264,8 +264,8 @@ fn look_into(
     Ok(())
 }
 
-fn stop_openings(alloc: Global, parts: &str, wanted: &[u8]) -> Result<Stopped, AllocError> {
-    let mut sums = Stopped {
+fn stop_openings(alloc: Global, parts: &str, wanted: &[u8]) -> Result<StoppedCounts, AllocError> {
+    let mut sums = StoppedCounts {
         refused: 0,
         same: 0,
         other: 0,
@@ -280,7 +280,7 @@ fn stop_openings(alloc: Global, parts: &str, wanted: &[u8]) -> Result<Stopped, A
 }
 
 // The texts that are found over what an opening left, and once more when these are settled.
-fn put_again(alloc: Global, disks: Vec<MemoryDisk>, out: &mut Text) -> Result<(), AllocError> {
+fn put_again(alloc: Global, disks: Vec<MemoryDisk>, out: &mut ReplyText) -> Result<(), AllocError> {
     if disks.len() != 5 {
         out.put(b" no stores");
         return Ok(());
@@ -302,7 +302,7 @@ fn answers(alloc: Global, parts: &str) -> Result<Vec<u8>, AllocError> {
     let (first, disks) = found(alloc, disks_with(alloc, parts, None)?, false)?;
     let changes = changes(alloc, &disks)?;
     let sums = stop_openings(alloc, parts, &first)?;
-    let mut out = Text::new(alloc);
+    let mut out = ReplyText::new(alloc);
     if sums.other > 0 {
         out.put_count(b"DIFFERS in ", sums.other);
         out.put(b": ");

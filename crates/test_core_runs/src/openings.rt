@@ -3,7 +3,7 @@ ghost use Rattle.std.specs.Prelude.{◌<◌};
 
 use crate::cores::offer;
 use crate::entries::Made;
-use crate::lines::Line;
+use crate::lines::DestLine;
 use sg_list::Seq;
 use sg_machine::{Act, Admission, Event, Verdict};
 use sg_msg::Offer;
@@ -11,9 +11,9 @@ use std::alloc::{AllocError, Global};
 
 /// What a core finds in its stores: the positions of its sources, and the entries of each destination.
 #[derive(Drop)]
-pub(crate) struct Found {
+pub(crate) struct OpenedCore {
     pub(crate) positions: [u64; 3],
-    pub(crate) lines: [Line; 3],
+    pub(crate) lines: [DestLine; 3],
 }
 
 fn event(alloc: Global, act: Act) -> Event {
@@ -78,7 +78,7 @@ fn admit(
 fn add_entries(
     alloc: Global,
     made: &[Made],
-    lines: &[Line; 3],
+    lines: &[DestLine; 3],
     events: &mut Vec<Event>,
 ) -> Result<(), AllocError> {
     let mut offers = Vec::new(alloc);
@@ -111,7 +111,7 @@ fn add_place(
 pub(crate) fn events_of(
     alloc: Global,
     made: &[Made],
-    found: &Found,
+    found: &OpenedCore,
 ) -> Result<Vec<Event>, AllocError> {
     let mut events = Vec::new(alloc);
     add_entries(alloc, made, &found.lines, &mut events)?;

@@ -5,12 +5,12 @@ use crate::cores::disks;
 use crate::draws::Draws;
 use crate::images::{PICKS, Told, are_picks, look_into, open_again, picks};
 use crate::migration::{are_parts, disks_with, over_older};
-use crate::openings::Found;
-use crate::runs::{Ended, run_over, unbegun};
-use crate::steps::Run;
-use sg_memory_disk::{DiskPlan, MemoryDisk, Plan};
+use crate::openings::OpenedCore;
+use crate::runs::{EndedRun, run_over, unbegun};
+use crate::steps::RunSoFar;
+use sg_memory_disk::{DiskPlan, FaultPlan, MemoryDisk};
 use std::alloc::{AllocError, Global};
-use test_replies::Text;
+use test_replies::ReplyText;
 
 // The steps of a run at most.
 const MOST: u64 = 1000;
@@ -53,7 +53,7 @@ impl Sums {
     }
 
     // What a run of that number, or one that goes on over what it left, came to.
-    fn add(&mut self, number: u64, ended: &Ended) {
+    fn add(&mut self, number: u64, ended: &EndedRun) {
         if !ended.opened {
             self.refused = self.refused.saturating_add(1);
         }
@@ -68,7 +68,7 @@ impl Sums {
         }
     }
 
-    fn put_runs(&self, out: &mut Text) {
+    fn put_runs(&self, out: &mut ReplyText) {
         out.put_number(self.runs);
         out.put_count(b" runs, ", self.more);
         out.put_count(b" go on, ", self.refused);
@@ -76,7 +76,7 @@ impl Sums {
         out.put(b" with a store that failed, ");
     }
 
-    fn put_steps(&self, out: &mut Text) {
+    fn put_steps(&self, out: &mut ReplyText) {
         out.put_number(self.steps);
         out.put_count(b" tallies, ", self.fronts);
         out.put_count(b" fronts, ", self.rewinds);
@@ -86,7 +86,7 @@ impl Sums {
     }
 
     fn said(&self, alloc: Global) -> Result<Vec<u8>, AllocError> {
-        let mut out = Text::new(alloc);
+        let mut out = ReplyText::new(alloc);
         if let Some((run, step)) = self.differs {
             out.put_count(b"DIFFERS in run ", run);
             out.put_count(b" at step ", step);
@@ -155,8 +155,8 @@ fn go_on(
     alloc: Global,
     sums: &mut Sums,
     number: u64,
-    before: &Ended,
-    found: Found,
+    before: &EndedRun,
+    found: OpenedCore,
     disks: Vec<MemoryDisk>,
     steps: u64,
 ) -> Result<(), AllocError>
@@ -168,7 +168,7 @@ fn go_on(
     let mut draws = Draws::new(seed);
     stop_one(&mut disks, &mut draws);
     let positions = found.positions;
-    let run = Run::over(alloc, &before.run.made, found)?;
+    let run = RunSoFar::over(alloc, &before.run.made, found)?;
     let begun = unbegun(run, positions);
     let (ended, disks) = run_over(alloc, disks, begun, FROM, seed, steps, false)?;
     look_into(alloc, &disks, &ended, &mut sums.told)?;
@@ -183,7 +183,7 @@ fn again(
     alloc: Global,
     sums: &mut Sums,
     number: u64,
-    ended: &Ended,
+    ended: &EndedRun,
     disks: &[MemoryDisk],
     steps: u64,
 ) -> Result<(), AllocError>
@@ -208,7 +208,7 @@ fn one(
     sums: &mut Sums,
     number: u64,
     disks: Vec<MemoryDisk>,
-    begun: Ended,
+    begun: EndedRun,
     seed: u64,
     extent: Extent,
 ) -> Result<(), AllocError>
@@ -233,7 +233,7 @@ fn one_fresh(
 ) -> Result<(), AllocError>
     requires { length disks.items ≡ 5 }
 {
-    let begun = unbegun(Run::new(alloc), [0; 3]);
+    let begun = unbegun(RunSoFar::new(alloc), [0; 3]);
     one(alloc, sums, number, disks, begun, seed, extent)
 }
 
@@ -301,12 +301,12 @@ fn plan(alloc: Global, call: u64, failing: Failing<'_>) -> Result<DiskPlan, Allo
     let tears = picks(alloc, failing.tear)?;
     if failing.stops {
         return Ok(DiskPlan {
-            fails: Plan::never(alloc),
+            fails: FaultPlan::never(alloc),
             left: Some(call),
             tears,
         });
     }
-    let fails = Plan::new(vec![in alloc; call]?);
+    let fails = FaultPlan::new(vec![in alloc; call]?);
     Ok(DiskPlan {
         fails,
         left: None,

@@ -4,7 +4,7 @@ ghost use Rattle.test_core_runs.specs.Cores.{IsTried, IsSomewhere};
 
 use crate::cores::{FIFO, FIRST, SECOND, WINDOW, open, setup};
 use crate::draws::Draws;
-use crate::steps::{Run, step};
+use crate::steps::{RunSoFar, step};
 use sg_core::{Core, CoreRefusal};
 use sg_machine::{SourceTally, Tally, replay};
 use sg_memory_disk::MemoryDisk;
@@ -20,8 +20,8 @@ pub(crate) struct Positions {
 
 /// How a run ended.
 #[derive(Drop)]
-pub(crate) struct Ended {
-    pub(crate) run: Run,
+pub(crate) struct EndedRun {
+    pub(crate) run: RunSoFar,
     pub(crate) positions: [Positions; 3],
     /// The core was opened.
     pub(crate) opened: bool,
@@ -39,8 +39,8 @@ fn found_at(stored: u64) -> Positions {
 }
 
 /// A run that has made no step, over stores of these positions.
-pub(crate) fn unbegun(run: Run, positions: [u64; 3]) -> Ended {
-    Ended {
+pub(crate) fn unbegun(run: RunSoFar, positions: [u64; 3]) -> EndedRun {
+    EndedRun {
         run,
         positions: [
             found_at(positions[0]),
@@ -83,7 +83,7 @@ fn same(tally: &Tally, replayed: &Option<Tally>, brought: &[u64; 3]) -> bool {
 }
 
 // Whether the tally is that of the run's events.
-fn is_replayed(alloc: Global, tally: &Tally, run: &Run) -> Result<bool, AllocError> {
+fn is_replayed(alloc: Global, tally: &Tally, run: &RunSoFar) -> Result<bool, AllocError> {
     if run.events.len() > 10_000 {
         return Ok(false);
     }
@@ -105,7 +105,7 @@ fn positions_of(tally: &SourceTally, failed: bool, before: Positions) -> Positio
     }
 }
 
-fn look_at(tally: &Tally, run: &Run, positions: &mut [Positions; 3]) {
+fn look_at(tally: &Tally, run: &RunSoFar, positions: &mut [Positions; 3]) {
     for i in 0..3usize {
         if let Some(source) = tally.sources.get(i) {
             let failed = run.failed.contains(&(i as u32));
@@ -119,12 +119,12 @@ fn look_at(tally: &Tally, run: &Run, positions: &mut [Positions; 3]) {
 pub(crate) fn run(
     alloc: Global,
     core: &mut Core<MemoryDisk>,
-    begun: Ended,
+    begun: EndedRun,
     from: u64,
     seed: u64,
     steps: u64,
     brief: bool,
-) -> Result<Ended, AllocError>
+) -> Result<EndedRun, AllocError>
     requires tried { IsTried core.old }
     requires at { IsSomewhere core.old }
     requires from { from ≤ 20000 }
@@ -151,12 +151,12 @@ pub(crate) fn run(
 pub(crate) fn run_over(
     alloc: Global,
     disks: Vec<MemoryDisk>,
-    begun: Ended,
+    begun: EndedRun,
     from: u64,
     seed: u64,
     steps: u64,
     brief: bool,
-) -> Result<(Ended, Vec<MemoryDisk>), AllocError>
+) -> Result<(EndedRun, Vec<MemoryDisk>), AllocError>
     requires disks { length disks.items ≡ 5 }
     requires from { from ≤ 20000 }
     requires steps { steps ≤ 1000 }

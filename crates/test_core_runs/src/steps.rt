@@ -6,8 +6,8 @@ ghost use Rattle.test_core_runs.specs.Cores.{IsTried, IsSomewhere};
 use crate::cores::{FIRST, SECOND};
 use crate::draws::Draws;
 use crate::entries::{Made, draw_records, left_behind, numbers_of, records_of, short};
-use crate::lines::Line;
-use crate::openings::{Found, events_of, forget_place};
+use crate::lines::DestLine;
+use crate::openings::{OpenedCore, events_of, forget_place};
 use sg_core::Core;
 use sg_counter::{CoreFront, Refill, Refused, Settled, Stored};
 use sg_list::Seq;
@@ -17,13 +17,13 @@ use std::alloc::{AllocError, Global};
 
 /// A run so far.
 #[derive(Drop)]
-pub(crate) struct Run {
+pub(crate) struct RunSoFar {
     pub(crate) events: Vec<Event>,
     /// The stores that have failed.
     pub(crate) failed: Vec<u32>,
     /// The offers that were taken in.
     pub(crate) made: Vec<Made>,
-    pub(crate) lines: [Line; 3],
+    pub(crate) lines: [DestLine; 3],
     /// How many records of each source a replay counts that aren't the core's.
     pub(crate) brought: [u64; 3],
     // The source began at the position that was found.
@@ -36,13 +36,17 @@ pub(crate) struct Run {
     pub(crate) right: bool,
 }
 
-impl Run {
-    pub(crate) fn new(alloc: Global) -> Run {
-        Run {
+impl RunSoFar {
+    pub(crate) fn new(alloc: Global) -> RunSoFar {
+        RunSoFar {
             events: Vec::new(alloc),
             failed: Vec::new(alloc),
             made: Vec::new(alloc),
-            lines: [Line::new(alloc), Line::new(alloc), Line::new(alloc)],
+            lines: [
+                DestLine::new(alloc),
+                DestLine::new(alloc),
+                DestLine::new(alloc),
+            ],
             brought: [0; 3],
             placed: [false; 3],
             fronts: 0,
@@ -52,10 +56,14 @@ impl Run {
     }
 
     /// A run over stores in which this is found, of the offers that were made before.
-    pub(crate) fn over(alloc: Global, made: &[Made], found: Found) -> Result<Run, AllocError> {
+    pub(crate) fn over(
+        alloc: Global,
+        made: &[Made],
+        found: OpenedCore,
+    ) -> Result<RunSoFar, AllocError> {
         let events = events_of(alloc, made, &found)?;
-        let Found { positions, lines } = found;
-        let mut run = Run::new(alloc);
+        let OpenedCore { positions, lines } = found;
+        let mut run = RunSoFar::new(alloc);
         run.events = events;
         run.made = left_behind(alloc, made)?;
         run.lines = lines;
@@ -222,7 +230,7 @@ fn feed(
     i: u32,
     end: u64,
     draws: &mut Draws,
-    run: &mut Run,
+    run: &mut RunSoFar,
 ) -> Result<(), AllocError>
     requires tried { IsTried core.old }
     requires at { IsSomewhere core.old }
@@ -266,7 +274,7 @@ fn front(
     core: &mut Core<MemoryDisk>,
     d: u32,
     most: u32,
-    run: &mut Run,
+    run: &mut RunSoFar,
 ) -> Result<(u64, u32), AllocError>
     requires tried { IsTried core.old }
     requires at { IsSomewhere core.old }
@@ -300,7 +308,7 @@ fn drain(
     core: &mut Core<MemoryDisk>,
     d: u32,
     draws: &mut Draws,
-    run: &mut Run,
+    run: &mut RunSoFar,
 ) -> Result<(), AllocError>
     requires tried { IsTried core.old }
     requires at { IsSomewhere core.old }
@@ -328,7 +336,7 @@ fn settle(
     d: u32,
     place: u64,
     n: u32,
-    run: &mut Run,
+    run: &mut RunSoFar,
 ) -> Result<(), AllocError>
     requires tried { IsTried core.old }
     requires at { IsSomewhere core.old }
@@ -357,7 +365,7 @@ fn refill(
     alloc: Global,
     core: &mut Core<MemoryDisk>,
     d: u32,
-    run: &mut Run,
+    run: &mut RunSoFar,
 ) -> Result<(), AllocError>
     requires tried { IsTried core.old }
     requires at { IsSomewhere core.old }
@@ -381,7 +389,7 @@ fn store(
     alloc: Global,
     core: &mut Core<MemoryDisk>,
     i: u32,
-    run: &mut Run,
+    run: &mut RunSoFar,
 ) -> Result<(), AllocError>
     requires tried { IsTried core.old }
     requires at { IsSomewhere core.old }
@@ -421,7 +429,7 @@ fn rewind(
     alloc: Global,
     core: &mut Core<MemoryDisk>,
     i: u32,
-    run: &mut Run,
+    run: &mut RunSoFar,
 ) -> Result<(), AllocError>
     requires tried { IsTried core.old }
     requires at { IsSomewhere core.old }
@@ -455,7 +463,7 @@ pub(crate) fn step(
     core: &mut Core<MemoryDisk>,
     end: u64,
     draws: &mut Draws,
-    run: &mut Run,
+    run: &mut RunSoFar,
 ) -> Result<(), AllocError>
     requires tried { IsTried core.old }
     requires at { IsSomewhere core.old }

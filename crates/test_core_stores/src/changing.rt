@@ -18,7 +18,7 @@ const FORMAT: usize = 69;
 // Behind so many reads the byte that tells the entry's format is this one, and a read gives so many bytes
 // at most.
 #[derive(Clone, Copy)]
-struct Change {
+struct StoreChange {
     until: u64,
     format: u8,
     most: usize,
@@ -29,7 +29,7 @@ struct Change {
 struct ChangingDisk {
     bytes: Vec<u8>,
     reads: u64,
-    change: Change,
+    change: StoreChange,
     faults: u64,
 }
 
@@ -135,7 +135,7 @@ fn first_of(alloc: Global, spool: &mut Spool<ChangingDisk>) -> Result<&'static s
 }
 
 // What is read of a store that changes.
-fn reads(alloc: Global, change: Change) -> Result<&'static str, Fail> {
+fn reads(alloc: Global, change: StoreChange) -> Result<&'static str, Fail> {
     let disk = ChangingDisk {
         bytes: store(alloc)?,
         reads: 0,
@@ -159,7 +159,7 @@ fn count_of(alloc: Global, format: u8, most: usize, word: &str) -> Result<u64, F
     for until in 0..31 {
         let said = reads(
             alloc,
-            Change {
+            StoreChange {
                 until,
                 format,
                 most,
@@ -179,7 +179,7 @@ fn changed_while_open(rt: HostRuntime) -> Result<(), Fail> {
     let alloc = rt.alloc();
     assert!(rt; count_of(alloc, 9, 131, "unread")? > 0);
     assert!(rt; count_of(alloc, 2, 5, "cut")? > 0);
-    let late = Change {
+    let late = StoreChange {
         until: 30,
         format: 9,
         most: 5,

@@ -3,7 +3,7 @@ ghost use Rattle.std.specs.Prelude.{◌≡◌, IfOk, IfErr, length};
 
 use sg_memory_disk::MemoryDisk;
 use sg_spool::Block;
-use sg_stores::{CoreRefusal, Opened, StoreKind, Stores};
+use sg_stores::{CoreRefusal, OpenedStores, StoreKind, Stores};
 use std::alloc::Global;
 use std::test::Fail;
 
@@ -75,7 +75,7 @@ fn disks_of(
 fn open(
     alloc: Global,
     disks: Vec<MemoryDisk>,
-) -> Result<Opened<MemoryDisk>, (Vec<MemoryDisk>, CoreRefusal)>
+) -> Result<OpenedStores<MemoryDisk>, (Vec<MemoryDisk>, CoreRefusal)>
     requires { length disks.items ≡ 2 }
     ensures stores { IfOk result (λ opened. length opened.stores ≡ 2) }
     ensures found { IfOk result (λ opened. length opened.found ≡ 2) }
@@ -88,7 +88,7 @@ fn open(
 }
 
 // Whether the stores were opened so.
-fn is_opened(opened: &Opened<MemoryDisk>, wanted: &str) -> Result<bool, Fail>
+fn is_opened(opened: &OpenedStores<MemoryDisk>, wanted: &str) -> Result<bool, Fail>
     requires stores { length opened.now.stores ≡ 2 }
     requires found { length opened.now.found ≡ 2 }
 {
@@ -127,7 +127,7 @@ fn opens(alloc: Global, row: &str) -> Result<bool, Fail> {
     match open(alloc, parts_of(alloc, parts)?) {
         Ok(opened) => {
             let is = is_opened(&opened, wanted);
-            let Opened { stores, found: _ } = opened;
+            let OpenedStores { stores, found: _ } = opened;
             let _disks = stores.into_disks();
             is
         }
@@ -187,11 +187,15 @@ fn closed(stores: Stores<MemoryDisk>) -> Vec<MemoryDisk>
 }
 
 // The same of opened stores; and their disks.
-fn append_to(opened: Opened<MemoryDisk>, first: &Block, second: &Block) -> (bool, Vec<MemoryDisk>)
+fn append_to(
+    opened: OpenedStores<MemoryDisk>,
+    first: &Block,
+    second: &Block,
+) -> (bool, Vec<MemoryDisk>)
     requires { length opened.stores ≡ 2 }
     ensures { length result.1.items ≡ 2 }
 {
-    let Opened {
+    let OpenedStores {
         mut stores,
         found: _,
     } = opened;
@@ -221,7 +225,7 @@ fn entries_in(alloc: Global, disks: Vec<MemoryDisk>) -> Result<usize, Fail>
     match open(alloc, disks) {
         Ok(opened) => {
             let count = opened.found.at(1).heads.len();
-            let Opened { stores, found: _ } = opened;
+            let OpenedStores { stores, found: _ } = opened;
             let _disks = stores.into_disks();
             Ok(count)
         }

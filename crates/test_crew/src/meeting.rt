@@ -18,7 +18,7 @@ use sg_frame::FrameKind;
 use sg_list::Seq;
 use sg_machine::{Admission, BufferSetup, DestSetup, Setup, SourceSetup};
 use sg_memory::{MemoryInlet, MemoryOutlet, OutletScript, Pace};
-use sg_memory_disk::{MemoryDisk, Plan};
+use sg_memory_disk::{FaultPlan, MemoryDisk};
 use sg_msg::Offer;
 use sg_template::Env;
 use std::alloc::{AllocError, Global};
@@ -34,7 +34,7 @@ const MEETINGS: u64 = 2;
 
 // How often each of both has come, and how often one has seen the other one.
 #[derive(Drop)]
-struct Flags {
+struct MeetingFlags {
     pulled: AtomicU64,
     sent: AtomicU64,
     seen: AtomicU64,
@@ -56,7 +56,7 @@ fn meet<T: Clock>(rt: &T, mine: &AtomicU64, theirs: &AtomicU64, seen: &AtomicU64
 #[derive(Drop)]
 struct MeetingInlet<'a, T> {
     rt: &'a T,
-    flags: &'a Flags,
+    flags: &'a MeetingFlags,
     meetings: u64,
     inner: MemoryInlet,
 }
@@ -92,7 +92,7 @@ impl<'a, T: Clock> Inlet for MeetingInlet<'a, T> {
 #[derive(Drop)]
 struct MeetingOutlet<'a, T> {
     rt: &'a T,
-    flags: &'a Flags,
+    flags: &'a MeetingFlags,
     meetings: u64,
     inner: MemoryOutlet,
 }
@@ -197,7 +197,7 @@ fn recovered(alloc: Global) -> Result<Core<MemoryDisk>, NoMemory>
 fn source<'a, T: Clock>(
     rt: &'a T,
     alloc: Global,
-    flags: &'a Flags,
+    flags: &'a MeetingFlags,
 ) -> Result<SourceActor<ByDigit, MeetingInlet<'a, T>>, NoMemory>
     ensures { IfOk result (λ a. IsSource (λ inlet. inlet_of inlet.inner) two two meeting 0 a) }
 {
@@ -208,7 +208,7 @@ fn source<'a, T: Clock>(
         rt,
         flags,
         meetings: MEETINGS,
-        inner: MemoryInlet::file(alloc, text, 0, pace, true, Plan::never(alloc))?,
+        inner: MemoryInlet::file(alloc, text, 0, pace, true, FaultPlan::never(alloc))?,
     };
     let spec = SourceSpec {
         inlet: 0,
@@ -227,7 +227,7 @@ fn source<'a, T: Clock>(
 fn dest<'a, T: Clock>(
     rt: &'a T,
     alloc: Global,
-    flags: &'a Flags,
+    flags: &'a MeetingFlags,
     dest: u32,
 ) -> Result<DestActor<MeetingOutlet<'a, T>>, NoMemory>
     ensures { IfOk result (λ a. IsDest (λ outlet. outlet_of outlet.inner) dest a) }
@@ -285,7 +285,7 @@ fn with_source<'a, T: Clock>(
 fn sources<'a, T: Clock>(
     rt: &'a T,
     alloc: Global,
-    flags: &'a Flags,
+    flags: &'a MeetingFlags,
 ) -> Result<Vec<SourceActor<ByDigit, MeetingInlet<'a, T>>>, NoMemory>
     ensures { IfOk result
         (λ held. AreSources (λ inlet. inlet_of inlet.inner) two two meeting held.items) }
@@ -298,7 +298,7 @@ fn sources<'a, T: Clock>(
 fn dests<'a, T: Clock>(
     rt: &'a T,
     alloc: Global,
-    flags: &'a Flags,
+    flags: &'a MeetingFlags,
 ) -> Result<Vec<DestActor<MeetingOutlet<'a, T>>>, NoMemory>
     ensures { IfOk result (λ held. AreDests (λ outlet. outlet_of outlet.inner) meeting held.items) }
 {
@@ -316,10 +316,10 @@ fn dests<'a, T: Clock>(
 // the first round, and for the second one the line of the first, since its frames are taken before they meet. The third
 // round is the last, which is never one of several on the same threads. Whichever thread waits in a pull, the other one takes
 // the turns of both destinations meanwhile.
-fn met<T: Threads + Wait + Sync + Clock>(
+fn met<T: Threads + Wait + Eprint + Sync + Clock>(
     rt: &T,
     alloc: Global,
-    flags: &Flags,
+    flags: &MeetingFlags,
 ) -> Result<u64, NoMemory> {
     let sources = sources(rt, alloc, flags)?;
     let dests = match dests(rt, alloc, flags) {
@@ -343,7 +343,7 @@ fn met<T: Threads + Wait + Sync + Clock>(
 
 #[test]
 fn actors_in_turn(rt: HostRuntime) -> Result<(), NoMemory> {
-    let flags = Flags {
+    let flags = MeetingFlags {
         pulled: AtomicU64::new(0),
         sent: AtomicU64::new(0),
         seen: AtomicU64::new(0),

@@ -6,7 +6,7 @@ use sg_device::NoMemory;
 use std::alloc::Global;
 use std::sync::Wait;
 use std::thread::Threads;
-use test_flow::{Outcome, Prepared, Row, finish, lines, prepare, read_row, rounds_of};
+use test_flow::{FlowOutcome, Prepared, Row, finish, lines, prepare, read_row, rounds_of};
 
 // What is shown; the bytes of each of two files, a line feed written as $; the sends and reopenings of the
 // first destination that fail, counted from 0; whether it gives up; the rounds at most; and how the run
@@ -122,17 +122,17 @@ fn took(alloc: Global, taken: &[u8], frames: &str) -> Result<bool, NoMemory> {
     Ok(sorted.trim_ascii() == wanted.trim_ascii())
 }
 
-fn came(alloc: Global, outcome: &Outcome, row: &Row<'_>) -> Result<bool, NoMemory> {
+fn came(alloc: Global, outcome: &FlowOutcome, row: &Row<'_>) -> Result<bool, NoMemory> {
     let took = took(alloc, &outcome.frames, row.frames)?;
     Ok(took && outcome.end == row.end && outcome.has_positions(row.positions))
 }
 
-fn runs<T: Threads + Wait + Sync>(
+fn runs<T: Threads + Wait + Eprint + Sync>(
     rt: &T,
     alloc: Global,
     row: &Row<'_>,
     rounds: u64,
-) -> Result<Outcome, NoMemory>
+) -> Result<FlowOutcome, NoMemory>
     requires some { 0 < rounds }
     requires most { rounds ≤ 1000 }
 {
@@ -148,7 +148,11 @@ fn runs<T: Threads + Wait + Sync>(
 }
 
 // Whether the run is that of the row.
-fn shows<T: Threads + Wait + Sync>(rt: &T, alloc: Global, row: &str) -> Result<bool, NoMemory> {
+fn shows<T: Threads + Wait + Eprint + Sync>(
+    rt: &T,
+    alloc: Global,
+    row: &str,
+) -> Result<bool, NoMemory> {
     let Some(row) = read_row(row) else {
         return Ok(false);
     };

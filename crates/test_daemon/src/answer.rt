@@ -17,7 +17,7 @@ fn words(alloc: Global, line: &str) -> Result<Vec<Name>, AllocError> {
     Ok(words)
 }
 
-fn code<T: Threads + Wait + Sync>(
+fn code<T: Threads + Wait + Eprint + Sync>(
     rt: &T,
     alloc: Global,
     words: &[Name],
@@ -27,7 +27,7 @@ fn code<T: Threads + Wait + Sync>(
 }
 
 /// The exit status of a command.
-fn status<T: Threads + Wait + Sync>(
+fn status<T: Threads + Wait + Eprint + Sync>(
     rt: &T,
     alloc: Global,
     line: &str,
@@ -42,7 +42,7 @@ fn code_text(alloc: Global, code: u8) -> Result<Vec<u8>, AllocError> {
 }
 
 /// The exit status of a command, and behind `;` what is said.
-pub(crate) fn answer<T: Threads + Wait + Sync>(
+pub(crate) fn answer<T: Threads + Wait + Eprint + Sync>(
     rt: &T,
     alloc: Global,
     line: &str,
@@ -74,7 +74,7 @@ fn with_frames(alloc: Global, world: &MemoryWorld, answer: &[u8]) -> Result<Vec<
 }
 
 /// The frames that the last outlet took in a run, and behind `;` its answer.
-pub(crate) fn run<T: Threads + Wait + Sync>(
+pub(crate) fn run<T: Threads + Wait + Eprint + Sync>(
     rt: &T,
     alloc: Global,
     line: &str,

@@ -33,7 +33,7 @@ start c;1;usage: syslogr check FILE | trace FILE SOURCE INPUT | run FILE [--once
 --help check;1;usage: syslogr check FILE | trace FILE SOURCE INPUT | run FILE [--once] [--rounds N] | spool FILE | drill N~
 ";
 
-fn run_command<T: Threads + Wait + Sync>(
+fn run_command<T: Threads + Wait + Eprint + Sync>(
     rt: &T,
     alloc: Global,
     line: &str,
@@ -43,7 +43,11 @@ fn run_command<T: Threads + Wait + Sync>(
 }
 
 // Whether a row holds, and whether it was understood.
-fn holds<T: Threads + Wait + Sync>(rt: &T, alloc: Global, row: &str) -> Result<bool, AllocError> {
+fn holds<T: Threads + Wait + Eprint + Sync>(
+    rt: &T,
+    alloc: Global,
+    row: &str,
+) -> Result<bool, AllocError> {
     let Some((line, wanted)) = field(row) else {
         return Ok(false);
     };

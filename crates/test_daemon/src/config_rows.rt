@@ -76,7 +76,7 @@ fn with_config(alloc: Global, config: &str) -> Result<MemoryMachine, Fail> {
     Ok(with_files(alloc, files(alloc, config)?))
 }
 
-fn run_config<T: Threads + Wait + Sync>(
+fn run_config<T: Threads + Wait + Eprint + Sync>(
     rt: &T,
     alloc: Global,
     config: &str,
@@ -85,7 +85,7 @@ fn run_config<T: Threads + Wait + Sync>(
     Ok(run(rt, alloc, "run c --once", &mut machine)?)
 }
 
-fn check_config<T: Threads + Wait + Sync>(
+fn check_config<T: Threads + Wait + Eprint + Sync>(
     rt: &T,
     alloc: Global,
     config: &str,
@@ -103,7 +103,7 @@ fn checked(ran: &str) -> &str {
 }
 
 // Whether a configuration runs so.
-fn runs_so<T: Threads + Wait + Sync>(
+fn runs_so<T: Threads + Wait + Eprint + Sync>(
     rt: &T,
     alloc: Global,
     config: &str,
@@ -114,7 +114,7 @@ fn runs_so<T: Threads + Wait + Sync>(
 }
 
 // Whether it is checked so.
-fn checks_so<T: Threads + Wait + Sync>(
+fn checks_so<T: Threads + Wait + Eprint + Sync>(
     rt: &T,
     alloc: Global,
     config: &str,
@@ -125,7 +125,11 @@ fn checks_so<T: Threads + Wait + Sync>(
 }
 
 // Whether a row holds, and whether it was understood.
-fn holds<T: Threads + Wait + Sync>(rt: &T, alloc: Global, row: &str) -> Result<bool, Fail> {
+fn holds<T: Threads + Wait + Eprint + Sync>(
+    rt: &T,
+    alloc: Global,
+    row: &str,
+) -> Result<bool, Fail> {
     let Some((config, ran)) = halves(row) else {
         return Ok(false);
     };

@@ -1,43 +1,57 @@
 // Calls of a machine in memory that fail.
-use sg_memory::{MemoryWorld, OutletScript};
-use sg_memory_disk::{DiskPlan, Plan};
+use sg_memory::{MemoryWorld, OutletScript, PathsPlan};
+use sg_memory_disk::{DiskPlan, FaultPlan};
 use std::alloc::{AllocError, Global};
 use std::test::Fail;
 
 // The calls with these numbers.
-fn plan(alloc: Global, numbers: &str) -> Result<Plan, Fail> {
+fn plan(alloc: Global, numbers: &str) -> Result<FaultPlan, Fail> {
     let mut calls = Vec::new(alloc);
     for number in numbers.split_whitespace() {
         let call: u64 = number.parse()?;
         calls.push(call)?;
     }
-    Ok(Plan::new(calls))
+    Ok(FaultPlan::new(calls))
 }
 
 // The call with this number and many behind it.
-fn plan_from(alloc: Global, number: &str) -> Result<Plan, Fail> {
+fn plan_from(alloc: Global, number: &str) -> Result<FaultPlan, Fail> {
     let first: u64 = number.parse()?;
     let mut calls = Vec::new(alloc);
     for behind in 0..100 {
         calls.push(first.saturating_add(behind))?;
     }
-    Ok(Plan::new(calls))
+    Ok(FaultPlan::new(calls))
 }
 
-fn fail_disk(alloc: Global, plan: Plan, world: &mut MemoryWorld) -> Result<(), AllocError> {
+fn fail_disk(alloc: Global, plan: FaultPlan, world: &mut MemoryWorld) -> Result<(), AllocError> {
     let plan = DiskPlan::failing(alloc, plan);
     world.stores.plans.push_back(plan)?;
     Ok(())
 }
 
-fn fail_pulls(plan: Plan, world: &mut MemoryWorld) -> Result<(), AllocError> {
+fn fail_pulls(plan: FaultPlan, world: &mut MemoryWorld) -> Result<(), AllocError> {
     world.plans.inlets.push_back(plan)?;
     Ok(())
 }
 
-fn fail_sends(alloc: Global, plan: Plan, world: &mut MemoryWorld) -> Result<(), AllocError> {
+fn fail_sends(alloc: Global, plan: FaultPlan, world: &mut MemoryWorld) -> Result<(), AllocError> {
     let plan = OutletScript::failing(alloc, plan);
     world.plans.outlets.push_back(plan)?;
+    Ok(())
+}
+
+fn fail_files(alloc: Global, plan: FaultPlan, world: &mut MemoryWorld) -> Result<(), AllocError> {
+    let mut paths = PathsPlan::never(alloc);
+    paths.calls = OutletScript::failing(alloc, plan);
+    world.plans.paths.push_back(paths)?;
+    Ok(())
+}
+
+fn close_files(alloc: Global, plan: FaultPlan, world: &mut MemoryWorld) -> Result<(), AllocError> {
+    let mut paths = PathsPlan::never(alloc);
+    paths.unused = plan;
+    world.plans.paths.push_back(paths)?;
     Ok(())
 }
 
@@ -45,7 +59,7 @@ fn fail_sends(alloc: Global, plan: Plan, world: &mut MemoryWorld) -> Result<(), 
 fn fail(
     alloc: Global,
     kind: &str,
-    plan: Plan,
+    plan: FaultPlan,
     world: &mut MemoryWorld,
 ) -> Result<bool, AllocError> {
     match kind {
@@ -56,6 +70,9 @@ fn fail(
         "pull" => fail_pulls(plan, world)?,
         "outlet" => world.plans.outlet_opens = plan,
         "send" | "sends" => fail_sends(alloc, plan, world)?,
+        "opener" => world.plans.paths_opens = plan,
+        "file" => fail_files(alloc, plan, world)?,
+        "unused" => close_files(alloc, plan, world)?,
         "say" => world.plans.says = plan,
         _ => return Ok(false),
     }
@@ -63,7 +80,7 @@ fn fail(
 }
 
 // The calls of a kind that fail.
-fn plan_of(alloc: Global, kind: &str, numbers: &str) -> Result<Plan, Fail> {
+fn plan_of(alloc: Global, kind: &str, numbers: &str) -> Result<FaultPlan, Fail> {
     if kind == "sends" {
         plan_from(alloc, numbers)
     } else {
@@ -85,6 +102,8 @@ fn fail_call(alloc: Global, call: &str, world: &mut MemoryWorld) -> Result<(), F
 /// Lets calls fail: of one kind after the other, parted by `, `, each with the numbers of the calls among their kind. `read`,
 /// `store`, `inlet` and `outlet` are readings of files and openings, `disk`, `pull` and `send` the calls of the store, inlet
 /// or outlet that is opened next, and `say` is what is said. With `sends` the send of that number and all behind it fail.
+/// `opener` is the opening of an opener, `file` are the openings, sends and reopenings of the one that is opened next, and
+/// `unused` the questions whether a file of it has taken nothing for long, which are answered by yes.
 pub(crate) fn fail_all(alloc: Global, calls: &str, world: &mut MemoryWorld) -> Result<(), Fail> {
     if calls.is_empty() {
         return Ok(());

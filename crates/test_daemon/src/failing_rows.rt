@@ -45,7 +45,7 @@ fn machine(alloc: Global) -> Result<MemoryMachine, AllocError> {
 }
 
 // The exit status of this machine and what is said, where these calls fail.
-fn run_in<T: Threads + Wait + Sync>(
+fn run_in<T: Threads + Wait + Eprint + Sync>(
     rt: &T,
     alloc: Global,
     calls: &str,
@@ -55,7 +55,7 @@ fn run_in<T: Threads + Wait + Sync>(
     Ok(answer(rt, alloc, "run c --once", machine)?)
 }
 
-fn run_failing<T: Threads + Wait + Sync>(
+fn run_failing<T: Threads + Wait + Eprint + Sync>(
     rt: &T,
     alloc: Global,
     calls: &str,
@@ -89,7 +89,11 @@ fn parts(row: &str) -> Option<(&str, &str, &str)> {
 }
 
 // Whether a row holds, and whether it was understood.
-fn holds<T: Threads + Wait + Sync>(rt: &T, alloc: Global, row: &str) -> Result<bool, Fail> {
+fn holds<T: Threads + Wait + Eprint + Sync>(
+    rt: &T,
+    alloc: Global,
+    row: &str,
+) -> Result<bool, Fail> {
     let Some((calls, code, ending)) = parts(row) else {
         return Ok(false);
     };

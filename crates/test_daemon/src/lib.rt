@@ -14,6 +14,8 @@ mod failing_rows;
 #[cfg(test)]
 mod machine;
 #[cfg(test)]
+mod path_rows;
+#[cfg(test)]
 mod run_rows;
 #[cfg(test)]
 mod store_rows;

@@ -121,7 +121,7 @@ fn prepare(alloc: Global, row: &Row<'_>, world: &mut MemoryWorld) -> Result<(), 
 }
 
 // Whether this machine runs as the row says.
-fn runs_so<T: Threads + Wait + Sync>(
+fn runs_so<T: Threads + Wait + Eprint + Sync>(
     rt: &T,
     alloc: Global,
     row: &Row<'_>,
@@ -137,13 +137,21 @@ fn machine(alloc: Global, row: &Row<'_>) -> Result<MemoryMachine, AllocError> {
     with_input(alloc, &input)
 }
 
-fn row_runs<T: Threads + Wait + Sync>(rt: &T, alloc: Global, row: &Row<'_>) -> Result<bool, Fail> {
+fn row_runs<T: Threads + Wait + Eprint + Sync>(
+    rt: &T,
+    alloc: Global,
+    row: &Row<'_>,
+) -> Result<bool, Fail> {
     let mut machine = machine(alloc, row)?;
     runs_so(rt, alloc, row, &mut machine)
 }
 
 // Whether a row holds, and whether it was understood.
-fn holds<T: Threads + Wait + Sync>(rt: &T, alloc: Global, line: &str) -> Result<bool, Fail> {
+fn holds<T: Threads + Wait + Eprint + Sync>(
+    rt: &T,
+    alloc: Global,
+    line: &str,
+) -> Result<bool, Fail> {
     match read_row(line) {
         Some(row) => row_runs(rt, alloc, &row),
         None => Ok(false),
@@ -165,7 +173,7 @@ fn later(alloc: Global, before: &mut MemoryMachine) -> Result<MemoryMachine, All
     Ok(machine)
 }
 
-fn run_later<T: Threads + Wait + Sync>(
+fn run_later<T: Threads + Wait + Eprint + Sync>(
     rt: &T,
     alloc: Global,
     before: &mut MemoryMachine,
@@ -175,7 +183,7 @@ fn run_later<T: Threads + Wait + Sync>(
 }
 
 // What two runs answer: the second one finds the stores of the first, and more lines.
-fn run_both<T: Threads + Wait + Sync>(
+fn run_both<T: Threads + Wait + Eprint + Sync>(
     rt: &T,
     alloc: Global,
     machine: &mut MemoryMachine,
@@ -185,7 +193,7 @@ fn run_both<T: Threads + Wait + Sync>(
     Ok((before, after))
 }
 
-fn run_twice<T: Threads + Wait + Sync>(
+fn run_twice<T: Threads + Wait + Eprint + Sync>(
     rt: &T,
     alloc: Global,
 ) -> Result<(Vec<u8>, Vec<u8>), AllocError> {

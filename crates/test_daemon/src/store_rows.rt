@@ -157,7 +157,7 @@ fn keeps(world: &MemoryWorld, bytes: &[u8]) -> bool {
 }
 
 // Whether this machine lists what the row says, and its store holds the bytes as before.
-fn lists_so<T: Threads + Wait + Sync>(
+fn lists_so<T: Threads + Wait + Eprint + Sync>(
     rt: &T,
     alloc: Global,
     row: &Row<'_>,
@@ -169,7 +169,7 @@ fn lists_so<T: Threads + Wait + Sync>(
     Ok(keeps(&machine.world, bytes) && is_text(alloc, &listed, row.answer)?)
 }
 
-fn lists_bytes<T: Threads + Wait + Sync>(
+fn lists_bytes<T: Threads + Wait + Eprint + Sync>(
     rt: &T,
     alloc: Global,
     row: &Row<'_>,
@@ -180,7 +180,11 @@ fn lists_bytes<T: Threads + Wait + Sync>(
 }
 
 // Whether a row holds, and whether it was understood.
-fn holds<T: Threads + Wait + Sync>(rt: &T, alloc: Global, line: &str) -> Result<bool, Fail> {
+fn holds<T: Threads + Wait + Eprint + Sync>(
+    rt: &T,
+    alloc: Global,
+    line: &str,
+) -> Result<bool, Fail> {
     let Some(row) = read_row(line) else {
         return Ok(false);
     };
@@ -207,7 +211,7 @@ fn is_there(alloc: Global, name: &[u8], world: &mut MemoryWorld) -> Result<bool,
 }
 
 // Whether a store that isn't there can't be opened, and isn't made.
-fn is_not_made<T: Threads + Wait + Sync>(
+fn is_not_made<T: Threads + Wait + Eprint + Sync>(
     rt: &T,
     alloc: Global,
     machine: &mut MemoryMachine,
@@ -217,7 +221,7 @@ fn is_not_made<T: Threads + Wait + Sync>(
     Ok(!made && listed.as_slice() == b"4;cannot open store 0\n".as_slice())
 }
 
-fn opens_what_is_there<T: Threads + Wait + Sync>(
+fn opens_what_is_there<T: Threads + Wait + Eprint + Sync>(
     rt: &T,
     alloc: Global,
 ) -> Result<bool, AllocError> {
@@ -252,7 +256,7 @@ fn lines_of_many(alloc: Global) -> Result<Vec<u8>, AllocError> {
     Ok(lines)
 }
 
-fn listed<T: Threads + Wait + Sync>(
+fn listed<T: Threads + Wait + Eprint + Sync>(
     rt: &T,
     alloc: Global,
     bytes: &[u8],
@@ -262,7 +266,7 @@ fn listed<T: Threads + Wait + Sync>(
 }
 
 // Whether a store of many entries, whose lines are said in pieces, is listed whole.
-fn lists_many<T: Threads + Wait + Sync>(rt: &T, alloc: Global) -> Result<bool, Fail> {
+fn lists_many<T: Threads + Wait + Eprint + Sync>(rt: &T, alloc: Global) -> Result<bool, Fail> {
     let bytes = many(alloc)?;
     let listed = listed(rt, alloc, &bytes)?;
     Ok(listed == lines_of_many(alloc)?)

@@ -1,7 +1,7 @@
 // Two destinations of one machine over one file, each with a thread of its own.
 use crate::work::{open, send_some};
 use sg_device::{Frames, Outlet};
-use sg_file::{FileOutlet, Rest};
+use sg_file::{FileOutlet, IdleWait};
 use std::alloc::AllocError;
 use std::io;
 use std::thread::{self, Threads};
@@ -14,7 +14,7 @@ const LENGTH: usize = 899;
 /// Sends lines to both at the same time, and says how many of each one's were taken. A line that is
 /// refused is lost, and the next one is sent to the file opened anew.
 pub(crate) fn both<T: Threads>(threads: &T, rt: HostRuntime, path: &str) -> io::Result<bool> {
-    let rest = Rest::new(rt.alloc(), rt)?;
+    let rest = IdleWait::new(rt.alloc(), rt)?;
     let other = rest.share()?;
     let Some(one) = open(rt, path, false, rest)? else {
         return Ok(false);
@@ -28,7 +28,7 @@ fn beside<T: Threads>(
     rt: HostRuntime,
     path: &str,
     one: FileOutlet,
-    other: Rest,
+    other: IdleWait,
 ) -> io::Result<bool> {
     let Some(two) = open(rt, path, false, other)? else {
         return Ok(false);

@@ -1,6 +1,6 @@
 // What the program does with a device. Each answers whether the device was opened.
 use sg_device::{Disk, Frames, Inlet, Outlet, Pull};
-use sg_file::{Appending, FileDisk, FileInlet, FileOutlet, Rest, read_file};
+use sg_file::{Appending, FileDisk, FileInlet, FileOutlet, IdleWait, read_file};
 use std::io;
 use std::thread::Threads;
 
@@ -9,7 +9,7 @@ pub(crate) fn open(
     rt: HostRuntime,
     path: &str,
     fsync: bool,
-    rest: Rest,
+    rest: IdleWait,
 ) -> io::Result<Option<FileOutlet>> {
     let how = Appending {
         fsync,
@@ -32,7 +32,7 @@ fn push(rt: HostRuntime, frames: &mut Frames, line: &str) -> io::Result<()> {
 
 /// Sends all lines of standard input at once, and says how many of them were taken.
 pub(crate) fn send(rt: HostRuntime, path: &str, fsync: bool) -> io::Result<bool> {
-    let rest = Rest::new(rt.alloc(), rt)?;
+    let rest = IdleWait::new(rt.alloc(), rt)?;
     let Some(mut outlet) = open(rt, path, fsync, rest)? else {
         return Ok(false);
     };
@@ -64,7 +64,7 @@ pub(crate) fn send_some(outlet: &mut FileOutlet, frames: &Frames) -> bool {
 /// Sends each line of standard input for itself. After a refusal the outlet is opened anew before the
 /// next line, and the line is lost.
 pub(crate) fn lines(rt: HostRuntime, path: &str) -> io::Result<bool> {
-    let rest = Rest::new(rt.alloc(), rt)?;
+    let rest = IdleWait::new(rt.alloc(), rt)?;
     let Some(mut outlet) = open(rt, path, false, rest)? else {
         return Ok(false);
     };
@@ -91,7 +91,7 @@ fn send_line(rt: HostRuntime, outlet: &mut FileOutlet, line: &str) -> io::Result
 
 /// Pulls up to the end, and says how many bytes came.
 pub(crate) fn pull<T: Threads>(threads: &T, rt: HostRuntime, path: &str) -> io::Result<bool> {
-    let rest = Rest::new(rt.alloc(), rt)?;
+    let rest = IdleWait::new(rt.alloc(), rt)?;
     let opened = FileInlet::open(
         threads,
         rt.alloc(),

@@ -106,7 +106,7 @@ named 2; named 0; or 2 ~ 01111001
 named 2; not; not ~ 00110001
 field MESSAGE regex - a( ~ bad
 named 0; field MESSAGE regex - \\p{No}; and 2 ~ 00000000
-field MESSAGE regex - (\\w{1000}){100} ~ large
+field MESSAGE regex - (\\w{1000}){1000} ~ large
 level 0-0; field MESSAGE regex - [b-a]; or 2 ~ bad
 ";
 

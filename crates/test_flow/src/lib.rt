@@ -9,7 +9,7 @@ mod router;
 mod rows;
 
 pub use lists::{close_dests, close_sources, two_dests};
-pub use outcome::{Outcome, finish};
+pub use outcome::{FlowOutcome, finish};
 pub use preparing::{Prepared, disks, prepare, shape};
 pub use router::{ByDigit, message};
 pub use rows::{Row, lines, read_row, rounds_of};

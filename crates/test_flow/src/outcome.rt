@@ -17,13 +17,13 @@ use std::collections::VecDeque;
 /// How a run ended, what its destinations took, with `| ` behind the frames of each, and the stored
 /// position of each file.
 #[derive(Drop)]
-pub struct Outcome {
+pub struct FlowOutcome {
     pub end: &'static str,
     pub frames: Vec<u8>,
     pub positions: (u64, u64),
 }
 
-impl Outcome {
+impl FlowOutcome {
     /// Whether these are the positions, parted by a space.
     pub fn has_positions(&self, words: &str) -> bool {
         match words.split_once(' ') {
@@ -80,7 +80,7 @@ fn positions(core: Core<MemoryDisk>) -> (u64, u64)
 pub fn finish(
     alloc: Global,
     served: Served<ByDigit, MemoryInlet, MemoryOutlet, MemoryDisk>,
-) -> Result<Outcome, NoMemory>
+) -> Result<FlowOutcome, NoMemory>
     requires { setup_of served.core ≡ two_files }
 {
     let Served {
@@ -91,7 +91,7 @@ pub fn finish(
     } = served;
     close_sources(sources);
     let positions = positions(core);
-    Ok(Outcome {
+    Ok(FlowOutcome {
         end: name(ended),
         frames: taken(alloc, dests)?,
         positions,

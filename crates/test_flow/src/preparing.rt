@@ -16,7 +16,7 @@ use sg_frame::FrameKind;
 use sg_list::Seq;
 use sg_machine::{DestSetup, Setup, SourceSetup};
 use sg_memory::{MemoryInlet, MemoryOutlet, OutletScript, Pace};
-use sg_memory_disk::{MemoryDisk, Plan};
+use sg_memory_disk::{FaultPlan, MemoryDisk};
 use sg_outfmt::Shape;
 use sg_template::{Env, Template};
 use std::alloc::{AllocError, Global};
@@ -91,7 +91,7 @@ fn source(
     ensures { IfOk result (λ a. IsSource inlet_of two two two_files inlet a) }
 {
     let pace = Pace { piece: 4096, at: 0 };
-    let file = MemoryInlet::file(alloc, text, 0, pace, true, Plan::never(alloc))?;
+    let file = MemoryInlet::file(alloc, text, 0, pace, true, FaultPlan::never(alloc))?;
     let spec = SourceSpec {
         inlet,
         kind: FrameKind::Lines,
@@ -152,7 +152,7 @@ fn dest(
     ensures { IfOk result (λ a. IsDest outlet_of dest a) }
 {
     let shape = shape(alloc)?;
-    let plan = OutletScript::failing(alloc, Plan::new(fails));
+    let plan = OutletScript::failing(alloc, FaultPlan::new(fails));
     let env = Env {
         zone: None,
         digits: 0,

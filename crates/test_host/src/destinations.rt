@@ -1,7 +1,7 @@
 // Steps over files that are appended to.
 use crate::folder::{Folder, frames, presence, send, sent};
 use sg_device::{OpenRefusal, Outlet, Reopened};
-use sg_file::{Appending, FileOutlet, Rest};
+use sg_file::{Appending, FileOutlet, IdleWait};
 use std::fs;
 use std::test::Fail;
 
@@ -36,7 +36,7 @@ fn outlet(folder: &Folder, path: &[u8], mode: u16, reopen: u32) -> Result<FileOu
 }
 
 fn appending(folder: &Folder, path: &[u8], how: Appending) -> Result<FileOutlet, OpenRefusal> {
-    let rest = Rest::new(folder.alloc, folder.rt)?;
+    let rest = IdleWait::new(folder.alloc, folder.rt)?;
     FileOutlet::open(folder.alloc, folder.rt, path, how, rest)
 }
 

@@ -62,6 +62,8 @@ machine store = 128 0 failed 1
 machine paths = abcd failed 1 other false
 machine several paths = abef cdgh
 machine unsynced path = refused 1
+machine early path = failed 1 early 1
+machine unused path = false true
 machine said = said
 machine timer = false true false true
 ";

@@ -1,6 +1,6 @@
 // A folder for the files of one step.
 use sg_device::{Frames, InletFault, Outlet, Pull, SendRefusal};
-use sg_file::Rest;
+use sg_file::IdleWait;
 use std::alloc::{AllocError, Global};
 use std::net::TcpListener;
 use std::os::unix::fs::{MetadataExt, symlink};
@@ -110,8 +110,8 @@ impl Folder {
     }
 
     /// Another wait of the same machine.
-    pub(crate) fn rest(&self) -> Result<Rest, Fail> {
-        Ok(Rest::new(self.alloc, self.rt)?)
+    pub(crate) fn rest(&self) -> Result<IdleWait, Fail> {
+        Ok(IdleWait::new(self.alloc, self.rt)?)
     }
 
     /// Takes it away with all that is in it.

@@ -6,7 +6,8 @@ ghost use Rattle.sg_host.specs.Paths.{opener_of};
 use crate::folder::{Folder, brought, frames, free_port, listen, send};
 use sg_device::{Disk, Inlet, InletFault, Name, Opener, Outlet, SendRefusal};
 use sg_host::{
-    HostFeed, HostInlets, HostOpener, HostOutlets, HostPaths, HostStores, Rest, Timer, say, tell,
+    HostFeed, HostInlets, HostOpener, HostOutlets, HostPaths, HostStores, IdleWait, Timer, say,
+    tell,
 };
 use sg_outside::{InletSpec, OutletSpec, StoreSpec};
 use std::fs;
@@ -34,6 +35,8 @@ pub(crate) fn take<T: Threads + Copy + Send>(
         "paths" => paths(folder),
         "several paths" => several_paths(folder),
         "unsynced path" => unsynced_path(folder),
+        "early path" => early_path(folder),
+        "unused path" => unused_path(folder),
         "said" => said(folder),
         "timer" => timer(folder),
         _ => Err("no such step".into()),
@@ -446,21 +449,22 @@ fn store(folder: &Folder) -> Result<String, Fail> {
 }
 
 // Files by their paths.
-fn by_path(fsync: bool) -> OutletSpec {
+fn by_path(fsync: bool, reopen: u32, reap: u32) -> OutletSpec {
     OutletSpec::ByPath {
         fsync,
         mode: 0o600,
         folders: None,
-        reopen: 0,
+        reopen,
+        reap,
     }
 }
 
 // What a file holds that was given two texts.
 fn used_path(folder: &Folder, paths: &mut HostPaths) -> Result<String, Fail> {
-    let mut opener = paths.open(folder.alloc, &by_path(false))?;
+    let mut opener = paths.open(folder.alloc, &by_path(false, 0, 0))?;
     is_send(&opener);
     let one = folder.at("one")?;
-    use_path(&mut opener, one.as_bytes())?;
+    use_path(folder, &mut opener, one.as_bytes())?;
     let text = folder.text("one")?;
     paths.close(opener);
     Ok(text)
@@ -468,11 +472,11 @@ fn used_path(folder: &Folder, paths: &mut HostPaths) -> Result<String, Fail> {
 
 // The faults behind a file that can't be opened.
 fn refused_path(folder: &Folder, paths: &mut HostPaths) -> Result<u64, Fail> {
-    let mut opener = paths.open(folder.alloc, &by_path(false))?;
+    let mut opener = paths.open(folder.alloc, &by_path(false, 0, 0))?;
     if opener.open(b"/none/out").is_ok() {
         return Err("it opened".into());
     }
-    let failed = opener.counts().faults;
+    let failed = opener.counts().calls.faults;
     paths.close(opener);
     Ok(failed)
 }
@@ -485,14 +489,37 @@ fn paths(folder: &Folder) -> Result<String, Fail> {
     Ok(format!(in folder.alloc; "{text} failed {failed} other {other}")?)
 }
 
-// Opens a file, gives it two texts with the file opened anew between them, and closes it.
-fn use_path(opener: &mut HostOpener, path: &[u8]) -> Result<(), Fail>
+// Whether an open path took the texts.
+fn took(folder: &Folder, opener: &mut HostOpener, path: &[u8], list: &[&str]) -> Result<bool, Fail>
+    requires { Contains (opener_of opener.old).opened path.now }
+    ensures { (opener_of opener.new).opened ≡ (opener_of opener.old).opened }
+{
+    let texts = frames(folder.alloc, list)?;
+    if texts.is_empty() {
+        return Err("no texts".into());
+    }
+    Ok(opener.send(path, &texts).is_ok())
+}
+
+// Gives an open path texts, which it takes.
+fn put(folder: &Folder, opener: &mut HostOpener, path: &[u8], list: &[&str]) -> Result<(), Fail>
+    requires { Contains (opener_of opener.old).opened path.now }
+    ensures { (opener_of opener.new).opened ≡ (opener_of opener.old).opened }
+{
+    if !took(folder, opener, path, list)? {
+        return Err("they were not taken".into());
+    }
+    Ok(())
+}
+
+// Opens a file, gives it two texts, and a third one once it is opened anew, and closes it.
+fn use_path(folder: &Folder, opener: &mut HostOpener, path: &[u8]) -> Result<(), Fail>
     requires { Contains (opener_of opener.old).opened path.now → ⊥ }
 {
     opener.open(path)?;
-    opener.send(path, b"ab")?;
+    put(folder, opener, path, &["a", "b"])?;
     opener.reopen(path)?;
-    opener.send(path, b"cd")?;
+    put(folder, opener, path, &["cd"])?;
     opener.close(path);
     Ok(())
 }
@@ -500,7 +527,7 @@ fn use_path(opener: &mut HostOpener, path: &[u8]) -> Result<(), Fail>
 // Two files are open at once, and each takes its own texts.
 fn several_paths(folder: &Folder) -> Result<String, Fail> {
     let mut paths = HostPaths::new(folder.alloc, folder.rt, folder.rest()?);
-    let mut opener = paths.open(folder.alloc, &by_path(false))?;
+    let mut opener = paths.open(folder.alloc, &by_path(false, 0, 0))?;
     use_both(folder, &mut opener)?;
     paths.close(opener);
     let one = folder.text("one")?;
@@ -513,12 +540,12 @@ fn use_both(folder: &Folder, opener: &mut HostOpener) -> Result<(), Fail>
 {
     let one = folder.at("one")?;
     let two = folder.at("two")?;
-    use_two(opener, one.as_bytes(), two.as_bytes())?;
+    use_two(folder, opener, one.as_bytes(), two.as_bytes())?;
     Ok(())
 }
 
 // Opens two files, gives each of them two texts, and closes the first one before the other's last.
-fn use_two(opener: &mut HostOpener, one: &[u8], two: &[u8]) -> Result<(), Fail>
+fn use_two(folder: &Folder, opener: &mut HostOpener, one: &[u8], two: &[u8]) -> Result<(), Fail>
     requires { (opener_of opener.old).opened ≡ [] }
 {
     if one == two {
@@ -526,12 +553,12 @@ fn use_two(opener: &mut HostOpener, one: &[u8], two: &[u8]) -> Result<(), Fail>
     }
     opener.open(one)?;
     opener.open(two)?;
-    opener.send(one, b"ab")?;
-    opener.send(two, b"cd")?;
+    put(folder, opener, one, &["ab"])?;
+    put(folder, opener, two, &["cd"])?;
     opener.reopen(one)?;
-    opener.send(one, b"ef")?;
+    put(folder, opener, one, &["ef"])?;
     opener.close(one);
-    opener.send(two, b"gh")?;
+    put(folder, opener, two, &["gh"])?;
     opener.close(two);
     Ok(())
 }
@@ -539,15 +566,62 @@ fn use_two(opener: &mut HostOpener, one: &[u8], two: &[u8]) -> Result<(), Fail>
 // A text isn't taken that can't be synced where that is asked.
 fn unsynced_path(folder: &Folder) -> Result<String, Fail> {
     let mut paths = HostPaths::new(folder.alloc, folder.rt, folder.rest()?);
-    let mut opener = paths.open(folder.alloc, &by_path(true))?;
+    let mut opener = paths.open(folder.alloc, &by_path(true, 0, 0))?;
     opener.open(b"/dev/null")?;
-    let word = match opener.send(b"/dev/null", b"ab") {
-        Ok(()) => "taken",
-        Err(_) => "refused",
+    let word = if took(folder, &mut opener, b"/dev/null", &["ab"])? {
+        "taken"
+    } else {
+        "refused"
     };
-    let faults = opener.counts().faults;
+    let faults = opener.counts().calls.faults;
     paths.close(opener);
     Ok(format!(in folder.alloc; "{word} {faults}")?)
+}
+
+// A path that can't be opened is too early for another try.
+fn try_early(opener: &mut HostOpener) -> Result<(), Fail>
+    requires { (opener_of opener.old).opened ≡ [] }
+{
+    match opener.open(b"/none/out") {
+        Ok(()) => return Err("it opened".into()),
+        Err(_) => {}
+    }
+    match opener.open(b"/none/out") {
+        Ok(()) => Err("it opened at once".into()),
+        Err(_) => Ok(()),
+    }
+}
+
+// What was counted of a path that was tried twice where a minute is to be between two tries.
+fn early_path(folder: &Folder) -> Result<String, Fail> {
+    let mut paths = HostPaths::new(folder.alloc, folder.rt, folder.rest()?);
+    let mut opener = paths.open(folder.alloc, &by_path(false, 60, 0))?;
+    try_early(&mut opener)?;
+    let calls = opener.counts().calls;
+    paths.close(opener);
+    let faults = calls.faults;
+    let laters = calls.laters;
+    Ok(format!(in folder.alloc; "failed {faults} early {laters}")?)
+}
+
+// Whether a file is unused at once, and once it took nothing for more than a second.
+fn unused(folder: &Folder, opener: &mut HostOpener, path: &[u8]) -> Result<(bool, bool), Fail>
+    requires { (opener_of opener.old).opened ≡ [] }
+{
+    opener.open(path)?;
+    put(folder, opener, path, &["ab"])?;
+    let at_once = opener.is_unused(path);
+    thread::sleep(&folder.rt, Duration::from_millis(1100));
+    Ok((at_once, opener.is_unused(path)))
+}
+
+fn unused_path(folder: &Folder) -> Result<String, Fail> {
+    let mut paths = HostPaths::new(folder.alloc, folder.rt, folder.rest()?);
+    let mut opener = paths.open(folder.alloc, &by_path(false, 0, 1))?;
+    let path = folder.at("one")?;
+    let (at_once, later) = unused(folder, &mut opener, path.as_bytes())?;
+    paths.close(opener);
+    Ok(format!(in folder.alloc; "{at_once} {later}")?)
 }
 
 fn said(folder: &Folder) -> Result<String, Fail> {

@@ -1,7 +1,7 @@
 // Steps over connections that take frames.
 use crate::folder::{frames, free_port, listen, send};
 use sg_device::{Frames, OpenRefusal, Outlet, OutletFault, Reopened, SendRefusal};
-use sg_file::Rest;
+use sg_file::IdleWait;
 use sg_net::TcpOutlet;
 use std::io::{ErrorKind, Read, Write};
 use std::net::{TcpListener, TcpStream};
@@ -50,7 +50,7 @@ fn open<T: Threads + Copy>(
     port: u16,
     reopen: u32,
 ) -> Result<TcpOutlet<T>, OpenRefusal> {
-    let rest = Rest::new(rt.alloc(), rt)?;
+    let rest = IdleWait::new(rt.alloc(), rt)?;
     TcpOutlet::open(threads, rt.alloc(), rt, host, port, reopen, rest)
 }
 
@@ -281,15 +281,15 @@ fn many(rt: HostRuntime, from: usize, count: usize) -> Result<Frames, Fail> {
 /// Sends of a long row of frames: some that weren't taken yet, from a number on, the last answer, and
 /// the milliseconds of the longest send.
 #[derive(Drop)]
-struct Row {
+struct SentFrames {
     frames: Frames,
     from: u64,
     last: Answer,
     longest: u128,
 }
 
-fn whole_row(rt: HostRuntime) -> Result<Row, Fail> {
-    Ok(Row {
+fn whole_row(rt: HostRuntime) -> Result<SentFrames, Fail> {
+    Ok(SentFrames {
         frames: many(rt, 0, WINDOW)?,
         from: 0,
         last: Answer::Late,
@@ -298,7 +298,7 @@ fn whole_row(rt: HostRuntime) -> Result<Row, Fail> {
 }
 
 // One send of frames that weren't taken yet.
-fn send_rest<O: Outlet>(rt: HostRuntime, outlet: &mut O, row: &mut Row) -> Result<(), Fail> {
+fn send_rest<O: Outlet>(rt: HostRuntime, outlet: &mut O, row: &mut SentFrames) -> Result<(), Fail> {
     if outlet.taken() != row.from {
         row.from = outlet.taken();
         row.frames = many(rt, row.from as usize, WINDOW)?;
@@ -317,7 +317,7 @@ fn send_rest<O: Outlet>(rt: HostRuntime, outlet: &mut O, row: &mut Row) -> Resul
 }
 
 // Sends until all are taken or one is refused, up to fifteen seconds.
-fn send_all<O: Outlet>(rt: HostRuntime, outlet: &mut O) -> Result<Row, Fail> {
+fn send_all<O: Outlet>(rt: HostRuntime, outlet: &mut O) -> Result<SentFrames, Fail> {
     let begun = Instant::now(&rt)?;
     let mut row = whole_row(rt)?;
     for _ in 0..1_000_000 {
@@ -347,7 +347,7 @@ fn amount(taken: u64) -> &'static str {
     }
 }
 
-fn as_text(rt: HostRuntime, row: &Row, taken: u64) -> Result<String, Fail> {
+fn as_text(rt: HostRuntime, row: &SentFrames, taken: u64) -> Result<String, Fail> {
     let (last, prompt) = (word(row.last), promptness(row.longest));
     let amount = amount(taken);
     Ok(format!(in rt.alloc(); "{last}{amount} {prompt}")?)
@@ -458,7 +458,7 @@ fn accept_nonblocking(listener: &TcpListener) -> Result<TcpStream, Fail> {
 fn hear_between<O: Outlet>(
     rt: HostRuntime,
     outlet: &mut O,
-    row: &mut Row,
+    row: &mut SentFrames,
     stream: &mut TcpStream,
 ) -> Result<usize, Fail> {
     let all = many(rt, 0, COUNT)?;

@@ -1,7 +1,7 @@
 // Steps over slots of a listener.
 use crate::folder::brought;
 use sg_device::{Inlet, InletFault, Pull};
-use sg_file::Rest;
+use sg_file::IdleWait;
 use sg_net::{Listener, SlotInlet};
 use std::io::{Read, Write};
 use std::net::TcpStream;
@@ -25,7 +25,7 @@ fn listen(rt: HostRuntime) -> Result<(Listener, u16), Fail> {
 }
 
 fn slot(rt: HostRuntime, listener: &Listener, once: bool) -> Result<SlotInlet, Fail> {
-    let rest = Rest::new(rt.alloc(), rt)?;
+    let rest = IdleWait::new(rt.alloc(), rt)?;
     let acceptor = listener.acceptor()?;
     Ok(SlotInlet::open(rt.alloc(), rt, acceptor, b"test", once, rest)?)
 }
@@ -242,7 +242,7 @@ fn shared(rt: HostRuntime) -> Result<String, Fail> {
 // Thirty slots that share their waits.
 fn thirty(rt: HostRuntime) -> Result<Vec<SlotInlet>, Fail> {
     let (listener, _port) = listen(rt)?;
-    let rest = Rest::new(rt.alloc(), rt)?;
+    let rest = IdleWait::new(rt.alloc(), rt)?;
     let mut slots = Vec::new(rt.alloc());
     for _ in 0..30 {
         let acceptor = listener.acceptor()?;

@@ -5,9 +5,10 @@ use Rattle.sg_machine.specs.declared.event.Admission.{Admission}
 use Rattle.sg_machine.specs.declared.setup.BufferSetup.{BufferSetup}
 use Rattle.sg_machine.specs.declared.setup.DestSetup.{DestSetup}
 use Rattle.sg_machine.specs.declared.setup.Setup.{Setup}
-use Rattle.sg_counter.specs.Bringing.{AllWithin, MayEnter, AllMayEnter, IsBatch, store_in}
+use Rattle.sg_counter.specs.Bringing.{MayEnter, AllMayEnter, IsBatch, store_in}
 use Rattle.sg_core.specs.Opening.{NumberStores, HaveWindows, HaveCapacities, buffer_store_in}
 use Rattle.test_hub.specs.Cores.{tried, IsTried}
+use Rattle.sg_msg.specs.Offers.{AllWithin}
 
 source-store : (w f c i s : ℕ) → store_in (tried w f c).sources i ≡ Some s → (s ≡ i) × (i < 2)
 source-store w f c zero s p = let e : Some 0 ≡ Some s = p in let g : 0 ≡ s = cc in (sym g, omega arith)

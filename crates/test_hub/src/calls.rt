@@ -1,7 +1,8 @@
 // Calls of a core as words, and its replies.
 ghost use Rattle.std.specs.Prelude.{◌≡◌, ◌≤◌, ◌<◌, ◌+◌, IfOk, IfSome, OnOk, length};
-ghost use Rattle.sg_counter.specs.Bringing.{AllWithin, AllMayEnter};
+ghost use Rattle.sg_counter.specs.Bringing.{AllMayEnter};
 ghost use Rattle.test_hub.specs.Cores.{IsTried, MayAsk};
+ghost use Rattle.sg_msg.specs.Offers.{AllWithin};
 
 use crate::cores::{add_offer, add_record};
 use crate::told::{Teller, told};
@@ -12,7 +13,7 @@ use sg_msg::Offer;
 use std::alloc::{AllocError, Global};
 use std::sync::Wait;
 use test_replies::{
-    Text, put_admitted, put_front, put_number, put_refilled, put_settled, put_stored,
+    ReplyText, put_admitted, put_front, put_number, put_refilled, put_settled, put_stored,
 };
 
 // Sources 0 and 1 have the position stores 0 and 1. Destination 0 is a queue in memory, destination 1 has a
@@ -221,7 +222,7 @@ pub(crate) fn ask<C: Settler<Teller>, T: Wait>(
 }
 
 /// Says a reply.
-pub(crate) fn put_reply(out: &mut Text, reply: CoreReply) {
+pub(crate) fn put_reply(out: &mut ReplyText, reply: CoreReply) {
     match reply {
         CoreReply::Credit(credit) => put_number(out, credit),
         CoreReply::Admitted(Ok(verdicts)) => put_admitted(out, Ok(verdicts.into_vec())),

@@ -1,8 +1,9 @@
 // A core of two sources and two destinations, over disks in memory.
 ghost use Rattle.std.specs.Prelude.{◌≡◌, ◌<◌, ◌≤◌, ◌+◌, ◌^◌, Some, IfOk, OnOk, length};
-ghost use Rattle.sg_counter.specs.Bringing.{AllWithin, AllMayEnter};
+ghost use Rattle.sg_counter.specs.Bringing.{AllMayEnter};
 ghost use Rattle.sg_standing.specs.States.{setup_of};
 ghost use Rattle.test_hub.specs.Cores.{tried};
+ghost use Rattle.sg_msg.specs.Offers.{AllWithin};
 
 use sg_core::{Core, CoreRefusal};
 use sg_list::Seq;

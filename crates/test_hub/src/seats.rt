@@ -14,7 +14,7 @@ use sg_machine::Tally;
 use sg_memory_disk::MemoryDisk;
 use std::alloc::{AllocError, Global};
 use std::sync::Wait;
-use test_replies::{Text, put_number};
+use test_replies::{ReplyText, put_number};
 
 // A row has what is shown; the windows; how many entries without flow-control the queue takes; the capacity of
 // the disk-buffer; and the calls, at most 1,000. Before each stands the seat at which it is made, 1 or 2. Where there
@@ -41,7 +41,13 @@ pub(crate) fn ask_at<T: Wait>(
 }
 
 // The answer to one call of a row at a core.
-fn answer<T: Wait>(rt: &T, alloc: Global, core: &mut Core<MemoryDisk>, text: &str, out: &mut Text)
+fn answer<T: Wait>(
+    rt: &T,
+    alloc: Global,
+    core: &mut Core<MemoryDisk>,
+    text: &str,
+    out: &mut ReplyText,
+)
     requires few { core.old.calls + 1 < 2 ^ 54 }
     requires tried { IsTried (setup_of core.old) }
     ensures calls { core.new.calls ≤ core.old.calls + 1 }
@@ -56,7 +62,13 @@ fn answer<T: Wait>(rt: &T, alloc: Global, core: &mut Core<MemoryDisk>, text: &st
 }
 
 // The answers to the calls of a row at a core.
-fn at_core<T: Wait>(rt: &T, alloc: Global, core: &mut Core<MemoryDisk>, text: &str, out: &mut Text)
+fn at_core<T: Wait>(
+    rt: &T,
+    alloc: Global,
+    core: &mut Core<MemoryDisk>,
+    text: &str,
+    out: &mut ReplyText,
+)
     requires calls { core.old.calls ≡ 0 }
     requires tried { IsTried (setup_of core.old) }
 {
@@ -71,7 +83,7 @@ fn at_core<T: Wait>(rt: &T, alloc: Global, core: &mut Core<MemoryDisk>, text: &s
 }
 
 // What the core has come to.
-fn put_tally(out: &mut Text, tally: &Tally) {
+fn put_tally(out: &mut ReplyText, tally: &Tally) {
     out.put_word(b"records");
     for source in tally.sources.as_slice() {
         put_number(out, source.records);
@@ -83,7 +95,11 @@ fn put_tally(out: &mut Text, tally: &Tally) {
 }
 
 // What was said, and what the core has come to.
-fn with_tally(alloc: Global, out: Text, core: Core<MemoryDisk>) -> Result<Vec<u8>, AllocError> {
+fn with_tally(
+    alloc: Global,
+    out: ReplyText,
+    core: Core<MemoryDisk>,
+) -> Result<Vec<u8>, AllocError> {
     let mut out = out;
     let tally = core.tally(alloc);
     let _disks = core.into_stores();
@@ -98,7 +114,7 @@ fn answer_at<T: Wait>(
     hub: &Hub<MemoryDisk>,
     seat: &mut Seat<MemoryDisk>,
     text: &str,
-    out: &mut Text,
+    out: &mut ReplyText,
 )
     requires seat { IsDeskOf hub.now seat.old }
     requires left { 0 < seat.old.left }
@@ -138,7 +154,7 @@ fn take_part<T: Wait>(
     one: &mut Seat<MemoryDisk>,
     two: &mut Seat<MemoryDisk>,
     text: &str,
-    out: &mut Text,
+    out: &mut ReplyText,
 )
     requires one { IsDeskOf hub.now one.old }
     requires two { IsDeskOf hub.now two.old }
@@ -166,7 +182,7 @@ fn at_seats<T: Wait>(
     one: &mut Seat<MemoryDisk>,
     two: &mut Seat<MemoryDisk>,
     text: &str,
-    out: &mut Text,
+    out: &mut ReplyText,
 )
     requires one { IsDeskOf hub.now one.old }
     requires two { IsDeskOf hub.now two.old }
@@ -204,7 +220,7 @@ fn at_hub<T: Wait>(
             return Err(e);
         }
     };
-    let mut out = Text::new(alloc);
+    let mut out = ReplyText::new(alloc);
     let mut two = hub.split(&mut one, CALLS + 1);
     at_seats(rt, alloc, &hub, &mut one, &mut two, text, &mut out);
     hub.join(&mut one, two);
@@ -234,16 +250,16 @@ fn are_parts(alloc: Global, text: &str) -> Result<bool, AllocError> {
 
 // A row's setup, and its calls.
 #[derive(Clone, Copy, Drop)]
-struct Asked<'a> {
+struct AskedCore<'a> {
     window: u32,
     fifo: u32,
     capacity: u32,
     text: &'a str,
 }
 
-fn words_of(row: &str) -> Asked<'_> {
+fn words_of(row: &str) -> AskedCore<'_> {
     let mut parts = row.split('|').skip(1);
-    Asked {
+    AskedCore {
         window: number(Some(parts.next().unwrap_or("").trim())),
         fifo: number(Some(parts.next().unwrap_or("").trim())),
         capacity: number(Some(parts.next().unwrap_or("").trim())),
@@ -251,18 +267,18 @@ fn words_of(row: &str) -> Asked<'_> {
     }
 }
 
-fn said_at_core<T: Wait>(rt: &T, alloc: Global, asked: Asked<'_>) -> Result<Vec<u8>, AllocError>
+fn said_at_core<T: Wait>(rt: &T, alloc: Global, asked: AskedCore<'_>) -> Result<Vec<u8>, AllocError>
     requires window { 0 < asked.window }
     requires capacity { asked.capacity ≤ 2 ^ 30 }
 {
     let capacity = u64::from(asked.capacity);
     let mut core = open(alloc, asked.window, asked.fifo, capacity)?;
-    let mut out = Text::new(alloc);
+    let mut out = ReplyText::new(alloc);
     at_core(rt, alloc, &mut core, asked.text, &mut out);
     with_tally(alloc, out, core)
 }
 
-fn said_at_hub<T: Wait>(rt: &T, alloc: Global, asked: Asked<'_>) -> Result<Vec<u8>, AllocError>
+fn said_at_hub<T: Wait>(rt: &T, alloc: Global, asked: AskedCore<'_>) -> Result<Vec<u8>, AllocError>
     requires window { 0 < asked.window }
     requires capacity { asked.capacity ≤ 2 ^ 30 }
 {
@@ -272,7 +288,7 @@ fn said_at_hub<T: Wait>(rt: &T, alloc: Global, asked: Asked<'_>) -> Result<Vec<u
 }
 
 fn differing(alloc: Global, said: &[u8], plain: &[u8]) -> Result<Vec<u8>, AllocError> {
-    let mut out = Text::new(alloc);
+    let mut out = ReplyText::new(alloc);
     out.put(b"DIFFERS ");
     out.put(said);
     out.put(b" | ");
@@ -280,7 +296,7 @@ fn differing(alloc: Global, said: &[u8], plain: &[u8]) -> Result<Vec<u8>, AllocE
     out.done()
 }
 
-fn compared<T: Wait>(rt: &T, alloc: Global, asked: Asked<'_>) -> Result<Vec<u8>, AllocError> {
+fn compared<T: Wait>(rt: &T, alloc: Global, asked: AskedCore<'_>) -> Result<Vec<u8>, AllocError> {
     if asked.window == 0 || asked.capacity > 1 << 30 {
         return Vec::from_slice(alloc, b"no such setup");
     }

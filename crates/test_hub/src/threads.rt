@@ -15,7 +15,7 @@ use sg_memory_disk::MemoryDisk;
 use std::alloc::{AllocError, Global};
 use std::sync::Wait;
 use std::thread::{Threads, join};
-use test_replies::{Text, put_number};
+use test_replies::{ReplyText, put_number};
 
 // An admit of one record without offers.
 fn one_record(alloc: Global, inlet: u32, end: u64) -> Result<CoreCall, AllocError>
@@ -108,7 +108,7 @@ fn filled<R: Threads + Wait + Sync>(
     }
 }
 
-fn put_tally(out: &mut Text, tally: &Tally) {
+fn put_tally(out: &mut ReplyText, tally: &Tally) {
     for source in tally.sources.as_slice() {
         put_number(out, source.records);
     }
@@ -127,7 +127,7 @@ pub(crate) fn said<R: Threads + Wait + Sync>(
     let tally = core.tally(alloc);
     let calls = core.calls();
     let _disks = core.into_stores();
-    let mut out = Text::new(alloc);
+    let mut out = ReplyText::new(alloc);
     put_tally(&mut out, &tally?);
     put_number(&mut out, calls);
     out.done()

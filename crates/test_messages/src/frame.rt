@@ -48,12 +48,12 @@ const LINES: [(u32, &[u8], &[Want]); 8] = [
 
 /// What a framer gave of a stream: its items, and the place of a bad byte.
 #[derive(Drop)]
-struct Given {
+struct FramedItems {
     items: Vec<(Bytes, u64, i64)>,
     bad: Option<u64>,
 }
 
-fn drain(framer: &mut Framer, given: &mut Given) -> Result<(), NoMemory>
+fn drain(framer: &mut Framer, given: &mut FramedItems) -> Result<(), NoMemory>
     ensures { OnOk result (fed framer.new ≡ fed framer.old) }
 {
     loop {
@@ -75,13 +75,13 @@ fn frame(
     limit: u32,
     stream: &[u8],
     step: usize,
-) -> Result<Given, NoMemory>
+) -> Result<FramedItems, NoMemory>
     requires limit { 0 < limit }
     requires step { 0 < step }
     requires small { length stream.now < 2 ^ 32 }
 {
     let mut framer = Framer::new(alloc, kind, limit)?;
-    let mut given = Given {
+    let mut given = FramedItems {
         items: Vec::new(alloc),
         bad: None,
     };

@@ -167,7 +167,7 @@ fn records_are_read(rt: HostRuntime) {
 }
 
 // Options, an item, when it was pulled, and the stamp, HOST and MESSAGE of its message.
-type Choice = (
+type ReadingCase = (
     ReadOpts,
     &'static [u8],
     i64,
@@ -203,7 +203,7 @@ const WHOLE: ReadOpts = ReadOpts {
 const ITEM: &[u8] = b"<191>2026-02-05T17:32:18.5+01:00 h p: m";
 
 // The last two are stamps around New Year.
-const CHOICES: [Choice; 5] = [
+const CHOICES: [ReadingCase; 5] = [
     (
         PLAIN,
         ITEM,
@@ -262,7 +262,7 @@ const CHOICES: [Choice; 5] = [
 ];
 
 // Whether the item of a choice is read as the message that it says.
-fn chosen(alloc: Global, choice: &Choice) -> bool {
+fn chosen(alloc: Global, choice: &ReadingCase) -> bool {
     let (opts, item, at, sent, host, text) = *choice;
     if at < 0 || at > 250_000_000_000_000_000 {
         return false;

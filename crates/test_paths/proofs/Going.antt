@@ -4,35 +4,35 @@ use Rattle.std.specs.Prelude.{◌||◌}
 use Rattle.std.proofs.lemmas.List.{append_assoc, append-nil}
 use Rattle.sg_msg.specs.Message.{Content}
 use Rattle.sg_msg.specs.declared.offer.Offer.{Offer}
-use Rattle.sg_tree.specs.Walk.{Walked, stopped, both, after_deliveries}
+use Rattle.sg_tree.specs.Walk.{WalkResult, stopped, both, after_deliveries}
 use Rattle.sg_tree.proofs.Going.{walked, same-walked, both-assoc, both-stopped}
 use Rattle.test_paths.specs.declared.gone.Gone.{Gone}
-use Rattle.test_paths.specs.Gives.{Gives}
+use Rattle.test_paths.specs.Gives.{GivesWalked}
 
-abbrev pub left : List Offer → Gone → Walked
+abbrev pub left : List Offer → Gone → WalkResult
 left done gone = walked done gone.out.items gone.processed
 
 -- the whole is what was left so far, and what comes later
-pub record Sofar (old new : List Offer) (gone : Gone) (whole later : Walked) : Type 0 where
+pub record Sofar (old new : List Offer) (gone : Gone) (whole later : WalkResult) : Type 0 where
   pub done : List Offer
   pub offers : new ≡ old ++ done
   pub whole_is : whole ≡ both (left done gone) later
 
 -- the whole is what comes later, behind these deliveries
-pub record Behind (old new : List Offer) (whole later : Walked) : Type 0 where
+pub record BehindElements (old new : List Offer) (whole later : WalkResult) : Type 0 where
   pub done : List Offer
   pub offers : new ≡ old ++ done
   pub whole_is : whole ≡ after_deliveries done later
 
 -- two left one after the other
-left-both : (done more : List Offer) (gone next after : Gone) (mine : Walked)
+left-both : (done more : List Offer) (gone next after : Gone) (mine : WalkResult)
     → after.out.items ≡ gone.out.items ++ next.out.items → after.processed ≡ (gone.processed || next.processed)
     → more ≡ mine.deliveries → next.out.items ≡ mine.out → next.processed ≡ mine.processed
     → both (left done gone) mine ≡ left (done ++ more) after
 left-both done more gone next after mine o p d nout nproc =
     same-walked _ _ _ _ _ _ (ap (λ x. done ++ x) (sym d)) (ap (λ x. gone.out.items ++ x) (sym nout) ∙ sym o) (ap (λ x. gone.processed || x) (sym nproc) ∙ sym p)
 
-pub begins : (old : List Offer) (gone : Gone) (whole : Walked) → gone.out.items ≡ [] → gone.processed ≡ false → Sofar old old gone whole whole
+pub begins : (old : List Offer) (gone : Gone) (whole : WalkResult) → gone.out.items ≡ [] → gone.processed ≡ false → Sofar old old gone whole whole
 begins old gone whole o p = record {
   done = [];
   offers = sym (append-nil old);
@@ -40,8 +40,8 @@ begins old gone whole o p = record {
 }
 
 -- one more
-pub goes-on : (old mid new : List Offer) (gone next after : Gone) (whole mine later : Walked)
-    → Sofar old mid gone whole (both mine later) → Gives mid new next mine
+pub goes-on : (old mid new : List Offer) (gone next after : Gone) (whole mine later : WalkResult)
+    → Sofar old mid gone whole (both mine later) → GivesWalked mid new next mine
     → after.out.items ≡ gone.out.items ++ next.out.items → after.processed ≡ (gone.processed || next.processed)
     → Sofar old new after whole later
 goes-on old mid new gone next after whole mine later s g o p = record {
@@ -50,49 +50,49 @@ goes-on old mid new gone next after whole mine later s g o p = record {
   whole_is = s.whole_is ∙ sym (both-assoc (left s.done gone) mine later) ∙ ap (λ x. both x later) (left-both s.done mine.deliveries gone next after mine o p refl g.out g.processed);
 }
 
-pub ends : (old new : List Offer) (gone : Gone) (whole : Walked) → Sofar old new gone whole stopped → Gives old new gone whole
+pub ends : (old new : List Offer) (gone : Gone) (whole : WalkResult) → Sofar old new gone whole stopped → GivesWalked old new gone whole
 ends old new gone whole s =
     let is = s.whole_is ∙ both-stopped (left s.done gone) in
     record {
-      offers = s.offers ∙ ap (λ (w : Walked). old ++ w.deliveries) (sym is);
-      out = ap (λ (w : Walked). w.out) (sym is);
-      processed = ap (λ (w : Walked). w.processed) (sym is);
+      offers = s.offers ∙ ap (λ (w : WalkResult). old ++ w.deliveries) (sym is);
+      out = ap (λ (w : WalkResult). w.out) (sym is);
+      processed = ap (λ (w : WalkResult). w.processed) (sym is);
     }
 
 -- the last one
-pub ends-with : (old mid new : List Offer) (gone next after : Gone) (whole mine : Walked)
-    → Sofar old mid gone whole mine → Gives mid new next mine
+pub ends-with : (old mid new : List Offer) (gone next after : Gone) (whole mine : WalkResult)
+    → Sofar old mid gone whole mine → GivesWalked mid new next mine
     → after.out.items ≡ gone.out.items ++ next.out.items → after.processed ≡ (gone.processed || next.processed)
-    → Gives old new after whole
+    → GivesWalked old new after whole
 ends-with old mid new gone next after whole mine s g o p =
     ends old new after whole (goes-on old mid new gone next after whole mine stopped (record { done = s.done; offers = s.offers; whole_is = s.whole_is ∙ ap (both (left s.done gone)) (sym (both-stopped mine)) }) g o p)
 
 -- a result of the same walk
-pub gives-at : (old new : List Offer) (gone : Gone) (w w' : Walked) → w ≡ w' → Gives old new gone w → Gives old new gone w'
-gives-at old new gone w w' e g = subst (Gives old new gone) e g
+pub gives-at : (old new : List Offer) (gone : Gone) (w w' : WalkResult) → w ≡ w' → GivesWalked old new gone w → GivesWalked old new gone w'
+gives-at old new gone w w' e g = subst (GivesWalked old new gone) e g
 
 -- what comes later is given
-pub behind-gives : (old mid new : List Offer) (gone : Gone) (whole later : Walked) → Behind old mid whole later → Gives mid new gone later → Gives old new gone whole
+pub behind-gives : (old mid new : List Offer) (gone : Gone) (whole later : WalkResult) → BehindElements old mid whole later → GivesWalked mid new gone later → GivesWalked old new gone whole
 behind-gives old mid new gone whole later b g = record {
-  offers = g.offers ∙ ap (λ x. x ++ later.deliveries) b.offers ∙ append_assoc old b.done later.deliveries ∙ ap (λ (w : Walked). old ++ w.deliveries) (sym b.whole_is);
-  out = g.out ∙ ap (λ (w : Walked). w.out) (sym b.whole_is);
-  processed = g.processed ∙ ap (λ (w : Walked). w.processed) (sym b.whole_is);
+  offers = g.offers ∙ ap (λ x. x ++ later.deliveries) b.offers ∙ append_assoc old b.done later.deliveries ∙ ap (λ (w : WalkResult). old ++ w.deliveries) (sym b.whole_is);
+  out = g.out ∙ ap (λ (w : WalkResult). w.out) (sym b.whole_is);
+  processed = g.processed ∙ ap (λ (w : WalkResult). w.processed) (sym b.whole_is);
 }
 
-pub behind-begins : (old : List Offer) (whole : Walked) → Behind old old whole whole
+pub behind-begins : (old : List Offer) (whole : WalkResult) → BehindElements old old whole whole
 behind-begins old whole = record { done = []; offers = sym (append-nil old); whole_is = refl }
 
 -- more deliveries
-pub behind-more : (old mid new more : List Offer) (whole later : Walked) → Behind old mid whole (after_deliveries more later) → new ≡ mid ++ more → Behind old new whole later
+pub behind-more : (old mid new more : List Offer) (whole later : WalkResult) → BehindElements old mid whole (after_deliveries more later) → new ≡ mid ++ more → BehindElements old new whole later
 behind-more old mid new more whole later b e = record {
   done = b.done ++ more;
   offers = e ∙ ap (λ x. x ++ more) b.offers ∙ append_assoc old b.done more;
   whole_is = b.whole_is ∙ same-walked _ _ _ _ _ _ (sym (append_assoc b.done more later.deliveries)) refl refl;
 }
 
-pub behind-at : (old new : List Offer) (whole later later' : Walked) → later ≡ later' → Behind old new whole later → Behind old new whole later'
-behind-at old new whole later later' e b = subst (Behind old new whole) e b
+pub behind-at : (old new : List Offer) (whole later later' : WalkResult) → later ≡ later' → BehindElements old new whole later → BehindElements old new whole later'
+behind-at old new whole later later' e b = subst (BehindElements old new whole) e b
 
-pub sofar-at : (old new new' : List Offer) (gone gone' : Gone) (whole later later' : Walked) → new' ≡ new → gone' ≡ gone → later ≡ later' → Sofar old new gone whole later → Sofar old new' gone' whole later'
+pub sofar-at : (old new new' : List Offer) (gone gone' : Gone) (whole later later' : WalkResult) → new' ≡ new → gone' ≡ gone → later ≡ later' → Sofar old new gone whole later → Sofar old new' gone' whole later'
 sofar-at old new new' gone gone' whole later later' en eg el s =
     subst (Sofar old new' gone' whole) el (subst (λ (g : Gone). Sofar old new' g whole later) (sym eg) (subst (λ (x : List Offer). Sofar old x gone whole later) (sym en) s))

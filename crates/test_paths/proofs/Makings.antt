@@ -3,7 +3,7 @@ use Rattle.std.proofs.Common.{◌≡◌, ℕ, Bool, true, false, List, [], ◌�
 use Rattle.std.specs.Prelude.{not, nat_le}
 use Rattle.std.proofs.lemmas.Bool.{and_parts, leb-true}
 use Rattle.sg_msg.specs.Macros.{is_hard}
-use Rattle.sg_msg.specs.Message.{IsName}
+use Rattle.sg_msg.specs.Message.{IsPairName}
 use Rattle.sg_rewrite.specs.declared.op.Op.{Op}
 use Rattle.sg_rewrite.specs.declared.op.Op.TheVariants.{Set, Unset, Subst, GroupSet, GroupUnset, SetTag, ClearTag}
 use Rattle.sg_rewrite.specs.Ops.{IsOp}
@@ -13,7 +13,7 @@ soft : (b : Bool) → not b ≡ true → b ≡ false
 soft true e = absurd cc
 soft false e = refl
 
-sound-name : (name : List ℕ) → name_sound name ≡ true → IsName name
+sound-name : (name : List ℕ) → name_sound name ≡ true → IsPairName name
 sound-name [] e = absurd cc
 sound-name (b ∷ bs) e =
     let parts = and_parts (nat_le (length (b ∷ bs)) 255) (not (is_hard (b ∷ bs))) e in

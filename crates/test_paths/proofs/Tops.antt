@@ -4,7 +4,7 @@ use Rattle.std.specs.Prelude.{◌&&◌, ◌||◌, cond}
 use Rattle.sg_msg.specs.Message.{Content}
 use Rattle.sg_tree.specs.declared.tree.Path.{Path}
 use Rattle.sg_filter.specs.declared.expr.Expr.{Expr}
-use Rattle.sg_tree.specs.Walk.{Marks, Walked, Steps, Siblings, sibling, walk, round, both, counted, up_to_final, is_in_round}
+use Rattle.sg_tree.specs.Walk.{Marks, WalkResult, Steps, Siblings, sibling, walk, round, both, counted, up_to_final, is_in_round}
 use Rattle.sg_tree.specs.Plain.{marks, own_steps}
 use Rattle.sg_tree.specs.Offers.{top_view, is_offered, offered}
 
@@ -15,13 +15,13 @@ turn true late m f mark steps more = refl
 turn false late m f mark steps more = refl
 
 module _ (named : List Expr) (inlet : ℕ) (ps more : List Path) (p : Path) (h : ps ≡ p ∷ more) (late : Bool) (m : Content) where
-  abbrev pub mine : Walked
+  abbrev pub mine : WalkResult
   mine = counted (marks p) (walk (own_steps named p) m (false || (marks p).flow))
 
-  abbrev pub later : Walked
+  abbrev pub later : WalkResult
   later = round (offered inlet (map (top_view named) more)) late m false
 
-  abbrev pub all : Walked
+  abbrev pub all : WalkResult
   all = round (offered inlet (map (top_view named) ps)) late m false
 
   here : (b : Bool) → (is_offered inlet (top_view named p) && is_in_round late (marks p)) ≡ b → all ≡ cond b (up_to_final (marks p).is_final mine later) later

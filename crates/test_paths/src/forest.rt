@@ -1,7 +1,7 @@
 // Log paths, of the parts of a row.
 
 use crate::inlets::inlets;
-use crate::rules::{LINE, contains, rule, tagged};
+use crate::rules::{LINE, columns, contains, keys, rule, tagged};
 use sg_filter::Expr;
 use sg_tree::{DestRule, Element, Forest, Path};
 use std::alloc::{AllocError, Global};
@@ -104,14 +104,14 @@ fn put_channel(alloc: Global, stack: &mut Stack, rest: &str) -> bool {
 
 // The words of a statement: its sources, how many elements and embedded statements it has, and its flags.
 #[derive(Clone, Copy, Drop)]
-struct Words<'r> {
+struct ForestWords<'r> {
     sources: &'r str,
     count: &'r str,
     logs: &'r str,
     flags: &'r str,
 }
 
-fn words_of(rest: &str) -> Option<Words<'_>> {
+fn words_of(rest: &str) -> Option<ForestWords<'_>> {
     let Some((sources, rest)) = rest.split_once(' ') else {
         return None;
     };
@@ -119,7 +119,7 @@ fn words_of(rest: &str) -> Option<Words<'_>> {
         return None;
     };
     match rest.split_once(' ') {
-        Some((logs, flags)) if are_flags(flags) => Some(Words {
+        Some((logs, flags)) if are_flags(flags) => Some(ForestWords {
             sources,
             count,
             logs,
@@ -129,7 +129,7 @@ fn words_of(rest: &str) -> Option<Words<'_>> {
     }
 }
 
-fn log_of(alloc: Global, stack: &mut Stack, words: Words<'_>) -> Option<Path> {
+fn log_of(alloc: Global, stack: &mut Stack, words: ForestWords<'_>) -> Option<Path> {
     let Some(sources) = numbers(alloc, words.sources, ',') else {
         return None;
     };
@@ -310,6 +310,8 @@ fn element_of(alloc: Global, stack: &mut Stack, word: &str, rest: &str) -> Optio
         "is" => named_of(rest),
         "to" => delivery_of(alloc, rest),
         "junction" => junction_of(stack, rest),
+        "columns" => columns(alloc, rest),
+        "keys" => keys(alloc, rest),
         _ => None,
     }
 }

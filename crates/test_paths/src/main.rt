@@ -7,6 +7,8 @@
 //!   number asks (0: contains a, 1: contains z), or has the tag
 //! - `set TEXT`: a rewrite that makes MESSAGE the text; `when TEXT NEW`: one that makes it the new text where
 //!   it contains the text
+//! - `columns NAMES`: a parser of as many fields with `,` between them, which refuses others
+//! - `keys PREFIX`: a parser of key=value pairs, whose names it puts the prefix before; `-` is none
 //! - `to D..`: destinations
 //! - `channel N FLAGS`: a channel of the last N elements
 //! - `log SOURCES N E FLAGS`: a statement of the last N elements, behind which the last E statements are

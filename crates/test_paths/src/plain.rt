@@ -6,7 +6,7 @@ ghost use Rattle.sg_tree.specs.Offers.{AreOffers, deliveries_of, is_offered, off
 ghost use Rattle.sg_tree.specs.Readings.{inlet_of};
 ghost use Rattle.sg_tree.specs.Plain.{marks};
 ghost use Rattle.sg_tree.specs.Walk.{is_in_round, round};
-ghost use Rattle.test_paths.specs.Gives.{Gives};
+ghost use Rattle.test_paths.specs.Gives.{GivesWalked};
 
 use crate::gone::Gone;
 use crate::walk::one;
@@ -41,7 +41,7 @@ fn round_of_tops<B: Builder>(
     message: &Message,
     offers: &mut Vec<Offer>,
 ) -> Result<Gone, PathRefusal>
-    ensures { IfOk result (λ gone. Gives offers.old.items offers.new.items gone
+    ensures { IfOk result (λ gone. GivesWalked offers.old.items offers.new.items gone
         (round (offered inlet (map (top_view named.now) paths.now)) late message.now false)) }
 {
     let mut gone = Gone {

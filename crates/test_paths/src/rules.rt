@@ -1,10 +1,11 @@
-// Filters and rewrites.
+// Filters, rewrites and parsers.
 ghost use Rattle.std.specs.Prelude.{◌≡◌, true, OnSome};
 ghost use Rattle.sg_tree.specs.Sound.{op_sound};
 
 use sg_device::Name;
 use sg_filter::Expr;
 use sg_lex::Line;
+use sg_parsers::{Csv, Kv, Parser, ParserRule};
 use sg_pattern::{Flags, Kind, PatternText};
 use sg_rewrite::Op;
 use sg_template::Template;
@@ -74,5 +75,55 @@ pub(crate) fn rule(alloc: Global, condition: Option<Expr>, text: &str) -> Option
     match checked(&op) {
         Some(()) => Some(Element::Rewrite(RewriteRule { condition, op })),
         None => None,
+    }
+}
+
+fn parse_of(alloc: Global, parser: Parser) -> Option<Element> {
+    match Template::read(alloc, b"$MESSAGE") {
+        Ok(text) => Some(Element::Parse(ParserRule { text, parser })),
+        Err(_) => None,
+    }
+}
+
+fn names_of(alloc: Global, text: &str) -> Result<Vec<Name>, AllocError> {
+    let mut names = Vec::new(alloc);
+    for name in text.split(',') {
+        names.push(name_of(alloc, name)?)?;
+    }
+    Ok(names)
+}
+
+fn csv_of(alloc: Global, names: &[Name]) -> Option<Csv> {
+    match Csv::new(alloc, b"", names, b",", false, true) {
+        Ok(csv) => csv,
+        Err(_) => None,
+    }
+}
+
+/// The columns of MESSAGE, which must be as many.
+pub(crate) fn columns(alloc: Global, text: &str) -> Option<Element> {
+    let Ok(names) = names_of(alloc, text) else {
+        return None;
+    };
+    match csv_of(alloc, &names) {
+        Some(csv) => parse_of(alloc, Parser::Csv(csv)),
+        None => None,
+    }
+}
+
+fn kv_of(alloc: Global, prefix: &str) -> Result<Kv, AllocError> {
+    Ok(Kv {
+        prefix: name_of(alloc, prefix)?,
+        pair_separator: name_of(alloc, ", ")?,
+        value_separator: b'=',
+    })
+}
+
+/// The pairs of MESSAGE.
+pub(crate) fn keys(alloc: Global, word: &str) -> Option<Element> {
+    let prefix = if word == "-" { "" } else { word };
+    match kv_of(alloc, prefix) {
+        Ok(kv) => parse_of(alloc, Parser::Kv(kv)),
+        Err(_) => None,
     }
 }

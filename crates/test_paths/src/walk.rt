@@ -3,7 +3,7 @@
 ghost use Rattle.std.specs.Prelude.{◌≡◌, ◌≤◌, ◌||◌, [], ◌∷◌, ◌++◌, length, drop, IfOk, OnOk};
 ghost use Rattle.sg_tree.specs.Walk.{walk, round, chosen, branches, then_each, counted};
 ghost use Rattle.sg_tree.specs.Plain.{steps_view, siblings_view, choice_view, own_steps, marks};
-ghost use Rattle.test_paths.specs.Gives.{Gives};
+ghost use Rattle.test_paths.specs.Gives.{GivesWalked};
 
 use crate::applied::{holds, rewrite};
 use crate::gone::Gone;
@@ -39,7 +39,7 @@ fn walk<B: Builder>(
     flow: bool,
     offers: &mut Vec<Offer>,
 ) -> Result<Gone, PathRefusal>
-    ensures { IfOk result (λ gone. Gives offers.old.items offers.new.items gone
+    ensures { IfOk result (λ gone. GivesWalked offers.old.items offers.new.items gone
         (walk (steps_view named.now elements.now embedded.now) message flow)) }
 {
     let mut message = message;
@@ -54,6 +54,15 @@ fn walk<B: Builder>(
                 }
             }
             Element::Rewrite(rule) => rewrite(alloc, builder, rule, named, &mut message)?,
+            Element::Parse(rule) => {
+                let taken = rule.apply(alloc, &mut message)?;
+                if !taken {
+                    return Ok(Gone {
+                        out: Vec::new(alloc),
+                        processed: false,
+                    });
+                }
+            }
             Element::Deliver(drivers) => deliver(drivers, &message, flow, offers)?,
             Element::Junction(channels) => {
                 return walk_junction(
@@ -109,7 +118,7 @@ fn walk_junction<B: Builder>(
     flow: bool,
     offers: &mut Vec<Offer>,
 ) -> Result<Gone, PathRefusal>
-    ensures { IfOk result (λ gone. Gives offers.old.items offers.new.items gone
+    ensures { IfOk result (λ gone. GivesWalked offers.old.items offers.new.items gone
         (then_each (branches (siblings_view named.now channels.now) message.now flow)
         (λ n. walk (steps_view named.now elements.now embedded.now) n flow))) }
 {
@@ -133,7 +142,7 @@ fn walk_if<B: Builder>(
     flow: bool,
     offers: &mut Vec<Offer>,
 ) -> Result<Gone, PathRefusal>
-    ensures { IfOk result (λ gone. Gives offers.old.items offers.new.items gone
+    ensures { IfOk result (λ gone. GivesWalked offers.old.items offers.new.items gone
         (then_each (chosen (choice_view named.now tests.now other.now) message flow)
         (λ n. walk (steps_view named.now elements.now embedded.now) n flow))) }
 {
@@ -155,7 +164,7 @@ fn rest<B: Builder>(
     flow: bool,
     offers: &mut Vec<Offer>,
 ) -> Result<Gone, PathRefusal>
-    ensures { IfOk result (λ gone. Gives offers.old.items offers.new.items gone
+    ensures { IfOk result (λ gone. GivesWalked offers.old.items offers.new.items gone
         (then_each (record { deliveries = []; out = first.out.items; processed = first.processed })
         (λ n. walk (steps_view named.now elements.now embedded.now) n flow))) }
 {
@@ -190,7 +199,7 @@ fn branches<B: Builder>(
     flow: bool,
     offers: &mut Vec<Offer>,
 ) -> Result<Gone, PathRefusal>
-    ensures { IfOk result (λ gone. Gives offers.old.items offers.new.items gone
+    ensures { IfOk result (λ gone. GivesWalked offers.old.items offers.new.items gone
         (branches (siblings_view named.now siblings.now) message.now flow)) }
 {
     let mut first = round(
@@ -214,7 +223,7 @@ fn round<B: Builder>(
     flow: bool,
     offers: &mut Vec<Offer>,
 ) -> Result<Gone, PathRefusal>
-    ensures { IfOk result (λ gone. Gives offers.old.items offers.new.items gone
+    ensures { IfOk result (λ gone. GivesWalked offers.old.items offers.new.items gone
         (round (siblings_view named.now siblings.now) late message.now flow)) }
 {
     let mut gone = Gone {
@@ -245,7 +254,7 @@ pub(crate) fn one<B: Builder>(
     flow: bool,
     offers: &mut Vec<Offer>,
 ) -> Result<Gone, PathRefusal>
-    ensures { IfOk result (λ gone. Gives offers.old.items offers.new.items gone
+    ensures { IfOk result (λ gone. GivesWalked offers.old.items offers.new.items gone
         (counted (marks path.now) (walk (own_steps named.now path.now) message.now
         (flow || (marks path.now).flow)))) }
 {
@@ -276,7 +285,7 @@ fn choose<B: Builder>(
     flow: bool,
     offers: &mut Vec<Offer>,
 ) -> Result<Gone, PathRefusal>
-    ensures { IfOk result (λ gone. Gives offers.old.items offers.new.items gone
+    ensures { IfOk result (λ gone. GivesWalked offers.old.items offers.new.items gone
         (chosen (choice_view named.now tests.now other.now) message flow)) }
 {
     for branch in tests {

@@ -10,7 +10,7 @@ use crate::machine::{add_file, add_text, machine_with};
 use sg_daemon::Unchecked;
 use sg_device::NoMemory;
 use sg_memory::MemoryFile;
-use sg_memory_disk::Plan;
+use sg_memory_disk::FaultPlan;
 use sg_world::MemoryMachine;
 use std::alloc::Global;
 
@@ -32,14 +32,14 @@ fn parts(row: &str) -> (&str, &str) {
 }
 
 // The buildings of patterns that are refused.
-fn builds(alloc: Global, numbers: &str) -> Result<Plan, NoMemory> {
+fn builds(alloc: Global, numbers: &str) -> Result<FaultPlan, NoMemory> {
     let mut calls = Vec::new(alloc);
     for part in numbers.split(',') {
         if let Ok(number) = part.parse::<u64>() {
             calls.push(number)?;
         }
     }
-    Ok(Plan::new(calls))
+    Ok(FaultPlan::new(calls))
 }
 
 fn files(alloc: Global, text: &str) -> Result<Vec<MemoryFile>, NoMemory> {

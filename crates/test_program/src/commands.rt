@@ -15,7 +15,7 @@ pub(crate) fn check(alloc: Global, machine: &mut MemoryMachine) -> Result<(), Un
 }
 
 /// What a run of so many rounds with `--once` comes to.
-pub(crate) fn run<T: Threads + Wait + Sync>(
+pub(crate) fn run<T: Threads + Wait + Eprint + Sync>(
     rt: &T,
     alloc: Global,
     rounds: u64,

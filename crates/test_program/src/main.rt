@@ -3,6 +3,8 @@
 //!
 //! - `check`: what `check` says of a configuration file (`check.rt`).
 //! - `hint`: the hint beside the fault of one (`hint.rt`).
+//! - `notes`, `further`, `warnings`, `destinations`: the notes beside its fault, the faults behind the first one, what it is warned of, and
+//!   the drivers of its destinations (`notes.rt`).
 //! - `trace`: what a file is traced as by a configuration (`trace.rt`).
 //! - `traces`: what a file is traced as by a router of this program (`traces.rt`).
 //! - `run`: what runs of configurations come to (`run.rt`).
@@ -18,13 +20,14 @@ mod heard;
 mod hint;
 mod machine;
 mod moments;
+mod notes;
 mod run;
 mod stores;
 mod trace;
 mod traces;
 
 use heard::Heard;
-use run::Stage;
+use run::NextRun;
 use sg_device::NoMemory;
 use std::alloc::Global;
 use std::io;
@@ -32,16 +35,20 @@ use std::sync::Wait;
 use std::thread::Threads;
 
 // What becomes of a line.
-fn hear<T: Threads + Wait + Sync>(
+fn hear<T: Threads + Wait + Eprint + Sync>(
     rt: &T,
     alloc: Global,
-    stage: &mut Stage,
+    stage: &mut NextRun,
     line: &str,
 ) -> Result<Heard, NoMemory> {
     let (area, row) = line.split_once(' ').unwrap_or((line, ""));
     match area {
         "check" => check::answer(alloc, row),
         "hint" => hint::answer(alloc, row),
+        "notes" => notes::answer(alloc, row),
+        "further" => notes::further(alloc, row),
+        "destinations" => notes::destinations(alloc, row),
+        "warnings" => notes::warnings(alloc, row),
         "trace" => trace::answer(alloc, row),
         "traces" => traces::answer(alloc, row),
         "run" => stage.hear(rt, row),
@@ -51,10 +58,10 @@ fn hear<T: Threads + Wait + Sync>(
 }
 
 // Prints what becomes of a line.
-fn tell<T: Print + Threads + Wait + Sync>(
+fn tell<T: Print + Threads + Wait + Eprint + Sync>(
     rt: &T,
     alloc: Global,
-    stage: &mut Stage,
+    stage: &mut NextRun,
     line: &str,
 ) -> io::Result<()> {
     if line.is_empty() || line.starts_with('#') {
@@ -69,7 +76,7 @@ fn tell<T: Print + Threads + Wait + Sync>(
 
 fn main(rt: HostRuntime) -> io::Result<()> {
     let alloc = rt.alloc();
-    let mut stage = Stage::new(alloc);
+    let mut stage = NextRun::new(alloc);
     for line in rt.lines(alloc) {
         tell(&rt, alloc, &mut stage, line?.as_str())?;
     }

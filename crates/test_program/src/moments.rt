@@ -34,7 +34,7 @@ use std::sync::Wait;
 use std::thread::Threads;
 
 // What a row comes to; none where it isn't one.
-fn told<T: Threads + Wait + Sync>(
+fn told<T: Threads + Wait + Eprint + Sync>(
     rt: &T,
     alloc: Global,
     row: &str,
@@ -50,7 +50,7 @@ fn told<T: Threads + Wait + Sync>(
 }
 
 /// What becomes of a row.
-pub(crate) fn answer<T: Threads + Wait + Sync>(
+pub(crate) fn answer<T: Threads + Wait + Eprint + Sync>(
     rt: &T,
     alloc: Global,
     row: &str,

@@ -29,7 +29,7 @@ use answers::{append_code, append_end, append_taken};
 use reading::{calls, peer_parts};
 use sg_device::NoMemory;
 use sg_memory::{MemoryConnection, MemoryFile, MemoryWorld, OutletScript, Pace, WorldPlans};
-use sg_memory_disk::{DiskPlan, MemoryStores, Plan};
+use sg_memory_disk::{DiskPlan, FaultPlan, MemoryStores};
 use sg_world::MemoryMachine;
 use std::alloc::Global;
 use std::collections::VecDeque;
@@ -42,14 +42,14 @@ const ROUNDS: u64 = 1 << 36;
 
 /// What the next run begins with.
 #[derive(Drop)]
-pub(crate) struct Stage {
+pub(crate) struct NextRun {
     alloc: Global,
     // The latest first.
     files: Vec<MemoryFile>,
     pace: Pace,
     peers: Vec<MemoryConnection>,
     plans: WorldPlans,
-    opens: Plan,
+    opens: FaultPlan,
     disks: VecDeque<DiskPlan>,
     // The stores of a run that goes on from no other, and those that the last run left.
     fresh: MemoryStores,
@@ -88,7 +88,7 @@ fn within(rounds: u64) -> u64
 }
 
 // A run of this machine: its answer, and its status where the configuration was loaded.
-fn run_in<T: Threads + Wait + Sync>(
+fn run_in<T: Threads + Wait + Eprint + Sync>(
     rt: &T,
     alloc: Global,
     rounds: u64,
@@ -107,16 +107,16 @@ fn run_in<T: Threads + Wait + Sync>(
     }
 }
 
-impl Stage {
+impl NextRun {
     /// No file, no store, and no call fails.
-    pub(crate) fn new(alloc: Global) -> Stage {
-        Stage {
+    pub(crate) fn new(alloc: Global) -> NextRun {
+        NextRun {
             alloc,
             files: Vec::new(alloc),
             pace: pace(7),
             peers: Vec::new(alloc),
             plans: WorldPlans::never(alloc),
-            opens: Plan::never(alloc),
+            opens: FaultPlan::never(alloc),
             disks: VecDeque::new(alloc),
             fresh: MemoryStores::new(alloc),
             kept: MemoryStores::new(alloc),
@@ -125,7 +125,7 @@ impl Stage {
     }
 
     /// Does what a row says.
-    pub(crate) fn hear<T: Threads + Wait + Sync>(
+    pub(crate) fn hear<T: Threads + Wait + Eprint + Sync>(
         &mut self,
         rt: &T,
         row: &str,
@@ -228,13 +228,13 @@ impl Stage {
         Ok(true)
     }
 
-    fn fail_disk(&mut self, plan: Plan) -> Result<(), NoMemory> {
+    fn fail_disk(&mut self, plan: FaultPlan) -> Result<(), NoMemory> {
         let plan = DiskPlan::failing(self.alloc, plan);
         self.disks.push_back(plan)?;
         Ok(())
     }
 
-    fn fail_sends(&mut self, plan: Plan) -> Result<(), NoMemory> {
+    fn fail_sends(&mut self, plan: FaultPlan) -> Result<(), NoMemory> {
         let plan = OutletScript::failing(self.alloc, plan);
         self.plans.outlets.push_back(plan)?;
         Ok(())
@@ -248,13 +248,13 @@ impl Stage {
         let mut world = MemoryWorld::failing(alloc, files, self.pace, plans);
         world.connections = replace(&mut self.peers, Vec::new(alloc));
         world.stores = stores;
-        world.stores.opens = replace(&mut self.opens, Plan::never(alloc));
+        world.stores.opens = replace(&mut self.opens, FaultPlan::never(alloc));
         world.stores.plans = replace(&mut self.disks, VecDeque::new(alloc));
         Ok(world)
     }
 
     // A run over these stores: its answer, and its status where the configuration was loaded.
-    fn run_over<T: Threads + Wait + Sync>(
+    fn run_over<T: Threads + Wait + Eprint + Sync>(
         &mut self,
         rt: &T,
         stores: MemoryStores,
@@ -270,7 +270,7 @@ impl Stage {
         Ok(code)
     }
 
-    fn run<T: Threads + Wait + Sync>(
+    fn run<T: Threads + Wait + Eprint + Sync>(
         &mut self,
         rt: &T,
         name: &str,
@@ -289,7 +289,7 @@ impl Stage {
     }
 
     // A run in which this call of that store fails.
-    fn run_failing<T: Threads + Wait + Sync>(
+    fn run_failing<T: Threads + Wait + Eprint + Sync>(
         &mut self,
         rt: &T,
         store: u8,
@@ -297,16 +297,16 @@ impl Stage {
     ) -> Result<Option<u8>, NoMemory> {
         let alloc = self.alloc;
         for _before in 0..store {
-            self.fail_disk(Plan::never(alloc))?;
+            self.fail_disk(FaultPlan::never(alloc))?;
         }
-        self.fail_disk(Plan::new(vec![in alloc; call]?))?;
+        self.fail_disk(FaultPlan::new(vec![in alloc; call]?))?;
         let stores = MemoryStores::new(alloc);
         let mut out = Vec::new(alloc);
         self.run_over(rt, stores, &mut out)
     }
 
     // The statuses of runs in each of which the next call of a store fails. Whether all of them were loaded.
-    fn append_codes<T: Threads + Wait + Sync>(
+    fn append_codes<T: Threads + Wait + Eprint + Sync>(
         &mut self,
         rt: &T,
         store: u8,
@@ -328,7 +328,7 @@ impl Stage {
         Ok(true)
     }
 
-    fn run_each<T: Threads + Wait + Sync>(
+    fn run_each<T: Threads + Wait + Eprint + Sync>(
         &mut self,
         rt: &T,
         rest: &str,

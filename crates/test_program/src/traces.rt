@@ -12,7 +12,7 @@ use sg_device::NoMemory;
 use sg_frame::FrameKind;
 use sg_outfmt::Shape;
 use sg_template::{Env, Template};
-use sg_trace::{Reader, Target, Untraced, trace_file};
+use sg_trace::{FileReading, SentForm, Untraced, trace_file};
 use sg_world::MemoryMachine;
 use split::Split;
 use std::alloc::{AllocError, Global};
@@ -25,9 +25,9 @@ const ENV: Env = Env {
 };
 
 // What sends this template's text, which has no fault.
-fn target(alloc: Global, text: &[u8]) -> Result<Target, NoMemory> {
+fn target(alloc: Global, text: &[u8]) -> Result<SentForm, NoMemory> {
     match Template::read(alloc, text) {
-        Ok(template) => Ok(Target {
+        Ok(template) => Ok(SentForm {
             shape: Shape::Text(template),
             env: ENV,
         }),
@@ -59,7 +59,7 @@ fn traced(alloc: Global, kind: FrameKind, limit: u32, text: &str) -> Result<Vec<
     let targets = [target(alloc, b"$MESSAGE\n")?, target(alloc, b"$MESSAGE")?];
     let mut router = Split { count: 0 };
     let mut machine = machine(alloc, text)?;
-    let reader = Reader {
+    let reader = FileReading {
         inlet: 0,
         kind,
         limit,

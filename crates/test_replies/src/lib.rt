@@ -5,4 +5,4 @@ mod replies;
 mod text;
 
 pub use replies::{put_admitted, put_front, put_number, put_refilled, put_settled, put_stored};
-pub use text::Text;
+pub use text::ReplyText;

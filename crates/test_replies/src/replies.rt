@@ -1,5 +1,5 @@
 // The replies of a core.
-use crate::text::Text;
+use crate::text::ReplyText;
 use sg_counter::{CoreFront, Refill, Refused, Settled, Stored};
 use sg_machine::Verdict;
 use std::alloc::AllocError;
@@ -15,12 +15,12 @@ fn letter(verdict: Verdict) -> u8 {
 }
 
 /// A number, behind a blank where it isn't the first word.
-pub fn put_number(out: &mut Text, number: u64) {
+pub fn put_number(out: &mut ReplyText, number: u64) {
     out.put_word(b"");
     out.put_number(number);
 }
 
-fn put_verdicts(out: &mut Text, verdicts: &[Verdict]) {
+fn put_verdicts(out: &mut ReplyText, verdicts: &[Verdict]) {
     out.put_word(b"");
     if verdicts.is_empty() {
         out.push(b'.');
@@ -32,7 +32,7 @@ fn put_verdicts(out: &mut Text, verdicts: &[Verdict]) {
 
 /// The verdicts `Q`, `S`, `W`, `F` and `D` of the offers, `.` where there is none, or for lack of credit `-` and
 /// how many records came back.
-pub fn put_admitted(out: &mut Text, admitted: Result<Vec<Verdict>, Refused>) {
+pub fn put_admitted(out: &mut ReplyText, admitted: Result<Vec<Verdict>, Refused>) {
     match admitted {
         Ok(verdicts) => put_verdicts(out, &verdicts),
         Err(Refused::NoCredit(records)) => {
@@ -44,7 +44,7 @@ pub fn put_admitted(out: &mut Text, admitted: Result<Vec<Verdict>, Refused>) {
 }
 
 /// The first entry's place and the number of entries, `e` where none is left, or `x` where the store has failed.
-pub fn put_front(out: &mut Text, front: Result<CoreFront, AllocError>) {
+pub fn put_front(out: &mut ReplyText, front: Result<CoreFront, AllocError>) {
     match front {
         Ok(CoreFront::Entries { place, messages }) => {
             put_number(out, place);
@@ -57,7 +57,7 @@ pub fn put_front(out: &mut Text, front: Result<CoreFront, AllocError>) {
 }
 
 /// `k`, `-` where the entries aren't the first ones, or `x` where the store has failed.
-pub fn put_settled(out: &mut Text, settled: Settled) {
+pub fn put_settled(out: &mut ReplyText, settled: Settled) {
     match settled {
         Settled::Done => out.put_word(b"k"),
         Settled::NotFront => out.put_word(b"-"),
@@ -66,7 +66,7 @@ pub fn put_settled(out: &mut Text, settled: Settled) {
 }
 
 /// How many entries moved, `-` where none waits, `o` where the first doesn't fit, or `x` where the store has failed.
-pub fn put_refilled(out: &mut Text, refill: Refill) {
+pub fn put_refilled(out: &mut ReplyText, refill: Refill) {
     match refill {
         Refill::Moved(n) => put_number(out, u64::from(n)),
         Refill::NoneWaits => out.put_word(b"-"),
@@ -76,7 +76,7 @@ pub fn put_refilled(out: &mut Text, refill: Refill) {
 }
 
 /// The position that was written, `=` where it stood there, or `x` where the store has failed.
-pub fn put_stored(out: &mut Text, stored: Stored) {
+pub fn put_stored(out: &mut ReplyText, stored: Stored) {
     match stored {
         Stored::Wrote(position) => put_number(out, position),
         Stored::Unchanged => out.put_word(b"="),

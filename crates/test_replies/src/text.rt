@@ -3,15 +3,15 @@ use std::alloc::{AllocError, Global};
 
 /// A text. Where memory runs out it lacks what came then, which shows at its end.
 #[derive(Drop)]
-pub struct Text {
+pub struct ReplyText {
     alloc: Global,
     bytes: Vec<u8>,
     lacks: bool,
 }
 
-impl Text {
-    pub fn new(alloc: Global) -> Text {
-        Text {
+impl ReplyText {
+    pub fn new(alloc: Global) -> ReplyText {
+        ReplyText {
             alloc,
             bytes: Vec::new(alloc),
             lacks: false,

@@ -166,6 +166,6 @@ fn limits(rt: HostRuntime) {
     assert_eq!(rt; left_without(rt.alloc(), "*0"), Some(900));
     let bad = refusal_of(rt.alloc(), "a(");
     assert!(rt; bad == (Some(BuildRefusal::BadPattern(LINE)), 0));
-    let large = refusal_of(rt.alloc(), "(\\w{1000}){100}");
+    let large = refusal_of(rt.alloc(), "(\\w{1000}){1000}");
     assert!(rt; large == (Some(BuildRefusal::TooLarge(LINE)), 1));
 }

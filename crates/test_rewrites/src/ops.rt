@@ -1,6 +1,6 @@
 // Rewrites as the tables write them.
 ghost use Rattle.std.specs.Prelude.{OnSome};
-ghost use Rattle.sg_msg.specs.Message.{IsName};
+ghost use Rattle.sg_msg.specs.Message.{IsPairName};
 ghost use Rattle.sg_rewrite.specs.Ops.{IsOp};
 
 use crate::text::{bytes_of, name_of, names_of};
@@ -168,7 +168,7 @@ pub(crate) fn has_these(words: &str, pattern: &str, text: &str) -> bool {
 
 // Whether a pair may have this name.
 fn checked_name(name: &[u8]) -> Option<()>
-    ensures { OnSome result (IsName name.now) }
+    ensures { OnSome result (IsPairName name.now) }
 {
     if name.is_empty() {
         return None;

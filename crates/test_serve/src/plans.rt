@@ -1,7 +1,6 @@
 // Runs of a plan of two files and two files to write.
 ghost use Rattle.std.specs.Prelude.{◌≡◌, IfOk, length};
-ghost use Rattle.sg_outside.specs.World.{IsByPath};
-ghost use Rattle.sg_serve.specs.Devices.{IsFetching, AreFetching, AreNotByPath};
+ghost use Rattle.sg_serve.specs.Devices.{IsFetching, AreFetching};
 ghost use Rattle.sg_serve.specs.Plan.{IsRunnable};
 ghost use Rattle.test_serve.specs.Plans.{tried};
 
@@ -10,7 +9,7 @@ use sg_frame::FrameKind;
 use sg_list::Seq;
 use sg_machine::{DestSetup, Setup, SourceSetup};
 use sg_memory::{MemoryFile, MemoryWorld, OutletScript as Sends, Pace};
-use sg_memory_disk::Plan;
+use sg_memory_disk::FaultPlan;
 use sg_outfmt::Shape;
 use sg_outside::{InletSpec, OutletSpec, StoreSpec};
 use sg_run_plan::{InletPlan, OutletPlan, RunPlan};
@@ -57,9 +56,7 @@ fn shape(alloc: Global) -> Result<Shape, NoMemory> {
     }
 }
 
-fn outlet(alloc: Global, path: &[u8]) -> Result<OutletPlan, NoMemory>
-    ensures { IfOk result (λ plan. IsByPath plan.spec → ⊥) }
-{
+fn outlet(alloc: Global, path: &[u8]) -> Result<OutletPlan, NoMemory> {
     Ok(OutletPlan {
         spec: OutletSpec::File {
             path: Name::new(alloc, path)?,
@@ -122,7 +119,6 @@ fn inlets(alloc: Global) -> Result<Vec<InletPlan>, NoMemory>
 
 fn outlets(alloc: Global) -> Result<Vec<OutletPlan>, NoMemory>
     ensures two { IfOk result (λ plans. length plans.items ≡ 2) }
-    ensures paths { IfOk result (λ plans. AreNotByPath plans.items) }
 {
     let mut outlets = Vec::new(alloc);
     outlets.push(outlet(alloc, b"c")?)?;
@@ -176,13 +172,13 @@ fn machine(alloc: Global) -> Result<MemoryMachine, NoMemory> {
     })
 }
 
-fn call(alloc: Global, number: u64) -> Result<Plan, NoMemory> {
-    Ok(Plan::new(vec![in alloc; number]?))
+fn call(alloc: Global, number: u64) -> Result<FaultPlan, NoMemory> {
+    Ok(FaultPlan::new(vec![in alloc; number]?))
 }
 
 // Lets each send of the last outlet fail.
 fn fail_sends(alloc: Global, world: &mut MemoryWorld) -> Result<(), NoMemory> {
-    let all = Plan::new(vec![in alloc; 0, 1, 2, 3, 4, 5, 6, 7]?);
+    let all = FaultPlan::new(vec![in alloc; 0, 1, 2, 3, 4, 5, 6, 7]?);
     world.plans.outlets.push_back(Sends::never(alloc))?;
     world.plans.outlets.push_back(Sends::failing(alloc, all))?;
     Ok(())
@@ -293,7 +289,7 @@ fn read_row(row: &str) -> Row<'_> {
     }
 }
 
-fn run<T: Threads + Wait + Sync>(
+fn run<T: Threads + Wait + Eprint + Sync>(
     rt: &T,
     alloc: Global,
     machine: &mut MemoryMachine,
@@ -304,7 +300,7 @@ fn run<T: Threads + Wait + Sync>(
 }
 
 // Whether a run on the machine, with the call failing that the row names, ends as the row says.
-fn goes<T: Threads + Wait + Sync>(
+fn goes<T: Threads + Wait + Eprint + Sync>(
     rt: &T,
     alloc: Global,
     machine: &mut MemoryMachine,
@@ -321,7 +317,11 @@ fn goes<T: Threads + Wait + Sync>(
     )
 }
 
-fn shows<T: Threads + Wait + Sync>(rt: &T, alloc: Global, row: &str) -> Result<bool, NoMemory> {
+fn shows<T: Threads + Wait + Eprint + Sync>(
+    rt: &T,
+    alloc: Global,
+    row: &str,
+) -> Result<bool, NoMemory> {
     let mut machine = machine(alloc)?;
     let right = goes(rt, alloc, &mut machine, read_row(row))?;
     Ok(right && row.split(';').count() == 4)

@@ -2,7 +2,8 @@
 use Rattle.std.proofs.Common.{◌≡◌, ℕ, ◌<◌, List, [], ◌∷◌, ◌++◌}
 use Rattle.sg_msg.specs.declared.offer.Offer.{Offer}
 use Rattle.sg_machine.specs.declared.event.Admission.{Admission}
-use Rattle.sg_counter.specs.Bringing.{AllWithin, MayEnter, AllMayEnter}
+use Rattle.sg_counter.specs.Bringing.{MayEnter, AllMayEnter}
+use Rattle.sg_msg.specs.Offers.{AllWithin}
 
 pub within_push : (n : ℕ) (os : List Offer) (o : Offer) → AllWithin n os → o.dest < n → AllWithin n (os ++ o ∷ [])
 within_push n [] o h l = (l, tt)

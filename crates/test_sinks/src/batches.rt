@@ -1,12 +1,13 @@
 // Batches of records at two destinations, of which the second is a queue in memory.
 ghost use Rattle.std.specs.Prelude.{◌≡◌, ◌≤◌, ◌<◌, ◌+◌, ◌^◌, IfOk, OnOk, length};
-ghost use Rattle.sg_counter.specs.Bringing.{AllWithin, AllMayEnter};
+ghost use Rattle.sg_counter.specs.Bringing.{AllMayEnter};
+ghost use Rattle.sg_msg.specs.Offers.{AllWithin};
 
 use crate::sinks::{capacity, cut, letter, message, number, shows, small};
 use sg_list::Seq;
 use sg_machine::{Admission, BufferSetup, DestSetup};
 use sg_msg::Offer;
-use sg_offers::{Answers, Batch, offer_all, prepare};
+use sg_offers::{Batch, BatchVerdicts, offer_all, prepare};
 use sg_sinks::Sink;
 use std::alloc::Global;
 use std::test::Fail;
@@ -125,7 +126,7 @@ struct Said {
     left: String,
 }
 
-fn say(alloc: Global, taken: String, answers: &Answers) -> Result<Said, Fail> {
+fn say(alloc: Global, taken: String, answers: &BatchVerdicts) -> Result<Said, Fail> {
     let mut verdicts = String::new(alloc);
     for verdict in &answers.verdicts {
         verdicts.push(letter(*verdict))?;

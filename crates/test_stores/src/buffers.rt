@@ -2,7 +2,7 @@
 ghost use Rattle.std.specs.Prelude.{◌≡◌, false};
 
 use crate::migration::{ONE_AFTER, ONE_BEFORE, ONE_CHANGES, has_changes, store};
-use sg_buffer::{Found, Head, first_messages, look, renew};
+use sg_buffer::{BufferEntries, EntryHead, first_messages, look, renew};
 use sg_memory_disk::MemoryDisk;
 use sg_msg::Message;
 use sg_spool::Spool;
@@ -45,7 +45,7 @@ const FOUND: [&str; 8] = [
 const ONE_RENEWED: &str =
     "64 01 0000003d 02 01 00000000 0000000000000004 0d 0000000000000000 0000 0000000000000000 0000 00000000 00000001 00000007 4d455353414745 00000003 6f6e65 00";
 
-fn is_head(alloc: Global, head: &Head, line: &str) -> Result<bool, Fail> {
+fn is_head(alloc: Global, head: &EntryHead, line: &str) -> Result<bool, Fail> {
     let said = format!(in alloc;
         "{} {} {} {}",
         head.source, head.end, head.flow, head.length
@@ -53,7 +53,7 @@ fn is_head(alloc: Global, head: &Head, line: &str) -> Result<bool, Fail> {
     Ok(said.as_str() == line)
 }
 
-fn are_heads(alloc: Global, found: &Found, lines: &str) -> Result<bool, Fail> {
+fn are_heads(alloc: Global, found: &BufferEntries, lines: &str) -> Result<bool, Fail> {
     for (head, line) in found.heads.iter().zip(lines.lines()) {
         if !is_head(alloc, head, line)? {
             return Ok(false);
@@ -68,7 +68,7 @@ fn is_damage(refusal: StoreRefusal, lines: &str) -> Result<bool, Fail> {
 }
 
 // What is found in an opened disk-buffer.
-fn look_through(alloc: Global, spool: Spool<MemoryDisk>) -> Result<Found, StoreRefusal>
+fn look_through(alloc: Global, spool: Spool<MemoryDisk>) -> Result<BufferEntries, StoreRefusal>
     requires open { spool.closed ≡ false }
     requires unstaged { spool.rows.staged ≡ 0 }
 {
@@ -78,7 +78,7 @@ fn look_through(alloc: Global, spool: Spool<MemoryDisk>) -> Result<Found, StoreR
     found
 }
 
-fn found_in(alloc: Global, disk: MemoryDisk) -> Result<Found, StoreRefusal> {
+fn found_in(alloc: Global, disk: MemoryDisk) -> Result<BufferEntries, StoreRefusal> {
     match Spool::open(disk, 1000) {
         Ok(spool) => look_through(alloc, spool),
         Err((_, refusal)) => Err(refusal),

@@ -1,7 +1,7 @@
 // Disks in memory: the images that a crash may leave, and what calls leave that fail.
 use sg_device::{Disk, Name};
 use sg_memory::{MemoryWorld, Pace};
-use sg_memory_disk::{DiskPlan, MemoryDisk, Pick, Plan};
+use sg_memory_disk::{DiskPlan, FaultPlan, MemoryDisk, Pick};
 use sg_outside::StoreSpec;
 use std::alloc::Global;
 use std::test::Fail;
@@ -55,11 +55,11 @@ fn picks(alloc: Global, words: &str) -> Result<Vec<Pick>, Fail> {
     Ok(picks)
 }
 
-fn fails(alloc: Global, word: &str) -> Result<Plan, Fail> {
+fn fails(alloc: Global, word: &str) -> Result<FaultPlan, Fail> {
     if word == "-" {
-        return Ok(Plan::never(alloc));
+        return Ok(FaultPlan::never(alloc));
     }
-    Ok(Plan::new(vec![in alloc; word.parse()?]?))
+    Ok(FaultPlan::new(vec![in alloc; word.parse()?]?))
 }
 
 // Makes a call; whether it succeeds doesn't matter.

@@ -183,21 +183,21 @@ fn beside_plain_lists(rt: HostRuntime) -> Result<(), Fail> {
 
 // A step over a list: the entries before it, its number, and how many entries it changes.
 #[derive(Drop)]
-struct Step {
+struct ListStep {
     numbers: Vec<u64>,
     number: u64,
     whole: u64,
 }
 
 // Whether a store of these bytes has the entries of a step that changed so many.
-fn holds_after(alloc: Global, bytes: &[u8], step: &Step, changed: u64) -> Result<bool, Fail> {
+fn holds_after(alloc: Global, bytes: &[u8], step: &ListStep, changed: u64) -> Result<bool, Fail> {
     let mut after = step.numbers.to_vec(alloc)?;
     follow(&mut after, step.number, changed)?;
     holds(alloc, bytes.to_vec(alloc)?, &after)
 }
 
 // The same, where it changed as many as one of these says.
-fn holds_one(alloc: Global, bytes: &[u8], step: &Step, changes: &[u64]) -> Result<bool, Fail> {
+fn holds_one(alloc: Global, bytes: &[u8], step: &ListStep, changes: &[u64]) -> Result<bool, Fail> {
     for changed in changes {
         if holds_after(alloc, bytes, step, *changed)? {
             return Ok(true);
@@ -210,7 +210,7 @@ fn holds_one(alloc: Global, bytes: &[u8], step: &Step, changes: &[u64]) -> Resul
 fn images_hold(
     alloc: Global,
     disk: &MemoryDisk,
-    step: &Step,
+    step: &ListStep,
     changes: &[u64],
 ) -> Result<bool, Fail> {
     for pick in PICKS {
@@ -247,7 +247,7 @@ fn stopped(
     alloc: Global,
     disk: MemoryDisk,
     capacity: u64,
-    step: &Step,
+    step: &ListStep,
     greater: bool,
 ) -> Result<bool, Fail> {
     let Ok(spool) = open(disk, capacity) else {
@@ -268,7 +268,7 @@ fn stops(
     alloc: Global,
     bytes: &[u8],
     capacity: u64,
-    step: &Step,
+    step: &ListStep,
     greater: bool,
 ) -> Result<bool, Fail> {
     for calls in 0..40 {
@@ -290,7 +290,7 @@ fn take_and_count(
     alloc: Global,
     disk: MemoryDisk,
     capacity: u64,
-    step: &mut Step,
+    step: &mut ListStep,
 ) -> Result<MemoryDisk, Fail> {
     let (disk, whole) = stepped(alloc, open(disk, capacity)?, step.number)?;
     step.whole = whole;
@@ -298,7 +298,7 @@ fn take_and_count(
 }
 
 // Takes the step over the plain list.
-fn follow_step(step: &mut Step) -> Result<(), Fail> {
+fn follow_step(step: &mut ListStep) -> Result<(), Fail> {
     let (number, whole) = (step.number, step.whole);
     follow(&mut step.numbers, number, whole)
 }
@@ -309,7 +309,7 @@ fn try_step(
     alloc: Global,
     disk: MemoryDisk,
     capacity: u64,
-    step: &mut Step,
+    step: &mut ListStep,
     greater: bool,
 ) -> Result<Option<MemoryDisk>, Fail> {
     let bytes = disk.bytes().to_vec(alloc)?;
@@ -322,7 +322,7 @@ fn try_step(
 // A stretch of steps over the end of the ring, each stopped at each of its calls.
 fn stretch(alloc: Global, before: u64, capacity: u64) -> Result<bool, Fail> {
     let (mut disk, numbers) = begun(alloc, before, 40)?;
-    let mut step = Step {
+    let mut step = ListStep {
         numbers,
         number: 40,
         whole: 0,

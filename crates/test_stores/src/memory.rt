@@ -1,4 +1,5 @@
 // A machine in memory, and calls that fail.
+ghost use Rattle.std.specs.Prelude.{◌≡◌};
 ghost use Rattle.std.specs.List.{Contains};
 ghost use Rattle.sg_memory.specs.Open.{opener_of};
 
@@ -10,7 +11,7 @@ use sg_memory::{
     MemoryConnection, MemoryDrain, MemoryFeed, MemoryFile, MemoryOpener, MemoryWorld, OutletScript,
     Pace, PathsPlan, WorldPlans, is_record_end,
 };
-use sg_memory_disk::Plan;
+use sg_memory_disk::FaultPlan;
 use sg_outside::{InletSpec, OutletSpec};
 use std::alloc::Global;
 use std::test::Fail;
@@ -20,8 +21,8 @@ const PACE: Pace = Pace {
     at: 1_770_312_741_000_000,
 };
 
-fn plan(alloc: Global, call: u64) -> Result<Plan, Fail> {
-    Ok(Plan::new(vec![in alloc; call]?))
+fn plan(alloc: Global, call: u64) -> Result<FaultPlan, Fail> {
+    Ok(FaultPlan::new(vec![in alloc; call]?))
 }
 
 fn name(alloc: Global, text: &[u8]) -> Result<Name, Fail> {
@@ -312,7 +313,9 @@ fn texts_in_memory(rt: HostRuntime) -> Result<(), Fail> {
 
 fn paths_plan(alloc: Global) -> Result<PathsPlan, Fail> {
     let mut paths = PathsPlan::never(alloc);
-    paths.fails = plan(alloc, 2)?;
+    paths.calls.fails = plan(alloc, 2)?;
+    paths.calls.first = 1;
+    paths.unused = plan(alloc, 0)?;
     Ok(paths)
 }
 
@@ -323,38 +326,58 @@ fn paths(alloc: Global, world: &mut MemoryWorld) -> Result<bool, Fail> {
         mode: 0o600,
         folders: None,
         reopen: 60,
+        reap: 60,
     };
     world.plans.paths.push_back(paths_plan(alloc)?)?;
     let mut opener = world.open_paths(alloc, &spec)?;
     is_send(&opener);
-    let kept = keeps(&mut opener, b"a")?;
-    let one = has_one(&opener);
+    let kept = keeps(alloc, &mut opener, b"a")?;
+    let two = has_two(&opener);
     world.close_paths(opener);
-    Ok(kept && one)
+    Ok(kept && two)
 }
 
-// Whether an opener takes one text, refuses the second one, and is ready again.
-fn keeps(opener: &mut MemoryOpener, path: &[u8]) -> Result<bool, Fail>
+// Whether an opener takes one text, refuses the second one of the next two, and is ready again.
+fn keeps(alloc: Global, opener: &mut MemoryOpener, path: &[u8]) -> Result<bool, Fail>
     requires { Contains (opener_of opener.old).opened path.now → ⊥ }
 {
     opener.open(path)?;
-    opener.send(path, b"one")?;
-    match opener.send(path, b"two") {
-        Err(SendRefusal::Fault) => {}
-        _ => return Ok(false),
-    }
-    match opener.reopen(path) {
-        Ok(Reopened::Ready) => {}
-        _ => return Ok(false),
-    }
+    let first = texts_sent(alloc, opener, path, "one")? == '+';
+    let second = texts_sent(alloc, opener, path, "two three")? == '!';
+    let ready = opener.reopen(path) == Ok(Reopened::Ready);
+    let unused = opener.is_unused(path);
     opener.close(path);
-    Ok(true)
+    Ok(first && second && ready && unused)
 }
 
-// Whether an opener has no open path, and took one text.
-fn has_one(opener: &MemoryOpener) -> bool {
-    let taken = opener.paths.taken();
+// What a send of these texts for an open path gives.
+fn texts_sent(
+    alloc: Global,
+    opener: &mut MemoryOpener,
+    path: &[u8],
+    words: &str,
+) -> Result<char, Fail>
+    requires { Contains (opener_of opener.old).opened path.now }
+    ensures { (opener_of opener.new).opened ≡ (opener_of opener.old).opened }
+{
+    let texts = frames(alloc, words)?;
+    if texts.is_empty() {
+        return Ok('-');
+    }
+    Ok(match opener.send(path, &texts) {
+        Ok(()) => '+',
+        Err(SendRefusal::Fault) => '!',
+        Err(SendRefusal::Later) => '~',
+        Err(SendRefusal::NoMemory) => '0',
+    })
+}
+
+// Whether an opener has no open path, and took two texts.
+fn has_two(opener: &MemoryOpener) -> bool {
+    let texts = opener.paths.texts();
     opener.paths.opened().is_empty()
-        && taken.len() == 1
-        && taken[0].text.as_slice() == b"one".as_slice()
+        && opener.taken() == 2
+        && texts.len() == 2
+        && texts[0].text.as_slice() == b"one".as_slice()
+        && texts[1].text.as_slice() == b"two".as_slice()
 }

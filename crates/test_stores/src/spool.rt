@@ -1,6 +1,6 @@
 // The device calls and answers of small lists, over disks in memory.
 use sg_device::NoMemory;
-use sg_memory_disk::{DiskChange, MemoryDisk, Written};
+use sg_memory_disk::{DiskChange, DiskWrite, MemoryDisk};
 use sg_spool::{Appended, Block, Front, Recode, Spool, Walked};
 use sg_stable::StoreRefusal;
 use std::alloc::Global;
@@ -207,7 +207,7 @@ fn perform(alloc: Global, spool: &mut Spool<MemoryDisk>, call: &str) -> Result<&
 }
 
 // A write's place and bytes in hexadecimal.
-fn add_write(alloc: Global, text: &mut String, written: &Written) -> Result<(), Fail> {
+fn add_write(alloc: Global, text: &mut String, written: &DiskWrite) -> Result<(), Fail> {
     text.push_str(format!(in alloc; "{} ", written.at)?.as_str())?;
     for byte in written.bytes.as_slice() {
         text.push_str(format!(in alloc; "{byte:02x}")?.as_str())?;
@@ -375,9 +375,9 @@ fn device_calls(rt: HostRuntime) -> Result<(), Fail> {
 
 // Spells each payload as it is.
 #[derive(Drop)]
-struct Same;
+struct SameSpelling;
 
-impl Recode for Same {
+impl Recode for SameSpelling {
     ghost meaning = { λ _ payload. payload };
 
     ghost fits = { λ _ payload is. is };
@@ -404,7 +404,7 @@ fn respell(alloc: Global, spool: &mut Spool<MemoryDisk>) -> Result<(), Fail> {
     if spool.staged() > 0 {
         return Err(Fail::from("something is staged"));
     }
-    let mut same = Same;
+    let mut same = SameSpelling;
     spool.rewrite(alloc, &mut same)?;
     Ok(())
 }

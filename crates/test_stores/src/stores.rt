@@ -1,9 +1,9 @@
 // A position store over disks in memory, stopped at each call, and over a real file.
 use crate::files::temporary;
 use sg_device::{Disk, DiskFault, Name, OpenRefusal};
-use sg_host::{FileDisk, HostStores, Rest};
+use sg_host::{FileDisk, HostStores, IdleWait};
 use sg_memory::{MemoryWorld, Pace};
-use sg_memory_disk::{DiskChange, DiskPlan, MemoryDisk, Pick, Plan};
+use sg_memory_disk::{DiskChange, DiskPlan, FaultPlan, MemoryDisk, Pick};
 use sg_outside::StoreSpec;
 use sg_stable::{Stable, StoreRefusal};
 use std::alloc::Global;
@@ -143,7 +143,7 @@ fn stopping(alloc: Global, calls: u64) -> Result<MemoryDisk, Fail> {
 
 // A disk whose call of this number fails.
 fn failing(alloc: Global, call: u64) -> Result<MemoryDisk, Fail> {
-    let plan = DiskPlan::failing(alloc, Plan::new(vec![in alloc; call]?));
+    let plan = DiskPlan::failing(alloc, FaultPlan::new(vec![in alloc; call]?));
     Ok(MemoryDisk::failing(alloc, zeros(alloc, 128)?, plan)?)
 }
 
@@ -234,7 +234,7 @@ fn open(alloc: Global, rt: HostRuntime, path: &str, create: bool) -> Result<File
 
 // Makes a store in a file, and closes it.
 fn make(alloc: Global, rt: HostRuntime, path: &str) -> Result<(), Fail> {
-    let mut stores = HostStores::new(alloc, rt, Rest::new(alloc, rt)?);
+    let mut stores = HostStores::new(alloc, rt, IdleWait::new(alloc, rt)?);
     let store = stores.open(alloc, &spec(alloc, path.as_bytes(), true)?)?;
     is_send(&store);
     stores.close(store);

@@ -1,5 +1,5 @@
 // The event of RFC 5424, 6.3.5.
-ghost use Rattle.sg_time.specs.Stamp.{IsValid};
+ghost use Rattle.sg_time.specs.Stamp.{IsValidStamp};
 
 use sg_msg::Message;
 use sg_time::Stamp;
@@ -8,7 +8,7 @@ use std::test::Fail;
 
 /// The event as it was received then, with these values: a name, `|` and a value a line.
 pub(crate) fn event(alloc: Global, received: Stamp, values: &str) -> Result<Message, Fail>
-    requires { IsValid received }
+    requires { IsValidStamp received }
 {
     let sent = Stamp {
         at: 1_065_910_455_003_000,

@@ -1,5 +1,5 @@
 // Templates over messages.
-ghost use Rattle.sg_time.specs.Stamp.{IsValid};
+ghost use Rattle.sg_time.specs.Stamp.{IsValidStamp};
 
 use crate::event::event;
 use crate::time::read_row;
@@ -90,8 +90,8 @@ fn is_stamped(
     received: Stamp,
     shown: &str,
 ) -> Result<bool, Fail>
-    requires sent { IsValid sent }
-    requires received { IsValid received }
+    requires sent { IsValidStamp sent }
+    requires received { IsValidStamp received }
 {
     let env = Env {
         zone: None,

@@ -1,6 +1,6 @@
 // Examples of stamps and their texts.
 ghost use Rattle.std.specs.Prelude.{◌≤◌, IfSome};
-ghost use Rattle.sg_time.specs.Stamp.{IsValid};
+ghost use Rattle.sg_time.specs.Stamp.{IsValidStamp};
 
 use sg_time::{
     Stamp, bsd_text, four_digits, iso_text, month_abbrev, offset_bytes, read_bsd, read_iso,
@@ -121,7 +121,7 @@ pub(crate) fn read_row(row: &str) -> Result<(Stamp, &str), Fail> {
 
 // Whether these texts are read as that stamp, the second one without its fraction.
 fn are_read(stamp: Stamp, iso: &str, bsd: &str) -> bool
-    requires { IsValid stamp }
+    requires { IsValidStamp stamp }
 {
     if read_iso(iso.as_bytes()) != Some((stamp, 32)) {
         return false;
@@ -134,7 +134,7 @@ fn are_read(stamp: Stamp, iso: &str, bsd: &str) -> bool
 
 // The texts of a stamp with so many digits of its fraction, and a space between them.
 fn texts(alloc: Global, stamp: Stamp, iso_digits: u8, bsd_digits: u8) -> Result<Vec<u8>, AllocError>
-    requires stamp { IsValid stamp }
+    requires stamp { IsValidStamp stamp }
     requires iso { iso_digits ≤ 6 }
     requires bsd { bsd_digits ≤ 6 }
 {
@@ -165,7 +165,7 @@ fn stamps_as_gnu_date_prints_them(rt: HostRuntime) -> Result<(), Fail> {
 
 // The stamp that the whole text is.
 fn whole(text: &str) -> Option<Stamp>
-    ensures { IfSome result (λ stamp. IsValid stamp) }
+    ensures { IfSome result (λ stamp. IsValidStamp stamp) }
 {
     let (stamp, len) = read_iso(text.as_bytes())?;
     if len != text.len() {
@@ -216,7 +216,7 @@ fn append(bytes: &[u8], out: &mut Vec<u8>) -> Result<(), AllocError> {
 
 // The parts of a stamp's texts, with a space between them.
 fn parts(alloc: Global, stamp: Stamp) -> Result<Vec<u8>, AllocError>
-    requires { IsValid stamp }
+    requires { IsValidStamp stamp }
 {
     let local = stamp.local();
     let mut out = Vec::from_array(alloc, two_digits(local.hour))?;

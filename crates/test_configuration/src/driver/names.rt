@@ -9,13 +9,13 @@ use std::alloc::Global;
 
 /// The names and texts of templates.
 #[derive(Drop)]
-pub struct Named {
+pub struct TemplateNames {
     rows: Vec<(Name, Name)>,
 }
 
-impl Named {
-    pub(crate) fn new(alloc: Global) -> Named {
-        Named {
+impl TemplateNames {
+    pub(crate) fn new(alloc: Global) -> TemplateNames {
+        TemplateNames {
             rows: Vec::new(alloc),
         }
     }
@@ -37,7 +37,7 @@ fn find<'a>(rows: &'a [(Name, Name)], name: &[u8]) -> Option<&'a [u8]>
     None
 }
 
-impl Templates for Named {
+impl Templates for TemplateNames {
     ghost texts = { λ named. text_of named.rows.items };
 
     fn text(&self, name: &[u8]) -> Option<&[u8]> {

@@ -2,7 +2,7 @@
 ghost use Rattle.std.specs.Prelude.{◌<◌, ◌^◌, length, IfOk};
 ghost use Rattle.sg_driver.specs.Defaults.{AreDefaults};
 
-use crate::driver::names::Named;
+use crate::driver::names::TemplateNames;
 use sg_device::{Name, NoMemory};
 use sg_driver::Defaults;
 use sg_lex::{ConfigFault, Token};
@@ -86,7 +86,11 @@ fn template_text(alloc: Global, text: Option<&Spot>) -> Result<Name, NoMemory> {
     }
 }
 
-fn push_template(alloc: Global, named: &mut Named, object: &Object) -> Result<(), NoMemory> {
+fn push_template(
+    alloc: Global,
+    named: &mut TemplateNames,
+    object: &Object,
+) -> Result<(), NoMemory> {
     match object {
         Object::Template { name, text } => {
             let text = template_text(alloc, text.as_ref())?;
@@ -97,8 +101,8 @@ fn push_template(alloc: Global, named: &mut Named, object: &Object) -> Result<()
 }
 
 /// The templates.
-pub(crate) fn templates_of(alloc: Global, objects: &[Object]) -> Result<Named, NoMemory> {
-    let mut named = Named::new(alloc);
+pub(crate) fn templates_of(alloc: Global, objects: &[Object]) -> Result<TemplateNames, NoMemory> {
+    let mut named = TemplateNames::new(alloc);
     for object in objects {
         push_template(alloc, &mut named, object)?;
     }

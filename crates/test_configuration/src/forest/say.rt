@@ -88,6 +88,7 @@ fn element(alloc: Global, out: &mut Vec<u8>, said: &Element, depth: u32) -> Resu
     match said {
         Element::Filter(test) => expr(alloc, out, test),
         Element::Rewrite(one) => rule(alloc, out, one),
+        Element::Parse(_) => out.extend_from_slice(b"parse"),
         Element::Deliver(drivers) => {
             out.extend_from_slice(b"->")?;
             put_numbers(alloc, out, b" ", drivers)

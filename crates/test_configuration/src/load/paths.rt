@@ -21,6 +21,7 @@ fn say_element(alloc: Global, out: &mut Vec<u8>, element: &Element) -> Result<()
     match element {
         Element::Filter(_) => put(out, b" filter"),
         Element::Rewrite(_) => put(out, b" rewrite"),
+        Element::Parse(_) => put(out, b" parse"),
         Element::Deliver(drivers) => {
             put(out, b" to")?;
             put_numbers(alloc, out, b".", drivers)

@@ -76,6 +76,7 @@ fn element(out: &mut Vec<u8>, one: &RawElement) -> Result<(), AllocError> {
         RawElement::Destination(found) => referring(out, b"destination", found),
         RawElement::Filter(found) => referring(out, b"filter", found),
         RawElement::Rewrite(found) => referring(out, b"rewrite", found),
+        RawElement::Parser(found) => referring(out, b"parser", found),
         RawElement::Junction(channels) => {
             out.extend_from_slice(b"junction [")?;
             logs(out, channels.as_slice())?;

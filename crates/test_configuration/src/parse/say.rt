@@ -140,6 +140,10 @@ pub(crate) fn object(out: &mut Vec<u8>, object: &Object) -> Result<(), AllocErro
             named(out, b"rewrite ", name)?;
             calls(out, all.as_slice())
         }
+        Object::Parser { name, calls: all } => {
+            named(out, b"parser ", name)?;
+            calls(out, all.as_slice())
+        }
         Object::Template { name, text } => {
             named(out, b"template ", name)?;
             match text {

@@ -1,6 +1,6 @@
 // Which frames are due, and which were taken.
 use sg_device::{Frames, NoMemory};
-use sg_memory::OutletCell;
+use sg_memory::MemoryOutletCell;
 use std::alloc::Global;
 
 /// The lines of the file, each of which is a record.
@@ -62,7 +62,7 @@ impl Due {
     }
 
     /// The closed outlets took their frames.
-    pub(crate) fn take_all(&mut self, cell: &OutletCell) {
+    pub(crate) fn take_all(&mut self, cell: &MemoryOutletCell) {
         if let Some(before) = &cell.before {
             self.take_all(before);
         }

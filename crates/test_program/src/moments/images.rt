@@ -1,7 +1,7 @@
 // The stores that runs begin with, and what a crash leaves of them.
 use crate::stores::put_store;
 use sg_device::NoMemory;
-use sg_memory_disk::{MemoryDisk, MemoryStores, Pick, StoreCell};
+use sg_memory_disk::{MemoryDisk, MemoryStoreCell, MemoryStores, Pick};
 use std::alloc::Global;
 
 /// The store of the source's position.
@@ -75,7 +75,7 @@ fn leave(
 
 fn leave_all(
     alloc: Global,
-    cell: &StoreCell,
+    cell: &MemoryStoreCell,
     position: &[Pick],
     buffer: &[Pick],
     stores: &mut MemoryStores,

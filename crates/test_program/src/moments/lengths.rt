@@ -2,7 +2,7 @@
 use crate::machine::machine_with;
 use crate::moments::due::Due;
 use crate::moments::images::{BUFFER, left, older, picks};
-use crate::moments::runs::{NEVER, Stops, run};
+use crate::moments::runs::{DeviceStops, NEVER, run};
 use sg_device::NoMemory;
 use sg_memory_disk::MemoryStores;
 use sg_spooled::list_store;
@@ -46,12 +46,12 @@ fn append_length(
 }
 
 // The stores behind a run in which the disk-buffer's stops behind so many calls.
-fn stopped<T: Threads + Wait + Sync>(
+fn stopped<T: Threads + Wait + Eprint + Sync>(
     rt: &T,
     alloc: Global,
     calls: u64,
 ) -> Result<MemoryStores, NoMemory> {
-    let stops = Stops {
+    let stops = DeviceStops {
         buffer: Some(calls),
         ..NEVER
     };
@@ -65,7 +65,7 @@ fn append_count(alloc: Global, calls: u64, out: &mut Vec<u8>) -> Result<(), NoMe
     Ok(())
 }
 
-fn append_lengths<T: Threads + Wait + Sync>(
+fn append_lengths<T: Threads + Wait + Eprint + Sync>(
     rt: &T,
     alloc: Global,
     calls: u64,
@@ -79,7 +79,7 @@ fn append_lengths<T: Threads + Wait + Sync>(
 
 /// The lengths behind runs that stop behind each number of calls up to that of the row: where nothing was written since the last
 /// sync, and where all was.
-pub(crate) fn lengths<T: Threads + Wait + Sync>(
+pub(crate) fn lengths<T: Threads + Wait + Eprint + Sync>(
     rt: &T,
     alloc: Global,
     row: &str,

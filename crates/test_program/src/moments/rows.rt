@@ -1,7 +1,7 @@
 // What rows come to.
 use crate::moments::due::Due;
 use crate::moments::images::{are_picks, begun, left, picks};
-use crate::moments::runs::{NEVER, Ran, Stops, run};
+use crate::moments::runs::{DeviceStops, EndedProgram, NEVER, run};
 use sg_device::NoMemory;
 use sg_memory_disk::MemoryStores;
 use std::alloc::Global;
@@ -31,7 +31,7 @@ fn code_text(alloc: Global, code: Option<u8>) -> Result<String, NoMemory> {
 }
 
 // The exit status of a run with working devices.
-fn working<T: Threads + Wait + Sync>(
+fn working<T: Threads + Wait + Eprint + Sync>(
     rt: &T,
     alloc: Global,
     stores: MemoryStores,
@@ -48,7 +48,7 @@ fn end_text(alloc: Global, code: Option<u8>, due: &Due) -> Result<String, NoMemo
 }
 
 // A run with working devices. None where it is right, and else what it came to.
-fn finish<T: Threads + Wait + Sync>(
+fn finish<T: Threads + Wait + Eprint + Sync>(
     rt: &T,
     alloc: Global,
     stores: MemoryStores,
@@ -78,7 +78,7 @@ fn crashed(
 }
 
 // A run over what a crash leaves of these stores by these picks.
-fn look<T: Threads + Wait + Sync>(
+fn look<T: Threads + Wait + Eprint + Sync>(
     rt: &T,
     alloc: Global,
     stores: &MemoryStores,
@@ -96,7 +96,7 @@ fn look<T: Threads + Wait + Sync>(
     Ok(())
 }
 
-fn look_all<T: Threads + Wait + Sync>(
+fn look_all<T: Threads + Wait + Eprint + Sync>(
     rt: &T,
     alloc: Global,
     stores: &MemoryStores,
@@ -110,11 +110,11 @@ fn look_all<T: Threads + Wait + Sync>(
 }
 
 // A run whose devices stop so, and the runs behind it; whether it met a stop.
-fn stop<T: Threads + Wait + Sync>(
+fn stop<T: Threads + Wait + Eprint + Sync>(
     rt: &T,
     alloc: Global,
     stores: MemoryStores,
-    stops: Stops<'_>,
+    stops: DeviceStops<'_>,
     sums: &mut Sums,
 ) -> Result<bool, NoMemory> {
     let mut due = Due::new(alloc)?;
@@ -131,14 +131,14 @@ fn stop<T: Threads + Wait + Sync>(
 }
 
 // Where the store stops behind so many calls.
-fn at<'a>(store: &str, calls: u64, tear: &'a str) -> Option<Stops<'a>> {
-    let stops = Stops { tear, ..NEVER };
+fn at<'a>(store: &str, calls: u64, tear: &'a str) -> Option<DeviceStops<'a>> {
+    let stops = DeviceStops { tear, ..NEVER };
     match store {
-        "position" => Some(Stops {
+        "position" => Some(DeviceStops {
             position: Some(calls),
             ..stops
         }),
-        "buffer" => Some(Stops {
+        "buffer" => Some(DeviceStops {
             buffer: Some(calls),
             ..stops
         }),
@@ -178,7 +178,7 @@ fn series(row: &str) -> Option<(&str, &str, &str)> {
 
 // A run in which the store of these words stops behind so many calls, and those behind it: whether it met a stop; none where the
 // words are others.
-fn stop_behind<T: Threads + Wait + Sync>(
+fn stop_behind<T: Threads + Wait + Eprint + Sync>(
     rt: &T,
     alloc: Global,
     words: (&str, &str, &str),
@@ -196,7 +196,7 @@ fn stop_behind<T: Threads + Wait + Sync>(
 }
 
 // Runs in which the store of these words stops at each of its calls. Whether one met no stop.
-fn stop_each<T: Threads + Wait + Sync>(
+fn stop_each<T: Threads + Wait + Eprint + Sync>(
     rt: &T,
     alloc: Global,
     words: (&str, &str, &str),
@@ -213,7 +213,7 @@ fn stop_each<T: Threads + Wait + Sync>(
 }
 
 // What comes of these runs; none where the row has other words.
-fn sum_up<T: Threads + Wait + Sync>(
+fn sum_up<T: Threads + Wait + Eprint + Sync>(
     rt: &T,
     alloc: Global,
     row: &str,
@@ -236,7 +236,7 @@ fn sum_up<T: Threads + Wait + Sync>(
 }
 
 /// Runs in which a store stops at each of its calls, and those behind them.
-pub(crate) fn each<T: Threads + Wait + Sync>(
+pub(crate) fn each<T: Threads + Wait + Eprint + Sync>(
     rt: &T,
     alloc: Global,
     row: &str,
@@ -248,7 +248,7 @@ pub(crate) fn each<T: Threads + Wait + Sync>(
 }
 
 /// How many such runs met a stop.
-pub(crate) fn stops<T: Threads + Wait + Sync>(
+pub(crate) fn stops<T: Threads + Wait + Eprint + Sync>(
     rt: &T,
     alloc: Global,
     row: &str,
@@ -292,7 +292,7 @@ fn are_stops(text: &str) -> bool {
 }
 
 // A run that stops as these words say, and what a crash leaves of its stores.
-fn stop_once<T: Threads + Wait + Sync>(
+fn stop_once<T: Threads + Wait + Eprint + Sync>(
     rt: &T,
     alloc: Global,
     stores: MemoryStores,
@@ -300,7 +300,7 @@ fn stop_once<T: Threads + Wait + Sync>(
     due: &mut Due,
 ) -> Result<MemoryStores, NoMemory> {
     let mut words = text.split_whitespace();
-    let stops = Stops {
+    let stops = DeviceStops {
         position: count(words.next()),
         buffer: count(words.next()),
         outlet: count(words.next()),
@@ -317,7 +317,7 @@ fn differs(alloc: Global, said: &str, stops: &str) -> Result<Vec<u8>, NoMemory> 
 }
 
 // What comes of runs over these stores that stop as the words say, one behind the other.
-fn chained<T: Threads + Wait + Sync>(
+fn chained<T: Threads + Wait + Eprint + Sync>(
     rt: &T,
     alloc: Global,
     mut stores: MemoryStores,
@@ -334,7 +334,7 @@ fn chained<T: Threads + Wait + Sync>(
 }
 
 /// Runs one behind the other.
-pub(crate) fn chain<T: Threads + Wait + Sync>(
+pub(crate) fn chain<T: Threads + Wait + Eprint + Sync>(
     rt: &T,
     alloc: Global,
     row: &str,

@@ -5,7 +5,7 @@ use crate::moments::due::{Due, LINES};
 use crate::moments::images::picks;
 use sg_device::NoMemory;
 use sg_memory::{MemoryFile, OutletScript};
-use sg_memory_disk::{DiskPlan, MemoryStores, Plan};
+use sg_memory_disk::{DiskPlan, FaultPlan, MemoryStores};
 use sg_world::MemoryMachine;
 use std::alloc::Global;
 use std::collections::VecDeque;
@@ -18,7 +18,7 @@ const CONFIG: &[u8] =
 
 /// Behind how many calls each device stops, if ever, and what a store's call that fails leaves, in letters for picks.
 #[derive(Clone, Copy, Drop)]
-pub(crate) struct Stops<'a> {
+pub(crate) struct DeviceStops<'a> {
     pub(crate) position: Option<u64>,
     pub(crate) buffer: Option<u64>,
     pub(crate) outlet: Option<u64>,
@@ -26,7 +26,7 @@ pub(crate) struct Stops<'a> {
 }
 
 /// No device stops.
-pub(crate) const NEVER: Stops<'static> = Stops {
+pub(crate) const NEVER: DeviceStops<'static> = DeviceStops {
     position: None,
     buffer: None,
     outlet: None,
@@ -36,7 +36,7 @@ pub(crate) const NEVER: Stops<'static> = Stops {
 /// What a run came to: its exit status, none where its configuration isn't loaded; whether that was before its rounds; and the
 /// stores as it left them.
 #[derive(Drop)]
-pub(crate) struct Ran {
+pub(crate) struct EndedProgram {
     pub(crate) code: Option<u8>,
     pub(crate) early: bool,
     pub(crate) stores: MemoryStores,
@@ -60,7 +60,7 @@ fn plan(alloc: Global, calls: Option<u64>, tear: &str) -> Result<DiskPlan, NoMem
 fn stopping(
     alloc: Global,
     mut stores: MemoryStores,
-    stops: Stops<'_>,
+    stops: DeviceStops<'_>,
 ) -> Result<MemoryStores, NoMemory> {
     stores
         .plans
@@ -77,7 +77,7 @@ fn dying(alloc: Global, calls: u64) -> Result<OutletScript, NoMemory> {
     for behind in 0..10 {
         fails.push(calls.saturating_add(behind))?;
     }
-    Ok(OutletScript::failing(alloc, Plan::new(fails)))
+    Ok(OutletScript::failing(alloc, FaultPlan::new(fails)))
 }
 
 fn outlets(alloc: Global, calls: Option<u64>) -> Result<VecDeque<OutletScript>, NoMemory> {
@@ -92,7 +92,7 @@ fn outlets(alloc: Global, calls: Option<u64>) -> Result<VecDeque<OutletScript>, 
 fn machine(
     alloc: Global,
     stores: MemoryStores,
-    stops: Stops<'_>,
+    stops: DeviceStops<'_>,
 ) -> Result<MemoryMachine, NoMemory> {
     let stores = stopping(alloc, stores, stops)?;
     let outlets = outlets(alloc, stops.outlet)?;
@@ -103,7 +103,7 @@ fn machine(
 }
 
 // A run of this machine: its exit status, and whether that was before its rounds.
-fn run_in<T: Threads + Wait + Sync>(
+fn run_in<T: Threads + Wait + Eprint + Sync>(
     rt: &T,
     alloc: Global,
     machine: &mut MemoryMachine,
@@ -123,17 +123,17 @@ fn run_in<T: Threads + Wait + Sync>(
 }
 
 /// A run over these stores whose devices stop so.
-pub(crate) fn run<T: Threads + Wait + Sync>(
+pub(crate) fn run<T: Threads + Wait + Eprint + Sync>(
     rt: &T,
     alloc: Global,
     stores: MemoryStores,
-    stops: Stops<'_>,
+    stops: DeviceStops<'_>,
     due: &mut Due,
-) -> Result<Ran, NoMemory> {
+) -> Result<EndedProgram, NoMemory> {
     let mut machine = machine(alloc, stores, stops)?;
     let (code, early) = run_in(rt, alloc, &mut machine, due);
     let empty = MemoryStores::new(alloc);
-    Ok(Ran {
+    Ok(EndedProgram {
         code,
         early,
         stores: replace(&mut machine.world.stores, empty),

@@ -2,7 +2,7 @@
 use crate::faults::append_unloaded;
 use sg_device::NoMemory;
 use sg_loaded::Unloaded;
-use sg_memory::{MemoryWorld, OutletCell};
+use sg_memory::{MemoryOutletCell, MemoryWorld};
 use sg_run::Outcome;
 use std::alloc::Global;
 
@@ -35,7 +35,7 @@ pub(crate) fn append_end(
 }
 
 // The frames of each outlet that was closed, the first one first.
-fn append_frames(cell: &OutletCell, out: &mut Vec<u8>) -> Result<(), NoMemory> {
+fn append_frames(cell: &MemoryOutletCell, out: &mut Vec<u8>) -> Result<(), NoMemory> {
     if let Some(before) = &cell.before {
         append_frames(before, out)?;
     }

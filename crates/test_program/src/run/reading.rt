@@ -1,7 +1,7 @@
 // How the parts of a row are read.
 
 use sg_device::NoMemory;
-use sg_memory_disk::Plan;
+use sg_memory_disk::FaultPlan;
 use std::alloc::Global;
 
 // Numbers of calls; None where these are none.
@@ -25,13 +25,13 @@ fn all(alloc: Global) -> Result<Vec<u64>, NoMemory> {
 }
 
 /// The calls that fail; None where a text doesn't say which.
-pub(crate) fn calls(alloc: Global, text: &str) -> Result<Option<Plan>, NoMemory> {
+pub(crate) fn calls(alloc: Global, text: &str) -> Result<Option<FaultPlan>, NoMemory> {
     let numbers = match text {
         "none" => Some(Vec::new(alloc)),
         "all" => Some(all(alloc)?),
         _ => numbers(alloc, text)?,
     };
-    Ok(numbers.map(Plan::new))
+    Ok(numbers.map(FaultPlan::new))
 }
 
 /// IP, PORT, SLOT, PEER and TEXT.

@@ -1,6 +1,6 @@
 // Offers that a message's text decides.
 ghost use Rattle.std.specs.Prelude.{◌≡◌, ◌≤◌, ◌≤ℤ◌, pos, length, IfOk};
-ghost use Rattle.sg_route.specs.Offers.{AllWithin};
+ghost use Rattle.sg_msg.specs.Offers.{AllWithin};
 
 use bytes::Bytes;
 use sg_msg::{Message, Offer};

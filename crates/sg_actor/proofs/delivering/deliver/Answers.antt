@@ -1,6 +1,6 @@
 use Rattle.std.proofs.Common.{◌≡◌, sym, subst, ap, true, List, ℕ, length, arith}
 use Rattle.sg_actor.specs.Rendering.{sent_of}
-use Rattle.sg_actor.specs.Outages.{Sends}
+use Rattle.sg_actor.specs.Outages.{SendComesTo}
 use Rattle.sg_actor.specs.DestTurns.{HasDelivered, idle_in}
 use Rattle.sg_actor.specs.Delivering.{Settles}
 use Rattle.sg_actor.proofs.FrameLemmas.{sent-few}
@@ -20,7 +20,7 @@ pub returns-then-sent-clause-delivers : goal.returns-then-sent-clause-delivers
 returns-then-sent-clause-delivers g c =
     let drain = g.O.Outlet.state c.args.outlet.now in
     let drain' = g.O.Outlet.state c.send-sent.new.outlet in
-    let sends = subst (λ (frames : List (List ℕ)). Sends c.args.spec.now.gives_up frames c.args.outage.now c.send-sent.new.outage drain drain' c.send-sent.result) c.in_ok-render.ensures c.send-sent.ensures in
+    let sends = subst (λ (frames : List (List ℕ)). SendComesTo c.args.spec.now.gives_up frames c.args.outage.now c.send-sent.new.outage drain drain' c.send-sent.result) c.in_ok-render.ensures c.send-sent.ensures in
     let settles = subst (λ (k : ℕ). Settles g.C.Counter.step c.args.counter.now c.settle-goes_on.new.counter c.args.spec.now.dest c.args.place c.send-sent.result.taken k c.send-sent.new.outage c.settle-goes_on.new.outage c.settle-goes_on.result) c.of-taken.ensures c.settle-goes_on.ensures.settles in
     delivered-starved c.args.spec.now g.C.Counter.step c.args.counter.now c.settle-goes_on.new.counter c.args.place c.args.messages.now c.args.outage.now c.send-sent.new.outage c.settle-goes_on.new.outage drain drain' c.send-sent.result c.settle-goes_on.result
     sends c.requires.ready c.requires.kept settles
@@ -29,7 +29,7 @@ pub returns-else-goes_on-clause-delivers : goal.returns-else-goes_on-clause-deli
 returns-else-goes_on-clause-delivers g c =
     let drain = g.O.Outlet.state c.args.outlet.now in
     let drain' = g.O.Outlet.state c.send-sent.new.outlet in
-    let sends = subst (λ (frames : List (List ℕ)). Sends c.args.spec.now.gives_up frames c.args.outage.now c.send-sent.new.outage drain drain' c.send-sent.result) c.in_ok-render.ensures c.send-sent.ensures in
+    let sends = subst (λ (frames : List (List ℕ)). SendComesTo c.args.spec.now.gives_up frames c.args.outage.now c.send-sent.new.outage drain drain' c.send-sent.result) c.in_ok-render.ensures c.send-sent.ensures in
     let settles = subst (λ (k : ℕ). Settles g.C.Counter.step c.args.counter.now c.settle-goes_on.new.counter c.args.spec.now.dest c.args.place c.send-sent.result.taken k c.send-sent.new.outage c.settle-goes_on.new.outage c.settle-goes_on.result) c.of-taken.ensures c.settle-goes_on.ensures.settles in
     subst (λ b. HasDelivered c.args.spec.now g.C.Counter.step c.args.counter.now c.settle-goes_on.new.counter c.args.place c.args.messages.now c.settle-goes_on.new.outage drain drain' true b) (sym c.idle-idle.ensures)
     (delivered-stopped c.args.spec.now g.C.Counter.step c.args.counter.now c.settle-goes_on.new.counter c.args.place c.args.messages.now c.args.outage.now c.send-sent.new.outage c.settle-goes_on.new.outage drain drain' c.send-sent.result c.settle-goes_on.result
@@ -39,7 +39,7 @@ pub returns-then-goes_on-clause-delivers : goal.returns-then-goes_on-clause-deli
 returns-then-goes_on-clause-delivers g c =
     let drain = g.O.Outlet.state c.args.outlet.now in
     let drain' = g.O.Outlet.state c.send-sent.new.outlet in
-    let sends = subst (λ (frames : List (List ℕ)). Sends c.args.spec.now.gives_up frames c.args.outage.now c.send-sent.new.outage drain drain' c.send-sent.result) c.in_ok-render.ensures c.send-sent.ensures in
+    let sends = subst (λ (frames : List (List ℕ)). SendComesTo c.args.spec.now.gives_up frames c.args.outage.now c.send-sent.new.outage drain drain' c.send-sent.result) c.in_ok-render.ensures c.send-sent.ensures in
     let settles = subst (λ (k : ℕ). Settles g.C.Counter.step c.args.counter.now c.settle-goes_on.new.counter c.args.spec.now.dest c.args.place c.send-sent.result.taken k c.send-sent.new.outage c.settle-goes_on.new.outage c.settle-goes_on.result) c.of-taken.ensures c.settle-goes_on.ensures.settles in
     subst (λ b. HasDelivered c.args.spec.now g.C.Counter.step c.args.counter.now c.refill.new.counter c.args.place c.args.messages.now c.refill.new.outage drain drain' true b) (sym c.idle-idle.ensures)
     (delivered-well c.args.spec.now g.C.Counter.step c.args.counter.now c.settle-goes_on.new.counter c.refill.new.counter c.args.place c.args.messages.now c.args.outage.now c.send-sent.new.outage c.settle-goes_on.new.outage c.refill.new.outage drain drain' c.send-sent.result c.settle-goes_on.result

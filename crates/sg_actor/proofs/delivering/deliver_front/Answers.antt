@@ -5,7 +5,7 @@ use Rattle.sg_counter.specs.declared.answers.CoreFront.{CoreFront}
 use Rattle.sg_counter.specs.declared.calls.CoreCall.TheVariants.{Front}
 use Rattle.sg_counter.specs.declared.calls.CoreReply.TheVariants.{Front as FrontReply}
 use Rattle.sg_actor.specs.DestTurns.{HasDelivered}
-use Rattle.sg_actor.proofs.FrontLemmas.{front-starved, front-empty, front-blank, front-broken, front-well, front-failed, blank-of, some-of}
+use Rattle.sg_actor.proofs.FrontLemmas.{front-starved, front-flushed, front-empty, front-blank, front-broken, front-well, front-failed, blank-of, some-of}
 use Rattle.sg_actor.proofs.delivering.deliver_front.Goals as goal
 
 pub returns-in_err-place-clause-gives : goal.returns-in_err-place-clause-gives
@@ -16,7 +16,9 @@ returns-in_err-place-clause-gives g c =
 pub returns-in-Empty-clause-gives : goal.returns-in-Empty-clause-gives
 returns-in-Empty-clause-gives g c =
     let made = subst (λ (f : CoreFront). g.C.Counter.step c.args.counter.now (Front c.args.spec.now.dest 100) (FrontReply (Ok f)) c.front.new.self) c.in-Empty.is c.in_ok-place.ensures.step in
-    front-empty c.args.spec.now g.C.Counter.step c.args.counter.now c.front.new.self c.args.outage.now (g.O.Outlet.state c.args.outlet.now) made c.requires.failures c.requires.ready c.requires.kept
+    front-flushed c.args.spec.now g.C.Counter.step c.args.counter.now c.front.new.self c.args.outage.now (g.O.Outlet.state c.args.outlet.now) (g.O.Outlet.state c.flush-in-Empty.new.outlet) c.flush-in-Empty.result
+    (front-empty c.args.spec.now g.C.Counter.step c.args.counter.now c.front.new.self c.args.outage.now (g.O.Outlet.state c.args.outlet.now) made c.requires.failures c.requires.ready c.requires.kept)
+    c.flush-in-Empty.ensures.outlet c.flush-in-Empty.ensures.nothing
 
 pub returns-in-Broken-clause-gives : goal.returns-in-Broken-clause-gives
 returns-in-Broken-clause-gives g c =
@@ -26,8 +28,10 @@ returns-in-Broken-clause-gives g c =
 pub returns-then-is_empty-clause-gives : goal.returns-then-is_empty-clause-gives
 returns-then-is_empty-clause-gives g c =
     let made = subst (λ (f : CoreFront). g.C.Counter.step c.args.counter.now (Front c.args.spec.now.dest 100) (FrontReply (Ok f)) c.front.new.self) c.in-Entries.is c.in_ok-place.ensures.step in
-    front-blank c.args.spec.now g.C.Counter.step c.args.counter.now c.front.new.self c.in-Entries.place c.in-Entries.messages c.args.outage.now (g.O.Outlet.state c.args.outlet.now)
-    (blank-of c.in-Entries.messages (sym c.is_empty.ensures ∙ c.if-is_empty.true)) made c.requires.failures c.requires.ready c.requires.kept
+    front-flushed c.args.spec.now g.C.Counter.step c.args.counter.now c.front.new.self c.args.outage.now (g.O.Outlet.state c.args.outlet.now) (g.O.Outlet.state c.flush.new.outlet) c.flush.result
+    (front-blank c.args.spec.now g.C.Counter.step c.args.counter.now c.front.new.self c.in-Entries.place c.in-Entries.messages c.args.outage.now (g.O.Outlet.state c.args.outlet.now)
+    (blank-of c.in-Entries.messages (sym c.is_empty.ensures ∙ c.if-is_empty.true)) made c.requires.failures c.requires.ready c.requires.kept)
+    c.flush.ensures.outlet c.flush.ensures.nothing
 
 pub returns-in_err-idle-in-Entries-clause-gives : goal.returns-in_err-idle-in-Entries-clause-gives
 returns-in_err-idle-in-Entries-clause-gives g c =

@@ -2,7 +2,7 @@ use Rattle.std.proofs.Common.{subst, sym, refl, arith, ◌∙◌}
 use Rattle.std.specs.Prelude.{Ok, Err}
 use Rattle.std.specs.declared.alloc.AllocError.{AllocError}
 use Rattle.sg_actor.specs.Sources.{source, IsReady}
-use Rattle.sg_actor.specs.Steps.{Finds}
+use Rattle.sg_actor.specs.Steps.{FindsWork}
 use Rattle.sg_actor.specs.Bringing.{HandsIn}
 use Rattle.sg_actor.proofs.FindLemmas.{pulled-none, idle-none, before-same}
 use Rattle.sg_actor.proofs.KeepLemmas.{keeps-none}
@@ -33,7 +33,7 @@ returns-in-Over-clause-reads g c =
     let a = source (g.I.Inlet.state c.args.inlet.now) c.args.reader.now c.args.buffer.now in
     let b = source (g.I.Inlet.state c.find_work.new.inlet) c.find_work.new.reader c.find_work.new.buffer in
     on-over (g.R.Router.offers c.args.router.now) (g.R.Router.dests c.args.router.now) c.args.spec.now g.C.Counter.step c.args.counter.now c.args.credit a b
-    e.keeps (subst (λ f. Finds {E = AllocError} a b (Ok f)) c.in-Over.is e.finds) e.pulled.pulls
+    e.keeps (subst (λ f. FindsWork {E = AllocError} a b (Ok f)) c.in-Over.is e.finds) e.pulled.pulls
 
 pub returns-in-Idle-clause-reads : goal.returns-in-Idle-clause-reads
 returns-in-Idle-clause-reads g c =
@@ -41,7 +41,7 @@ returns-in-Idle-clause-reads g c =
     let a = source (g.I.Inlet.state c.args.inlet.now) c.args.reader.now c.args.buffer.now in
     let b = source (g.I.Inlet.state c.find_work.new.inlet) c.find_work.new.reader c.find_work.new.buffer in
     on-idle (g.R.Router.offers c.args.router.now) (g.R.Router.dests c.args.router.now) c.args.spec.now g.C.Counter.step c.args.counter.now c.args.credit a b
-    e.keeps (subst (λ f. Finds {E = AllocError} a b (Ok f)) c.in-Idle.is e.finds) e.pulled.pulls
+    e.keeps (subst (λ f. FindsWork {E = AllocError} a b (Ok f)) c.in-Idle.is e.finds) e.pulled.pulls
 
 pub returns-in_err-handed-in-Work-clause-reads : goal.returns-in_err-handed-in-Work-clause-reads
 returns-in_err-handed-in-Work-clause-reads g c =
@@ -65,7 +65,7 @@ returns-in_ok-handed-in-Work-clause-reads g c =
     let ready = subst (λ d. IsReady d c.args.spec.now b) c.requires.dests e.keeps.ready in
     let hands = subst (λ d. HandsIn {E = AllocError} d c.args.spec.now g.C.Counter.step c.args.counter.now c.hand_in.new.counter b z (Ok c.in_ok-handed-in-Work.handed)) (sym c.requires.dests) (c.in_ok-handed-in-Work.ensures.hands c.find_work.new.buffer ready) in
     on-handed (g.R.Router.offers c.args.router.now) dests c.args.spec.now g.C.Counter.step c.args.counter.now c.hand_in.new.counter c.args.credit a b z c.in-Work.pulled c.in_ok-handed-in-Work.handed
-    e.keeps (subst (λ f. Finds {E = AllocError} a b (Ok f)) c.in-Work.is e.finds) hands e.pulled.pulls (omega (arith, e.few, c.least-most.ensures.credit))
+    e.keeps (subst (λ f. FindsWork {E = AllocError} a b (Ok f)) c.in-Work.is e.finds) hands e.pulled.pulls (omega (arith, e.few, c.least-most.ensures.credit))
 
 pub returns-then-credit-eq0-clause-failing : goal.returns-then-credit-eq0-clause-failing
 returns-then-credit-eq0-clause-failing g c =

@@ -1,6 +1,6 @@
 use Rattle.std.proofs.Common.{subst, sym, ap, arith, ◌≡◌, length}
 use Rattle.sg_actor.specs.Sources.{source}
-use Rattle.sg_actor.specs.Steps.{Keeps}
+use Rattle.sg_actor.specs.Steps.{KeepsRecords}
 use Rattle.sg_actor.proofs.KeepLemmas.{keeps-none, keeps-whole, rests-fed, whole-before, whole-fed, whole-few}
 use Rattle.sg_actor.proofs.reading.read_whole.Goals as goal
 
@@ -10,7 +10,7 @@ returns-in_err-feed_pulled-clause-keeps g c =
     let offers = g.R.Router.offers c.args.router.now in
     let dests = g.R.Router.dests c.args.router.now in
     let buffer = c.args.buffer.now in
-    subst (λ r. Keeps offers dests c.args.spec.now (source feed c.args.reader.now buffer) (source feed r buffer)) (sym c.in_err-feed_pulled.ensures)
+    subst (λ r. KeepsRecords offers dests c.args.spec.now (source feed c.args.reader.now buffer) (source feed r buffer)) (sym c.in_err-feed_pulled.ensures)
     (keeps-none offers dests c.args.spec.now (source feed c.args.reader.now buffer) c.requires.ready)
 
 pub take_items-requires-clause-ready : goal.take_items-requires-clause-ready

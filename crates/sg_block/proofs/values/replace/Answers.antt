@@ -2,7 +2,7 @@ use Rattle.std.proofs.Common.{◌≡◌, ◌≢◌, ◌<◌, ◌+◌, ℕ, List,
 use Rattle.sg_lex.specs.declared.token.Token.{Token}
 use Rattle.sg_block.specs.declared.values.Replaced.TheVariants.{Unknown}
 use Rattle.sg_block.specs.Values.{IsCapped, IsReplaced, variable_length, replaced, reached, joined}
-use Rattle.sg_block.proofs.Replacing.{Front, slice-one, slice-name, replaced-byte, replaced-variable, behind-some, behind-none}
+use Rattle.sg_block.proofs.Replacing.{FrontTokens, slice-one, slice-name, replaced-byte, replaced-variable, behind-some, behind-none}
 use Rattle.sg_block.proofs.values.replace.Goals as goal
 
 pub loop-place-preserved-then-count-eq0 : goal.loop-place-preserved-then-count-eq0
@@ -36,7 +36,7 @@ returns-in-None c =
     let gone : reached scope variables (take count (drop (place + 1) text)) ≡ None = sym (ap (reached scope variables) (slice-name text place count)) ∙ sym c.in-None.ensures in
     let ends : replaced scope variables 0 text ≡ None =
     c.loop-place.invariant.1.1.1
-    ∙ ap (Front made) (replaced-variable scope variables text place count within some (sym c.variable_at-count.ensures.value))
+    ∙ ap (FrontTokens made) (replaced-variable scope variables text place count within some (sym c.variable_at-count.ensures.value))
     ∙ behind-none made (reached scope variables (take count (drop (place + 1) text))) (replaced scope variables 0 (drop (place + count + 2) text)) gone in
     subst (λ (o : Option (List ℕ)). IsReplaced c.args.room o Unknown) (sym ends) tt
 
@@ -54,11 +54,11 @@ loop-place-preserved c =
     let some : 0 < count = omega arith in
     let next : place + count + 2 ≡ place + (count + 2) = omega arith in
     let found : reached scope variables (take count (drop (place + 1) text)) ≡ Some value = sym (ap (reached scope variables) (slice-name text place count)) ∙ sym c.in-Some.ensures in
-    let same : replaced scope variables 0 text ≡ Front (made ++ joined value) (replaced scope variables 0 (drop (place + (count + 2)) text)) =
+    let same : replaced scope variables 0 text ≡ FrontTokens (made ++ joined value) (replaced scope variables 0 (drop (place + (count + 2)) text)) =
     c.loop-place.invariant.1.1.1
-    ∙ ap (Front made) (replaced-variable scope variables text place count within some (sym c.variable_at-count.ensures.value))
+    ∙ ap (FrontTokens made) (replaced-variable scope variables text place count within some (sym c.variable_at-count.ensures.value))
     ∙ behind-some made value (reached scope variables (take count (drop (place + 1) text))) (replaced scope variables 0 (drop (place + count + 2) text)) found
-    ∙ ap (λ n. Front (made ++ joined value) (replaced scope variables 0 (drop n text))) next in (
+    ∙ ap (λ n. FrontTokens (made ++ joined value) (replaced scope variables 0 (drop n text))) next in (
       omega (arith, c.variable_at-count.ensures.bound),
       (
         made ++ joined value,

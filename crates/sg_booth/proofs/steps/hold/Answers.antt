@@ -1,6 +1,6 @@
 use Rattle.std.proofs.Common.{arith, ◌<◌, sym, ap, ◌∙◌, subst}
 use Rattle.atomic_table.specs.Table.{rest}
-use Rattle.sg_booth.specs.Rule.{IsGiven}
+use Rattle.sg_booth.specs.Rule.{IsHistoryGiven}
 use Rattle.sg_booth.proofs.Keeps.{returns}
 use Rattle.sg_booth.proofs.Turns.{taken}
 use Rattle.sg_booth.proofs.steps.hold.Goals as goal
@@ -13,7 +13,7 @@ load-requires g c =
       c.wait.ensures.same.0 ∙ (c.draw-ticket.ensures.same.0 ∙ c.requires.table.0),
       omega arith,
       returns g.V.Office.step g.V.Office.may g.V.Office.room about.made.value about.turns _ _ _ _ t.0 t.2 (subst (λ v. 0 < v.sure) (sym t.3) (omega arith)) (ap (λ v. v.out) t.3)
-          (subst (λ v. IsGiven g.V.Office.step g.V.Office.may g.V.Office.room about.made.value v.seen t.0.office) (sym t.3) t.4),
+          (subst (λ v. IsHistoryGiven g.V.Office.step g.V.Office.may g.V.Office.room about.made.value v.seen t.0.office) (sym t.3) t.4),
     )
 
 pub returns-clause-holds : goal.returns-clause-holds

@@ -1,5 +1,5 @@
 use Rattle.std.proofs.Common.{rules, arith, ◌≡◌, ap, ◌∙◌, subst}
-use Rattle.sg_booth.specs.Rule.{Takes}
+use Rattle.sg_booth.specs.Rule.{TakesStep}
 use Rattle.sg_booth.proofs.Keeps.{looks}
 use Rattle.sg_booth.proofs.steps.wait.Goals as goal
 
@@ -18,4 +18,4 @@ returns-then-serving-ticket-clause-takes g c =
     let same = c.loop.invariant.2 in
     let told = c.load-serving.ensures.2 c.args.ticket (ap (λ m. m.0.ticket) same ∙ c.requires.drawn.0) (ap (λ m. m.0.sure) same ∙ c.requires.drawn.1) in
     let found : c.load-serving.result ≡ c.args.ticket = search rules in
-    subst (λ m. Takes g.V.Office.step g.V.Office.may g.V.Office.room m c.load-serving.new.seat.me) same (told.0 found)
+    subst (λ m. TakesStep g.V.Office.step g.V.Office.may g.V.Office.room m c.load-serving.new.seat.me) same (told.0 found)

@@ -6,7 +6,7 @@ use Rattle.sg_spool.proofs.Calls.{lasts_same, lasts_trans}
 use Rattle.sg_spool.specs.Places.{Remains}
 use Rattle.sg_spool.specs.Ring.{Entries, IsList}
 use Rattle.sg_spool.specs.declared.rows.Rows.{Rows}
-use Rattle.sg_buffer.specs.First.{AreFirst, content_in}
+use Rattle.sg_buffer.specs.First.{AreFirstMessages, content_in}
 use Rattle.sg_buffer.proofs.Firsts.{texts_more, take_next, none_left, ended}
 use Rattle.sg_buffer.proofs.Walked.{goes_before}
 use Rattle.sg_buffer.proofs.first.first_messages.Goals as goal
@@ -95,4 +95,4 @@ loop-turn-preserved-in-Empty g c =
 pub returns-clause-messages : goal.returns-clause-messages
 returns-clause-messages g c =
     let all : c.loop-turn._turn ≡ c.args.n = omega (arith, c.loop-turn-test.false, c.loop-turn.auto._turn-end) in
-    subst (λ (n : ℕ). AreFirst (g.D.Disk.state c.args.spool.now.disk) n c.loop-turn.messages.items) all c.loop-turn.invariant.first
+    subst (λ (n : ℕ). AreFirstMessages (g.D.Disk.state c.args.spool.now.disk) n c.loop-turn.messages.items) all c.loop-turn.invariant.first

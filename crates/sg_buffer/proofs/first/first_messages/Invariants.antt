@@ -1,18 +1,18 @@
 use Rattle.std.proofs.Common.{◌≡◌, length, drop}
 use Rattle.std.specs.Prelude.{false}
 use Rattle.sg_device.specs.Disk.{WhereTold, content}
-use Rattle.sg_spool.specs.Calls.{Reads}
+use Rattle.sg_spool.specs.Calls.{OnlyReadsSpool}
 use Rattle.sg_spool.specs.Places.{Remains}
 use Rattle.sg_spool.specs.Ring.{Entries, IsList}
-use Rattle.sg_buffer.specs.First.{AreFirst}
+use Rattle.sg_buffer.specs.First.{AreFirstMessages}
 use Rattle.sg_buffer.proofs.first.first_messages.Given as goal
 
 abbrev pub invariant-loop-turn : goal.invariant-loop-turn
 invariant-loop-turn g l = record {
-  reads : Reads g.D.Disk.state l.initial.spool l.spool;
+  reads : OnlyReadsSpool g.D.Disk.state l.initial.spool l.spool;
   open_ : l.spool.closed ≡ false;
   number : length l.messages.items ≡ l._turn;
-  first : AreFirst (g.D.Disk.state l.initial.spool.disk) l._turn l.messages.items;
+  first : AreFirstMessages (g.D.Disk.state l.initial.spool.disk) l._turn l.messages.items;
   there : WhereTold (content (g.D.Disk.state l.initial.spool.disk)) (λ b. (payloads : Entries) × Remains b l.initial.spool.rows.list.jump l.gate payloads l.initial.spool.rows.list.end);
   left : WhereTold (content (g.D.Disk.state l.initial.spool.disk)) (λ b. (entries : Entries) → IsList entries b
       → Remains b l.initial.spool.rows.list.jump l.gate (drop l._turn entries) l.initial.spool.rows.list.end);

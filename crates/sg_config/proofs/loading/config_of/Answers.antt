@@ -1,15 +1,15 @@
 use Rattle.std.proofs.Common.{sym, refl, arith}
-use Rattle.sg_plan.specs.Limits.{IsWithin}
+use Rattle.sg_plan.specs.Limits.{IsPlanWithin}
 use Rattle.sg_config.proofs.loading.config_of.Goals as goal
 
 pub forest_of-requires-clause-inlets : goal.forest_of-requires-clause-inlets
 forest_of-requires-clause-inlets c =
-    let w : IsWithin c.in_ok-ends.field-0 = c.plans_are_within.ensures c.args.statements.now c.in_ok-ends.field-0 c.requires.faultless c.in_ok-ends.ensures in
+    let w : IsPlanWithin c.in_ok-ends.field-0 = c.plans_are_within.ensures c.args.statements.now c.in_ok-ends.field-0 c.requires.faultless c.in_ok-ends.ensures in
     omega (arith, w.inlets, w.inlet_owners)
 
 pub forest_of-requires-clause-outlets : goal.forest_of-requires-clause-outlets
 forest_of-requires-clause-outlets c =
-    let w : IsWithin c.in_ok-ends.field-0 = c.plans_are_within.ensures c.args.statements.now c.in_ok-ends.field-0 c.requires.faultless c.in_ok-ends.ensures in
+    let w : IsPlanWithin c.in_ok-ends.field-0 = c.plans_are_within.ensures c.args.statements.now c.in_ok-ends.field-0 c.requires.faultless c.in_ok-ends.ensures in
     omega (arith, w.outlets, w.outlet_owners)
 
 pub returns : goal.returns

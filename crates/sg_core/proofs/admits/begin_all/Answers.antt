@@ -2,7 +2,7 @@ use Rattle.std.proofs.Common.{◌≡◌, ◌∙◌, ◌+◌, ◌∷◌, ap, arit
 use Rattle.std.proofs.lemmas.List.{drop_more, drop_all, length-drop}
 use Rattle.sg_list.specs.Lists.{change}
 use Rattle.sg_list.proofs.ListLemmas.{length-change}
-use Rattle.sg_window.specs.declared.tracker.Record.{Record}
+use Rattle.sg_window.specs.declared.tracker.BegunRecord.{BegunRecord}
 use Rattle.sg_standing.specs.Sources.{HasCredit, begun_at, begun_all}
 use Rattle.sg_core.proofs.AdmitSources.{begin-step, credit-step, credit-less, begin-done}
 use Rattle.sg_core.proofs.admits.begin_all.Goals as goal
@@ -18,7 +18,7 @@ pub loop-record-preserved : goal.loop-record-preserved
 loop-record-preserved c =
     let k = c.loop-record.record-index in
     let rs = c.args.records.now in
-    let r : Record = get_or rs k (record { end = 0; left = 0 }) in
+    let r : BegunRecord = get_or rs k (record { end = 0; left = 0 }) in
     let rest = drop (k + 1) rs in
     let parts : drop k rs ≡ r ∷ rest = drop_more rs k (record { end = 0; left = 0 }) (omega arith) in
     let len : length (drop k rs) ≡ length rest + 1 = ap length parts ∙ omega arith in

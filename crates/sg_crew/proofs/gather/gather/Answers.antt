@@ -3,8 +3,9 @@ use Rattle.std.specs.Prelude.{not, is_some, ◌||◌}
 use Rattle.sg_list.proofs.ListLemmas.{slice_get-below, some-same}
 use Rattle.sg_crew.specs.Crews.{any, HasGathered}
 use Rattle.sg_crew.specs.Workers.{seat_of, turn_of, seats_of, turns_of, busy_of_worker, busy_sum, HasStayed}
-use Rattle.sg_crew.proofs.ListLemmas.{any-push, changed-none, changed-more, changed-all, next-is, part-more, take-whole, last-or, total-more}
+use Rattle.sg_crew.proofs.ListLemmas.{any-push, changed-none, changed-more, changed-all, next-is, part-more, take-whole, total-more}
 use Rattle.sg_crew.proofs.SeatLemmas.{gathered-none, gathered-more}
+use Rattle.sg_turns.proofs.PartLemmas.{last-or}
 use Rattle.sg_crew.proofs.gather.gather.Goals as goal
 
 pub loop-i-init : goal.loop-i-init

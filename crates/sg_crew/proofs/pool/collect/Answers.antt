@@ -20,8 +20,8 @@ loop-slot-preserved g c =
     let fits = i.fits in
     let capacity = c.push_reserved.ensures.capacity in
     record {
-      kept = kept-pushed g.K.Kept.kept ws c.push_reserved.new.self.items w c.push_reserved.ensures.items i.kept
-          (subst (λ n. g.K.Kept.kept n w) place c.leave-place.ensures);
+      kept = kept-pushed g.K.WorkerInvariant.kept ws c.push_reserved.new.self.items w c.push_reserved.ensures.items i.kept
+          (subst (λ n. g.K.WorkerInvariant.kept n w) place c.leave-place.ensures);
       all = omega (arith, popped, shorter, pushed, longer, all);
       fits = omega (arith, popped, shorter, pushed, longer, fits, capacity);
     }

@@ -4,7 +4,7 @@ use Rattle.sg_crew.proofs.pool.collect.Given as goal
 
 abbrev pub invariant-loop-slot : goal.invariant-loop-slot
 invariant-loop-slot g l = record {
-  kept : AllKept g.K.Kept.kept l.workers.items;
+  kept : AllKept g.K.WorkerInvariant.kept l.workers.items;
   all : length l.workers.items + length l.slots.items ≡ length l.fn.slots.items;
   fits : length l.workers.items + length l.slots.items ≤ vec_capacity l.workers;
 }

@@ -4,7 +4,7 @@ use Rattle.sg_crew.proofs.pool.share.Given as goal
 
 abbrev pub invariant-loop-worker : goal.invariant-loop-worker
 invariant-loop-worker g l = record {
-  kept : AllKept g.K.Kept.kept l.workers.items;
+  kept : AllKept g.K.WorkerInvariant.kept l.workers.items;
   all : length l.slots.items + length l.workers.items ≡ length l.initial.workers.items;
   fits : length l.slots.items + length l.workers.items ≤ vec_capacity l.slots;
   capacity : vec_capacity l.workers ≡ vec_capacity l.initial.workers;

@@ -1,5 +1,5 @@
 use Rattle.std.proofs.Common.{arith, ◌≡◌, ◌+◌, ◌-◌, length, refl, sym, ap, ◌∙◌, subst}
-use Rattle.sg_booth.specs.Desks.{IsDeskOf, AreOrdered, places}
+use Rattle.sg_booth.specs.Desks.{IsDeskOf, ArePlacesOrdered, places}
 use Rattle.sg_turns.specs.Actors.{SourceTakes, DestTakes, SourceTook, DestTook}
 use Rattle.sg_turns.proofs.ActorLemmas.{source-none, source-more, dest-none, dest-more}
 use Rattle.sg_hub.specs.Seats.{SeatState}
@@ -22,7 +22,7 @@ loop-left-init g c =
     record {
       hub = refl;
       first = subst (IsDeskOf c.args.hub.now) (sym is) (refl, refl);
-      ordered = subst AreOrdered (sym is) (omega arith, tt);
+      ordered = subst ArePlacesOrdered (sym is) (omega arith, tt);
       sum = subst (λ (s : SeatState). length (places s) + s.left ≡ c.args.hub.now.turns) (sym is) (omega arith);
       few = omega arith;
       left = (let left = ap (λ (s : SeatState). s.left) is in omega (arith, left));

@@ -1,6 +1,6 @@
 use Rattle.std.proofs.Common.{◌≡◌, ◌≤◌, ◌+◌, ◌-◌, length}
 use Rattle.std.specs.Prelude.{◌*◌}
-use Rattle.sg_booth.specs.Desks.{IsDeskOf, AreOrdered, places}
+use Rattle.sg_booth.specs.Desks.{IsDeskOf, ArePlacesOrdered, places}
 use Rattle.sg_standing.specs.States.{setup_of}
 use Rattle.sg_turns.specs.Actors.{AreSources, AreDests, SourceTook, DestTook}
 use Rattle.sg_crew.specs.Workers.{actors_of}
@@ -11,7 +11,7 @@ abbrev pub invariant-loop-left : goal.invariant-loop-left
 invariant-loop-left g l = record {
   hub : l.hub ≡ l.initial.hub;
   first : IsDeskOf l.hub l.first;
-  ordered : AreOrdered l.first;
+  ordered : ArePlacesOrdered l.first;
   sum : length (places l.first) + l.first.left ≡ l.hub.turns;
   few : l.left ≤ l.fn.rounds;
   left : l.hub.turns + 196608 * l.left ≤ l.first.left + 196608 * l.fn.rounds;

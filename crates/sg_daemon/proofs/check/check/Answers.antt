@@ -1,7 +1,7 @@
 use Rattle.sg_daemon.specs.declared.unchecked.Unchecked.TheVariants.{Bad, Unread}
 use Rattle.sg_loaded.specs.declared.loaded.Unloaded.TheVariants as unloaded
 use Rattle.sg_daemon.proofs.CheckLemmas.{checks-ok, checks-unsaid, checks-starved, checks-refused}
-use Rattle.sg_daemon.proofs.SaidLemmas.{says-tells, tells-of}
+use Rattle.sg_daemon.proofs.SaidLemmas.{tells-of}
 use Rattle.sg_daemon.proofs.check.check.Goals as goal
 
 pub returns-in-Ok : goal.returns-in-Ok
@@ -24,5 +24,6 @@ returns-in-Err-Bad g c =
 pub returns-in-Err-Unread : goal.returns-in-Err-Unread
 returns-in-Err-Unread g c =
     checks-refused (g.W.Machine.state c.args.world.now) (g.W.Machine.state c.check_file.new.world) (g.W.Machine.state c.tell_unloaded-in-Err-Unread.new.world) c.args.file.now (Unread c.in-Err-Unread.name) c.tell_unloaded-in-Err-Unread.result
-    c.in-Err-Unread.ensures.only (rw c.in-Err-Unread.field-0-is at c.in-Err-Unread.ensures.checks) (rw c.in-Err-Unread.field-0-is at c.in-Err-Unread.ensures.complete) (says-tells (g.W.Machine.state c.check_file.new.world) (g.W.Machine.state c.tell_unloaded-in-Err-Unread.new.world) (c.tell_unloaded-in-Err-Unread.ensures).says)
+    c.in-Err-Unread.ensures.only (rw c.in-Err-Unread.field-0-is at c.in-Err-Unread.ensures.checks) (rw c.in-Err-Unread.field-0-is at c.in-Err-Unread.ensures.complete)
+    (tells-of (g.W.Machine.state c.check_file.new.world) (g.W.Machine.state c.tell_unloaded-in-Err-Unread.new.world) (unloaded.Unread c.in-Err-Unread.name) c.tell_unloaded-in-Err-Unread.result c.tell_unloaded-in-Err-Unread.ensures)
     c.tell_unloaded-in-Err-Unread.ensures

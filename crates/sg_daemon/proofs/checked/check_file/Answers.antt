@@ -1,18 +1,24 @@
-use Rattle.sg_daemon.proofs.CheckedLemmas.{ok-checks, ok-only, ok-complete, loads-only, bad-checks, unread-checks, calm-load}
+use Rattle.sg_daemon.proofs.CheckedLemmas.{said-read, ok-checks, ok-only, ok-complete, loads-only, bad-checks, unread-checks, calm-load}
 use Rattle.sg_daemon.proofs.checked.check_file.Goals as goal
 
 pub returns-in-Ok-clause-checks : goal.returns-in-Ok-clause-checks
 returns-in-Ok-clause-checks g c =
-    ok-checks (g.W.Machine.state c.args.world.now) (g.W.Machine.state c.load_file.new.world) (g.W.Machine.state c.say_ok.new.world) c.args.file.now c.in-Ok.loaded c.say_ok.result
-    c.in-Ok.ensures.loads c.in-Ok.ensures.only c.say_ok.ensures.has
+    let said = g.W.Machine.state c.say_ok-said.new.world in
+    let new = g.W.Machine.state c.tell_warnings.new.world in
+    let has = said-read (g.W.Machine.state c.load_file.new.world) said new c.args.file.now c.say_ok-said.result c.say_ok-said.ensures.has c.tell_warnings.ensures in
+    ok-checks (g.W.Machine.state c.args.world.now) (g.W.Machine.state c.load_file.new.world) new c.args.file.now c.in-Ok.loaded c.say_ok-said.result c.in-Ok.ensures.loads c.in-Ok.ensures.only has
 
 pub returns-in-Ok-clause-only : goal.returns-in-Ok-clause-only
 returns-in-Ok-clause-only g c =
-    ok-only (g.W.Machine.state c.args.world.now) (g.W.Machine.state c.load_file.new.world) (g.W.Machine.state c.say_ok.new.world) c.in-Ok.ensures.only c.say_ok.ensures.says
+    ok-only (g.W.Machine.state c.args.world.now) (g.W.Machine.state c.load_file.new.world) (g.W.Machine.state c.say_ok-said.new.world) (g.W.Machine.state c.tell_warnings.new.world) c.in-Ok.ensures.only
+    c.say_ok-said.ensures.says c.tell_warnings.ensures
 
 pub returns-in-Ok-clause-complete : goal.returns-in-Ok-clause-complete
 returns-in-Ok-clause-complete g c = λ files config told is can calm.
-    ok-complete (g.W.Machine.state c.args.world.now) (g.W.Machine.state c.load_file.new.world) (g.W.Machine.state c.say_ok.new.world) c.args.file.now c.say_ok.result c.in-Ok.ensures.only c.say_ok.ensures.has calm
+    let said = g.W.Machine.state c.say_ok-said.new.world in
+    let new = g.W.Machine.state c.tell_warnings.new.world in
+    let has = said-read (g.W.Machine.state c.load_file.new.world) said new c.args.file.now c.say_ok-said.result c.say_ok-said.ensures.has c.tell_warnings.ensures in
+    ok-complete (g.W.Machine.state c.args.world.now) (g.W.Machine.state c.load_file.new.world) new c.args.file.now c.say_ok-said.result c.in-Ok.ensures.only has calm
 
 pub returns-in-Err-Bad-clause-checks : goal.returns-in-Err-Bad-clause-checks
 returns-in-Err-Bad-clause-checks g c =

@@ -1,5 +1,5 @@
 use Rattle.std.proofs.Common.{refl, ◌∙◌}
-use Rattle.sg_filter.specs.declared.work.Work.{Work}
+use Rattle.sg_filter.specs.declared.work.CompileWork.{CompileWork}
 use Rattle.sg_filter.proofs.Turning.{leads-start, leads-on, refuses-on, only-none, only-more}
 use Rattle.sg_filter.proofs.work.made.Goals as goal
 
@@ -15,7 +15,7 @@ turns-init g c =
 pub turns-preserved : goal.turns-preserved
 turns-preserved g c =
     let inv = c.turns.invariant in
-    let popped : Work = record c.turns.work { frames = c.pop.new.self } in (
+    let popped : CompileWork = record c.turns.work { frames = c.pop.new.self } in (
       leads-on c.args.named.now c.args.expr.now c.turns.work popped c.turn.new.self c.in-Some.frame inv.0 c.in-Some.ensures.items refl refl c.in-Ok.ensures.turns,
       only-more _ _ _ inv.1 c.turn.ensures.only,
       c.in-Ok.ensures.stays ∙ inv.2,

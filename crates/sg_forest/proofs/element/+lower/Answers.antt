@@ -11,7 +11,7 @@ use Rattle.sg_forest.specs.Steps.{element_steps}
 use Rattle.sg_forest.specs.Patterns.{element_patterns}
 use Rattle.sg_forest.specs.Adds.{AreElements, AreBranches, AreLogs}
 use Rattle.sg_forest.proofs.Adding.{adds-more, adds-all}
-use Rattle.sg_forest.proofs.Making.{branch-made, log-rolled, marks-rolled, catchall-rolled, line-rolled, source-adds, destination-adds, filter-adds, rewrite-adds, junction-adds, else-adds, ifs-add}
+use Rattle.sg_forest.proofs.Making.{branch-made, log-rolled, marks-rolled, catchall-rolled, line-rolled, source-adds, destination-adds, filter-adds, rewrite-adds, parser-adds, junction-adds, else-adds, ifs-add}
 use Rattle.sg_forest.proofs.element.+lower.Goals as goal
 
 pub lower_branch-returns : goal.lower_branch-returns
@@ -113,6 +113,12 @@ push_element-returns-in_ok-push_calls-in-Rewrite t c =
     let rewrites : List (List Call) = map (λ calls. calls.now) c.args.rewrites.now in
     rewrite-adds names outlets rewrites c.args.element.now c.args.found.now.items c.push_calls.new.elements.items c.in-Rewrite.rewrite c.calls_meant.result.now c.in-Rewrite.is c.calls_meant.ensures
     c.in_ok-push_calls-in-Rewrite.ensures
+
+pub push_element-returns-in_ok-push_parsers-in-Parser : goal.push_element-returns-in_ok-push_parsers-in-Parser
+push_element-returns-in_ok-push_parsers-in-Parser t c =
+    let rewrites : List (List Call) = map (λ calls. calls.now) c.args.rewrites.now in
+    parser-adds c.args.names.now c.args.outlets.now rewrites c.args.element.now c.args.found.now.items c.push_parsers.new.elements.items c.in-Parser.parser c.parsers_meant.result.now c.in-Parser.is c.parsers_meant.ensures
+    c.in_ok-push_parsers-in-Parser.ensures
 
 pub push_element-returns-in_ok-append-in-Junction : goal.push_element-returns-in_ok-append-in-Junction
 push_element-returns-in_ok-append-in-Junction t c =

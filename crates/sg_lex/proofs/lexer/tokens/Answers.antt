@@ -1,8 +1,8 @@
 use Rattle.std.proofs.lemmas.List.{length-drop, length-take-le}
 use Rattle.std.proofs.Common.{◌≡◌, ◌+◌, ◌<◌, List, length, take, drop, ℕ, Ok, arith, ap, ◌∙◌, subst}
-use Rattle.sg_lex.specs.declared.piece.Piece.{Piece}
+use Rattle.sg_lex.specs.declared.piece.Lexeme.{Lexeme}
 use Rattle.sg_lex.specs.Tokens.{piece}
-use Rattle.sg_lex.specs.Pieces.{IsWithin, TakesPiece, spot_after}
+use Rattle.sg_lex.specs.Pieces.{IsLexemeWithin, TakesPiece, spot_after}
 use Rattle.sg_lex.proofs.Words.{tail}
 use Rattle.sg_lex.proofs.Steps.{within-length, taken-more}
 use Rattle.sg_lex.proofs.lexer.tokens.Goals as goal
@@ -14,8 +14,8 @@ loop-spot-preserved c =
     let rest = drop spot.place text in
     let whole = tail spot.place text in
     let found = c.in_ok-piece.ensures.value ∙ ap (piece spot.before) whole in
-    let bound = subst (λ (p : Piece). IsWithin (length rest) p) found (subst (λ (bytes : List ℕ). IsWithin (length bytes) c.in_ok-piece.piece) whole c.in_ok-piece.ensures.bound) in
-    let taken = subst (λ (p : Piece). TakesPiece c.args.file spot p c.loop-spot.tokens.items c.take_piece.new.tokens.items (Ok c.in_ok-count.count)) found c.in_ok-count.ensures in
+    let bound = subst (λ (p : Lexeme). IsLexemeWithin (length rest) p) found (subst (λ (bytes : List ℕ). IsLexemeWithin (length bytes) c.in_ok-piece.piece) whole c.in_ok-piece.ensures.bound) in
+    let taken = subst (λ (p : Lexeme). TakesPiece c.args.file spot p c.loop-spot.tokens.items c.take_piece.new.tokens.items (Ok c.in_ok-count.count)) found c.in_ok-count.ensures in
     let ahead : 0 < length rest = omega (arith, length-drop spot.place text) in
     let within = within-length (piece spot.before rest) (length rest) ahead bound in
     let front = ap (take c.in_ok-count.count) whole in

@@ -1,6 +1,6 @@
 use Rattle.std.proofs.Common.{◌≡◌, ◌<◌, take, get_or, IfOk, arith, ap, ◌∙◌, subst}
-use Rattle.sg_lex.specs.declared.piece.Piece.{Piece}
-use Rattle.sg_lex.specs.declared.piece.Piece.TheVariants.{Spelled}
+use Rattle.sg_lex.specs.declared.piece.Lexeme.{Lexeme}
+use Rattle.sg_lex.specs.declared.piece.Lexeme.TheVariants.{Spelled}
 use Rattle.sg_lex.specs.declared.token.TokenKind.TheVariants.{Word}
 use Rattle.sg_lex.specs.Tokens.{word_length, mark}
 use Rattle.sg_lex.proofs.Words.{tail, piece-word, piece-mark}
@@ -18,4 +18,4 @@ pub returns-clause-value : goal.returns-clause-value
 returns-clause-value c =
     let text = c.args.text.now in
     let none : word_length c.args.before text ≡ 0 = omega (arith, c.word_length-length.ensures.value) in
-    subst (λ (p : Piece). IfOk c.mark.result (λ found. found ≡ p)) (ap (mark (get_or text 0 0)) (tail 1 text) ∙ piece-mark c.args.before text (omega arith) none) c.mark.ensures.value
+    subst (λ (p : Lexeme). IfOk c.mark.result (λ found. found ≡ p)) (ap (mark (get_or text 0 0)) (tail 1 text) ∙ piece-mark c.args.before text (omega arith) none) c.mark.ensures.value

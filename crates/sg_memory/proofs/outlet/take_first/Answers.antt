@@ -2,7 +2,7 @@ use Rattle.std.proofs.Common.{◌≡◌, ◌∙◌, ◌<◌, ◌+◌, ◌++◌, 
 use Rattle.std.proofs.lemmas.List.{take_more, drop-drop, length-map, append_assoc}
 use Rattle.std.specs.Prelude.{map}
 use Rattle.sg_device.specs.Frames.{joined, total}
-use Rattle.sg_memory.proofs.FrameParts.{frame-fits, frame-there, total-more}
+use Rattle.sg_device.proofs.FrameParts.{frame-fits, frame-there, total-more}
 use Rattle.sg_memory.proofs.outlet.take_first.Goals as goal
 
 pub split_at-requires : goal.split_at-requires

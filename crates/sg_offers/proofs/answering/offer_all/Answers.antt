@@ -4,10 +4,11 @@ use Rattle.sg_machine.specs.Verdicts.{claims_in, claims_from}
 use Rattle.sg_offers.specs.Payloads.{buffers_of, trial_in}
 use Rattle.sg_offers.specs.Rooms.{seen_in}
 use Rattle.sg_offers.specs.Answering.{sinks_after, verdicts_from, begun_of}
-use Rattle.sg_offers.proofs.ClaimLemmas.{length-claims, length-more}
+use Rattle.sg_offers.proofs.ClaimLemmas.{length-more}
 use Rattle.sg_offers.proofs.PayloadLemmas.{blocks-from}
 use Rattle.sg_offers.proofs.SinkLemmas.{length-verdicts}
 use Rattle.sg_offers.proofs.BatchSteps.{ahead-asks, ahead-step}
+use Rattle.sg_machine.proofs.RecordLemmas.{length-claims}
 use Rattle.sg_offers.proofs.answering.offer_all.Goals as goal
 
 pub loop-admission-init : goal.loop-admission-init

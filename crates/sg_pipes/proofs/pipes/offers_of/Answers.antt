@@ -7,7 +7,7 @@ use Rattle.sg_table.specs.declared.pipe.Pipe.{Pipe}
 use Rattle.sg_table.specs.declared.pipe.Top.{Top}
 use Rattle.sg_table.specs.Table.{siblings_of, branches_at, steps_at}
 use Rattle.sg_pipes.specs.Chosen.{branches_for}
-use Rattle.sg_pipes.specs.Turns.{Works}
+use Rattle.sg_pipes.specs.Turns.{WorksWalk}
 use Rattle.sg_pipes.proofs.Whole.{chosen-offered, done-is}
 use Rattle.sg_pipes.proofs.pipes.offers_of.Goals as goal
 
@@ -18,7 +18,7 @@ returns-clause-offers c =
     let at = steps_at all in
     let inlet = c.args.inlet in
     let cleared = c.in_ok-clear.ensures in
-    let works = subst (λ (ps : List Pipe). Works ps c.offer.new.self c.work.new.self) c.in_ok-offer.ensures.stays c.in_ok-work.ensures.works in
+    let works = subst (λ (ps : List Pipe). WorksWalk ps c.offer.new.self c.work.new.self) c.in_ok-offer.ensures.stays c.in_ok-work.ensures.works in
     let done = done-is all _ _ c.offer.new.self c.work.new.self cleared.1 c.in_ok-offer.ensures.delivers works in
     ap (λ (v : Vec Offer Global). v.items) c.replace.ensures.value
     ∙ done

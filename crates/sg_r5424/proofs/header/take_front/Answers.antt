@@ -1,6 +1,6 @@
 use Rattle.std.proofs.Common.{◌≡◌, ℕ, List, Some, is_some, sym, ap, subst, arith}
 use Rattle.std.proofs.lemmas.Bool.{false≢true}
-use Rattle.sg_time.specs.Stamp.{IsValid}
+use Rattle.sg_time.specs.Stamp.{IsValidStamp}
 use Rattle.sg_r5424.specs.Grammar.{IsStamp}
 use Rattle.sg_r5424.proofs.HeaderLemmas.{front_stuck}
 use Rattle.sg_r5424.proofs.header.take_front.Goals as goal
@@ -46,4 +46,4 @@ returns-clause-pri c = c.in-Some.ensures.range
 pub returns-clause-stamp : goal.returns-clause-stamp
 returns-clause-stamp c = λ stamp e.
     let same : c.in-Some-take_iso.stamp ≡ stamp = cc in
-    subst IsValid same c.in-Some-take_iso.ensures.valid
+    subst IsValidStamp same c.in-Some-take_iso.ensures.valid

@@ -1,5 +1,5 @@
 use Rattle.std.proofs.Common.{ℕ, List, arith, subst}
-use Rattle.sg_r5424.specs.Data.{IsName}
+use Rattle.sg_r5424.specs.Data.{IsSdName}
 use Rattle.sg_r5424.proofs.ParamLemmas.{no_quote, no_value}
 use Rattle.sg_r5424.proofs.params.take_param.Goals as goal
 
@@ -17,7 +17,7 @@ returns-in_default-2 c =
     let space = c.if-not-take_text.ensures.taken in
     let name = rw c.in-Some.is at c.in_ok-name.ensures in
     let never = rw c.in_default-2.is at c.in_ok-value.ensures in
-    let named = subst (λ (x : List ℕ). IsName c.take_text.new.text c.in-Some.name x) c.if-not-take_text-2.ensures.taken name.0 in
+    let named = subst (λ (x : List ℕ). IsSdName c.take_text.new.text c.in-Some.name x) c.if-not-take_text-2.ensures.taken name.0 in
     let shorter = name.1 in
     let left = never.1 in (
       no_value c.args.text.now c.take_text.new.text c.in-Some.name c.take_text-2.new.text space named never.0,

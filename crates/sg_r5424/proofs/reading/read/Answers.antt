@@ -4,7 +4,7 @@ use Rattle.std.proofs.lemmas.Int.{to_z-of_z}
 use Rattle.std.proofs.lemmas.List.{length-take}
 use Rattle.sg_time.specs.declared.stamp.Stamp.{Stamp}
 use Rattle.sg_r3164.specs.Options.{received_at}
-use Rattle.sg_r5424.specs.Is5424.{is_end_byte, without_end, Reads}
+use Rattle.sg_r5424.specs.Is5424.{is_end_byte, without_end, ReadsSyslogMsg}
 use Rattle.sg_r5424.proofs.reading.read.Goals as goal
 
 pub returns : goal.returns
@@ -16,6 +16,6 @@ returns c =
     let received : c.received-received.result ≡ received_at c.args.at c.args.opts.now = c.received-received.ensures.value ∙ ap (λ (z : ℤ). received_at z c.args.opts.now) at in (
       omega (arith, c.len-len.ensures.value, ap length text, length-take (length item - suffix_len is_end_byte item) item),
       λ content h. never.0 content
-          (subst (λ (x : List ℕ). Reads c.received-received.result c.args.peer.now c.args.opts.now x content) (sym text)
-          (subst (λ (x : Stamp). Reads x c.args.peer.now c.args.opts.now (without_end item) content) (sym received) h)),
+          (subst (λ (x : List ℕ). ReadsSyslogMsg c.received-received.result c.args.peer.now c.args.opts.now x content) (sym text)
+          (subst (λ (x : Stamp). ReadsSyslogMsg x c.args.peer.now c.args.opts.now (without_end item) content) (sym received) h)),
     )

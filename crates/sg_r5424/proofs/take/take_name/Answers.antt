@@ -1,6 +1,6 @@
 use Rattle.std.proofs.Common.{◌≡◌, ℕ, ◌≤◌, List, length, take, sym, ap, ◌∙◌, subst, arith, length-drop}
 use Rattle.std.specs.List.{prefix_len}
-use Rattle.sg_r5424.specs.Data.{IsName}
+use Rattle.sg_r5424.specs.Data.{IsSdName}
 use Rattle.sg_r5424.proofs.NameLemmas.{name_len_is, name_found}
 use Rattle.sg_r5424.proofs.take.take_name.Goals.{then-len-eq0-via-then-len-eq0, then-len-eq0-via-else-len-eq0+then-len-gt32}
 use Rattle.sg_msg.specs.Sets.{is_sd_byte}
@@ -27,7 +27,7 @@ returns c =
     let name = name_found c.args.text.now c.name_len-len.result found (omega arith) (omega arith) within in
     let front = c.in_ok-name.ensures.front in
     let rest = c.in_ok-name.ensures.rest in
-    let left = subst (λ (x : List ℕ). IsName c.args.text.now (take c.name_len-len.result c.args.text.now) x) (sym rest) name in (
-      subst (λ (x : List ℕ). IsName c.args.text.now x c.split_to.new.self) (sym front) left,
+    let left = subst (λ (x : List ℕ). IsSdName c.args.text.now (take c.name_len-len.result c.args.text.now) x) (sym rest) name in (
+      subst (λ (x : List ℕ). IsSdName c.args.text.now x c.split_to.new.self) (sym front) left,
       omega (arith, ap length rest, length-drop c.name_len-len.result c.args.text.now),
     )

@@ -1,16 +1,30 @@
-use Rattle.std.proofs.Common.{◌≡◌, ◌∙◌, ◌∷◌, [], ◌+◌, ◌++◌, ap, map, length, slice_get, drop, Some, subst, sym, arith}
+use Rattle.std.proofs.Common.{◌≡◌, ◌∙◌, ◌∷◌, [], ◌+◌, ◌++◌, ap, map, length, slice_get, drop, Some, subst, sym, arith, rules}
 use Rattle.std.specs.Prelude.{option_map, option_to_list}
 use Rattle.std.proofs.lemmas.List.{length-map, length-append}
 use Rattle.sg_list.proofs.ListLemmas.{slice_get-map}
-use Rattle.sg_serve.specs.Devices.{outlet_asked, outlets_asked, OpensOutlets, AreNotByPath}
+use Rattle.sg_serve.specs.Devices.{outlet_asked, outlets_asked, OpensOutlets}
+use Rattle.sg_serve.specs.Exits.{exit_of}
 use Rattle.sg_serve.specs.Actors.{dest_view, IsDestFor, AreDestsFor}
-use Rattle.sg_serve.proofs.DeviceLemmas.{outlets-more, map-push, drop-head, drop-tail}
-use Rattle.sg_serve.proofs.ActorLemmas.{dests-more, outlets-fail}
+use Rattle.sg_serve.proofs.DeviceLemmas.{map-push, drop-head, drop-tail}
+use Rattle.sg_serve.proofs.ExitLemmas.{outlets-none, outlets-more}
+use Rattle.sg_serve.proofs.ActorLemmas.{no-dests, dests-more, outlets-fail}
 use Rattle.sg_serve.proofs.outlets.open_dests.Goals as goal
+
+pub returns-in-Err-clause-refused : goal.returns-in-Err-clause-refused
+returns-in-Err-clause-refused g c = rw c.new.ensures.items (outlets-none (g.W.Machine.state c.args.world.now) (outlets_asked c.args.once c.args.plans.items))
+
+pub loop-plan-init : goal.loop-plan-init
+loop-plan-init g c = record {
+  opens = rw c.in-Ok.ensures.items (outlets-none (g.W.Machine.state c.args.world.now) (outlets_asked c.args.once c.args.plans.items));
+  new = rw c.in-Ok.ensures.items (no-dests c.args.once c.args.plans.items);
+  rest = search rules;
+  count = search rules;
+  room = search rules;
+}
 
 pub loop-plan-preserved : goal.loop-plan-preserved
 loop-plan-preserved g c =
-    let f = g.W.Drain.Outlet.state in
+    let f = exit_of g.W.Drain.Outlet.state g.W.Paths.Opener.state in
     let inv = c.loop-plan.invariant in
     let once = c.args.once in
     let plans = c.args.plans.items in
@@ -35,14 +49,13 @@ loop-plan-preserved g c =
       new = subst (λ (vs : _). AreDestsFor once plans vs) (sym (ap (map (λ a. dest_view a.spec a.outage (f a.outlet))) long ∙ map-push (λ a. dest_view a.spec a.outage (f a.outlet)) held dest))
           (dests-more once plans views c.in-Some.plan view inv.new at' is);
       rest = sym (ap (λ k. drop k plans) (ap length long ∙ length-append held (dest ∷ [])) ∙ drop-tail (length held) plans c.in-Some.plan c.pop_front.new.self.items front);
-      paths = (subst AreNotByPath c.in-Some.ensures.items inv.paths).1;
       count = (let k = ap length long in let m = ap length c.in-Some.ensures.items in let t = inv.count in let j = length-append held (dest ∷ []) in omega (arith, k, m, t, j));
       room = (let k = c.push_reserved.ensures.capacity in let m = inv.room in omega (arith, k, m));
     }
 
 pub returns-in-Err-open_dest-clause-refused : goal.returns-in-Err-open_dest-clause-refused
 returns-in-Err-open_dest-clause-refused g c =
-    let f = g.W.Drain.Outlet.state in
+    let f = exit_of g.W.Drain.Outlet.state g.W.Paths.Opener.state in
     let inv = c.loop-plan.invariant in
     let once = c.args.once in
     let plans = c.args.plans.items in
@@ -57,7 +70,7 @@ returns-in-Err-open_dest-clause-refused g c =
 
 pub returns-in-Err-open_dest-clause-cause : goal.returns-in-Err-open_dest-clause-cause
 returns-in-Err-open_dest-clause-cause g c =
-    let f = g.W.Drain.Outlet.state in
+    let f = exit_of g.W.Drain.Outlet.state g.W.Paths.Opener.state in
     let inv = c.loop-plan.invariant in
     let held = c.loop-plan.dests.items in
     let drains = map (λ a. f a.outlet) held in
@@ -65,4 +78,4 @@ returns-in-Err-open_dest-clause-cause g c =
     let n : c.len-in-Some.result ≡ length drains = c.len-in-Some.ensures ∙ c.loop-plan.dests.ok.0 ∙ sym (length-map held (λ a. f a.outlet)) in
     let count : c.len-in-Some.result + length more ≡ length (drains ++ more) = ap (λ k. k + length more) n ∙ sym (length-append drains more) in
     outlets-fail (g.W.Machine.state c.args.world.now) (g.W.Machine.state c.loop-plan.world) (g.W.Machine.state c.open_dest.new.world) (c.len-in-Some.result + length more) (length (drains ++ more)) c.in-Err-open_dest.early
-    inv.opens.faults count c.in-Err-open_dest.ensures.cause
+    inv.opens.faults inv.opens.paths_faults count c.in-Err-open_dest.ensures.cause

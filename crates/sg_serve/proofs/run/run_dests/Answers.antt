@@ -2,14 +2,15 @@ use Rattle.std.proofs.Common.{◌∙◌, ap, map, length, refl, sym, arith, subs
 use Rattle.std.specs.Prelude.{IfOk, IfSome}
 use Rattle.std.proofs.lemmas.List.{append-nil, length-map}
 use Rattle.sg_standing.specs.States.{setup_of}
-use Rattle.sg_serve.specs.Counts.{IsCounted}
+use Rattle.sg_serve.specs.Counts.{AreCountsOf}
+use Rattle.sg_serve.specs.Exits.{exit_of}
 use Rattle.sg_core.proofs.Faults.{calls-go}
 use Rattle.sg_serve.proofs.RunLemmas.{are-dests, ok-some}
 use Rattle.sg_serve.proofs.run.run_dests.Goals as goal
 
 pub serve-ended-requires-clause-dests : goal.serve-ended-requires-clause-dests
 serve-ended-requires-clause-dests g c = λ κs lives.
-    are-dests g.W.Drain.Outlet.state c.args.once c.args.outlets.items (setup_of c.args.core) c.in-Ok.dests.items c.in-Ok.ensures.new c.in-Ok.ensures.all c.requires.counts.1
+    are-dests (exit_of g.W.Drain.Outlet.state g.W.Paths.Opener.state) c.args.once c.args.outlets.items (setup_of c.args.core) c.in-Ok.dests.items c.in-Ok.ensures.new c.in-Ok.ensures.all c.requires.counts.1
 
 pub count_all-requires-clause-stores : goal.count_all-requires-clause-stores
 count_all-requires-clause-stores g c =
@@ -44,12 +45,12 @@ returns-in-Err g c =
 pub returns : goal.returns
 returns g c =
     let f = g.W.Feed.Inlet.state in
-    let d = g.W.Drain.Outlet.state in
+    let d = exit_of g.W.Drain.Outlet.state g.W.Paths.Opener.state in
     let core = c.serve-ended.result.core in
     let sources = c.serve-ended.result.sources.items in
     let dests = c.serve-ended.result.dests.items in
-    let told : IfOk c.count_all.result (IsCounted core sources dests) =
-    subst (λ xs. IfOk c.count_all.result (IsCounted core xs dests)) c.deref.ensures.value (subst (λ ys. IfOk c.count_all.result (IsCounted core c.deref.result.now ys)) c.deref-2.ensures.value c.count_all.ensures) in
+    let told : IfOk c.count_all.result (AreCountsOf core sources dests) =
+    subst (λ xs. IfOk c.count_all.result (AreCountsOf core xs dests)) c.deref.ensures.value (subst (λ ys. IfOk c.count_all.result (AreCountsOf core c.deref.result.now ys)) c.deref-2.ensures.value c.count_all.ensures) in
     record {
       outlets_opened = map (λ a. d a.outlet) c.in-Ok.dests.items;
       opens = c.in-Ok.ensures.opened;
@@ -60,7 +61,7 @@ returns g c =
         dests_first = c.in-Ok.dests.items;
         dests_then = dests;
         serves = c.serve-ended.ensures.serves;
-        counted = subst (λ o. IfSome o (IsCounted core sources dests)) (sym c.ok-counts.ensures.value) (ok-some c.count_all.result (IsCounted core sources dests) told);
+        counted = subst (λ o. IfSome o (AreCountsOf core sources dests)) (sym c.ok-counts.ensures.value) (ok-some c.count_all.result (AreCountsOf core sources dests) told);
         are_dests = c.in-Ok.ensures.new;
         all = length-map c.in-Ok.dests.items (λ a. d a.outlet) ∙ c.in-Ok.ensures.all;
         closes_inlets = sym (append-nil (map (λ a. f a.inlet) sources));

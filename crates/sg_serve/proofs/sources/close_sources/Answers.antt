@@ -3,7 +3,8 @@ use Rattle.std.specs.Prelude.{option_map, option_to_list}
 use Rattle.std.proofs.lemmas.List.{append-nil}
 use Rattle.sg_outside.specs.World.{ClosesInlet}
 use Rattle.sg_serve.specs.Devices.{ClosesInlets}
-use Rattle.sg_serve.proofs.DeviceLemmas.{closes-inlets, closes-inlets-last, closes-no-inlet, none-of}
+use Rattle.sg_serve.proofs.DeviceLemmas.{closes-inlets, closes-inlets-last, closes-no-inlet}
+use Rattle.sg_stores.proofs.GetLemmas.{none-of}
 use Rattle.sg_serve.proofs.sources.close_sources.Goals as goal
 
 pub loop-source-preserved : goal.loop-source-preserved

@@ -1,6 +1,7 @@
 use Rattle.std.proofs.Common.{[], ap, map, subst, sym, arith, ◌≡◌}
 use Rattle.sg_serve.specs.Devices.{ClosesStores}
-use Rattle.sg_serve.proofs.DeviceLemmas.{closes-stores, closes-no-store, none-of}
+use Rattle.sg_serve.proofs.DeviceLemmas.{closes-stores, closes-no-store}
+use Rattle.sg_stores.proofs.GetLemmas.{none-of}
 use Rattle.sg_serve.proofs.stores.close_stores.Goals as goal
 
 pub loop-store-preserved : goal.loop-store-preserved

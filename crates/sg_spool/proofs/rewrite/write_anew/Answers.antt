@@ -4,7 +4,7 @@ use Rattle.sg_device.specs.Disk.{content, Changes}
 use Rattle.sg_device.proofs.Disks.{preserves_refl}
 use Rattle.sg_device.proofs.DiskCalls.{content_same}
 use Rattle.sg_spool.specs.Places.{gate_past}
-use Rattle.sg_spool.specs.Rewriting.{Adds, past}
+use Rattle.sg_spool.specs.Rewriting.{AddsSpelled, past}
 use Rattle.sg_spool.proofs.Rewriting.{Spelling}
 use Rattle.sg_spool.proofs.Gathering.{untold_beyond, still_beyond, join_beyond, less_beyond}
 use Rattle.sg_spool.proofs.RewriteCalls.{spelling_start, spelling_on}
@@ -37,7 +37,7 @@ loop-left-preserved g c =
     let next_is : c.loop-left.gate + 5 + length payload < 2 ^ 63 → c.gate_past-gate-in-loop-left.result ≡ gate_past c.args.places.jump (c.loop-left.gate + 5 + length payload) = λ small.
     let long : length c.deref-in-loop-left.result.now ≡ length payload = ap length c.deref-in-loop-left.ensures.value in
     c.gate_past-gate-in-loop-left.ensures ∙ ap (λ (k : ℕ). gate_past c.args.places.jump k) (goes (omega (arith, small, long)) ∙ ap (λ (n : ℕ). c.loop-left.gate + 5 + n) long) in
-    let added = subst (λ (l : List ℕ). Changes (Adds c.loop-left.at l (nat_eq c.loop-left.left 1)) (content (g.D.Disk.state c.read_entry.new.disk)) (content (g.D.Disk.state c.write_one.new.disk))) means c.in_ok-at.ensures.added in
+    let added = subst (λ (l : List ℕ). Changes (AddsSpelled c.loop-left.at l (nat_eq c.loop-left.left 1)) (content (g.D.Disk.state c.read_entry.new.disk)) (content (g.D.Disk.state c.write_one.new.disk))) means c.in_ok-at.ensures.added in
     let spelled = spelling_on M c.args.places c.args.count c.loop-left.left c.loop-left.gate c.loop-left.at payload c.gate_past-gate-in-loop-left.result (nat_eq c.loop-left.left 1)
     c.in_ok-payload.ensures.fits (omega (arith, c.loop-left-test.true)) inv.high (λ one. search rules) next_is
     (content (g.D.Disk.state c.args.disk.now)) (content (g.D.Disk.state c.loop-left.disk)) (content (g.D.Disk.state c.read_entry.new.disk)) (content (g.D.Disk.state c.write_one.new.disk)) inv.spelled (content_same (g.D.Disk.state c.loop-left.disk) (g.D.Disk.state c.read_entry.new.disk) c.read_entry.ensures.told) (g.met.D.Disk.short c.loop-left.disk) c.in_ok-payload.ensures.payload added in

@@ -1,7 +1,7 @@
 use Rattle.std.proofs.Common.{ℕ, length, ap, subst, sym, rules}
 use Rattle.sg_device.specs.Disk.{DiskState, Elapses}
 use Rattle.sg_spool.specs.Places.{HasRoom, AreCompact, bound}
-use Rattle.sg_spool.specs.Steps.{Grows}
+use Rattle.sg_spool.specs.Steps.{FileGrows}
 use Rattle.sg_spool.specs.declared.rows.Rows.{Rows}
 use Rattle.sg_spool.proofs.Rooms.{after_stage, within_stage, staged_rows, compact_room}
 use Rattle.sg_spool.proofs.room.stage_block.Goals as goal
@@ -28,12 +28,12 @@ pub returns-in_err-ahead-clause-short : goal.returns-in_err-ahead-clause-short
 returns-in_err-ahead-clause-short g c = λ compact.
     let room = compact_room c.args.capacity c.args.rows.ahead.jump c.args.rows.ahead.head c.args.rows.ahead.end (length c.args.block.now) c.requires.rows.ahead c.requires.fits compact in
     let sized = subst (λ (k : ℕ). HasRoom c.args.rows.ahead.jump c.args.rows.ahead.head c.args.rows.ahead.end k) (sym c.size.ensures.size) room in
-    subst (λ (d : DiskState). Elapses (Grows (bound c.args.capacity)) d (g.D.Disk.state c.stage_entry.new.disk)) (ap g.D.Disk.state (c.make_room.ensures.untouched sized))
+    subst (λ (d : DiskState). Elapses (FileGrows (bound c.args.capacity)) d (g.D.Disk.state c.stage_entry.new.disk)) (ap g.D.Disk.state (c.make_room.ensures.untouched sized))
     (c.stage_entry.ensures.short (subst (λ (r : Rows). AreCompact c.args.capacity r.ahead.jump r.ahead.head r.ahead.end) (sym (c.in_ok-roomy.ensures.stays sized)) compact))
 
 pub returns-clause-short : goal.returns-clause-short
 returns-clause-short g c = λ compact.
     let room = compact_room c.args.capacity c.args.rows.ahead.jump c.args.rows.ahead.head c.args.rows.ahead.end (length c.args.block.now) c.requires.rows.ahead c.requires.fits compact in
     let sized = subst (λ (k : ℕ). HasRoom c.args.rows.ahead.jump c.args.rows.ahead.head c.args.rows.ahead.end k) (sym c.size.ensures.size) room in
-    subst (λ (d : DiskState). Elapses (Grows (bound c.args.capacity)) d (g.D.Disk.state c.stage_entry.new.disk)) (ap g.D.Disk.state (c.make_room.ensures.untouched sized))
+    subst (λ (d : DiskState). Elapses (FileGrows (bound c.args.capacity)) d (g.D.Disk.state c.stage_entry.new.disk)) (ap g.D.Disk.state (c.make_room.ensures.untouched sized))
     (c.stage_entry.ensures.short (subst (λ (r : Rows). AreCompact c.args.capacity r.ahead.jump r.ahead.head r.ahead.end) (sym (c.in_ok-roomy.ensures.stays sized)) compact))

@@ -2,7 +2,7 @@ use Rattle.std.proofs.Common.{◌∙◌, ℕ, List, length, ap, subst, arith}
 use Rattle.std.specs.Prelude.{◌==◌}
 use Rattle.sg_device.specs.DiskBytes.{Torn, Written}
 use Rattle.sg_device.proofs.DiskCalls.{write_elapses, write_written}
-use Rattle.sg_spool.specs.Steps.{Spares, Grows}
+use Rattle.sg_spool.specs.Steps.{Spares, FileGrows}
 use Rattle.sg_spool.proofs.Behind.{length_front}
 use Rattle.sg_spool.proofs.Chains.{elapses_as, elapses_join}
 use Rattle.sg_spool.proofs.Rings.{spares_refl, spares_trans}
@@ -22,10 +22,10 @@ pub returns-in_err-write_at-clause-short : goal.returns-in_err-write_at-clause-s
 returns-in_err-write_at-clause-short g c = λ most front back. (elapses_as (g.D.Disk.state c.args.disk.now) (g.D.Disk.state c.write_at.new.self) (λ d e torn. grows_torn most 64 (length c.bytes.result.now) d e (omega (arith, front, ap length c.bytes.ensures.bytes, length_front c.args.block.now)) torn) (write_elapses (g.D.Disk.state c.args.disk.now) (g.D.Disk.state c.write_at.new.self) 64 c.bytes.result.now c.write_at.result c.write_at.ensures.told))
 
 pub returns-in_err-lay-clause-short : goal.returns-in_err-lay-clause-short
-returns-in_err-lay-clause-short g c = λ most front back. elapses_join (Grows most) (g.D.Disk.state c.args.disk.now) (g.D.Disk.state c.write_at.new.self) (g.D.Disk.state c.lay.new.disk) (grows_refl most) (grows_trans most) (elapses_as (g.D.Disk.state c.args.disk.now) (g.D.Disk.state c.write_at.new.self) (λ d e torn. grows_torn most 64 (length c.bytes.result.now) d e (omega (arith, front, ap length c.bytes.ensures.bytes, length_front c.args.block.now)) torn) (write_elapses (g.D.Disk.state c.args.disk.now) (g.D.Disk.state c.write_at.new.self) 64 c.bytes.result.now c.write_at.result c.write_at.ensures.told)) (elapses_as (g.D.Disk.state c.write_at.new.self) (g.D.Disk.state c.lay.new.disk) (λ d e torn. grows_lay most c.args.rows.ahead.end 5 (c.args.rows.staged == 0) d e (omega arith) back torn) c.lay.ensures.images)
+returns-in_err-lay-clause-short g c = λ most front back. elapses_join (FileGrows most) (g.D.Disk.state c.args.disk.now) (g.D.Disk.state c.write_at.new.self) (g.D.Disk.state c.lay.new.disk) (grows_refl most) (grows_trans most) (elapses_as (g.D.Disk.state c.args.disk.now) (g.D.Disk.state c.write_at.new.self) (λ d e torn. grows_torn most 64 (length c.bytes.result.now) d e (omega (arith, front, ap length c.bytes.ensures.bytes, length_front c.args.block.now)) torn) (write_elapses (g.D.Disk.state c.args.disk.now) (g.D.Disk.state c.write_at.new.self) 64 c.bytes.result.now c.write_at.result c.write_at.ensures.told)) (elapses_as (g.D.Disk.state c.write_at.new.self) (g.D.Disk.state c.lay.new.disk) (λ d e torn. grows_lay most c.args.rows.ahead.end 5 (c.args.rows.staged == 0) d e (omega arith) back torn) c.lay.ensures.images)
 
 pub returns-clause-short : goal.returns-clause-short
-returns-clause-short g c = λ most front back. elapses_join (Grows most) (g.D.Disk.state c.args.disk.now) (g.D.Disk.state c.write_at.new.self) (g.D.Disk.state c.lay.new.disk) (grows_refl most) (grows_trans most) (elapses_as (g.D.Disk.state c.args.disk.now) (g.D.Disk.state c.write_at.new.self) (λ d e torn. grows_torn most 64 (length c.bytes.result.now) d e (omega (arith, front, ap length c.bytes.ensures.bytes, length_front c.args.block.now)) torn) (write_elapses (g.D.Disk.state c.args.disk.now) (g.D.Disk.state c.write_at.new.self) 64 c.bytes.result.now c.write_at.result c.write_at.ensures.told)) (elapses_as (g.D.Disk.state c.write_at.new.self) (g.D.Disk.state c.lay.new.disk) (λ d e torn. grows_lay most c.args.rows.ahead.end 5 (c.args.rows.staged == 0) d e (omega arith) back torn) c.lay.ensures.images)
+returns-clause-short g c = λ most front back. elapses_join (FileGrows most) (g.D.Disk.state c.args.disk.now) (g.D.Disk.state c.write_at.new.self) (g.D.Disk.state c.lay.new.disk) (grows_refl most) (grows_trans most) (elapses_as (g.D.Disk.state c.args.disk.now) (g.D.Disk.state c.write_at.new.self) (λ d e torn. grows_torn most 64 (length c.bytes.result.now) d e (omega (arith, front, ap length c.bytes.ensures.bytes, length_front c.args.block.now)) torn) (write_elapses (g.D.Disk.state c.args.disk.now) (g.D.Disk.state c.write_at.new.self) 64 c.bytes.result.now c.write_at.result c.write_at.ensures.told)) (elapses_as (g.D.Disk.state c.write_at.new.self) (g.D.Disk.state c.lay.new.disk) (λ d e torn. grows_lay most c.args.rows.ahead.end 5 (c.args.rows.staged == 0) d e (omega arith) back torn) c.lay.ensures.images)
 
 pub returns-clause-staged : goal.returns-clause-staged
 returns-clause-staged g c = λ cell list staged number told b is.

@@ -4,7 +4,7 @@ use Rattle.std.proofs.lemmas.Option.{slice_get_cases}
 use Rattle.sg_tree.specs.Offers.{top_view}
 use Rattle.sg_tree.specs.declared.tree.Path.{Path, out-Path}
 use Rattle.sg_table.specs.Fans.{cut, fan}
-use Rattle.sg_table.proofs.Bounded.{Sofar, same-steps, sofar-more, first-beyond, whole, over-either, over-neither}
+use Rattle.sg_table.proofs.Bounded.{SofarBounded, same-steps, sofar-more, first-beyond, whole, over-either, over-neither}
 use Rattle.sg_table.proofs.bound.check_tops.Goals as goal
 
 pub returns-then-offers-fan : goal.returns-then-offers-fan
@@ -35,7 +35,7 @@ loop-i-preserved c = λ named steps e same.
           let p = h.0 in
           let is : f ≡ fan (top_view named p).steps =
           c.fan_at-fan.ensures steps e ∙ ap fan (same-steps named steps c.args.tops.now ps i c.index-tops-i.result p within less same) ∙ ap (λ (x : Path). fan (top_view named x).steps) h.3 in
-          subst (Sofar named ps (i + 1)) (sym c.sum-offers.ensures) (sofar-more named ps i c.loop-i.offers p f (c.loop-i.invariant named steps e same) less (sym h.3) is low few.1)
+          subst (SofarBounded named ps (i + 1)) (sym c.sum-offers.ensures) (sofar-more named ps i c.loop-i.offers p f (c.loop-i.invariant named steps e same) less (sym h.3) is low few.1)
       | inr h ↦ absurd (omega (arith, h.0))
     ]
 

@@ -13,7 +13,7 @@ use Rattle.sg_tree.specs.Plain.{element_view, in_front, steps_view, choice_view,
 use Rattle.sg_tree.proofs.Views.{view-Junction, view-If}
 use Rattle.sg_table.specs.declared.pipe.Pipe.TheVariants as pipe
 use Rattle.sg_table.specs.Compiled.{Compiled, MadePipe, own, choices}
-use Rattle.sg_table.specs.Patterns.{Patterns, Makes, Refuses, branch_patterns, choices_patterns, element_patterns, list_patterns, other_patterns, path_patterns, siblings_patterns}
+use Rattle.sg_table.specs.Patterns.{PatternTexts, MakesPatterns, RefusesPatterns, branch_patterns, choices_patterns, element_patterns, list_patterns, other_patterns, path_patterns, siblings_patterns}
 use Rattle.sg_table.specs.Table.{siblings_of, choice_of, branches_at, tests_at, other_at, steps_at}
 use Rattle.sg_table.proofs.Tables.{tests-same, grows-none, grows-more, grows-kept, grows-length, pushed}
 use Rattle.sg_table.proofs.Parts.{siblings-own, choices-own, behind-none, behind-some, map-last-at, tests-within, one-sibling, one-test, ended, zero-of, not-zero}
@@ -109,7 +109,7 @@ element-returns-in-If-clause-makes g t c =
     let is : choices_patterns named c.deref-in-If.result.now ++ other_patterns named c.in-If.other ≡ element_patterns named c.args.element.now =
     ap (λ bs. choices_patterns named bs ++ other_patterns named c.in-If.other) c.deref-in-If.ensures.value
     ∙ sym (ap (element_patterns named) c.in-If.is ∙ patterns-If named c.in-If.branches c.in-If.other) in
-    subst (λ (ps : Patterns). Makes (g.B.Machine.state c.args.builder.now) (g.B.Machine.state c.choice.new.builder) ps c.choice.result) is c.choice.ensures.makes
+    subst (λ (ps : PatternTexts). MakesPatterns (g.B.Machine.state c.args.builder.now) (g.B.Machine.state c.choice.new.builder) ps c.choice.result) is c.choice.ensures.makes
 
 pub end-returns-then-is_empty-clause-compiled : goal.end-returns-then-is_empty-clause-compiled
 end-returns-then-is_empty-clause-compiled g t c =
@@ -191,7 +191,7 @@ path-returns-in-Err-clause-makes g t c =
     let new = g.B.Machine.state c.end.new.builder in
     let why = c.in-Err.refusal in
     refused-behind old old new (list_patterns named (out-Path p).elements.items) (siblings_patterns named (out-Path p).embedded.items) (path_patterns named p) why (patterns-Path named p)
-    (only-none old) (subst (λ (x : List Path). Refuses old new (siblings_patterns named x) why) c.deref.ensures.value c.in-Err.ensures.makes)
+    (only-none old) (subst (λ (x : List Path). RefusesPatterns old new (siblings_patterns named x) why) c.deref.ensures.value c.in-Err.ensures.makes)
 
 pub path-list-requires : goal.path-list-requires
 path-list-requires g t c =
@@ -209,7 +209,7 @@ path-returns-clause-makes g t c =
     let new = g.B.Machine.state c.list.new.builder in
     makes-front old mid new (list_patterns named (out-Path p).elements.items) (siblings_patterns named (out-Path p).embedded.items) (path_patterns named p) c.list.result (patterns-Path named p)
     (subst (λ (x : List Path). AreValid (siblings_patterns named x)) c.deref.ensures.value c.in-Ok.ensures.makes.0, c.in-Ok.ensures.makes.1) c.in-Ok.ensures.only
-    (subst (λ (x : List Element). Makes mid new (list_patterns named x) c.list.result) c.deref-2.ensures.value c.list.ensures.makes)
+    (subst (λ (x : List Element). MakesPatterns mid new (list_patterns named x) c.list.result) c.deref-2.ensures.value c.list.ensures.makes)
 
 pub siblings-path-requires : goal.siblings-path-requires
 siblings-path-requires g t c =
@@ -267,7 +267,7 @@ tests-returns-in-Err-clause-makes g t c =
     let cur = g.B.Machine.state c.loop-branch.builder in
     let new = g.B.Machine.state c.test.new.builder in
     refused-item (branch_patterns named) c.args.branches.now c.loop-branch.branch-index b b _ cur new why (omega arith) c.branch-item.is c.loop-branch.invariant.only
-    (subst (λ (x : List Element). Refuses cur new (patterns_of named b.0 ++ list_patterns named x) why) c.deref.ensures.value c.in-Err.ensures.makes)
+    (subst (λ (x : List Element). RefusesPatterns cur new (patterns_of named b.0 ++ list_patterns named x) why) c.deref.ensures.value c.in-Err.ensures.makes)
 
 pub tests-loop-branch-preserved : goal.tests-loop-branch-preserved
 tests-loop-branch-preserved g t c =

@@ -4,7 +4,7 @@ use Rattle.sg_tree.specs.Offers.{top_view}
 use Rattle.sg_tree.specs.declared.tree.Path.{Path}
 use Rattle.sg_table.specs.Fans.{ChecksBounds}
 use Rattle.sg_table.specs.Forest.{statement_at}
-use Rattle.sg_table.specs.Patterns.{Refuses, siblings_patterns}
+use Rattle.sg_table.specs.Patterns.{RefusesPatterns, siblings_patterns}
 use Rattle.sg_table.specs.Table.{steps_at}
 use Rattle.sg_table.specs.declared.pipe.Pipe.{Pipe}
 use Rattle.sg_table.specs.declared.pipe.Top.{Top}
@@ -18,8 +18,8 @@ returns-in-Err-clause-refused g c =
     let new = g.B.Machine.state c.tops.new.builder in
     let why = c.in-Err.refusal in
     refused-path c.args.forest.now old new why
-    (subst (λ (x : List Path). Refuses old new (siblings_patterns c.args.forest.now.filters.items x) why) c.deref.ensures.value
-    (subst (λ (x : List Expr). Refuses old new (siblings_patterns x c.deref.result.now) why) c.as_slice-named.ensures.value c.in-Err.ensures.makes))
+    (subst (λ (x : List Path). RefusesPatterns old new (siblings_patterns c.args.forest.now.filters.items x) why) c.deref.ensures.value
+    (subst (λ (x : List Expr). RefusesPatterns old new (siblings_patterns x c.deref.result.now) why) c.as_slice-named.ensures.value c.in-Err.ensures.makes))
 
 pub returns-in-Err-check_bounds-clause-refused : goal.returns-in-Err-check_bounds-clause-refused
 returns-in-Err-check_bounds-clause-refused g c =

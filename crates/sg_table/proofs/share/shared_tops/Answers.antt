@@ -1,6 +1,6 @@
 use Rattle.std.proofs.Common.{◌≡◌, ◌+◌, ◌∷◌, [], ◌++◌, List, take, sym, ap, ap₂, ◌∙◌, arith}
 use Rattle.std.proofs.lemmas.List.{take_more}
-use Rattle.sg_tree.specs.Offers.{Top as Statement}
+use Rattle.sg_tree.specs.Offers.{TopStatement as Statement}
 use Rattle.sg_table.specs.Forest.{statement_at}
 use Rattle.sg_table.proofs.Parts.{map-last-at}
 use Rattle.sg_table.proofs.share.shared_tops.Goals as goal

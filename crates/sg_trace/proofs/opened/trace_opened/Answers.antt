@@ -2,7 +2,7 @@ use Rattle.std.proofs.Common.{◌<◌, ◌+◌, ◌^◌, ℕ, Bool, Ok, refl, su
 use Rattle.sg_frame.specs.Framing.{open_left}
 use Rattle.sg_route.proofs.Routers.{router-same, router-then}
 use Rattle.sg_trace.specs.declared.tracer.Tracer.{Tracer}
-use Rattle.sg_trace.specs.Pulling.{Pulls}
+use Rattle.sg_trace.specs.Pulling.{PullsTraced}
 use Rattle.sg_trace.specs.Rows.{items_in}
 use Rattle.sg_trace.specs.Taking.{IsBadIf}
 use Rattle.sg_trace.proofs.Takings.{items-count, takes-back}
@@ -31,14 +31,14 @@ returns-then-branch-clause-traces g c =
     let f' = c.pull_once.new.framer in
     traces-ended (g.R.Router.offers c.args.router.now c.args.reader.inlet) c.args.targets.now c.args.reader.kind c.args.reader.limit (g.W.Feed.Inlet.state c.args.feed.now) (g.W.Machine.state c.args.world.now)
     feed (g.W.Machine.state c.loop-pull.world) c.loop-pull.tracer c.loop-pull._pull
-    feed' f' c.loop-pull.invariant.tracing c.in_ok-pull_once.ensures.later (subst (λ (b : Bool). Pulls feed feed' f f' (Ok b)) c.if-branch.true c.in_ok-pull_once.ensures.pulls)
+    feed' f' c.loop-pull.invariant.tracing c.in_ok-pull_once.ensures.later (subst (λ (b : Bool). PullsTraced feed feed' f f' (Ok b)) c.if-branch.true c.in_ok-pull_once.ensures.pulls)
 
 pub take_items-requires-clause-timely : goal.take_items-requires-clause-timely
 take_items-requires-clause-timely g c =
     let feed = g.W.Feed.Inlet.state c.loop-pull.feed in
     let feed' = g.W.Feed.Inlet.state c.pull_once.new.feed in
     let (rows, so) = c.loop-pull.invariant.tracing in
-    let pull = subst (λ (b : Bool). Pulls feed feed' c.loop-pull.tracer.framer c.pull_once.new.framer (Ok b)) c.if-branch.false c.in_ok-pull_once.ensures.pulls in
+    let pull = subst (λ (b : Bool). PullsTraced feed feed' c.loop-pull.tracer.framer c.pull_once.new.framer (Ok b)) c.if-branch.false c.in_ok-pull_once.ensures.pulls in
     let done = pull c.args.reader.kind c.args.reader.limit (g.W.Feed.Inlet.state c.args.feed.now) (items_in rows) so.reads in
     done.0.1.timely
 
@@ -47,7 +47,7 @@ take_items-requires-clause-room g c =
     let feed = g.W.Feed.Inlet.state c.loop-pull.feed in
     let feed' = g.W.Feed.Inlet.state c.pull_once.new.feed in
     let (rows, so) = c.loop-pull.invariant.tracing in
-    let pull = subst (λ (b : Bool). Pulls feed feed' c.loop-pull.tracer.framer c.pull_once.new.framer (Ok b)) c.if-branch.false c.in_ok-pull_once.ensures.pulls in
+    let pull = subst (λ (b : Bool). PullsTraced feed feed' c.loop-pull.tracer.framer c.pull_once.new.framer (Ok b)) c.if-branch.false c.in_ok-pull_once.ensures.pulls in
     let done = pull c.args.reader.kind c.args.reader.limit (g.W.Feed.Inlet.state c.args.feed.now) (items_in rows) so.reads in
     omega (arith, so.count, done.0.1.fewer, items-count rows)
 
@@ -56,7 +56,7 @@ take_items-requires-clause-range g c =
     let feed = g.W.Feed.Inlet.state c.loop-pull.feed in
     let feed' = g.W.Feed.Inlet.state c.pull_once.new.feed in
     let (rows, so) = c.loop-pull.invariant.tracing in
-    let pull = subst (λ (b : Bool). Pulls feed feed' c.loop-pull.tracer.framer c.pull_once.new.framer (Ok b)) c.if-branch.false c.in_ok-pull_once.ensures.pulls in
+    let pull = subst (λ (b : Bool). PullsTraced feed feed' c.loop-pull.tracer.framer c.pull_once.new.framer (Ok b)) c.if-branch.false c.in_ok-pull_once.ensures.pulls in
     let done = pull c.args.reader.kind c.args.reader.limit (g.W.Feed.Inlet.state c.args.feed.now) (items_in rows) so.reads in
     subst (λ (n : ℕ). n < 2 ^ 63) done.0.1.place done.0.1.range
 
@@ -78,7 +78,7 @@ returns-then-bad-clause-traces g c =
     let new = c.take_items.new.tracer in
     let said : Tracer = record new { text = c.say_piece.new.text } in
     let n = c.loop-pull._pull in
-    let pull = subst (λ (b : Bool). Pulls feed feed' tracer.framer f' (Ok b)) c.if-branch.false c.in_ok-pull_once.ensures.pulls in
+    let pull = subst (λ (b : Bool). PullsTraced feed feed' tracer.framer f' (Ok b)) c.if-branch.false c.in_ok-pull_once.ensures.pulls in
     let takes = takes-back offering other targets c.peer.result.now (record tracer { framer = f' }) new c.in_ok-bad.bad (c.loop-pull.invariant.router.same.back c.args.reader.inlet) c.in_ok-bad.ensures.takes in
     let one = tracing-taken offering targets kind limit first world feed now tracer n feed' f' new c.in_ok-bad.bad c.peer.result.now c.loop-pull.invariant.tracing pull c.peer.ensures takes in
     let two = tracing-said offering targets kind limit first world feed' now new (n + 1) later said one c.in_ok-say_piece.ensures.says c.in_ok-say_piece.ensures.some refl refl in
@@ -102,7 +102,7 @@ loop-pull-preserved g c =
     let new = c.take_items.new.tracer in
     let said : Tracer = record new { text = c.say_piece.new.text } in
     let n = c.loop-pull._pull in
-    let pull = subst (λ (b : Bool). Pulls feed feed' tracer.framer f' (Ok b)) c.if-branch.false c.in_ok-pull_once.ensures.pulls in
+    let pull = subst (λ (b : Bool). PullsTraced feed feed' tracer.framer f' (Ok b)) c.if-branch.false c.in_ok-pull_once.ensures.pulls in
     let takes = takes-back offering other targets c.peer.result.now (record tracer { framer = f' }) new c.in_ok-bad.bad (c.loop-pull.invariant.router.same.back c.args.reader.inlet) c.in_ok-bad.ensures.takes in
     let one = tracing-taken offering targets kind limit first world feed now tracer n feed' f' new c.in_ok-bad.bad c.peer.result.now c.loop-pull.invariant.tracing pull c.peer.ensures takes in
     record {

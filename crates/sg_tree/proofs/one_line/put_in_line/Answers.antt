@@ -1,12 +1,12 @@
 use Rattle.std.proofs.Common.{◌≡◌, ℕ, false, true, codes, List, Option, Some, sym, ◌∙◌, subst, arith}
 use Rattle.std.specs.List.{list_any}
-use Rattle.sg_msg.specs.Message.{IsName, value_of}
+use Rattle.sg_msg.specs.Message.{IsPairName, value_of}
 use Rattle.sg_tree.specs.Readings.{ends_line, IsLine}
 use Rattle.sg_tree.proofs.Lines.{message-soft, no-lines}
 use Rattle.sg_tree.proofs.one_line.put_in_line.Goals as goal
 
 pub put-requires : goal.put-requires
-put-requires c = subst (λ (name : List ℕ). IsName name) (sym c.from_static.ensures) (omega arith, omega arith, message-soft)
+put-requires c = subst (λ (name : List ℕ). IsPairName name) (sym c.from_static.ensures) (omega arith, omega arith, message-soft)
 
 pub returns-clause-line : goal.returns-clause-line
 returns-clause-line c =

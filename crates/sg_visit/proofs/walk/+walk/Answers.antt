@@ -1,12 +1,12 @@
 use Rattle.std.proofs.Common.{◌≡◌, ◌∙◌, List, [], ◌∷◌, ◌++◌, refl, sym, ap, Some, None}
 use Rattle.std.specs.List.{flat_map}
 use Rattle.std.proofs.lemmas.List.{append-nil}
-use Rattle.sg_parse_path.specs.declared.reference.Kind.TheVariants as kind
+use Rattle.sg_parse_path.specs.declared.reference.ReferenceKind.TheVariants as kind
 use Rattle.sg_parse_path.specs.declared.tree.RawElement.{RawElement}
 use Rattle.sg_parse_path.specs.declared.tree.RawElement.TheVariants as e
 use Rattle.sg_parse_path.specs.declared.tree.RawBranch.{out-RawBranch}
 use Rattle.sg_visit.specs.Leaves.{Leaf, element_leaves, branch_leaves, log_leaves}
-use Rattle.sg_visit.proofs.Equations.{leaves_source, leaves_destination, leaves_filter, leaves_rewrite, leaves_junction, leaves_if, leaves_branch, leaves_log}
+use Rattle.sg_visit.proofs.Equations.{leaves_source, leaves_destination, leaves_filter, leaves_rewrite, leaves_parser, leaves_junction, leaves_if, leaves_branch, leaves_log}
 use Rattle.sg_visit.proofs.Visiting.{visits-one, visits-join, visits-same, visits-more, visits-all}
 use Rattle.sg_visit.proofs.walk.+walk.Goals as goal
 
@@ -80,6 +80,11 @@ pub visit_element-returns-in_ok-reference-in-Rewrite : goal.visit_element-return
 visit_element-returns-in_ok-reference-in-Rewrite g t c =
     visits-one (g.V.Visit.step c.args.visitor.now) (Leaf.reference kind.Rewrite c.in-Rewrite.rewrite) _ _ _ c.in_ok-reference-in-Rewrite.ensures
     (sym (ap element_leaves c.in-Rewrite.is ∙ leaves_rewrite c.in-Rewrite.rewrite))
+
+pub visit_element-returns-in_ok-reference-in-Parser : goal.visit_element-returns-in_ok-reference-in-Parser
+visit_element-returns-in_ok-reference-in-Parser g t c =
+    visits-one (g.V.Visit.step c.args.visitor.now) (Leaf.reference kind.Parser c.in-Parser.parser) _ _ _ c.in_ok-reference-in-Parser.ensures
+    (sym (ap element_leaves c.in-Parser.is ∙ leaves_parser c.in-Parser.parser))
 
 pub visit_element-returns-in_ok-visit_logs-in-Junction : goal.visit_element-returns-in_ok-visit_logs-in-Junction
 visit_element-returns-in_ok-visit_logs-in-Junction g t c =

@@ -1,5 +1,5 @@
 use Rattle.std.proofs.Common.{◌≤◌, length}
-use Rattle.sg_counter.specs.Bringing.{AllWithin}
+use Rattle.sg_msg.specs.Offers.{AllWithin}
 use Rattle.test_core_runs.proofs.entries.offers_of.Given as goal
 
 abbrev pub invariant-loop-number : goal.invariant-loop-number

@@ -3,7 +3,7 @@ use Rattle.std.specs.Prelude.{◌&&◌}
 use Rattle.std.specs.declared.alloc.Global.{Global}
 use Rattle.std.proofs.lemmas.List.{drop_more}
 use Rattle.sg_msg.specs.declared.offer.Offer.{Offer}
-use Rattle.test_paths.specs.Gives.{Gives}
+use Rattle.test_paths.specs.Gives.{GivesWalked}
 use Rattle.sg_tree.specs.Offers.{offered, top_view}
 use Rattle.sg_tree.specs.Plain.{marks}
 use Rattle.sg_tree.specs.Walk.{both, round}
@@ -27,7 +27,7 @@ returns-then-ends g c =
     let had = c.loop-path.offers.items in
     let whole = round (offered inlet (map (top_view named) ps)) late m false in
     let turn = sym (c.takes_part.ensures named) ∙ c.if-takes_part.true in
-    let took : Gives had c.one.new.offers.items c.in_ok-mine.mine (mine named inlet (drop i ps) more p here late m) = c.in_ok-mine.ensures in
+    let took : GivesWalked had c.one.new.offers.items c.in_ok-mine.mine (mine named inlet (drop i ps) more p here late m) = c.in_ok-mine.ensures in
     let last : ((mine named inlet (drop i ps) more p here late m).processed && (marks p).is_final) ≡ true = ap (λ (x : Bool). x && (marks p).is_final) (sym took.processed) ∙ c.if-ends.true in
     let so = sofar-at old had had c.loop-path.gone c.loop-path.gone whole _ (mine named inlet (drop i ps) more p here late m) refl refl (tops-end named inlet (drop i ps) more p here late m turn last) c.loop-path.invariant in
     let joined = c.in_ok-join.ensures in
@@ -51,7 +51,7 @@ loop-path-preserved g c =
       | then-takes_part+in_ok-mine+in_ok-join+else-ends w ↦
           let turn = sym (c.takes_part.ensures named) ∙ w.if-takes_part.true in
           let next = w.in_ok-mine.mine in
-          let took : Gives had w.one.new.offers.items next (mine named inlet (drop i ps) more p here late m) = w.in_ok-mine.ensures in
+          let took : GivesWalked had w.one.new.offers.items next (mine named inlet (drop i ps) more p here late m) = w.in_ok-mine.ensures in
           let last : ((mine named inlet (drop i ps) more p here late m).processed && (marks p).is_final) ≡ false = ap (λ (x : Bool). x && (marks p).is_final) (sym took.processed) ∙ w.if-ends.false in
           let so = sofar-at old had had c.loop-path.gone c.loop-path.gone whole _ (both (mine named inlet (drop i ps) more p here late m) (later named inlet (drop i ps) more p here late m)) refl refl (tops-go-on named inlet (drop i ps) more p here late m turn last) c.loop-path.invariant in
           let joined = w.in_ok-join.ensures in

@@ -6,15 +6,16 @@ use Rattle.sg_msg.specs.declared.offer.Offer.{Offer}
 use Rattle.sg_tree.specs.declared.tree.Element.{Element}
 use Rattle.sg_tree.specs.declared.tree.Path.{Path}
 use Rattle.sg_filter.specs.Decisions.{decides, decision_of}
+use Rattle.sg_parsers.specs.Parsed.{rule_takes}
 use Rattle.sg_tree.specs.Rules.{rule_of}
 use Rattle.sg_tree.specs.Walk.{Steps, walk, round, chosen, branches, then_each, deliveries_to, both, size, siblings_size, choice_size}
 use Rattle.sg_tree.specs.Plain.{steps_view, siblings_view, choice_view, marks}
-use Rattle.test_paths.specs.Gives.{Gives}
+use Rattle.test_paths.specs.Gives.{GivesWalked}
 use Rattle.sg_tree.proofs.Turning.{in-round}
 use Rattle.test_paths.proofs.Going.{goes-on, sofar-at}
-use Rattle.test_paths.proofs.Turning.{ok-at, at-Filter, at-Rewrite, at-Deliver, at-Junction, at-If, at-Path, mine, later, round-skips, round-goes-on, filter-on, rewrite-on, deliver-on, moved, then-ok, behind-ok, behind-size}
+use Rattle.test_paths.proofs.Turning.{ok-at, at-Filter, at-Rewrite, at-Parse, at-Deliver, at-Junction, at-If, at-Path, mine, later, round-skips, round-goes-on, filter-on, rewrite-on, parse-on, parse-off, deliver-on, stops, moved, then-ok, behind-ok, behind-size}
 use Rattle.test_paths.proofs.walk.+walk.Goals as goal
-use Rattle.test_paths.proofs.walk.+walk.Goals.{walk-in-Filter+in_ok-holds-in-Filter+else-not-branch, walk-in-Rewrite+in_ok-rewrite-in-Rewrite, walk-in-Deliver+in_ok-deliver-in-Deliver, round-then-path-late+in_ok-mine+in_ok-join+else-ends, round-else-path-late}
+use Rattle.test_paths.proofs.walk.+walk.Goals.{walk-in-Filter+in_ok-holds-in-Filter+else-not-branch, walk-in-Rewrite+in_ok-rewrite-in-Rewrite, walk-in-Parse+in_ok-taken-in-Parse+else-not-taken, walk-in-Deliver+in_ok-deliver-in-Deliver, round-then-path-late+in_ok-mine+in_ok-join+else-ends, round-else-path-late}
 
 pub choose-walk-requires : goal.choose-walk-requires
 choose-walk-requires g t c =
@@ -87,6 +88,25 @@ choose-returns-in-None g t c =
     let taken : chosen (choice_view named xs c.args.other.now) c.args.message f ≡ walk (steps_view named [] []) m f =
     c.loop-branch.invariant.0 ∙ ap (λ ys. chosen (choice_view named ys c.args.other.now) m f) none ∙ ap (λ o. chosen (choice_view named [] o) m f) c.in-None.is in
     ok-at c.walk-in-None.result _ _ _ _ _ c.loop-branch.invariant.2 (sym taken) c.walk-in-None.ensures
+
+pub walk-returns-then-not-taken : goal.walk-returns-then-not-taken
+walk-returns-then-not-taken g t c =
+    let named = c.args.named.now in
+    let xs = c.args.elements.now in
+    let i = c.loop-at.at in
+    let e = c.index-elements-at.result in
+    let f = c.args.flow in
+    let m = c.loop-at.message in
+    let logs = c.args.embedded.now in
+    let old = c.args.offers.now.items in
+    let had = c.loop-at.offers.items in
+    let whole = walk (steps_view named xs logs) c.args.message f in
+    let rest = steps_view named (drop (i + 1) xs) logs in
+    let steps = steps_view named (drop i xs) logs in
+    let here : drop i xs ≡ e ∷ drop (i + 1) xs = drop_more xs i e (omega arith) ∙ ap (λ y. y ∷ drop (i + 1) xs) (sym c.index-elements-at.is) in
+    let is = at-Parse named (drop i xs) (drop (i + 1) xs) logs e here c.in-Parse.rule c.in-Parse.is in
+    let off : rule_takes c.in-Parse.rule m ≡ false = sym c.in_ok-taken-in-Parse.ensures.taken ∙ c.if-not-taken.true in
+    stops old had whole _ (parse-off old had whole steps rest m f c.loop-at.invariant.0 c.in-Parse.rule is off) c.new-then-not-taken.ensures.items refl
 
 pub walk-walk_junction-requires : goal.walk-walk_junction-requires
 walk-walk_junction-requires g t c =
@@ -188,6 +208,14 @@ walk-loop-at-preserved g t c =
                 (rewrite-on old had whole steps rest m f c.loop-at.invariant.0 (rule_of named w.in-Rewrite.rule) w.rewrite.new.message is w.in_ok-rewrite-in-Rewrite.ensures),
             omega (arith, sized, c.loop-at.invariant.1),
           )
+      | walk-in-Parse+in_ok-taken-in-Parse+else-not-taken w ↦
+          let is = at-Parse named (drop i xs) (drop (i + 1) xs) logs e here w.in-Parse.rule w.in-Parse.is in
+          let sized = ap size is in
+          let on : rule_takes w.in-Parse.rule m ≡ true = sym w.in_ok-taken-in-Parse.ensures.taken ∙ w.if-not-taken.false in (
+            moved old had new whole rest w.apply.new.message next f (ap (λ (v : Vec Offer Global). v.items) w.offers-is) w.message-is
+                (parse-on old had whole steps rest m f c.loop-at.invariant.0 w.in-Parse.rule w.apply.new.message is on w.in_ok-taken-in-Parse.ensures.ok),
+            omega (arith, sized, c.loop-at.invariant.1),
+          )
       | walk-in-Deliver+in_ok-deliver-in-Deliver w ↦
           let is = at-Deliver named (drop i xs) (drop (i + 1) xs) logs e here w.in-Deliver.drivers w.in-Deliver.is in
           let sized = ap size is in
@@ -227,7 +255,7 @@ round-loop-path-preserved g t c =
       | round-then-path-late+in_ok-mine+in_ok-join+else-ends w ↦
           let turn = in-round late (marks p) true w.if-path-late.true in
           let next = w.in_ok-mine.mine in
-          let took : Gives had w.one.new.offers.items next (mine named (drop i ps) more p here late m f) = w.in_ok-mine.ensures in
+          let took : GivesWalked had w.one.new.offers.items next (mine named (drop i ps) more p here late m f) = w.in_ok-mine.ensures in
           let last : ((mine named (drop i ps) more p here late m f).processed && (marks p).is_final) ≡ false = ap (λ (x : Bool). x && (marks p).is_final) (sym took.processed) ∙ w.if-ends.false in
           let so = sofar-at old had had c.loop-path.gone c.loop-path.gone whole _ (both (mine named (drop i ps) more p here late m f) (later named (drop i ps) more p here late m f)) refl refl (round-goes-on named (drop i ps) more p here late m f turn last) c.loop-path.invariant.0 in
           let joined = w.in_ok-join.ensures in (

@@ -1,7 +1,7 @@
 use Rattle.std.proofs.Common.{◌≡◌, ◌+◌, ◌*◌, ◌≤◌, drop}
 use Rattle.sg_tree.specs.Walk.{walk, round, chosen, each, size, siblings_size, choice_size}
 use Rattle.sg_tree.specs.Plain.{steps_view, siblings_view, choice_view, own_steps}
-use Rattle.test_paths.proofs.Going.{Sofar, Behind}
+use Rattle.test_paths.proofs.Going.{Sofar, BehindElements}
 use Rattle.test_paths.proofs.walk.+walk.Given as goal
 
 abbrev pub decreases-walk : goal.decreases-walk
@@ -30,7 +30,7 @@ decreases-choose g l = 4 * choice_size (choice_view l.named.now l.tests.now l.ot
 
 abbrev pub invariant-walk-loop-at : goal.invariant-walk-loop-at
 invariant-walk-loop-at g l =
-    Behind l.initial.offers.items l.offers.items (walk (steps_view l.named l.elements l.embedded) l.initial.message l.flow) (walk (steps_view l.named (drop l.at l.elements) l.embedded) l.message l.flow)
+    BehindElements l.initial.offers.items l.offers.items (walk (steps_view l.named l.elements l.embedded) l.initial.message l.flow) (walk (steps_view l.named (drop l.at l.elements) l.embedded) l.message l.flow)
     × (size (steps_view l.named (drop l.at l.elements) l.embedded) ≤ size (steps_view l.named l.elements l.embedded))
 
 abbrev pub invariant-rest-loop-message : goal.invariant-rest-loop-message

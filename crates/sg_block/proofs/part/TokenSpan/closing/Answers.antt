@@ -3,7 +3,7 @@ use Rattle.std.proofs.lemmas.List.{get_or_read}
 use Rattle.std.specs.Arc.{arc_value}
 use Rattle.sg_list.specs.Lists.{passes_at}
 use Rattle.sg_lex.specs.declared.token.Token.{Token}
-use Rattle.sg_block.specs.declared.source.Source.{Source}
+use Rattle.sg_block.specs.declared.source.FileTokens.{FileTokens}
 use Rattle.sg_block.specs.Tokens.{is_symbol}
 use Rattle.sg_block.specs.Brackets.{EndsAt, IsClosing}
 use Rattle.sg_block.proofs.Lists.{length-part}
@@ -22,7 +22,7 @@ returns-then-end-self c =
     let before : from + c.args.place < to = omega (arith, c.requires.place, size, ap length c.self.view_is) in
     let within : to ≤ length all = c.self.invariant.1 in
     let counted : length source.ends.items ≡ length all + 1 = c.self.invariant.2.0 in
-    let read : end ≡ slice_index source.ends.items first = get_or_read source.ends.items first end (omega arith) (c.index-end.ensures ∙ ap (λ (s : Source). get_or s.ends.items first end) c.deref.ensures) 0 in
+    let read : end ≡ slice_index source.ends.items first = get_or_read source.ends.items first end (omega arith) (c.index-end.ensures ∙ ap (λ (s : FileTokens). get_or s.ends.items first end) c.deref.ensures) 0 in
     let at : EndsAt all end first = subst (λ n. EndsAt all n first) (sym read) (c.self.invariant.2.1 first (omega arith) (omega arith)) in
     subst (λ (ys : List Token). IsClosing c.args.closing ys c.args.place None) c.self.view_is
     (is-closing-none c.args.closing from to c.args.place end all before within at.2 at.3 (λ _. omega (arith, c.if-end-self.true)) (end-of-byte c.args.closing all first end c.requires.byte at))
@@ -39,10 +39,10 @@ returns-then-not-is_symbol c =
     let before : from + c.args.place < to = omega (arith, c.requires.place, size, ap length c.self.view_is) in
     let within : to ≤ length all = c.self.invariant.1 in
     let counted : length source.ends.items ≡ length all + 1 = c.self.invariant.2.0 in
-    let read : end ≡ slice_index source.ends.items first = get_or_read source.ends.items first end (omega arith) (c.index-end.ensures ∙ ap (λ (s : Source). get_or s.ends.items first end) c.deref.ensures) 0 in
+    let read : end ≡ slice_index source.ends.items first = get_or_read source.ends.items first end (omega arith) (c.index-end.ensures ∙ ap (λ (s : FileTokens). get_or s.ends.items first end) c.deref.ensures) 0 in
     let at : EndsAt all end first = subst (λ n. EndsAt all n first) (sym read) (c.self.invariant.2.1 first (omega arith) (omega arith)) in
     let inside_it : end < length all = omega (arith, c.if-end-self.false) in
-    let fails : passes_at all end (is_symbol c.args.closing) ≡ false = passes-here all end c.index.result.now (is_symbol c.args.closing) false inside_it (c.index.ensures ∙ ap (λ (s : Source). get_or s.tokens.items end c.index.result.now) c.deref-2.ensures) (sym c.is_symbol.ensures ∙ c.if-not-is_symbol.true) in
+    let fails : passes_at all end (is_symbol c.args.closing) ≡ false = passes-here all end c.index.result.now (is_symbol c.args.closing) false inside_it (c.index.ensures ∙ ap (λ (s : FileTokens). get_or s.tokens.items end c.index.result.now) c.deref-2.ensures) (sym c.is_symbol.ensures ∙ c.if-not-is_symbol.true) in
     subst (λ (ys : List Token). IsClosing c.args.closing ys c.args.place None) c.self.view_is
     (is-closing-none c.args.closing from to c.args.place end all before within at.2 at.3 (λ p. let wrong : false ≡ true = sym fails ∙ p in cc) (end-of-byte c.args.closing all first end c.requires.byte at))
 
@@ -58,9 +58,9 @@ returns c =
     let before : from + c.args.place < to = omega (arith, c.requires.place, size, ap length c.self.view_is) in
     let within : to ≤ length all = c.self.invariant.1 in
     let counted : length source.ends.items ≡ length all + 1 = c.self.invariant.2.0 in
-    let read : end ≡ slice_index source.ends.items first = get_or_read source.ends.items first end (omega arith) (c.index-end.ensures ∙ ap (λ (s : Source). get_or s.ends.items first end) c.deref.ensures) 0 in
+    let read : end ≡ slice_index source.ends.items first = get_or_read source.ends.items first end (omega arith) (c.index-end.ensures ∙ ap (λ (s : FileTokens). get_or s.ends.items first end) c.deref.ensures) 0 in
     let at : EndsAt all end first = subst (λ n. EndsAt all n first) (sym read) (c.self.invariant.2.1 first (omega arith) (omega arith)) in
     let inside_it : end < length all = omega (arith, c.if-end-self.false) in
-    let passes : passes_at all end (is_symbol c.args.closing) ≡ true = passes-here all end c.index.result.now (is_symbol c.args.closing) true inside_it (c.index.ensures ∙ ap (λ (s : Source). get_or s.tokens.items end c.index.result.now) c.deref-2.ensures) (sym c.is_symbol.ensures ∙ c.if-not-is_symbol.false) in
+    let passes : passes_at all end (is_symbol c.args.closing) ≡ true = passes-here all end c.index.result.now (is_symbol c.args.closing) true inside_it (c.index.ensures ∙ ap (λ (s : FileTokens). get_or s.tokens.items end c.index.result.now) c.deref-2.ensures) (sym c.is_symbol.ensures ∙ c.if-not-is_symbol.false) in
     subst (λ (ys : List Token). IsClosing c.args.closing ys c.args.place (Some (end - from))) c.self.view_is
     (is-closing-some c.args.closing from to c.args.place end all before within (omega (arith, c.if-end-self.false)) passes at.2 (end-of-byte c.args.closing all first end c.requires.byte at))

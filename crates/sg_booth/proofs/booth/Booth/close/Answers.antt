@@ -1,7 +1,7 @@
 use Rattle.std.proofs.Common.{◌≡◌, ◌+◌, ◌≤◌, ◌<◌, length, subst, sym, refl}
 use Rattle.sg_booth.specs.Lists.{times, CountsOnce, CountsSome}
-use Rattle.sg_booth.specs.Rule.{IsGiven, places_of}
-use Rattle.sg_booth.specs.Desks.{BoothState, HasClosed, AreOrdered}
+use Rattle.sg_booth.specs.Rule.{IsHistoryGiven, places_of}
+use Rattle.sg_booth.specs.Desks.{BoothState, HasClosed, ArePlacesOrdered}
 use Rattle.sg_booth.specs.Seats.{desk_of}
 use Rattle.sg_booth.proofs.Closing.{closed-desk}
 use Rattle.sg_booth.proofs.Orders.{seated}
@@ -21,8 +21,8 @@ returns g c =
     (subst (λ w. HasClosed g.V.Office.step booth (desk_of z w) c.end.result) (sym seat)
     (closed-desk g.V.Office.step g.V.Office.may g.V.Office.room booth z v held.0 c.end.result
     (subst (λ w. 0 < w.left) seat left)
-    (subst (λ w. AreOrdered (desk_of z w)) seat c.desk.invariant.ordered)
-    (subst (λ w. IsGiven g.V.Office.step g.V.Office.may g.V.Office.room about.made.value w.seen c.end.result) now c.end.ensures.given)
+    (subst (λ w. ArePlacesOrdered (desk_of z w)) seat c.desk.invariant.ordered)
+    (subst (λ w. IsHistoryGiven g.V.Office.step g.V.Office.may g.V.Office.room about.made.value w.seen c.end.result) now c.end.ensures.given)
     (subst (λ w. length w.seen + (w.left + 1) ≤ about.turns) now c.end.ensures.few)
     (subst (λ w. CountsSome (length w.seen) (λ x. times x (places_of w))) now c.end.ensures.mine)
     (subst (λ w. length (places_of w) + (w.left + 1) ≡ about.turns → CountsOnce 0 (length w.seen) (λ x. times x (places_of w))) now c.end.ensures.all)))

@@ -1,5 +1,5 @@
 use Rattle.std.proofs.Common.{◌+◌, [], ap, refl, ◌∙◌, subst, sym}
-use Rattle.sg_booth.specs.Desks.{AreOrdered}
+use Rattle.sg_booth.specs.Desks.{ArePlacesOrdered}
 use Rattle.sg_booth.specs.Seats.{desk_of}
 use Rattle.sg_booth.proofs.Orders.{glued-ordered, at-rest, seated}
 use Rattle.sg_booth.proofs.booth.Booth.join.Goals as goal
@@ -19,4 +19,4 @@ invariant_of-desk g c =
     (ap (λ v. v.ticket) now ∙ (ap (λ v. v.ticket) (sym seat) ∙ was.idle.0), ap (λ v. v.sure) now ∙ (ap (λ v. v.sure) (sym seat) ∙ was.idle.1), ap (λ v. v.out) now ∙ (ap (λ v. v.out) (sym seat) ∙ was.idle.2))
     (ap (λ v. v.told) now)
     ((λ i. (was.left_is ∙ ap (λ v. v.left) seat) i + (theirs.left_is ∙ ap (λ v. v.left) their_seat) i) ∙ sym (ap (λ v. v.left) now))
-    (subst (λ v. AreOrdered (desk_of z v)) (sym now) (glued-ordered z v w (v.left + w.left) t.0 [] (subst (λ v. AreOrdered (desk_of z v)) seat was.ordered) (subst (λ v. AreOrdered (desk_of z v)) their_seat theirs.ordered) t.3))
+    (subst (λ v. ArePlacesOrdered (desk_of z v)) (sym now) (glued-ordered z v w (v.left + w.left) t.0 [] (subst (λ v. ArePlacesOrdered (desk_of z v)) seat was.ordered) (subst (λ v. ArePlacesOrdered (desk_of z v)) their_seat theirs.ordered) t.3))

@@ -1,7 +1,7 @@
 use Rattle.std.proofs.Common.{rules, ◌≡◌, ◌-◌, length, ap, ◌∙◌, subst, sym}
 use Rattle.sg_booth.specs.declared.office.Exchange.{Exchange}
 use Rattle.sg_booth.specs.Lists.{Rises, entries_at}
-use Rattle.sg_booth.specs.Desks.{DeskState, AreOrdered, turned}
+use Rattle.sg_booth.specs.Desks.{DeskState, ArePlacesOrdered, turned}
 use Rattle.sg_booth.specs.Seats.{desk_of, notes_in}
 use Rattle.sg_booth.proofs.Calls.{entries-turned}
 use Rattle.sg_booth.proofs.Orders.{turned-ordered, at-rest, seated}
@@ -16,7 +16,7 @@ invariant_of-desk g c =
     let seat = seated _ _ _ (ap (λ b. b.views) c.replace-badge.ensures.value) c.into_seat-place.ensures.2 in
     at-rest c.into_badge.result.table_id c.into_badge.result.views c.serve_at-reply.new.place.me.0 _ c.into_badge.ensures.2 (ap (λ v. v.ticket) now, ap (λ v. v.sure) now, ap (λ v. v.out) now) (ap (λ v. v.told) now ∙ (ap (λ v. v.told) (sym seat) ∙ was.untold))
     (ap (λ k. k - 1) (was.left_is ∙ ap (λ v. v.left) seat) ∙ sym (ap (λ v. v.left) now))
-    (subst (λ v. AreOrdered (desk_of c.into_badge.result.table_id v)) (sym now) (turned-ordered c.into_badge.result.table_id v t.0 (record { call = c.args.call; reply = c.serve_at-reply.result }) (subst (λ v. AreOrdered (desk_of c.into_badge.result.table_id v)) seat was.ordered)))
+    (subst (λ v. ArePlacesOrdered (desk_of c.into_badge.result.table_id v)) (sym now) (turned-ordered c.into_badge.result.table_id v t.0 (record { call = c.args.call; reply = c.serve_at-reply.result }) (subst (λ v. ArePlacesOrdered (desk_of c.into_badge.result.table_id v)) seat was.ordered)))
 
 pub returns : goal.returns
 returns g c =

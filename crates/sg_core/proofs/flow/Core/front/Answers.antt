@@ -7,8 +7,8 @@ use Rattle.sg_core.proofs.AtSteps.{quiet-look}
 use Rattle.sg_core.proofs.FrontCalls.{can-read-first}
 use Rattle.sg_core.proofs.FrontLemmas.{shows-waiting-all, at-both-all, broken-same, at-both, nil-lengths, not-zero, none-broken-at, no-buffer-lengths}
 use Rattle.sg_core.proofs.FrontTurn.{FrontTurn, ok-does, memory-does, fault-does, ok-front, ok-shows, fault-front, no-queue}
-use Rattle.sg_core.proofs.SettleParts.{seen-there}
 use Rattle.sg_core.proofs.Whole.{whole-still}
+use Rattle.sg_offers.proofs.ItemLemmas.{seen-there}
 use Rattle.sg_core.proofs.flow.Core.front.Goals as goal
 
 pub returns-then-is_broken-clause-does : goal.returns-then-is_broken-clause-does

@@ -7,7 +7,7 @@ use Rattle.sg_stores.specs.Opening.{AreOpened}
 use Rattle.sg_stores.specs.declared.kind.StoreKind.{StoreKind}
 use Rattle.sg_standing.specs.declared.source.Source.{Source}
 use Rattle.sg_core.specs.Opening.{AreKinds, NumberStores, AreRecoverable, AreThere, IsOpen, opened_source, opened_sink}
-use Rattle.sg_core.specs.Whole.{IsWhole}
+use Rattle.sg_core.specs.Whole.{IsWholeCore}
 use Rattle.sg_core.proofs.OpenCalls.{unopened-memory, unopened-back, all-there, all-recoverable, whole-opened, open-opened}
 use Rattle.sg_core.proofs.flow.Core.open.Goals as goal
 
@@ -77,8 +77,8 @@ invariant_of-result g c =
     let numbers = subst (NumberStores c.args.setup) long c.requires.numbers in
     let xs : c.in-Ok-sources_at.sources ≡ map (opened_source stores) c.args.setup.sources = c.in-Ok-sources_at.ensures ∙ ap (map (opened_source stores)) c.as_slice-3.ensures in
     let ks : seen_in c.in-Ok-sinks_at.sinks ≡ map (opened_sink founds) c.args.setup.dests = c.in-Ok-sinks_at.ensures ∙ ap (map (opened_sink founds)) c.as_slice-2.ensures in
-    let W : List Source → Type 0 = λ ys. IsWhole (record { sources = ys; sinks = map (opened_sink founds) c.args.setup.dests; stores = stores; calls = 0 }) in
-    let V : List SinkState → Type 0 = λ ys. IsWhole (record { sources = c.in-Ok-sources_at.sources; sinks = ys; stores = stores; calls = 0 }) in
+    let W : List Source → Type 0 = λ ys. IsWholeCore (record { sources = ys; sinks = map (opened_sink founds) c.args.setup.dests; stores = stores; calls = 0 }) in
+    let V : List SinkState → Type 0 = λ ys. IsWholeCore (record { sources = c.in-Ok-sources_at.sources; sinks = ys; stores = stores; calls = 0 }) in
     subst V (sym ks) (subst W (sym xs) (whole-opened c.args.setup kinds all founds stores kinds_are o numbers c.requires.capacities))
 
 pub returns-clause-opened : goal.returns-clause-opened

@@ -11,8 +11,8 @@ use Rattle.sg_core.specs.Steps.{AppendsAt}
 use Rattle.sg_core.proofs.AtSteps.{quiet-look}
 use Rattle.sg_core.proofs.RefillCalls.{RefillParts, refill-does, unfilled-does, refill-acks}
 use Rattle.sg_core.proofs.RefillTurn.{refills-none, refills-some, no-buffer, none-entries, some-entries, fit-few, some-fit, store-there, small-there, can-move, entries-there, acks-there, changed-there}
-use Rattle.sg_core.proofs.SettleParts.{seen-there}
 use Rattle.sg_core.proofs.Whole.{whole-still}
+use Rattle.sg_offers.proofs.ItemLemmas.{seen-there}
 use Rattle.sg_core.proofs.flow.Core.refill.Goals as goal
 
 pub returns-in_default-clause-does : goal.returns-in_default-clause-does

@@ -6,9 +6,10 @@ use Rattle.sg_sinks.specs.States.{with_broken}
 use Rattle.sg_list.specs.Lists.{change}
 use Rattle.sg_standing.specs.States.{CoreState}
 use Rattle.sg_core.proofs.AtSteps.{quiet-look}
-use Rattle.sg_core.proofs.SettleParts.{seen-there, can-at, can-left, left-at, lengths-is, can-ack, can-take, still-there}
+use Rattle.sg_core.proofs.SettleParts.{can-at, can-left, left-at, lengths-is, can-ack, can-take, still-there}
 use Rattle.sg_core.proofs.Whole.{whole-still}
 use Rattle.sg_core.proofs.SettleTurn.{SettleTurn, turn-does, turn-can, turn-fails, turn-works, turn-buffer}
+use Rattle.sg_offers.proofs.ItemLemmas.{seen-there}
 use Rattle.sg_core.proofs.flow.Core.settle.Goals as goal
 
 pub returns-then-not-is_front-clause-does : goal.returns-then-not-is_front-clause-does

@@ -2,7 +2,7 @@ use Rattle.std.proofs.Common.{◌∷◌, Err, reverse, arith}
 use Rattle.std.proofs.lemmas.Result.{err_from_is_err_and}
 use Rattle.sg_expand.specs.Expansion.{Goes}
 use Rattle.sg_expand.specs.Machine.{state_of}
-use Rattle.sg_expand.specs.Pending.{Leads}
+use Rattle.sg_expand.specs.Pending.{FramesLead}
 use Rattle.sg_expand.proofs.Reading.{reads-same, reads-then}
 use Rattle.sg_expand.proofs.Turns.{popped-bounded}
 use Rattle.sg_expand.proofs.Turning.{answers-then, ends-here, frame-leads}
@@ -35,8 +35,8 @@ returns-in_err-do_frame-in-Some-clause-does g c =
     let s = state_of c.steps.self in
     let world = g.F.Machine.state c.steps.files in
     rw (p.1, p.2)
-    (answers-then (Err c.in_err-do_frame-in-Some.field-0.0) c.do_frame.new.self (g.F.Machine.state c.do_frame.new.files) (Leads (c.in-Some.frame ∷ reverse c.pop.new.self.items) s world)
-    (Leads (reverse c.args.self.now.frames.items) (state_of c.args.self.now) (g.F.Machine.state c.args.files.now))
+    (answers-then (Err c.in_err-do_frame-in-Some.field-0.0) c.do_frame.new.self (g.F.Machine.state c.do_frame.new.files) (FramesLead (c.in-Some.frame ∷ reverse c.pop.new.self.items) s world)
+    (FramesLead (reverse c.args.self.now.frames.items) (state_of c.args.self.now) (g.F.Machine.state c.args.files.now))
     (λ o h. c.steps.invariant.leads o (frame-leads c.steps.self.frames.items c.pop.new.self.items c.in-Some.frame s world o c.in-Some.ensures.items h))
     c.in_err-do_frame-in-Some.ensures.does)
 

@@ -2,7 +2,7 @@ use Rattle.std.proofs.Common.{◌+◌, ◌<◌, ◌^◌, [], length, sym, ap, ar
 use Rattle.std.proofs.lemmas.Int.{to_z-of_z, ints}
 use mir.Val.{SFits}
 use Rattle.sg_device.specs.Inlet.{stamped}
-use Rattle.sg_frame.specs.Framing.{Framing, fed, Goes}
+use Rattle.sg_frame.specs.Framing.{Framing, fed, GoesOnFraming}
 use Rattle.sg_frame.proofs.FramingLemmas.{held-feed, kept-feed, goes-feed, length-held, framing_of}
 use Rattle.sg_frame.proofs.framer.Framer.feed.Goals as goal
 
@@ -25,5 +25,5 @@ returns-clause-fed c =
 
 pub returns-clause-history : goal.returns-clause-history
 returns-clause-history c =
-    let P : Framing → Type 0 = λ f. Goes c.args.self.now f (stamped c.args.piece.now c.args.at) [] in
+    let P : Framing → Type 0 = λ f. GoesOnFraming c.args.self.now f (stamped c.args.piece.now c.args.at) [] in
     subst P (sym (returns-clause-fed c)) (goes-feed c.args.self.now (stamped c.args.piece.now c.args.at))

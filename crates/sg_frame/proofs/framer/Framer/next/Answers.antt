@@ -2,8 +2,8 @@ use Rattle.std.proofs.Common.{◌≡◌, ◌+◌, [], List, ℕ, sym, subst, ref
 use mir.Val.{SFits}
 use Rattle.std.specs.Prelude.{ℤ}
 use Rattle.std.proofs.lemmas.Int.{to_z-of_z, ints}
-use Rattle.sg_frame.specs.Items.{Bad, IsSound}
-use Rattle.sg_frame.specs.Framing.{Framing, Gives, items_left, open_left}
+use Rattle.sg_frame.specs.Items.{Bad, IsSoundForm}
+use Rattle.sg_frame.specs.Framing.{Framing, GivesItem, items_left, open_left}
 use Rattle.sg_frame.specs.Scans.{IsItem, HasNone, HasBad}
 use Rattle.sg_frame.proofs.FramingLemmas.{framing_of, gives_item, plain-held}
 use Rattle.sg_frame.proofs.framer.Framer.next.Goals as goal
@@ -20,8 +20,8 @@ returns-in_ok-bytes-in-Whole c =
     let new = framing_of inside.kind inside.limit (inside.place + span.taken) c.cut.new.kept.items c.cut.new.runs.items in
     let gives = gives_item inside.kind inside.limit inside.place inside.kept.items c.cut.new.kept.items inside.runs.items c.cut.new.runs.items span
     c.in_ok-bytes-in-Whole.bytes at c.self.invariant.covers item c.in_ok-bytes-in-Whole.ensures.cut in
-    subst (λ (old : Framing). Gives old new (record { text = c.in_ok-bytes-in-Whole.bytes; at = to_z w64 (of_z w64 at); end = inside.place + span.taken })) c.self.view_is
-    (subst (λ (m : ℤ). Gives (framing_of inside.kind inside.limit inside.place inside.kept.items inside.runs.items) new
+    subst (λ (old : Framing). GivesItem old new (record { text = c.in_ok-bytes-in-Whole.bytes; at = to_z w64 (of_z w64 at); end = inside.place + span.taken })) c.self.view_is
+    (subst (λ (m : ℤ). GivesItem (framing_of inside.kind inside.limit inside.place inside.kept.items inside.runs.items) new
     (record { text = c.in_ok-bytes-in-Whole.bytes; at = m; end = inside.place + span.taken })) (sym (to_z-of_z w64 at fits)) gives)
 
 -- src/framer.rt:113:5
@@ -31,7 +31,7 @@ returns-in-Open c =
     let none : HasNone inside.kind inside.limit inside.kept.items =
     subst (λ (bytes : List ℕ). HasNone inside.kind inside.limit bytes) c.as_slice-kept.ensures c.in-Open.ensures.0 in
     let so = none inside.place _ (plain-held inside.place inside.kept.items inside.runs.items c.self.invariant.covers) in
-    let left = subst (λ (f : Framing). (items_left f ≡ []) × IsSound (open_left f)) c.self.view_is so in
+    let left = subst (λ (f : Framing). (items_left f ≡ []) × IsSoundForm (open_left f)) c.self.view_is so in
     (c.self.view_is, left.0, left.1)
 
 -- src/framer.rt:113:5

@@ -1,6 +1,6 @@
 use Rattle.std.proofs.Common.{rules}
 use Rattle.std.proofs.lemmas.Fn.{always_returns_same}
-use Rattle.sg_msg.specs.Message.{Pair, byte_order}
+use Rattle.sg_msg.specs.Message.{NameValue, byte_order}
 use Rattle.sg_msg.proofs.PairSearch.{searched}
 use Rattle.sg_msg.proofs.base.Base.search.Goals as goal
 
@@ -8,5 +8,5 @@ use Rattle.sg_msg.proofs.base.Base.search.Goals as goal
 pub returns : goal.returns
 returns c =
     let facts = c.binary_search_by.ensures in
-    let by_name = facts.position (λ (pair : Pair). byte_order pair.name c.args.name.now) (always_returns_same _ _ _ (λ a r g called. (search rules, search rules))) in
+    let by_name = facts.position (λ (pair : NameValue). byte_order pair.name c.args.name.now) (always_returns_same _ _ _ (λ a r g called. (search rules, search rules))) in
     rw (← c.self.view_is, ← c.deref.ensures) (searched _ c.args.name.now (rw (c.deref.ensures, c.self.view_is) c.requires) _ facts.bound by_name)

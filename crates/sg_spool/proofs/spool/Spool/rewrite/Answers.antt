@@ -3,7 +3,7 @@ use Rattle.std.specs.Prelude.{true, false}
 use Rattle.std.specs.Option.{option_map}
 use Rattle.sg_device.proofs.Disks.{moves_within}
 use Rattle.sg_stable.specs.declared.cell.Pair.{Pair}
-use Rattle.sg_spool.specs.View.{IsWhole}
+use Rattle.sg_spool.specs.View.{IsWholeRing}
 use Rattle.sg_spool.specs.declared.rows.Rows.{Rows}
 use Rattle.sg_spool.proofs.Calls.{lasts_open}
 use Rattle.sg_spool.proofs.RewriteCalls.{lost_memory, fault_rose, lost_still}
@@ -38,7 +38,7 @@ invariant_of-self-in-Err-NoMemory g c =
       rows = c.self.invariant.rows;
       unstaged = c.self.invariant.unstaged;
       cell_open = λ shut. subst (λ (p : Pair). p.closed ≡ false) (sym same) (c.self.invariant.cell_open shut);
-      whole = λ shut. subst (λ (p : Pair). IsWhole (g.D.Disk.state c.rewrite_list.new.disk) p m.rows (option_map (λ v. v.items) m.front)) (sym same) (whole_before m.cell m.rows (option_map (λ v. v.items) m.front) (g.D.Disk.state m.disk) whole (g.D.Disk.state c.rewrite_list.new.disk) none (moves_within (c.rewrite_list.ensures.within whole.entries (λ b left. (whole.each b left).number) (held m.cell m.rows (option_map (λ v. v.items) m.front) (g.D.Disk.state m.disk) whole).rings)) ((lost_memory _ c.in-Err-NoMemory.field-0 c.in-Err-NoMemory.field-0-is c.in-Err-NoMemory.ensures.no_memory).ring whole.entries (held m.cell m.rows (option_map (λ v. v.items) m.front) (g.D.Disk.state m.disk) whole).rings));
+      whole = λ shut. subst (λ (p : Pair). IsWholeRing (g.D.Disk.state c.rewrite_list.new.disk) p m.rows (option_map (λ v. v.items) m.front)) (sym same) (whole_before m.cell m.rows (option_map (λ v. v.items) m.front) (g.D.Disk.state m.disk) whole (g.D.Disk.state c.rewrite_list.new.disk) none (moves_within (c.rewrite_list.ensures.within whole.entries (λ b left. (whole.each b left).number) (held m.cell m.rows (option_map (λ v. v.items) m.front) (g.D.Disk.state m.disk) whole).rings)) ((lost_memory _ c.in-Err-NoMemory.field-0 c.in-Err-NoMemory.field-0-is c.in-Err-NoMemory.ensures.no_memory).ring whole.entries (held m.cell m.rows (option_map (λ v. v.items) m.front) (g.D.Disk.state m.disk) whole).rings));
     }
 
 pub returns-in-Ok-clause-lasts : goal.returns-in-Ok-clause-lasts

@@ -2,7 +2,7 @@ use Rattle.std.proofs.Common.{◌≡◌, rules, inl, inr, ⊎_elim, ◌++◌, �
 use Rattle.std.specs.Prelude.{true, false}
 use Rattle.std.specs.Option.{option_map}
 use Rattle.sg_device.proofs.Disks.{within_now, moves_within}
-use Rattle.sg_spool.specs.Places.{Fits, AreCompact}
+use Rattle.sg_spool.specs.Places.{FitsRing, AreCompact}
 use Rattle.sg_spool.specs.View.{IsCompactIn}
 use Rattle.sg_spool.specs.declared.places.Places.{Places}
 use Rattle.sg_spool.proofs.Rooms.{compact_room}
@@ -26,7 +26,7 @@ pub returns-in_default-clause-leaves : goal.returns-in_default-clause-leaves
 returns-in_default-clause-leaves g c =
     let m = c.self.inside in
     let whole = c.self.invariant.whole c.if-self.false in
-    let fits : Fits m.capacity m.rows.ahead (length c.args.block.now) = search rules in
+    let fits : FitsRing m.capacity m.rows.ahead (length c.args.block.now) = search rules in
     rw (← c.self.view_is) (record {
       within = λ list staged at. c.stage_block.ensures.within list staged (holds_held m.cell m.rows (option_map (λ v. v.items) m.front) (g.D.Disk.state m.disk) whole list staged at);
       short = λ compact. stage_short m.cell m.rows (option_map (λ v. v.items) m.front) (g.D.Disk.state m.disk) whole m.capacity compact c.self.invariant.rows (g.D.Disk.state c.stage_block.new.disk) ((c.stage_block.ensures.spared (compact_room m.capacity m.rows.ahead.jump m.rows.ahead.head m.rows.ahead.end (length c.args.block.now) (c.self.invariant.rows).ahead fits compact.ahead)).images) (c.stage_block.ensures.short compact.ahead);
@@ -37,7 +37,7 @@ pub returns-clause-leaves : goal.returns-clause-leaves
 returns-clause-leaves g c =
     let m = c.self.inside in
     let whole = c.self.invariant.whole c.if-self.false in
-    let fits : Fits m.capacity m.rows.ahead (length c.args.block.now) = search rules in
+    let fits : FitsRing m.capacity m.rows.ahead (length c.args.block.now) = search rules in
     rw (← c.self.view_is) (record {
       within = λ list staged at. c.stage_block.ensures.within list staged (holds_held m.cell m.rows (option_map (λ v. v.items) m.front) (g.D.Disk.state m.disk) whole list staged at);
       short = λ compact. stage_short m.cell m.rows (option_map (λ v. v.items) m.front) (g.D.Disk.state m.disk) whole m.capacity compact c.self.invariant.rows (g.D.Disk.state c.stage_block.new.disk) ((c.stage_block.ensures.spared (compact_room m.capacity m.rows.ahead.jump m.rows.ahead.head m.rows.ahead.end (length c.args.block.now) (c.self.invariant.rows).ahead fits compact.ahead)).images) (c.stage_block.ensures.short compact.ahead);
@@ -48,7 +48,7 @@ pub returns-clause-answer : goal.returns-clause-answer
 returns-clause-answer g c =
     let m = c.self.inside in
     let whole = c.self.invariant.whole c.if-self.false in
-    let fits : Fits m.capacity m.rows.ahead (length c.args.block.now) = search rules in
+    let fits : FitsRing m.capacity m.rows.ahead (length c.args.block.now) = search rules in
     rw (← c.self.view_is) (
       c.if-self.false,
       fits,

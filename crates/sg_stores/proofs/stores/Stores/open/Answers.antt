@@ -1,5 +1,5 @@
 use Rattle.std.proofs.Common.{List, map, sym, subst}
-use Rattle.sg_buffer.specs.declared.found.Found.{Found}
+use Rattle.sg_buffer.specs.declared.found.BufferEntries.{BufferEntries}
 use Rattle.sg_stores.specs.Looking.{AreOpening}
 use Rattle.sg_stores.proofs.OpenLemmas.{all-ready}
 use Rattle.sg_stores.proofs.stores.Stores.open.Goals as goal
@@ -10,5 +10,5 @@ renew_all-requires-clause-ready g c = all-ready c.args.kinds.now (map g.D.Disk.s
 pub returns-in-Err-clause-refused : goal.returns-in-Err-clause-refused
 returns-in-Err-clause-refused g c =
     let all = map g.D.Disk.state c.args.disks.items in
-    let looked = subst (λ (founds : List Found). AreOpening 0 c.args.kinds.now all founds c.in_ok-stores.stores) (sym c.deref.ensures.value) c.in_ok-stores.ensures.looked in
+    let looked = subst (λ (founds : List BufferEntries). AreOpening 0 c.args.kinds.now all founds c.in_ok-stores.stores) (sym c.deref.ensures.value) c.in_ok-stores.ensures.looked in
     rw c.into_disks.ensures (c.in-Err.ensures.refused c.args.kinds.now all looked)

@@ -1,6 +1,6 @@
 use Rattle.std.proofs.Common.{ap, sym, ◌∙◌, ◌++◌}
 use Rattle.sg_table.proofs.Listed.{pushes-as, pushes-none, pushes-one}
-use Rattle.sg_table.proofs.Patterned.{patterns-Filter, patterns-Rewrite, patterns-Deliver, patterns-Junction, patterns-If}
+use Rattle.sg_table.proofs.Patterned.{patterns-Filter, patterns-Rewrite, patterns-Parse, patterns-Deliver, patterns-Junction, patterns-If}
 use Rattle.sg_table.specs.Patterns.{choices_patterns, element_patterns, other_patterns, siblings_patterns}
 use Rattle.sg_table.proofs.listing.Listing.push_element.Goals as goal
 
@@ -15,6 +15,10 @@ pub returns-in_ok-push_rule-in-Rewrite : goal.returns-in_ok-push_rule-in-Rewrite
 returns-in_ok-push_rule-in-Rewrite c =
     let named = c.args.named.now in
     pushes-as named _ _ c.args.self.now c.push_rule.new.self (sym (ap (element_patterns named) c.in-Rewrite.is ∙ patterns-Rewrite named _)) c.in_ok-push_rule-in-Rewrite.ensures
+
+pub returns-in-Parse : goal.returns-in-Parse
+returns-in-Parse c =
+    pushes-none c.args.named.now _ c.args.self.now (ap (element_patterns c.args.named.now) c.in-Parse.is ∙ patterns-Parse c.args.named.now _)
 
 pub returns-in-Deliver : goal.returns-in-Deliver
 returns-in-Deliver c =

@@ -1,6 +1,6 @@
 use Rattle.std.proofs.Common.{subst, sym, refl, arith, rules, ◌-◌, length}
 use Rattle.sg_list.specs.Lists.{change}
-use Rattle.sg_window.specs.Window.{one_less, Window, StandsFor}
+use Rattle.sg_window.specs.Window.{one_less, Window, WindowStandsFor}
 use Rattle.sg_window.proofs.WindowLemmas.{outstanding-outstanding, change-write, stands-ack, left_at-below}
 use Rattle.sg_window.proofs.tracker.Tracker.ack.Goals as goal
 
@@ -18,4 +18,4 @@ returns-clause-after c =
 
 pub returns-clause-stands : goal.returns-clause-stands
 returns-clause-stands c = λ from records h.
-    subst (λ (w : Window). StandsFor w from (change records c.args.number one_less)) (sym (returns-clause-after c)) (stands-ack c.args.self.now c.args.number from records c.requires.outstanding h)
+    subst (λ (w : Window). WindowStandsFor w from (change records c.args.number one_less)) (sym (returns-clause-after c)) (stands-ack c.args.self.now c.args.number from records c.requires.outstanding h)

@@ -1,0 +1,6 @@
+mod Names
+mod Composed
+mod Under
+mod Over
+mod Going
+mod Opened

@@ -1,0 +1,80 @@
+-- Paths in a list, and the list without one of them.
+use Rattle.std.proofs.Common.{◌≡◌, ◌≢◌, ◌<◌, ℕ, zero, suc, ◌+◌, get_or, List, [], ◌∷◌, ◌++◌, length, take, drop, refl, ap, ◌∙◌, sym, arith, length-append, length-take, length-drop, get_or-take}
+use Rattle.std.specs.Prelude.{Bool, true, false, ◌==◌, if◌then◌else◌, bytes_eq}
+use Rattle.std.specs.List.{Contains}
+use mathlib.Core.Logic.{◌⊎◌, inl, inr}
+use Rattle.std.proofs.lemmas.Bool.Decides.{eqb_tells}
+use Rattle.std.proofs.lemmas.Slice.Eq.{bytes_eq-Decides}
+use Rattle.std.proofs.lemmas.List.{get_or-drop, get_or_default}
+use Rattle.sg_dynfile.specs.Tracks.{IsPlaceOf}
+use Rattle.std.proofs.lemmas.List.Elements.{Contains-append_cases}
+use Rattle.sg_device.specs.Paths.{without_path}
+
+if_then : {A : Type 0} (b : Bool) (x y : A) → b ≡ true → (if b then x else y) ≡ x
+if_then true x y is = refl
+if_then false x y is = let wrong : false ≡ true = is in cc
+
+if_else : {A : Type 0} (b : Bool) (x y : A) → b ≡ false → (if b then x else y) ≡ y
+if_else false x y is = refl
+if_else true x y is = let wrong : true ≡ false = is in cc
+
+-- another path stays
+pub without-other : (path : List ℕ) (names : List (List ℕ)) (i : ℕ) → i < length names → bytes_eq (get_or names i []) path ≡ false → take i names ++ without_path path (drop i names) ≡ take (i + 1) names ++ without_path path (drop (i + 1) names)
+without-other path [] i lt is = grind (arith, lt)
+without-other path (name ∷ names) zero lt is = if_else (bytes_eq name path) names (name ∷ without_path path names) is
+without-other path (name ∷ names) (suc i) lt is = let next : suc i + 1 ≡ suc (i + 1) = omega arith in rw next (ap (λ (l : List (List ℕ)). name ∷ l) (without-other path names i (omega (arith, lt)) is))
+
+-- this one goes
+pub without-here : (path : List ℕ) (names : List (List ℕ)) (i : ℕ) → i < length names → bytes_eq (get_or names i []) path ≡ true → without_path path (drop i names) ≡ drop (i + 1) names
+without-here path [] i lt is = grind (arith, lt)
+without-here path (name ∷ names) zero lt is = if_then (bytes_eq name path) names (name ∷ without_path path names) is
+without-here path (name ∷ names) (suc i) lt is = let next : suc i + 1 ≡ suc (i + 1) = omega arith in rw next (without-here path names i (omega (arith, lt)) is)
+
+contains-take : (i : ℕ) (xs : List (List ℕ)) (x : List ℕ) → Contains (take i xs) x → Contains xs x
+contains-take i xs x (k, lt, is) =
+    let short = length-take i xs in
+    let near : k < i = omega (arith, lt, short) in
+    (k, omega (arith, lt, short), sym (get_or-take i xs k x near) ∙ is)
+
+contains-drop : (i : ℕ) (xs : List (List ℕ)) (x : List ℕ) → Contains (drop i xs) x → Contains xs x
+contains-drop i xs x (k, lt, is) = (i + k, omega (arith, lt, length-drop i xs), sym (get_or-drop i xs k x) ∙ is)
+
+either : {A B C : Type 0} → (A → C) → (B → C) → A ⊎ B → C
+either f g (inl a) = f a
+either f g (inr b) = g b
+
+-- what is in the list without one place was in it before
+pub contains-removed : (i : ℕ) (xs : List (List ℕ)) (x : List ℕ) → Contains (take i xs ++ drop (i + 1) xs) x → Contains xs x
+contains-removed i xs x is = either (contains-take i xs x) (contains-drop (i + 1) xs x) (Contains-append_cases (take i xs) (drop (i + 1) xs) x is)
+
+pub length-removed : (i : ℕ) (xs : List (List ℕ)) → i < length xs → length (take i xs ++ drop (i + 1) xs) + 1 ≡ length xs
+length-removed i xs lt = omega (arith, length-append (take i xs) (drop (i + 1) xs), length-take i xs, length-drop (i + 1) xs)
+
+-- a path that is found stands at its first place
+pub found : (path : List ℕ) (names : List (List ℕ)) (i : ℕ) → without_path path names ≡ take i names ++ without_path path (drop i names) → i < length names → bytes_eq (get_or names i []) path ≡ true → IsPlaceOf path names i
+found path names i before lt same = record {
+  inside = lt;
+  here = get_or_default names i path [] lt ∙ (bytes_eq-Decides (get_or names i []) path).0 same;
+  without = before ∙ ap (λ (l : List (List ℕ)). take i names ++ l) (without-here path names i lt same);
+}
+
+-- another path stands at none of the places so far
+pub other-more : (path : List ℕ) (names : List (List ℕ)) (i : ℕ) → ((k : ℕ) → k < i → get_or names k path ≡ path → ⊥) → i < length names → bytes_eq (get_or names i []) path ≡ false → (k : ℕ) → k < i + 1 → get_or names k path ≡ path → ⊥
+other-more path names i before lt differs k near is = either at behind (eqb_tells k i)
+  where
+    at : ((k == i) ≡ true) × (k ≡ i) → ⊥
+    at (t, same) =
+        let here : get_or names i [] ≡ path = get_or_default names i [] path lt ∙ ap (λ (n : ℕ). get_or names n path) (sym same) ∙ is in
+        let wrong : true ≡ false = sym ((bytes_eq-Decides (get_or names i []) path).1 here) ∙ differs in
+        cc
+
+    behind : ((k == i) ≡ false) × (k ≢ i) → ⊥
+    behind (t, not) = before k (omega (arith, near, not)) is
+
+-- the last of a list is in it
+contains-more : (y : List ℕ) (xs : List (List ℕ)) (x : List ℕ) → Contains xs x → Contains (y ∷ xs) x
+contains-more y xs x (k, lt, is) = (suc k, omega (arith, lt), is)
+
+pub contains-last : (xs : List (List ℕ)) (x : List ℕ) → Contains (xs ++ x ∷ []) x
+contains-last [] x = (zero, omega arith, refl)
+contains-last (y ∷ xs) x = contains-more y (xs ++ x ∷ []) x (contains-last xs x)

@@ -1,0 +1,12 @@
+use Rattle.sg_dynfile.proofs.Opened.{makes-ok, makes-none, makes-err}
+use Rattle.sg_dynfile.proofs.sending.open_new.Goals as goal
+
+pub returns-then-is_err-clause-opened : goal.returns-then-is_err-clause-opened
+returns-then-is_err-clause-opened g c = makes-none (g.P.Opener.state c.args.opener.now) (g.P.Opener.state c.make_room.new.opener) c.args.path.now c.make_room.ensures.same
+
+pub returns-in-Ok-clause-opened : goal.returns-in-Ok-clause-opened
+returns-in-Ok-clause-opened g c = makes-ok (g.P.Opener.state c.args.opener.now) (g.P.Opener.state c.make_room.new.opener) (g.P.Opener.state c.open.new.self) c.args.path.now tt c.make_room.ensures.same c.in-Ok.ensures
+
+pub returns-in-Err-clause-opened : goal.returns-in-Err-clause-opened
+returns-in-Err-clause-opened g c =
+    makes-err (g.P.Opener.state c.args.opener.now) (g.P.Opener.state c.make_room.new.opener) (g.P.Opener.state c.open.new.self) c.args.path.now c.in-Err.refusal c.make_room.ensures.same c.in-Err.ensures.0 c.in-Err.ensures.1

@@ -1,0 +1,5 @@
+pub mod Texts
+pub mod ByPath
+pub mod Tracks
+pub mod Sending
+pub mod View

@@ -1,0 +1,12 @@
+//! Files whose paths are part of the frames: one outlet over an opener of files.
+#![tactic(auto)]
+
+mod dyn_file;
+mod laws;
+mod open_paths;
+mod parting;
+mod sending;
+
+pub use dyn_file::DynFile;
+pub use laws::texts_stand_under_their_paths;
+pub use open_paths::OpenPaths;

@@ -1,0 +1,111 @@
+-- Fields, one byte on.
+use Rattle.std.proofs.Common.{◌≡◌, ℕ, zero, suc, ◌+◌, ◌-◌, ◌≤◌, ◌<◌, Bool, true, false, nat_eq, nat_lt, cond, get_or, add-one, drop-cons, append_assoc, append-nil, List, [], ◌∷◌, ◌++◌, length, take, drop, Option, Some, None, refl, sym, ap, ◌∙◌, arith}
+use Rattle.std.specs.List.{prefix_len}
+use Rattle.std.proofs.lemmas.Bool.{true≢false, false≢true, lt-ltb}
+use Rattle.std.proofs.lemmas.List.{drop_all, drop-drop}
+use Rattle.sg_parsers.specs.declared.fields.Split.{Split}
+use Rattle.sg_parsers.specs.Csv.{behind_field, column_pairs}
+use Rattle.sg_msg.specs.Priority.{has_at}
+use Rattle.sg_parsers.specs.declared.fields.Within.{Within}
+use Rattle.sg_parsers.specs.declared.fields.Within.TheVariants.{Front, Plain, Quoted, Closing}
+use Rattle.sg_parsers.specs.Fields.{is_no_quote, ends, behind, added, len_from, field_len, value_from, field_value, fields_from}
+
+abbrev pub Split-of : List ℕ → Option (List ℕ) → Split
+Split-of written rest = record { written = written; rest = rest }
+
+-- a text from one byte on
+pub from_here : (text : List ℕ) (place b : ℕ) → place < length text → get_or text place 0 ≡ b → drop place text ≡ b ∷ drop (place + 1) text
+from_here text place b h e = rw (add-one, ← e) (drop-cons text place 0 h)
+
+pub len_here : (delimiters : List ℕ) (within : Within) (text : List ℕ) (place b : ℕ) → place < length text → get_or text place 0 ≡ b → ends delimiters within b ≡ true → len_from delimiters within (drop place text) ≡ 0
+len_here delimiters within text place b h e test = ap (len_from delimiters within) (from_here text place b h e) ∙ rw test refl
+
+pub len_later : (delimiters : List ℕ) (within : Within) (text : List ℕ) (place b : ℕ) → place < length text → get_or text place 0 ≡ b → ends delimiters within b ≡ false → len_from delimiters within (drop place text) ≡ 1 + len_from delimiters (behind within b) (drop (place + 1) text)
+len_later delimiters within text place b h e test = ap (len_from delimiters within) (from_here text place b h e) ∙ rw test refl
+
+pub len_end : (delimiters : List ℕ) (within : Within) (text : List ℕ) (place : ℕ) → length text ≤ place → len_from delimiters within (drop place text) ≡ 0
+len_end delimiters within text place h = ap (len_from delimiters within) (drop_all place text h)
+
+pub count_here : (delimiters : List ℕ) (within : Within) (text : List ℕ) (place b : ℕ) → place < length text → get_or text place 0 ≡ b → ends delimiters within b ≡ true → fields_from delimiters within (drop place text) ≡ 1 + fields_from delimiters Front (drop (place + 1) text)
+count_here delimiters within text place b h e test = ap (fields_from delimiters within) (from_here text place b h e) ∙ rw test refl
+
+pub count_later : (delimiters : List ℕ) (within : Within) (text : List ℕ) (place b : ℕ) → place < length text → get_or text place 0 ≡ b → ends delimiters within b ≡ false → fields_from delimiters within (drop place text) ≡ fields_from delimiters (behind within b) (drop (place + 1) text)
+count_later delimiters within text place b h e test = ap (fields_from delimiters within) (from_here text place b h e) ∙ rw test refl
+
+pub count_end : (delimiters : List ℕ) (within : Within) (text : List ℕ) (place : ℕ) → length text ≤ place → fields_from delimiters within (drop place text) ≡ 1
+count_end delimiters within text place h = ap (fields_from delimiters within) (drop_all place text h)
+
+-- what one more byte adds to a value
+pub value_more : (value : List ℕ) (within : Within) (text : List ℕ) (place b : ℕ) (whole : List ℕ) → place < length text → get_or text place 0 ≡ b → value ++ value_from within (drop place text) ≡ whole → (value ++ added within b) ++ value_from (behind within b) (drop (place + 1) text) ≡ whole
+value_more value within text place b whole h e so_far =
+    let here : value_from within (drop place text) ≡ added within b ++ value_from (behind within b) (drop (place + 1) text) = ap (value_from within) (from_here text place b h e) in
+    append_assoc value (added within b) (value_from (behind within b) (drop (place + 1) text))
+    ∙ (ap (λ t. value ++ t) (sym here) ∙ so_far)
+
+pub value_all : (value : List ℕ) (within : Within) (text : List ℕ) (place : ℕ) (whole : List ℕ) → length text ≤ place → value ++ value_from within (drop place text) ≡ whole → value ≡ whole
+value_all value within text place whole h so_far =
+    let here : value_from within (drop place text) ≡ [] = ap (value_from within) (drop_all place text h) in
+    sym (append-nil value) ∙ (ap (λ t. value ++ t) (sym here) ∙ so_far)
+
+-- what stands outside of quotes says itself
+plain_value : (text : List ℕ) → value_from Plain text ≡ text
+plain_value [] = refl
+plain_value (b ∷ text) = ap (λ t. b ∷ t) (plain_value text)
+
+-- and so does a field that doesn't begin with one
+pub unquoted_value : (text : List ℕ) → has_at text 0 34 ≡ false → field_value text ≡ text
+unquoted_value [] e = refl
+unquoted_value (b ∷ text) e =
+    let test : nat_eq b 34 ≡ false = e in
+    rw test (ap (λ t. b ∷ t) (plain_value text))
+
+closing_only : (text : List ℕ) → length text ≤ 0 → value_from Closing text ≡ []
+closing_only [] h = refl
+closing_only (b ∷ text) h = absurd (omega arith)
+
+-- a body in which at most the last byte is a quote says what stands before it
+body_more : (b : ℕ) (text : List ℕ) (test : Bool) → nat_eq b 34 ≡ test
+    → (length text ≤ prefix_len is_no_quote text + 1 → value_from Quoted text ≡ take (prefix_len is_no_quote text) text)
+    → length (b ∷ text) ≤ prefix_len is_no_quote (b ∷ text) + 1 → value_from Quoted (b ∷ text) ≡ take (prefix_len is_no_quote (b ∷ text)) (b ∷ text)
+body_more b text true is more h = let few = rw is at h in rw is (closing_only text (omega (arith, few)))
+body_more b text false is more h =
+    let few = rw is at h in
+    let one : 1 + prefix_len is_no_quote text ≡ suc (prefix_len is_no_quote text) = omega arith in
+    rw (is, one) (ap (λ t. b ∷ t) (more (omega (arith, few))))
+
+body_value : (text : List ℕ) → length text ≤ prefix_len is_no_quote text + 1 → value_from Quoted text ≡ take (prefix_len is_no_quote text) text
+body_value [] h = refl
+body_value (b ∷ text) h = body_more b text (nat_eq b 34) refl (body_value text) h
+
+pub quoted_value : (text : List ℕ) → has_at text 0 34 ≡ true → length (drop 1 text) ≤ prefix_len is_no_quote (drop 1 text) + 1 → field_value text ≡ take (prefix_len is_no_quote (drop 1 text)) (drop 1 text)
+quoted_value [] e h = absurd (false≢true e)
+quoted_value (b ∷ text) e h =
+    let test : nat_eq b 34 ≡ true = e in
+    rw test (body_value text h)
+
+-- what stands between the quotes of a field, where nothing else does
+pub quoted_field : (written body rest value : List ℕ) (len place : ℕ) → has_at written 0 34 ≡ true → body ≡ written → rest ≡ drop 1 body → place ≡ prefix_len is_no_quote rest → len ≡ length rest → len - place ≤ 1 → value ≡ take place rest → value ≡ field_value written
+quoted_field written body rest value len place test body-is rest-is place-is len-is few value-is =
+    let r : rest ≡ drop 1 written = rest-is ∙ ap (drop 1) body-is in
+    let n : place ≡ prefix_len is_no_quote (drop 1 written) = place-is ∙ ap (prefix_len is_no_quote) r in
+    let short : length (drop 1 written) ≤ prefix_len is_no_quote (drop 1 written) + 1 = omega (arith, n, len-is, ap length r, few) in
+    value-is ∙ (λ i. take (n i) (r i)) ∙ sym (quoted_value written test short)
+
+pub some_len : (n : ℕ) → nat_eq n 0 ≡ false → 1 ≤ n
+some_len zero e = absurd (true≢false e)
+some_len (suc n) e = omega arith
+
+-- the first of several fields
+pub split-some : (delimiters text written rest : List ℕ) (len : ℕ) → len ≡ field_len delimiters text → len < length text → written ≡ take len text → rest ≡ drop 1 (drop len text)
+    → Split-of written (Some rest) ≡ Split-of (take (field_len delimiters text) text) (behind_field delimiters text)
+split-some delimiters text written rest len len-is less written-is rest-is =
+    let test : nat_lt (field_len delimiters text) (length text) ≡ true = lt-ltb (field_len delimiters text) (length text) (omega (arith, len-is, less)) in
+    let w : written ≡ take (field_len delimiters text) text = written-is ∙ ap (λ n. take n text) len-is in
+    let r : rest ≡ drop (field_len delimiters text + 1) text = rest-is ∙ drop-drop 1 len text ∙ ap (λ n. drop (n + 1) text) len-is in
+    let o : Some rest ≡ behind_field delimiters text = ap Some r ∙ sym (ap (λ (b : Bool). cond b (Some (drop (field_len delimiters text + 1) text)) None) test) in
+    λ i. Split-of (w i) (o i)
+
+-- columns without a field
+pub columns-none : (delimiters : List ℕ) (greedy : Bool) (names : List (List ℕ)) → column_pairs delimiters greedy names None ≡ []
+columns-none delimiters greedy [] = refl
+columns-none delimiters greedy (name ∷ names) = refl

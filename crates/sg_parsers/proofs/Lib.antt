@@ -1,0 +1,6 @@
+pub mod Walks
+pub mod FieldLemmas
+pub mod ValueLemmas
+pub mod PairLemmas
+pub mod Sent
+pub mod Written

@@ -1,7 +1,0 @@
-use Rattle.std.proofs.Common.{false, refl}
-use Rattle.sg_pipes.proofs.Running.{comes-now, comes-as}
-use Rattle.sg_pipes.proofs.Steps.{left-is}
-use Rattle.sg_pipes.proofs.work.Work.stop.Goals as goal
-
-pub returns : goal.returns
-returns c = λ pipes. comes-as pipes _ _ _ _ (left-is c.args.self.now.offers.items _ _ _ false c.nothing.ensures.0 c.nothing.ensures.1) (comes-now pipes _ _ refl refl)

@@ -1,0 +1,15 @@
+//! What a configuration may say that wasn't meant: options without effect, values that nothing sets, names that nothing uses, records
+//! that are delivered twice. It is told on standard error, and changes nothing else.
+#![tactic(auto)]
+
+mod effects;
+mod looking;
+mod parsed;
+mod paths;
+mod set_names;
+mod telling;
+mod texts;
+mod unused;
+mod warning;
+
+pub use telling::{tell_warnings, warnings_text};
